@@ -1,0 +1,6 @@
+pub mod LineLaws
+mod LineRows
+pub mod LineState
+pub mod Pieces
+mod SetupRows
+pub mod UserLists

@@ -1,0 +1,18 @@
+-- The two ciphersuites of EAP-GPSK (RFC 5433 section 6).
+use Rattle.std.specs.Prelude.{ℕ, List, [], ◌∷◌}
+use Rattle.eap_base.specs.declared.setup.Suite.{Suite}
+use Rattle.eap_base.specs.declared.setup.Suite.TheVariants.{Cmac, Hmac}
+
+-- KS, the octets of a key and of a MAC
+abbrev pub ks_of : Suite → ℕ
+ks_of Cmac = 16
+ks_of Hmac = 32
+
+-- the suite's number, its specifier
+abbrev pub suite_number : Suite → ℕ
+suite_number Cmac = 1
+suite_number Hmac = 2
+
+-- CSuite_Sel: vendor 0 in four octets, the specifier in two
+abbrev pub suite_octets : Suite → List ℕ
+suite_octets suite = 0 ∷ 0 ∷ 0 ∷ 0 ∷ 0 ∷ suite_number suite ∷ []

@@ -1,0 +1,29 @@
+//! What every layer of the login stands on: octet lists of a fixed room, the settings of both ends,
+//! the events of a run, and input and output that count their faults.
+#![tactic(auto)]
+
+mod calls;
+mod event;
+mod lines;
+mod memory;
+mod octets;
+mod setup;
+mod sink;
+mod source;
+mod standard;
+mod sure;
+#[cfg(test)]
+mod tests;
+mod unread;
+mod users;
+
+pub use event::Event;
+pub use lines::{LineReader, NextLine};
+pub use memory::{MemSink, MemSource};
+pub use octets::{Identity, Kinds, Nonce, Octets, Packet, Secret, Suites};
+pub use setup::{Accepts, Mode, Party, PeerSetup, Port, ServerSetup, Setup, Suite};
+pub use sink::Sink;
+pub use source::{Failed, Source};
+pub use standard::{StdSink, StdSource};
+pub use sure::{SureSink, SureSource};
+pub use users::{User, Users};

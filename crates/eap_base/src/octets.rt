@@ -1,0 +1,127 @@
+//! Lists of octets that keep their octets inline and never allocate.
+
+ghost use Rattle.std.specs.Prelude.{◌≡◌, ◌≤◌, ◌<◌, ◌+◌, ◌↔◌, [], ◌∷◌, ◌++◌, length, take, IsSome, IfSome, IsTrue};
+
+use arrayvec::ArrayVec;
+use std::marker::Model;
+
+/// The name of a peer or a server: at most 253 octets.
+pub type Identity = Octets<253>;
+
+/// A shared key (PSK): at most 64 octets.
+pub type Secret = Octets<64>;
+
+/// The Types of one or two EAP methods, in order of preference.
+pub type Kinds = Octets<2>;
+
+/// The specifiers of one or two EAP-GPSK ciphersuites, in order of preference.
+pub type Suites = Octets<2>;
+
+/// An EAP packet: at most 1,500 octets.
+pub type Packet = Octets<1500>;
+
+/// The octets from which an end takes its nonce: 32 for EAP-GPSK, the first 16 for EAP-PSK.
+pub type Nonce = [u8; 32];
+
+/// At most `N` octets. Contracts see the list of the octets.
+#[derive(Drop)]
+pub struct Octets<const N: usize> {
+    items: ArrayVec<u8, N>,
+}
+
+impl<const N: usize> Model for Octets<N> {
+    ghost use Rattle.std.specs.Prelude.{List, ℕ};
+
+    ghost Value = { List ℕ };
+
+    ghost view = { λ o. o.items.items };
+}
+
+impl<const N: usize> Octets<N> {
+    /// The empty list.
+    pub fn new() -> Octets<N>
+        ensures { result ≡ [] }
+    {
+        Octets {
+            items: ArrayVec::new(),
+        }
+    }
+
+    /// The list of these octets, or None where there are more than `N`.
+    pub fn from_slice(octets: &[u8]) -> Option<Octets<N>>
+        ensures fits { IsSome result ↔ (length octets.now ≤ N) }
+        ensures same { IfSome result (λ list. list ≡ octets.now) }
+    {
+        let mut list = Octets::new();
+        if list.append(octets) {
+            Some(list)
+        } else {
+            None
+        }
+    }
+
+    /// Appends one octet and answers true. Where the list is full it answers false and changes nothing.
+    pub fn push(&mut self, octet: u8) -> bool
+        ensures room { IsTrue result ↔ (length self.old < N) }
+        ensures pushed { length self.old < N → self.new ≡ self.old ++ octet ∷ [] }
+        ensures unchanged { N ≤ length self.old → self.new ≡ self.old }
+    {
+        self.items.try_push(octet).is_ok()
+    }
+
+    /// Appends all these octets and answers true. Where they don't fit it answers false and changes nothing.
+    pub fn append(&mut self, octets: &[u8]) -> bool
+        ensures room { IsTrue result ↔ (length self.old + length octets.now ≤ N) }
+        ensures appended { length self.old + length octets.now ≤ N → self.new ≡ self.old ++ octets.now }
+        ensures unchanged { N < length self.old + length octets.now → self.new ≡ self.old }
+    {
+        self.items.try_extend_from_slice(octets).is_ok()
+    }
+
+    /// Keeps the first `keep` octets, or all where there are fewer.
+    pub fn truncate(&mut self, keep: usize)
+        ensures { self.new ≡ take keep self.old }
+    {
+        self.items.truncate(keep);
+    }
+
+    /// The octets in order.
+    pub fn as_slice(&self) -> &[u8]
+        ensures same { result.now ≡ self.now }
+        ensures fits { length result.now ≤ N }
+    {
+        self.items.as_slice()
+    }
+
+    /// The number of octets.
+    pub fn len(&self) -> usize
+        ensures count { result ≡ length self.now }
+        ensures fits { result ≤ N }
+    {
+        self.items.len()
+    }
+
+    /// True where there is no octet.
+    pub fn is_empty(&self) -> bool
+        ensures { IsTrue result ↔ (self.now ≡ []) }
+    {
+        self.items.is_empty()
+    }
+
+    /// An equal list.
+    pub fn copy(&self) -> Octets<N>
+        ensures { result ≡ self.now }
+    {
+        let mut list = Octets::new();
+        list.append(self.as_slice());
+        list
+    }
+}
+
+impl<const N: usize> Default for Octets<N> {
+    fn default() -> Octets<N>
+        ensures { result ≡ [] }
+    {
+        Octets::new()
+    }
+}
