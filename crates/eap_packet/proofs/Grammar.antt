@@ -1,0 +1,108 @@
+-- The laws of the grammar.
+use Rattle.std.proofs.Common.{◌≡◌, ℕ, ◌-◌, ◌<◌, ◌≤◌, List, ◌++◌, length, suc, zero, take, drop, slice_index, Option, Some, None, Ok, Err, refl, ap, ◌∙◌, sym, subst, arith}
+use Rattle.std.proofs.lemmas.List.{length-take, length-drop, take-append-drop}
+use Rattle.std.proofs.lemmas.List.Elements.{All-take, All-drop}
+use Rattle.eap_packet.specs.declared.cause.Cause.{Cause}
+use Rattle.eap_packet.specs.Packet.{PacketValue, spelled, IsPacket, IsOctets, AreTypedFields}
+use Rattle.eap_packet.specs.Fault.{code_of, length_of, type_of, fields_of, fault, packet_of, packet_unless}
+use Rattle.eap_packet.specs.Laws.{BeginsWith, SpellingsAreRead, SpellingsAreApart, ReadsTheSpelling, FaultlessIsSpelled}
+use Rattle.eap_packet.proofs.Faults.{Begins, AreFields, begins_if_none, none_if_begins}
+use Rattle.eap_packet.proofs.Fronts.{spelled_front}
+use Rattle.eap_packet.proofs.Spelling.{packet_of-spelled, begins_spelled}
+
+-- the octets of the Type-Data
+body_octets : (size : ℕ) (octets : List ℕ) → IsOctets octets → IsOctets (take (size - 5) (drop 5 octets))
+body_octets size octets small = All-take (λ b. b < 256) (size - 5) (drop 5 octets) (All-drop (λ b. b < 256) 5 octets small)
+
+-- how much Type-Data there is
+body_size : (size : ℕ) (octets : List ℕ) → size ≤ length octets → length (take (size - 5) (drop 5 octets)) ≡ size - 5
+body_size size octets whole = omega (arith, length-take (size - 5) (drop 5 octets), length-drop 5 octets)
+
+-- the Identifier, the Type and the Type-Data of a Request or a Response
+typed_fields : (octets : List ℕ) (size : ℕ) → IsOctets octets → 5 ≤ size → size ≤ length octets → size ≤ 1500 →
+    AreTypedFields (slice_index octets 1) (type_of octets) (take (size - 5) (drop 5 octets))
+typed_fields octets size small typed whole fits = record {
+  id_fits = small 1 0 (omega arith);
+  kind_fits = small 4 0 (omega arith);
+  octets = body_octets size octets small;
+  size = omega (arith, body_size size octets whole);
+}
+
+-- the fields of octets that begin with a packet are a packet
+pub fields_are_packet : (code : ℕ) (octets : List ℕ) → IsOctets octets →
+    AreFields (length octets) code (length_of octets) (type_of octets) → IsPacket (fields_of code octets)
+fields_are_packet zero octets small b = absurd (omega (arith, b.low))
+fields_are_packet (suc zero) octets small b =
+    (typed_fields octets (length_of octets) small (b.typed (omega arith)) b.whole b.fits, b.no_nak refl)
+fields_are_packet (suc (suc zero)) octets small b = (
+  typed_fields octets (length_of octets) small (b.typed (omega arith)) b.whole b.fits,
+  λ nak empty. b.desires refl nak (omega (arith, ap length empty, body_size (length_of octets) octets b.whole, b.typed (omega arith))),
+)
+fields_are_packet (suc (suc (suc zero))) octets small b = small 1 0 (omega (arith, b.four))
+fields_are_packet (suc (suc (suc (suc zero)))) octets small b = small 1 0 (omega (arith, b.four))
+fields_are_packet (suc (suc (suc (suc (suc code))))) octets small b = absurd (omega (arith, b.high))
+
+-- what is read comes of no cause, and is the fields
+unless_ok : (found : Option Cause) (octets : List ℕ) (packet : PacketValue) →
+    packet_unless found octets ≡ Ok packet → (found ≡ None) × (fields_of (code_of octets) octets ≡ packet)
+unless_ok None octets packet e = (refl, cc)
+unless_ok (Some cause) octets packet e = cc
+
+pub begins_if_read : (octets : List ℕ) (packet : PacketValue) → packet_of octets ≡ Ok packet → Begins octets
+unfolding packet_of
+begins_if_read octets packet e = begins_if_none octets (unless_ok (fault octets) octets packet e).0
+
+pub fields_if_read : (octets : List ℕ) (packet : PacketValue) → packet_of octets ≡ Ok packet → fields_of (code_of octets) octets ≡ packet
+unfolding packet_of
+fields_if_read octets packet e = (unless_ok (fault octets) octets packet e).1
+
+-- octets that begin with a packet are the spelling of their fields and what comes after
+begins_with_fields : (octets : List ℕ) → IsOctets octets → Begins octets → BeginsWith octets (fields_of (code_of octets) octets)
+begins_with_fields octets small b = record {
+  is_packet = fields_are_packet (code_of octets) octets small b;
+  rest = drop (length_of octets) octets;
+  joined = sym (take-append-drop (length_of octets) octets) ∙ ap (λ front. front ++ drop (length_of octets) octets) (spelled_front octets small b);
+}
+
+pub is_packet_if_read : (octets : List ℕ) (packet : PacketValue) → IsOctets octets → packet_of octets ≡ Ok packet → IsPacket packet
+is_packet_if_read octets packet small e =
+    subst IsPacket (fields_if_read octets packet e) (fields_are_packet (code_of octets) octets small (begins_if_read octets packet e))
+
+-- the first Length octets are the spelling of the packet that is read
+pub front_if_read : (octets : List ℕ) (packet : PacketValue) → IsOctets octets → packet_of octets ≡ Ok packet →
+    take (length_of octets) octets ≡ spelled packet
+front_if_read octets packet small e =
+    spelled_front octets small (begins_if_read octets packet e) ∙ ap spelled (fields_if_read octets packet e)
+
+unless_err : (found : Option Cause) (octets : List ℕ) (cause : Cause) → packet_unless found octets ≡ Err cause → found ≡ Some cause
+unless_err None octets cause e = cc
+unless_err (Some other) octets cause e = cc
+
+-- a cause is read exactly where it is the fault
+pub fault_if_refused : (octets : List ℕ) (cause : Cause) → packet_of octets ≡ Err cause → fault octets ≡ Some cause
+unfolding packet_of
+fault_if_refused octets cause e = unless_err (fault octets) octets cause e
+
+pub refused_if_fault : (octets : List ℕ) (cause : Cause) → fault octets ≡ Some cause → packet_of octets ≡ Err cause
+unfolding packet_of
+refused_if_fault octets cause e = ap (λ found. packet_unless found octets) e
+
+pub spellings_are_read : SpellingsAreRead
+spellings_are_read = packet_of-spelled
+
+pub spellings_are_apart : SpellingsAreApart
+spellings_are_apart one other rest others p q e =
+    let same = sym (packet_of-spelled one rest p) ∙ ap packet_of e ∙ packet_of-spelled other others q in
+    cc
+
+pub reads_the_spelling : ReadsTheSpelling
+reads_the_spelling octets packet small = (
+  λ e. subst (BeginsWith octets) (fields_if_read octets packet e) (begins_with_fields octets small (begins_if_read octets packet e)),
+  λ b. ap packet_of b.joined ∙ packet_of-spelled packet b.rest b.is_packet,
+)
+
+pub faultless_is_spelled : FaultlessIsSpelled
+faultless_is_spelled octets small = (
+  λ e. (fields_of (code_of octets) octets, begins_with_fields octets small (begins_if_none octets e)),
+  λ w. ap fault w.1.joined ∙ none_if_begins (spelled w.0 ++ w.1.rest) (begins_spelled w.0 w.1.rest w.1.is_packet),
+)

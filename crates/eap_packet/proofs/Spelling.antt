@@ -1,0 +1,106 @@
+-- The spelling of a packet: how long it is, and that it is read as that packet.
+use Rattle.std.proofs.Common.{◌≡◌, ◌≢◌, ℕ, ◌+◌, ◌-◌, ◌/◌, ◌%◌, ◌<◌, ◌≤◌, List, [], ◌∷◌, ◌++◌, length, take, drop, Ok, refl, ap, ◌∙◌, sym, arith, length-append, append-nil}
+use Rattle.std.proofs.lemmas.List.{take_at}
+use Rattle.std.proofs.lemmas.List.Elements.{All-cons, All-nil, All-append, All-from_recursion}
+use Rattle.eap_packet.specs.Packet.{PacketValue, request, response, success, failure, spelled, framed, IsPacket, IsOctets, AreTypedFields}
+use Rattle.eap_packet.specs.Fault.{code_of, length_of, fields_of, packet_of, packet_unless}
+use Rattle.eap_packet.proofs.Faults.{Begins, none_if_begins}
+
+-- the octets of a packet's spelling
+abbrev pub size_of : PacketValue → ℕ
+size_of (request id kind body) = length body + 5
+size_of (response id kind body) = length body + 5
+size_of (success id) = 4
+size_of (failure id) = 4
+
+pub length-spelled : (packet : PacketValue) → length (spelled packet) ≡ size_of packet
+unfolding spelled
+length-spelled (request id kind body) = omega arith
+length-spelled (response id kind body) = omega arith
+length-spelled (success id) = refl
+length-spelled (failure id) = refl
+
+pub spelled_fits : (packet : PacketValue) → IsPacket packet → length (spelled packet) ≤ 1500
+unfolding spelled
+spelled_fits (request id kind body) p = omega (arith, p.0.size)
+spelled_fits (response id kind body) p = omega (arith, p.0.size)
+spelled_fits (success id) p = omega arith
+spelled_fits (failure id) p = omega arith
+
+-- where no cause applies, the octets are read as their fields
+pub read_if_begins : (octets : List ℕ) → Begins octets → packet_of octets ≡ Ok (fields_of (code_of octets) octets)
+unfolding packet_of
+read_if_begins octets b = ap (λ found. packet_unless found octets) (none_if_begins octets b)
+
+-- the Length field of a Request or a Response
+length_typed : (code id kind : ℕ) (body rest : List ℕ) → length_of (framed code id (kind ∷ body) ++ rest) ≡ length body + 5
+length_typed code id kind body rest = omega arith
+
+body_typed : (code id kind : ℕ) (body rest : List ℕ) →
+    (let octets = framed code id (kind ∷ body) ++ rest in take (length_of octets - 5) (drop 5 octets) ≡ body)
+body_typed code id kind body rest = take_at body rest _ (omega arith)
+
+-- a spelling, with any octets behind it, begins with a packet
+begins_typed : (code id kind : ℕ) (body rest : List ℕ) → 1 ≤ code → code ≤ 2 → length body ≤ 1495 →
+    (code ≡ 1 → kind ≢ 3) → (code ≡ 2 → kind ≡ 3 → 0 < length body) → Begins (framed code id (kind ∷ body) ++ rest)
+begins_typed code id kind body rest low high size no_nak desires =
+    let count = length-append body rest in
+    let field = length_typed code id kind body rest in
+    record {
+      four = omega arith;
+      low = low;
+      high = omega arith;
+      typed = λ h. omega arith;
+      plain = λ h. absurd (omega arith);
+      whole = omega arith;
+      fits = omega arith;
+      no_nak = no_nak;
+      desires = λ h k s. absurd (omega (arith, desires h k));
+    }
+
+not_empty : (body : List ℕ) → body ≢ [] → 0 < length body
+not_empty [] ne = absurd (ne refl)
+not_empty (x ∷ body) ne = omega arith
+
+pub begins_spelled : (packet : PacketValue) (rest : List ℕ) → IsPacket packet → Begins (spelled packet ++ rest)
+unfolding spelled
+begins_spelled (request id kind body) rest p = begins_typed 1 id kind body rest (omega arith) (omega arith) p.0.size (λ _. p.1) (λ h. absurd (omega arith))
+begins_spelled (response id kind body) rest p = begins_typed 2 id kind body rest (omega arith) (omega arith) p.0.size (λ h. absurd (omega arith)) (λ _ k. not_empty body (p.1 k))
+begins_spelled (success id) rest p = record { four = omega arith; low = omega arith; high = omega arith; typed = λ h. absurd (omega arith); plain = λ _. refl; whole = omega arith; fits = omega arith; no_nak = λ h. absurd (omega arith); desires = λ h. absurd (omega arith) }
+begins_spelled (failure id) rest p = record { four = omega arith; low = omega arith; high = omega arith; typed = λ h. absurd (omega arith); plain = λ _. refl; whole = omega arith; fits = omega arith; no_nak = λ h. absurd (omega arith); desires = λ h. absurd (omega arith) }
+
+fields_spelled : (packet : PacketValue) (rest : List ℕ) → (let octets = spelled packet ++ rest in fields_of (code_of octets) octets ≡ packet)
+unfolding spelled
+fields_spelled (request id kind body) rest = ap (request id kind) (body_typed 1 id kind body rest)
+fields_spelled (response id kind body) rest = ap (response id kind) (body_typed 2 id kind body rest)
+fields_spelled (success id) rest = refl
+fields_spelled (failure id) rest = refl
+
+-- A spelling, with any octets behind it, is read as its packet.
+pub packet_of-spelled : (packet : PacketValue) (rest : List ℕ) → IsPacket packet → packet_of (spelled packet ++ rest) ≡ Ok packet
+packet_of-spelled packet rest p =
+    read_if_begins (spelled packet ++ rest) (begins_spelled packet rest p) ∙ ap Ok (fields_spelled packet rest)
+
+pub packet_of-spelled_alone : (packet : PacketValue) → IsPacket packet → packet_of (spelled packet) ≡ Ok packet
+packet_of-spelled_alone packet p =
+    ap packet_of (sym (append-nil (spelled packet))) ∙ packet_of-spelled packet [] p
+
+-- the octets of a packet, each in its range
+framed_octets : (code id : ℕ) (fields : List ℕ) → code < 256 → id < 256 → IsOctets fields → length fields ≤ 1496 → IsOctets (framed code id fields)
+framed_octets code id fields low fits small size =
+    let n = length fields + 4 in
+    All-append (λ b. b < 256) (code ∷ id ∷ n / 256 ∷ n % 256 ∷ []) fields
+    (All-from_recursion (λ b. b < 256) (code ∷ id ∷ n / 256 ∷ n % 256 ∷ []) (low, (fits, (omega arith, (omega arith, tt)))))
+    small
+
+typed_octets : (code id kind : ℕ) (body : List ℕ) → code < 256 → AreTypedFields id kind body → IsOctets (framed code id (kind ∷ body))
+typed_octets code id kind body low p =
+    let size = p.size in
+    framed_octets code id (kind ∷ body) low p.id_fits (All-cons (λ b. b < 256) kind body p.kind_fits p.octets) (omega arith)
+
+pub spelled_octets : (packet : PacketValue) → IsPacket packet → IsOctets (spelled packet)
+unfolding spelled
+spelled_octets (request id kind body) p = typed_octets 1 id kind body (omega arith) p.0
+spelled_octets (response id kind body) p = typed_octets 2 id kind body (omega arith) p.0
+spelled_octets (success id) p = framed_octets 3 id [] (omega arith) p (All-nil (λ b. b < 256)) (omega arith)
+spelled_octets (failure id) p = framed_octets 4 id [] (omega arith) p (All-nil (λ b. b < 256)) (omega arith)

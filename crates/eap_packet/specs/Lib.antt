@@ -1,0 +1,4 @@
+pub mod Packet
+pub mod Fault
+pub mod Laws
+pub mod Words

@@ -1,0 +1,16 @@
+//! EAP packets (RFC 3748 section 4): their grammar, the causes of a discard, the states of the machines.
+#![tactic(auto)]
+
+mod cause;
+mod laws;
+mod packet;
+mod path;
+mod state;
+#[cfg(test)]
+mod tests;
+
+pub use cause::Cause;
+pub use laws::{faultless_is_spelled, reads_the_spelling, spellings_are_apart, spellings_are_read};
+pub use packet::{Code, View, decode, encode, encode_end};
+pub use path::Path;
+pub use state::State;

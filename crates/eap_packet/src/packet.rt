@@ -1,0 +1,186 @@
+//! EAP packets (RFC 3748 section 4): their fields, decoding and encoding.
+
+ghost use Rattle.std.specs.Prelude.{◌≡◌, ◌≢◌, ◌≤◌, [], length, take, IfOk, IsTrue, not, ◌∷◌, ◌-◌, drop, slice_index};
+ghost use Rattle.eap_packet.specs.Packet.{spelled, value_of, value_with, has_type, IsPacket, IsPlain, heard, number_of, two_octets};
+ghost use Rattle.eap_packet.specs.Fault.{fault, fields_of, code_of, length_of, type_of, packet_of};
+
+use crate::cause::Cause;
+use eap_base::Packet;
+
+/// The Code field: what kind of packet it is.
+#[derive(Clone, Copy, PartialEq, Eq, Debug)]
+pub enum Code {
+    Request = 1,
+    Response = 2,
+    Success = 3,
+    Failure = 4,
+}
+
+/// A packet, as its octets show it.
+#[derive(Clone, Copy)]
+pub struct View<'a> {
+    pub code: Code,
+    /// The Identifier.
+    pub id: u8,
+    /// The Type, 0 for a Success or a Failure.
+    pub kind: u8,
+    /// The Type-Data, empty for a Success or a Failure.
+    pub body: &'a [u8],
+    /// The first Length octets, without padding.
+    pub whole: &'a [u8],
+}
+
+/// The most octets of a packet.
+const MAX_LENGTH: usize = 1500;
+
+/// Type 3, the Nak.
+const NAK: u8 = 3;
+
+/// The Length field of at least four octets.
+fn length_field(octets: &[u8]) -> usize
+    requires { 4 ≤ length octets.now }
+    ensures { result ≡ length_of octets.now }
+{
+    256 * usize::from(octets[2]) + usize::from(octets[3])
+}
+
+/// The first cause, in the order of `Cause`, for which the octets begin with no packet.
+#[tactic(auto, unfolding(crate::specs::Fault::fault))]
+fn first_fault(octets: &[u8]) -> Option<Cause>
+    ensures { result ≡ fault octets.now }
+{
+    if octets.len() < 4 {
+        return Some(Cause::Short);
+    }
+    let code = octets[0];
+    let length = length_field(octets);
+    let has_type = code <= 2;
+    if code == 0 || code > 4 {
+        Some(Cause::BadCode)
+    } else if (has_type && length < 5) || (!has_type && length != 4) {
+        Some(Cause::BadLength)
+    } else if octets.len() < length {
+        Some(Cause::Truncated)
+    } else if length > MAX_LENGTH {
+        Some(Cause::TooLong)
+    } else if code == Code::Request as u8 && octets[4] == NAK {
+        Some(Cause::NakRequest)
+    } else if code == Code::Response as u8 && octets[4] == NAK && length == 5 {
+        Some(Cause::BadNak)
+    } else {
+        None
+    }
+}
+
+/// The Request or the Response that the octets begin with.
+fn typed_view<'a>(code: Code, octets: &'a [u8]) -> View<'a>
+    requires typed { 5 ≤ length_of octets.now }
+    requires whole { length_of octets.now ≤ length octets.now }
+    requires fits { length_of octets.now ≤ 1500 }
+    ensures same_code { result.code ≡ code }
+    ensures id { result.id ≡ slice_index octets.now 1 }
+    ensures kind { result.kind ≡ type_of octets.now }
+    ensures body { result.body.now ≡ take (length_of octets.now - 5) (drop 5 octets.now) }
+    ensures whole { result.whole.now ≡ take (length_of octets.now) octets.now }
+    ensures size { length result.whole.now ≤ 1500 }
+    ensures body_size { length result.body.now ≤ 1495 }
+{
+    let length = length_field(octets);
+    View {
+        code,
+        id: octets[1],
+        kind: octets[4],
+        body: &octets[5..length],
+        whole: &octets[..length],
+    }
+}
+
+/// The Success or the Failure that the octets begin with.
+fn end_view<'a>(code: Code, octets: &'a [u8]) -> View<'a>
+    requires { 4 ≤ length octets.now }
+    ensures same_code { result.code ≡ code }
+    ensures id { result.id ≡ slice_index octets.now 1 }
+    ensures kind { result.kind ≡ 0 }
+    ensures body { result.body.now ≡ [] }
+    ensures whole { result.whole.now ≡ take 4 octets.now }
+    ensures size { length result.whole.now ≤ 1500 }
+{
+    View {
+        code,
+        id: octets[1],
+        kind: 0,
+        body: &[],
+        whole: &octets[..4],
+    }
+}
+
+/// The packet that the octets begin with.
+#[tactic(auto, using(crate::proofs::Faults::begins_if_none))]
+fn view_of<'a>(octets: &'a [u8]) -> View<'a>
+    requires { fault octets.now ≡ None }
+    ensures value { value_of result ≡ fields_of (code_of octets.now) octets.now }
+    ensures whole { result.whole.now ≡ take (length_of octets.now) octets.now }
+    ensures plain { IsPlain result.code result.kind result.body.now }
+    ensures size { length result.whole.now ≤ 1500 }
+    ensures body_size { length result.body.now ≤ 1495 }
+{
+    match octets[0] {
+        1 => typed_view(Code::Request, octets),
+        2 => typed_view(Code::Response, octets),
+        3 => end_view(Code::Success, octets),
+        _ => end_view(Code::Failure, octets),
+    }
+}
+
+/// The packet that the octets begin with; the octets past its Length are padding. Else the first
+/// cause, in the order of `Cause`, that keeps them from beginning with one (RFC 3748 section 4).
+#[tactic(auto, unfolding(crate::specs::Fault::packet_of))]
+pub fn decode<'a>(octets: &'a [u8]) -> Result<View<'a>, Cause>
+    ensures packet { heard result ≡ packet_of octets.now }
+    ensures sound { IfOk result (λ view. IsPacket (value_of view)) }
+    ensures whole { IfOk result (λ view. view.whole.now ≡ spelled (value_of view)) }
+    ensures prefix { IfOk result (λ view. view.whole.now ≡ take (length_of octets.now) octets.now) }
+    ensures plain { IfOk result (λ view. IsPlain view.code view.kind view.body.now) }
+    ensures size { IfOk result (λ view. length view.whole.now ≤ 1500) }
+    ensures body_size { IfOk result (λ view. length view.body.now ≤ 1495) }
+{
+    match first_fault(octets) {
+        Some(cause) => Err(cause),
+        None => Ok(view_of(octets)),
+    }
+}
+
+/// The Code, the Identifier and the Length of a packet with this many octets.
+fn header(code: Code, id: u8, length: usize) -> [u8; 4]
+    requires { length ≤ 1500 }
+    ensures { result ≡ number_of code ∷ id ∷ two_octets length }
+{
+    [code as u8, id, (length / 256) as u8, (length % 256) as u8]
+}
+
+/// A Request or a Response of this Type and Type-Data (RFC 3748 section 4.1).
+#[tactic(auto, unfolding(crate::specs::Packet::spelled))]
+pub fn encode(code: Code, id: u8, kind: u8, body: &[u8]) -> Packet
+    requires typed { IsTrue (has_type code) }
+    requires fits { length body.now ≤ 1495 }
+    requires no_nak_request { code ≡ Code.Request → kind ≢ 3 }
+    requires nak_desires { code ≡ Code.Response → kind ≡ 3 → body.now ≢ [] }
+    ensures { result ≡ spelled (value_with code id kind body.now) }
+{
+    let mut packet = Packet::new();
+    packet.append(&header(code, id, 5 + body.len()));
+    packet.push(kind);
+    packet.append(body);
+    packet
+}
+
+/// A Success or a Failure (RFC 3748 section 4.2).
+#[tactic(auto, unfolding(crate::specs::Packet::spelled))]
+pub fn encode_end(code: Code, id: u8) -> Packet
+    requires { IsTrue (not (has_type code)) }
+    ensures { result ≡ spelled (value_with code id 0 []) }
+{
+    let mut packet = Packet::new();
+    packet.append(&header(code, id, 4));
+    packet
+}
