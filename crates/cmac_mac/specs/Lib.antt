@@ -1,0 +1,2 @@
+pub mod Cmac
+pub mod Holds
