@@ -1,0 +1,12 @@
+-- What a contract sees of an `Hmac`: the key that it was made with, and the text that it was fed.
+use Rattle.std.specs.Prelude.{ℕ, List, ◌++◌}
+use Rattle.sha2.specs.Hashers.{Holds256}
+use Rattle.hmac_mac.specs.Hmac.{block_key, padded, inner_pad, outer_pad}
+use Rattle.hmac_mac.specs.declared.Hmac.{Hmac}
+
+-- the value stands for this text under this key: the inner hash was fed the inner key and the text,
+-- the outer hash the outer key alone
+unfoldable pub Holds : Hmac → List ℕ → List ℕ → Type 0
+Holds mac key text =
+    Holds256 mac.inner (padded (block_key key) inner_pad ++ text)
+    × Holds256 mac.outer (padded (block_key key) outer_pad)

@@ -1,0 +1,119 @@
+//! HMAC with SHA-256 (RFC 2104), over the SHA-256 of the crate `sha2`. A text is fed in pieces and
+//! never stored, and no call takes memory.
+#![tactic(auto)]
+
+ghost use Rattle.std.specs.Prelude.{◌≡◌, ℕ, ◌≤◌, List, [], ◌++◌, length};
+ghost use Rattle.hmac_mac.specs.Hmac.{block_key, filled, hmac_sha256, padded};
+ghost use Rattle.hmac_mac.specs.Holds.{Holds};
+ghost use Rattle.sha2.specs.Hashers.{Holds256};
+
+use sha2::{Digest, Sha256};
+
+#[cfg(test)]
+mod tests;
+
+/// The octets of a block of SHA-256.
+const BLOCK_LEN: usize = 64;
+
+/// The octet that the inner hash's key is combined with (RFC 2104, section 2, ipad).
+const INNER_PAD: u8 = 0x36;
+
+/// The octet that the outer hash's key is combined with (RFC 2104, section 2, opad).
+const OUTER_PAD: u8 = 0x5c;
+
+/// The octets with zeros at their end, up to a whole block.
+#[tactic(auto, using(crate::proofs::Blocks::paste_zeros, std::proofs::lemmas::List::Edits::paste_more), unfolding(crate::specs::Hmac::filled))]
+fn fill(octets: &[u8]) -> [u8; BLOCK_LEN]
+    requires { length octets.now ≤ 64 }
+    ensures { result ≡ filled octets.now }
+{
+    let mut block = [0; BLOCK_LEN];
+    'octets: for i in 0..octets.len() {
+        block[i] = octets[i];
+    }
+    block
+}
+
+/// The key as one block (RFC 2104, sections 2 and 3): a key that is longer than a block is hashed.
+#[tactic(auto, unfolding(crate::specs::Hmac::block_key))]
+fn key_block(key: &[u8]) -> [u8; BLOCK_LEN]
+    ensures { result ≡ block_key key.now }
+{
+    if key.len() <= BLOCK_LEN {
+        fill(key)
+    } else {
+        let digest = Sha256::digest(key);
+        fill(&digest)
+    }
+}
+
+/// Each octet of the block combined with the pad.
+#[tactic(auto, using(crate::proofs::Blocks::map_whole), unfolding(crate::specs::Hmac::padded))]
+fn combine(block: &[u8; BLOCK_LEN], pad: u8) -> [u8; BLOCK_LEN]
+    ensures { result ≡ padded block.now pad }
+{
+    let mut combined = *block;
+    for octet in combined.iter_mut() {
+        *octet ^= pad;
+    }
+    combined
+}
+
+/// A hash that has been fed the key's block combined with the pad.
+fn keyed_hash(block: &[u8; BLOCK_LEN], pad: u8) -> Sha256
+    ensures { Holds256 result (padded block.now pad) }
+{
+    let key = combine(block, pad);
+    Sha256::new_with_prefix(key.as_slice())
+}
+
+/// An authenticator under one key that is fed its text in pieces (RFC 2104). It keeps two states of
+/// the hash, and neither the key nor the text.
+#[derive(Drop)]
+pub struct Hmac {
+    inner: Sha256,
+    outer: Sha256,
+}
+
+impl Hmac {
+    /// An authenticator of the empty text under `key`, of any length: a key over 64 octets is
+    /// replaced by its SHA-256.
+    #[tactic(auto, unfolding(crate::specs::Holds::Holds))]
+    pub fn new(key: &[u8]) -> Hmac
+        ensures { Holds result key.now [] }
+    {
+        let block = key_block(key);
+        Hmac {
+            inner: keyed_hash(&block, INNER_PAD),
+            outer: keyed_hash(&block, OUTER_PAD),
+        }
+    }
+
+    /// Adds `piece` at the end of the text.
+    #[tactic(auto, unfolding(crate::specs::Holds::Holds))]
+    pub fn update(&mut self, piece: &[u8])
+        ensures { (key text : List ℕ) → Holds self.old key text → Holds self.new key (text ++ piece.now) }
+    {
+        self.inner.update(piece);
+    }
+
+    /// The 32 octets of HMAC-SHA256 over all pieces joined.
+    #[tactic(auto, unfolding(crate::specs::Holds::Holds, crate::specs::Hmac::hmac_sha256))]
+    pub fn finish(self) -> [u8; 32]
+        ensures { (key text : List ℕ) → Holds self key text → result ≡ hmac_sha256 key text }
+    {
+        let Hmac { inner, mut outer } = self;
+        let digest = inner.finalize();
+        outer.update(digest.as_slice());
+        outer.finalize()
+    }
+}
+
+/// HMAC-SHA256 of a text in one piece (RFC 2104).
+pub fn hmac_whole(key: &[u8], text: &[u8]) -> [u8; 32]
+    ensures { result ≡ hmac_sha256 key.now text.now }
+{
+    let mut mac = Hmac::new(key);
+    mac.update(text);
+    mac.finish()
+}
