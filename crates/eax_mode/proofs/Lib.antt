@@ -1,0 +1,5 @@
+pub mod Agreement
+pub mod Combining
+pub mod Laws
+pub mod Sealing
+pub mod Stream
