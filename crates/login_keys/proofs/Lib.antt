@@ -1,0 +1,4 @@
+pub mod Pieces
+pub mod Blocks
+pub mod Examples
+pub mod Laws

@@ -1,0 +1,4 @@
+pub mod Gkdf
+pub mod Gpsk
+pub mod Psk
+pub mod KeyName

@@ -1,0 +1,132 @@
+//! The key schedule and the MAC of EAP-GPSK.
+
+ghost use Rattle.std.specs.Prelude.{◌≡◌, ◌≤◌, length};
+ghost use Rattle.eap_base.specs.Suite.{ks_of};
+ghost use Rattle.login_keys.specs.Gkdf.{gpsk_tag_of};
+ghost use Rattle.login_keys.specs.Gpsk.{gpsk_keys_of, input_string, keys_from, pk_size};
+ghost use Rattle.login_keys.specs.Gpsk as spec;
+
+use crate::copies::{array_of, list_of};
+use crate::gkdf::gkdf;
+use cmac_mac::cmac_whole;
+use eap_base::{Octets, Suite};
+use hmac_mac::hmac_whole;
+
+/// The keys of an EAP-GPSK login (RFC 5433, sections 4 and 6). KS is 16 for suite 1 and 32 for suite 2.
+#[derive(Drop)]
+pub struct GpskKeys {
+    /// The master key, of KS octets, from which the others are derived.
+    pub mk: Octets<32>,
+    /// The Master Session Key.
+    pub msk: [u8; 64],
+    /// The Extended Master Session Key.
+    pub emsk: [u8; 64],
+    /// The session key, of KS octets, under which the messages are authenticated.
+    pub sk: Octets<32>,
+    /// The key of protected data: 16 octets for suite 1, none for suite 2.
+    pub pk: Octets<16>,
+}
+
+/// The keys that a peer and a server with the shared key `psk` derive from their nonces and names
+/// (RFC 5433, section 4). The shared key has 32 to 64 octets, a name at most 253.
+pub fn gpsk_keys(
+    suite: Suite,
+    psk: &[u8],
+    rand_p: &[u8; 32],
+    id_p: &[u8],
+    rand_s: &[u8; 32],
+    id_s: &[u8],
+) -> GpskKeys
+    requires long_enough { 32 ≤ length psk.now }
+    requires short_enough { length psk.now ≤ 64 }
+    requires peer_name { length id_p.now ≤ 253 }
+    requires server_name { length id_s.now ≤ 253 }
+    ensures keys { result ≡ gpsk_keys_of suite psk.now rand_p.now id_p.now rand_s.now id_s.now }
+
+    // The sizes of the keys that depend on the suite.
+    ensures mk_size { length result.mk ≡ ks_of suite }
+    ensures sk_size { length result.sk ≡ ks_of suite }
+    ensures pk_size { length result.pk ≡ pk_size suite }
+{
+    derive(suite, psk, rand_p, id_p, rand_s, id_s)
+}
+
+// The same, for fields that live as long.
+#[tactic(auto, unfolding(crate::specs::Gpsk::gpsk_keys_of))]
+fn derive<'a>(
+    suite: Suite,
+    psk: &'a [u8],
+    rand_p: &'a [u8; 32],
+    id_p: &'a [u8],
+    rand_s: &'a [u8; 32],
+    id_s: &'a [u8],
+) -> GpskKeys
+    requires long_enough { 32 ≤ length psk.now }
+    requires short_enough { length psk.now ≤ 64 }
+    ensures keys { result ≡ gpsk_keys_of suite psk.now rand_p.now id_p.now rand_s.now id_s.now }
+    ensures mk_size { length result.mk ≡ ks_of suite }
+    ensures sk_size { length result.sk ≡ ks_of suite }
+    ensures pk_size { length result.pk ≡ pk_size suite }
+{
+    let mk = master_key(suite, psk, rand_p, id_p, rand_s, id_s);
+    let derived = gkdf(suite, 160, mk.as_slice(), &[rand_p, id_p, rand_s, id_s]);
+    cut_keys(suite, mk, derived.as_slice())
+}
+
+// The master key MK.
+#[tactic(auto, unfolding(crate::specs::Gpsk::master_key))]
+fn master_key<'a>(
+    suite: Suite,
+    psk: &'a [u8],
+    rand_p: &'a [u8; 32],
+    id_p: &'a [u8],
+    rand_s: &'a [u8; 32],
+    id_s: &'a [u8],
+) -> Octets<32>
+    requires long_enough { 32 ≤ length psk.now }
+    requires short_enough { length psk.now ≤ 64 }
+    ensures key { result ≡ spec.master_key suite psk.now (input_string rand_p.now id_p.now rand_s.now id_s.now) }
+    ensures size { length result ≡ ks_of suite }
+{
+    let ks = suite.ks();
+    let psk_len = (psk.len() as u16).to_be_bytes();
+    let selected = suite.octets();
+    let mk = gkdf(
+        suite,
+        ks,
+        &psk[..ks],
+        &[&psk_len, psk, &selected, rand_p, id_p, rand_s, id_s],
+    );
+    list_of(mk.as_slice())
+}
+
+// The keys that are cut from the octets derived from the master key.
+fn cut_keys(suite: Suite, mk: Octets<32>, derived: &[u8]) -> GpskKeys
+    requires { length derived.now ≡ 160 }
+    ensures keys { result ≡ keys_from suite mk derived.now }
+    ensures sk_size { length result.sk ≡ ks_of suite }
+    ensures pk_size { length result.pk ≡ pk_size suite }
+{
+    let ks = suite.ks();
+    GpskKeys {
+        mk,
+        msk: array_of(&derived[0..64]),
+        emsk: array_of(&derived[64..128]),
+        sk: list_of(&derived[128..128 + ks]),
+        pk: list_of(&derived[128 + ks..]),
+    }
+}
+
+/// The MAC of a suite over the octets that a message covers (RFC 5433, section 6), of KS octets. The
+/// session key `sk` has KS octets too.
+#[tactic(auto, unfolding(crate::specs::Gkdf::gpsk_tag_of))]
+pub fn gpsk_tag(suite: Suite, sk: &[u8], octets: &[u8]) -> Octets<32>
+    requires { length sk.now ≡ ks_of suite }
+    ensures tag { result ≡ gpsk_tag_of suite sk.now octets.now }
+    ensures size { length result ≡ ks_of suite }
+{
+    match suite {
+        Suite::Cmac => list_of(&cmac_whole(&array_of(sk), octets)),
+        Suite::Hmac => list_of(&hmac_whole(sk, octets)),
+    }
+}

@@ -1,0 +1,16 @@
+//! The key schedules of EAP-GPSK (RFC 5433) and EAP-PSK (RFC 4764), the MAC of an EAP-GPSK
+//! ciphersuite, and names of keys. Every field is fed to the MAC where it stands, and no call takes
+//! memory.
+#![tactic(auto)]
+
+mod copies;
+mod gkdf;
+mod gpsk;
+mod naming;
+mod psk;
+#[cfg(test)]
+mod tests;
+
+pub use gpsk::{GpskKeys, gpsk_keys, gpsk_tag};
+pub use naming::key_name;
+pub use psk::{PskKeys, PskLong, psk_long, psk_session};
