@@ -1,0 +1,4 @@
+mod Worked
+pub mod FieldLaws
+pub mod Reader
+pub mod Grammar

@@ -1,0 +1,52 @@
+-- Laws of the messages' grammar (RFC 5433 section 7), over its definitions alone.
+use Rattle.std.specs.Prelude.{◌≡◌, ◌↔◌, ℕ, ◌-◌, List, length, take, drop, Option, Ok, Err}
+use Rattle.eap_packet.specs.declared.cause.Cause.TheVariants.{GpskShape, ListTooLong}
+use Rattle.eap_packet.specs.Packet.{IsOctets}
+use Rattle.gpsk_messages.specs.Message.{Message, op_code, covered_of, mac_of, without_mac, spelled, size_of, AreFields, IsGpsk, IsGpskLoose}
+use Rattle.gpsk_messages.specs.Reading.{read_of}
+
+-- what is spelled so is read
+abbrev pub SpellingsAreRead : Type 0
+SpellingsAreRead = (ks : Option ℕ) (octets : List ℕ) (message : Message) → IsGpsk ks message octets → read_of ks octets ≡ Ok message
+
+-- what is read is the message that the octets spell
+abbrev pub ReadsTheSpelling : Type 0
+ReadsTheSpelling =
+    (ks : Option ℕ) (octets : List ℕ) (message : Message) → IsOctets octets → (read_of ks octets ≡ Ok message) ↔ IsGpsk ks message octets
+
+-- no two messages have one spelling, whatever the number of suites
+abbrev pub SpellingsAreApart : Type 0
+SpellingsAreApart =
+    (ks : Option ℕ) (octets : List ℕ) (one other : Message) → IsGpskLoose ks one octets → IsGpskLoose ks other octets → one ≡ other
+
+-- GpskShape comes exactly where the octets spell no message, whatever the number of suites
+abbrev pub ShapelessSpellsNothing : Type 0
+ShapelessSpellsNothing =
+    (ks : Option ℕ) (octets : List ℕ) → IsOctets octets → (read_of ks octets ≡ Err GpskShape) ↔ ((message : Message) → ¬ IsGpskLoose ks message octets)
+
+-- the octets spell a message, but none whose list has at most 20 suites
+pub record SpellsALongList (ks : Option ℕ) (octets : List ℕ) : Type 0 where
+  pub message : Message
+  pub spells : IsGpskLoose ks message octets
+  pub no_other : (other : Message) → ¬ IsGpsk ks other octets
+
+-- ListTooLong comes exactly where the octets spell a message, but none whose list has at most 20 suites
+abbrev pub LongListsAreTold : Type 0
+LongListsAreTold =
+    (ks : Option ℕ) (octets : List ℕ) → IsOctets octets → (read_of ks octets ≡ Err ListTooLong) ↔ SpellsALongList ks octets
+
+-- the octets of a spelling
+abbrev pub SpellingsAreSized : Type 0
+SpellingsAreSized = (message : Message) → length (spelled message) ≡ size_of message
+
+-- the covered octets are those after the OP-Code up to the MAC
+abbrev pub CoveredIsTheMiddle : Type 0
+CoveredIsTheMiddle =
+    (ks : ℕ) (message : Message) → length (mac_of message) ≡ ks →
+    take (length (spelled message) - 1 - ks) (drop 1 (spelled message)) ≡ covered_of message
+
+-- two messages of one kind with equal covered octets have equal fields but for the MAC
+abbrev pub CoveredTellsTheFields : Type 0
+CoveredTellsTheFields =
+    (one other : Message) → AreFields one → AreFields other → op_code one ≡ op_code other →
+    covered_of one ≡ covered_of other → without_mac one ≡ without_mac other

@@ -1,0 +1,18 @@
+//! EAP-GPSK messages (RFC 5433 section 7): their grammar, reading and writing.
+#![tactic(auto)]
+
+mod fields;
+mod laws;
+mod reading;
+#[cfg(test)]
+mod tests;
+mod view;
+mod writing;
+
+pub use laws::{
+    covered_is_the_middle, covered_tells_the_fields, long_lists_are_told, reads_the_spelling,
+    shapeless_spells_nothing, spellings_are_apart, spellings_are_read, spellings_are_sized,
+};
+pub use reading::{covered, read_gpsk};
+pub use view::GpskView;
+pub use writing::write_gpsk;
