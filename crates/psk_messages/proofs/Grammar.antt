@@ -1,0 +1,72 @@
+-- The laws of the grammar.
+use Rattle.std.proofs.Common.{◌≡◌, ℕ, ◌/◌, ◌<◌, ◌*◌, List, [], ◌∷◌, length, Bool, true, false, if◌then◌else◌, Result, Ok, Err, refl, ap, ◌∙◌, sym, subst, arith}
+use Rattle.std.proofs.lemmas.List.Elements.{All-tail}
+use Rattle.eap_packet.specs.declared.cause.Cause.{Cause}
+use Rattle.eap_packet.specs.declared.cause.Cause.TheVariants.{PskShape}
+use Rattle.eap_packet.specs.Packet.{IsOctets}
+use Rattle.psk_messages.specs.Message.{Message, t_of, fields_of, AreFields, IsPsk, spelled}
+use Rattle.psk_messages.specs.Reading.{is_size, message_at, read_of}
+use Rattle.psk_messages.specs.Laws.{ReadsTheSpelling, SpellingsAreApart, RefusesTheRest, SentIsRead}
+use Rattle.psk_messages.proofs.Fields.{is_size-fields, message_at-fields, IsReadFrom, is_read_from}
+
+pub read_of-fields : (flags : ℕ) (message : Message) → AreFields message → flags / 64 ≡ t_of message →
+    read_of (flags ∷ fields_of message) ≡ Ok message
+unfolding read_of
+read_of-fields flags message p e =
+    let octets = fields_of message in
+    let high = is_size-fields message p in
+    let same = message_at-fields message p in
+    rw e (rw high (ap Ok same))
+
+pub read_if_psk : (octets : List ℕ) (message : Message) → IsPsk message octets → read_of octets ≡ Ok message
+read_if_psk octets message p = ap read_of p.spelling ∙ read_of-fields p.flags message p.fields p.high_bits
+
+if_ok : (fits : Bool) (one other : Message) →
+    (let answer : Result Message Cause = if fits then Ok one else Err PskShape in answer) ≡ Ok other → (fits ≡ true) × (one ≡ other)
+if_ok true one other e = (refl, cc)
+if_ok false one other e = cc
+
+psk_if_read : (octets : List ℕ) (message : Message) → IsOctets octets → read_of octets ≡ Ok message → IsPsk message octets
+unfolding read_of
+psk_if_read [] message small e = cc
+psk_if_read (flags ∷ octets) message small e =
+    let found = if_ok (is_size (flags / 64) (length octets)) (message_at (flags / 64) octets) message e in
+    let whole = is_read_from (flags / 64) octets (omega (arith, small 0 0 (omega arith))) (All-tail (λ b. b < 256) flags octets small) found.0 in
+    let read = subst (IsReadFrom (flags / 64) octets) found.1 whole in
+    record {
+      fields = read.fields;
+      flags = flags;
+      high_bits = read.same_t;
+      spelling = ap (λ xs. flags ∷ xs) (sym read.spelling);
+      fit = small;
+    }
+
+pub reads_the_spelling : ReadsTheSpelling
+reads_the_spelling octets message small = (psk_if_read octets message small, read_if_psk octets message)
+
+pub spellings_are_apart : SpellingsAreApart
+spellings_are_apart octets one other p q =
+    let same = sym (read_if_psk octets one p) ∙ read_if_psk octets other q in
+    cc
+
+if_err : (fits : Bool) (one : Message) →
+    (let answer : Result Message Cause = if fits then Ok one else Err PskShape in
+    ¬ ((message : Message) × (answer ≡ Ok message)) → answer ≡ Err PskShape)
+if_err true one none = absurd (none (one, refl))
+if_err false one none = refl
+
+-- an answer is a message or the one cause
+either : (octets : List ℕ) → ¬ ((message : Message) × (read_of octets ≡ Ok message)) → read_of octets ≡ Err PskShape
+unfolding read_of
+either [] none = refl
+either (flags ∷ octets) none = if_err (is_size (flags / 64) (length octets)) (message_at (flags / 64) octets) none
+
+pub refuses_the_rest : RefusesTheRest
+refuses_the_rest octets small = (
+  λ e w. (let same = sym e ∙ read_if_psk octets w.0 w.1 in cc),
+  λ none. either octets (λ w. none (w.0, psk_if_read octets w.0 small w.1)),
+)
+
+pub sent_is_read : SentIsRead
+unfolding spelled
+sent_is_read message p = read_of-fields (64 * t_of message) message p (omega arith)

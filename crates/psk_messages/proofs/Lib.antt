@@ -1,0 +1,4 @@
+mod Worked
+pub mod Channel
+pub mod Fields
+pub mod Grammar

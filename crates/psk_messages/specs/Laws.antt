@@ -1,0 +1,23 @@
+-- Laws of the grammar of EAP-PSK (RFC 4764 section 5), over its definitions alone.
+use Rattle.std.specs.Prelude.{◌≡◌, ◌↔◌, ℕ, List, Ok, Err}
+use Rattle.eap_packet.specs.declared.cause.Cause.TheVariants.{PskShape}
+use Rattle.eap_packet.specs.Packet.{IsOctets}
+use Rattle.psk_messages.specs.Message.{Message, AreFields, IsPsk, spelled}
+use Rattle.psk_messages.specs.Reading.{read_of}
+
+-- what is read is the message that the octets spell
+abbrev pub ReadsTheSpelling : Type 0
+ReadsTheSpelling = (octets : List ℕ) (message : Message) → IsOctets octets → (read_of octets ≡ Ok message) ↔ IsPsk message octets
+
+-- no list of octets spells two messages
+abbrev pub SpellingsAreApart : Type 0
+SpellingsAreApart = (octets : List ℕ) (one other : Message) → IsPsk one octets → IsPsk other octets → one ≡ other
+
+-- octets are refused exactly where they spell no message
+abbrev pub RefusesTheRest : Type 0
+RefusesTheRest =
+    (octets : List ℕ) → IsOctets octets → (read_of octets ≡ Err PskShape) ↔ (¬ ((message : Message) × IsPsk message octets))
+
+-- what is sent is read
+abbrev pub SentIsRead : Type 0
+SentIsRead = (message : Message) → AreFields message → read_of (spelled message) ≡ Ok message

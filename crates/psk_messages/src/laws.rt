@@ -1,0 +1,25 @@
+//! Laws of the messages' grammar (RFC 4764 section 5). Each is the contract of a function that does nothing.
+
+ghost use Rattle.psk_messages.specs.Laws.{ReadsTheSpelling, SpellingsAreApart, RefusesTheRest, SentIsRead};
+
+/// What is read is the message that the octets spell, and that one alone.
+pub fn reads_the_spelling()
+    ensures { ReadsTheSpelling }
+{}
+
+/// No list of octets spells two messages.
+pub fn spellings_are_apart()
+    ensures { SpellingsAreApart }
+{}
+
+/// Octets are refused exactly where they spell no message.
+#[tactic(auto, using(crate::proofs::Grammar::refuses_the_rest))]
+pub fn refuses_the_rest()
+    ensures { RefusesTheRest }
+{}
+
+/// A message that is sent is read as itself.
+#[tactic(auto, using(crate::proofs::Grammar::sent_is_read))]
+pub fn sent_is_read()
+    ensures { SentIsRead }
+{}

@@ -1,0 +1,14 @@
+//! EAP-PSK messages (RFC 4764 section 5): their grammar, reading and writing.
+#![tactic(auto)]
+
+mod laws;
+mod reading;
+#[cfg(test)]
+mod tests;
+mod view;
+mod writing;
+
+pub use laws::{reads_the_spelling, refuses_the_rest, sent_is_read, spellings_are_apart};
+pub use reading::read_psk;
+pub use view::PskView;
+pub use writing::write_psk;

@@ -1,0 +1,164 @@
+//! Reading Type-Data as a message (RFC 4764 section 5).
+
+ghost use Rattle.std.specs.Prelude.{◌≡◌, ◌+◌, ◌≤◌, length, IfOk, IsTrue};
+ghost use Rattle.psk_messages.specs.Message.{AreFields, heard, message_of};
+ghost use Rattle.psk_messages.specs.Reading.{front, behind, is_size, message_at, nonce_at, tag_at, sealed_at, psk1_at, psk2_at, psk3_at, psk4_at, read_of};
+
+use crate::view::PskView;
+use eap_packet::Cause;
+
+/// The octets of a nonce, a MAC or a tag.
+const FIELD: usize = 16;
+
+/// The most octets of an identity.
+const MAX_IDENTITY: usize = 253;
+
+/// The octets of PCHANNEL without its extension.
+const CHANNEL: usize = 21;
+
+/// PCHANNEL (RFC 4764 section 5.3) without its extension.
+struct Channel {
+    nonce: u32,
+    tag: [u8; 16],
+    sealed: u8,
+}
+
+/// A field of 16 octets, and the octets behind it.
+fn split_field<'a>(octets: &'a [u8]) -> ([u8; 16], &'a [u8])
+    requires { 16 ≤ length octets.now }
+    ensures field { result.0 ≡ front octets.now }
+    ensures rest { result.1.now ≡ behind octets.now }
+    ensures size { length result.1.now + 16 ≡ length octets.now }
+{
+    let (start, rest) = octets.split_at(FIELD);
+    let mut field = [0; FIELD];
+    field.copy_from_slice(start);
+    (field, rest)
+}
+
+/// The number in the first four octets, the most significant octet first.
+fn nonce_field(octets: &[u8]) -> u32
+    requires { 4 ≤ length octets.now }
+    ensures { result ≡ nonce_at octets.now }
+{
+    u32::from_be_bytes([octets[0], octets[1], octets[2], octets[3]])
+}
+
+/// The parts of PCHANNEL.
+fn split_channel(octets: &[u8]) -> Channel
+    requires { length octets.now ≡ 21 }
+    ensures nonce { result.nonce ≡ nonce_at octets.now }
+    ensures tag { result.tag ≡ tag_at octets.now }
+    ensures sealed { result.sealed ≡ sealed_at octets.now }
+{
+    let (tag, _sealed) = split_field(&octets[4..]);
+    Channel {
+        nonce: nonce_field(octets),
+        tag,
+        sealed: octets[20],
+    }
+}
+
+/// Whether a message with this T may have so many octets after Flags.
+fn has_size(t: u8, size: usize) -> bool
+    ensures { result ≡ is_size t size }
+{
+    match t {
+        0 => FIELD <= size && size <= FIELD + MAX_IDENTITY,
+        1 => 3 * FIELD <= size && size <= 3 * FIELD + MAX_IDENTITY,
+        2 => size == 2 * FIELD + CHANNEL,
+        _ => size == FIELD + CHANNEL,
+    }
+}
+
+/// The first message: RAND_S, ID_S.
+fn read_first<'a>(octets: &'a [u8]) -> PskView<'a>
+    requires least { 16 ≤ length octets.now }
+    requires most { length octets.now ≤ 269 }
+    ensures message { message_of result ≡ psk1_at octets.now }
+    ensures fields { AreFields (message_of result) }
+{
+    let (rand_s, id_s) = split_field(octets);
+    PskView::P1 { rand_s, id_s }
+}
+
+/// The second message: RAND_S, RAND_P, MAC_P, ID_P.
+fn read_second<'a>(octets: &'a [u8]) -> PskView<'a>
+    requires least { 48 ≤ length octets.now }
+    requires most { length octets.now ≤ 301 }
+    ensures message { message_of result ≡ psk2_at octets.now }
+    ensures fields { AreFields (message_of result) }
+{
+    let (rand_s, rest) = split_field(octets);
+    let (rand_p, rest) = split_field(rest);
+    let (mac, id_p) = split_field(rest);
+    PskView::P2 {
+        rand_s,
+        rand_p,
+        mac,
+        id_p,
+    }
+}
+
+/// The third message: RAND_S, MAC_S, PCHANNEL.
+fn read_third<'a>(octets: &'a [u8]) -> PskView<'a>
+    requires { length octets.now ≡ 53 }
+    ensures message { message_of result ≡ psk3_at octets.now }
+    ensures fields { AreFields (message_of result) }
+{
+    let (rand_s, rest) = split_field(octets);
+    let (mac, rest) = split_field(rest);
+    let Channel { nonce, tag, sealed } = split_channel(rest);
+    PskView::P3 {
+        rand_s,
+        mac,
+        nonce,
+        tag,
+        sealed,
+    }
+}
+
+/// The fourth message: RAND_S, PCHANNEL.
+fn read_fourth<'a>(octets: &'a [u8]) -> PskView<'a>
+    requires { length octets.now ≡ 37 }
+    ensures message { message_of result ≡ psk4_at octets.now }
+    ensures fields { AreFields (message_of result) }
+{
+    let (rand_s, rest) = split_field(octets);
+    let Channel { nonce, tag, sealed } = split_channel(rest);
+    PskView::P4 {
+        rand_s,
+        nonce,
+        tag,
+        sealed,
+    }
+}
+
+/// The message with this T, whose size fits.
+fn read_fields<'a>(t: u8, octets: &'a [u8]) -> PskView<'a>
+    requires { IsTrue (is_size t (length octets.now)) }
+    ensures message { message_of result ≡ message_at t octets.now }
+    ensures fields { AreFields (message_of result) }
+{
+    match t {
+        0 => read_first(octets),
+        1 => read_second(octets),
+        2 => read_third(octets),
+        _ => read_fourth(octets),
+    }
+}
+
+/// The message that the Type-Data is: T is the two high bits of Flags, and the six low bits are
+/// ignored. `PskShape`: it is none, also where PCHANNEL has more than 21 octets (RFC 4764 section 5).
+#[tactic(auto, unfolding(crate::specs::Reading::read_of))]
+pub fn read_psk<'a>(body: &'a [u8]) -> Result<PskView<'a>, Cause>
+    ensures message { heard result ≡ read_of body.now }
+    ensures fields { IfOk result (λ view. AreFields (message_of view)) }
+{
+    match body {
+        [flags, octets @ ..] if has_size(flags / 64, octets.len()) => {
+            Ok(read_fields(flags / 64, octets))
+        }
+        _ => Err(Cause::PskShape),
+    }
+}
