@@ -1,0 +1,7 @@
+mod Samples
+pub mod FieldLemmas
+pub mod ReadLine
+pub mod Steps
+pub mod ValidLines
+pub mod ValidReading
+pub mod KeySizes

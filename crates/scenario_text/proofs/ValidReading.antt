@@ -1,0 +1,138 @@
+-- What has been read is within its limits, line by line.
+use Rattle.std.proofs.Common.{◌≡◌, ℕ, ◌≤◌, ◌<◌, List, [], length, Result, Ok, Err, IfOk, refl, arith, lit<, lit≤, IsTrue, ◌∷◌}
+use Rattle.std.specs.Str.{bytes_eq}
+use Rattle.std.proofs.lemmas.Result.{IfOk-at_ok}
+use Rattle.eap_base.specs.Setup.{is_among}
+use Rattle.eap_base.specs.declared.setup.Mode.TheVariants as mode
+use Rattle.scenario_text.specs.Words.{is_passed_over}
+use Rattle.scenario_text.specs.Entries.{entry_of}
+use Rattle.scenario_text.specs.Reading.{Reading, reads, has_setting, with_setting, no_settings, needed, peer_setup_of, server_setup_of, setup_of, header, read_setting, read_event, read_late, late_setting, read_entry, read_body, read_at, read_line, answered}
+use Rattle.scenario_text.specs.Valid.{IsName, AcceptsName, IsValidSetting, IsValidEntry, AreValid, IsValidPeer, IsValidServer, IsValidSetup, IsValidItem, IsValidReadLine}
+use Rattle.scenario_text.specs.declared.fault.LineFault.{LineFault}
+use Rattle.scenario_text.specs.declared.fault.LineFault.TheVariants.{NoHeader, Repeated, Order}
+use Rattle.scenario_text.specs.declared.entry.Setting.{Setting}
+use Rattle.scenario_text.specs.declared.entry.Setting.TheVariants as setting
+use Rattle.scenario_text.specs.declared.entry.Entry.{Entry}
+use Rattle.scenario_text.specs.declared.entry.Entry.TheVariants as entry
+use Rattle.scenario_text.specs.declared.settings.Settings.{Settings}
+use Rattle.scenario_text.specs.declared.scenario.Item.{Item}
+use Rattle.scenario_text.specs.declared.scenario.Item.TheVariants as item
+use Rattle.scenario_text.specs.declared.scenario.Phase.{Phase}
+use Rattle.scenario_text.specs.declared.scenario.Phase.TheVariants as phase
+use Rattle.scenario_text.proofs.Steps.{IfOk-bind, IfOk-test, IfOk-needed, unwrap_or-holds}
+use Rattle.scenario_text.proofs.ValidLines.{entry_of-valid}
+
+pub no_settings-valid : AreValid no_settings
+no_settings-valid = record { mode = tt; first_id = tt; max_retrans = tt; peer_name = tt; peer_server = tt; peer_methods = tt; peer_nonce = tt; server_name = tt; server_methods = tt; server_nonce = tt }
+
+-- one more setting
+pub with_setting-valid : (s : Settings) (v : Setting) → AreValid s → IsValidSetting v → AreValid (with_setting s v)
+with_setting-valid s (setting.Mode m) h k = record { mode = k; first_id = h.first_id; max_retrans = h.max_retrans; peer_name = h.peer_name; peer_server = h.peer_server; peer_methods = h.peer_methods; peer_nonce = h.peer_nonce; server_name = h.server_name; server_methods = h.server_methods; server_nonce = h.server_nonce }
+with_setting-valid s (setting.FirstId id) h k = record { mode = h.mode; first_id = k; max_retrans = h.max_retrans; peer_name = h.peer_name; peer_server = h.peer_server; peer_methods = h.peer_methods; peer_nonce = h.peer_nonce; server_name = h.server_name; server_methods = h.server_methods; server_nonce = h.server_nonce }
+with_setting-valid s (setting.MaxRetrans count) h k = record { mode = h.mode; first_id = h.first_id; max_retrans = k; peer_name = h.peer_name; peer_server = h.peer_server; peer_methods = h.peer_methods; peer_nonce = h.peer_nonce; server_name = h.server_name; server_methods = h.server_methods; server_nonce = h.server_nonce }
+with_setting-valid s (setting.PeerName name) h k = record { mode = h.mode; first_id = h.first_id; max_retrans = h.max_retrans; peer_name = k; peer_server = h.peer_server; peer_methods = h.peer_methods; peer_nonce = h.peer_nonce; server_name = h.server_name; server_methods = h.server_methods; server_nonce = h.server_nonce }
+with_setting-valid s (setting.PeerServer accepts) h k = record { mode = h.mode; first_id = h.first_id; max_retrans = h.max_retrans; peer_name = h.peer_name; peer_server = k; peer_methods = h.peer_methods; peer_nonce = h.peer_nonce; server_name = h.server_name; server_methods = h.server_methods; server_nonce = h.server_nonce }
+with_setting-valid s (setting.PeerMethods kinds) h k = record { mode = h.mode; first_id = h.first_id; max_retrans = h.max_retrans; peer_name = h.peer_name; peer_server = h.peer_server; peer_methods = k; peer_nonce = h.peer_nonce; server_name = h.server_name; server_methods = h.server_methods; server_nonce = h.server_nonce }
+with_setting-valid s (setting.PeerNonce nonce) h k = record { mode = h.mode; first_id = h.first_id; max_retrans = h.max_retrans; peer_name = h.peer_name; peer_server = h.peer_server; peer_methods = h.peer_methods; peer_nonce = k; server_name = h.server_name; server_methods = h.server_methods; server_nonce = h.server_nonce }
+with_setting-valid s (setting.ServerName name) h k = record { mode = h.mode; first_id = h.first_id; max_retrans = h.max_retrans; peer_name = h.peer_name; peer_server = h.peer_server; peer_methods = h.peer_methods; peer_nonce = h.peer_nonce; server_name = k; server_methods = h.server_methods; server_nonce = h.server_nonce }
+with_setting-valid s (setting.ServerMethods kinds) h k = record { mode = h.mode; first_id = h.first_id; max_retrans = h.max_retrans; peer_name = h.peer_name; peer_server = h.peer_server; peer_methods = h.peer_methods; peer_nonce = h.peer_nonce; server_name = h.server_name; server_methods = k; server_nonce = h.server_nonce }
+with_setting-valid s (setting.ServerNonce nonce) h k = record { mode = h.mode; first_id = h.first_id; max_retrans = h.max_retrans; peer_name = h.peer_name; peer_server = h.peer_server; peer_methods = h.peer_methods; peer_nonce = h.peer_nonce; server_name = h.server_name; server_methods = h.server_methods; server_nonce = k }
+
+-- no methods allow none
+unallowed : (methods : List ℕ) (kind : ℕ) → methods ≡ [] → IsTrue (is_among methods kind) → ⊥
+unallowed [] kind e k = cc
+unallowed (m ∷ rest) kind e k = cc
+
+peer_setup_of-valid : (s : Settings) → AreValid s → IfOk (peer_setup_of s) IsValidPeer
+unfolding peer_setup_of
+peer_setup_of-valid s h =
+    IfOk-bind (needed s.peer_name) _ IsName IsValidPeer (IfOk-needed s.peer_name IsName h.peer_name) (λ name a.
+    IfOk-bind (needed s.peer_server) _ AcceptsName IsValidPeer (IfOk-needed s.peer_server AcceptsName h.peer_server) (λ accepts b.
+    IfOk-bind (needed s.peer_methods) _ (λ kinds. kinds ≡ []) IsValidPeer (IfOk-needed s.peer_methods (λ kinds. kinds ≡ []) h.peer_methods) (λ methods c.
+    IfOk-bind (needed s.peer_nonce) _ (λ nonce. length nonce ≡ 32) IsValidPeer (IfOk-needed s.peer_nonce (λ nonce. length nonce ≡ 32) h.peer_nonce) (λ nonce d.
+    record {
+      sound = record { methods = rw c refl; suites = refl; psk47 = tt; psk51 = tt };
+      keys = record { psk47 = λ k. absurd (unallowed methods 47 c k); psk51 = λ k. absurd (unallowed methods 51 c k) };
+      name = a;
+      accepts = b;
+      no_methods = c;
+      nonce = d;
+    }))))
+
+server_setup_of-valid : (s : Settings) → AreValid s → IfOk (server_setup_of s) IsValidServer
+unfolding server_setup_of
+server_setup_of-valid s h =
+    IfOk-bind (needed s.server_name) _ IsName IsValidServer (IfOk-needed s.server_name IsName h.server_name) (λ name a.
+    IfOk-bind (needed s.server_methods) _ (λ kinds. kinds ≡ []) IsValidServer (IfOk-needed s.server_methods (λ kinds. kinds ≡ []) h.server_methods) (λ methods c.
+    IfOk-bind (needed s.server_nonce) _ (λ nonce. length nonce ≡ 32) IsValidServer (IfOk-needed s.server_nonce (λ nonce. length nonce ≡ 32) h.server_nonce) (λ nonce d.
+    record {
+      sound = record { methods = rw c refl; suites = refl; kinds = λ k d few. absurd (omega arith); keys = λ k d few. absurd (omega arith) };
+      name = a;
+      no_methods = c;
+      nonce = d;
+    })))
+
+-- the settings of a run
+pub setup_of-valid : (s : Settings) → AreValid s → IfOk (setup_of s) IsValidSetup
+unfolding setup_of
+setup_of-valid s h =
+    IfOk-bind (needed s.mode) _ (λ m. m ≡ mode.Alone) IsValidSetup (IfOk-needed s.mode (λ m. m ≡ mode.Alone) h.mode) (λ m a.
+    IfOk-bind (peer_setup_of s) _ IsValidPeer IsValidSetup (peer_setup_of-valid s h) (λ peer b.
+    IfOk-bind (server_setup_of s) _ IsValidServer IsValidSetup (server_setup_of-valid s h) (λ server c.
+    record {
+      alone = a;
+      first_id = unwrap_or-holds s.first_id 0 (λ id. id < 256) h.first_id (lit< tt);
+      few_retrans = unwrap_or-holds s.max_retrans 4 (λ count. count ≤ 10) h.max_retrans (lit≤ tt);
+      peer = b;
+      server = c;
+    })))
+
+read_setting-valid : (s : Settings) (e : Entry) → AreValid s → IsValidEntry e → IfOk (read_setting s e) IsValidReadLine
+read_setting-valid s (entry.Set v) h k =
+    IfOk-test (has_setting s v) (Err Repeated) (reads item.Nothing phase.Settings (with_setting s v)) IsValidReadLine (λ e. tt)
+    (λ e. record { item = tt; settings = with_setting-valid s v h k })
+read_setting-valid s entry.Events h k = IfOk-bind (setup_of s) (λ setup. reads (item.Ready setup) phase.Events s) IsValidSetup IsValidReadLine (setup_of-valid s h) (λ setup a. record { item = a; settings = h })
+read_setting-valid s (entry.Happens event) h k = tt
+read_setting-valid s entry.End h k = tt
+
+late_setting-valid : (s : Settings) (v : Setting) → IfOk (late_setting s v) IsValidReadLine
+late_setting-valid s v = IfOk-test (has_setting s v) (Err Repeated) (Err Order) IsValidReadLine (λ e. tt) (λ e. tt)
+
+read_event-valid : (s : Settings) (e : Entry) → AreValid s → IfOk (read_event s e) IsValidReadLine
+read_event-valid s (entry.Set v) h = late_setting-valid s v
+read_event-valid s entry.Events h = tt
+read_event-valid s (entry.Happens event) h = record { item = tt; settings = h }
+read_event-valid s entry.End h = record { item = tt; settings = h }
+
+read_late-valid : (s : Settings) (e : Entry) → IfOk (read_late s e) IsValidReadLine
+read_late-valid s (entry.Set v) = late_setting-valid s v
+read_late-valid s entry.Events = tt
+read_late-valid s (entry.Happens event) = tt
+read_late-valid s entry.End = tt
+
+pub read_entry-valid : (p : Phase) (s : Settings) (e : Entry) → AreValid s → IsValidEntry e → IfOk (read_entry p s e) IsValidReadLine
+read_entry-valid phase.Unread s e h k = tt
+read_entry-valid phase.Settings s e h k = read_setting-valid s e h k
+read_entry-valid phase.Events s e h k = read_event-valid s e h
+read_entry-valid phase.Ended s e h k = read_late-valid s e
+
+read_body-valid : (p : Phase) (s : Settings) (line : List ℕ) → AreValid s → IfOk (read_body p s line) IsValidReadLine
+read_body-valid p s line h =
+    IfOk-test (is_passed_over line) (reads item.Nothing p s) _ IsValidReadLine (λ e. record { item = tt; settings = h })
+    (λ e. IfOk-bind (entry_of line) (read_entry p s) IsValidEntry IsValidReadLine (entry_of-valid line) (λ x k. read_entry-valid p s x h k))
+
+-- the same of a reader's answer
+pub valid_item : (p : Phase) (s : Settings) (line : List ℕ) (result : Result Item LineFault) (after : Reading) → AreValid s → read_body p s line ≡ answered result after → IfOk result IsValidItem
+valid_item p s line (Err fault) after h e = tt
+valid_item p s line (Ok item) after h e = (IfOk-at_ok IsValidReadLine e (read_body-valid p s line h)).item
+
+read_at-valid : (p : Phase) (s : Settings) (line : List ℕ) → AreValid s → IfOk (read_at p s line) IsValidReadLine
+read_at-valid phase.Unread s line h = IfOk-test (bytes_eq line header) (reads item.Nothing phase.Settings no_settings) (Err NoHeader) IsValidReadLine (λ e. record { item = tt; settings = no_settings-valid }) (λ e. tt)
+read_at-valid phase.Settings s line h = read_body-valid phase.Settings s line h
+read_at-valid phase.Events s line h = read_body-valid phase.Events s line h
+read_at-valid phase.Ended s line h = read_body-valid phase.Ended s line h
+
+-- what a line says and adds
+pub read_line-valid : (r : Reading) (line : List ℕ) → AreValid r.settings → IfOk (read_line r line) IsValidReadLine
+unfolding read_line
+read_line-valid r line h = read_at-valid r.phase r.settings line h

@@ -1,0 +1,167 @@
+-- A scenario, line by line: what has been read, and what each line adds.
+use Rattle.std.specs.Prelude.{ℕ, List, [], ◌∷◌, Bool, if◌then◌else◌, codes, Option, Some, None, Result, Ok, Err, ok_or, is_some, unwrap_or}
+use Rattle.std.specs.Str.{bytes_eq}
+use Rattle.eap_base.specs.declared.setup.PeerSetup.{PeerSetup}
+use Rattle.eap_base.specs.declared.setup.ServerSetup.{ServerSetup}
+use Rattle.eap_base.specs.declared.setup.Setup.{Setup}
+use Rattle.scenario_text.specs.Words.{is_passed_over}
+use Rattle.scenario_text.specs.Entries.{◌>>=◌, entry_of}
+use Rattle.scenario_text.specs.declared.fault.LineFault.{LineFault}
+use Rattle.scenario_text.specs.declared.fault.LineFault.TheVariants.{NoHeader, Repeated, Missing, Order}
+use Rattle.scenario_text.specs.declared.entry.Setting.{Setting}
+use Rattle.scenario_text.specs.declared.entry.Setting.TheVariants as setting
+use Rattle.scenario_text.specs.declared.entry.Entry.{Entry}
+use Rattle.scenario_text.specs.declared.entry.Entry.TheVariants as entry
+use Rattle.scenario_text.specs.declared.settings.Settings.{Settings}
+use Rattle.scenario_text.specs.declared.scenario.Item.{Item}
+use Rattle.scenario_text.specs.declared.scenario.Item.TheVariants as item
+use Rattle.scenario_text.specs.declared.scenario.Phase.{Phase}
+use Rattle.scenario_text.specs.declared.scenario.Phase.TheVariants as phase
+
+-- no settings
+abbrev pub no_settings : Settings
+no_settings = record { mode = None; first_id = None; max_retrans = None; peer_name = None; peer_server = None; peer_methods = None; peer_nonce = None; server_name = None; server_methods = None; server_nonce = None }
+
+-- whether the setting has come before
+abbrev pub has_setting : Settings → Setting → Bool
+has_setting s (setting.Mode v) = is_some s.mode
+has_setting s (setting.FirstId v) = is_some s.first_id
+has_setting s (setting.MaxRetrans v) = is_some s.max_retrans
+has_setting s (setting.PeerName v) = is_some s.peer_name
+has_setting s (setting.PeerServer v) = is_some s.peer_server
+has_setting s (setting.PeerMethods v) = is_some s.peer_methods
+has_setting s (setting.PeerNonce v) = is_some s.peer_nonce
+has_setting s (setting.ServerName v) = is_some s.server_name
+has_setting s (setting.ServerMethods v) = is_some s.server_methods
+has_setting s (setting.ServerNonce v) = is_some s.server_nonce
+
+-- the settings with one more
+abbrev pub with_setting : Settings → Setting → Settings
+with_setting s (setting.Mode v) = record s { mode = Some v }
+with_setting s (setting.FirstId v) = record s { first_id = Some v }
+with_setting s (setting.MaxRetrans v) = record s { max_retrans = Some v }
+with_setting s (setting.PeerName v) = record s { peer_name = Some v }
+with_setting s (setting.PeerServer v) = record s { peer_server = Some v }
+with_setting s (setting.PeerMethods v) = record s { peer_methods = Some v }
+with_setting s (setting.PeerNonce v) = record s { peer_nonce = Some v }
+with_setting s (setting.ServerName v) = record s { server_name = Some v }
+with_setting s (setting.ServerMethods v) = record s { server_methods = Some v }
+with_setting s (setting.ServerNonce v) = record s { server_nonce = Some v }
+
+-- a needed setting
+abbrev pub needed : {A : Type 0} → Option A → Result A LineFault
+needed slot = ok_or slot Missing
+
+-- both suites, which is the default
+abbrev pub both_suites : List ℕ
+both_suites = 1 ∷ 2 ∷ []
+
+-- the settings of the peer, of the server, of the run, where none that is needed is missing
+unfoldable pub peer_setup_of : Settings → Result PeerSetup LineFault
+peer_setup_of s = do
+  name ← needed s.peer_name
+  accepts ← needed s.peer_server
+  methods ← needed s.peer_methods
+  nonce ← needed s.peer_nonce
+  Ok (record { name = name; accepts = accepts; methods = methods; suites = both_suites; psk47 = None; psk51 = None; nonce = nonce })
+
+unfoldable pub server_setup_of : Settings → Result ServerSetup LineFault
+server_setup_of s = do
+  name ← needed s.server_name
+  methods ← needed s.server_methods
+  nonce ← needed s.server_nonce
+  Ok (record { name = name; methods = methods; suites = both_suites; users = []; nonce = nonce })
+
+unfoldable pub setup_of : Settings → Result Setup LineFault
+setup_of s = do
+  mode ← needed s.mode
+  peer ← peer_setup_of s
+  server ← server_setup_of s
+  Ok (record { mode = mode; first_id = unwrap_or s.first_id 0; max_retrans = unwrap_or s.max_retrans 4; peer = peer; server = server })
+
+-- what has been read of a scenario: how far it has come, and its settings
+pub record Reading : Type 0 where
+  pub phase : Phase
+  pub settings : Settings
+
+-- what a line says, and what has been read after it
+pub record ReadLine : Type 0 where
+  pub item : Item
+  pub after : Reading
+
+abbrev pub said : Item → Phase → Settings → ReadLine
+said item phase settings = record { item = item; after = record { phase = phase; settings = settings } }
+
+abbrev pub reads : Item → Phase → Settings → Result ReadLine LineFault
+reads item phase settings = Ok (said item phase settings)
+
+-- the answer of a reader, and what it holds after, as what a line says and adds
+abbrev pub answered : Result Item LineFault → Reading → Result ReadLine LineFault
+answered (Ok item) after = Ok (record { item = item; after = after })
+answered (Err fault) after = Err fault
+
+-- a line before the line `events`
+abbrev pub read_setting : Settings → Entry → Result ReadLine LineFault
+read_setting s (entry.Set v) =
+    if has_setting s v then Err Repeated else reads item.Nothing phase.Settings (with_setting s v)
+read_setting s entry.Events = setup_of s >>= λ setup. reads (item.Ready setup) phase.Events s
+read_setting s (entry.Happens event) = Err Order
+read_setting s entry.End = Err Order
+
+-- a setting where none may stand any more
+abbrev pub late_setting : Settings → Setting → Result ReadLine LineFault
+late_setting s v = if has_setting s v then Err Repeated else Err Order
+
+-- a line after the line `events`
+abbrev pub read_event : Settings → Entry → Result ReadLine LineFault
+read_event s (entry.Set v) = late_setting s v
+read_event s entry.Events = Err Order
+read_event s (entry.Happens event) = reads (item.Event event) phase.Events s
+read_event s entry.End = reads item.End phase.Ended s
+
+-- a line after the line `end`
+abbrev pub read_late : Settings → Entry → Result ReadLine LineFault
+read_late s (entry.Set v) = late_setting s v
+read_late s entry.Events = Err Order
+read_late s (entry.Happens event) = Err Order
+read_late s entry.End = Err Order
+
+abbrev pub read_entry : Phase → Settings → Entry → Result ReadLine LineFault
+read_entry phase.Unread s e = Err NoHeader
+read_entry phase.Settings s e = read_setting s e
+read_entry phase.Events s e = read_event s e
+read_entry phase.Ended s e = read_late s e
+
+-- the first line
+abbrev pub header : List ℕ
+header = codes "eap-scenario 1"
+
+abbrev pub read_header : List ℕ → Result ReadLine LineFault
+read_header line = if bytes_eq line header then reads item.Nothing phase.Settings no_settings else Err NoHeader
+
+-- a line after the first
+abbrev pub read_body : Phase → Settings → List ℕ → Result ReadLine LineFault
+read_body p s line =
+    if is_passed_over line then reads item.Nothing p s
+    else entry_of line >>= λ e. read_entry p s e
+
+-- a line of a scenario that has come so far
+abbrev pub read_at : Phase → Settings → List ℕ → Result ReadLine LineFault
+read_at phase.Unread s line = read_header line
+read_at phase.Settings s line = read_body phase.Settings s line
+read_at phase.Events s line = read_body phase.Events s line
+read_at phase.Ended s line = read_body phase.Ended s line
+
+-- what a line says and adds, or its first fault
+unfoldable pub read_line : Reading → List ℕ → Result ReadLine LineFault
+read_line r line = read_at r.phase r.settings line
+
+-- the end of the input: nothing was read, or the line `end` was not
+abbrev pub finish_at : Phase → Result (Unit {0}) LineFault
+finish_at phase.Unread = Err NoHeader
+finish_at phase.Settings = Err Missing
+finish_at phase.Events = Err Missing
+finish_at phase.Ended = Ok tt
+
+abbrev pub finish_of : Reading → Result (Unit {0}) LineFault
+finish_of r = finish_at r.phase

@@ -1,0 +1,91 @@
+-- What every setting that was read keeps: its number, its name or its nonce is within its limits.
+use Rattle.std.specs.Prelude.{◌≡◌, ℕ, ◌≤◌, ◌<◌, List, [], length, IfSome}
+use Rattle.eap_base.specs.Setup.{IsSoundPeer, IsSoundServer, HasKeys}
+use Rattle.eap_base.specs.declared.setup.Mode.TheVariants as mode
+use Rattle.eap_base.specs.declared.setup.Accepts.{Accepts}
+use Rattle.eap_base.specs.declared.setup.Accepts.TheVariants.{Any, One}
+use Rattle.eap_base.specs.declared.setup.PeerSetup.{PeerSetup}
+use Rattle.eap_base.specs.declared.setup.ServerSetup.{ServerSetup}
+use Rattle.eap_base.specs.declared.setup.Setup.{Setup}
+use Rattle.scenario_text.specs.Reading.{ReadLine}
+use Rattle.scenario_text.specs.declared.entry.Setting.{Setting}
+use Rattle.scenario_text.specs.declared.entry.Setting.TheVariants as setting
+use Rattle.scenario_text.specs.declared.entry.Entry.{Entry}
+use Rattle.scenario_text.specs.declared.entry.Entry.TheVariants as entry
+use Rattle.scenario_text.specs.declared.settings.Settings.{Settings}
+use Rattle.scenario_text.specs.declared.scenario.Item.{Item}
+use Rattle.scenario_text.specs.declared.scenario.Item.TheVariants as item
+
+-- a name has 1 to 253 octets
+pub record IsName (name : List ℕ) : Type 0 where
+  pub some : 1 ≤ length name
+  pub few : length name ≤ 253
+
+-- the one name that is accepted, if it is one
+abbrev pub AcceptsName : Accepts → Type 0
+AcceptsName Any = Unit {0}
+AcceptsName (One name) = IsName name
+
+abbrev pub IsValidSetting : Setting → Type 0
+IsValidSetting (setting.Mode m) = m ≡ mode.Alone
+IsValidSetting (setting.FirstId id) = id < 256
+IsValidSetting (setting.MaxRetrans count) = count ≤ 10
+IsValidSetting (setting.PeerName name) = IsName name
+IsValidSetting (setting.PeerServer accepts) = AcceptsName accepts
+IsValidSetting (setting.PeerMethods kinds) = kinds ≡ []
+IsValidSetting (setting.PeerNonce nonce) = length nonce ≡ 32
+IsValidSetting (setting.ServerName name) = IsName name
+IsValidSetting (setting.ServerMethods kinds) = kinds ≡ []
+IsValidSetting (setting.ServerNonce nonce) = length nonce ≡ 32
+
+abbrev pub IsValidEntry : Entry → Type 0
+IsValidEntry (entry.Set v) = IsValidSetting v
+IsValidEntry entry.Events = Unit {0}
+IsValidEntry (entry.Happens event) = Unit {0}
+IsValidEntry entry.End = Unit {0}
+
+-- each setting that has come is valid
+pub record AreValid (s : Settings) : Type 0 where
+  pub mode : IfSome s.mode (λ m. m ≡ mode.Alone)
+  pub first_id : IfSome s.first_id (λ id. id < 256)
+  pub max_retrans : IfSome s.max_retrans (λ count. count ≤ 10)
+  pub peer_name : IfSome s.peer_name IsName
+  pub peer_server : IfSome s.peer_server AcceptsName
+  pub peer_methods : IfSome s.peer_methods (λ kinds. kinds ≡ [])
+  pub peer_nonce : IfSome s.peer_nonce (λ nonce. length nonce ≡ 32)
+  pub server_name : IfSome s.server_name IsName
+  pub server_methods : IfSome s.server_methods (λ kinds. kinds ≡ [])
+  pub server_nonce : IfSome s.server_nonce (λ nonce. length nonce ≡ 32)
+
+-- the settings of each end and of a run, within their limits
+pub record IsValidPeer (peer : PeerSetup) : Type 0 where
+  pub sound : IsSoundPeer peer
+  pub keys : HasKeys peer
+  pub name : IsName peer.name
+  pub accepts : AcceptsName peer.accepts
+  pub no_methods : peer.methods ≡ []
+  pub nonce : length peer.nonce ≡ 32
+
+pub record IsValidServer (server : ServerSetup) : Type 0 where
+  pub sound : IsSoundServer server
+  pub name : IsName server.name
+  pub no_methods : server.methods ≡ []
+  pub nonce : length server.nonce ≡ 32
+
+pub record IsValidSetup (setup : Setup) : Type 0 where
+  pub alone : setup.mode ≡ mode.Alone
+  pub first_id : setup.first_id < 256
+  pub few_retrans : setup.max_retrans ≤ 10
+  pub peer : IsValidPeer setup.peer
+  pub server : IsValidServer setup.server
+
+abbrev pub IsValidItem : Item → Type 0
+IsValidItem item.Nothing = Unit {0}
+IsValidItem (item.Ready setup) = IsValidSetup setup
+IsValidItem (item.Event event) = Unit {0}
+IsValidItem item.End = Unit {0}
+
+-- what a line says is valid, and the settings after it are
+pub record IsValidReadLine (out : ReadLine) : Type 0 where
+  pub item : IsValidItem out.item
+  pub settings : AreValid out.after.settings

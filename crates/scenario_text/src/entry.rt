@@ -1,0 +1,375 @@
+//! The lines of a scenario: each keyword with the words that follow it.
+
+ghost use Rattle.std.specs.Prelude.{◌≡◌, [], length, slice_get, MatchResult, Ok, Err};
+ghost use Rattle.scenario_text.specs.Words.{words};
+ghost use Rattle.scenario_text.specs.Fields.{number_of};
+ghost use Rattle.scenario_text.specs.Entries.{keyword_of, word_alone, nothing_more, mode_of, name_of, accepts_of, kinds_of, nonce_of, timer_party_of, first_keyword, entry_of, entry_for};
+
+use crate::fault::LineFault;
+use crate::fields::{read_hex, read_number};
+use crate::words::{is_printable_line, word_at, word_count};
+use eap_base::{Accepts, Event, Identity, Kinds, Mode, Nonce, Party};
+
+/// The first word of a line.
+#[derive(Clone, Copy, PartialEq, Eq, Debug)]
+pub enum Keyword {
+    Mode,
+    FirstId,
+    MaxRetrans,
+    PeerName,
+    PeerServer,
+    PeerMethods,
+    PeerNonce,
+    ServerName,
+    ServerMethods,
+    ServerNonce,
+    Events,
+    Deliver,
+    Timeout,
+    Idle,
+    End,
+}
+
+/// A setting with its value.
+#[derive(Drop)]
+pub enum Setting {
+    Mode(Mode),
+    FirstId(u8),
+    MaxRetrans(u8),
+    PeerName(Identity),
+    PeerServer(Accepts),
+    PeerMethods(Kinds),
+    PeerNonce(Nonce),
+    ServerName(Identity),
+    ServerMethods(Kinds),
+    ServerNonce(Nonce),
+}
+
+/// A line of a scenario after its header.
+#[derive(Drop)]
+pub enum Entry {
+    Set(Setting),
+    Events,
+    Happens(Event),
+    End,
+}
+
+/// The keyword that a word is, if it is one.
+#[tactic(auto, unfolding(crate::specs::Entries::keyword_of))]
+fn read_keyword(word: &[u8]) -> Option<Keyword>
+    ensures { result ≡ keyword_of word.now }
+{
+    if word == b"mode".as_slice() {
+        Some(Keyword::Mode)
+    } else if word == b"first-id".as_slice() {
+        Some(Keyword::FirstId)
+    } else if word == b"max-retrans".as_slice() {
+        Some(Keyword::MaxRetrans)
+    } else if word == b"peer-name".as_slice() {
+        Some(Keyword::PeerName)
+    } else if word == b"peer-server".as_slice() {
+        Some(Keyword::PeerServer)
+    } else if word == b"peer-methods".as_slice() {
+        Some(Keyword::PeerMethods)
+    } else if word == b"peer-nonce".as_slice() {
+        Some(Keyword::PeerNonce)
+    } else if word == b"server-name".as_slice() {
+        Some(Keyword::ServerName)
+    } else if word == b"server-methods".as_slice() {
+        Some(Keyword::ServerMethods)
+    } else if word == b"server-nonce".as_slice() {
+        Some(Keyword::ServerNonce)
+    } else if word == b"events".as_slice() {
+        Some(Keyword::Events)
+    } else if word == b"deliver".as_slice() {
+        Some(Keyword::Deliver)
+    } else if word == b"timeout".as_slice() {
+        Some(Keyword::Timeout)
+    } else if word == b"idle".as_slice() {
+        Some(Keyword::Idle)
+    } else if word == b"end".as_slice() {
+        Some(Keyword::End)
+    } else {
+        None
+    }
+}
+
+/// What a line says, or the first fault of its words. The line is neither the header nor one that is
+/// passed over.
+#[tactic(auto, unfolding(crate::specs::Entries::entry_of))]
+pub fn read_entry(line: &[u8]) -> Result<Entry, LineFault>
+    ensures { result ≡ entry_of line.now }
+{
+    if !is_printable_line(line) {
+        return Err(LineFault::BadWord);
+    }
+    match first_keyword(line) {
+        None => Err(LineFault::BadWord),
+        Some(keyword) => read_fields(keyword, line),
+    }
+}
+
+/// The keyword that the line begins with.
+fn first_keyword(line: &[u8]) -> Option<Keyword>
+    ensures { result ≡ first_keyword (slice_get (words line.now) 0) }
+{
+    match word_at(line, 0) {
+        None => None,
+        Some(word) => read_keyword(word),
+    }
+}
+
+/// The words after the keyword, each as the keyword has it.
+fn read_fields(keyword: Keyword, line: &[u8]) -> Result<Entry, LineFault>
+    ensures { result ≡ entry_for keyword (words line.now) }
+{
+    match keyword {
+        Keyword::Mode => mode_entry(line),
+        Keyword::FirstId => first_id_entry(line),
+        Keyword::MaxRetrans => max_retrans_entry(line),
+        Keyword::PeerName => peer_name_entry(line),
+        Keyword::PeerServer => peer_server_entry(line),
+        Keyword::PeerMethods => peer_methods_entry(line),
+        Keyword::PeerNonce => peer_nonce_entry(line),
+        Keyword::ServerName => server_name_entry(line),
+        Keyword::ServerMethods => server_methods_entry(line),
+        Keyword::ServerNonce => server_nonce_entry(line),
+        Keyword::Events => events_entry(line),
+        Keyword::Deliver => deliver_entry(line),
+        Keyword::Timeout => timeout_entry(line),
+        Keyword::Idle => idle_entry(line),
+        Keyword::End => end_entry(line),
+    }
+}
+
+#[tactic(auto, unfolding(crate::specs::Entries::entry_for))]
+fn mode_entry(line: &[u8]) -> Result<Entry, LineFault>
+    ensures { result ≡ entry_for Keyword.Mode (words line.now) }
+{
+    let word = read_word_alone(line)?;
+    let mode = read_mode(word)?;
+    Ok(Entry::Set(Setting::Mode(mode)))
+}
+
+#[tactic(auto, unfolding(crate::specs::Entries::entry_for))]
+fn first_id_entry(line: &[u8]) -> Result<Entry, LineFault>
+    ensures { result ≡ entry_for Keyword.FirstId (words line.now) }
+{
+    let word = read_word_alone(line)?;
+    let id = read_octet(word, 255)?;
+    Ok(Entry::Set(Setting::FirstId(id)))
+}
+
+#[tactic(auto, unfolding(crate::specs::Entries::entry_for))]
+fn max_retrans_entry(line: &[u8]) -> Result<Entry, LineFault>
+    ensures { result ≡ entry_for Keyword.MaxRetrans (words line.now) }
+{
+    let word = read_word_alone(line)?;
+    let count = read_octet(word, 10)?;
+    Ok(Entry::Set(Setting::MaxRetrans(count)))
+}
+
+#[tactic(auto, unfolding(crate::specs::Entries::entry_for))]
+fn peer_name_entry(line: &[u8]) -> Result<Entry, LineFault>
+    ensures { result ≡ entry_for Keyword.PeerName (words line.now) }
+{
+    let word = read_word_alone(line)?;
+    let name = read_name(word)?;
+    Ok(Entry::Set(Setting::PeerName(name)))
+}
+
+#[tactic(auto, unfolding(crate::specs::Entries::entry_for))]
+fn peer_server_entry(line: &[u8]) -> Result<Entry, LineFault>
+    ensures { result ≡ entry_for Keyword.PeerServer (words line.now) }
+{
+    let word = read_word_alone(line)?;
+    let accepts = read_accepts(word)?;
+    Ok(Entry::Set(Setting::PeerServer(accepts)))
+}
+
+#[tactic(auto, unfolding(crate::specs::Entries::entry_for))]
+fn peer_methods_entry(line: &[u8]) -> Result<Entry, LineFault>
+    ensures { result ≡ entry_for Keyword.PeerMethods (words line.now) }
+{
+    let kinds = read_kinds(line)?;
+    Ok(Entry::Set(Setting::PeerMethods(kinds)))
+}
+
+#[tactic(auto, unfolding(crate::specs::Entries::entry_for))]
+fn peer_nonce_entry(line: &[u8]) -> Result<Entry, LineFault>
+    ensures { result ≡ entry_for Keyword.PeerNonce (words line.now) }
+{
+    let word = read_word_alone(line)?;
+    let nonce = read_nonce(word)?;
+    Ok(Entry::Set(Setting::PeerNonce(nonce)))
+}
+
+#[tactic(auto, unfolding(crate::specs::Entries::entry_for))]
+fn server_name_entry(line: &[u8]) -> Result<Entry, LineFault>
+    ensures { result ≡ entry_for Keyword.ServerName (words line.now) }
+{
+    let word = read_word_alone(line)?;
+    let name = read_name(word)?;
+    Ok(Entry::Set(Setting::ServerName(name)))
+}
+
+#[tactic(auto, unfolding(crate::specs::Entries::entry_for))]
+fn server_methods_entry(line: &[u8]) -> Result<Entry, LineFault>
+    ensures { result ≡ entry_for Keyword.ServerMethods (words line.now) }
+{
+    let kinds = read_kinds(line)?;
+    Ok(Entry::Set(Setting::ServerMethods(kinds)))
+}
+
+#[tactic(auto, unfolding(crate::specs::Entries::entry_for))]
+fn server_nonce_entry(line: &[u8]) -> Result<Entry, LineFault>
+    ensures { result ≡ entry_for Keyword.ServerNonce (words line.now) }
+{
+    let word = read_word_alone(line)?;
+    let nonce = read_nonce(word)?;
+    Ok(Entry::Set(Setting::ServerNonce(nonce)))
+}
+
+#[tactic(auto, unfolding(crate::specs::Entries::entry_for))]
+fn events_entry(line: &[u8]) -> Result<Entry, LineFault>
+    ensures { result ≡ entry_for Keyword.Events (words line.now) }
+{
+    read_bare(line, Entry::Events)
+}
+
+#[tactic(auto, unfolding(crate::specs::Entries::entry_for))]
+fn deliver_entry(line: &[u8]) -> Result<Entry, LineFault>
+    ensures { result ≡ entry_for Keyword.Deliver (words line.now) }
+{
+    let word = read_word_alone(line)?;
+    let number = read_number(word, 1, 1_000_000)?;
+    Ok(Entry::Happens(Event::Deliver { number }))
+}
+
+#[tactic(auto, unfolding(crate::specs::Entries::entry_for))]
+fn timeout_entry(line: &[u8]) -> Result<Entry, LineFault>
+    ensures { result ≡ entry_for Keyword.Timeout (words line.now) }
+{
+    let word = read_word_alone(line)?;
+    let party = read_timer_party(word)?;
+    Ok(Entry::Happens(Event::Timeout { party }))
+}
+
+#[tactic(auto, unfolding(crate::specs::Entries::entry_for))]
+fn idle_entry(line: &[u8]) -> Result<Entry, LineFault>
+    ensures { result ≡ entry_for Keyword.Idle (words line.now) }
+{
+    read_bare(line, Entry::Happens(Event::Idle))
+}
+
+#[tactic(auto, unfolding(crate::specs::Entries::entry_for))]
+fn end_entry(line: &[u8]) -> Result<Entry, LineFault>
+    ensures { result ≡ entry_for Keyword.End (words line.now) }
+{
+    read_bare(line, Entry::End)
+}
+
+/// The one word after the keyword.
+fn read_word_alone<'a>(line: &'a [u8]) -> Result<&'a [u8], LineFault>
+    ensures { MatchResult result (λ word. word_alone (words line.now) ≡ Ok word.now) (λ fault. word_alone (words line.now) ≡ Err fault) }
+{
+    if word_count(line) == 2 {
+        word_at(line, 1).ok_or(LineFault::BadCount)
+    } else {
+        Err(LineFault::BadCount)
+    }
+}
+
+/// The entry, where no word follows the keyword.
+fn read_bare(line: &[u8], entry: Entry) -> Result<Entry, LineFault>
+    ensures { result ≡ nothing_more (words line.now) entry }
+{
+    if word_count(line) == 1 {
+        Ok(entry)
+    } else {
+        Err(LineFault::BadCount)
+    }
+}
+
+fn read_mode(word: &[u8]) -> Result<Mode, LineFault>
+    ensures { result ≡ mode_of word.now }
+{
+    if word == b"alone".as_slice() {
+        Ok(Mode::Alone)
+    } else {
+        Err(LineFault::BadChoice)
+    }
+}
+
+/// A number of one octet.
+fn read_octet(word: &[u8], high: u8) -> Result<u8, LineFault>
+    ensures { result ≡ number_of word.now 0 high }
+{
+    match read_number(word, 0, u32::from(high)) {
+        Ok(number) => Ok(number as u8),
+        Err(fault) => Err(fault),
+    }
+}
+
+/// A name of 1 to 253 octets.
+fn read_name(word: &[u8]) -> Result<Identity, LineFault>
+    ensures { result ≡ name_of word.now }
+{
+    if word.is_empty() {
+        return Err(LineFault::BadSize);
+    }
+    Identity::from_slice(word).ok_or(LineFault::BadSize)
+}
+
+/// The server names that a peer accepts: `any`, or one name.
+fn read_accepts(word: &[u8]) -> Result<Accepts, LineFault>
+    ensures { result ≡ accepts_of word.now }
+{
+    if word == b"any".as_slice() {
+        return Ok(Accepts::Any);
+    }
+    match read_name(word) {
+        Ok(name) => Ok(Accepts::One(name)),
+        Err(fault) => Err(fault),
+    }
+}
+
+/// The methods: `-` alone stands for none.
+fn read_kinds(line: &[u8]) -> Result<Kinds, LineFault>
+    ensures { result ≡ kinds_of (words line.now) }
+{
+    match word_count(line) {
+        2 => {
+            let word = word_at(line, 1).ok_or(LineFault::BadCount)?;
+            if word == b"-".as_slice() {
+                Ok(Kinds::new())
+            } else {
+                Err(LineFault::BadNumber)
+            }
+        }
+        3 => Err(LineFault::BadNumber),
+        _ => Err(LineFault::BadCount),
+    }
+}
+
+/// A nonce of 32 octets.
+fn read_nonce(word: &[u8]) -> Result<Nonce, LineFault>
+    ensures { result ≡ nonce_of word.now }
+{
+    let octets = read_hex(word)?;
+    match octets.as_slice().try_into() {
+        Ok(nonce) => Ok(nonce),
+        Err(_) => Err(LineFault::BadSize),
+    }
+}
+
+/// A party whose retransmission timer can end.
+fn read_timer_party(word: &[u8]) -> Result<Party, LineFault>
+    ensures { result ≡ timer_party_of word.now }
+{
+    if word == b"server".as_slice() {
+        Ok(Party::Server)
+    } else {
+        Err(LineFault::BadChoice)
+    }
+}

@@ -1,0 +1,91 @@
+//! Why a line of a text is refused.
+
+ghost use Rattle.std.specs.Prelude.{◌≡◌};
+ghost use Rattle.scenario_text.specs.Words.{fault_word};
+ghost use Rattle.scenario_text.specs.Keys.{fault_rank, earlier};
+
+use thiserror::Error;
+
+/// Why a line is refused. Where a line meets several faults, the first in this order is answered.
+#[derive(Clone, Copy, PartialEq, Eq, Debug, Error)]
+pub enum LineFault {
+    /// Line 1 is not the header.
+    #[error("the first line is not the header")]
+    NoHeader,
+    /// An octet outside 20 to 7e, or a first word that is no keyword of the text.
+    #[error("not a keyword, or an octet that is no printable character")]
+    BadWord,
+    /// A number of words that the keyword doesn't have, or one line too many of its kind.
+    #[error("a wrong number of words")]
+    BadCount,
+    /// A word that is none of its choices.
+    #[error("a word that is none of its choices")]
+    BadChoice,
+    /// No decimal number without a leading zero, or one out of range.
+    #[error("not a number, or one out of range")]
+    BadNumber,
+    /// An empty hex word, or one that is not an even number of hex digits.
+    #[error("not an even number of hex digits")]
+    BadHex,
+    /// A name or a hex word of a wrong length.
+    #[error("a wrong length")]
+    BadSize,
+    /// A setting that came before.
+    #[error("a setting that came before")]
+    Repeated,
+    /// A needed setting, or the line `end`, that is not there.
+    #[error("something needed is missing")]
+    Missing,
+    /// A line where it may not stand.
+    #[error("a line that may not stand here")]
+    Order,
+}
+
+impl LineFault {
+    /// The fault's name.
+    pub fn word(&self) -> &'static str
+        ensures { result.now ≡ fault_word self.now }
+    {
+        match self {
+            LineFault::NoHeader => "NoHeader",
+            LineFault::BadWord => "BadWord",
+            LineFault::BadCount => "BadCount",
+            LineFault::BadChoice => "BadChoice",
+            LineFault::BadNumber => "BadNumber",
+            LineFault::BadHex => "BadHex",
+            LineFault::BadSize => "BadSize",
+            LineFault::Repeated => "Repeated",
+            LineFault::Missing => "Missing",
+            LineFault::Order => "Order",
+        }
+    }
+
+    /// Its place in the order of the faults, from 0.
+    fn rank(&self) -> u8
+        ensures { result ≡ fault_rank self.now }
+    {
+        match self {
+            LineFault::NoHeader => 0,
+            LineFault::BadWord => 1,
+            LineFault::BadCount => 2,
+            LineFault::BadChoice => 3,
+            LineFault::BadNumber => 4,
+            LineFault::BadHex => 5,
+            LineFault::BadSize => 6,
+            LineFault::Repeated => 7,
+            LineFault::Missing => 8,
+            LineFault::Order => 9,
+        }
+    }
+
+    /// Of two faults the one that comes first in their order.
+    pub(crate) fn earlier(self, other: LineFault) -> LineFault
+        ensures { result ≡ earlier self other }
+    {
+        if other.rank() < self.rank() {
+            other
+        } else {
+            self
+        }
+    }
+}

@@ -1,0 +1,20 @@
+//! The texts that the program reads, line by line.
+#![tactic(auto)]
+
+mod entry;
+mod fault;
+mod fields;
+mod key_line;
+mod packet_line;
+mod scenario;
+mod settings;
+#[cfg(test)]
+mod tests;
+mod words;
+
+pub use fault::LineFault;
+pub use fields::{read_hex, read_number};
+pub use key_line::{KeyLine, read_key_line};
+pub use packet_line::read_packet_line;
+pub use scenario::{Item, ScenarioReader};
+pub use words::{word_at, word_count};

@@ -1,0 +1,199 @@
+//! Reading a scenario, line by line: its header, its settings, the line `events`, its events, the
+//! line `end`. After the header an empty line and one that begins with `#` are passed over.
+
+ghost use Rattle.std.specs.Prelude.{◌≡◌, MatchResult, IfOk, OnErr, Ok, Err};
+ghost use Rattle.scenario_text.specs.Reading.{no_settings, answered, finish_of};
+ghost use Rattle.scenario_text.specs.Reading as reading;
+ghost use Rattle.scenario_text.specs.Valid.{IsValidSetting, IsValidEntry, IsValidItem};
+
+use crate::entry::{Entry, Setting, read_entry};
+use crate::fault::LineFault;
+use crate::settings::Settings;
+use crate::words::is_comment;
+use eap_base::{Event, Setup};
+use std::marker::Model;
+
+/// What a line of a scenario says.
+#[derive(Drop)]
+pub enum Item {
+    /// Nothing that happens: the header, a setting, or a line that is passed over.
+    Nothing,
+    /// The line `events`: the settings are whole.
+    Ready(Setup),
+    /// What happens next in the run.
+    Event(Event),
+    /// The line `end`.
+    End,
+}
+
+/// How far a scenario has come.
+#[derive(Clone, Copy, PartialEq, Eq, Debug)]
+pub enum Phase {
+    /// No line was read.
+    Unread,
+    /// The header was read: settings may come.
+    Settings,
+    /// The line `events` was read: events may come.
+    Events,
+    /// The line `end` was read.
+    Ended,
+}
+
+/// Reads a scenario. A refused line leaves the reader as it was.
+#[derive(Drop)]
+pub struct ScenarioReader {
+    phase: Phase,
+    settings: Settings,
+}
+
+impl Model for ScenarioReader {
+    ghost use Rattle.scenario_text.specs.Reading.{Reading};
+    ghost use Rattle.scenario_text.specs.Valid.{AreValid};
+
+    ghost Value = { Reading };
+
+    ghost view = { λ r. record { phase = r.phase; settings = r.settings } };
+
+    ghost invariant = { λ r. AreValid r.settings };
+}
+
+impl ScenarioReader {
+    /// A reader that has read no line.
+    pub fn new() -> ScenarioReader
+        ensures { result ≡ record { phase = Phase.Unread; settings = no_settings } }
+    {
+        ScenarioReader {
+            phase: Phase::Unread,
+            settings: Settings::new(),
+        }
+    }
+
+    /// Reads the next line, without its end. The first fault that the line meets refuses it, and then
+    /// the reader is as it was.
+    #[tactic(auto, unfolding(crate::specs::Reading::read_line))]
+    pub fn line(&mut self, line: &[u8]) -> Result<Item, LineFault>
+        ensures read { MatchResult result
+            (λ item. reading.read_line self.old line.now ≡ Ok (record { item = item; after = self.new }))
+            (λ fault. reading.read_line self.old line.now ≡ Err fault) }
+        ensures unchanged { OnErr result (self.new ≡ self.old) }
+        ensures valid { IfOk result IsValidItem }
+    {
+        match self.phase {
+            Phase::Unread => self.read_header(line),
+            _ => self.read_body(line),
+        }
+    }
+
+    /// What the end of the input means: `NoHeader` where no line was read, else `Missing` where the
+    /// line `end` was not.
+    pub fn finish(&self) -> Result<(), LineFault>
+        ensures { result ≡ finish_of self.now }
+    {
+        match self.phase {
+            Phase::Unread => Err(LineFault::NoHeader),
+            Phase::Ended => Ok(()),
+            _ => Err(LineFault::Missing),
+        }
+    }
+
+    /// Reads line 1.
+    fn read_header(&mut self, line: &[u8]) -> Result<Item, LineFault>
+        ensures read { reading.read_header line.now ≡ answered result self.new }
+        ensures unchanged { OnErr result (self.new ≡ self.old) }
+    {
+        if line != b"eap-scenario 1".as_slice() {
+            return Err(LineFault::NoHeader);
+        }
+        self.phase = Phase::Settings;
+        self.settings = Settings::new();
+        Ok(Item::Nothing)
+    }
+
+    /// Reads a line after the first.
+    fn read_body(&mut self, line: &[u8]) -> Result<Item, LineFault>
+        ensures read { reading.read_body self.old.phase self.old.settings line.now ≡ answered result self.new }
+        ensures unchanged { OnErr result (self.new ≡ self.old) }
+    {
+        if is_comment(line) {
+            return Ok(Item::Nothing);
+        }
+        let entry = read_entry(line)?;
+        self.take(entry)
+    }
+
+    /// Takes what a line says.
+    fn take(&mut self, entry: Entry) -> Result<Item, LineFault>
+        requires { IsValidEntry entry }
+        ensures read { reading.read_entry self.old.phase self.old.settings entry ≡ answered result self.new }
+        ensures unchanged { OnErr result (self.new ≡ self.old) }
+    {
+        match entry {
+            Entry::Set(setting) => self.take_setting(setting),
+            Entry::Events => self.take_events(),
+            Entry::Happens(event) => self.take_event(event),
+            Entry::End => self.take_end(),
+        }
+    }
+
+    /// Takes a setting. One that came before is `Repeated`, also where no setting may come any more.
+    fn take_setting(&mut self, setting: Setting) -> Result<Item, LineFault>
+        requires { IsValidSetting setting }
+        ensures read { reading.read_entry self.old.phase self.old.settings (Entry.Set setting) ≡ answered result self.new }
+        ensures unchanged { OnErr result (self.new ≡ self.old) }
+    {
+        if self.phase == Phase::Unread {
+            return Err(LineFault::NoHeader);
+        }
+        if self.settings.has(&setting) {
+            return Err(LineFault::Repeated);
+        }
+        if self.phase != Phase::Settings {
+            return Err(LineFault::Order);
+        }
+        self.settings.set(setting);
+        Ok(Item::Nothing)
+    }
+
+    /// Takes the line `events`, which makes the settings whole.
+    fn take_events(&mut self) -> Result<Item, LineFault>
+        ensures read { reading.read_entry self.old.phase self.old.settings Entry.Events ≡ answered result self.new }
+        ensures unchanged { OnErr result (self.new ≡ self.old) }
+    {
+        match self.phase {
+            Phase::Unread => Err(LineFault::NoHeader),
+            Phase::Settings => {
+                let setup = self.settings.setup()?;
+                self.phase = Phase::Events;
+                Ok(Item::Ready(setup))
+            }
+            Phase::Events | Phase::Ended => Err(LineFault::Order),
+        }
+    }
+
+    /// Takes an event, which comes after the line `events` and before the line `end`.
+    fn take_event(&mut self, event: Event) -> Result<Item, LineFault>
+        ensures read { reading.read_entry self.old.phase self.old.settings (Entry.Happens event) ≡ answered result self.new }
+        ensures unchanged { OnErr result (self.new ≡ self.old) }
+    {
+        match self.phase {
+            Phase::Unread => Err(LineFault::NoHeader),
+            Phase::Events => Ok(Item::Event(event)),
+            Phase::Settings | Phase::Ended => Err(LineFault::Order),
+        }
+    }
+
+    /// Takes the line `end`.
+    fn take_end(&mut self) -> Result<Item, LineFault>
+        ensures read { reading.read_entry self.old.phase self.old.settings Entry.End ≡ answered result self.new }
+        ensures unchanged { OnErr result (self.new ≡ self.old) }
+    {
+        match self.phase {
+            Phase::Unread => Err(LineFault::NoHeader),
+            Phase::Events => {
+                self.phase = Phase::Ended;
+                Ok(Item::End)
+            }
+            Phase::Settings | Phase::Ended => Err(LineFault::Order),
+        }
+    }
+}
