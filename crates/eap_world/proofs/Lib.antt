@@ -1,0 +1,2 @@
+pub mod Discards
+pub mod Worked

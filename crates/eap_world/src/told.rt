@@ -1,0 +1,58 @@
+//! What came of an event.
+
+use eap_base::{Packet, Party, Port};
+use eap_packet::{Cause, Path};
+
+/// Why an event did nothing. Where several apply, the first in this order is told.
+#[derive(Clone, Copy, PartialEq, Eq, Debug)]
+pub enum Skip {
+    /// The event's port or party isn't there.
+    NoParty,
+    /// No packet of that number was sent so far.
+    Unsent,
+    /// The place isn't below the packet's length, or more octets are kept than it has.
+    Place,
+    /// The party has ended.
+    Ended,
+    /// The party has no such timer running.
+    NoTimer,
+}
+
+/// A packet that was sent.
+#[derive(Drop)]
+pub struct SentPacket {
+    /// Its number, counted from 1 in the order of sending; a packet that is sent again gets another.
+    pub number: u32,
+    /// The port that it goes to.
+    pub port: Port,
+    /// Its octets (RFC 3748 section 4).
+    pub packet: Packet,
+}
+
+/// What came of the start or of an event.
+#[derive(Drop)]
+pub struct Told {
+    /// The event's number, from 1; 0 is the start.
+    pub event: u32,
+    /// The party that acted, None where the event was skipped.
+    pub party: Option<Party>,
+    /// The states of RFC 4137 that it entered; none where the event was skipped or the party had ended.
+    pub path: Path,
+    /// Why it discarded what came, None where it didn't.
+    pub cause: Option<Cause>,
+    /// Why the event was skipped, None where it wasn't.
+    pub skip: Option<Skip>,
+    /// What it sent, None where it sent nothing.
+    pub sent: Option<SentPacket>,
+}
+
+/// How many events there were, the start not among them, and how many of them did what.
+#[derive(Clone, Copy, PartialEq, Eq, Debug)]
+pub struct Counts {
+    /// All events, the skipped ones too: at most 1,000,000.
+    pub events: u32,
+    /// Those that handed octets to a party.
+    pub deliveries: u32,
+    /// Those whose octets the party discarded.
+    pub discards: u32,
+}
