@@ -1,0 +1,5 @@
+pub mod Keys
+pub mod Lines
+pub mod Packets
+pub mod Run
+pub mod Writes

@@ -1,0 +1,11 @@
+-- Lines of output.
+use Rattle.std.specs.Prelude.{ℕ, List, [], ◌∷◌, codes, decimal}
+use Rattle.std.specs.List.{concat}
+
+-- octets and LF
+abbrev pub line_text : List ℕ → List ℕ
+line_text line = concat (line ∷ codes "\n" ∷ [])
+
+-- the last line of a refused input: the number of the line, and why
+abbrev pub refused_text : ℕ → List ℕ → List ℕ
+refused_text number word = concat (codes "refused line " ∷ decimal number ∷ codes " " ∷ word ∷ codes "\n" ∷ [])

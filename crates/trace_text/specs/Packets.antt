@@ -1,0 +1,106 @@
+-- What a packet is, in one line.
+use Rattle.std.specs.Prelude.{ℕ, ◌-◌, List, [], ◌∷◌, ◌++◌, length, ◌==◌, if◌then◌else◌, None, Result, Ok, Err, codes, decimal}
+use Rattle.std.specs.List.{concat}
+use Rattle.hex.specs.Hex.{encode_lower}
+use Rattle.eap_packet.specs.Words.{cause_word}
+use Rattle.eap_packet.specs.Packet.{PacketValue, request, response, success, failure, spelled}
+use Rattle.eap_packet.specs.Fault.{packet_of}
+use Rattle.eap_packet.specs.declared.cause.Cause.{Cause}
+use Rattle.psk_messages.specs.Message as psk
+use Rattle.psk_messages.specs.Reading as psk_reading
+use Rattle.gpsk_messages.specs.Message as gpsk
+use Rattle.gpsk_messages.specs.Reading as gpsk_reading
+
+-- octets in hex, `-` where there are none
+abbrev pub hex_text : List ℕ → List ℕ
+hex_text [] = codes "-"
+hex_text (b ∷ rest) = encode_lower (b ∷ rest)
+
+-- an octet as a decimal number, after a space
+unfoldable pub number_text : ℕ → List ℕ
+number_text b = concat (codes " " ∷ decimal b ∷ [])
+
+abbrev pub numbers_text : List ℕ → List ℕ
+numbers_text [] = []
+numbers_text (b ∷ rest) = number_text b ++ numbers_text rest
+
+-- the name of an EAP-PSK message, or why it is none
+abbrev pub psk_note : Result psk.Message Cause → List ℕ
+psk_note (Err cause) = cause_word cause
+psk_note (Ok (psk.psk1 rand_s id_s)) = codes "psk-1"
+psk_note (Ok (psk.psk2 rand_s rand_p mac id_p)) = codes "psk-2"
+psk_note (Ok (psk.psk3 rand_s mac nonce tag sealed)) = codes "psk-3"
+psk_note (Ok (psk.psk4 rand_s nonce tag sealed)) = codes "psk-4"
+
+-- the name of an EAP-GPSK message, with the code of a failure, or why it is none
+abbrev pub gpsk_note : Result gpsk.Message Cause → List ℕ
+gpsk_note (Err cause) = cause_word cause
+gpsk_note (Ok (gpsk.gpsk1 id_s rand_s list)) = codes "gpsk-1"
+gpsk_note (Ok (gpsk.gpsk2 id_p id_s rand_p rand_s list suite pd mac)) = codes "gpsk-2"
+gpsk_note (Ok (gpsk.gpsk3 rand_p rand_s id_s suite pd mac)) = codes "gpsk-3"
+gpsk_note (Ok (gpsk.gpsk4 pd mac)) = codes "gpsk-4"
+gpsk_note (Ok (gpsk.fail code)) = concat (codes "gpsk-fail " ∷ decimal code ∷ [])
+gpsk_note (Ok (gpsk.protected_fail code mac)) = concat (codes "gpsk-protected-fail " ∷ decimal code ∷ [])
+
+unfoldable pub identity_word : List ℕ
+identity_word = codes "identity "
+
+unfoldable pub nak_word : List ℕ
+nak_word = codes "nak"
+
+-- what the Type-Data of a Type says: an identity in hex, the methods that a Nak desires, a message
+unfoldable pub note_text : ℕ → List ℕ → List ℕ
+note_text kind body =
+    if kind == 1 then identity_word ++ hex_text body
+    else if kind == 3 then nak_word ++ numbers_text body
+    else if kind == 47 then psk_note (psk_reading.read_of body)
+    else if kind == 51 then gpsk_note (gpsk_reading.read_of None body)
+    else codes "-"
+
+-- the number, the Code, the Identifier and the Type of a packet
+unfoldable pub type_text : ℕ → List ℕ → ℕ → ℕ → List ℕ
+type_text number code id kind = concat (decimal number ∷ codes " " ∷ code ∷ codes " " ∷ decimal id ∷ codes " type " ∷ decimal kind ∷ [])
+
+-- the Length of a packet, and how many of the octets are padding
+unfoldable pub sizes_text : ℕ → ℕ → List ℕ
+sizes_text whole octets = concat (codes " length " ∷ decimal whole ∷ codes " padding " ∷ decimal (octets - whole) ∷ codes " " ∷ [])
+
+unfoldable pub line_end : List ℕ
+line_end = codes "\n"
+
+-- the line of a Request or a Response, of a Success or a Failure
+abbrev pub typed_text : ℕ → List ℕ → ℕ → ℕ → List ℕ → ℕ → ℕ → List ℕ
+typed_text number code id kind body whole octets =
+    type_text number code id kind ++ (sizes_text whole octets ++ (note_text kind body ++ line_end))
+
+unfoldable pub end_text : ℕ → List ℕ → ℕ → List ℕ
+end_text number code id = concat (decimal number ∷ codes " " ∷ code ∷ codes " " ∷ decimal id ∷ [])
+
+unfoldable pub end_sizes_text : ℕ → ℕ → List ℕ
+end_sizes_text whole octets = concat (codes " length " ∷ decimal whole ∷ codes " padding " ∷ decimal (octets - whole) ∷ codes "\n" ∷ [])
+
+abbrev pub end_line_text : ℕ → List ℕ → ℕ → ℕ → ℕ → List ℕ
+end_line_text number code id whole octets = end_text number code id ++ end_sizes_text whole octets
+
+-- the line of a packet, where it has so many octets and so many came
+abbrev pub value_text : ℕ → PacketValue → ℕ → ℕ → List ℕ
+value_text number (request id kind body) whole octets = typed_text number (codes "request") id kind body whole octets
+value_text number (response id kind body) whole octets = typed_text number (codes "response") id kind body whole octets
+value_text number (success id) whole octets = end_line_text number (codes "success") id whole octets
+value_text number (failure id) whole octets = end_line_text number (codes "failure") id whole octets
+
+-- the line of octets that begin with no packet
+abbrev pub malformed_text : ℕ → Cause → List ℕ
+malformed_text number cause = concat (decimal number ∷ codes " malformed " ∷ cause_word cause ∷ codes "\n" ∷ [])
+
+abbrev pub packet_text_by : ℕ → List ℕ → Result PacketValue Cause → List ℕ
+packet_text_by number octets (Err cause) = malformed_text number cause
+packet_text_by number octets (Ok value) = value_text number value (length (spelled value)) (length octets)
+
+-- the line of the packet with this number
+unfoldable pub packet_text : ℕ → List ℕ → List ℕ
+packet_text number octets = packet_text_by number octets (packet_of octets)
+
+-- the last line: how many packets there were, and how many of them are malformed
+unfoldable pub packets_text : ℕ → ℕ → List ℕ
+packets_text packets malformed = concat (codes "packets " ∷ decimal packets ∷ codes " malformed " ∷ decimal malformed ∷ codes "\n" ∷ [])

@@ -1,0 +1,18 @@
+//! The texts that the program writes: lines, and the trace of a run, whose states and variables are
+//! those of RFC 4137. Each call appends its text to a sink and takes no memory. It answers `Failed`
+//! only where a write of the sink failed; a front of the text was then appended, and nothing follows.
+#![tactic(auto)]
+
+mod keys;
+mod lines;
+mod packet;
+mod pieces;
+mod run;
+#[cfg(test)]
+mod tests;
+
+pub use keys::write_key_line;
+pub use lines::{write_line, write_refused};
+pub use packet::{write_packet, write_packet_counts};
+pub use pieces::write_pieces;
+pub use run::{write_end, write_start, write_told};

@@ -1,0 +1,364 @@
+//! The trace of a run: lines of words, each ended by LF. States have their names of RFC 4137, packets the
+//! fields of RFC 3748 section 4.
+
+ghost use Rattle.std.specs.Prelude.{◌≡◌, ◌≤◌, Some, OnErr, slice_index, [], ◌∷◌, ◌++◌, codes, decimal};
+ghost use Rattle.std.specs.List.{concat};
+ghost use Rattle.trace_text.specs.Writes.{Writes};
+ghost use Rattle.trace_text.specs.Run.{state_text, party_word, port_word, skip_word, code_word, states_text, path_text, party_text, cause_text, sent_text, acted_text, told_by, told_text, peer_start_text, start_text, end_text, ends_text, counts_text, verdict_text};
+
+use crate::pieces::write_pieces;
+use eap_base::{Failed, Party, Port, Sink};
+use eap_packet::{Cause, State};
+use eap_world::{Counts, SentPacket, Skip, Told, World};
+use itoa::Buffer;
+
+fn name_of_party(party: Party) -> &'static str
+    ensures { result.now ≡ party_word party }
+{
+    match party {
+        Party::Peer => "peer",
+        Party::Pass => "pass",
+        Party::Server => "server",
+    }
+}
+
+fn name_of_port(port: Port) -> &'static str
+    ensures { result.now ≡ port_word port }
+{
+    match port {
+        Port::Peer => "peer",
+        Port::Server => "server",
+        Port::PassPeer => "pass-peer",
+        Port::PassServer => "pass-server",
+    }
+}
+
+fn name_of_skip(skip: Skip) -> &'static str
+    ensures { result.now ≡ skip_word skip }
+{
+    match skip {
+        Skip::NoParty => "NoParty",
+        Skip::Unsent => "Unsent",
+        Skip::Place => "Place",
+        Skip::Ended => "Ended",
+        Skip::NoTimer => "NoTimer",
+    }
+}
+
+/// The name of a packet's Code (RFC 3748 section 4).
+fn name_of_code(code: u8) -> &'static str
+    ensures { result.now ≡ code_word code }
+{
+    match code {
+        1 => "request",
+        2 => "response",
+        3 => "success",
+        _ => "failure",
+    }
+}
+
+/// The octet at a place, 0 past the end.
+fn octet_at(octets: &[u8], place: usize) -> u8
+    ensures { result ≡ slice_index octets.now place }
+{
+    match octets.get(place) {
+        None => 0,
+        Some(octet) => *octet,
+    }
+}
+
+/// Writes a state of a path, after a space.
+fn write_state<W: Sink>(sink: &mut W, state: State) -> Result<(), Failed>
+    ensures writes { Writes result (W.written sink.old) (W.written sink.new) (state_text state) }
+    ensures counted { OnErr result (W.write_faults sink.new ≤ W.write_faults sink.old → W.last_write_fault ≡ Some (W.write_faults sink.new)) }
+    ensures never_falls { W.write_faults sink.old ≤ W.write_faults sink.new }
+{
+    write_pieces(sink, &[b" ", state.word().as_bytes()])
+}
+
+/// Writes the states of a path, each after a space, and the end of the line.
+fn write_states<W: Sink>(sink: &mut W, states: &[State]) -> Result<(), Failed>
+    ensures writes { Writes result (W.written sink.old) (W.written sink.new) (states_text states.now) }
+    ensures counted { OnErr result (W.write_faults sink.new ≤ W.write_faults sink.old → W.last_write_fault ≡ Some (W.write_faults sink.new)) }
+    ensures never_falls { W.write_faults sink.old ≤ W.write_faults sink.new }
+{
+    for state in states {
+        match write_state(sink, *state) {
+            Ok(()) => {}
+            Err(fault) => return Err(fault),
+        }
+    }
+    write_pieces(sink, &[b"\n"])
+}
+
+/// Writes the states of a path and the end of the line, `-` for no states.
+fn write_path<W: Sink>(sink: &mut W, states: &[State]) -> Result<(), Failed>
+    ensures writes { Writes result (W.written sink.old) (W.written sink.new) (path_text states.now) }
+    ensures counted { OnErr result (W.write_faults sink.new ≤ W.write_faults sink.old → W.last_write_fault ≡ Some (W.write_faults sink.new)) }
+    ensures never_falls { W.write_faults sink.old ≤ W.write_faults sink.new }
+{
+    if states.is_empty() {
+        write_pieces(sink, &[b" -\n"])
+    } else {
+        write_states(sink, states)
+    }
+}
+
+/// Writes the event's number and the party.
+fn write_head<W: Sink>(sink: &mut W, event: u32, party: Party) -> Result<(), Failed>
+    ensures writes { Writes result (W.written sink.old) (W.written sink.new) (concat (decimal event ∷ codes " " ∷ party_word party ∷ [])) }
+    ensures counted { OnErr result (W.write_faults sink.new ≤ W.write_faults sink.old → W.last_write_fault ≡ Some (W.write_faults sink.new)) }
+    ensures never_falls { W.write_faults sink.old ≤ W.write_faults sink.new }
+{
+    let mut number = Buffer::new();
+    let digits = number.format(event).as_bytes();
+    write_pieces(sink, &[digits, b" ", name_of_party(party).as_bytes()])
+}
+
+/// Writes the line of the party that acted, with the states that it entered.
+#[tactic(auto, using(crate::proofs::Fronts::writes_front_append, crate::proofs::Fronts::writes_append))]
+fn write_party<W: Sink>(
+    sink: &mut W,
+    event: u32,
+    party: Option<Party>,
+    path: &[State],
+) -> Result<(), Failed>
+    ensures writes { Writes result (W.written sink.old) (W.written sink.new) (party_text event party path.now) }
+    ensures counted { OnErr result (W.write_faults sink.new ≤ W.write_faults sink.old → W.last_write_fault ≡ Some (W.write_faults sink.new)) }
+    ensures never_falls { W.write_faults sink.old ≤ W.write_faults sink.new }
+{
+    match party {
+        None => write_pieces(sink, &[]),
+        Some(party) => match write_head(sink, event, party) {
+            Ok(()) => write_path(sink, path),
+            Err(fault) => Err(fault),
+        },
+    }
+}
+
+/// Writes the line of a discard, if there was one.
+fn write_cause<W: Sink>(sink: &mut W, event: u32, cause: Option<Cause>) -> Result<(), Failed>
+    ensures writes { Writes result (W.written sink.old) (W.written sink.new) (cause_text event cause) }
+    ensures counted { OnErr result (W.write_faults sink.new ≤ W.write_faults sink.old → W.last_write_fault ≡ Some (W.write_faults sink.new)) }
+    ensures never_falls { W.write_faults sink.old ≤ W.write_faults sink.new }
+{
+    match cause {
+        None => write_pieces(sink, &[]),
+        Some(cause) => {
+            let mut number = Buffer::new();
+            let digits = number.format(event).as_bytes();
+            write_pieces(sink, &[digits, b" cause ", cause.word().as_bytes(), b"\n"])
+        }
+    }
+}
+
+/// Writes the line of the packet that was sent, if there was one.
+fn write_sent<W: Sink>(sink: &mut W, event: u32, sent: &Option<SentPacket>) -> Result<(), Failed>
+    ensures writes { Writes result (W.written sink.old) (W.written sink.new) (sent_text event sent.now) }
+    ensures counted { OnErr result (W.write_faults sink.new ≤ W.write_faults sink.old → W.last_write_fault ≡ Some (W.write_faults sink.new)) }
+    ensures never_falls { W.write_faults sink.old ≤ W.write_faults sink.new }
+{
+    match sent {
+        None => write_pieces(sink, &[]),
+        Some(packet) => write_packet_line(sink, event, packet),
+    }
+}
+
+/// Writes the line of a packet: its number and port, then its Code, Identifier, Type and length in
+/// octets. A Success and a Failure have no Type (RFC 3748 section 4.2).
+fn write_packet_line<W: Sink>(sink: &mut W, event: u32, sent: &SentPacket) -> Result<(), Failed>
+    ensures writes { Writes result (W.written sink.old) (W.written sink.new) (sent_text event (Some sent.now)) }
+    ensures counted { OnErr result (W.write_faults sink.new ≤ W.write_faults sink.old → W.last_write_fault ≡ Some (W.write_faults sink.new)) }
+    ensures never_falls { W.write_faults sink.old ≤ W.write_faults sink.new }
+{
+    let octets = sent.packet.as_slice();
+    let mut event_buffer = Buffer::new();
+    let mut number_buffer = Buffer::new();
+    let mut id_buffer = Buffer::new();
+    let mut length_buffer = Buffer::new();
+    let event_digits = event_buffer.format(event).as_bytes();
+    let number_digits = number_buffer.format(sent.number).as_bytes();
+    let id_digits = id_buffer.format(octet_at(octets, 1)).as_bytes();
+    let length_digits = length_buffer.format(octets.len()).as_bytes();
+    let mut type_buffer = Buffer::new();
+    let type_digits = type_buffer.format(octet_at(octets, 4)).as_bytes();
+    let has_type = octet_at(octets, 0) <= 2;
+    let type_word: &[u8] = if has_type { b" type " } else { b"" };
+    let type_shown: &[u8] = if has_type { type_digits } else { b"" };
+    let code = name_of_code(octet_at(octets, 0)).as_bytes();
+    let port = name_of_port(sent.port).as_bytes();
+    write_pieces(
+        sink,
+        &[
+            event_digits,
+            b" sent ",
+            number_digits,
+            b" to ",
+            port,
+            b" ",
+            code,
+            b" ",
+            id_digits,
+            type_word,
+            type_shown,
+            b" length ",
+            length_digits,
+            b"\n",
+        ],
+    )
+}
+
+/// Writes the lines of an event: of the party that acted, of a discard, of the packet that was sent. A
+/// skipped event has one line alone. `Failed`: a write failed, and a front of the lines was appended.
+#[tactic(auto, unfolding(crate::specs::Run::told_text))]
+pub fn write_told<W: Sink>(sink: &mut W, told: &Told) -> Result<(), Failed>
+    ensures writes { Writes result (W.written sink.old) (W.written sink.new) (told_text told.now) }
+    ensures counted { OnErr result (W.write_faults sink.new ≤ W.write_faults sink.old → W.last_write_fault ≡ Some (W.write_faults sink.new)) }
+    ensures never_falls { W.write_faults sink.old ≤ W.write_faults sink.new }
+{
+    match told.skip {
+        None => write_acted(sink, told),
+        Some(skip) => {
+            let mut number = Buffer::new();
+            let digits = number.format(told.event).as_bytes();
+            write_pieces(
+                sink,
+                &[digits, b" skip ", name_of_skip(skip).as_bytes(), b"\n"],
+            )
+        }
+    }
+}
+
+/// Writes the lines of an event that wasn't skipped.
+#[tactic(auto, using(crate::proofs::Fronts::writes_front_append, crate::proofs::Fronts::writes_append))]
+fn write_acted<W: Sink>(sink: &mut W, told: &Told) -> Result<(), Failed>
+    ensures writes { Writes result (W.written sink.old) (W.written sink.new) (acted_text told.now) }
+    ensures counted { OnErr result (W.write_faults sink.new ≤ W.write_faults sink.old → W.last_write_fault ≡ Some (W.write_faults sink.new)) }
+    ensures never_falls { W.write_faults sink.old ≤ W.write_faults sink.new }
+{
+    match write_party(sink, told.event, told.party, told.path.as_slice()) {
+        Ok(()) => write_cause_and_sent(sink, told),
+        Err(fault) => Err(fault),
+    }
+}
+
+#[tactic(auto, using(crate::proofs::Fronts::writes_front_append, crate::proofs::Fronts::writes_append))]
+fn write_cause_and_sent<W: Sink>(sink: &mut W, told: &Told) -> Result<(), Failed>
+    ensures writes { Writes result (W.written sink.old) (W.written sink.new) (cause_text told.now.event told.now.cause ++ sent_text told.now.event told.now.sent) }
+    ensures counted { OnErr result (W.write_faults sink.new ≤ W.write_faults sink.old → W.last_write_fault ≡ Some (W.write_faults sink.new)) }
+    ensures never_falls { W.write_faults sink.old ≤ W.write_faults sink.new }
+{
+    match write_cause(sink, told.event, told.cause) {
+        Ok(()) => write_sent(sink, told.event, &told.sent),
+        Err(fault) => Err(fault),
+    }
+}
+
+/// Writes the line of the peer's INITIALIZE (RFC 4137 section 4.5).
+#[tactic(auto, unfolding(crate::specs::Run::peer_start_text))]
+fn write_peer_start<W: Sink>(sink: &mut W) -> Result<(), Failed>
+    ensures writes { Writes result (W.written sink.old) (W.written sink.new) peer_start_text }
+    ensures counted { OnErr result (W.write_faults sink.new ≤ W.write_faults sink.old → W.last_write_fault ≡ Some (W.write_faults sink.new)) }
+    ensures never_falls { W.write_faults sink.old ≤ W.write_faults sink.new }
+{
+    write_pieces(sink, &[b"0 peer INITIALIZE IDLE\n"])
+}
+
+/// Writes the lines of the start, event 0: the peer begins, then what is told of the server. `Failed`: a
+/// write failed, and a front of the lines was appended.
+#[tactic(auto, using(crate::proofs::Fronts::writes_front_append, crate::proofs::Fronts::writes_append))]
+pub fn write_start<W: Sink>(sink: &mut W, told: &Told) -> Result<(), Failed>
+    ensures writes { Writes result (W.written sink.old) (W.written sink.new) (start_text told.now) }
+    ensures counted { OnErr result (W.write_faults sink.new ≤ W.write_faults sink.old → W.last_write_fault ≡ Some (W.write_faults sink.new)) }
+    ensures never_falls { W.write_faults sink.old ≤ W.write_faults sink.new }
+{
+    match write_peer_start(sink) {
+        Ok(()) => write_told(sink, told),
+        Err(fault) => Err(fault),
+    }
+}
+
+/// Writes the lines of the end: where both ends stand, the counts, and the verdicts. `Failed`: a write
+/// failed, and a front of the lines was appended.
+#[tactic(auto, using(crate::proofs::Fronts::writes_front_append, crate::proofs::Fronts::writes_append))]
+pub fn write_end<W: Sink>(sink: &mut W, world: &World) -> Result<(), Failed>
+    ensures writes { Writes result (W.written sink.old) (W.written sink.new) (end_text world.now) }
+    ensures counted { OnErr result (W.write_faults sink.new ≤ W.write_faults sink.old → W.last_write_fault ≡ Some (W.write_faults sink.new)) }
+    ensures never_falls { W.write_faults sink.old ≤ W.write_faults sink.new }
+{
+    match write_ends(sink, world.peer_state(), world.server_state()) {
+        Ok(()) => write_counts_and_verdicts(sink, world.counts()),
+        Err(fault) => Err(fault),
+    }
+}
+
+/// Writes the states of both ends.
+#[tactic(auto, unfolding(crate::specs::Run::ends_text))]
+fn write_ends<W: Sink>(sink: &mut W, peer: State, server: State) -> Result<(), Failed>
+    ensures writes { Writes result (W.written sink.old) (W.written sink.new) (ends_text peer server) }
+    ensures counted { OnErr result (W.write_faults sink.new ≤ W.write_faults sink.old → W.last_write_fault ≡ Some (W.write_faults sink.new)) }
+    ensures never_falls { W.write_faults sink.old ≤ W.write_faults sink.new }
+{
+    let peer_word = peer.word().as_bytes();
+    let server_word = server.word().as_bytes();
+    write_pieces(
+        sink,
+        &[
+            b"state peer ",
+            peer_word,
+            b"\nstate server ",
+            server_word,
+            b"\n",
+        ],
+    )
+}
+
+#[tactic(auto, using(crate::proofs::Fronts::writes_front_append, crate::proofs::Fronts::writes_append))]
+fn write_counts_and_verdicts<W: Sink>(sink: &mut W, counts: Counts) -> Result<(), Failed>
+    ensures writes { Writes result (W.written sink.old) (W.written sink.new) (counts_text counts ++ verdict_text) }
+    ensures counted { OnErr result (W.write_faults sink.new ≤ W.write_faults sink.old → W.last_write_fault ≡ Some (W.write_faults sink.new)) }
+    ensures never_falls { W.write_faults sink.old ≤ W.write_faults sink.new }
+{
+    match write_counts(sink, counts) {
+        Ok(()) => write_verdicts(sink),
+        Err(fault) => Err(fault),
+    }
+}
+
+/// Writes how many events, deliveries and discards there were.
+#[tactic(auto, unfolding(crate::specs::Run::counts_text))]
+fn write_counts<W: Sink>(sink: &mut W, counts: Counts) -> Result<(), Failed>
+    ensures writes { Writes result (W.written sink.old) (W.written sink.new) (counts_text counts) }
+    ensures counted { OnErr result (W.write_faults sink.new ≤ W.write_faults sink.old → W.last_write_fault ≡ Some (W.write_faults sink.new)) }
+    ensures never_falls { W.write_faults sink.old ≤ W.write_faults sink.new }
+{
+    let mut events_buffer = Buffer::new();
+    let mut deliveries_buffer = Buffer::new();
+    let mut discards_buffer = Buffer::new();
+    let events = events_buffer.format(counts.events).as_bytes();
+    let deliveries = deliveries_buffer.format(counts.deliveries).as_bytes();
+    let discards = discards_buffer.format(counts.discards).as_bytes();
+    write_pieces(
+        sink,
+        &[
+            b"events ",
+            events,
+            b"\ndeliveries ",
+            deliveries,
+            b"\ndiscards ",
+            discards,
+            b"\n",
+        ],
+    )
+}
+
+/// Writes the verdicts and the last line. While no end has a method no tag is accepted and no end
+/// succeeds, so they are always the same.
+#[tactic(auto, unfolding(crate::specs::Run::verdict_text))]
+fn write_verdicts<W: Sink>(sink: &mut W) -> Result<(), Failed>
+    ensures writes { Writes result (W.written sink.old) (W.written sink.new) verdict_text }
+    ensures counted { OnErr result (W.write_faults sink.new ≤ W.write_faults sink.old → W.last_write_fault ≡ Some (W.write_faults sink.new)) }
+    ensures never_falls { W.write_faults sink.old ≤ W.write_faults sink.new }
+{
+    write_pieces(sink, &[b"tags honest\nresult open\nend\n"])
+}
