@@ -1,0 +1,4 @@
+pub mod Driving
+pub mod Endings
+pub mod Replaying
+pub mod Runs
