@@ -1,0 +1,4 @@
+pub mod Choices
+mod Entries
+mod Finding
+mod Firsts

@@ -1,0 +1,114 @@
+//! What a peer allows and desires, which suite it picks, and which method the server proposes next.
+
+ghost use Rattle.std.specs.Prelude.{◌≡◌, ◌&&◌, not, None, option_copied};
+ghost use Rattle.eap_base.specs.Setup.{is_among};
+ghost use Rattle.eap_base.specs.Suite.{suite_number};
+ghost use Rattle.login_policy.specs.Policy.{nak_of, picked_suite, is_allowed, suite_or, is_desired, next_kind};
+
+use eap_base::{Kinds, PeerSetup, Suite, Suites};
+
+/// The octets of an entry of a CSuite_List (RFC 5433 section 7).
+const ENTRY_SIZE: usize = 6;
+
+/// Whether the peer allows the method of this Type.
+pub fn peer_allows(setup: &PeerSetup, kind: u8) -> bool
+    ensures { result ≡ is_among setup.now.methods kind }
+{
+    is_among(setup.methods.as_slice(), kind)
+}
+
+/// The Types that the peer's Nak lists (RFC 3748 section 5.3.1): the methods that it allows in their
+/// order, or 0 alone where it allows none.
+#[tactic(auto, unfolding(crate::specs::Policy::nak_of))]
+pub fn nak_list(setup: &PeerSetup) -> Kinds
+    ensures { result ≡ nak_of setup.now.methods }
+{
+    if setup.methods.is_empty() {
+        let mut none = Kinds::new();
+        none.push(0);
+        none
+    } else {
+        setup.methods.copy()
+    }
+}
+
+/// The first suite of a CSuite_List (RFC 5433 section 7) that is allowed, or None where there is none.
+/// The list has entries of six octets; octets behind its last whole entry are passed over.
+#[tactic(auto, using(crate::proofs::Entries::picked_here, crate::proofs::Entries::picked_behind, crate::proofs::Entries::picked_from_part))]
+pub fn pick_suite(allowed: &Suites, list: &[u8]) -> Option<Suite>
+    ensures { result ≡ picked_suite allowed.now list.now }
+{
+    for entry in list.chunks_exact(ENTRY_SIZE) {
+        if let Some(suite) = allowed_suite(allowed, entry) {
+            return Some(suite);
+        }
+    }
+    None
+}
+
+/// The suite that an entry names, where it is allowed.
+fn allowed_suite(allowed: &Suites, entry: &[u8]) -> Option<Suite>
+    ensures { result ≡ suite_or allowed.now entry.now None }
+{
+    if is_allowed(allowed, entry, Suite::Cmac) {
+        Some(Suite::Cmac)
+    } else if is_allowed(allowed, entry, Suite::Hmac) {
+        Some(Suite::Hmac)
+    } else {
+        None
+    }
+}
+
+/// Whether an entry is this suite, and the suite is allowed.
+fn is_allowed(allowed: &Suites, entry: &[u8], suite: Suite) -> bool
+    ensures { result ≡ is_allowed allowed.now entry.now suite }
+{
+    entry == suite.octets().as_slice() && is_among(allowed.as_slice(), number_of(suite))
+}
+
+/// The specifier of a suite (RFC 5433 section 6).
+fn number_of(suite: Suite) -> u8
+    ensures { result ≡ suite_number suite }
+{
+    match suite {
+        Suite::Cmac => 1,
+        Suite::Hmac => 2,
+    }
+}
+
+/// The first Type of the server's order that is not yet proposed and that the peer's Nak, where one
+/// has come, desires (RFC 3748 section 5.3.1); None where there is none.
+#[tactic(auto, unfolding(crate::specs::Policy::next_kind))]
+pub fn next_method(order: &Kinds, proposed: &Kinds, nak: Option<&[u8]>) -> Option<u8>
+    ensures { result ≡ next_kind order.now proposed.now (option_copied nak.entry) }
+{
+    order
+        .as_slice()
+        .iter()
+        .copied()
+        .find(|kind| is_open(proposed, nak, *kind))
+}
+
+/// Whether a Type is not yet proposed, and a Nak, where one has come, desires it.
+fn is_open(proposed: &Kinds, nak: Option<&[u8]>, kind: u8) -> bool
+    ensures { result ≡ (not (is_among proposed.now kind) && is_desired (option_copied nak.entry) kind) }
+{
+    !is_among(proposed.as_slice(), kind) && is_desired(nak, kind)
+}
+
+/// Whether a Nak, where one has come, desires this Type.
+fn is_desired(nak: Option<&[u8]>, kind: u8) -> bool
+    ensures { result ≡ is_desired (option_copied nak.entry) kind }
+{
+    match nak {
+        None => true,
+        Some(kinds) => is_among(kinds, kind),
+    }
+}
+
+/// Whether a number is among these.
+fn is_among(numbers: &[u8], number: u8) -> bool
+    ensures { result ≡ is_among numbers.now number }
+{
+    numbers.iter().any(|other| *other == number)
+}
