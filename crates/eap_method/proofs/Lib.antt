@@ -1,0 +1,10 @@
+pub mod Amongs
+pub mod Discards
+pub mod Lists
+pub mod PeerBegins
+pub mod PeerObjects
+pub mod PeerReports
+pub mod ServerBegins
+pub mod ServerObjects
+pub mod ServerOffers
+pub mod ServerReports

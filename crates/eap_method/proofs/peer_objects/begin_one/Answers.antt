@@ -1,0 +1,14 @@
+use Rattle.std.proofs.Common.{◌∙◌}
+use Rattle.eap_method.proofs.PeerBegins.{credential_fits, begins, stays}
+use Rattle.eap_method.proofs.peer_objects.begin_one.Goals as goal
+
+pub begin-requires : goal.begin-requires
+begin-requires g c =
+    rw (c.credential_for.ensures, c.kind-kind.ensures) (credential_fits c.args.setup.now (g.M.PeerMethod.peer_shown c.args.method.now) c.requires.sound c.requires.keys (cc))
+
+pub returns-then-peer_allows : goal.returns-then-peer_allows
+returns-then-peer_allows g c =
+    c.begin.ensures ∙ rw (c.credential_for.ensures, c.kind-kind.ensures) (begins _ _ (cc))
+
+pub returns-else-peer_allows : goal.returns-else-peer_allows
+returns-else-peer_allows g c = stays _ _ (cc)

@@ -1,0 +1,22 @@
+use Rattle.std.proofs.Common.{◌∙◌, sym, refl}
+use Rattle.eap_method.proofs.Lists.{empty_of}
+use Rattle.eap_method.proofs.ServerOffers.{offer_hit, offer_miss, offer_none, offer_kind}
+use Rattle.eap_method.proofs.server_objects.+offer_method.Goals as goal
+
+pub returns-in-None-clause-offer : goal.returns-in-None-clause-offer
+returns-in-None-clause-offer g t c = λ order is_proposed.
+    rw (empty_of _ c.in-None.ensures.cases) (offer_none _ _ _ order _)
+
+pub returns-then-kind-clause-offer : goal.returns-then-kind-clause-offer
+returns-then-kind-clause-offer g t c = λ order is_proposed.
+    rw c.in-Some.ensures.cases.0
+    (offer_hit _ _ _ order _ _ _ _ _ _ c.begin.ensures c.first.ensures (sym c.kind.ensures ∙ c.if-kind.true) is_proposed)
+
+pub returns-then-kind-clause-kinds : goal.returns-then-kind-clause-kinds
+returns-then-kind-clause-kinds g t c =
+    rw c.in-Some.ensures.cases.0 (rw (offer_kind _ _ _ _ _ _ _ c.begin.ensures c.first.ensures) refl)
+
+pub returns-else-kind-clause-offer : goal.returns-else-kind-clause-offer
+returns-else-kind-clause-offer g t c = λ order is_proposed.
+    rw c.in-Some.ensures.cases.0
+    (offer_miss _ _ _ order _ _ _ _ _ (λ same. c.if-kind.false (c.kind.ensures ∙ same)) (c.offer_method.ensures.offer order is_proposed))

@@ -1,0 +1,8 @@
+use Rattle.eap_method.proofs.ServerBegins.{begun_views, begun_kinds}
+use Rattle.eap_method.proofs.server_objects.begin_servers.Goals as goal
+
+pub returns-clause-views : goal.returns-clause-views
+returns-clause-views g c = λ has_each. rw c.begin_each.ensures (begun_views _ _ has_each)
+
+pub returns-clause-kinds : goal.returns-clause-kinds
+returns-clause-kinds g c = rw c.begin_each.ensures (begun_kinds _ _)

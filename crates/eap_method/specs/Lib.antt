@@ -1,0 +1,12 @@
+pub mod Turns
+pub mod Names
+pub mod GpskTags
+pub mod GpskPeer
+pub mod GpskServer
+pub mod PskTags
+pub mod PskPeer
+pub mod PskServer
+pub mod Peer
+pub mod Server
+pub mod Steps
+pub mod Begun

@@ -1,0 +1,21 @@
+//! The methods behind two traits: what an object of EAP-PSK (RFC 4764) or EAP-GPSK (RFC 5433) brings
+//! into a login and takes out of it, its turn for each packet, and the records of its tags.
+#![tactic(auto)]
+
+mod peer;
+mod peer_objects;
+mod server;
+mod server_objects;
+mod step;
+mod tags;
+mod turn;
+mod values;
+
+pub use peer::PeerMethod;
+pub use peer_objects::{begin_peers, hand_to_peer, peer_report};
+pub use server::ServerMethod;
+pub use server_objects::{begin_servers, hand_to_server, offer_method, server_report};
+pub use step::{Step, has_ended};
+pub use tags::{Label, TagList, TagRecord, Tags};
+pub use turn::{PeerTurn, ServerTurn};
+pub use values::{Credential, Decision, MethodState, Report, ServerSide};

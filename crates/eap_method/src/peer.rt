@@ -1,0 +1,57 @@
+//! A peer's method: the trait that an object of EAP-PSK or EAP-GPSK meets.
+
+ghost use Rattle.std.specs.Prelude.{◌≡◌, IsTrue};
+ghost use Rattle.eap_base.specs.Setup.{fits_kind};
+ghost use Rattle.eap_method.specs.Peer.{peer_kind, peer_begun, peer_step, peer_report, IsRequest};
+
+use crate::turn::PeerTurn;
+use crate::values::{Credential, Report};
+use eap_base::Nonce;
+
+/// A method at a peer. Its ghost member says which method it is and where it stands.
+pub trait PeerMethod: Drop {
+    ghost use Rattle.eap_method.specs.Peer.{PeerShown};
+    ghost use Rattle.eap_method.specs.Turns.{PeerOutcome};
+
+    /// The method, and where it stands.
+    ghost peer_shown: { Self → PeerShown };
+
+    /// The Type of the method, 47 or 51, the same for the object's whole life.
+    fn kind(&self) -> u8
+        ensures { result ≡ peer_kind (peer_shown self.now) };
+
+    /// Begins anew, wherever the object stood before. The key has 16 octets for EAP-PSK, 32 to 64 for
+    /// EAP-GPSK.
+    fn begin(&mut self, cred: &Credential, nonce: &Nonce)
+        requires { IsTrue (fits_kind (peer_kind (peer_shown self.old)) cred.now.psk) }
+        ensures { peer_shown self.new ≡ peer_begun cred.now nonce.now (peer_shown self.old) };
+
+    /// The turn for a Request of this Type with nothing past its Length.
+    fn handle(&mut self, request: &[u8]) -> PeerTurn
+        requires { IsRequest (peer_kind (peer_shown self.old)) request.now }
+        ensures { peer_step (peer_shown self.old) request.now ≡ record { turn = result; after = peer_shown self.new } };
+
+    /// What the peer holds after a login that succeeded; None before and after any other.
+    fn report(&self) -> Option<Report>
+        ensures { result ≡ peer_report (peer_shown self.now) };
+}
+
+impl PeerMethod for Box<dyn PeerMethod> {
+    ghost peer_shown = { λ b. (PeerMethod-box b).peer_shown b.value };
+
+    fn kind(&self) -> u8 {
+        (**self).kind()
+    }
+
+    fn begin(&mut self, cred: &Credential, nonce: &Nonce) {
+        (**self).begin(cred, nonce)
+    }
+
+    fn handle(&mut self, request: &[u8]) -> PeerTurn {
+        (**self).handle(request)
+    }
+
+    fn report(&self) -> Option<Report> {
+        (**self).report()
+    }
+}

@@ -1,0 +1,116 @@
+//! The objects of a peer: beginning them, finding the one of a method, and calling it.
+
+ghost use Rattle.std.specs.Prelude.{◌≡◌, ℕ, List, true, map};
+ghost use Rattle.eap_base.specs.Setup.{is_among, IsSoundPeer, HasKeys};
+ghost use Rattle.eap_method.specs.Peer.{peer_kinds, peer_views, peer_turn, IsRequest, peer_report_of, views_begun, have_each, octets_or_none, key_for, credential_for};
+ghost use Rattle.eap_method.specs.Begun.{peer_begun_in};
+
+use crate::peer::PeerMethod;
+use crate::turn::PeerTurn;
+use crate::values::{Credential, Report};
+use eap_base::{PeerSetup, Secret};
+use eap_packet::Cause;
+use login_policy::peer_allows;
+
+/// The Type of EAP-PSK (RFC 4764 section 3).
+const PSK_KIND: u8 = 47;
+
+/// Begins each object whose method the settings allow, with the key for it, wherever it stood before.
+pub fn begin_peers<M: PeerMethod>(methods: &mut [M], setup: &PeerSetup)
+    requires sound { IsSoundPeer setup.now }
+    requires keys { HasKeys setup.now }
+    ensures views { have_each (peer_kinds (map M.peer_shown methods.old)) setup.now.methods ≡ true → peer_views setup.now.methods (map M.peer_shown methods.new) ≡ views_begun setup.now }
+    ensures kinds { peer_kinds (map M.peer_shown methods.new) ≡ peer_kinds (map M.peer_shown methods.old) }
+{
+    begin_each(methods, setup);
+}
+
+/// The turn of the object of this Type, which is allowed, for a Request of this Type with nothing past
+/// its Length. Where there is no such object, the Request is discarded as one that no method awaits.
+pub fn hand_to_peer<M: PeerMethod>(methods: &mut [M], kind: u8, request: &[u8]) -> PeerTurn
+    requires { IsRequest kind request.now }
+    ensures turn { (allowed : List ℕ) → is_among allowed kind ≡ true → peer_turn kind (peer_views allowed (map M.peer_shown methods.old)) request.now ≡ record { turn = result; after = peer_views allowed (map M.peer_shown methods.new) } }
+    ensures kinds { peer_kinds (map M.peer_shown methods.new) ≡ peer_kinds (map M.peer_shown methods.old) }
+{
+    match methods.split_first_mut() {
+        None => PeerTurn::Discard(Cause::WrongOp),
+        Some((first, rest)) => {
+            if first.kind() == kind {
+                first.handle(request)
+            } else {
+                hand_to_peer(rest, kind, request)
+            }
+        }
+    }
+}
+
+/// What the object of this Type, which is allowed, holds after a login that succeeded; None after any
+/// other, and where there is no such object.
+pub fn peer_report<M: PeerMethod>(methods: &[M], kind: u8) -> Option<Report>
+    ensures { (allowed : List ℕ) → is_among allowed kind ≡ true → result ≡ peer_report_of kind (peer_views allowed (map M.peer_shown methods.now)) }
+{
+    match methods.split_first() {
+        None => None,
+        Some((first, rest)) => {
+            if first.kind() == kind {
+                first.report()
+            } else {
+                peer_report(rest, kind)
+            }
+        }
+    }
+}
+
+fn begin_each<M: PeerMethod>(methods: &mut [M], setup: &PeerSetup)
+    requires sound { IsSoundPeer setup.now }
+    requires keys { HasKeys setup.now }
+    ensures { map M.peer_shown methods.new ≡ map (peer_begun_in setup.now) (map M.peer_shown methods.old) }
+{
+    if let Some((first, rest)) = methods.split_first_mut() {
+        begin_one(first, setup);
+        begin_each(rest, setup);
+    }
+}
+
+fn begin_one<M: PeerMethod>(method: &mut M, setup: &PeerSetup)
+    requires sound { IsSoundPeer setup.now }
+    requires keys { HasKeys setup.now }
+    ensures { M.peer_shown method.new ≡ peer_begun_in setup.now (M.peer_shown method.old) }
+{
+    let kind = method.kind();
+    if peer_allows(setup, kind) {
+        method.begin(&credential_for(setup, kind), &setup.nonce);
+    }
+}
+
+#[tactic(auto, unfolding(crate::specs::Peer::credential_for))]
+fn credential_for(setup: &PeerSetup, kind: u8) -> Credential
+    ensures { result ≡ credential_for setup.now kind }
+{
+    Credential {
+        id_p: setup.name.copy(),
+        accepts: setup.accepts.copy(),
+        suites: setup.suites.copy(),
+        psk: key_for(setup, kind),
+    }
+}
+
+/// The key for the method of this Type; no octets where there is none.
+fn key_for(setup: &PeerSetup, kind: u8) -> Secret
+    ensures { result ≡ key_for setup.now kind }
+{
+    if kind == PSK_KIND {
+        octets_or_none(&setup.psk47)
+    } else {
+        octets_or_none(&setup.psk51)
+    }
+}
+
+fn octets_or_none(key: &Option<Secret>) -> Secret
+    ensures { result ≡ octets_or_none key.now }
+{
+    match key {
+        None => Secret::new(),
+        Some(octets) => octets.copy(),
+    }
+}

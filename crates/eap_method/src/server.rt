@@ -1,0 +1,67 @@
+//! A server's method: the trait that an object of EAP-PSK or EAP-GPSK meets.
+
+ghost use Rattle.std.specs.Prelude.{◌≡◌, true, IsTrue, All};
+ghost use Rattle.eap_base.specs.Setup.{fits_kind, are_suites};
+ghost use Rattle.eap_method.specs.Server.{server_kind, server_begun, has_begun, server_first_step, server_step, server_report, IsResponse};
+
+use crate::turn::ServerTurn;
+use crate::values::{Report, ServerSide};
+use eap_base::{Nonce, Packet, Users};
+
+/// A method at a server. Its ghost member says which method it is and where it stands.
+pub trait ServerMethod: Drop {
+    ghost use Rattle.eap_method.specs.Server.{ServerShown};
+    ghost use Rattle.eap_method.specs.Turns.{ServerOutcome, FirstOutcome};
+
+    /// The method, and where it stands.
+    ghost server_shown: { Self → ServerShown };
+
+    /// The Type of the method, 47 or 51, the same for the object's whole life.
+    fn kind(&self) -> u8
+        ensures { result ≡ server_kind (server_shown self.now) };
+
+    /// Begins anew, wherever the object stood before. The suites are one or two of 1 and 2.
+    fn begin(&mut self, own: &ServerSide, nonce: &Nonce)
+        requires { IsTrue (are_suites own.now.suites) }
+        ensures { server_shown self.new ≡ server_begun own.now nonce.now (server_shown self.old) };
+
+    /// The method's first Request, with this Identifier, of an object that has begun and made none.
+    fn first(&mut self, id: u8) -> Packet
+        requires { has_begun (server_shown self.old) ≡ true }
+        ensures { server_first_step (server_shown self.old) id ≡ record { packet = result; after = server_shown self.new } };
+
+    /// The turn for a Response of this Type with nothing past its Length; a Request that follows has
+    /// the Identifier `next_id`. The users' keys have 16 octets for EAP-PSK, 32 to 64 for EAP-GPSK.
+    fn handle(&mut self, response: &[u8], next_id: u8, users: &Users) -> ServerTurn
+        requires response { IsResponse (server_kind (server_shown self.old)) response.now }
+        requires keys { All (λ user. IsTrue (fits_kind user.kind user.psk)) users.now }
+        ensures { server_step users.now next_id (server_shown self.old) response.now ≡ record { turn = result; after = server_shown self.new } };
+
+    /// What the server holds after a login that succeeded; None before and after any other.
+    fn report(&self) -> Option<Report>
+        ensures { result ≡ server_report (server_shown self.now) };
+}
+
+impl ServerMethod for Box<dyn ServerMethod> {
+    ghost server_shown = { λ b. (ServerMethod-box b).server_shown b.value };
+
+    fn kind(&self) -> u8 {
+        (**self).kind()
+    }
+
+    fn begin(&mut self, own: &ServerSide, nonce: &Nonce) {
+        (**self).begin(own, nonce)
+    }
+
+    fn first(&mut self, id: u8) -> Packet {
+        (**self).first(id)
+    }
+
+    fn handle(&mut self, response: &[u8], next_id: u8, users: &Users) -> ServerTurn {
+        (**self).handle(response, next_id, users)
+    }
+
+    fn report(&self) -> Option<Report> {
+        (**self).report()
+    }
+}

@@ -1,0 +1,132 @@
+//! The objects of a server: beginning them, finding the one of a method, and calling it.
+
+ghost use Rattle.std.specs.Prelude.{◌≡◌, ℕ, List, true, map, IsTrue, All};
+ghost use Rattle.eap_base.specs.Setup.{is_among, fits_kind, are_suites};
+ghost use Rattle.eap_method.specs.Begun.{server_begun_in};
+ghost use Rattle.eap_method.specs.Peer.{have_each};
+ghost use Rattle.eap_method.specs.Server.{server_kinds, server_views, server_offer, server_turn, IsResponse, server_report_of, side_of, views_begun};
+
+use crate::server::ServerMethod;
+use crate::turn::ServerTurn;
+use crate::values::{Report, ServerSide};
+use eap_base::{Nonce, Packet, ServerSetup, Users};
+use eap_packet::Cause;
+
+/// Begins each object whose method the settings propose, wherever it stood before.
+pub fn begin_servers<M: ServerMethod>(methods: &mut [M], setup: &ServerSetup)
+    requires { IsTrue (are_suites setup.now.suites) }
+    ensures views { have_each (server_kinds (map M.server_shown methods.old)) setup.now.methods ≡ true → server_views setup.now.methods (map M.server_shown methods.new) ≡ views_begun setup.now }
+    ensures kinds { server_kinds (map M.server_shown methods.new) ≡ server_kinds (map M.server_shown methods.old) }
+{
+    begin_each(methods, setup);
+}
+
+/// The first Request, with this Identifier, of the object of this Type, which is proposed: the object
+/// begins and makes it. None, and nothing changes, where there is no such object.
+pub fn offer_method<M: ServerMethod>(
+    methods: &mut [M],
+    kind: u8,
+    own: &ServerSide,
+    nonce: &Nonce,
+    id: u8,
+) -> Option<Packet>
+    requires { IsTrue (are_suites own.now.suites) }
+    ensures offer { (order : List ℕ) → is_among order kind ≡ true → server_offer own.now nonce.now kind id (server_views order (map M.server_shown methods.old)) ≡ record { packet = result; after = server_views order (map M.server_shown methods.new) } }
+    ensures kinds { server_kinds (map M.server_shown methods.new) ≡ server_kinds (map M.server_shown methods.old) }
+{
+    match methods.split_first_mut() {
+        None => None,
+        Some((first, rest)) => {
+            if first.kind() == kind {
+                first.begin(own, nonce);
+                Some(first.first(id))
+            } else {
+                offer_method(rest, kind, own, nonce, id)
+            }
+        }
+    }
+}
+
+/// The turn of the object of this Type, which is proposed, for a Response of this Type with nothing
+/// past its Length; a Request that follows has the Identifier `next_id`. Where there is no such object,
+/// the Response is discarded as one that no method awaits.
+pub fn hand_to_server<M: ServerMethod>(
+    methods: &mut [M],
+    kind: u8,
+    response: &[u8],
+    next_id: u8,
+    users: &Users,
+) -> ServerTurn
+    requires response { IsResponse kind response.now }
+    requires keys { All (λ user. IsTrue (fits_kind user.kind user.psk)) users.now }
+    ensures turn { (order : List ℕ) → is_among order kind ≡ true → server_turn users.now next_id kind (server_views order (map M.server_shown methods.old)) response.now ≡ record { turn = result; after = server_views order (map M.server_shown methods.new) } }
+    ensures kinds { server_kinds (map M.server_shown methods.new) ≡ server_kinds (map M.server_shown methods.old) }
+{
+    match methods.split_first_mut() {
+        None => ServerTurn::Discard(Cause::WrongOp),
+        Some((first, rest)) => {
+            if first.kind() == kind {
+                first.handle(response, next_id, users)
+            } else {
+                hand_to_server(rest, kind, response, next_id, users)
+            }
+        }
+    }
+}
+
+/// What the object of this Type, which is proposed, holds after a login that succeeded; None after any
+/// other, and where there is no such object.
+pub fn server_report<M: ServerMethod>(methods: &[M], kind: u8) -> Option<Report>
+    ensures { (order : List ℕ) → is_among order kind ≡ true → result ≡ server_report_of kind (server_views order (map M.server_shown methods.now)) }
+{
+    match methods.split_first() {
+        None => None,
+        Some((first, rest)) => {
+            if first.kind() == kind {
+                first.report()
+            } else {
+                server_report(rest, kind)
+            }
+        }
+    }
+}
+
+fn begin_each<M: ServerMethod>(methods: &mut [M], setup: &ServerSetup)
+    requires { IsTrue (are_suites setup.now.suites) }
+    ensures { map M.server_shown methods.new ≡ map (server_begun_in setup.now) (map M.server_shown methods.old) }
+{
+    if let Some((first, rest)) = methods.split_first_mut() {
+        begin_one(first, setup);
+        begin_each(rest, setup);
+    }
+}
+
+fn begin_one<M: ServerMethod>(method: &mut M, setup: &ServerSetup)
+    requires { IsTrue (are_suites setup.now.suites) }
+    ensures { M.server_shown method.new ≡ server_begun_in setup.now (M.server_shown method.old) }
+{
+    if proposes(setup, method.kind()) {
+        method.begin(&side_of(setup), &setup.nonce);
+    }
+}
+
+/// Whether the server proposes the method of this Type.
+fn proposes(setup: &ServerSetup, kind: u8) -> bool
+    ensures { result ≡ is_among setup.now.methods kind }
+{
+    setup
+        .methods
+        .as_slice()
+        .iter()
+        .any(|method| *method == kind)
+}
+
+#[tactic(auto, unfolding(crate::specs::Server::side_of))]
+fn side_of(setup: &ServerSetup) -> ServerSide
+    ensures { result ≡ side_of setup.now }
+{
+    ServerSide {
+        id_s: setup.name.copy(),
+        suites: setup.suites.copy(),
+    }
+}

@@ -1,0 +1,88 @@
+//! What an end brings into a method, and what it has when the method is over.
+
+ghost use Rattle.std.specs.Prelude.{◌≡◌};
+
+use eap_base::{Accepts, Identity, Secret, Suites};
+
+/// methodState of the peer (RFC 4137 section 4.2); `NotSet` is NONE.
+#[derive(Clone, Copy, PartialEq, Eq, Debug)]
+pub enum MethodState {
+    NotSet,
+    Init,
+    Cont,
+    MayCont,
+    Done,
+}
+
+/// decision of the peer (RFC 4137 section 4.2).
+#[derive(Clone, Copy, PartialEq, Eq, Debug)]
+pub enum Decision {
+    Fail,
+    CondSucc,
+    UncondSucc,
+}
+
+/// What a peer brings into a method.
+#[derive(Drop)]
+pub struct Credential {
+    /// The peer's name, ID_P or ID_Peer.
+    pub id_p: Identity,
+    /// The server names that it accepts.
+    pub accepts: Accepts,
+    /// The EAP-GPSK suites that it allows, 1 or 2.
+    pub suites: Suites,
+    /// Its shared key: 16 octets for EAP-PSK, 32 to 64 for EAP-GPSK.
+    pub psk: Secret,
+}
+
+impl Credential {
+    /// An equal value.
+    pub fn copy(&self) -> Credential
+        ensures { result ≡ self.now }
+    {
+        Credential {
+            id_p: self.id_p.copy(),
+            accepts: self.accepts.copy(),
+            suites: self.suites.copy(),
+            psk: self.psk.copy(),
+        }
+    }
+}
+
+/// What a server brings into a method, its users apart.
+#[derive(Drop)]
+pub struct ServerSide {
+    /// The server's name, ID_S or ID_Server.
+    pub id_s: Identity,
+    /// The EAP-GPSK suites that it offers, 1 or 2, in its order.
+    pub suites: Suites,
+}
+
+impl ServerSide {
+    /// An equal value.
+    pub fn copy(&self) -> ServerSide
+        ensures { result ≡ self.now }
+    {
+        ServerSide {
+            id_s: self.id_s.copy(),
+            suites: self.suites.copy(),
+        }
+    }
+}
+
+/// What an end holds after a method that succeeded.
+#[derive(Drop)]
+pub struct Report {
+    /// The method: 47 (EAP-PSK) or 51 (EAP-GPSK).
+    pub method: u8,
+    /// The peer's name.
+    pub id_p: Identity,
+    /// The server's name.
+    pub id_s: Identity,
+    /// The suite of EAP-GPSK, 1 or 2; 0 for EAP-PSK.
+    pub suite: u8,
+    /// The Master Session Key (RFC 3748 section 7.10).
+    pub msk: [u8; 64],
+    /// The Extended Master Session Key (RFC 3748 section 7.10).
+    pub emsk: [u8; 64],
+}
