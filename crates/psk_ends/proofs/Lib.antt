@@ -1,0 +1,4 @@
+pub mod PeerChecks
+pub mod Requests
+pub mod ServerChecks
+pub mod UserKeys

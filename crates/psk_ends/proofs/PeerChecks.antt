@@ -1,0 +1,24 @@
+-- The peer's answer to PSK-3, by what its check gave.
+use Rattle.std.proofs.Common.{◌≡◌, ℕ, List, Option, None, Some, Ok, Err}
+use Rattle.eap_packet.specs.declared.cause.Cause.{Cause}
+use Rattle.eap_method.specs.declared.tags.TagRecord.{TagRecord}
+use Rattle.eap_method.specs.Turns.{discarded}
+use Rattle.eap_method.specs.PskTags.{result_of}
+use Rattle.eap_method.specs.PskPeer.{Login, wait, confirms}
+use Rattle.psk_ends.specs.Checks.{checked}
+
+-- a PSK-3 with a fault is discarded
+pub confirms_refused : (login : Login) (id opened : ℕ) (accepted : List TagRecord) (fault : Option Cause) (cause : Cause)
+    → Err cause ≡ checked fault opened
+    → confirms login id (result_of opened) accepted fault ≡ discarded (wait login) cause
+unfolding confirms
+confirms_refused login id opened accepted None cause h = cc
+confirms_refused login id opened accepted (Some other) cause h = cc
+
+-- one without is answered by its R
+pub confirms_faultless : (login : Login) (id opened : ℕ) (accepted : List TagRecord) (fault : Option Cause) (octet : ℕ)
+    → Ok octet ≡ checked fault opened
+    → confirms login id (result_of opened) accepted fault ≡ confirms login id (result_of octet) accepted None
+unfolding confirms
+confirms_faultless login id opened accepted None octet h = cc
+confirms_faultless login id opened accepted (Some other) octet h = cc

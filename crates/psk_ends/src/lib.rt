@@ -1,0 +1,18 @@
+//! The two ends of EAP-PSK (RFC 4764): a peer and a server, each behind the trait of its side. No call
+//! takes memory.
+#![tactic(auto)]
+
+mod channel;
+mod keys;
+mod octets;
+mod peer;
+mod records;
+mod server;
+#[cfg(test)]
+mod tests;
+
+pub use peer::PskPeer;
+pub use server::PskServer;
+
+/// The Type of EAP-PSK (RFC 4764 section 3).
+const PSK: u8 = 47;

@@ -1,0 +1,57 @@
+//! Octets in the types that fields and calls want.
+
+ghost use Rattle.std.specs.Prelude.{◌≡◌, ◌≤◌, length};
+ghost use Rattle.std.specs.Str.{bytes_eq};
+ghost use Rattle.eap_method.specs.PskTags.{header_of, rand_of};
+
+use eap_base::{Nonce, Octets};
+
+/// The octets of the header that PCHANNEL's tag covers.
+const HEADER: usize = 22;
+
+/// The octets as an array.
+pub fn array_of<const N: usize>(octets: &[u8]) -> [u8; N]
+    requires { length octets.now ≡ N }
+    ensures { result ≡ octets.now }
+{
+    let mut array = [0; N];
+    array.copy_from_slice(octets);
+    array
+}
+
+/// The octets as a list.
+pub fn list_of<const N: usize>(octets: &[u8]) -> Octets<N>
+    requires { length octets.now ≤ N }
+    ensures { result ≡ octets.now }
+{
+    let mut list = Octets::new();
+    list.append(octets);
+    list
+}
+
+/// Whether two MACs are the same. It reads all octets of both, so that the time it takes doesn't tell
+/// where they differ.
+pub fn agree(left: &[u8; 16], right: &[u8; 16]) -> bool
+    ensures { result ≡ bytes_eq left.now right.now }
+{
+    let mut difference = 0;
+    'octets: for i in 0..16 {
+        difference |= left[i] ^ right[i];
+    }
+    difference == 0
+}
+
+/// RAND_S or RAND_P: the first 16 octets of an end's nonce.
+pub fn rand_of(nonce: &Nonce) -> [u8; 16]
+    ensures { result ≡ rand_of nonce.now }
+{
+    array_of(&nonce[..16])
+}
+
+/// The header of a packet for PCHANNEL: its first 22 octets (RFC 4764 section 5.3).
+pub fn header_of<'a>(packet: &'a [u8]) -> &'a [u8]
+    ensures header { result.now ≡ header_of packet.now }
+    ensures size { length result.now ≤ 22 }
+{
+    &packet[..packet.len().min(HEADER)]
+}

@@ -1,0 +1,77 @@
+//! The peer of EAP-PSK (RFC 4764 section 4).
+
+ghost use Rattle.std.specs.Prelude.{◌≡◌};
+ghost use Rattle.eap_method.specs.PskPeer.{unset};
+
+mod login;
+mod psk4;
+mod stage;
+mod turns;
+
+use crate::PSK;
+use crate::peer::login::Begun;
+use crate::peer::stage::{Stage, Taken};
+use crate::peer::turns::take;
+use eap_base::Nonce;
+use eap_method::{Credential, PeerMethod, PeerTurn, Report};
+use std::marker::Model;
+use std::mem;
+
+/// A peer of EAP-PSK. Contracts see where it stands.
+#[derive(Drop)]
+pub struct PskPeer {
+    stage: Stage,
+}
+
+impl Model for PskPeer {
+    ghost use Rattle.eap_method.specs.PskPeer.{View};
+
+    ghost Value = { View };
+
+    ghost use Rattle.psk_ends.specs.PeerStage.{view_of};
+
+    ghost view = { λ p. view_of p.stage };
+}
+
+impl PskPeer {
+    /// A peer that hasn't begun.
+    pub fn new() -> PskPeer
+        ensures { result ≡ unset }
+    {
+        PskPeer {
+            stage: Stage::Unset,
+        }
+    }
+}
+
+impl PeerMethod for PskPeer {
+    ghost use Rattle.eap_method.specs.Peer.{psk};
+
+    ghost peer_shown = { λ o. psk o };
+
+    fn kind(&self) -> u8 {
+        PSK
+    }
+
+    fn begin(&mut self, cred: &Credential, nonce: &Nonce) {
+        self.stage = Stage::Fresh {
+            own: Begun {
+                cred: cred.copy(),
+                nonce: *nonce,
+            },
+        };
+    }
+
+    #[tactic(auto, unfolding(eap_method::specs::Peer::peer_step))]
+    fn handle(&mut self, request: &[u8]) -> PeerTurn {
+        let stage = mem::replace(&mut self.stage, Stage::Unset);
+        let Taken { turn, after } = take(stage, request);
+        self.stage = after;
+        turn
+    }
+
+    #[tactic(auto, unfolding(eap_method::specs::Peer::peer_report))]
+    fn report(&self) -> Option<Report> {
+        self.stage.report()
+    }
+}

@@ -1,0 +1,160 @@
+//! A peer's turn for each Request (RFC 4764 section 4).
+
+ghost use Rattle.std.specs.Prelude.{◌≡◌, ◌≤◌, length};
+ghost use Rattle.psk_messages.specs.Message.{message_of, AreFields};
+ghost use Rattle.psk_messages.specs.Reading.{read_of};
+ghost use Rattle.eap_method.specs.Names.{accepts_name};
+ghost use Rattle.eap_method.specs.Turns.{id_of, body_of};
+ghost use Rattle.eap_method.specs.PskTags.{psk_response, header_of};
+ghost use Rattle.eap_method.specs.PskPeer.{psk2_of, answers, hears_psk1, fresh_hears, fresh_reads, wait_hears, wait_reads, over_reads, step};
+ghost use Rattle.psk_ends.specs.PeerStage.{login_of, view_of, outcome_of};
+
+use crate::octets::{header_of, list_of};
+use crate::peer::login::{Begun, Login};
+use crate::peer::psk4::{Psk3, hears_psk3};
+use crate::peer::stage::{Reply, Stage, Taken};
+use crate::records::mac_record;
+use eap_base::{Accepts, Packet};
+use eap_method::{Decision, MethodState, TagList};
+use eap_packet::{Cause, Code};
+use psk_messages::{PskView, read_psk, write_psk};
+
+/// Whether the peer accepts a server of this name.
+fn accepts_name(accepts: &Accepts, name: &[u8]) -> bool
+    ensures { result ≡ accepts_name accepts.now name.now }
+{
+    match accepts {
+        Accepts::Any => true,
+        Accepts::One(accepted) => accepted.as_slice() == name,
+    }
+}
+
+/// PSK-2 (RFC 4764 section 5.2).
+fn psk2(login: &Login, id: u8) -> Packet
+    ensures { result ≡ psk_response id (psk2_of (login_of login.now)) }
+{
+    let message = PskView::P2 {
+        rand_s: login.rand_s,
+        rand_p: login.rand_p(),
+        mac: login.mac_p(),
+        id_p: login.own.cred.id_p.as_slice(),
+    };
+    write_psk(&message, Code::Response, id)
+}
+
+/// PSK-1 is answered by PSK-2, and the login begins.
+#[tactic(auto, unfolding(eap_method::specs::PskPeer::answers))]
+fn answer(login: Login, id: u8) -> Taken
+    ensures { outcome_of result ≡ answers (login_of login) id }
+{
+    let record = mac_record(&login.own.cred.psk, login.mac_p_covers(), &login.mac_p());
+    let reply = Reply {
+        packet: psk2(&login, id),
+        state: MethodState::Cont,
+        decision: Decision::Fail,
+        made: TagList::one(record),
+    };
+    Taken::replied(Stage::Wait { login }, reply, TagList::new())
+}
+
+/// PSK-1. `UnknownServer`: the peer doesn't accept the server's name.
+fn hears_psk1(own: Begun, id: u8, rand_s: [u8; 16], id_s: &[u8]) -> Taken
+    requires { length id_s.now ≤ 253 }
+    ensures { outcome_of result ≡ hears_psk1 own.cred own.nonce id rand_s id_s.now }
+{
+    if accepts_name(&own.cred.accepts, id_s) {
+        let login = Login {
+            own,
+            id_s: list_of(id_s),
+            rand_s,
+        };
+        answer(login, id)
+    } else {
+        Taken::discarded(Stage::Fresh { own }, Cause::UnknownServer)
+    }
+}
+
+/// A message at a peer that has begun.
+fn fresh_hears(own: Begun, id: u8, message: &PskView) -> Taken
+    requires { AreFields (message_of message.now) }
+    ensures { outcome_of result ≡ fresh_hears own.cred own.nonce id (message_of message.now) }
+{
+    match message {
+        PskView::P1 { rand_s, id_s } => hears_psk1(own, id, *rand_s, id_s),
+        _ => Taken::discarded(Stage::Fresh { own }, Cause::WrongOp),
+    }
+}
+
+/// A Request at a peer that has begun.
+fn fresh_reads(own: Begun, request: &[u8]) -> Taken
+    requires { 5 ≤ length request.now }
+    ensures { outcome_of result ≡ fresh_reads own.cred own.nonce (id_of request.now) (read_of (body_of request.now)) }
+{
+    match read_psk(&request[5..]) {
+        Err(cause) => Taken::discarded(Stage::Fresh { own }, cause),
+        Ok(message) => fresh_hears(own, request[1], &message),
+    }
+}
+
+/// A message, with this Identifier and this header, at a peer that has sent PSK-2.
+fn wait_hears(login: Login, id: u8, header: &[u8], message: &PskView) -> Taken
+    requires { length header.now ≤ 22 }
+    ensures { outcome_of result ≡ wait_hears (login_of login) id header.now (message_of message.now) }
+{
+    match message {
+        PskView::P3 {
+            rand_s,
+            mac,
+            nonce,
+            tag,
+            sealed,
+        } => {
+            let psk3 = Psk3 {
+                rand_s: *rand_s,
+                mac: *mac,
+                nonce: *nonce,
+                tag: *tag,
+                sealed: *sealed,
+            };
+            hears_psk3(login, id, header, &psk3)
+        }
+        _ => Taken::discarded(Stage::Wait { login }, Cause::WrongOp),
+    }
+}
+
+/// A Request at a peer that has sent PSK-2.
+fn wait_reads(login: Login, request: &[u8]) -> Taken
+    requires { 5 ≤ length request.now }
+    ensures { outcome_of result ≡ wait_reads (login_of login) (id_of request.now) (header_of request.now) (read_of (body_of request.now)) }
+{
+    match read_psk(&request[5..]) {
+        Err(cause) => Taken::discarded(Stage::Wait { login }, cause),
+        Ok(message) => wait_hears(login, request[1], header_of(request), &message),
+    }
+}
+
+/// A Request at a peer whose login is over.
+fn over_reads(login: Login, good: bool, request: &[u8]) -> Taken
+    requires { 5 ≤ length request.now }
+    ensures { outcome_of result ≡ over_reads (login_of login) good (read_of (body_of request.now)) }
+{
+    let cause = match read_psk(&request[5..]) {
+        Err(cause) => cause,
+        Ok(_) => Cause::WrongOp,
+    };
+    Taken::discarded(Stage::Over { login, good }, cause)
+}
+
+/// The turn for a Request of Type 47 with nothing past its Length.
+#[tactic(auto, unfolding(eap_method::specs::PskPeer::step))]
+pub fn take(stage: Stage, request: &[u8]) -> Taken
+    requires { 5 ≤ length request.now }
+    ensures { outcome_of result ≡ step (view_of stage) request.now }
+{
+    match stage {
+        Stage::Unset => Taken::discarded(Stage::Unset, Cause::WrongOp),
+        Stage::Fresh { own } => fresh_reads(own, request),
+        Stage::Wait { login } => wait_reads(login, request),
+        Stage::Over { login, good } => over_reads(login, good, request),
+    }
+}

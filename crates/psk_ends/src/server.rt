@@ -1,0 +1,86 @@
+//! The server of EAP-PSK (RFC 4764 section 4).
+
+ghost use Rattle.std.specs.Prelude.{◌≡◌};
+ghost use Rattle.eap_method.specs.PskServer.{unset};
+
+mod login;
+mod psk3;
+mod psk4;
+mod stage;
+mod turns;
+
+use crate::PSK;
+use crate::server::login::Begun;
+use crate::server::stage::{First, Stage, Taken};
+use crate::server::turns::{ask, take};
+use eap_base::{Nonce, Packet, Users};
+use eap_method::{Report, ServerMethod, ServerSide, ServerTurn};
+use std::marker::Model;
+use std::mem;
+
+/// A server of EAP-PSK. Contracts see where it stands.
+#[derive(Drop)]
+pub struct PskServer {
+    stage: Stage,
+}
+
+impl Model for PskServer {
+    ghost use Rattle.eap_method.specs.PskServer.{View};
+
+    ghost Value = { View };
+
+    ghost use Rattle.psk_ends.specs.ServerStage.{view_of};
+
+    ghost view = { λ s. view_of s.stage };
+}
+
+impl PskServer {
+    /// A server that hasn't begun.
+    pub fn new() -> PskServer
+        ensures { result ≡ unset }
+    {
+        PskServer {
+            stage: Stage::Unset,
+        }
+    }
+}
+
+impl ServerMethod for PskServer {
+    ghost use Rattle.eap_method.specs.Server.{psk};
+
+    ghost server_shown = { λ o. psk o };
+
+    fn kind(&self) -> u8 {
+        PSK
+    }
+
+    fn begin(&mut self, own: &ServerSide, nonce: &Nonce) {
+        self.stage = Stage::Begun {
+            own: Begun {
+                side: own.copy(),
+                nonce: *nonce,
+            },
+        };
+    }
+
+    #[tactic(auto, unfolding(eap_method::specs::Server::server_first_step))]
+    fn first(&mut self, id: u8) -> Packet {
+        let stage = mem::replace(&mut self.stage, Stage::Unset);
+        let First { packet, after } = ask(stage, id);
+        self.stage = after;
+        packet
+    }
+
+    #[tactic(auto, unfolding(eap_method::specs::Server::server_step))]
+    fn handle(&mut self, response: &[u8], next_id: u8, users: &Users) -> ServerTurn {
+        let stage = mem::replace(&mut self.stage, Stage::Unset);
+        let Taken { turn, after } = take(stage, response, next_id, users);
+        self.stage = after;
+        turn
+    }
+
+    #[tactic(auto, unfolding(eap_method::specs::Server::server_report))]
+    fn report(&self) -> Option<Report> {
+        self.stage.report()
+    }
+}
