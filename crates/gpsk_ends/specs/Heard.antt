@@ -1,0 +1,11 @@
+-- Messages received.
+use Rattle.std.specs.Prelude.{◌≡◌, ℕ, ◌≤◌, List, length}
+use Rattle.gpsk_messages.specs.Message.{Message, spelled, mac_of, list_of, AreFields}
+
+-- the Type-Data of a packet spells the message, whose fields have their sizes
+pub record IsHeard (message : Message) (octets : List ℕ) : Type 0 where
+  pub spelling : octets ≡ spelled message
+  pub fields : AreFields message
+  pub mac : length (mac_of message) ≤ 32
+  pub suites : length (list_of message) ≤ 120
+  pub size : length octets ≤ 1495

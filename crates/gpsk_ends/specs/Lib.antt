@@ -1,0 +1,4 @@
+pub mod Heard
+pub mod Sealed
+pub mod PeerStage
+pub mod ServerStage

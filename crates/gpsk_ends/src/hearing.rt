@@ -1,0 +1,87 @@
+//! Messages received: their reading, their MACs, and the records of these.
+
+ghost use Rattle.std.specs.Prelude.{◌≡◌, ◌≤◌, length, option_map, IfOk};
+ghost use Rattle.eap_base.specs.Suite.{ks_of};
+ghost use Rattle.gpsk_messages.specs.Message.{message_of, heard, spelled, mac_of, covered_of};
+ghost use Rattle.gpsk_messages.specs.Reading.{read_of};
+ghost use Rattle.eap_method.specs.GpskTags.{is_tagged, sk_record};
+ghost use Rattle.gpsk_ends.specs.Heard.{IsHeard};
+
+use crate::copies::list_of;
+use eap_base::{Secret, Suite};
+use eap_method::{Label, TagRecord};
+use eap_packet::Cause;
+use gpsk_messages::{GpskView, read_gpsk};
+use login_keys::gpsk_tag;
+
+/// Type 51, EAP-GPSK.
+pub(crate) const GPSK: u8 = 51;
+
+/// KS of a suite, 16 or 32, in one octet.
+fn ks_octet(suite: Suite) -> u8
+    ensures { result ≡ ks_of suite }
+{
+    match suite {
+        Suite::Cmac => 16,
+        Suite::Hmac => 32,
+    }
+}
+
+/// The message that the Type-Data spells, where `suite` is the login's once that is chosen.
+pub(crate) fn hear<'a>(body: &'a [u8], suite: Option<Suite>) -> Result<GpskView<'a>, Cause>
+    requires { length body.now ≤ 1495 }
+    ensures message { heard result ≡ read_of (option_map ks_of suite) body.now }
+    ensures sound { IfOk result (λ view. IsHeard (message_of view) body.now) }
+{
+    match suite {
+        None => read_gpsk(body, None),
+        Some(suite) => read_gpsk(body, Some(ks_octet(suite))),
+    }
+}
+
+/// The MAC of a message, empty where it has none.
+fn mac_part<'a>(view: &GpskView<'a>) -> &'a [u8]
+    ensures { result.now ≡ mac_of (message_of view.now) }
+{
+    match view {
+        GpskView::M1 { .. } | GpskView::Fail { .. } => &[],
+        GpskView::M2 { mac, .. } => mac,
+        GpskView::M3 { mac, .. } => mac,
+        GpskView::M4 { mac, .. } => mac,
+        GpskView::ProtectedFail { mac, .. } => mac,
+    }
+}
+
+/// The octets that a message's MAC covers: those after the OP-Code up to the MAC.
+#[tactic(auto, using(crate::proofs::Covered::covered_start, crate::proofs::Covered::covered_middle))]
+fn covered_part<'a>(view: &GpskView, body: &'a [u8]) -> &'a [u8]
+    requires { body.now ≡ spelled (message_of view.now) }
+    ensures covered { result.now ≡ covered_of (message_of view.now) }
+    ensures size { length result.now ≤ length body.now }
+{
+    &body[1..body.len() - mac_part(view).len()]
+}
+
+/// Whether the message, which the Type-Data spells, has the MAC of its covered octets under `sk`. All
+/// octets of the MAC are compared.
+pub(crate) fn has_tag(view: &GpskView, body: &[u8], suite: Suite, sk: &[u8]) -> bool
+    requires spelling { body.now ≡ spelled (message_of view.now) }
+    requires key { length sk.now ≡ ks_of suite }
+    ensures { result ≡ is_tagged suite sk.now (message_of view.now) }
+{
+    gpsk_tag(suite, sk, covered_part(view, body)).as_slice() == mac_part(view)
+}
+
+/// The record of the message's MAC, where the Type-Data spells the message.
+pub(crate) fn record_of(view: &GpskView, body: &[u8], psk: &Secret) -> TagRecord
+    requires { IsHeard (message_of view.now) body.now }
+    ensures { result ≡ sk_record psk.now (message_of view.now) }
+{
+    TagRecord {
+        method: GPSK,
+        label: Label::Sk,
+        psk: psk.copy(),
+        octets: list_of(covered_part(view, body)),
+        tag: list_of(mac_part(view)),
+    }
+}
