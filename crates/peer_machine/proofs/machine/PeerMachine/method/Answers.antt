@@ -1,0 +1,18 @@
+use Rattle.std.proofs.Common.{map, ◌≡◌, true, subst, sym}
+use Rattle.eap_base.specs.Setup.{is_among}
+use Rattle.peer_machine.specs.PeerTable.{PeerValue, now_of}
+use Rattle.peer_machine.proofs.Settling.{method_settles}
+use Rattle.peer_machine.proofs.machine.PeerMachine.method.Goals as goal
+
+pub returns-clause-step : goal.returns-clause-step
+returns-clause-step g c =
+    let shown = g.M.PeerMethod.peer_shown in
+    let inside : PeerValue _ = record { vars = c.self.inside.vars; methods = c.self.inside.methods.items } in
+    let allowed : is_among inside.vars.setup.methods c.args.kind ≡ true =
+    subst (λ (v : PeerValue _). is_among v.vars.setup.methods c.args.kind ≡ true) (sym c.self.view_is) c.requires.allowed in
+    rw (← c.self.view_is)
+    (method_settles c.args.selects (now_of shown inside) c.settle.new.vars c.args.kind c.args.id c.args.request.now c.hand-turn.result
+    (map shown c.hand-turn.new.methods.items) c.settle.result
+    (c.hand-turn.ensures.turn inside.vars.setup.methods allowed)
+    (c.settle.ensures.step (now_of shown inside).views _)
+    c.settle.ensures.setup)

@@ -1,0 +1,15 @@
+-- Laws of the peer (RFC 4137 section 4), over its table alone.
+use Rattle.std.specs.Prelude.{◌≡◌, ℕ, List, None, IsSome}
+use Rattle.eap_method.specs.Steps.{no_tags}
+use Rattle.peer_machine.specs.PeerTable.{PeerNow, PeerAnswer, peer_deliver}
+
+-- no variable and no view of a method changed, nothing was sent, and no tag was accepted or made
+pub record KeepsThePeer (before : PeerNow) (out : PeerAnswer) : Type 0 where
+  pub all : out.after ≡ before
+  pub sent : out.step.sent ≡ None
+  pub tags : out.step.tags ≡ no_tags
+
+-- a discard changes nothing
+abbrev pub DiscardsKeep : Type 0
+DiscardsKeep =
+    (now : PeerNow) (octets : List ℕ) → IsSome (peer_deliver now octets).step.cause → KeepsThePeer now (peer_deliver now octets)

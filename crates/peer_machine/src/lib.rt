@@ -1,0 +1,15 @@
+//! The peer of EAP (RFC 4137 section 4) over the objects of its methods.
+#![tactic(auto)]
+
+mod laws;
+mod machine;
+#[cfg(test)]
+mod tests;
+mod variables;
+
+pub use laws::discards_keep;
+pub use machine::PeerMachine;
+pub use variables::PeerVariables;
+
+/// What one call of the peer does.
+pub type PeerStep = eap_method::Step;
