@@ -1,0 +1,4 @@
+pub mod Discards
+pub mod Proposed
+pub mod Responses
+pub mod Settling

@@ -1,0 +1,58 @@
+-- An offer and a turn of a method, settled in the variables, are the server's rows.
+use Rattle.std.proofs.Common.{◌≡◌, ℕ, List, Option, Some, None, refl, ap, ◌∙◌, sym}
+use Rattle.eap_packet.specs.declared.state.State.{State}
+use Rattle.login_policy.specs.Policy.{next_kind}
+use Rattle.eap_method.specs.declared.step.Step.{Step}
+use Rattle.eap_method.specs.declared.turn.ServerTurn.{ServerTurn}
+use Rattle.eap_method.specs.declared.turn.ServerTurn.TheVariants.{Discard, Request, Done}
+use Rattle.eap_method.specs.Server.{ServerShown, ServerViews, server_views, server_turn, server_offer, side_of, server_report_of}
+use Rattle.eap_method.specs.Steps.{no_tags}
+use Rattle.eap_method.proofs.Discards.{server_turn_keeps}
+use Rattle.server_machine.specs.ServerTable.{ServerNow, answer, method_answers, settled, server_method, select_action, proposes, offers, ends_badly, next_id}
+use Rattle.server_machine.specs.declared.variables.ServerVariables.{ServerVariables}
+
+-- the Identity round has no report
+pub identity_reports : (views : ServerViews) → None ≡ server_report_of 1 views
+unfolding server_report_of
+identity_reports views = refl
+
+-- where there is no next method
+pub none_settles : (entered : List State) (before vars : ServerVariables) (shown : List ServerShown) (id : ℕ) (desired : Option (List ℕ)) (step : Step)
+    → None ≡ next_kind before.setup.methods before.proposed desired
+    → ((views : ServerViews) → ends_badly entered before views id no_tags ≡ answer step (record { vars = vars; views = views }))
+    → vars.setup ≡ before.setup
+    → select_action entered before (server_views before.setup.methods shown) id desired
+    ≡ answer step (record { vars = vars; views = server_views vars.setup.methods shown })
+unfolding select_action
+none_settles entered before vars shown id desired step none settles same =
+    rw (← none) (settles (server_views before.setup.methods shown) ∙ rw same refl)
+
+-- the offer of a method
+pub offer_settles : (entered : List State) (before vars : ServerVariables) (shown after : List ServerShown) (id kind : ℕ) (first : Option (List ℕ)) (step : Step)
+    → server_offer (side_of before.setup) before.setup.nonce kind (next_id before) (server_views before.setup.methods shown)
+    ≡ record { packet = first; after = server_views before.setup.methods after }
+    → ((views : ServerViews) → offers entered before views id kind first ≡ answer step (record { vars = vars; views = views }))
+    → vars.setup ≡ before.setup
+    → proposes entered before (server_views before.setup.methods shown) id (Some kind)
+    ≡ answer step (record { vars = vars; views = server_views vars.setup.methods after })
+offer_settles entered before vars shown after id kind first step offered settles same =
+    rw offered (settles (server_views before.setup.methods after) ∙ rw same refl)
+
+settled_after : (now : ServerNow) (kind : ℕ) (after : ServerViews) (octets : List ℕ) (turn : ServerTurn)
+    → server_turn now.vars.setup.users (next_id now.vars) kind now.views octets ≡ record { turn = turn; after = after }
+    → settled now.views after turn ≡ after
+settled_after now kind after octets (Discard c) turned = sym (server_turn_keeps now.vars.setup.users (next_id now.vars) kind now.views after octets c turned)
+settled_after now kind after octets (Request packet tags) turned = refl
+settled_after now kind after octets (Done good tags) turned = refl
+
+-- the turn of a method
+pub turn_settles : (now : ServerNow) (vars : ServerVariables) (id kind : ℕ) (octets : List ℕ) (turn : ServerTurn) (shown : List ServerShown) (step : Step)
+    → server_turn now.vars.setup.users (next_id now.vars) kind now.views octets ≡ record { turn = turn; after = server_views now.vars.setup.methods shown }
+    → (let after = server_views now.vars.setup.methods shown in
+    method_answers now id after turn ≡ answer step (record { vars = vars; views = settled now.views after turn }))
+    → vars.setup ≡ now.vars.setup
+    → server_method now id kind octets ≡ answer step (record { vars = vars; views = server_views vars.setup.methods shown })
+unfolding server_method
+turn_settles now vars id kind octets turn shown step turned settles same =
+    let kept = settled_after now kind (server_views now.vars.setup.methods shown) octets turn turned in
+    rw turned (settles ∙ (ap (λ (views : ServerViews). answer step (record { vars = vars; views = views })) kept ∙ (rw same refl)))

@@ -1,0 +1,2 @@
+pub mod ServerTable
+pub mod Laws

@@ -1,0 +1,242 @@
+-- The stand-alone server of RFC 4137 section 5, over the views of its methods: each call as a
+-- function.
+use Rattle.std.specs.Prelude.{◌≡◌, ◌≤◌, ℕ, ◌+◌, ◌%◌, List, [], ◌∷◌, ◌++◌, Bool, true, false, ◌==◌, ◌&&◌, ◌||◌, nat_le, if◌then◌else◌, Option, Some, None, Result, Ok, Err, map}
+use Rattle.eap_base.specs.declared.setup.ServerSetup.{ServerSetup}
+use Rattle.eap_base.specs.Setup.{is_among, are_kinds, IsSoundServer}
+use Rattle.eap_packet.specs.Packet.{PacketValue, request, response, success, failure, spelled}
+use Rattle.eap_packet.specs.Fault.{packet_of}
+use Rattle.eap_packet.specs.declared.cause.Cause.{Cause}
+use Rattle.eap_packet.specs.declared.cause.Cause.TheVariants as cause
+use Rattle.eap_packet.specs.declared.state.State.{State}
+use Rattle.eap_packet.specs.declared.state.State.TheVariants as state
+use Rattle.login_policy.specs.Policy.{next_kind}
+use Rattle.eap_method.specs.declared.step.Step.{Step}
+use Rattle.eap_method.specs.declared.tags.Tags.{Tags}
+use Rattle.eap_method.specs.declared.turn.ServerTurn.{ServerTurn}
+use Rattle.eap_method.specs.declared.turn.ServerTurn.TheVariants as turn
+use Rattle.eap_method.specs.declared.values.Report.{Report}
+use Rattle.eap_method.specs.Server.{ServerShown, ServerViews, server_views, views_begun, side_of, server_offer, server_turn, server_report_of}
+use Rattle.eap_method.specs.Steps.{no_tags, sends, enters, discards, is_end}
+use Rattle.server_machine.specs.declared.variables.ServerVariables.{ServerVariables}
+use Rattle.server_machine.specs.declared.variables.Progress.{Progress}
+use Rattle.server_machine.specs.declared.variables.Progress.TheVariants as progress
+
+-- a machine as its fields show it: its variables and its objects
+pub record ServerValue (M : Type 0) : Type 0 where
+  pub vars : ServerVariables
+  pub methods : List M
+
+-- the variables, and the views of the methods that the server proposes
+pub record ServerNow : Type 0 where
+  pub vars : ServerVariables
+  pub views : ServerViews
+
+-- what a machine is, where an object shows its method and view
+abbrev pub now_of : {M : Type 0} → (M → ServerShown) → ServerValue M → ServerNow
+now_of shown value = record { vars = value.vars; views = server_views value.vars.setup.methods (map shown value.methods) }
+
+-- what a call answers, and the machine after it
+pub record ServerAnswer : Type 0 where
+  pub step : Step
+  pub after : ServerNow
+
+abbrev pub answer : Step → ServerNow → ServerAnswer
+answer step after = record { step = step; after = after }
+
+-- a server that has not started; the methods that it proposes have begun
+abbrev pub vars_made : ServerSetup → ℕ → ℕ → ServerVariables
+vars_made setup first_id max_retrans = record {
+  setup = setup;
+  first_id = first_id;
+  max_retrans = max_retrans;
+  state = state.Initialize;
+  current_id = None;
+  current = None;
+  progress = progress.Continue;
+  retrans_count = 0;
+  last_request = [];
+  proposed = [];
+}
+
+abbrev pub server_made : ServerSetup → ℕ → ℕ → ServerNow
+server_made setup first_id max_retrans = record { vars = vars_made setup first_id max_retrans; views = views_begun setup }
+
+-- Type 1, Identity
+abbrev pub identity : ℕ
+identity = 1
+
+-- Type 3, Nak
+abbrev pub nak : ℕ
+nak = 3
+
+-- the next Identifier: the first one, or one more modulo 256
+abbrev pub next_id_after : ℕ → Option ℕ → ℕ
+next_id_after first None = first
+next_id_after first (Some id) = (id + 1) % 256
+
+abbrev pub next_id : ServerVariables → ℕ
+next_id vars = next_id_after vars.first_id vars.current_id
+
+-- SEND_REQUEST: a Request with the next Identifier, which is sent again from now on
+abbrev pub with_request : ServerVariables → List ℕ → ServerVariables
+with_request vars octets = record vars { current_id = Some (next_id vars); retrans_count = 0; last_request = octets }
+
+-- INITIALIZE, then Identity is proposed and its Request sent
+unfoldable pub server_start : ServerNow → ServerAnswer
+server_start now =
+    let octets = spelled (request now.vars.first_id identity []) in
+    answer
+    (sends (state.Initialize ∷ state.SelectAction ∷ state.ProposeMethod ∷ state.MethodRequest ∷ state.SendRequest ∷ state.Idle ∷ []) octets no_tags)
+    (record {
+      vars = record now.vars {
+        state = state.Idle;
+        current_id = Some now.vars.first_id;
+        current = Some identity;
+        progress = progress.Continue;
+        retrans_count = 0;
+        last_request = octets;
+        proposed = [];
+      };
+      views = now.views;
+    })
+
+-- DISCARD changes nothing
+abbrev pub server_discard : ServerNow → Cause → ServerAnswer
+server_discard now c = answer (discards (state.Received ∷ state.Discard ∷ state.Idle ∷ []) c) now
+
+-- SUCCESS and FAILURE send a Success or a Failure with currentId
+abbrev pub ends_well : List State → ServerVariables → ServerViews → ℕ → Tags → ServerAnswer
+ends_well entered vars views id tags =
+    answer (sends (entered ++ state.Success ∷ []) (spelled (success id)) tags) (record { vars = record vars { state = state.Success }; views = views })
+
+abbrev pub ends_badly : List State → ServerVariables → ServerViews → ℕ → Tags → ServerAnswer
+ends_badly entered vars views id tags =
+    answer (sends (entered ++ state.Failure ∷ []) (spelled (failure id)) tags) (record { vars = record vars { state = state.Failure }; views = views })
+
+-- PROPOSE_METHOD, METHOD_REQUEST and SEND_REQUEST of a method; without an object of it, FAILURE
+abbrev pub offers : List State → ServerVariables → ServerViews → ℕ → ℕ → Option (List ℕ) → ServerAnswer
+offers entered vars views id kind None = ends_badly entered vars views id no_tags
+offers entered vars views id kind (Some octets) =
+    answer
+    (sends (entered ++ state.ProposeMethod ∷ state.MethodRequest ∷ state.SendRequest ∷ state.Idle ∷ []) octets no_tags)
+    (record {
+      vars = record (with_request vars octets) { current = Some kind; progress = progress.Proposed; proposed = vars.proposed ++ kind ∷ [] };
+      views = views;
+    })
+
+-- SELECT_ACTION where a method is to be proposed: the first of the order that isn't yet proposed and
+-- that the Nak, where one has come, desires; where there is none, FAILURE
+abbrev pub proposes : List State → ServerVariables → ServerViews → ℕ → Option ℕ → ServerAnswer
+proposes entered vars views id None = ends_badly entered vars views id no_tags
+proposes entered vars views id (Some kind) =
+    let offer = server_offer (side_of vars.setup) vars.setup.nonce kind (next_id vars) views in
+    offers entered vars offer.after id kind offer.packet
+
+unfoldable pub select_action : List State → ServerVariables → ServerViews → ℕ → Option (List ℕ) → ServerAnswer
+select_action entered vars views id desired = proposes entered vars views id (next_kind vars.setup.methods vars.proposed desired)
+
+-- the states before a proposal: after a Nak, or after the Identity round
+abbrev pub before_proposal : Bool → List State
+before_proposal true = state.Received ∷ state.Nak ∷ state.SelectAction ∷ []
+before_proposal false = state.Received ∷ state.IntegrityCheck ∷ state.MethodResponse ∷ state.SelectAction ∷ []
+
+-- the identity has come: the Identity round is over, and the first method is proposed
+abbrev pub hears_identity : ServerNow → ℕ → ServerAnswer
+hears_identity now id =
+    select_action (before_proposal false)
+    (record now.vars { progress = progress.End }) now.views id None
+
+-- INTEGRITY_CHECK of the current method's turn
+abbrev pub method_answers : ServerNow → ℕ → ServerViews → ServerTurn → ServerAnswer
+method_answers now id views (turn.Discard c) =
+    answer (discards (state.Received ∷ state.IntegrityCheck ∷ state.Discard ∷ state.Idle ∷ []) c) now
+method_answers now id views (turn.Request octets tags) =
+    answer
+    (sends (state.Received ∷ state.IntegrityCheck ∷ state.MethodResponse ∷ state.MethodRequest ∷ state.SendRequest ∷ state.Idle ∷ []) octets tags)
+    (record { vars = record (with_request now.vars octets) { progress = progress.Continue }; views = views })
+method_answers now id views (turn.Done good tags) =
+    let entered = state.Received ∷ state.IntegrityCheck ∷ state.MethodResponse ∷ state.SelectAction ∷ [] in
+    let vars = record now.vars { progress = progress.End } in
+    if good then ends_well entered vars views id tags else ends_badly entered vars views id tags
+
+-- the views after a turn: a discard keeps those before it
+abbrev pub settled : ServerViews → ServerViews → ServerTurn → ServerViews
+settled before after (turn.Discard c) = before
+settled before after (turn.Request octets tags) = after
+settled before after (turn.Done good tags) = after
+
+-- INTEGRITY_CHECK: the method of this Type checks the whole packet
+unfoldable pub server_method : ServerNow → ℕ → ℕ → List ℕ → ServerAnswer
+server_method now id kind octets =
+    let out = server_turn now.vars.setup.users (next_id now.vars) kind now.views octets in
+    method_answers now id out.after out.turn
+
+-- whether a number is the one that is awaited
+abbrev pub is_awaited : Option ℕ → ℕ → Bool
+is_awaited None number = false
+is_awaited (Some awaited) number = awaited == number
+
+abbrev pub is_proposed : Progress → Bool
+is_proposed p = elim p [ progress.Proposed ↦ true | _ ↦ false ]
+
+-- a Response with currentId; a Nak is taken only while the method is proposed
+abbrev pub current_response : ServerNow → ℕ → ℕ → List ℕ → ServerAnswer
+current_response now id kind body =
+    if (kind == nak) && is_proposed now.vars.progress
+    then select_action (before_proposal true) now.vars now.views id (Some body)
+    else if is_awaited now.vars.current kind
+    then (if kind == identity then hears_identity now id else server_method now id kind (spelled (response id kind body)))
+    else server_discard now cause.WrongMethod
+
+abbrev pub server_row : ServerNow → Result PacketValue Cause → ServerAnswer
+server_row now (Err c) = server_discard now c
+server_row now (Ok (request id kind body)) = server_discard now cause.WrongRole
+server_row now (Ok (response id kind body)) =
+    if is_awaited now.vars.current_id id then current_response now id kind body else server_discard now cause.IdMismatch
+server_row now (Ok (success id)) = server_discard now cause.WrongRole
+server_row now (Ok (failure id)) = server_discard now cause.WrongRole
+
+-- a delivery; after the end it is discarded with an empty path
+unfoldable pub server_deliver : ServerNow → List ℕ → ServerAnswer
+server_deliver now octets =
+    if is_end now.vars.state then answer (discards [] cause.Ended) now else server_row now (packet_of octets)
+
+-- the retransmission timer ends: the Request is sent again, at most MaxRetrans times
+unfoldable pub server_timeout : ServerNow → ServerAnswer
+server_timeout now =
+    let count = now.vars.retrans_count + 1 in
+    if nat_le count now.vars.max_retrans
+    then answer (sends (state.Retransmit ∷ state.Idle ∷ []) now.vars.last_request no_tags)
+    (record { vars = record now.vars { retrans_count = count }; views = now.views })
+    else answer (enters (state.Retransmit ∷ state.TimeoutFailure ∷ []) no_tags)
+    (record { vars = record now.vars { retrans_count = count; state = state.TimeoutFailure }; views = now.views })
+
+-- the report of the current method
+abbrev pub current_report : ServerViews → Option ℕ → Option Report
+current_report views None = None
+current_report views (Some kind) = server_report_of kind views
+
+-- what the server reports
+abbrev pub server_reports : ServerNow → Option Report
+server_reports now = current_report now.views now.vars.current
+
+-- whether the server has started
+abbrev pub is_started : ServerVariables → Bool
+is_started vars = elim vars.state [ state.Initialize ↦ false | _ ↦ true ]
+
+-- whether a current method is Identity or one that the server proposes
+abbrev pub is_current : List ℕ → Option ℕ → Bool
+is_current order None = true
+is_current order (Some kind) = (kind == identity) || is_among order kind
+
+-- what holds of the variables at every moment
+pub record AreInOrder (vars : ServerVariables) : Type 0 where
+  -- the settings are sound
+  pub sound : IsSoundServer vars.setup
+  -- the current method is Identity or one of the order
+  pub current : is_current vars.setup.methods vars.current ≡ true
+  -- no method was proposed twice
+  pub proposed : are_kinds vars.proposed ≡ true
+  -- a server that has not ended has sent its Request again at most MaxRetrans times
+  pub in_time : is_end vars.state ≡ false → vars.retrans_count ≤ vars.max_retrans
+  pub few : vars.max_retrans ≤ 10

@@ -1,0 +1,15 @@
+//! The stand-alone server of EAP (RFC 4137 section 5) over the objects of its methods.
+#![tactic(auto)]
+
+mod laws;
+mod machine;
+#[cfg(test)]
+mod tests;
+mod variables;
+
+pub use laws::discards_keep;
+pub use machine::ServerMachine;
+pub use variables::{Progress, ServerVariables};
+
+/// What one call of the server does.
+pub type ServerStep = eap_method::Step;
