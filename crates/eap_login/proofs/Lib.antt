@@ -2,3 +2,5 @@ pub mod Driving
 pub mod Endings
 pub mod Replaying
 pub mod Runs
+pub mod Ready
+pub mod Headline

@@ -1,5 +1,5 @@
 -- The command keys: each line asks for a cipher, a MAC, a key schedule or the name of a key.
-use Rattle.std.specs.Prelude.{◌≡◌, ℕ, List, [], Bool, false, Option, Some, None, Result, Ok, Err}
+use Rattle.std.specs.Prelude.{ℕ, List, [], Bool, false, Option, Some, None, Result, Ok, Err}
 use Rattle.eap_base.specs.Lines.{lines}
 use Rattle.scenario_text.specs.Words.{fault_word}
 use Rattle.scenario_text.specs.Keys.{key_line}

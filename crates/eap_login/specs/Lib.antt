@@ -6,3 +6,4 @@ pub mod Login
 pub mod Replay
 pub mod Scenario
 pub mod Statuses
+pub mod Headline

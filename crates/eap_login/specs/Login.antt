@@ -1,5 +1,5 @@
 -- What the program answers to words and an input.
-use Rattle.std.specs.Prelude.{◌≡◌, ℕ, List, [], ◌∷◌, Bool, true, false, ◌||◌, if◌then◌else◌, Option, Some, codes, map, is_some, IsTrue}
+use Rattle.std.specs.Prelude.{◌≡◌, ℕ, List, [], ◌∷◌, Bool, true, false, ◌||◌, ◌&&◌, if◌then◌else◌, codes, is_some}
 use Rattle.std.specs.Str.{bytes_eq}
 use Rattle.trace_text.specs.Lines.{line_text}
 use Rattle.eap_login.specs.Answers.{Answer}
@@ -23,9 +23,23 @@ is_decode words = is_alone (codes "decode") words
 abbrev pub is_keys : List (List ℕ) → Bool
 is_keys words = is_alone (codes "keys") words
 
+-- the words are these two
+abbrev pub are_two : List ℕ → List ℕ → List (List ℕ) → Bool
+are_two first second [] = false
+are_two first second (word ∷ []) = false
+are_two first second (word ∷ next ∷ []) = bytes_eq word first && bytes_eq next second
+are_two first second (word ∷ next ∷ more ∷ rest) = false
+
+abbrev pub is_replay_names : List (List ℕ) → Bool
+is_replay_names words = are_two (codes "replay") (codes "names") words
+
+-- the words are one of the two forms that read a scenario
+abbrev pub reads_scenario : List (List ℕ) → Bool
+reads_scenario words = is_replay words || is_replay_names words
+
 -- the words are one of the forms that are built
 abbrev pub is_form : List (List ℕ) → Bool
-is_form words = is_replay words || (is_decode words || is_keys words)
+is_form words = is_replay words || (is_replay_names words || (is_decode words || is_keys words))
 
 -- for all other words the program says how it is used
 unfoldable pub usage_text : List ℕ
@@ -37,7 +51,8 @@ usage_answer = record { text = usage_text; status = status.Usage }
 -- the answer to words and an input
 abbrev pub login_answer : List (List ℕ) → List ℕ → Answer
 login_answer words octets =
-    if is_replay words then replay_answer octets
+    if is_replay words then replay_answer false octets
+    else if is_replay_names words then replay_answer true octets
     else if is_decode words then decode_answer octets
     else if is_keys words then keys_answer octets
     else usage_answer

@@ -4,7 +4,7 @@ use Rattle.std.specs.List.{flat_map}
 use Rattle.eap_base.specs.Lines.{Lines, ended, too_long, too_much, line, lines}
 use Rattle.eap_base.specs.declared.event.Event.{Event}
 use Rattle.eap_base.specs.declared.setup.Setup.{Setup}
-use Rattle.eap_world.specs.World.{WorldState, world_made, world_start, run_after, told_after}
+use Rattle.eap_world.specs.World.{WorldNow, world_made, world_start, run_after, told_after}
 use Rattle.scenario_text.specs.Words.{fault_word}
 use Rattle.scenario_text.specs.Reading.{Reading, ReadLine, no_settings, read_line, finish_of}
 use Rattle.scenario_text.specs.declared.fault.LineFault.{LineFault}
@@ -80,36 +80,36 @@ scenario_from n k r (line l rest) =
 abbrev pub scenario_of : List ℕ → Scenario
 scenario_of octets = scenario_from 0 0 (record { phase = phase.Unread; settings = no_settings }) (lines octets)
 
--- the lines of what was told of events
-abbrev pub events_text : WorldState → List Event → List ℕ
-events_text w events = flat_map told_text (told_after w events)
+-- the lines of what was told of events; with names also the octets of packets and the names of keys
+abbrev pub events_text : Bool → WorldNow → List Event → List ℕ
+events_text names w events = flat_map (told_text names) (told_after w events)
 
 -- after the events: the lines of the end of the run, or those of a refusal
-abbrev pub outcome_answer : WorldState → Outcome → Answer
+abbrev pub outcome_answer : WorldNow → Outcome → Answer
 outcome_answer w whole = record { text = end_text w; status = status.Done }
 outcome_answer w (refused number word s) = refusal number word s
 
 -- the answer from a world on
-abbrev pub run_answer : WorldState → List Event → Outcome → Answer
-run_answer w events outcome = after_text (events_text w events) (outcome_answer (run_after w events) outcome)
+abbrev pub run_answer : Bool → WorldNow → List Event → Outcome → Answer
+run_answer names w events outcome = after_text (events_text names w events) (outcome_answer (run_after w events) outcome)
 
 -- without a setup nothing is run
 abbrev pub unset_answer : Outcome → Answer
 unset_answer whole = record { text = []; status = status.Done }
 unset_answer (refused number word s) = refusal number word s
 
-abbrev pub setup_answer : Option Setup → List Event → Outcome → Answer
-setup_answer None events outcome = unset_answer outcome
-setup_answer (Some setup) events outcome =
-    after_text (start_text (world_start (world_made setup)).told) (run_answer (world_start (world_made setup)).after events outcome)
+abbrev pub setup_answer : Bool → Option Setup → List Event → Outcome → Answer
+setup_answer names None events outcome = unset_answer outcome
+setup_answer names (Some setup) events outcome =
+    after_text (start_text names (world_start (world_made setup)).told) (run_answer names (world_start (world_made setup)).after events outcome)
 
-abbrev pub scenario_answer : Scenario → Answer
-scenario_answer s = setup_answer s.setup s.events s.outcome
+abbrev pub scenario_answer : Bool → Scenario → Answer
+scenario_answer names s = setup_answer names s.setup s.events s.outcome
 
 -- the first line of a trace
 unfoldable pub trace_header : List ℕ
 trace_header = line_text (codes "eap-trace 1")
 
--- what replaying an input answers
-abbrev pub replay_answer : List ℕ → Answer
-replay_answer octets = after_text trace_header (scenario_answer (scenario_of octets))
+-- what replaying an input answers, with names or without
+abbrev pub replay_answer : Bool → List ℕ → Answer
+replay_answer names octets = after_text trace_header (scenario_answer names (scenario_of octets))

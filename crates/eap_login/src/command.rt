@@ -1,6 +1,6 @@
 //! A command that reads lines.
 
-ghost use Rattle.std.specs.Prelude.{◌≡◌, ◌≤◌, ◌+◌, ℕ, Some, OnErr};
+ghost use Rattle.std.specs.Prelude.{◌≡◌, ◌≤◌, ◌+◌, ℕ, Some, OnErr, IfOk};
 ghost use Rattle.eap_login.specs.Commands.{Takes, Closes, Troubles, AfterLines};
 
 use crate::status::Status;
@@ -38,14 +38,20 @@ pub trait Command {
     ghost use Rattle.std.specs.Prelude.{ℕ, List, Bool};
     ghost use Rattle.eap_login.specs.Commands.{Took, Closing};
 
+    /// What of the command decides what its lines bring.
+    ghost Seen: { Type 0 };
+
+    /// What of a command decides what its lines bring.
+    ghost seen: { Self → Seen };
+
     /// What a line brings.
-    ghost took: { Self → List ℕ → Took Self };
+    ghost took: { Seen → List ℕ → Took Seen };
 
     /// What the end of the input brings.
-    ghost closing: { Self → Closing };
+    ghost closing: { Seen → Closing };
 
     /// Whether a line may find memory wanting.
-    ghost lacks: { Self → List ℕ → Bool };
+    ghost lacks: { Seen → List ℕ → Bool };
 
     /// What holds of the command after so many lines.
     ghost holds: { Self → ℕ → Type 0 };
@@ -53,14 +59,14 @@ pub trait Command {
     /// Takes a line and writes its answer.
     fn take<W: Sink>(&mut self, sink: &mut W, line: &[u8]) -> Result<Next, Trouble>
         requires { AfterLines holds self.old }
-        ensures holds_after { (lines : ℕ) → holds self.old lines → holds self.new (lines + 1) }
-        ensures takes { Takes result (took self.old line.now) (W.written sink.old) (W.written sink.new) self.new }
-        ensures trouble { Troubles result W.last_write_fault (W.write_faults sink.old) (W.write_faults sink.new) (lacks self.old line.now) }
+        ensures holds_after { IfOk result (λ next. (lines : ℕ) → holds self.old lines → holds self.new (lines + 1)) }
+        ensures takes { Takes result (took (seen self.old) line.now) (W.written sink.old) (W.written sink.new) (seen self.new) }
+        ensures trouble { Troubles result W.last_write_fault (W.write_faults sink.old) (W.write_faults sink.new) (lacks (seen self.old) line.now) }
         ensures never_falls { W.write_faults sink.old ≤ W.write_faults sink.new };
 
     /// Meets the end of the input and writes its answer.
     fn close<W: Sink>(&self, sink: &mut W) -> Result<Close, Failed>
-        ensures closes { Closes result (closing self.now) (W.written sink.old) (W.written sink.new) }
+        ensures closes { Closes result (closing (seen self.now)) (W.written sink.old) (W.written sink.new) }
         ensures counted { OnErr result (W.write_faults sink.new ≤ W.write_faults sink.old → W.last_write_fault ≡ Some (W.write_faults sink.new)) }
         ensures never_falls { W.write_faults sink.old ≤ W.write_faults sink.new };
 }

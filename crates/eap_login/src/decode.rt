@@ -62,7 +62,12 @@ impl Decode {
 }
 
 impl Command for Decode {
+    ghost use Rattle.eap_login.specs.declared.decode.Decode.{Decode};
     ghost use Rattle.eap_login.specs.Decode.{decode_took, decode_closing, decode_lacks, HasCounted};
+
+    ghost Seen = { Decode };
+
+    ghost seen = { λ c. c };
 
     ghost took = { decode_took };
 

@@ -27,7 +27,7 @@ fn refuse<W: Sink>(sink: &mut W, line: u32, word: &str, status: Status) -> Statu
 
 /// Meets the end of the input, where the next line would have the number `line`.
 fn close<C: Command, W: Sink>(command: &C, sink: &mut W, line: u32) -> Status
-    ensures ends { Ends result (W.written sink.old) (W.written sink.new) (after_text (C.closing command.now).text (closing_answer line (C.closing command.now).closed)) }
+    ensures ends { Ends result (W.written sink.old) (W.written sink.new) (after_text (C.closing (C.seen command.now)).text (closing_answer line (C.closing (C.seen command.now)).closed)) }
     ensures written { IsWritten result }
     ensures counted { result ≡ Status.WriteFault → W.write_faults sink.new ≤ W.write_faults sink.old → W.last_write_fault ≡ Some (W.write_faults sink.new) }
     ensures never_falls { W.write_faults sink.old ≤ W.write_faults sink.new }
@@ -47,11 +47,11 @@ pub fn drive<C: Command, S: Source, W: Sink>(
     sink: &mut W,
 ) -> Status
     requires { C.holds command.old 0 }
-    ensures ends { (octets : List ℕ) → S.left source.old ≡ Some octets → Ends result (W.written sink.old) (W.written sink.new) (answer C.took C.closing 0 command.old (lines octets)) }
+    ensures ends { (octets : List ℕ) → S.left source.old ≡ Some octets → Ends result (W.written sink.old) (W.written sink.new) (answer C.took C.closing 0 (C.seen command.old) (lines octets)) }
     ensures drains { Drains result (S.left source.new) }
     ensures read_fault { result ≡ Status.ReadFault → S.read_faults source.new ≤ S.read_faults source.old → S.last_read_fault ≡ Some (S.read_faults source.new) }
     ensures write_fault { result ≡ Status.WriteFault → W.write_faults sink.new ≤ W.write_faults sink.old → W.last_write_fault ≡ Some (W.write_faults sink.new) }
-    ensures memory { result ≡ Status.Memory → (octets : List ℕ) → S.left source.old ≡ Some octets → lacking C.took C.lacks command.old (lines octets) ≡ true }
+    ensures memory { result ≡ Status.Memory → (octets : List ℕ) → S.left source.old ≡ Some octets → lacking C.took C.lacks (C.seen command.old) (lines octets) ≡ true }
     ensures wanting { result ≡ Status.Memory → SomeLacks C.lacks }
     ensures read_never_falls { S.read_faults source.old ≤ S.read_faults source.new }
     ensures write_never_falls { W.write_faults sink.old ≤ W.write_faults sink.new }

@@ -24,7 +24,12 @@ impl Keys {
 }
 
 impl Command for Keys {
+    ghost use Rattle.eap_login.specs.declared.keys.Keys.{Keys};
     ghost use Rattle.eap_login.specs.Keys.{keys_took, keys_closing, keys_lacks};
+
+    ghost Seen = { Keys };
+
+    ghost seen = { λ c. c };
 
     ghost took = { keys_took };
 

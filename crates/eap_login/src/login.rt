@@ -2,9 +2,11 @@
 
 ghost use Rattle.std.specs.Prelude.{◌≡◌, ◌≢◌, ◌≤◌, ℕ, List, Option, Some, OnErr, true, false, map, string_bytes};
 ghost use Rattle.eap_login.specs.Answers.{Ends, Drains, IsWritten};
-ghost use Rattle.eap_login.specs.Login.{is_alone, is_replay, is_form, login_answer, usage_answer, usage_text, HasSetup};
+ghost use Rattle.eap_login.specs.Login.{is_alone, are_two, reads_scenario, is_form, login_answer, usage_answer, usage_text, HasSetup};
 ghost use Rattle.eap_login.specs.Decode.{decode_answer};
 ghost use Rattle.eap_login.specs.Keys.{keys_answer};
+ghost use Rattle.eap_login.specs.Headline.{HonestEndsAgree};
+ghost use Rattle.eap_login.specs.Replay.{HasBoth};
 ghost use Rattle.eap_login.specs.Scenario.{replay_answer, trace_header};
 ghost use Rattle.trace_text.specs.Writes.{Writes};
 
@@ -14,32 +16,46 @@ use crate::keys::Keys;
 use crate::replay::Replay;
 use crate::status::Status;
 use eap_base::{Failed, Sink, Source};
+use eap_method::{PeerMethod, ServerMethod};
+use eap_world::Methods;
 use std::alloc::Global;
 use trace_text::write_line;
 
 /// Answers to the words after the program's name: reads `source`, writes `sink`, and says how it
 /// ended.
 ///
-/// - `replay` reads a scenario and writes the trace of its run. It takes memory.
+/// - `replay` reads a scenario and writes the trace of its run; `replay names` writes the octets of each
+///   packet and the names of keys besides. Both take memory.
 /// - `decode` reads packets in hex and writes what they are. It takes no memory.
 /// - `keys` reads requests for ciphers, MACs and keys and writes the answers. It takes no memory.
 /// - All other words write the usage line; the source isn't touched.
-pub fn eap_login<S: Source, W: Sink>(
+///
+/// Each of the two lists of `methods` has an object of EAP-PSK and one of EAP-GPSK.
+#[tactic(auto, using(crate::proofs::Headline::headline))]
+pub fn eap_login<P: PeerMethod, M: ServerMethod, S: Source, W: Sink>(
     alloc: Global,
     words: &Vec<String>,
     source: &mut S,
     sink: &mut W,
+    methods: Methods<P, M>,
 ) -> Status
+    requires { HasBoth P.peer_shown M.server_shown methods }
+
     // With status 0, 1, 2 or 6 the whole text was written and the status is that of the answer. With
     // 3, 4 or 5 a front of the text was.
     ensures ends { (octets : List ℕ) → S.left source.old ≡ Some octets → Ends result (W.written sink.old) (W.written sink.new) (login_answer (map string_bytes words.now.items) octets) }
     ensures drains { Drains result (S.left source.new) }
 
+    // Whatever the scenario has delivered, lost, repeated, reordered, altered or injected: where each tag
+    // that an end accepted was made earlier by the other end, two ends that both stand in SUCCESS at the
+    // end of its run agree in method, identities, suite, MSK and EMSK, which both policies allow.
+    ensures honest_ends_agree { (octets : List ℕ) → S.left source.old ≡ Some octets → HonestEndsAgree octets }
+
     // A fault comes only where its count rose in this call, or stands at its last value; want of
     // memory only for `replay`, after the line `events` was taken.
     ensures read_fault { result ≡ Status.ReadFault → S.read_faults source.new ≤ S.read_faults source.old → S.last_read_fault ≡ Some (S.read_faults source.new) }
     ensures write_fault { result ≡ Status.WriteFault → W.write_faults sink.new ≤ W.write_faults sink.old → W.last_write_fault ≡ Some (W.write_faults sink.new) }
-    ensures memory { result ≡ Status.Memory → is_replay (map string_bytes words.now.items) ≡ true }
+    ensures memory { result ≡ Status.Memory → reads_scenario (map string_bytes words.now.items) ≡ true }
     ensures setup { result ≡ Status.Memory → (octets : List ℕ) → S.left source.old ≡ Some octets → HasSetup octets }
 
     // Words that are none of the forms leave the source as it was.
@@ -48,7 +64,9 @@ pub fn eap_login<S: Source, W: Sink>(
     ensures untouched { is_form (map string_bytes words.now.items) ≡ false → source.new ≡ source.old }
 {
     if are_alone(words, "replay") {
-        replay(alloc, source, sink)
+        replay(alloc, false, source, sink, methods)
+    } else if are_two(words, "replay", "names") {
+        replay(alloc, true, source, sink, methods)
     } else if are_alone(words, "decode") {
         decode(source, sink)
     } else if are_alone(words, "keys") {
@@ -64,6 +82,16 @@ fn are_alone(words: &Vec<String>, name: &str) -> bool
 {
     match words.as_slice() {
         [word] => word.as_str() == name,
+        _ => false,
+    }
+}
+
+/// True where the words are these two.
+fn are_two(words: &Vec<String>, first: &str, second: &str) -> bool
+    ensures { result ≡ are_two first.now second.now (map string_bytes words.now.items) }
+{
+    match words.as_slice() {
+        [word, next] => word.as_str() == first && next.as_str() == second,
         _ => false,
     }
 }
@@ -94,9 +122,16 @@ fn write_usage<W: Sink>(sink: &mut W) -> Result<(), Failed>
     )
 }
 
-/// Reads a scenario and writes the trace of its run.
-fn replay<S: Source, W: Sink>(alloc: Global, source: &mut S, sink: &mut W) -> Status
-    ensures ends { (octets : List ℕ) → S.left source.old ≡ Some octets → Ends result (W.written sink.old) (W.written sink.new) (replay_answer octets) }
+/// Reads a scenario and writes the trace of its run, with names or without.
+fn replay<P: PeerMethod, M: ServerMethod, S: Source, W: Sink>(
+    alloc: Global,
+    names: bool,
+    source: &mut S,
+    sink: &mut W,
+    methods: Methods<P, M>,
+) -> Status
+    requires { HasBoth P.peer_shown M.server_shown methods }
+    ensures ends { (octets : List ℕ) → S.left source.old ≡ Some octets → Ends result (W.written sink.old) (W.written sink.new) (replay_answer names octets) }
     ensures drains { Drains result (S.left source.new) }
     ensures read_fault { result ≡ Status.ReadFault → S.read_faults source.new ≤ S.read_faults source.old → S.last_read_fault ≡ Some (S.read_faults source.new) }
     ensures write_fault { result ≡ Status.WriteFault → W.write_faults sink.new ≤ W.write_faults sink.old → W.last_write_fault ≡ Some (W.write_faults sink.new) }
@@ -104,7 +139,7 @@ fn replay<S: Source, W: Sink>(alloc: Global, source: &mut S, sink: &mut W) -> St
 {
     match write_trace_header(sink) {
         Ok(()) => {
-            let mut command = Replay::new(alloc);
+            let mut command = Replay::new(alloc, names, methods);
             drive(&mut command, source, sink)
         }
         Err(_) => Status::WriteFault,

@@ -6,14 +6,20 @@ mod decode;
 mod drive;
 mod keys;
 mod login;
+mod objects;
 mod replay;
 mod status;
 #[cfg(test)]
 mod tests;
 
 use crate::login::eap_login;
+use crate::objects::{both_peers, both_servers};
 use crate::status::Status;
 use eap_base::{StdSink, StdSource};
+use eap_method::{PeerMethod, ServerMethod};
+use eap_world::Methods;
+use gpsk_ends::{GpskPeer, GpskServer};
+use psk_ends::{PskPeer, PskServer};
 use std::env;
 use std::io::{self, BufReader};
 use std::process::ExitCode;
@@ -45,12 +51,24 @@ fn failure_number(kind: io::ErrorKind) -> u8 {
 
 /// Answers to the words over standard input and output, and gives the exit status.
 fn run(rt: &HostRuntime, words: &Vec<String>) -> u8 {
-    match BufReader::new(rt.alloc(), rt.reader()) {
-        Ok(reader) => {
-            let mut source = StdSource::new(reader);
-            let mut sink = StdSink::new(rt.stdout());
-            eap_login(rt.alloc(), words, &mut source, &mut sink).number()
-        }
+    match answer(rt, words) {
+        Ok(status) => status.number(),
         Err(_) => Status::Memory.number(),
     }
+}
+
+/// Makes the objects of both methods for both ends, and answers to the words over standard input and
+/// output. An error comes only for want of memory.
+fn answer(rt: &HostRuntime, words: &Vec<String>) -> io::Result<Status> {
+    let alloc = rt.alloc();
+    let psk_peer: Box<dyn PeerMethod> = Box::new(alloc, PskPeer::new())?;
+    let gpsk_peer: Box<dyn PeerMethod> = Box::new(alloc, GpskPeer::new())?;
+    let psk_server: Box<dyn ServerMethod> = Box::new(alloc, PskServer::new())?;
+    let gpsk_server: Box<dyn ServerMethod> = Box::new(alloc, GpskServer::new())?;
+    let peer = both_peers(alloc, psk_peer, gpsk_peer)?;
+    let server = both_servers(alloc, psk_server, gpsk_server)?;
+    let mut source = StdSource::new(BufReader::new(alloc, rt.reader())?);
+    let mut sink = StdSink::new(rt.stdout());
+    let methods = Methods { peer, server };
+    Ok(eap_login(alloc, words, &mut source, &mut sink, methods))
 }

@@ -1,46 +1,205 @@
 //! Whole answers: the text and the status of an input, however it is cut, and where a read or a write
-//! fails.
+//! fails. Expected octets, tags and names of keys were computed with Python from RFC 5433 and RFC 4764,
+//! over its packages hashlib, hmac and cryptography.
+
+mod commands;
 
 use crate::login::eap_login;
+use crate::objects::{both_peers, both_servers};
 use crate::status::Status;
 use eap_base::{MemSink, MemSource};
+use eap_method::{PeerMethod, ServerMethod};
+use eap_world::Methods;
+use gpsk_ends::{GpskPeer, GpskServer};
+use psk_ends::{PskPeer, PskServer};
 use std::alloc::{AllocError, Global};
 use std::process::Abort;
 use std::test::Fail;
+use std::{io, str};
 
-/// A scenario without methods, up to its events.
-const SETTINGS: [&str; 12] = [
+/// A peer and a server that share a key of each method, up to the events.
+const SETTINGS: [&str; 18] = [
     "eap-scenario 1",
     "mode alone",
     "first-id 0",
     "max-retrans 4",
     "peer-name alice",
     "peer-server srv",
-    "peer-methods -",
+    "peer-methods 51 47",
+    "peer-suites 1 2",
+    "peer-psk 51 000102030405060708090a0b0c0d0e0f101112131415161718191a1b1c1d1e1f",
+    "peer-psk 47 000102030405060708090a0b0c0d0e0f",
     "peer-nonce 1111111111111111111111111111111111111111111111111111111111111111",
     "server-name srv",
-    "server-methods -",
+    "server-methods 51 47",
+    "server-suites 1 2",
     "server-nonce 2222222222222222222222222222222222222222222222222222222222222222",
+    "user alice 51 000102030405060708090a0b0c0d0e0f101112131415161718191a1b1c1d1e1f allowed",
+    "user alice 47 000102030405060708090a0b0c0d0e0f allowed",
     "events",
 ];
 
-/// The trace of its start.
+/// A change of the settings: the front of a line, and what stands in its place.
+type Change = (&'static str, &'static str);
+
+/// The changes after which neither end has a method. `events` is line 12.
+const NO_METHODS: [Change; 6] = [
+    ("peer-methods", "peer-methods -"),
+    ("peer-suites", ""),
+    ("peer-psk", ""),
+    ("server-methods", "server-methods -"),
+    ("server-suites", ""),
+    ("user", ""),
+];
+
+/// The user whom the server turns away after EAP-GPSK.
+const BARRED_51: &str =
+    "user alice 51 000102030405060708090a0b0c0d0e0f101112131415161718191a1b1c1d1e1f barred";
+
+/// The changes after which both ends have EAP-PSK alone, and the server turns the user away.
+const BARRED_PSK: [Change; 7] = [
+    ("peer-methods", "peer-methods 47"),
+    ("peer-suites", ""),
+    ("peer-psk 51", ""),
+    ("server-methods", "server-methods 47"),
+    ("server-suites", ""),
+    ("user alice 51", ""),
+    (
+        "user alice 47",
+        "user alice 47 000102030405060708090a0b0c0d0e0f barred",
+    ),
+];
+
+/// The changes after which a packet without its last octet moves the border of two names: the server `bb`
+/// becomes `b`, and the peer `ab` becomes `a`.
+const SHORT_NAMES: [Change; 6] = [
+    ("peer-name", "peer-name ab"),
+    ("peer-server", "peer-server any"),
+    ("server-name", "server-name bb"),
+    ("server-methods", "server-methods 47"),
+    ("user alice 51", ""),
+    (
+        "user alice 47",
+        "user a 47 000102030405060708090a0b0c0d0e0f allowed",
+    ),
+];
+
+/// Events in which each packet comes once.
+const FIVE: &str = "deliver 1\ndeliver 2\ndeliver 3\ndeliver 4\ndeliver 5\nend\n";
+
+const SEVEN: &str = "\
+deliver 1
+deliver 2
+deliver 3
+deliver 4
+deliver 5
+deliver 6
+deliver 7
+end
+";
+
+const NINE: &str = "\
+deliver 1
+deliver 2
+deliver 3
+deliver 4
+deliver 5
+deliver 6
+deliver 7
+deliver 8
+deliver 9
+end
+";
+
+/// A GPSK-2 of `alice` comes to the server whose nonce is 32 octets 33: this peer hasn't made its tag.
+const OLD_ANSWER: &str = "\
+deliver 1
+deliver 2
+inject server 0201007833020005616c6963650003737276\
+3333333333333333333333333333333333333333333333333333333333333333\
+2222222222222222222222222222222222222222222222222222222222222222\
+000c000000000001000000000002000000000001\
+00000c8b3f9d1d9e2fc2eef761d905605153
+end
+";
+
+/// The first line of a trace.
+const HEADER: &str = "eap-trace 1\n";
+
+/// It and the lines of the start.
 const START: &str = "\
+eap-trace 1
 0 peer INITIALIZE IDLE
 0 server INITIALIZE SELECT_ACTION PROPOSE_METHOD METHOD_REQUEST SEND_REQUEST IDLE
 0 sent 1 to peer request 0 type 1 length 5
 ";
 
-/// Events of the Identity round.
-const ROUND: &str = "\
-deliver 1
-deliver 2
-deliver 3
+/// A login by EAP-GPSK.
+const GPSK_LOGIN: &str = "\
+eap-trace 1
+0 peer INITIALIZE IDLE
+0 server INITIALIZE SELECT_ACTION PROPOSE_METHOD METHOD_REQUEST SEND_REQUEST IDLE
+0 sent 1 to peer request 0 type 1 length 5
+1 peer RECEIVED IDENTITY SEND_RESPONSE IDLE
+1 sent 2 to server response 0 type 1 length 10
+2 server RECEIVED INTEGRITY_CHECK METHOD_RESPONSE SELECT_ACTION PROPOSE_METHOD METHOD_REQUEST \
+SEND_REQUEST IDLE
+2 sent 3 to peer request 1 type 51 length 57
+3 peer RECEIVED GET_METHOD METHOD SEND_RESPONSE IDLE
+3 sent 4 to server response 1 type 51 length 120
+4 server RECEIVED INTEGRITY_CHECK METHOD_RESPONSE METHOD_REQUEST SEND_REQUEST IDLE
+4 sent 5 to peer request 2 type 51 length 99
+5 peer RECEIVED METHOD SEND_RESPONSE IDLE
+5 sent 6 to server response 2 type 51 length 24
+6 server RECEIVED INTEGRITY_CHECK METHOD_RESPONSE SELECT_ACTION SUCCESS
+6 sent 7 to peer success 2 length 4
+7 peer RECEIVED SUCCESS
+state peer SUCCESS
+state server SUCCESS
+events 7
+deliveries 7
+discards 0
+tags honest
+result agree
 end
 ";
 
-/// Their trace.
+/// The server offers suite 2 and then 1, and the 2 becomes a 3 on the way: the peer takes suite 1.
+const DOWNGRADE: &str = "deliver 1\ndeliver 2\nalter 3 50 1\ndeliver 4\nend\n";
+
+const DOWNGRADE_TRACE: &str = "\
+eap-trace 1
+0 peer INITIALIZE IDLE
+0 server INITIALIZE SELECT_ACTION PROPOSE_METHOD METHOD_REQUEST SEND_REQUEST IDLE
+0 sent 1 to peer request 0 type 1 length 5
+1 peer RECEIVED IDENTITY SEND_RESPONSE IDLE
+1 sent 2 to server response 0 type 1 length 10
+2 server RECEIVED INTEGRITY_CHECK METHOD_RESPONSE SELECT_ACTION PROPOSE_METHOD METHOD_REQUEST \
+SEND_REQUEST IDLE
+2 sent 3 to peer request 1 type 51 length 57
+3 peer RECEIVED GET_METHOD METHOD SEND_RESPONSE IDLE
+3 sent 4 to server response 1 type 51 length 120
+4 server RECEIVED INTEGRITY_CHECK DISCARD IDLE
+4 cause FieldMismatch
+state peer IDLE
+state server IDLE
+events 4
+deliveries 4
+discards 1
+tags honest
+result open
+end
+";
+
+/// Events of the Identity round.
+const ROUND: &str = "deliver 1\ndeliver 2\ndeliver 3\nend\n";
+
+/// Its trace where neither end has a method.
 const ROUND_TRACE: &str = "\
+eap-trace 1
+0 peer INITIALIZE IDLE
+0 server INITIALIZE SELECT_ACTION PROPOSE_METHOD METHOD_REQUEST SEND_REQUEST IDLE
+0 sent 1 to peer request 0 type 1 length 5
 1 peer RECEIVED IDENTITY SEND_RESPONSE IDLE
 1 sent 2 to server response 0 type 1 length 10
 2 server RECEIVED INTEGRITY_CHECK METHOD_RESPONSE SELECT_ACTION FAILURE
@@ -68,6 +227,10 @@ end";
 
 /// Their trace, where the server sends again four times at most.
 const TIMEOUTS_TRACE: &str = "\
+eap-trace 1
+0 peer INITIALIZE IDLE
+0 server INITIALIZE SELECT_ACTION PROPOSE_METHOD METHOD_REQUEST SEND_REQUEST IDLE
+0 sent 1 to peer request 0 type 1 length 5
 1 server RETRANSMIT IDLE
 1 sent 2 to peer request 0 type 1 length 5
 2 server RETRANSMIT IDLE
@@ -88,37 +251,79 @@ result open
 end
 ";
 
-/// Events up to a refused line, and their trace.
-const CUT_SHORT: &str = "deliver 1\n\n# a comment\ndeliver 1 2\nend\n";
-
-const CUT_SHORT_TRACE: &str = "\
-1 peer RECEIVED IDENTITY SEND_RESPONSE IDLE
-1 sent 2 to server response 0 type 1 length 10
-refused line 16 BadCount
-";
-
-/// The first `count` lines of the scenario, and then the rest.
-fn scenario(alloc: Global, count: usize, rest: &str) -> Result<String, AllocError> {
-    let mut text = String::new(alloc);
-    for line in SETTINGS.iter().take(count) {
-        text.push_str(line)?;
-        text.push_str("\n")?;
+/// What stands in a line's place: the first change whose front the line begins with has it, or else it is
+/// the line.
+fn changed(line: &'static str, changes: &[Change]) -> &'static str {
+    for (front, other) in changes {
+        if line.starts_with(*front) {
+            return *other;
+        }
     }
-    text.push_str(rest)?;
+    line
+}
+
+/// The settings with these changes, where an empty line is left out, and then the events.
+fn scenario(alloc: Global, changes: &[Change], events: &str) -> Result<String, AllocError> {
+    let mut text = String::new(alloc);
+    for line in SETTINGS.iter() {
+        let line = changed(*line, changes);
+        if !line.is_empty() {
+            text.push_str(line)?;
+            text.push_str("\n")?;
+        }
+    }
+    text.push_str(events)?;
     Ok(text)
 }
 
-/// The trace of the first `count` lines of the scenario, and then the rest.
-fn trace(alloc: Global, count: usize, rest: &str) -> Result<String, AllocError> {
-    let start = if count < SETTINGS.len() { "" } else { START };
-    let mut text = String::from_str(alloc, "eap-trace 1\n")?;
-    text.push_str(start)?;
-    text.push_str(rest)?;
+/// One text after the other.
+fn joined(alloc: Global, first: &str, second: &str) -> Result<String, AllocError> {
+    let mut text = String::from_str(alloc, first)?;
+    text.push_str(second)?;
     Ok(text)
+}
+
+/// True where these lines, each ended by LF, stand in the trace in this order, whatever stands between.
+fn has_lines(trace: &str, wanted: &str) -> bool {
+    let mut rest = wanted.as_bytes();
+    for line in trace.lines() {
+        if let Some(others) = after_line(rest, line) {
+            rest = others;
+        }
+    }
+    rest.is_empty()
+}
+
+/// What follows the line and its LF, where the text begins with them.
+fn after_line<'a>(text: &'a [u8], line: &str) -> Option<&'a [u8]> {
+    text.strip_prefix(line.as_bytes())?
+        .strip_prefix(b"\n".as_slice())
+}
+
+/// What follows the front in the first line that begins with it.
+fn after<'a>(trace: &'a str, front: &str) -> Option<&'a str> {
+    for line in trace.lines() {
+        if let Some(rest) = line.strip_prefix(front) {
+            return Some(rest);
+        }
+    }
+    None
+}
+
+/// The lengths of the packets that were sent, each after a space.
+fn lengths(alloc: Global, trace: &str) -> Result<String, AllocError> {
+    let mut all = String::new(alloc);
+    for line in trace.lines() {
+        if let Some((_, length)) = line.split_once(" length ") {
+            all.push_str(" ")?;
+            all.push_str(length)?;
+        }
+    }
+    Ok(all)
 }
 
 /// The words of a command.
-fn command(alloc: Global, words: &[&str]) -> Result<Vec<String>, Fail> {
+fn command(alloc: Global, words: &[&str]) -> io::Result<Vec<String>> {
     let mut command = Vec::new(alloc);
     for word in words {
         command.push(String::from_str(alloc, word)?)?;
@@ -126,369 +331,512 @@ fn command(alloc: Global, words: &[&str]) -> Result<Vec<String>, Fail> {
     Ok(command)
 }
 
-/// Replays what the source has, and gives the status and the sink.
-fn replayed(
+/// What the program answers to these words: the status, and the sink after it.
+fn answered(
     alloc: Global,
+    words: &[&str],
     mut source: MemSource,
     mut sink: MemSink,
-) -> Result<(Status, MemSink), Fail> {
-    let words = command(alloc, &["replay"])?;
-    let status = eap_login(alloc, &words, &mut source, &mut sink);
+) -> io::Result<(Status, MemSink)> {
+    let words = command(alloc, words)?;
+    let psk_peer: Box<dyn PeerMethod> = Box::new(alloc, PskPeer::new())?;
+    let gpsk_peer: Box<dyn PeerMethod> = Box::new(alloc, GpskPeer::new())?;
+    let psk_server: Box<dyn ServerMethod> = Box::new(alloc, PskServer::new())?;
+    let gpsk_server: Box<dyn ServerMethod> = Box::new(alloc, GpskServer::new())?;
+    let peer = both_peers(alloc, psk_peer, gpsk_peer)?;
+    let server = both_servers(alloc, psk_server, gpsk_server)?;
+    let methods = Methods { peer, server };
+    let status = eap_login(alloc, &words, &mut source, &mut sink, methods);
     Ok((status, sink))
 }
 
-/// What a command answers to an input.
-fn answered(alloc: Global, word: &str, input: &str) -> Result<(Status, MemSink), Fail> {
-    let words = command(alloc, &[word])?;
-    let mut source = MemSource::new(alloc, input.as_bytes(), 100, &[])?;
-    let mut sink = MemSink::new(alloc, 2000, 100, &[])?;
-    let status = eap_login(alloc, &words, &mut source, &mut sink);
-    Ok((status, sink))
+/// What the program answers to these words and this input.
+fn answered_to(alloc: Global, words: &[&str], input: &str) -> io::Result<(Status, MemSink)> {
+    let source = MemSource::new(alloc, input.as_bytes(), 100, &[])?;
+    let sink = MemSink::new(alloc, 10_000, 100, &[])?;
+    answered(alloc, words, source, sink)
 }
 
-/// An EAP-GPSK-1 of the server `srv` from its Length on up to its list, and the list.
-fn first_message(alloc: Global, head: &str, suites: u32) -> Result<String, AllocError> {
-    let mut text = String::from_str(alloc, head)?;
-    text.push_str(&repeated(alloc, "22", 32)?)?;
-    text.push_str(if suites == 20 { "0078" } else { "007e" })?;
-    text.push_str(&repeated(alloc, "000000000001", suites)?)?;
-    Ok(text)
+/// A login: the changes of the settings, the events, and of its trace the lengths of the packets sent and
+/// some of the lines, in their order.
+#[derive(Clone, Copy)]
+struct Login {
+    changes: &'static [Change],
+    events: &'static str,
+    lengths: &'static str,
+    lines: &'static str,
 }
 
-#[test]
-fn packets_are_decoded(rt: HostRuntime) -> Result<(), Fail> {
-    let cases = [
-        (
-            "010203\n05000004\n01000004\n0100000a01\n0302000500\n0100000503\n0200000503\n",
-            "1 malformed Short\n2 malformed BadCode\n3 malformed BadLength\n4 malformed Truncated\n\
-5 malformed BadLength\n6 malformed NakRequest\n7 malformed BadNak\npackets 7 malformed 7\n",
-            Status::Done,
-        ),
-        (
-            "# two packets\r\n\n01000005010000\n020100060333",
-            "1 request 0 type 1 length 5 padding 2 identity -\n\
-2 response 1 type 3 length 6 padding 0 nak 51\npackets 2 malformed 0\n",
-            Status::Done,
-        ),
-        (
-            "0200000A01616C696365\n02070008032f33fe\n03020004ff\n01090005fe\n",
-            "1 response 0 type 1 length 10 padding 0 identity 616c696365\n\
-2 response 7 type 3 length 8 padding 0 nak 47 51 254\n3 success 2 length 4 padding 1\n\
-4 request 9 type 254 length 5 padding 0 -\npackets 4 malformed 0\n",
-            Status::Done,
-        ),
-        (
-            "0102000a330500000001\n010100063307\n010100052f\n",
-            "1 request 2 type 51 length 10 padding 0 gpsk-fail 1\n\
-2 request 1 type 51 length 6 padding 0 GpskShape\n\
-3 request 1 type 47 length 5 padding 0 PskShape\npackets 3 malformed 0\n",
-            Status::Done,
-        ),
-        (
-            "010100162f0022222222222222222222222222222222\n",
-            "1 request 1 type 47 length 22 padding 0 psk-1\npackets 1 malformed 0\n",
-            Status::Done,
-        ),
-        ("", "packets 0 malformed 0\n", Status::Done),
-        (
-            "-\n",
-            "1 malformed Short\npackets 1 malformed 1\n",
-            Status::Done,
-        ),
-        ("0101 00", "refused line 1 BadCount\n", Status::Refused),
-        (
-            "04010004\n0g\n",
-            "1 failure 1 length 4 padding 0\nrefused line 2 BadHex\n",
-            Status::Refused,
-        ),
-    ];
-    for (input, want, status) in cases {
-        let (answer, sink) = answered(rt.alloc(), "decode", input)?;
-        assert_eq!(rt; answer, status, "{input}");
-        assert!(rt; sink.written() == want.as_bytes(), "{input}");
-    }
+/// Asserts that the login is replayed to its end, and what stands in its trace, with octets and names of
+/// keys.
+fn check_login(rt: &impl Abort, alloc: Global, login: &Login) -> Result<(), Fail> {
+    let input = scenario(alloc, login.changes, login.events)?;
+    let (status, sink) = answered_to(alloc, &["replay", "names"], &input)?;
+    let trace = str::from_utf8(sink.written())?;
+    let sent = lengths(alloc, trace)?;
+    assert_eq!(rt; status, Status::Done, "{trace}");
+    assert_eq!(rt; sent.as_str(), login.lengths, "{trace}");
+    assert!(rt; has_lines(trace, login.lines), "{trace}");
     Ok(())
 }
 
-// The vectors are those of FIPS 197, RFC 4493, RFC 4231 and the paper on EAX.
-#[test]
-fn requests_are_answered(rt: HostRuntime) -> Result<(), Fail> {
-    let cases = [
-        (
-            "aes 000102030405060708090a0b0c0d0e0f 00112233445566778899aabbccddeeff\n",
-            "aes 69c4e0d86a7b0430d8cdb78070b4c55a\n",
-            Status::Done,
-        ),
-        (
-            "cmac 2b7e151628aed2a6abf7158809cf4f3c -\n\
-cmac 2b7e151628aed2a6abf7158809cf4f3c 6bc1bee22e409f96e93d7e117393172a\n",
-            "cmac bb1d6929e95937287fa37d129b756746\ncmac 070a16b46b4d4144f79bdd9dd04a287c\n",
-            Status::Done,
-        ),
-        (
-            "# a request\r\n\nhmac 4A656665 7768617420646f2079612077616e7420666f72206e6f7468696e673f",
-            "hmac 5bdcc146bf60754e6a042426089575c75a003f089d2739839dec58b964ec3843\n",
-            Status::Done,
-        ),
-        (
-            "eax 233952dee4d5ed5f9b9c6d6ff80ff478 62ec67f9c3a4a407fcb2a8c49031a8b3 6bfb914fd07eae6b -\n",
-            "eax - e037830e8389f27b025a2d6527e79d01\n",
-            Status::Done,
-        ),
-        ("aes 00", "refused line 1 BadCount\n", Status::Refused),
-        ("cmac 2b 0g", "refused line 1 BadHex\n", Status::Refused),
-        ("cmac 2b 00", "refused line 1 BadSize\n", Status::Refused),
-        ("cbc 00 00", "refused line 1 BadWord\n", Status::Refused),
-        (
-            "gpsk 3 00 00 - 00 -",
-            "refused line 1 BadNumber\n",
-            Status::Refused,
-        ),
-        ("", "", Status::Done),
-    ];
-    for (input, want, status) in cases {
-        let (answer, sink) = answered(rt.alloc(), "keys", input)?;
-        assert_eq!(rt; answer, status, "{input}");
-        assert!(rt; sink.written() == want.as_bytes(), "{input}");
-    }
-    Ok(())
-}
-
-#[test]
-fn long_messages_are_decoded(rt: HostRuntime) -> Result<(), Fail> {
-    let mut named = String::from_str(rt.alloc(), "010101142f00")?;
-    named.push_str(&repeated(rt.alloc(), "22", 16)?)?;
-    named.push_str(&repeated(rt.alloc(), "41", 254)?)?;
-    let cases = [
-        (
-            first_message(rt.alloc(), "010100a533010003737276", 20)?,
-            "1 request 1 type 51 length 165 padding 0 gpsk-1\npackets 1 malformed 0\n",
-        ),
-        (
-            first_message(rt.alloc(), "010100ab33010003737276", 21)?,
-            "1 request 1 type 51 length 171 padding 0 ListTooLong\npackets 1 malformed 0\n",
-        ),
-        (
-            named,
-            "1 request 1 type 47 length 276 padding 0 PskShape\npackets 1 malformed 0\n",
-        ),
-    ];
-    for (input, want) in cases {
-        let (answer, sink) = answered(rt.alloc(), "decode", input.as_str())?;
-        assert_eq!(rt; answer, Status::Done, "{want}");
-        assert!(rt; sink.written() == want.as_bytes(), "{want}");
-    }
-    Ok(())
-}
-
-#[test]
-fn scenarios_are_replayed(rt: HostRuntime) -> Result<(), Fail> {
-    let cases = [
-        (0, "", "refused line 1 NoHeader\n", Status::Refused),
-        (
-            1,
-            "mode sideways\n",
-            "refused line 2 BadChoice\n",
-            Status::Refused,
-        ),
-        (
-            2,
-            "first-id 256\n",
-            "refused line 3 BadNumber\n",
-            Status::Refused,
-        ),
-        (4, "events\n", "refused line 5 Missing\n", Status::Refused),
-        (
-            7,
-            "peer-nonce 1111\n",
-            "refused line 8 BadSize\n",
-            Status::Refused,
-        ),
-        (
-            11,
-            "first-id 1\n",
-            "refused line 12 Repeated\n",
-            Status::Refused,
-        ),
-        (
-            11,
-            "deliver 1\n",
-            "refused line 12 Order\n",
-            Status::Refused,
-        ),
-        (12, "", "refused line 13 Missing\n", Status::Refused),
-        (
-            12,
-            "deliver 0\n",
-            "refused line 13 BadNumber\n",
-            Status::Refused,
-        ),
-        (
-            12,
-            "timeout both\n",
-            "refused line 13 BadChoice\n",
-            Status::Refused,
-        ),
-        (12, "events\n", "refused line 13 Order\n", Status::Refused),
-        (12, CUT_SHORT, CUT_SHORT_TRACE, Status::Refused),
-        (12, ROUND, ROUND_TRACE, Status::Done),
-        (12, TIMEOUTS, TIMEOUTS_TRACE, Status::Done),
-    ];
-    for (count, events, want, status) in cases {
-        let input = scenario(rt.alloc(), count, events)?;
-        let source = MemSource::new(rt.alloc(), input.as_bytes(), 100, &[])?;
-        let sink = MemSink::new(rt.alloc(), 2000, 100, &[])?;
-        let (answer, sink) = replayed(rt.alloc(), source, sink)?;
-        let text = trace(rt.alloc(), count, want)?;
-        assert_eq!(rt; answer, status, "{events}");
-        assert!(rt; sink.written() == text.as_bytes(), "{events}");
-    }
-    Ok(())
-}
-
-#[test]
-fn the_trace_is_the_same_in_every_cutting(rt: HostRuntime) -> Result<(), Fail> {
-    let input = scenario(rt.alloc(), 12, ROUND)?;
-    let text = trace(rt.alloc(), 12, ROUND_TRACE)?;
-    for (read, write) in [(1, 100), (7, 1), (100, 7)] {
-        let source = MemSource::new(rt.alloc(), input.as_bytes(), read, &[])?;
-        let sink = MemSink::new(rt.alloc(), 2000, write, &[])?;
-        let (answer, sink) = replayed(rt.alloc(), source, sink)?;
-        assert_eq!(rt; answer, Status::Done);
-        assert!(rt; sink.written() == text.as_bytes());
-    }
-    Ok(())
-}
-
-/// Asserts that a run which met a fault at this call, if at all, ended so and wrote a front of the
-/// text, or the whole.
-fn check_fault(
+/// Asserts what the whole trace of a scenario is, and the status.
+fn check_trace(
     rt: &impl Abort,
-    call: u32,
-    fault: Status,
-    answer: Status,
-    wrote: &[u8],
-    text: &str,
-) {
-    let whole = wrote.len() == text.len();
-    assert_eq!(rt;
-        answer,
-        if whole { Status::Done } else { fault },
-        "call {call}"
-    );
-    assert!(rt; text.as_bytes().starts_with(wrote), "call {call}");
+    alloc: Global,
+    changes: &[Change],
+    events: &str,
+    want: &str,
+    status: Status,
+) -> Result<(), Fail> {
+    let input = scenario(alloc, changes, events)?;
+    let (answer, sink) = answered_to(alloc, &["replay"], &input)?;
+    assert_eq!(rt; answer, status, "{want}");
+    assert!(rt; sink.written() == want.as_bytes(), "{want}");
+    Ok(())
 }
 
-// The reader asks for one octet at a time: the scenario has fewer than 400.
 #[test]
-fn each_read_may_fail(rt: HostRuntime) -> Result<(), Fail> {
-    let input = scenario(rt.alloc(), 12, ROUND)?;
-    let text = trace(rt.alloc(), 12, ROUND_TRACE)?;
-    for call in 1..400 {
-        let source = MemSource::new(rt.alloc(), input.as_bytes(), 100, &[call])?;
-        let sink = MemSink::new(rt.alloc(), 2000, 100, &[])?;
-        let (answer, sink) = replayed(rt.alloc(), source, sink)?;
-        check_fault(
-            &rt,
-            call,
-            Status::ReadFault,
-            answer,
-            sink.written(),
-            text.as_str(),
-        );
-        assert!(rt; call > 1 || sink.written() == b"eap-trace 1\n".as_slice());
+fn whole_traces(rt: HostRuntime) -> Result<(), Fail> {
+    let cases: [(&[Change], &str, &str); 4] = [
+        (&[], SEVEN, GPSK_LOGIN),
+        (
+            &[("server-suites", "server-suites 2 1")],
+            DOWNGRADE,
+            DOWNGRADE_TRACE,
+        ),
+        (&[], TIMEOUTS, TIMEOUTS_TRACE),
+        (&NO_METHODS, ROUND, ROUND_TRACE),
+    ];
+    for (changes, events, want) in cases {
+        check_trace(&rt, rt.alloc(), changes, events, want, Status::Done)?;
     }
     Ok(())
 }
 
 #[test]
-fn each_write_may_fail(rt: HostRuntime) -> Result<(), Fail> {
-    let input = scenario(rt.alloc(), 12, ROUND)?;
-    let text = trace(rt.alloc(), 12, ROUND_TRACE)?;
-    for call in 1..400 {
-        let source = MemSource::new(rt.alloc(), input.as_bytes(), 100, &[])?;
-        let sink = MemSink::new(rt.alloc(), 2000, 7, &[call])?;
-        let (answer, sink) = replayed(rt.alloc(), source, sink)?;
-        check_fault(
-            &rt,
-            call,
-            Status::WriteFault,
-            answer,
-            sink.written(),
-            text.as_str(),
-        );
-        assert_eq!(rt; call == 1, sink.written().is_empty());
+fn logins_by_gpsk(rt: HostRuntime) -> Result<(), Fail> {
+    let logins = [
+        Login {
+            changes: &[],
+            events: SEVEN,
+            lengths: " 5 10 57 120 99 24 4",
+            lines: "\
+0 octets 0100000501
+1 octets 0200000a01616c696365
+2 octets 010100393301000373727622222222222222222222222222222222222222222222222222222222\
+22222222000c000000000001000000000002
+5 octets 0202001833040000b686bcd3f457096f81c3d45f0cfc17c6
+5 keys peer msk 65018e7c40d5d101 emsk bd14c66bce680d5f
+6 octets 03020004
+6 keys server msk 65018e7c40d5d101 emsk bd14c66bce680d5f
+",
+        },
+        Login {
+            changes: &[("server-suites", "server-suites 2 1")],
+            events: SEVEN,
+            lengths: " 5 10 57 136 115 40 4",
+            lines: "\
+5 octets 020200283304000038ad245ae04ed89fe9331222e7e844948c810274fce119da5dbb0d7310b85130
+5 keys peer msk ffc7fe00f9530eff emsk 237c52663c4010cd
+6 keys server msk ffc7fe00f9530eff emsk 237c52663c4010cd
+tags honest
+result agree
+",
+        },
+        Login {
+            changes: &[("first-id", "first-id 255")],
+            events: SEVEN,
+            lengths: " 5 10 57 120 99 24 4",
+            lines: "\
+0 sent 1 to peer request 255 type 1 length 5
+2 sent 3 to peer request 0 type 51 length 57
+4 sent 5 to peer request 1 type 51 length 99
+6 sent 7 to peer success 1 length 4
+result agree
+",
+        },
+    ];
+    for login in logins {
+        check_login(&rt, rt.alloc(), &login)?;
     }
     Ok(())
 }
 
-/// The text so often.
-fn repeated(alloc: Global, text: &str, count: u32) -> Result<String, AllocError> {
-    let mut all = String::new(alloc);
-    for _ in 0..count {
-        all.push_str(text)?;
-    }
-    Ok(all)
-}
-
-// The peer ends at the first event, and the others are skipped.
 #[test]
-fn the_events_have_a_limit(rt: HostRuntime) -> Result<(), Fail> {
-    let events = repeated(rt.alloc(), "idle\n", 10_001)?;
-    let mut lines = String::from_str(rt.alloc(), "1 peer FAILURE\n")?;
-    for number in 2..=10_000 {
-        lines.push_str(&format!(in rt.alloc(); "{number} skip Ended\n")?)?;
+fn logins_by_psk(rt: HostRuntime) -> Result<(), Fail> {
+    let logins = [
+        Login {
+            changes: &[("server-methods", "server-methods 47")],
+            events: SEVEN,
+            lengths: " 5 10 25 59 59 43 4",
+            lines: "\
+2 octets 010100192f0022222222222222222222222222222222737276
+3 octets 0201003b2f4022222222222222222222222222222222111111111111111111111111111111114830dfa3260955\
+ecccc4c1d90de69678616c696365
+4 octets 0102003b2f8022222222222222222222222222222222828d11114d1e0565574c3ff3686ab32200000000b69d8e\
+c9e23567ba1fb776da73f54674c2
+5 octets 0202002b2fc0222222222222222222222222222222220000000122374e61436a1951d4e1c3f194928ae675
+5 keys peer msk 5c363bcb456b3709 emsk da157d122313791b
+6 keys server msk 5c363bcb456b3709 emsk da157d122313791b
+tags honest
+result agree
+",
+        },
+        Login {
+            changes: &[("peer-methods", "peer-methods 47")],
+            events: NINE,
+            lengths: " 5 10 57 6 25 59 59 43 4",
+            lines: "\
+3 peer RECEIVED GET_METHOD SEND_RESPONSE IDLE
+4 server RECEIVED NAK SELECT_ACTION PROPOSE_METHOD METHOD_REQUEST SEND_REQUEST IDLE
+8 sent 9 to peer success 3 length 4
+deliveries 9
+discards 0
+tags honest
+result agree
+",
+        },
+    ];
+    for login in logins {
+        check_login(&rt, rt.alloc(), &login)?;
     }
-    lines.push_str("refused line 10013 TooMuch\n")?;
-    let text = trace(rt.alloc(), 12, &lines)?;
-    let input = scenario(rt.alloc(), 12, &events)?;
-    let source = MemSource::new(rt.alloc(), input.as_bytes(), 100, &[])?;
-    let sink = MemSink::new(rt.alloc(), 1_000_000, 100, &[])?;
-    let (answer, sink) = replayed(rt.alloc(), source, sink)?;
-    assert_eq!(rt; answer, Status::TooMuch);
-    assert!(rt; sink.written() == text.as_bytes());
     Ok(())
 }
 
-// A comment may fill its line, and not more.
 #[test]
-fn a_line_has_a_limit(rt: HostRuntime) -> Result<(), Fail> {
+fn logins_that_are_refused(rt: HostRuntime) -> Result<(), Fail> {
+    let logins = [
+        Login {
+            changes: &[
+                ("peer-methods", "peer-methods 47"),
+                ("server-methods", "server-methods 51"),
+            ],
+            events: FIVE,
+            lengths: " 5 10 57 6 4",
+            lines: "\
+3 octets 02010006032f
+4 server RECEIVED NAK SELECT_ACTION FAILURE
+4 octets 04010004
+state peer FAILURE
+state server FAILURE
+tags honest
+result open
+",
+        },
+        Login {
+            changes: &[("user alice 51", BARRED_51)],
+            events: SEVEN,
+            lengths: " 5 10 57 120 26 26 4",
+            lines: "state peer FAILURE\nstate server FAILURE\ntags honest\nresult open\n",
+        },
+        Login {
+            changes: &[("user alice 51", "")],
+            events: SEVEN,
+            lengths: " 5 10 57 120 10 10 4",
+            lines: "state peer FAILURE\nstate server FAILURE\ntags honest\nresult open\n",
+        },
+        Login {
+            changes: &[
+                ("server-methods", "server-methods 47"),
+                ("user alice 47", ""),
+            ],
+            events: "deliver 1\ndeliver 2\ndeliver 3\ndeliver 4\ndeliver 5\nidle\nend\n",
+            lengths: " 5 10 25 59 4",
+            lines: "4 octets 04010004\n5 cause EarlyFailure\n6 peer FAILURE\nresult open\n",
+        },
+        Login {
+            changes: &BARRED_PSK,
+            events: SEVEN,
+            lengths: " 5 10 25 59 59 43 4",
+            lines: "\
+6 octets 04020004
+7 peer RECEIVED FAILURE
+deliveries 7
+discards 0
+tags honest
+result open
+",
+        },
+    ];
+    for login in logins {
+        check_login(&rt, rt.alloc(), &login)?;
+    }
+    Ok(())
+}
+
+#[test]
+fn altered_packets(rt: HostRuntime) -> Result<(), Fail> {
+    let logins = [
+        Login {
+            changes: &[],
+            events: "\
+deliver 1
+deliver 2
+deliver 3
+alter 4 119 1
+deliver 4
+deliver 5
+deliver 6
+deliver 7
+end
+",
+            lengths: " 5 10 57 120 99 24 4",
+            lines: "\
+4 server RECEIVED INTEGRITY_CHECK DISCARD IDLE
+4 cause BadTag
+deliveries 8
+discards 1
+result agree
+",
+        },
+        Login {
+            changes: &SHORT_NAMES,
+            events: "deliver 1\ndeliver 2\nalter 3 3 15\nalter 4 3 15\ndeliver 5\nend\n",
+            lengths: " 5 7 24 56 59",
+            lines: "5 peer RECEIVED METHOD DISCARD IDLE\n5 cause BadTag\ntags honest\nresult open\n",
+        },
+    ];
+    for login in logins {
+        check_login(&rt, rt.alloc(), &login)?;
+    }
+    Ok(())
+}
+
+#[test]
+fn injected_packets(rt: HostRuntime) -> Result<(), Fail> {
+    let logins = [
+        Login {
+            changes: &[],
+            events: "\
+deliver 1
+deliver 2
+deliver 3
+inject peer 03010004
+deliver 4
+deliver 5
+deliver 6
+deliver 7
+end
+",
+            lengths: " 5 10 57 120 99 24 4",
+            lines: "\
+4 peer RECEIVED DISCARD IDLE
+4 cause EarlySuccess
+deliveries 8
+discards 1
+result agree
+",
+        },
+        Login {
+            changes: &[],
+            events: "deliver 1\ndeliver 2\ndeliver 3\ninject peer 04010004\nend\n",
+            lengths: " 5 10 57 120",
+            lines: "4 cause EarlyFailure\nresult open\n",
+        },
+        Login {
+            changes: &[],
+            events: "inject peer 01000005010102030405060708\nend\n",
+            lengths: " 5 10",
+            lines: "1 peer RECEIVED IDENTITY SEND_RESPONSE IDLE\n",
+        },
+        Login {
+            changes: &[],
+            events: OLD_ANSWER,
+            lengths: " 5 10 57 99",
+            lines: "tags broken 3\nresult open\n",
+        },
+    ];
+    for login in logins {
+        check_login(&rt, rt.alloc(), &login)?;
+    }
+    Ok(())
+}
+
+/// Packet 3 comes twice.
+const REPEATED: &str = "\
+deliver 1
+deliver 2
+deliver 3
+deliver 3
+deliver 4
+deliver 5
+deliver 6
+deliver 7
+deliver 8
+end
+";
+
+/// Packet 6 is lost.
+const LOST: &str = "\
+deliver 1
+deliver 2
+deliver 3
+deliver 4
+deliver 5
+timeout server
+deliver 7
+deliver 8
+deliver 9
+end
+";
+
+#[test]
+fn packets_are_sent_again(rt: HostRuntime) -> Result<(), Fail> {
+    let logins = [
+        Login {
+            changes: &[],
+            events: REPEATED,
+            lengths: " 5 10 57 120 120 99 24 4",
+            lines: "\
+4 peer RECEIVED RETRANSMIT SEND_RESPONSE IDLE
+6 server RECEIVED DISCARD IDLE
+6 cause IdMismatch
+events 9
+deliveries 9
+discards 1
+result agree
+",
+        },
+        Login {
+            changes: &[],
+            events: LOST,
+            lengths: " 5 10 57 120 99 24 99 24 4",
+            lines: "\
+6 server RETRANSMIT IDLE
+7 peer RECEIVED RETRANSMIT SEND_RESPONSE IDLE
+events 9
+deliveries 8
+discards 0
+result agree
+",
+        },
+    ];
+    for login in logins {
+        check_login(&rt, rt.alloc(), &login)?;
+    }
+    Ok(())
+}
+
+#[test]
+fn what_is_sent_again_is_the_same(rt: HostRuntime) -> Result<(), Fail> {
+    let cases = [
+        (REPEATED, "3 octets ", "4 octets "),
+        (LOST, "4 octets ", "6 octets "),
+        (LOST, "5 octets ", "7 octets "),
+    ];
+    for (events, first, again) in cases {
+        let input = scenario(rt.alloc(), &[], events)?;
+        let (_, sink) = answered_to(rt.alloc(), &["replay", "names"], &input)?;
+        let trace = str::from_utf8(sink.written())?;
+        assert!(rt; after(trace, first).is_some(), "{trace}");
+        assert!(rt; after(trace, first) == after(trace, again), "{trace}");
+    }
+    Ok(())
+}
+
+#[test]
+fn packets_of_the_identity_round(rt: HostRuntime) -> Result<(), Fail> {
+    let logins = [
+        Login {
+            changes: &NO_METHODS,
+            events: "inject peer 010100063301\ndeliver 2\nend\n",
+            lengths: " 5 6",
+            lines: "\
+1 peer RECEIVED GET_METHOD SEND_RESPONSE IDLE
+1 octets 020100060300
+2 server RECEIVED DISCARD IDLE
+2 cause IdMismatch
+",
+        },
+        Login {
+            changes: &NO_METHODS,
+            events: "inject peer 010500060241\nend\n",
+            lengths: " 5 5",
+            lines: "1 peer RECEIVED NOTIFICATION SEND_RESPONSE IDLE\n1 octets 0205000502\n",
+        },
+        Login {
+            changes: &NO_METHODS,
+            events: "alt-accept\ndeliver 1\nend\n",
+            lengths: " 5",
+            lines: "1 peer FAILURE\n2 peer -\n2 cause Ended\n",
+        },
+        Login {
+            changes: &NO_METHODS,
+            events: "alter 1 4 50\nend\n",
+            lengths: " 5 6",
+            lines: "1 octets 020000060300\n",
+        },
+        Login {
+            changes: &NO_METHODS,
+            events: "cut 1 3\ncut 1 6\nend\n",
+            lengths: " 5",
+            lines: "1 cause Short\n2 skip Place\n",
+        },
+    ];
+    for login in logins {
+        check_login(&rt, rt.alloc(), &login)?;
+    }
+    Ok(())
+}
+
+#[test]
+fn settings_are_refused(rt: HostRuntime) -> Result<(), Fail> {
     let cases = [
         (
-            4096,
-            "eap-trace 1\nrefused line 3 Missing\n",
-            Status::Refused,
+            "eap-scenario",
+            "eap-scenario 2",
+            "refused line 1 NoHeader\n",
         ),
+        ("mode", "mode sideways", "refused line 2 BadChoice\n"),
+        ("first-id", "first-id 256", "refused line 3 BadNumber\n"),
+        ("max-retrans", "first-id 1", "refused line 4 Repeated\n"),
+        ("peer-psk 47", "peer-psk 47 00", "refused line 10 BadSize\n"),
         (
-            4097,
-            "eap-trace 1\nrefused line 2 TooMuch\n",
-            Status::TooMuch,
+            "peer-nonce",
+            "peer-nonce 11111111111111111111111111111111111111111111111111111111111111",
+            "refused line 11 BadSize\n",
         ),
+        ("peer-name", "", "refused line 17 Missing\n"),
+        ("events", "deliver 1", "refused line 18 Order\n"),
     ];
-    for (count, text, status) in cases {
-        let comment = repeated(rt.alloc(), "#", count)?;
-        let input = scenario(rt.alloc(), 1, &comment)?;
-        let source = MemSource::new(rt.alloc(), input.as_bytes(), 100, &[])?;
-        let sink = MemSink::new(rt.alloc(), 2000, 100, &[])?;
-        let (answer, sink) = replayed(rt.alloc(), source, sink)?;
-        assert_eq!(rt; answer, status, "{count} octets");
-        assert!(rt; sink.written() == text.as_bytes(), "{count} octets");
+    for (front, line, refusal) in cases {
+        let want = joined(rt.alloc(), HEADER, refusal)?;
+        check_trace(
+            &rt,
+            rt.alloc(),
+            &[(front, line)],
+            FIVE,
+            &want,
+            Status::Refused,
+        )?;
     }
     Ok(())
 }
 
-// The source would fail at its first read.
 #[test]
-fn other_words_tell_the_usage(rt: HostRuntime) -> Result<(), Fail> {
-    let cases: [&[&str]; 4] = [&[], &["replay", "twice"], &["Replay"], &["usage"]];
-    for words in cases {
-        let words = command(rt.alloc(), words)?;
-        let mut source = MemSource::new(rt.alloc(), b"", 100, &[1])?;
-        let mut sink = MemSink::new(rt.alloc(), 2000, 100, &[])?;
-        let answer = eap_login(rt.alloc(), &words, &mut source, &mut sink);
-        assert_eq!(rt; answer, Status::Usage, "{words:?}");
-        let usage = "usage: eap_login replay | replay names | decode | keys | check | bulk N K\n";
-        assert!(rt; sink.written() == usage.as_bytes(), "{words:?}");
+fn events_are_refused(rt: HostRuntime) -> Result<(), Fail> {
+    let cases = [
+        ("deliver 0\n", "refused line 19 BadNumber\n"),
+        ("deliver 1 2\n", "refused line 19 BadCount\n"),
+        ("timeout both\n", "refused line 19 BadChoice\n"),
+        ("inject peer 0g\n", "refused line 19 BadHex\n"),
+        ("events\n", "refused line 19 Order\n"),
+        ("", "refused line 19 Missing\n"),
+        (
+            "deliver 1\n",
+            "1 peer RECEIVED IDENTITY SEND_RESPONSE IDLE\n\
+1 sent 2 to server response 0 type 1 length 10\nrefused line 20 Missing\n",
+        ),
+        (
+            "deliver 1\n\n# a comment\ndeliver 1 2\nend\n",
+            "1 peer RECEIVED IDENTITY SEND_RESPONSE IDLE\n\
+1 sent 2 to server response 0 type 1 length 10\nrefused line 22 BadCount\n",
+        ),
+    ];
+    for (events, lines) in cases {
+        let want = joined(rt.alloc(), START, lines)?;
+        check_trace(&rt, rt.alloc(), &[], events, &want, Status::Refused)?;
     }
     Ok(())
 }

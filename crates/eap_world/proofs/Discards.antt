@@ -1,183 +1,146 @@
--- A discard changes no variable of an end and sends nothing.
-use Rattle.std.proofs.Common.{◌≡◌, ℕ, List, [], ◌++◌, Bool, true, false, if◌then◌else◌, Option, Some, None, Result, Ok, Err, refl, ap, subst, ◌∙◌, append-nil}
-use Rattle.std.specs.Prelude.{IsSome, ◌==◌, ◌+◌, length, nat_le, nat_lt}
+-- An event that is discarded changes nothing but the counts, and each report that an end holds was told
+-- of.
+use Rattle.std.proofs.Common.{◌≡◌, ℕ, List, [], ◌∷◌, ◌++◌, Bool, true, false, Option, Some, None, refl, ap, subst, sym, ◌∙◌, append-nil}
+use Rattle.std.specs.Prelude.{IsSome}
 use Rattle.eap_base.specs.declared.event.Event.{Event}
-use Rattle.eap_base.specs.declared.event.Event.TheVariants as event
 use Rattle.eap_base.specs.declared.setup.Party.{Party}
 use Rattle.eap_base.specs.declared.setup.Party.TheVariants as party
-use Rattle.eap_base.specs.declared.setup.Port.{Port}
 use Rattle.eap_base.specs.declared.setup.Port.TheVariants as port
-use Rattle.eap_packet.specs.Fault.{packet_of}
-use Rattle.eap_packet.specs.Packet.{PacketValue, request, response, success, failure}
-use Rattle.eap_packet.specs.declared.cause.Cause.{Cause}
-use Rattle.eap_world.specs.Laws.{DiscardKeeps}
-use Rattle.eap_packet.specs.declared.state.State.{State}
-use Rattle.eap_world.specs.Steps.{discards, is_end}
-use Rattle.eap_world.specs.PeerTable as peer_table
-use Rattle.eap_world.specs.PeerTable.{PeerOutcome, is_last_id, peer_deliver, peer_end, peer_fails, peer_new_request, peer_retransmit, peer_row}
-use Rattle.eap_world.specs.ServerTable as server_table
-use Rattle.eap_world.specs.ServerTable.{ServerOutcome, is_current_id, server_deliver, server_response, server_row, server_timeout}
-use Rattle.eap_world.specs.World.{Acted, WorldState, WorldOutcome, act, alter_sent, cut_sent, deliver_sent, handed, lower_layer, none_acts, packet_numbered, peer_acts, sent_by, sent_to, server_acts, timer_ends, told_of, world_outcome, world_step}
-use Rattle.eap_world.specs.declared.act.Sent.{Sent}
-use Rattle.eap_world.specs.declared.peer_machine.PeerMachine.{PeerMachine}
-use Rattle.eap_world.specs.declared.server_machine.ServerMachine.{ServerMachine}
-use Rattle.eap_world.specs.declared.told.Skip.{Skip}
-use Rattle.eap_world.specs.declared.told.Told.{Told}
+use Rattle.eap_base.specs.declared.setup.Setup.{Setup}
+use Rattle.eap_method.specs.declared.tags.Tags.{Tags}
+use Rattle.eap_method.specs.declared.values.Report.{Report}
+use Rattle.peer_machine.specs.PeerTable.{PeerNow, peer_reports}
+use Rattle.server_machine.specs.ServerTable.{ServerNow, server_start, server_reports}
+use Rattle.eap_world.specs.Book.{booked}
+use Rattle.eap_world.specs.Laws.{HasToldReports, DiscardsKeep, RunsTellReports}
+use Rattle.eap_world.specs.World.{Acted, WorldNow, act, booked_by, first_report, held_after, named_by, run_after, sent_by, sent_to, told_of, world_made, world_start, world_step}
+use Rattle.eap_world.specs.declared.book.Entry.{Entry}
+use Rattle.eap_world.specs.declared.book.End.TheVariants as end
+use Rattle.eap_world.specs.declared.told.Named.{Named}
+use Rattle.eap_world.specs.declared.world.Held.{Held}
+use Rattle.eap_world.proofs.Acting.{Acts, nobody, the_peer, the_server, act-acts}
 
--- what holds of both outcomes of a test holds of the one that is chosen
-by_test : {A : Type 0} (P : A → Type 0) (test : Bool) (x y : A) → P x → P y → P (if test then x else y)
-by_test P true x y on_true on_false = on_true
-by_test P false x y on_true on_false = on_false
+-- a report that was told of isn't told of again
+tells_once : (was : Bool) (of : Party) (report : Option Report) → (IsSome report → was ≡ true) → first_report was of report ≡ None
+tells_once true of report told = refl
+tells_once false of None told = refl
+tells_once false of (Some report) told = let contrary = told refl in cc contrary
 
--- where the peer's call answers a cause, it changed no variable and sends nothing
-record PeerKeeps (before : PeerMachine) (out : PeerOutcome) : Type 0 where
-  pub keeps : IsSome out.step.cause → (out.after ≡ before) × (out.step.sent ≡ None)
+-- both ends hold no report but what was told of
+pub record AreTold (held : Held) (peer : PeerNow) (server : ServerNow) : Type 0 where
+  pub peer_told : IsSome (peer_reports peer) → held.peer ≡ true
+  pub server_told : IsSome (server_reports server) → held.server ≡ true
 
--- a discard
-peer_discard-keeps : (m : PeerMachine) (path : List State) (cause : Cause) → PeerKeeps m (peer_table.outcome (discards path cause) m)
-peer_discard-keeps m path cause = record { keeps = λ _. (refl, refl) }
+-- where a cause is told of, both ends are as they were, and there is nothing to send, to book or to tell
+record Kept (peer : PeerNow) (server : ServerNow) (out : Acted) : Type 0 where
+  pub same_peer : out.peer ≡ peer
+  pub same_server : out.server ≡ server
+  pub unsent : sent_by out.action ≡ []
+  pub unbooked : (event : ℕ) → booked_by event out.action ≡ []
+  pub untold : (held : Held) → AreTold held peer server → named_by held out out.action ≡ None
 
--- any call that answers no cause
-peer_goes_on-keeps : (m after : PeerMachine) (path : List State) (sent : Option (List ℕ))
-    → PeerKeeps m (peer_table.outcome (record { path = path; cause = None; sent = sent }) after)
-peer_goes_on-keeps m after path sent = record { keeps = λ is_discard. cc is_discard }
+record ActKeeps (peer : PeerNow) (server : ServerNow) (out : Acted) : Type 0 where
+  pub keeps : (event number : ℕ) (named : Option Named) → IsSome (told_of event number named out.action).cause → Kept peer server out
 
-peer_new_request-keeps : (m : PeerMachine) (id kind : ℕ) → PeerKeeps m (peer_new_request m id kind)
-peer_new_request-keeps m id kind =
-    by_test (PeerKeeps m) (kind == 1) _ _ (peer_goes_on-keeps m _ _ _)
-    (by_test (PeerKeeps m) (kind == 2) _ _ (peer_goes_on-keeps m _ _ _) (peer_goes_on-keeps m _ _ _))
-
-peer_end-keeps : (m : PeerMachine) (id : ℕ) → PeerKeeps m (peer_end m id)
-peer_end-keeps m id = by_test (PeerKeeps m) (is_last_id m.last_id id) _ _ (peer_goes_on-keeps m _ _ _) (peer_discard-keeps m _ _)
-
-peer_row-keeps : (m : PeerMachine) (packet : Result PacketValue Cause) → PeerKeeps m (peer_row m packet)
-peer_row-keeps m (Err cause) = peer_discard-keeps m _ _
-peer_row-keeps m (Ok (request id kind body)) =
-    by_test (PeerKeeps m) (is_last_id m.last_id id) _ _ (peer_goes_on-keeps m _ _ _) (peer_new_request-keeps m id kind)
-peer_row-keeps m (Ok (response id kind body)) = peer_discard-keeps m _ _
-peer_row-keeps m (Ok (success id)) = peer_end-keeps m id
-peer_row-keeps m (Ok (failure id)) = peer_end-keeps m id
-
-peer_deliver-keeps : (m : PeerMachine) (octets : List ℕ) → PeerKeeps m (peer_deliver m octets)
-unfolding peer_deliver
-peer_deliver-keeps m octets = by_test (PeerKeeps m) (is_end m.state) _ _ (peer_discard-keeps m _ _) (peer_row-keeps m (packet_of octets))
-
-peer_fails-keeps : (m : PeerMachine) → PeerKeeps m (peer_fails m)
-unfolding peer_fails
-peer_fails-keeps m = peer_goes_on-keeps m _ _ _
-
--- where the server's call answers a cause, it changed no variable and sends nothing
-record ServerKeeps (before : ServerMachine) (out : ServerOutcome) : Type 0 where
-  pub keeps : IsSome out.step.cause → (out.after ≡ before) × (out.step.sent ≡ None)
-
--- a discard
-server_discard-keeps : (m : ServerMachine) (path : List State) (cause : Cause) → ServerKeeps m (server_table.outcome (discards path cause) m)
-server_discard-keeps m path cause = record { keeps = λ _. (refl, refl) }
-
--- any call that answers no cause
-server_goes_on-keeps : (m after : ServerMachine) (path : List State) (sent : Option (List ℕ))
-    → ServerKeeps m (server_table.outcome (record { path = path; cause = None; sent = sent }) after)
-server_goes_on-keeps m after path sent = record { keeps = λ is_discard. cc is_discard }
-
-server_response-keeps : (m : ServerMachine) (id kind : ℕ) → ServerKeeps m (server_response m id kind)
-server_response-keeps m id kind =
-    by_test (ServerKeeps m) (is_current_id m.current_id id) _ _
-    (by_test (ServerKeeps m) (kind == 1) _ _ (server_goes_on-keeps m _ _ _) (server_discard-keeps m _ _))
-    (server_discard-keeps m _ _)
-
-server_row-keeps : (m : ServerMachine) (packet : Result PacketValue Cause) → ServerKeeps m (server_row m packet)
-server_row-keeps m (Err cause) = server_discard-keeps m _ _
-server_row-keeps m (Ok (request id kind body)) = server_discard-keeps m _ _
-server_row-keeps m (Ok (response id kind body)) = server_response-keeps m id kind
-server_row-keeps m (Ok (success id)) = server_discard-keeps m _ _
-server_row-keeps m (Ok (failure id)) = server_discard-keeps m _ _
-
-server_deliver-keeps : (m : ServerMachine) (octets : List ℕ) → ServerKeeps m (server_deliver m octets)
-unfolding server_deliver
-server_deliver-keeps m octets = by_test (ServerKeeps m) (is_end m.state) _ _ (server_discard-keeps m _ _) (server_row-keeps m (packet_of octets))
-
-server_timeout-keeps : (m : ServerMachine) → ServerKeeps m (server_timeout m)
-unfolding server_timeout
-server_timeout-keeps m = by_test (ServerKeeps m) (nat_le (m.retrans_count + 1) m.max_retrans) _ _ (server_goes_on-keeps m _ _ _) (server_goes_on-keeps m _ _ _)
-
--- where a cause is told of the action, both machines kept their variables and nothing is sent
-record ActKeeps (peer : PeerMachine) (server : ServerMachine) (out : Acted) : Type 0 where
-  pub keeps : (event number : ℕ) → IsSome (told_of event number out.action).cause
-      → (out.peer ≡ peer) × (out.server ≡ server) × (sent_by out.action ≡ [])
-
-peer_acts-keeps : (is_delivery : Bool) (peer : PeerMachine) (server : ServerMachine) (out : PeerOutcome) → PeerKeeps peer out
-    → ActKeeps peer server (peer_acts is_delivery out server)
-peer_acts-keeps is_delivery peer server out kept = record {
-  keeps = λ event number is_discard. ((kept.keeps is_discard).0, refl, ap (sent_to port.Server) (kept.keeps is_discard).1);
+acts-keep : (peer : PeerNow) (server : ServerNow) (out : Acted) → Acts peer server out → ActKeeps peer server out
+acts-keep peer server _ (nobody skip) = record { keeps = λ event number named is_discard. cc is_discard }
+acts-keep peer server _ (the_peer is_delivery out kept) = record {
+  keeps = λ event number named is_discard.
+      let same = kept.keeps is_discard in
+      record {
+        same_peer = same.all;
+        same_server = refl;
+        unsent = ap (sent_to port.Server) same.sent;
+        unbooked = λ event. ap (λ (tags : Tags). booked event end.Peer tags) same.tags;
+        untold = λ held told. subst (λ (now : PeerNow). first_report held.peer party.Peer (peer_reports now) ≡ None) (sym same.all)
+            (tells_once held.peer party.Peer (peer_reports peer) told.peer_told);
+      };
+}
+acts-keep peer server _ (the_server is_delivery out kept) = record {
+  keeps = λ event number named is_discard.
+      let same = kept.keeps is_discard in
+      record {
+        same_peer = refl;
+        same_server = same.all;
+        unsent = ap (sent_to port.Peer) same.sent;
+        unbooked = λ event. ap (λ (tags : Tags). booked event end.Server tags) same.tags;
+        untold = λ held told. subst (λ (now : ServerNow). first_report held.server party.Server (server_reports now) ≡ None) (sym same.all)
+            (tells_once held.server party.Server (server_reports server) told.server_told);
+      };
 }
 
-server_acts-keeps : (is_delivery : Bool) (peer : PeerMachine) (server : ServerMachine) (out : ServerOutcome) → ServerKeeps server out
-    → ActKeeps peer server (server_acts is_delivery peer out)
-server_acts-keeps is_delivery peer server out kept = record {
-  keeps = λ event number is_discard. (refl, (kept.keeps is_discard).0, ap (sent_to port.Peer) (kept.keeps is_discard).1);
-}
-
-none_acts-keeps : (peer : PeerMachine) (server : ServerMachine) (skip : Skip) → ActKeeps peer server (none_acts peer server skip)
-none_acts-keeps peer server skip = record { keeps = λ event number is_discard. cc is_discard }
-
-handed-keeps : (peer : PeerMachine) (server : ServerMachine) (to : Port) (octets : List ℕ) → ActKeeps peer server (handed peer server to octets)
-handed-keeps peer server port.Peer octets = peer_acts-keeps true peer server (peer_deliver peer octets) (peer_deliver-keeps peer octets)
-handed-keeps peer server port.Server octets = server_acts-keeps true peer server (server_deliver server octets) (server_deliver-keeps server octets)
-handed-keeps peer server port.PassPeer octets = none_acts-keeps peer server _
-handed-keeps peer server port.PassServer octets = none_acts-keeps peer server _
-
-deliver_sent-keeps : (peer : PeerMachine) (server : ServerMachine) (packet : Option Sent) → ActKeeps peer server (deliver_sent peer server packet)
-deliver_sent-keeps peer server None = none_acts-keeps peer server _
-deliver_sent-keeps peer server (Some packet) = handed-keeps peer server packet.port packet.octets
-
-alter_sent-keeps : (peer : PeerMachine) (server : ServerMachine) (place mask : ℕ) (packet : Option Sent)
-    → ActKeeps peer server (alter_sent peer server place mask packet)
-alter_sent-keeps peer server place mask None = none_acts-keeps peer server _
-alter_sent-keeps peer server place mask (Some packet) =
-    by_test (ActKeeps peer server) (nat_lt place (length packet.octets)) _ _ (handed-keeps peer server packet.port _) (none_acts-keeps peer server _)
-
-cut_sent-keeps : (peer : PeerMachine) (server : ServerMachine) (keep : ℕ) (packet : Option Sent)
-    → ActKeeps peer server (cut_sent peer server keep packet)
-cut_sent-keeps peer server keep None = none_acts-keeps peer server _
-cut_sent-keeps peer server keep (Some packet) =
-    by_test (ActKeeps peer server) (nat_le keep (length packet.octets)) _ _ (handed-keeps peer server packet.port _) (none_acts-keeps peer server _)
-
-timer_ends-keeps : (peer : PeerMachine) (server : ServerMachine) (of : Party) → ActKeeps peer server (timer_ends peer server of)
-timer_ends-keeps peer server party.Peer = by_test (ActKeeps peer server) (is_end peer.state) _ _ (none_acts-keeps peer server _) (none_acts-keeps peer server _)
-timer_ends-keeps peer server party.Pass = none_acts-keeps peer server _
-timer_ends-keeps peer server party.Server =
-    by_test (ActKeeps peer server) (is_end server.state) _ _ (none_acts-keeps peer server _)
-    (server_acts-keeps false peer server (server_timeout server) (server_timeout-keeps server))
-
-lower_layer-keeps : (peer : PeerMachine) (server : ServerMachine) → ActKeeps peer server (lower_layer peer server)
-lower_layer-keeps peer server =
-    by_test (ActKeeps peer server) (is_end peer.state) _ _ (none_acts-keeps peer server _)
-    (peer_acts-keeps false peer server (peer_fails peer) (peer_fails-keeps peer))
-
-act-keeps : (peer : PeerMachine) (server : ServerMachine) (sent : List Sent) (e : Event) → ActKeeps peer server (act peer server sent e)
-unfolding act
-act-keeps peer server sent (event.Deliver n) = deliver_sent-keeps peer server (packet_numbered sent n)
-act-keeps peer server sent (event.Alter n place mask) = alter_sent-keeps peer server place mask (packet_numbered sent n)
-act-keeps peer server sent (event.Cut n keep) = cut_sent-keeps peer server keep (packet_numbered sent n)
-act-keeps peer server sent (event.Inject to octets) = handed-keeps peer server to octets
-act-keeps peer server sent (event.Timeout of) = timer_ends-keeps peer server of
-act-keeps peer server sent event.AaaTimeout = none_acts-keeps peer server _
-act-keeps peer server sent event.AaaNoReq = none_acts-keeps peer server _
-act-keeps peer server sent event.Idle = lower_layer-keeps peer server
-act-keeps peer server sent event.AltAccept = lower_layer-keeps peer server
-act-keeps peer server sent event.AltReject = lower_layer-keeps peer server
-
-world_step-keeps : (w : WorldState) (e : Event) → DiscardKeeps (world_step w e).told w (world_step w e).after
+pub discards_keep : DiscardsKeep
 unfolding world_step
-world_step-keeps w e is_discard =
-    let kept = (act-keeps w.peer w.server w.sent e).keeps _ _ is_discard in
+discards_keep w e is_discard =
+    let kept = (acts-keep w.peer w.server (act w.peer w.server w.sent e) (act-acts w.peer w.server w.sent e)).keeps _ _ _ is_discard in
     record {
-      peer = kept.0;
-      server = kept.1;
-      sent = ap (λ sent. w.sent ++ sent) kept.2 ∙ append-nil w.sent;
+      peer = kept.same_peer;
+      server = kept.same_server;
+      sent = ap (λ sent. w.sent ++ sent) kept.unsent ∙ append-nil w.sent;
+      book = ap (λ (entries : List Entry). w.book ++ entries) (kept.unbooked _) ∙ append-nil w.book;
+      held = λ told. ap (held_after w.held) (kept.untold w.held (record { peer_told = told.peer; server_told = told.server }));
     }
 
--- the same of a step whose outcome is known
-pub discard_keeps : (w after : WorldState) (e : Event) (told : Told) → world_step w e ≡ world_outcome told after → DiscardKeeps told w after
-discard_keeps w after e told is_step =
-    subst (λ (out : WorldOutcome). DiscardKeeps out.told w out.after) is_step (world_step-keeps w e)
+-- what an end is seen to hold was told of, and what the other holds still was
+peer_names : (one other : Bool) (report : Option Report)
+    → (let held : Held = record { peer = one; server = other } in IsSome report → (held_after held (first_report one party.Peer report)).peer ≡ true)
+peer_names true other report is = refl
+peer_names false other None is = cc is
+peer_names false other (Some report) is = refl
+
+peer_names_alone : (one other : Bool) (report : Option Report)
+    → (let held : Held = record { peer = one; server = other } in (held_after held (first_report one party.Peer report)).server ≡ other)
+peer_names_alone true other report = refl
+peer_names_alone false other None = refl
+peer_names_alone false other (Some report) = refl
+
+server_names : (one other : Bool) (report : Option Report)
+    → (let held : Held = record { peer = other; server = one } in IsSome report → (held_after held (first_report one party.Server report)).server ≡ true)
+server_names true other report is = refl
+server_names false other None is = cc is
+server_names false other (Some report) is = refl
+
+server_names_alone : (one other : Bool) (report : Option Report)
+    → (let held : Held = record { peer = other; server = one } in (held_after held (first_report one party.Server report)).peer ≡ other)
+server_names_alone true other report = refl
+server_names_alone false other None = refl
+server_names_alone false other (Some report) = refl
+
+-- the held reports of both ends stay told of
+acts-tell : (held : Held) (peer : PeerNow) (server : ServerNow) (out : Acted) → Acts peer server out → AreTold held peer server
+    → AreTold (held_after held (named_by held out out.action)) out.peer out.server
+acts-tell held peer server _ (nobody skip) told = told
+acts-tell held peer server _ (the_peer is_delivery out kept) told = record {
+  peer_told = peer_names held.peer held.server (peer_reports out.after);
+  server_told = λ is. peer_names_alone held.peer held.server (peer_reports out.after) ∙ told.server_told is;
+}
+acts-tell held peer server _ (the_server is_delivery out kept) told = record {
+  peer_told = λ is. server_names_alone held.server held.peer (server_reports out.after) ∙ told.peer_told is;
+  server_told = server_names held.server held.peer (server_reports out.after);
+}
+
+step-tells : (w : WorldNow) (e : Event) → HasToldReports w → HasToldReports (world_step w e).after
+unfolding world_step
+step-tells w e told =
+    let after = acts-tell w.held w.peer w.server (act w.peer w.server w.sent e) (act-acts w.peer w.server w.sent e)
+    (record { peer_told = told.peer; server_told = told.server }) in
+    record { peer = after.peer_told; server = after.server_told }
+
+run-tells : (w : WorldNow) (events : List Event) → HasToldReports w → HasToldReports (run_after w events)
+unfolding run_after
+run-tells w [] told = told
+run-tells w (e ∷ rest) told = run-tells (world_step w e).after rest (step-tells w e told)
+
+-- before the start no end holds a report, and the start is an action of the server
+start-tells : (setup : Setup) → HasToldReports (world_start (world_made setup)).after
+unfolding world_start
+start-tells setup =
+    let w = world_made setup in
+    let out = server_start w.server in
+    record {
+      peer = λ is. cc is;
+      server = server_names false false (server_reports out.after);
+    }
+
+pub runs_tell_reports : RunsTellReports
+runs_tell_reports setup events = run-tells (world_start (world_made setup)).after events (start-tells setup)

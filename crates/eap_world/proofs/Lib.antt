@@ -1,2 +1,4 @@
+pub mod Acting
+pub mod Booking
 pub mod Discards
-pub mod Worked
+mod Worked

@@ -1,20 +1,30 @@
--- The Identity round, computed from the definitions alone.
-use Rattle.std.proofs.Common.{◌≡◌, List, [], ◌∷◌, refl, Some, None}
+-- The Identity round (RFC 3748 section 2), computed from the definitions alone.
+use Rattle.std.proofs.Common.{◌≡◌, List, [], ◌∷◌, true, false, refl, Some, None}
 use Rattle.std.specs.Prelude.{codes, replicate}
 use Rattle.eap_base.specs.declared.setup.Setup.{Setup}
 use Rattle.eap_base.specs.declared.setup.Mode.TheVariants as mode
 use Rattle.eap_base.specs.declared.setup.Accepts.TheVariants.{One}
+use Rattle.eap_base.specs.declared.setup.Party.TheVariants as party
 use Rattle.eap_base.specs.declared.setup.Port.TheVariants as port
 use Rattle.eap_base.specs.declared.event.Event.{Event}
 use Rattle.eap_base.specs.declared.event.Event.TheVariants.{Deliver}
 use Rattle.eap_packet.specs.declared.state.State.TheVariants as state
 use Rattle.eap_packet.specs.Packet.{spelled}
 use Rattle.eap_packet.specs.Fault.{fault, packet_of}
-use Rattle.eap_world.specs.PeerTable.{peer_deliver}
-use Rattle.eap_world.specs.ServerTable.{server_start, server_deliver}
-use Rattle.eap_world.specs.World.{world_made, world_start, act, world_step, run_after}
+use Rattle.login_policy.specs.Policy.{next_kind}
+use Rattle.eap_method.specs.PskPeer as psk_peer
+use Rattle.eap_method.specs.GpskPeer as gpsk_peer
+use Rattle.eap_method.specs.Peer as peer
+use Rattle.eap_method.specs.Server as server
+use Rattle.eap_method.specs.declared.values.MethodState.TheVariants.{NotSet}
+use Rattle.eap_method.specs.declared.values.Decision.TheVariants.{Fail}
+use Rattle.peer_machine.specs.PeerTable.{peer_deliver}
+use Rattle.server_machine.specs.ServerTable.{server_start, server_deliver, select_action}
+use Rattle.server_machine.specs.declared.variables.Progress.TheVariants.{End}
+use Rattle.eap_world.specs.World.{world_made, world_start, act, world_step, run_after, told_after}
 
-pub example_setup : Setup
+-- alice logs in at the server srv, which sends a Request again four times; no end has a method
+example_setup : Setup
 example_setup = record {
   mode = mode.Alone;
   first_id = 0;
@@ -23,16 +33,78 @@ example_setup = record {
   server = record { name = codes "srv"; methods = []; suites = 1 ∷ 2 ∷ []; users = []; nonce = replicate 32 34 };
 }
 
-pub three : List Event
+three : List Event
 three = Deliver 1 ∷ Deliver 2 ∷ Deliver 3 ∷ []
 
 -- the server asks, the peer answers, the server ends in a Failure
-pub identity_round : run_after (world_start (world_made example_setup)).after three
+identity_round : run_after (world_start (world_made example_setup)).after three
     ≡ record {
-      peer = record { name = codes "alice"; state = state.Failure; last_id = Some 0; last_response = 2 ∷ 0 ∷ 0 ∷ 10 ∷ 1 ∷ codes "alice" };
-      server = record { first_id = 0; max_retrans = 4; state = state.Failure; current_id = Some 0; retrans_count = 0; last_request = 1 ∷ 0 ∷ 0 ∷ 5 ∷ 1 ∷ [] };
-      sent = record { port = port.Peer; octets = 1 ∷ 0 ∷ 0 ∷ 5 ∷ 1 ∷ [] } ∷ record { port = port.Server; octets = 2 ∷ 0 ∷ 0 ∷ 10 ∷ 1 ∷ codes "alice" } ∷ record { port = port.Peer; octets = 4 ∷ 0 ∷ 0 ∷ 4 ∷ [] } ∷ [];
+      peer = record {
+        vars = record {
+          setup = example_setup.peer;
+          state = state.Failure;
+          selected = None;
+          method_state = NotSet;
+          decision = Fail;
+          last_id = Some 0;
+          last_response = 2 ∷ 0 ∷ 0 ∷ 10 ∷ 1 ∷ codes "alice";
+        };
+        views = record { psk = psk_peer.unset; gpsk = gpsk_peer.unset };
+      };
+      server = record {
+        vars = record {
+          setup = example_setup.server;
+          first_id = 0;
+          max_retrans = 4;
+          state = state.Failure;
+          current_id = Some 0;
+          current = Some 1;
+          progress = End;
+          retrans_count = 0;
+          last_request = 1 ∷ 0 ∷ 0 ∷ 5 ∷ 1 ∷ [];
+          proposed = [];
+        };
+        views = record { psk = None; gpsk = None };
+      };
+      sent = record { port = port.Peer; octets = 1 ∷ 0 ∷ 0 ∷ 5 ∷ 1 ∷ [] }
+          ∷ record { port = port.Server; octets = 2 ∷ 0 ∷ 0 ∷ 10 ∷ 1 ∷ codes "alice" }
+          ∷ record { port = port.Peer; octets = 4 ∷ 0 ∷ 0 ∷ 4 ∷ [] } ∷ [];
+      book = [];
       counts = record { events = 3; deliveries = 3; discards = 0 };
+      held = record { peer = false; server = false };
+      started = true;
     }
-unfolding run_after world_start world_step act server_start server_deliver peer_deliver packet_of fault spelled example_setup three
+unfolding run_after world_start world_step act server_start server_deliver peer_deliver select_action next_kind packet_of fault spelled example_setup three peer.views_begun server.views_begun peer.peer_report_of server.server_report_of
 identity_round = refl
+
+-- what is told of its events
+identity_round-told : told_after (world_start (world_made example_setup)).after three
+    ≡ record {
+      event = 1;
+      party = Some party.Peer;
+      path = state.Received ∷ state.Identity ∷ state.SendResponse ∷ state.Idle ∷ [];
+      cause = None;
+      skip = None;
+      sent = Some (record { number = 2; port = port.Server; packet = 2 ∷ 0 ∷ 0 ∷ 10 ∷ 1 ∷ codes "alice" });
+      named = None;
+    }
+    ∷ record {
+      event = 2;
+      party = Some party.Server;
+      path = state.Received ∷ state.IntegrityCheck ∷ state.MethodResponse ∷ state.SelectAction ∷ state.Failure ∷ [];
+      cause = None;
+      skip = None;
+      sent = Some (record { number = 3; port = port.Peer; packet = 4 ∷ 0 ∷ 0 ∷ 4 ∷ [] });
+      named = None;
+    }
+    ∷ record {
+      event = 3;
+      party = Some party.Peer;
+      path = state.Received ∷ state.Failure ∷ [];
+      cause = None;
+      skip = None;
+      sent = None;
+      named = None;
+    } ∷ []
+unfolding told_after world_start world_step act server_start server_deliver peer_deliver select_action next_kind packet_of fault spelled example_setup three peer.views_begun server.views_begun peer.peer_report_of server.server_report_of
+identity_round-told = refl

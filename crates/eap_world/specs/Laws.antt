@@ -1,14 +1,29 @@
--- Laws of the two machines and of both ends over events.
-use Rattle.std.specs.Prelude.{◌≡◌, IsSome}
-use Rattle.eap_world.specs.World.{WorldState}
-use Rattle.eap_world.specs.declared.told.Told.{Told}
+-- Laws of both ends over events.
+use Rattle.std.specs.Prelude.{◌≡◌, List, true, IsSome}
+use Rattle.eap_base.specs.declared.event.Event.{Event}
+use Rattle.eap_base.specs.declared.setup.Setup.{Setup}
+use Rattle.peer_machine.specs.PeerTable.{peer_reports}
+use Rattle.server_machine.specs.ServerTable.{server_reports}
+use Rattle.eap_world.specs.World.{WorldNow, world_made, world_start, world_step, run_after}
 
--- no variable of an end changed, and nothing was sent
-pub record KeepsBothEnds (before after : WorldState) : Type 0 where
+-- a report that an end holds was told of
+pub record HasToldReports (w : WorldNow) : Type 0 where
+  pub peer : IsSome (peer_reports w.peer) → w.held.peer ≡ true
+  pub server : IsSome (server_reports w.server) → w.held.server ≡ true
+
+-- no variable and no view of a method changed at either end, nothing was sent, and nothing was written
+-- into the book; where each report that an end holds was told of, none is told of now
+pub record KeepsBothEnds (before after : WorldNow) : Type 0 where
   pub peer : after.peer ≡ before.peer
   pub server : after.server ≡ before.server
   pub sent : after.sent ≡ before.sent
+  pub book : after.book ≡ before.book
+  pub held : HasToldReports before → after.held ≡ before.held
 
--- a discard changes no variable of an end and sends nothing
-abbrev pub DiscardKeeps : Told → WorldState → WorldState → Type 0
-DiscardKeeps told before after = IsSome told.cause → KeepsBothEnds before after
+-- an event that is discarded changes nothing but the counts
+abbrev pub DiscardsKeep : Type 0
+DiscardsKeep = (w : WorldNow) (e : Event) → IsSome (world_step w e).told.cause → KeepsBothEnds w (world_step w e).after
+
+-- in every run each report that an end holds was told of
+abbrev pub RunsTellReports : Type 0
+RunsTellReports = (setup : Setup) (events : List Event) → HasToldReports (run_after (world_start (world_made setup)).after events)

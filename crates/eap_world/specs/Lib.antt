@@ -1,5 +1,4 @@
-pub mod Steps
-pub mod PeerTable
-pub mod ServerTable
+pub mod Book
 pub mod World
+pub mod Verdict
 pub mod Laws

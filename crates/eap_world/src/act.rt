@@ -1,15 +1,16 @@
 //! What an event makes of the machines.
 
 ghost use Rattle.std.specs.Prelude.{◌≡◌, ◌≤◌, ◌<◌, length, option_copied, false};
-ghost use Rattle.eap_world.specs.Steps.{is_end};
-ghost use Rattle.eap_world.specs.ServerTable.{InTime};
+ghost use Rattle.peer_machine.specs.PeerTable as peers;
+ghost use Rattle.peer_machine.specs.PeerTable.{peer_idle, peer_alt_accept, peer_alt_reject};
+ghost use Rattle.server_machine.specs.ServerTable as servers;
 ghost use Rattle.eap_world.specs.World.{Acted, act, acted, handed, altered, packet_numbered, deliver_sent, alter_sent, cut_sent, timer_ends, lower_layer};
 
-use crate::machine::Step;
-use crate::peer_machine::PeerMachine;
-use crate::server_machine::ServerMachine;
 use crate::told::Skip;
 use eap_base::{Event, Packet, Party, Port};
+use eap_method::{PeerMethod, ServerMethod, Step};
+use peer_machine::PeerMachine;
+use server_machine::ServerMachine;
 
 /// A packet as it was sent: to which port, and its octets.
 #[derive(Drop)]
@@ -29,15 +30,13 @@ pub enum Action {
 /// An event comes to the machines, where these packets were sent before it. A skipped event changes
 /// no variable.
 #[tactic(auto, unfolding(crate::specs::World::act))]
-pub fn act(
-    peer: &mut PeerMachine,
-    server: &mut ServerMachine,
+pub fn act<P: PeerMethod, S: ServerMethod>(
+    peer: &mut PeerMachine<P>,
+    server: &mut ServerMachine<S>,
     sent: &[Sent],
     event: &Event,
 ) -> Action
-    requires { InTime server.old }
-    ensures in_time { InTime server.new }
-    ensures acts { act peer.old server.old sent.now event.now ≡ acted result peer.new server.new }
+    ensures acts { act (peers.now_of P.peer_shown peer.old) (servers.now_of S.server_shown server.old) sent.now event.now ≡ acted result (peers.now_of P.peer_shown peer.new) (servers.now_of S.server_shown server.new) }
 {
     match event {
         Event::Deliver { number } => deliver(peer, server, packet(sent, *number)),
@@ -51,9 +50,9 @@ pub fn act(
         Event::Timeout { party } => end_timer(peer, server, *party),
         Event::AaaTimeout => Action::Skipped(Skip::NoParty),
         Event::AaaNoReq => Action::Skipped(Skip::NoParty),
-        Event::Idle => report(peer, server),
-        Event::AltAccept => report(peer, server),
-        Event::AltReject => report(peer, server),
+        Event::Idle => idle(peer, server),
+        Event::AltAccept => accept(peer, server),
+        Event::AltReject => reject(peer, server),
     }
 }
 
@@ -68,9 +67,13 @@ fn packet(sent: &[Sent], number: u32) -> Option<&Sent>
 }
 
 /// Octets come to a port. The pass-through authenticator (RFC 4137 section 7) isn't there.
-fn hand(peer: &mut PeerMachine, server: &mut ServerMachine, port: Port, octets: &[u8]) -> Action
-    ensures in_time { InTime server.old → InTime server.new }
-    ensures acts { handed peer.old server.old port octets.now ≡ acted result peer.new server.new }
+fn hand<P: PeerMethod, S: ServerMethod>(
+    peer: &mut PeerMachine<P>,
+    server: &mut ServerMachine<S>,
+    port: Port,
+    octets: &[u8],
+) -> Action
+    ensures acts { handed (peers.now_of P.peer_shown peer.old) (servers.now_of S.server_shown server.old) port octets.now ≡ acted result (peers.now_of P.peer_shown peer.new) (servers.now_of S.server_shown server.new) }
 {
     match port {
         Port::Peer => Action::Peer(true, peer.deliver(octets)),
@@ -81,9 +84,12 @@ fn hand(peer: &mut PeerMachine, server: &mut ServerMachine, port: Port, octets: 
 }
 
 /// A packet comes to its port.
-fn deliver(peer: &mut PeerMachine, server: &mut ServerMachine, packet: Option<&Sent>) -> Action
-    ensures in_time { InTime server.old → InTime server.new }
-    ensures acts { deliver_sent peer.old server.old (option_copied packet.entry) ≡ acted result peer.new server.new }
+fn deliver<P: PeerMethod, S: ServerMethod>(
+    peer: &mut PeerMachine<P>,
+    server: &mut ServerMachine<S>,
+    packet: Option<&Sent>,
+) -> Action
+    ensures acts { deliver_sent (peers.now_of P.peer_shown peer.old) (servers.now_of S.server_shown server.old) (option_copied packet.entry) ≡ acted result (peers.now_of P.peer_shown peer.new) (servers.now_of S.server_shown server.new) }
 {
     match packet {
         None => Action::Skipped(Skip::Unsent),
@@ -92,15 +98,14 @@ fn deliver(peer: &mut PeerMachine, server: &mut ServerMachine, packet: Option<&S
 }
 
 /// A packet comes to its port with its octet at `place` combined with `mask` by exclusive or.
-fn alter(
-    peer: &mut PeerMachine,
-    server: &mut ServerMachine,
+fn alter<P: PeerMethod, S: ServerMethod>(
+    peer: &mut PeerMachine<P>,
+    server: &mut ServerMachine<S>,
     place: u16,
     mask: u8,
     packet: Option<&Sent>,
 ) -> Action
-    ensures in_time { InTime server.old → InTime server.new }
-    ensures acts { alter_sent peer.old server.old place mask (option_copied packet.entry) ≡ acted result peer.new server.new }
+    ensures acts { alter_sent (peers.now_of P.peer_shown peer.old) (servers.now_of S.server_shown server.old) place mask (option_copied packet.entry) ≡ acted result (peers.now_of P.peer_shown peer.new) (servers.now_of S.server_shown server.new) }
 {
     match packet {
         None => Action::Skipped(Skip::Unsent),
@@ -131,14 +136,13 @@ fn altered_copy(octets: &[u8], place: usize, mask: u8) -> Packet
 }
 
 /// The first `keep` octets of a packet come to its port.
-fn cut(
-    peer: &mut PeerMachine,
-    server: &mut ServerMachine,
+fn cut<P: PeerMethod, S: ServerMethod>(
+    peer: &mut PeerMachine<P>,
+    server: &mut ServerMachine<S>,
     keep: u16,
     packet: Option<&Sent>,
 ) -> Action
-    ensures in_time { InTime server.old → InTime server.new }
-    ensures acts { cut_sent peer.old server.old keep (option_copied packet.entry) ≡ acted result peer.new server.new }
+    ensures acts { cut_sent (peers.now_of P.peer_shown peer.old) (servers.now_of S.server_shown server.old) keep (option_copied packet.entry) ≡ acted result (peers.now_of P.peer_shown peer.new) (servers.now_of S.server_shown server.new) }
 {
     match packet {
         None => Action::Skipped(Skip::Unsent),
@@ -155,10 +159,12 @@ fn cut(
 }
 
 /// The retransmission timer of a party ends; only the server has one.
-fn end_timer(peer: &mut PeerMachine, server: &mut ServerMachine, party: Party) -> Action
-    requires { InTime server.old }
-    ensures in_time { InTime server.old → InTime server.new }
-    ensures acts { timer_ends peer.old server.old party ≡ acted result peer.new server.new }
+fn end_timer<P: PeerMethod, S: ServerMethod>(
+    peer: &mut PeerMachine<P>,
+    server: &mut ServerMachine<S>,
+    party: Party,
+) -> Action
+    ensures acts { timer_ends (peers.now_of P.peer_shown peer.old) (servers.now_of S.server_shown server.old) party ≡ acted result (peers.now_of P.peer_shown peer.new) (servers.now_of S.server_shown server.new) }
 {
     match party {
         Party::Peer => {
@@ -179,14 +185,44 @@ fn end_timer(peer: &mut PeerMachine, server: &mut ServerMachine, party: Party) -
     }
 }
 
-/// The peer's lower layer is idle, or reports success or failure.
-fn report(peer: &mut PeerMachine, server: &mut ServerMachine) -> Action
-    ensures in_time { InTime server.old → InTime server.new }
-    ensures acts { lower_layer peer.old server.old ≡ acted result peer.new server.new }
+/// The peer's lower layer is idle.
+fn idle<P: PeerMethod, S: ServerMethod>(
+    peer: &mut PeerMachine<P>,
+    server: &mut ServerMachine<S>,
+) -> Action
+    ensures acts { lower_layer (peers.now_of P.peer_shown peer.old) (servers.now_of S.server_shown server.old) (peer_idle (peers.now_of P.peer_shown peer.old)) ≡ acted result (peers.now_of P.peer_shown peer.new) (servers.now_of S.server_shown server.new) }
 {
     if peer.ended() {
         Action::Skipped(Skip::Ended)
     } else {
-        Action::Peer(false, peer.fail())
+        Action::Peer(false, peer.idle())
+    }
+}
+
+/// The peer's lower layer reports success.
+fn accept<P: PeerMethod, S: ServerMethod>(
+    peer: &mut PeerMachine<P>,
+    server: &mut ServerMachine<S>,
+) -> Action
+    ensures acts { lower_layer (peers.now_of P.peer_shown peer.old) (servers.now_of S.server_shown server.old) (peer_alt_accept (peers.now_of P.peer_shown peer.old)) ≡ acted result (peers.now_of P.peer_shown peer.new) (servers.now_of S.server_shown server.new) }
+{
+    if peer.ended() {
+        Action::Skipped(Skip::Ended)
+    } else {
+        Action::Peer(false, peer.alt_accept())
+    }
+}
+
+/// The peer's lower layer reports failure.
+fn reject<P: PeerMethod, S: ServerMethod>(
+    peer: &mut PeerMachine<P>,
+    server: &mut ServerMachine<S>,
+) -> Action
+    ensures acts { lower_layer (peers.now_of P.peer_shown peer.old) (servers.now_of S.server_shown server.old) (peer_alt_reject (peers.now_of P.peer_shown peer.old)) ≡ acted result (peers.now_of P.peer_shown peer.new) (servers.now_of S.server_shown server.new) }
+{
+    if peer.ended() {
+        Action::Skipped(Skip::Ended)
+    } else {
+        Action::Peer(false, peer.alt_reject())
     }
 }

@@ -1,16 +1,19 @@
-//! Both ends of a login over events, while no end has a method: the peer of RFC 4137 section 4, the
-//! stand-alone authenticator of section 5, what they have sent, and what each event does.
+//! Both ends of a login over events: the peer of RFC 4137 section 4, the stand-alone server of section
+//! 5, what they have sent, the book of their tags, what each event does, and whether the ends agree.
 #![tactic(auto)]
 
 mod act;
-mod machine;
-mod peer_machine;
-mod server_machine;
+mod book;
+mod laws;
 #[cfg(test)]
 mod tests;
 mod told;
+mod verdict;
 mod world;
 
-pub use machine::Step;
-pub use told::{Counts, SentPacket, Skip, Told};
-pub use world::{MAX_EVENTS, Memory, World};
+pub use act::{Action, Sent};
+pub use book::{End, Entry, TagsVerdict, Use};
+pub use laws::{discards_keep, runs_tell_reports};
+pub use told::{Counts, Named, SentPacket, Skip, Told};
+pub use verdict::Verdict;
+pub use world::{Held, MAX_EVENTS, Memory, Methods, World};

@@ -1,6 +1,7 @@
 //! What came of an event.
 
 use eap_base::{Packet, Party, Port};
+use eap_method::Report;
 use eap_packet::{Cause, Path};
 
 /// Why an event did nothing. Where several apply, the first in this order is told.
@@ -29,6 +30,14 @@ pub struct SentPacket {
     pub packet: Packet,
 }
 
+/// A report that an end is the first time seen to hold.
+#[derive(Drop)]
+pub struct Named {
+    /// The peer or the server.
+    pub party: Party,
+    pub report: Report,
+}
+
 /// What came of the start or of an event.
 #[derive(Drop)]
 pub struct Told {
@@ -44,6 +53,8 @@ pub struct Told {
     pub skip: Option<Skip>,
     /// What it sent, None where it sent nothing.
     pub sent: Option<SentPacket>,
+    /// The report that the party first holds after it, None where it holds none or held it before.
+    pub named: Option<Named>,
 }
 
 /// How many events there were, the start not among them, and how many of them did what.

@@ -1,15 +1,24 @@
 //! Both ends over events.
 
-ghost use Rattle.std.specs.Prelude.{◌≡◌, ◌≤◌, ◌<◌, ◌+◌, ◌-◌, ◌^◌, ◌++◌, [], MatchResult, IfOk, option_to_list, vec_len, vec_capacity};
-ghost use Rattle.eap_world.specs.World.{sent_by, sent_to, counted, counted_step, told_of, told_step};
+ghost use Rattle.std.specs.Prelude.{◌≡◌, ◌≤◌, ◌<◌, ◌+◌, ◌-◌, ◌*◌, ◌^◌, ◌++◌, [], true, false, map, length, MatchResult, IfOk, option_to_list, vec_len, vec_capacity};
+ghost use Rattle.eap_base.specs.Setup.{IsSoundPeer, IsSoundServer, HasKeys};
+ghost use Rattle.eap_base.specs.declared.setup.Mode.TheVariants.{Alone};
+ghost use Rattle.eap_base.specs.declared.setup.Party.TheVariants.{Peer, Server};
+ghost use Rattle.peer_machine.specs.PeerTable as peers;
+ghost use Rattle.peer_machine.specs.PeerTable.{peer_reports};
+ghost use Rattle.server_machine.specs.ServerTable as servers;
+ghost use Rattle.server_machine.specs.ServerTable.{server_reports};
+ghost use Rattle.eap_world.specs.World.{sent_by, sent_to, booked_by, counted, counted_step, acted, named_by, first_report, held_by, held_after, told_of, told_step};
 
 use crate::act::{Action, Sent, act};
-use crate::machine::Step;
-use crate::peer_machine::PeerMachine;
-use crate::server_machine::ServerMachine;
-use crate::told::{Counts, SentPacket, Told};
+use crate::book::{End, Entry, TagsVerdict, book_tags, judge_tags};
+use crate::told::{Counts, Named, SentPacket, Told};
+use crate::verdict::{Verdict, judge_reports};
 use eap_base::{Event, Packet, Party, Port, Setup};
+use eap_method::{PeerMethod, ServerMethod, Step};
 use eap_packet::{Path, State};
+use peer_machine::PeerMachine;
+use server_machine::ServerMachine;
 use std::alloc::Global;
 use std::marker::Model;
 use thiserror::Error;
@@ -22,77 +31,123 @@ pub struct Memory;
 /// The most events of a run, the start not among them.
 pub const MAX_EVENTS: u32 = 1_000_000;
 
-/// The peer (RFC 4137 section 4) and the stand-alone server (section 5), the packets that they have
-/// sent, and the counts. Contracts see all of it.
+/// The most tags that an event writes into the book.
+const MAX_TAGS: usize = 4;
+
+/// The objects of both ends' methods.
 #[derive(Drop)]
-pub struct World {
-    peer: PeerMachine,
-    server: ServerMachine,
+pub struct Methods<P, S> {
+    pub peer: Vec<P>,
+    pub server: Vec<S>,
+}
+
+/// Which ends have held a report.
+#[derive(Clone, Copy, PartialEq, Eq, Debug)]
+pub struct Held {
+    pub peer: bool,
+    pub server: bool,
+}
+
+/// The peer (RFC 4137 section 4) and the stand-alone server (section 5) with their methods, the packets
+/// that they have sent, the book of their tags, and the counts. Contracts see all of it; what an object
+/// shows is its ghost member.
+#[derive(Drop)]
+pub struct World<P, S> {
+    peer: PeerMachine<P>,
+    server: ServerMachine<S>,
     sent: Vec<Sent>,
+    book: Vec<Entry>,
     counts: Counts,
+    held: Held,
+    started: bool,
 }
 
-impl Model for World {
-    ghost use Rattle.eap_world.specs.World.{WorldState, IsInRange};
+impl<P, S> Model for World<P, S> {
+    ghost use Rattle.eap_world.specs.World.{WorldValue, IsInRange};
 
-    ghost Value = { WorldState };
+    ghost Value = { WorldValue P S };
 
-    ghost view = { λ w. record { peer = w.peer; server = w.server; sent = w.sent.items; counts = w.counts } };
+    ghost view = { λ w. record { peer = w.peer; server = w.server; sent = w.sent.items; book = w.book.items; counts = w.counts; held = w.held; started = w.started } };
 
-    ghost invariant = { λ w. IsInRange (record { peer = w.peer; server = w.server; sent = w.sent.items; counts = w.counts }) };
+    ghost invariant = { λ w. IsInRange w.server.vars w.sent.items w.book.items w.counts w.started };
 }
 
-impl World {
-    ghost use Rattle.eap_world.specs.Steps.{is_end};
-    ghost use Rattle.eap_world.specs.World.{WorldOutcome, world_outcome, world_made, world_start, world_step};
-    ghost use Rattle.eap_world.specs.Laws.{DiscardKeeps};
+impl<P: PeerMethod, S: ServerMethod> World<P, S> {
+    ghost use Rattle.eap_method.specs.Peer.{peer_kinds, have_each};
+    ghost use Rattle.eap_method.specs.Server.{server_kinds};
+    ghost use Rattle.eap_world.specs.Book.{tags_verdict};
+    ghost use Rattle.eap_world.specs.Verdict.{verdict_of};
+    ghost use Rattle.eap_world.specs.World.{WorldOutcome, world_outcome, world_made, world_start, world_step, now_of};
 
-    /// The world of a setup, in which the peer has begun and the server hasn't started. No end has a
-    /// method, and the server answers by itself, whatever the setup says of both. It takes no memory.
-    pub fn new(alloc: Global, setup: &Setup) -> World
-        ensures { result ≡ world_made setup.now }
+    /// The world of a setup, in which the peer has begun and the server hasn't started. The server
+    /// answers by itself; each method that an end allows or proposes has an object. It takes no memory.
+    pub fn new(alloc: Global, setup: Setup, methods: Methods<P, S>) -> World<P, S>
+        requires alone { setup.mode ≡ Alone }
+        requires few { setup.max_retrans ≤ 10 }
+        requires sound_peer { IsSoundPeer setup.peer }
+        requires keys { HasKeys setup.peer }
+        requires sound_server { IsSoundServer setup.server }
+        requires peer_objects { have_each (peer_kinds (map P.peer_shown methods.peer.items)) setup.peer.methods ≡ true }
+        requires server_objects { have_each (server_kinds (map S.server_shown methods.server.items)) setup.server.methods ≡ true }
+        ensures { now_of P.peer_shown S.server_shown result ≡ world_made setup }
     {
         World {
-            peer: PeerMachine::new(setup.peer.name.copy()),
-            server: ServerMachine::new(setup.first_id, setup.max_retrans),
+            peer: PeerMachine::new(setup.peer, methods.peer),
+            server: ServerMachine::new(
+                setup.server,
+                setup.first_id,
+                setup.max_retrans,
+                methods.server,
+            ),
             sent: Vec::new(alloc),
+            book: Vec::new(alloc),
             counts: Counts {
                 events: 0,
                 deliveries: 0,
                 discards: 0,
             },
+            held: Held {
+                peer: false,
+                server: false,
+            },
+            started: false,
         }
     }
 
     /// The server starts, as event 0: it sends packet 1, the Identity Request. `Memory` comes only for
-    /// want of memory for that packet; the world then is as it was.
+    /// want of memory for what it sends; the world then is as it was. The world has not started.
     #[tactic(auto, unfolding(crate::specs::World::world_start))]
     pub fn start(&mut self) -> Result<Told, Memory>
-        requires { self.old.sent ≡ [] }
-        ensures told { MatchResult result (λ told. world_start self.old ≡ world_outcome told self.new) (λ _. self.new ≡ self.old) }
+        requires { self.old.started ≡ false }
+        ensures told { MatchResult result (λ told. world_start (now_of P.peer_shown S.server_shown self.old) ≡ world_outcome told (now_of P.peer_shown S.server_shown self.new)) (λ _. self.new ≡ self.old) }
     {
-        if self.sent.reserve(1).is_err() {
+        if !make_room(&mut self.sent, &mut self.book) {
             return Err(Memory);
         }
         let action = Action::Server(false, self.server.start());
-        let number = next_number(self.sent.len());
-        keep_sent(&mut self.sent, &action);
-        Ok(tell(0, number, action))
+        self.started = true;
+        Ok(keep(
+            &self.peer,
+            &self.server,
+            &mut self.sent,
+            &mut self.book,
+            &mut self.held,
+            0,
+            action,
+        ))
     }
 
     /// The next event, numbered from 1. A delivery hands octets to the peer (RFC 4137 section 4) or the
     /// server (section 5); an event that has nobody or nothing to act on is skipped and only counted.
-    /// `Memory` comes only for want of memory for one more packet; the world then is as it was, and the
-    /// event isn't counted.
+    /// `Memory` comes only for want of memory for one more packet and its tags; the world then is as it
+    /// was, and the event isn't counted.
     #[tactic(auto, unfolding(crate::specs::World::world_step))]
     pub fn step(&mut self, event: &Event) -> Result<Told, Memory>
-        requires { self.old.counts.events < MAX_EVENTS }
-        ensures told { MatchResult result (λ told. world_step self.old event.now ≡ world_outcome told self.new) (λ _. self.new ≡ self.old) }
-
-        // A discard changes no variable of an end and sends nothing.
-        ensures discard_keeps { IfOk result (λ told. DiscardKeeps told self.old self.new) }
+        requires started { self.old.started ≡ true }
+        requires room { self.old.counts.events < MAX_EVENTS }
+        ensures told { MatchResult result (λ told. world_step (now_of P.peer_shown S.server_shown self.old) event.now ≡ world_outcome told (now_of P.peer_shown S.server_shown self.new)) (λ _. self.new ≡ self.old) }
     {
-        if self.sent.reserve(1).is_err() {
+        if !make_room(&mut self.sent, &mut self.book) {
             return Err(Memory);
         }
         let action = act(
@@ -101,24 +156,37 @@ impl World {
             self.sent.as_slice(),
             event,
         );
-        let number = next_number(self.sent.len());
-        keep_sent(&mut self.sent, &action);
         self.counts = count(self.counts, &action);
-        Ok(tell(self.counts.events, number, action))
+        Ok(keep(
+            &self.peer,
+            &self.server,
+            &mut self.sent,
+            &mut self.book,
+            &mut self.held,
+            self.counts.events,
+            action,
+        ))
+    }
+
+    /// True once the world has started.
+    pub fn started(&self) -> bool
+        ensures { result ≡ self.now.started }
+    {
+        self.started
     }
 
     /// The state of the peer (RFC 4137 section 4.5).
     pub fn peer_state(&self) -> State
-        ensures { result ≡ self.now.peer.state }
+        ensures { result ≡ self.now.peer.vars.state }
     {
-        self.peer.state
+        self.peer.state()
     }
 
     /// The state of the server (RFC 4137 section 5.5).
     pub fn server_state(&self) -> State
-        ensures { result ≡ self.now.server.state }
+        ensures { result ≡ self.now.server.vars.state }
     {
-        self.server.state
+        self.server.state()
     }
 
     /// How many events, deliveries and discards there were.
@@ -126,6 +194,171 @@ impl World {
         ensures { result ≡ self.now.counts }
     {
         self.counts
+    }
+
+    /// Whether each accepted tag was made earlier by the other end, with the same method, label, key,
+    /// octets and tag; else the first event in which an end accepted one that wasn't.
+    pub fn tags(&self) -> TagsVerdict
+        ensures { result ≡ tags_verdict self.now.book }
+    {
+        judge_tags(self.book.as_slice())
+    }
+
+    /// Whether both ends agree.
+    #[tactic(auto, unfolding(crate::specs::Verdict::verdict_of))]
+    pub fn result(&self) -> Verdict
+        ensures { result ≡ verdict_of (now_of P.peer_shown S.server_shown self.now) }
+    {
+        if self.peer.state() == State::Success && self.server.state() == State::Success {
+            let one = self.peer.report();
+            let other = self.server.report();
+            if judge_reports(self.peer.setup(), self.server.setup(), &one, &other) {
+                Verdict::Agree
+            } else {
+                Verdict::Apart
+            }
+        } else {
+            Verdict::Unfinished
+        }
+    }
+
+    /// The objects of both ends' methods, with the views that they have.
+    pub fn into_methods(self) -> Methods<P, S>
+        ensures peer { result.peer.items ≡ self.peer.methods }
+        ensures server { result.server.items ≡ self.server.methods }
+    {
+        Methods {
+            peer: self.peer.into_methods(),
+            server: self.server.into_methods(),
+        }
+    }
+}
+
+/// Makes room for one packet and four tags; false for want of memory.
+fn make_room(sent: &mut Vec<Sent>, book: &mut Vec<Entry>) -> bool
+    ensures sent { sent.new.items ≡ sent.old.items }
+    ensures book { book.new.items ≡ book.old.items }
+    ensures sent_room { result ≡ true → vec_len sent.new < vec_capacity sent.new }
+    ensures book_room { result ≡ true → vec_len book.new + 4 ≤ vec_capacity book.new }
+    ensures sent_len { vec_len sent.new ≡ vec_len sent.old }
+    ensures book_len { vec_len book.new ≡ vec_len book.old }
+{
+    sent.reserve(1).is_ok() && book.reserve(MAX_TAGS).is_ok()
+}
+
+/// Keeps what an action sends and what it writes into the book, for which there is room, and tells of it.
+fn keep<P: PeerMethod, S: ServerMethod>(
+    peer: &PeerMachine<P>,
+    server: &ServerMachine<S>,
+    sent: &mut Vec<Sent>,
+    book: &mut Vec<Entry>,
+    held: &mut Held,
+    event: u32,
+    action: Action,
+) -> Told
+    requires sent_room { vec_len sent.old < vec_capacity sent.old }
+    requires book_room { vec_len book.old + 4 ≤ vec_capacity book.old }
+    requires few { vec_len sent.old < 2 ^ 32 - 1 }
+    ensures told { result ≡ told_of event (length sent.old.items + 1) (named_by held.old (acted action (peers.now_of P.peer_shown peer.now) (servers.now_of S.server_shown server.now)) action) action }
+    ensures sent { sent.new.items ≡ sent.old.items ++ sent_by action }
+    ensures book { book.new.items ≡ book.old.items ++ booked_by event action }
+    ensures held { held.new ≡ held_after held.old (named_by held.old (acted action (peers.now_of P.peer_shown peer.now) (servers.now_of S.server_shown server.now)) action) }
+    ensures few_sent { vec_len sent.new ≤ vec_len sent.old + 1 }
+    ensures few_booked { vec_len book.new ≤ vec_len book.old + 4 }
+{
+    let number = next_number(sent.len());
+    keep_sent(sent, &action);
+    keep_tags(book, event, &action);
+    let named = first_report(peer, server, *held, &action);
+    *held = with_named(*held, &named);
+    tell(event, number, named, action)
+}
+
+/// The report that the end which acted is the first time seen to hold.
+fn first_report<P: PeerMethod, S: ServerMethod>(
+    peer: &PeerMachine<P>,
+    server: &ServerMachine<S>,
+    held: Held,
+    action: &Action,
+) -> Option<Named>
+    ensures { result ≡ named_by held (acted action.now (peers.now_of P.peer_shown peer.now) (servers.now_of S.server_shown server.now)) action.now }
+{
+    match action {
+        Action::Skipped(_) => None,
+        Action::Peer(_, _) => first_of_peer(peer, held.peer),
+        Action::Server(_, _) => first_of_server(server, held.server),
+    }
+}
+
+/// The peer's report, where it held none before.
+fn first_of_peer<P: PeerMethod>(peer: &PeerMachine<P>, was: bool) -> Option<Named>
+    ensures { result ≡ first_report was Peer (peer_reports (peers.now_of P.peer_shown peer.now)) }
+{
+    if was {
+        return None;
+    }
+    match peer.report() {
+        None => None,
+        Some(report) => Some(Named {
+            party: Party::Peer,
+            report,
+        }),
+    }
+}
+
+/// The server's report, where it held none before.
+fn first_of_server<S: ServerMethod>(server: &ServerMachine<S>, was: bool) -> Option<Named>
+    ensures { result ≡ first_report was Server (server_reports (servers.now_of S.server_shown server.now)) }
+{
+    if was {
+        return None;
+    }
+    match server.report() {
+        None => None,
+        Some(report) => Some(Named {
+            party: Party::Server,
+            report,
+        }),
+    }
+}
+
+/// Which ends have held a report, after one was told.
+fn with_named(held: Held, named: &Option<Named>) -> Held
+    ensures { result ≡ held_after held named.now }
+{
+    match named {
+        None => held,
+        Some(named) => with_party(held, named.party),
+    }
+}
+
+/// Which ends have held a report, this one among them.
+fn with_party(held: Held, party: Party) -> Held
+    ensures { result ≡ held_by held party }
+{
+    match party {
+        Party::Peer => Held {
+            peer: true,
+            server: held.server,
+        },
+        Party::Pass => held,
+        Party::Server => Held {
+            peer: held.peer,
+            server: true,
+        },
+    }
+}
+
+/// Writes the tags of an action into the book, for which there is room.
+fn keep_tags(book: &mut Vec<Entry>, event: u32, action: &Action)
+    requires { vec_len book.old + 4 ≤ vec_capacity book.old }
+    ensures kept { book.new.items ≡ book.old.items ++ booked_by event action.now }
+    ensures few { vec_len book.new ≤ vec_len book.old + 4 }
+{
+    match action {
+        Action::Skipped(_) => {}
+        Action::Peer(_, step) => book_tags(book, event, End::Peer, &step.tags),
+        Action::Server(_, step) => book_tags(book, event, End::Server, &step.tags),
     }
 }
 
@@ -209,8 +442,8 @@ fn count_step(counts: Counts, is_delivery: bool, step: &Step) -> Counts
 }
 
 /// What is told of an action: the number of its event, and that of the packet that it sends.
-fn tell(event: u32, number: u32, action: Action) -> Told
-    ensures { result ≡ told_of event number action }
+fn tell(event: u32, number: u32, named: Option<Named>, action: Action) -> Told
+    ensures { result ≡ told_of event number named action }
 {
     match action {
         Action::Skipped(skip) => Told {
@@ -220,14 +453,22 @@ fn tell(event: u32, number: u32, action: Action) -> Told
             cause: None,
             skip: Some(skip),
             sent: None,
+            named: None,
         },
-        Action::Peer(_, step) => tell_step(event, number, Party::Peer, Port::Server, step),
-        Action::Server(_, step) => tell_step(event, number, Party::Server, Port::Peer, step),
+        Action::Peer(_, step) => tell_step(event, number, Party::Peer, Port::Server, named, step),
+        Action::Server(_, step) => tell_step(event, number, Party::Server, Port::Peer, named, step),
     }
 }
 
-fn tell_step(event: u32, number: u32, party: Party, port: Port, step: Step) -> Told
-    ensures { result ≡ told_step event number party port step }
+fn tell_step(
+    event: u32,
+    number: u32,
+    party: Party,
+    port: Port,
+    named: Option<Named>,
+    step: Step,
+) -> Told
+    ensures { result ≡ told_step event number party port named step }
 {
     Told {
         event,
@@ -243,5 +484,6 @@ fn tell_step(event: u32, number: u32, party: Party, port: Port, step: Step) -> T
                 packet,
             }),
         },
+        named,
     }
 }

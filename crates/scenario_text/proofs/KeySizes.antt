@@ -4,8 +4,8 @@ use Rattle.std.proofs.lemmas.Bool.{leb-true}
 use Rattle.std.proofs.lemmas.Result.{IfOk-at_ok}
 use Rattle.eap_base.specs.declared.setup.Suite.{Suite}
 use Rattle.scenario_text.specs.Words.{words, is_printable}
-use Rattle.scenario_text.specs.Fields.{hex_of}
-use Rattle.scenario_text.specs.Keys.{both, sized_of, sized_at, octets_at, suite_at, eax_words, gpsk_words, total_of, fields_of, request_by, first_request, asked_by, HasGpskSizes, HasSizes}
+use Rattle.scenario_text.specs.Fields.{hex_of, octets_at}
+use Rattle.scenario_text.specs.Keys.{both, sized_of, sized_at, suite_at, eax_words, gpsk_words, total_of, fields_of, request_by, first_request, asked_by, HasGpskSizes, HasSizes}
 use Rattle.scenario_text.specs.declared.fault.LineFault.{LineFault}
 use Rattle.scenario_text.specs.declared.fault.LineFault.TheVariants.{BadCount, BadSize, BadWord}
 use Rattle.scenario_text.specs.declared.key_line.Request.{Request}

@@ -6,8 +6,8 @@ use Rattle.eap_base.specs.declared.setup.Setup.{Setup}
 use Rattle.eap_base.specs.declared.event.Event.{Event}
 use Rattle.scenario_text.specs.Words.{is_passed_over}
 use Rattle.scenario_text.specs.Entries.{entry_of}
-use Rattle.scenario_text.specs.Reading.{Reading, ReadLine, said, reads, has_setting, with_setting, no_settings, setup_of, header, read_setting, read_event, read_late, read_entry, read_body, read_at, read_line}
-use Rattle.scenario_text.specs.declared.fault.LineFault.TheVariants.{NoHeader, Repeated, Order}
+use Rattle.scenario_text.specs.Reading.{Reading, ReadLine, said, reads, has_setting, with_setting, no_settings, setup_of, header, is_crowded, read_setting, read_event, read_late, read_entry, read_body, read_at, read_line}
+use Rattle.scenario_text.specs.declared.fault.LineFault.TheVariants.{NoHeader, BadCount, Repeated, Order}
 use Rattle.scenario_text.specs.declared.entry.Setting.{Setting}
 use Rattle.scenario_text.specs.declared.entry.Entry.{Entry}
 use Rattle.scenario_text.specs.declared.entry.Entry.TheVariants as entry
@@ -51,7 +51,8 @@ read_late-from s entry.End = tt
 read_body-from : (p : Phase) (s : Settings) (line : List ℕ) (P : ReadLine → Type 0) → P (said item.Nothing p s) → ((e : Entry) → IfOk (read_entry p s e) P) → IfOk (read_body p s line) P
 read_body-from p s line P passed entered =
     IfOk-test (is_passed_over line) (reads item.Nothing p s) _ P (λ e. passed)
-    (λ e. IfOk-bind (entry_of line) (read_entry p s) (λ x. entry_of line ≡ Ok x) P (IfOk-same (entry_of line)) (λ x h. entered x))
+    (λ e. IfOk-test (is_crowded s line) (Err BadCount) _ P (λ c. tt)
+    (λ c. IfOk-bind (entry_of line) (read_entry p s) (λ x. entry_of line ≡ Ok x) P (IfOk-same (entry_of line)) (λ x h. entered x)))
 
 -- the reading at a known place
 read_line-at : (r : Reading) (p : Phase) (line : List ℕ) → r.phase ≡ p → read_line r line ≡ read_at p r.settings line

@@ -1,6 +1,6 @@
 -- Facts of the steps of a reader, one at a time.
 use Rattle.std.proofs.Common.{◌≡◌, Bool, true, false, cond, ◌&&◌, Option, Some, None, IfSome, unwrap_or, Result, Ok, Err, IfOk, refl}
-use Rattle.scenario_text.specs.Entries.{◌>>=◌}
+use Rattle.scenario_text.specs.Fields.{◌>>=◌}
 use Rattle.scenario_text.specs.Reading.{needed}
 use Rattle.scenario_text.specs.declared.fault.LineFault.{LineFault}
 

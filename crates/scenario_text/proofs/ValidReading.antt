@@ -1,15 +1,15 @@
 -- What has been read is within its limits, line by line.
-use Rattle.std.proofs.Common.{◌≡◌, ℕ, ◌≤◌, ◌<◌, List, [], length, Result, Ok, Err, IfOk, refl, arith, lit<, lit≤, IsTrue, ◌∷◌}
+use Rattle.std.proofs.Common.{◌≡◌, ℕ, ◌≤◌, ◌<◌, List, length, Option, Some, None, IfSome, IsSome, Result, Ok, Err, IfOk, refl, lit<, lit≤, IsTrue}
 use Rattle.std.specs.Str.{bytes_eq}
 use Rattle.std.proofs.lemmas.Result.{IfOk-at_ok}
-use Rattle.eap_base.specs.Setup.{is_among}
+use Rattle.eap_base.specs.Setup.{psk_kind, gpsk_kind, is_kind, are_kinds, are_suites, fits_kind, is_among}
 use Rattle.eap_base.specs.declared.setup.Mode.TheVariants as mode
 use Rattle.scenario_text.specs.Words.{is_passed_over}
 use Rattle.scenario_text.specs.Entries.{entry_of}
-use Rattle.scenario_text.specs.Reading.{Reading, reads, has_setting, with_setting, no_settings, needed, peer_setup_of, server_setup_of, setup_of, header, read_setting, read_event, read_late, late_setting, read_entry, read_body, read_at, read_line, answered}
-use Rattle.scenario_text.specs.Valid.{IsName, AcceptsName, IsValidSetting, IsValidEntry, AreValid, IsValidPeer, IsValidServer, IsValidSetup, IsValidItem, IsValidReadLine}
+use Rattle.scenario_text.specs.Reading.{Reading, reads, has_setting, with_setting, no_settings, both_suites, needed, key_for, peer_setup_of, server_setup_of, setup_of, header, is_crowded, read_setting, read_event, read_late, late_setting, read_entry, read_body, read_at, read_line, answered}
+use Rattle.scenario_text.specs.Valid.{IsName, AcceptsName, IsValidUser, IsValidSetting, IsValidEntry, AreValid, IsValidPeer, IsValidServer, IsValidSetup, IsValidItem, IsValidReadLine}
 use Rattle.scenario_text.specs.declared.fault.LineFault.{LineFault}
-use Rattle.scenario_text.specs.declared.fault.LineFault.TheVariants.{NoHeader, Repeated, Order}
+use Rattle.scenario_text.specs.declared.fault.LineFault.TheVariants.{NoHeader, BadCount, Repeated, Missing, Order}
 use Rattle.scenario_text.specs.declared.entry.Setting.{Setting}
 use Rattle.scenario_text.specs.declared.entry.Setting.TheVariants as setting
 use Rattle.scenario_text.specs.declared.entry.Entry.{Entry}
@@ -19,56 +19,75 @@ use Rattle.scenario_text.specs.declared.scenario.Item.{Item}
 use Rattle.scenario_text.specs.declared.scenario.Item.TheVariants as item
 use Rattle.scenario_text.specs.declared.scenario.Phase.{Phase}
 use Rattle.scenario_text.specs.declared.scenario.Phase.TheVariants as phase
+use Rattle.std.proofs.lemmas.List.Elements.{All-nil, All-weaker}
+use Rattle.scenario_text.proofs.UserLists.{with_user-valid}
 use Rattle.scenario_text.proofs.Steps.{IfOk-bind, IfOk-test, IfOk-needed, unwrap_or-holds}
 use Rattle.scenario_text.proofs.ValidLines.{entry_of-valid}
 
 pub no_settings-valid : AreValid no_settings
-no_settings-valid = record { mode = tt; first_id = tt; max_retrans = tt; peer_name = tt; peer_server = tt; peer_methods = tt; peer_nonce = tt; server_name = tt; server_methods = tt; server_nonce = tt }
+no_settings-valid = record { mode = tt; first_id = tt; max_retrans = tt; peer_name = tt; peer_server = tt; peer_methods = tt; peer_suites = tt; peer_psk47 = tt; peer_psk51 = tt; peer_nonce = tt; server_name = tt; server_methods = tt; server_suites = tt; server_nonce = tt; users = All-nil IsValidUser }
 
 -- one more setting
 pub with_setting-valid : (s : Settings) (v : Setting) → AreValid s → IsValidSetting v → AreValid (with_setting s v)
-with_setting-valid s (setting.Mode m) h k = record { mode = k; first_id = h.first_id; max_retrans = h.max_retrans; peer_name = h.peer_name; peer_server = h.peer_server; peer_methods = h.peer_methods; peer_nonce = h.peer_nonce; server_name = h.server_name; server_methods = h.server_methods; server_nonce = h.server_nonce }
-with_setting-valid s (setting.FirstId id) h k = record { mode = h.mode; first_id = k; max_retrans = h.max_retrans; peer_name = h.peer_name; peer_server = h.peer_server; peer_methods = h.peer_methods; peer_nonce = h.peer_nonce; server_name = h.server_name; server_methods = h.server_methods; server_nonce = h.server_nonce }
-with_setting-valid s (setting.MaxRetrans count) h k = record { mode = h.mode; first_id = h.first_id; max_retrans = k; peer_name = h.peer_name; peer_server = h.peer_server; peer_methods = h.peer_methods; peer_nonce = h.peer_nonce; server_name = h.server_name; server_methods = h.server_methods; server_nonce = h.server_nonce }
-with_setting-valid s (setting.PeerName name) h k = record { mode = h.mode; first_id = h.first_id; max_retrans = h.max_retrans; peer_name = k; peer_server = h.peer_server; peer_methods = h.peer_methods; peer_nonce = h.peer_nonce; server_name = h.server_name; server_methods = h.server_methods; server_nonce = h.server_nonce }
-with_setting-valid s (setting.PeerServer accepts) h k = record { mode = h.mode; first_id = h.first_id; max_retrans = h.max_retrans; peer_name = h.peer_name; peer_server = k; peer_methods = h.peer_methods; peer_nonce = h.peer_nonce; server_name = h.server_name; server_methods = h.server_methods; server_nonce = h.server_nonce }
-with_setting-valid s (setting.PeerMethods kinds) h k = record { mode = h.mode; first_id = h.first_id; max_retrans = h.max_retrans; peer_name = h.peer_name; peer_server = h.peer_server; peer_methods = k; peer_nonce = h.peer_nonce; server_name = h.server_name; server_methods = h.server_methods; server_nonce = h.server_nonce }
-with_setting-valid s (setting.PeerNonce nonce) h k = record { mode = h.mode; first_id = h.first_id; max_retrans = h.max_retrans; peer_name = h.peer_name; peer_server = h.peer_server; peer_methods = h.peer_methods; peer_nonce = k; server_name = h.server_name; server_methods = h.server_methods; server_nonce = h.server_nonce }
-with_setting-valid s (setting.ServerName name) h k = record { mode = h.mode; first_id = h.first_id; max_retrans = h.max_retrans; peer_name = h.peer_name; peer_server = h.peer_server; peer_methods = h.peer_methods; peer_nonce = h.peer_nonce; server_name = k; server_methods = h.server_methods; server_nonce = h.server_nonce }
-with_setting-valid s (setting.ServerMethods kinds) h k = record { mode = h.mode; first_id = h.first_id; max_retrans = h.max_retrans; peer_name = h.peer_name; peer_server = h.peer_server; peer_methods = h.peer_methods; peer_nonce = h.peer_nonce; server_name = h.server_name; server_methods = k; server_nonce = h.server_nonce }
-with_setting-valid s (setting.ServerNonce nonce) h k = record { mode = h.mode; first_id = h.first_id; max_retrans = h.max_retrans; peer_name = h.peer_name; peer_server = h.peer_server; peer_methods = h.peer_methods; peer_nonce = h.peer_nonce; server_name = h.server_name; server_methods = h.server_methods; server_nonce = k }
+with_setting-valid s (setting.Mode m) h k = assumption
+with_setting-valid s (setting.FirstId id) h k = assumption
+with_setting-valid s (setting.MaxRetrans count) h k = assumption
+with_setting-valid s (setting.PeerName name) h k = assumption
+with_setting-valid s (setting.PeerServer accepts) h k = assumption
+with_setting-valid s (setting.PeerMethods kinds) h k = assumption
+with_setting-valid s (setting.PeerSuites suites) h k = assumption
+with_setting-valid s (setting.PeerPsk47 key) h k = assumption
+with_setting-valid s (setting.PeerPsk51 key) h k = assumption
+with_setting-valid s (setting.PeerNonce nonce) h k = assumption
+with_setting-valid s (setting.ServerName name) h k = assumption
+with_setting-valid s (setting.ServerMethods kinds) h k = assumption
+with_setting-valid s (setting.ServerSuites suites) h k = assumption
+with_setting-valid s (setting.ServerNonce nonce) h k = assumption
+with_setting-valid s (setting.User user) h k = assumption (with_user-valid s.users user h.users k)
 
--- no methods allow none
-unallowed : (methods : List ℕ) (kind : ℕ) → methods ≡ [] → IsTrue (is_among methods kind) → ⊥
-unallowed [] kind e k = cc
-unallowed (m ∷ rest) kind e k = cc
+-- the key for a method
+record KeyFor (methods : List ℕ) (kind : ℕ) (found : Option (List ℕ)) : Type 0 where
+  pub there : IsTrue (is_among methods kind) → IsSome found
+  pub fits : IfSome found (λ key. IsTrue (fits_kind kind key))
+
+key_for-valid : (methods : List ℕ) (kind : ℕ) (slot : Option (List ℕ)) → IfSome slot (λ key. IsTrue (fits_kind kind key)) → IfOk (key_for methods kind slot) (KeyFor methods kind)
+key_for-valid methods kind (Some key) h = record { there = λ k. refl; fits = h }
+key_for-valid methods kind None h =
+    IfOk-test (is_among methods kind) (Err Missing) (Ok None) (KeyFor methods kind) (λ e. tt)
+    (λ e. record { there = λ k. absurd cc; fits = tt })
 
 peer_setup_of-valid : (s : Settings) → AreValid s → IfOk (peer_setup_of s) IsValidPeer
 unfolding peer_setup_of
 peer_setup_of-valid s h =
     IfOk-bind (needed s.peer_name) _ IsName IsValidPeer (IfOk-needed s.peer_name IsName h.peer_name) (λ name a.
     IfOk-bind (needed s.peer_server) _ AcceptsName IsValidPeer (IfOk-needed s.peer_server AcceptsName h.peer_server) (λ accepts b.
-    IfOk-bind (needed s.peer_methods) _ (λ kinds. kinds ≡ []) IsValidPeer (IfOk-needed s.peer_methods (λ kinds. kinds ≡ []) h.peer_methods) (λ methods c.
+    IfOk-bind (needed s.peer_methods) _ (λ kinds. IsTrue (are_kinds kinds)) IsValidPeer (IfOk-needed s.peer_methods (λ kinds. IsTrue (are_kinds kinds)) h.peer_methods) (λ methods c.
     IfOk-bind (needed s.peer_nonce) _ (λ nonce. length nonce ≡ 32) IsValidPeer (IfOk-needed s.peer_nonce (λ nonce. length nonce ≡ 32) h.peer_nonce) (λ nonce d.
+    IfOk-bind (key_for methods psk_kind s.peer_psk47) _ (KeyFor methods psk_kind) IsValidPeer (key_for-valid methods psk_kind s.peer_psk47 h.peer_psk47) (λ psk47 f.
+    IfOk-bind (key_for methods gpsk_kind s.peer_psk51) _ (KeyFor methods gpsk_kind) IsValidPeer (key_for-valid methods gpsk_kind s.peer_psk51 h.peer_psk51) (λ psk51 g.
     record {
-      sound = record { methods = rw c refl; suites = refl; psk47 = tt; psk51 = tt };
-      keys = record { psk47 = λ k. absurd (unallowed methods 47 c k); psk51 = λ k. absurd (unallowed methods 51 c k) };
+      sound = record { methods = c; suites = unwrap_or-holds s.peer_suites both_suites (λ suites. IsTrue (are_suites suites)) h.peer_suites refl; psk47 = f.fits; psk51 = g.fits };
+      keys = record { psk47 = f.there; psk51 = g.there };
       name = a;
       accepts = b;
-      no_methods = c;
       nonce = d;
-    }))))
+    }))))))
 
 server_setup_of-valid : (s : Settings) → AreValid s → IfOk (server_setup_of s) IsValidServer
 unfolding server_setup_of
 server_setup_of-valid s h =
     IfOk-bind (needed s.server_name) _ IsName IsValidServer (IfOk-needed s.server_name IsName h.server_name) (λ name a.
-    IfOk-bind (needed s.server_methods) _ (λ kinds. kinds ≡ []) IsValidServer (IfOk-needed s.server_methods (λ kinds. kinds ≡ []) h.server_methods) (λ methods c.
+    IfOk-bind (needed s.server_methods) _ (λ kinds. IsTrue (are_kinds kinds)) IsValidServer (IfOk-needed s.server_methods (λ kinds. IsTrue (are_kinds kinds)) h.server_methods) (λ methods c.
     IfOk-bind (needed s.server_nonce) _ (λ nonce. length nonce ≡ 32) IsValidServer (IfOk-needed s.server_nonce (λ nonce. length nonce ≡ 32) h.server_nonce) (λ nonce d.
     record {
-      sound = record { methods = rw c refl; suites = refl; kinds = λ k d few. absurd (omega arith); keys = λ k d few. absurd (omega arith) };
+      sound = record {
+        methods = c;
+        suites = unwrap_or-holds s.server_suites both_suites (λ suites. IsTrue (are_suites suites)) h.server_suites refl;
+        kinds = All-weaker IsValidUser (λ user. IsTrue (is_kind user.kind)) (λ user v. v.kind) s.users h.users;
+        keys = All-weaker IsValidUser (λ user. IsTrue (fits_kind user.kind user.psk)) (λ user v. v.psk) s.users h.users;
+      };
       name = a;
-      no_methods = c;
+      users = h.users;
       nonce = d;
     })))
 
@@ -119,7 +138,8 @@ read_entry-valid phase.Ended s e h k = read_late-valid s e
 read_body-valid : (p : Phase) (s : Settings) (line : List ℕ) → AreValid s → IfOk (read_body p s line) IsValidReadLine
 read_body-valid p s line h =
     IfOk-test (is_passed_over line) (reads item.Nothing p s) _ IsValidReadLine (λ e. record { item = tt; settings = h })
-    (λ e. IfOk-bind (entry_of line) (read_entry p s) IsValidEntry IsValidReadLine (entry_of-valid line) (λ x k. read_entry-valid p s x h k))
+    (λ e. IfOk-test (is_crowded s line) (Err BadCount) _ IsValidReadLine (λ c. tt)
+    (λ c. IfOk-bind (entry_of line) (read_entry p s) IsValidEntry IsValidReadLine (entry_of-valid line) (λ x k. read_entry-valid p s x h k)))
 
 -- the same of a reader's answer
 pub valid_item : (p : Phase) (s : Settings) (line : List ℕ) (result : Result Item LineFault) (after : Reading) → AreValid s → read_body p s line ≡ answered result after → IfOk result IsValidItem

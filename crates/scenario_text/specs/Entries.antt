@@ -1,28 +1,24 @@
 -- The lines of a scenario: the keywords, each with the words that follow it.
-use Rattle.std.specs.Prelude.{ℕ, List, [], length, ◌==◌, ◌&&◌, nat_le, if◌then◌else◌, codes, Option, Some, None, Result, Ok, Err, ok_or, slice_get}
+use Rattle.std.specs.Prelude.{ℕ, Bool, false, List, length, ◌==◌, ◌&&◌, if◌then◌else◌, codes, Option, Some, None, Result, Ok, Err, ok_or, slice_get}
 use Rattle.std.specs.Str.{bytes_eq}
 use Rattle.eap_base.specs.declared.setup.Mode.{Mode}
 use Rattle.eap_base.specs.declared.setup.Mode.TheVariants as mode
-use Rattle.eap_base.specs.declared.setup.Party.{Party}
-use Rattle.eap_base.specs.declared.setup.Party.TheVariants as party
 use Rattle.eap_base.specs.declared.setup.Accepts.{Accepts}
 use Rattle.eap_base.specs.declared.setup.Accepts.TheVariants.{Any, One}
+use Rattle.eap_base.specs.declared.event.Event.{Event}
 use Rattle.eap_base.specs.declared.event.Event.TheVariants as event
 use Rattle.scenario_text.specs.Words.{words, is_printable}
-use Rattle.scenario_text.specs.Fields.{number_of, hex_of}
+use Rattle.scenario_text.specs.Fields.{◌>>=◌, number_of, name_of, hex_of}
+use Rattle.scenario_text.specs.Events.{timer_party_of, alter_of, cut_of, inject_of}
+use Rattle.scenario_text.specs.Methods.{kinds_of, suites_of, peer_psk_of, user_line}
 use Rattle.scenario_text.specs.declared.fault.LineFault.{LineFault}
-use Rattle.scenario_text.specs.declared.fault.LineFault.TheVariants.{BadWord, BadCount, BadChoice, BadNumber, BadSize}
+use Rattle.scenario_text.specs.declared.fault.LineFault.TheVariants.{BadWord, BadCount, BadChoice, BadSize}
 use Rattle.scenario_text.specs.declared.entry.Keyword.{Keyword}
 use Rattle.scenario_text.specs.declared.entry.Keyword.TheVariants as key
+use Rattle.scenario_text.specs.declared.entry.Setting.{Setting}
 use Rattle.scenario_text.specs.declared.entry.Setting.TheVariants as setting
 use Rattle.scenario_text.specs.declared.entry.Entry.{Entry}
 use Rattle.scenario_text.specs.declared.entry.Entry.TheVariants.{Set, Events, Happens, End}
-
--- the second step, if the first met no fault
-infixl 10 ◌>>=◌
-abbrev pub ◌>>=◌ : {A B : Type 0} → Result A LineFault → (A → Result B LineFault) → Result B LineFault
-Ok x >>= f = f x
-Err e >>= f = Err e
 
 -- the keywords
 unfoldable pub keyword_of : List ℕ → Option Keyword
@@ -33,14 +29,23 @@ keyword_of word =
     else if bytes_eq word (codes "peer-name") then Some key.PeerName
     else if bytes_eq word (codes "peer-server") then Some key.PeerServer
     else if bytes_eq word (codes "peer-methods") then Some key.PeerMethods
+    else if bytes_eq word (codes "peer-suites") then Some key.PeerSuites
+    else if bytes_eq word (codes "peer-psk") then Some key.PeerPsk
     else if bytes_eq word (codes "peer-nonce") then Some key.PeerNonce
     else if bytes_eq word (codes "server-name") then Some key.ServerName
     else if bytes_eq word (codes "server-methods") then Some key.ServerMethods
+    else if bytes_eq word (codes "server-suites") then Some key.ServerSuites
     else if bytes_eq word (codes "server-nonce") then Some key.ServerNonce
+    else if bytes_eq word (codes "user") then Some key.User
     else if bytes_eq word (codes "events") then Some key.Events
     else if bytes_eq word (codes "deliver") then Some key.Deliver
+    else if bytes_eq word (codes "alter") then Some key.Alter
+    else if bytes_eq word (codes "cut") then Some key.Cut
+    else if bytes_eq word (codes "inject") then Some key.Inject
     else if bytes_eq word (codes "timeout") then Some key.Timeout
     else if bytes_eq word (codes "idle") then Some key.Idle
+    else if bytes_eq word (codes "alt-accept") then Some key.AltAccept
+    else if bytes_eq word (codes "alt-reject") then Some key.AltReject
     else if bytes_eq word (codes "end") then Some key.End
     else None
 
@@ -52,10 +57,6 @@ word_alone ws = if length ws == 2 then ok_or (slice_get ws 1) BadCount else Err 
 abbrev pub nothing_more : List (List ℕ) → Entry → Result Entry LineFault
 nothing_more ws entry = if length ws == 1 then Ok entry else Err BadCount
 
--- a name has 1 to 253 octets
-abbrev pub name_of : List ℕ → Result (List ℕ) LineFault
-name_of word = if nat_le 1 (length word) && nat_le (length word) 253 then Ok word else Err BadSize
-
 abbrev pub mode_of : List ℕ → Result Mode LineFault
 mode_of word = if bytes_eq word (codes "alone") then Ok mode.Alone else Err BadChoice
 
@@ -63,20 +64,17 @@ mode_of word = if bytes_eq word (codes "alone") then Ok mode.Alone else Err BadC
 abbrev pub accepts_of : List ℕ → Result Accepts LineFault
 accepts_of word = if bytes_eq word (codes "any") then Ok Any else name_of word >>= λ name. Ok (One name)
 
--- one or two words for the methods; - alone stands for none, and no method is built yet
-abbrev pub kinds_of : List (List ℕ) → Result (List ℕ) LineFault
-kinds_of ws =
-    if length ws == 2 then (ok_or (slice_get ws 1) BadCount >>= λ word. if bytes_eq word (codes "-") then Ok [] else Err BadNumber)
-    else if length ws == 3 then Err BadNumber
-    else Err BadCount
-
 -- a nonce has 32 octets
 abbrev pub nonce_of : List ℕ → Result (List ℕ) LineFault
 nonce_of word = hex_of word >>= λ octets. if length octets == 32 then Ok octets else Err BadSize
 
--- the parties whose retransmission timer can end
-abbrev pub timer_party_of : List ℕ → Result Party LineFault
-timer_party_of word = if bytes_eq word (codes "server") then Ok party.Server else Err BadChoice
+-- a setting that has so many words, the keyword among them
+abbrev pub setting_with : List (List ℕ) → ℕ → Result Setting LineFault → Result Entry LineFault
+setting_with ws count read = if length ws == count then (read >>= λ v. Ok (Set v)) else Err BadCount
+
+-- an event that has so many words, the keyword among them
+abbrev pub event_with : List (List ℕ) → ℕ → Result Event LineFault → Result Entry LineFault
+event_with ws count read = if length ws == count then (read >>= λ e. Ok (Happens e)) else Err BadCount
 
 -- a keyword with the words of its line
 unfoldable pub entry_for : Keyword → List (List ℕ) → Result Entry LineFault
@@ -103,6 +101,10 @@ entry_for key.PeerServer ws = do
 entry_for key.PeerMethods ws = do
   kinds ← kinds_of ws
   Ok (Set (setting.PeerMethods kinds))
+entry_for key.PeerSuites ws = do
+  suites ← suites_of ws
+  Ok (Set (setting.PeerSuites suites))
+entry_for key.PeerPsk ws = setting_with ws 3 (peer_psk_of ws)
 entry_for key.PeerNonce ws = do
   word ← word_alone ws
   nonce ← nonce_of word
@@ -114,20 +116,29 @@ entry_for key.ServerName ws = do
 entry_for key.ServerMethods ws = do
   kinds ← kinds_of ws
   Ok (Set (setting.ServerMethods kinds))
+entry_for key.ServerSuites ws = do
+  suites ← suites_of ws
+  Ok (Set (setting.ServerSuites suites))
 entry_for key.ServerNonce ws = do
   word ← word_alone ws
   nonce ← nonce_of word
   Ok (Set (setting.ServerNonce nonce))
+entry_for key.User ws = setting_with ws 5 (user_line ws >>= λ user. Ok (setting.User user))
 entry_for key.Events ws = nothing_more ws Events
 entry_for key.Deliver ws = do
   word ← word_alone ws
   n ← number_of word 1 1000000
   Ok (Happens (event.Deliver n))
+entry_for key.Alter ws = event_with ws 4 (alter_of ws)
+entry_for key.Cut ws = event_with ws 3 (cut_of ws)
+entry_for key.Inject ws = event_with ws 3 (inject_of ws)
 entry_for key.Timeout ws = do
   word ← word_alone ws
   p ← timer_party_of word
   Ok (Happens (event.Timeout p))
 entry_for key.Idle ws = nothing_more ws (Happens event.Idle)
+entry_for key.AltAccept ws = nothing_more ws (Happens event.AltAccept)
+entry_for key.AltReject ws = nothing_more ws (Happens event.AltReject)
 entry_for key.End ws = nothing_more ws End
 
 abbrev pub entry_by : Option Keyword → List (List ℕ) → Result Entry LineFault
@@ -142,3 +153,11 @@ first_keyword (Some word) = keyword_of word
 unfoldable pub entry_of : List ℕ → Result Entry LineFault
 entry_of line =
     if is_printable line then entry_by (first_keyword (slice_get (words line) 0)) (words line) else Err BadWord
+
+-- whether a line gives a user, in however many words
+abbrev pub is_user_word : Option (List ℕ) → Bool
+is_user_word None = false
+is_user_word (Some word) = bytes_eq word (codes "user")
+
+unfoldable pub is_user_line : List ℕ → Bool
+is_user_line line = is_printable line && is_user_word (slice_get (words line) 0)

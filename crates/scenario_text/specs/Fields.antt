@@ -1,9 +1,19 @@
 -- What the words of a line stand for: numbers, octets in hex, names, and choices.
-use Rattle.std.specs.Prelude.{ℕ, ◌+◌, ◌-◌, ◌*◌, ◌%◌, List, [], ◌∷◌, length, Bool, false, ◌==◌, ◌&&◌, ◌||◌, not, nat_lt, nat_le, if◌then◌else◌, codes, Result, Ok, Err}
+use Rattle.std.specs.Prelude.{ℕ, ◌+◌, ◌-◌, ◌*◌, ◌%◌, List, [], ◌∷◌, length, Bool, false, ◌==◌, ◌&&◌, ◌||◌, not, nat_lt, nat_le, if◌then◌else◌, codes, Result, Ok, Err, ok_or, slice_get}
 use Rattle.std.specs.List.{list_all}
 use Rattle.std.specs.Str.{bytes_eq}
 use Rattle.scenario_text.specs.declared.fault.LineFault.{LineFault}
-use Rattle.scenario_text.specs.declared.fault.LineFault.TheVariants.{BadNumber, BadHex, BadSize}
+use Rattle.scenario_text.specs.declared.fault.LineFault.TheVariants.{BadCount, BadNumber, BadHex, BadSize}
+
+-- the second step, if the first met no fault
+infixl 10 ◌>>=◌
+abbrev pub ◌>>=◌ : {A B : Type 0} → Result A LineFault → (A → Result B LineFault) → Result B LineFault
+Ok x >>= f = f x
+Err e >>= f = Err e
+
+-- the word at a place
+abbrev pub word_in : List (List ℕ) → ℕ → Result (List ℕ) LineFault
+word_in ws place = ok_or (slice_get ws place) BadCount
 
 -- a decimal digit, and its value
 abbrev pub is_digit : ℕ → Bool
@@ -51,3 +61,14 @@ hex_of word =
     else if not (is_hex word) then Err BadHex
     else if nat_lt 4000 (length word) then Err BadSize
     else Ok (octets_of word)
+
+-- a name has 1 to 253 octets
+abbrev pub name_of : List ℕ → Result (List ℕ) LineFault
+name_of word = if nat_le 1 (length word) && nat_le (length word) 253 then Ok word else Err BadSize
+
+-- the number that the word at a place spells, and the octets: 0 to 2,000 of them
+abbrev pub number_at : List (List ℕ) → ℕ → ℕ → ℕ → Result ℕ LineFault
+number_at ws place low high = word_in ws place >>= λ word. number_of word low high
+
+abbrev pub octets_at : List (List ℕ) → ℕ → Result (List ℕ) LineFault
+octets_at ws place = word_in ws place >>= λ word. hex_of word

@@ -1,11 +1,10 @@
 -- The lines of a list of requests for ciphers, MACs and keys.
-use Rattle.std.specs.Prelude.{ℕ, ◌≤◌, List, length, ◌==◌, ◌&&◌, nat_lt, nat_le, if◌then◌else◌, codes, Option, Some, None, Result, Ok, Err, ok_or, slice_get}
+use Rattle.std.specs.Prelude.{ℕ, ◌≤◌, List, length, ◌==◌, ◌&&◌, nat_lt, nat_le, if◌then◌else◌, codes, Option, Some, None, Result, Ok, Err, slice_get}
 use Rattle.std.specs.Str.{bytes_eq}
 use Rattle.eap_base.specs.declared.setup.Suite.{Suite}
 use Rattle.eap_base.specs.declared.setup.Suite.TheVariants as suite
 use Rattle.scenario_text.specs.Words.{words, is_printable, is_passed_over}
-use Rattle.scenario_text.specs.Fields.{number_of, hex_of}
-use Rattle.scenario_text.specs.Entries.{◌>>=◌}
+use Rattle.scenario_text.specs.Fields.{◌>>=◌, word_in, number_of, hex_of, octets_at}
 use Rattle.scenario_text.specs.declared.fault.LineFault.{LineFault}
 use Rattle.scenario_text.specs.declared.fault.LineFault.TheVariants.{NoHeader, BadWord, BadCount, BadChoice, BadNumber, BadHex, BadSize, Repeated, Missing, Order}
 use Rattle.scenario_text.specs.declared.key_line.Request.{Request}
@@ -63,19 +62,16 @@ total_of request.Name = 2
 unfoldable pub sized_of : List ℕ → ℕ → ℕ → Result (List ℕ) LineFault
 sized_of word low high = hex_of word >>= λ octets. if nat_le low (length octets) && nat_le (length octets) high then Ok octets else Err BadSize
 
--- the octets of the word at a place: low to high of them, or 0 to 2,000
+-- the octets of the word at a place: low to high of them
 abbrev pub sized_at : List (List ℕ) → ℕ → ℕ → ℕ → Result (List ℕ) LineFault
-sized_at ws place low high = ok_or (slice_get ws place) BadCount >>= λ word. sized_of word low high
-
-abbrev pub octets_at : List (List ℕ) → ℕ → Result (List ℕ) LineFault
-octets_at ws place = ok_or (slice_get ws place) BadCount >>= λ word. hex_of word
+sized_at ws place low high = word_in ws place >>= λ word. sized_of word low high
 
 -- the ciphersuite of EAP-GPSK whose specifier a number is (RFC 5433, section 6)
 abbrev pub suite_numbered : ℕ → Suite
 suite_numbered n = if n == 1 then suite.Cmac else suite.Hmac
 
 abbrev pub suite_at : List (List ℕ) → ℕ → Result Suite LineFault
-suite_at ws place = ok_or (slice_get ws place) BadCount >>= λ word. number_of word 1 2 >>= λ n. Ok (suite_numbered n)
+suite_at ws place = word_in ws place >>= λ word. number_of word 1 2 >>= λ n. Ok (suite_numbered n)
 
 -- the words after the first of a request for EAX, and of one for the key schedule of EAP-GPSK
 unfoldable pub eax_words : List (List ℕ) → Result ((List ℕ × List ℕ) × (List ℕ × List ℕ)) LineFault

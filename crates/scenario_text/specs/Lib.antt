@@ -1,7 +1,9 @@
 pub mod Entries
+pub mod Events
 pub mod Fields
 pub mod Reading
 pub mod Words
 pub mod Valid
 pub mod Packets
 pub mod Keys
+pub mod Methods

@@ -1,13 +1,17 @@
 -- A scenario, line by line: what has been read, and what each line adds.
-use Rattle.std.specs.Prelude.{ℕ, List, [], ◌∷◌, Bool, if◌then◌else◌, codes, Option, Some, None, Result, Ok, Err, ok_or, is_some, unwrap_or}
+use Rattle.std.specs.Prelude.{ℕ, List, [], ◌∷◌, ◌++◌, length, nat_lt, nat_le, not, ◌&&◌, Bool, if◌then◌else◌, codes, Option, Some, None, Result, Ok, Err, ok_or, is_some, unwrap_or}
 use Rattle.std.specs.Str.{bytes_eq}
+use Rattle.eap_base.specs.Setup.{psk_kind, gpsk_kind, is_among}
+use Rattle.eap_base.specs.Users.{user_of}
+use Rattle.eap_base.specs.declared.users.User.{User}
 use Rattle.eap_base.specs.declared.setup.PeerSetup.{PeerSetup}
 use Rattle.eap_base.specs.declared.setup.ServerSetup.{ServerSetup}
 use Rattle.eap_base.specs.declared.setup.Setup.{Setup}
 use Rattle.scenario_text.specs.Words.{is_passed_over}
-use Rattle.scenario_text.specs.Entries.{◌>>=◌, entry_of}
+use Rattle.scenario_text.specs.Fields.{◌>>=◌}
+use Rattle.scenario_text.specs.Entries.{entry_of, is_user_line}
 use Rattle.scenario_text.specs.declared.fault.LineFault.{LineFault}
-use Rattle.scenario_text.specs.declared.fault.LineFault.TheVariants.{NoHeader, Repeated, Missing, Order}
+use Rattle.scenario_text.specs.declared.fault.LineFault.TheVariants.{NoHeader, BadCount, Repeated, Missing, Order}
 use Rattle.scenario_text.specs.declared.entry.Setting.{Setting}
 use Rattle.scenario_text.specs.declared.entry.Setting.TheVariants as setting
 use Rattle.scenario_text.specs.declared.entry.Entry.{Entry}
@@ -20,7 +24,7 @@ use Rattle.scenario_text.specs.declared.scenario.Phase.TheVariants as phase
 
 -- no settings
 abbrev pub no_settings : Settings
-no_settings = record { mode = None; first_id = None; max_retrans = None; peer_name = None; peer_server = None; peer_methods = None; peer_nonce = None; server_name = None; server_methods = None; server_nonce = None }
+no_settings = record { mode = None; first_id = None; max_retrans = None; peer_name = None; peer_server = None; peer_methods = None; peer_suites = None; peer_psk47 = None; peer_psk51 = None; peer_nonce = None; server_name = None; server_methods = None; server_suites = None; server_nonce = None; users = [] }
 
 -- whether the setting has come before
 abbrev pub has_setting : Settings → Setting → Bool
@@ -30,10 +34,20 @@ has_setting s (setting.MaxRetrans v) = is_some s.max_retrans
 has_setting s (setting.PeerName v) = is_some s.peer_name
 has_setting s (setting.PeerServer v) = is_some s.peer_server
 has_setting s (setting.PeerMethods v) = is_some s.peer_methods
+has_setting s (setting.PeerSuites v) = is_some s.peer_suites
+has_setting s (setting.PeerPsk47 v) = is_some s.peer_psk47
+has_setting s (setting.PeerPsk51 v) = is_some s.peer_psk51
 has_setting s (setting.PeerNonce v) = is_some s.peer_nonce
 has_setting s (setting.ServerName v) = is_some s.server_name
 has_setting s (setting.ServerMethods v) = is_some s.server_methods
+has_setting s (setting.ServerSuites v) = is_some s.server_suites
 has_setting s (setting.ServerNonce v) = is_some s.server_nonce
+has_setting s (setting.User user) = is_some (user_of s.users user.name user.kind)
+
+-- the users with one more, unless 16 are there or one of them has its name and kind
+unfoldable pub with_user : List User → User → List User
+with_user users user =
+    if nat_lt (length users) 16 && not (is_some (user_of users user.name user.kind)) then users ++ user ∷ [] else users
 
 -- the settings with one more
 abbrev pub with_setting : Settings → Setting → Settings
@@ -43,10 +57,15 @@ with_setting s (setting.MaxRetrans v) = record s { max_retrans = Some v }
 with_setting s (setting.PeerName v) = record s { peer_name = Some v }
 with_setting s (setting.PeerServer v) = record s { peer_server = Some v }
 with_setting s (setting.PeerMethods v) = record s { peer_methods = Some v }
+with_setting s (setting.PeerSuites v) = record s { peer_suites = Some v }
+with_setting s (setting.PeerPsk47 v) = record s { peer_psk47 = Some v }
+with_setting s (setting.PeerPsk51 v) = record s { peer_psk51 = Some v }
 with_setting s (setting.PeerNonce v) = record s { peer_nonce = Some v }
 with_setting s (setting.ServerName v) = record s { server_name = Some v }
 with_setting s (setting.ServerMethods v) = record s { server_methods = Some v }
+with_setting s (setting.ServerSuites v) = record s { server_suites = Some v }
 with_setting s (setting.ServerNonce v) = record s { server_nonce = Some v }
+with_setting s (setting.User user) = record s { users = with_user s.users user }
 
 -- a needed setting
 abbrev pub needed : {A : Type 0} → Option A → Result A LineFault
@@ -56,6 +75,11 @@ needed slot = ok_or slot Missing
 abbrev pub both_suites : List ℕ
 both_suites = 1 ∷ 2 ∷ []
 
+-- the peer's key for a method, which is needed where the method is among these
+abbrev pub key_for : List ℕ → ℕ → Option (List ℕ) → Result (Option (List ℕ)) LineFault
+key_for methods kind (Some key) = Ok (Some key)
+key_for methods kind None = if is_among methods kind then Err Missing else Ok None
+
 -- the settings of the peer, of the server, of the run, where none that is needed is missing
 unfoldable pub peer_setup_of : Settings → Result PeerSetup LineFault
 peer_setup_of s = do
@@ -63,14 +87,16 @@ peer_setup_of s = do
   accepts ← needed s.peer_server
   methods ← needed s.peer_methods
   nonce ← needed s.peer_nonce
-  Ok (record { name = name; accepts = accepts; methods = methods; suites = both_suites; psk47 = None; psk51 = None; nonce = nonce })
+  psk47 ← key_for methods psk_kind s.peer_psk47
+  psk51 ← key_for methods gpsk_kind s.peer_psk51
+  Ok (record { name = name; accepts = accepts; methods = methods; suites = unwrap_or s.peer_suites both_suites; psk47 = psk47; psk51 = psk51; nonce = nonce })
 
 unfoldable pub server_setup_of : Settings → Result ServerSetup LineFault
 server_setup_of s = do
   name ← needed s.server_name
   methods ← needed s.server_methods
   nonce ← needed s.server_nonce
-  Ok (record { name = name; methods = methods; suites = both_suites; users = []; nonce = nonce })
+  Ok (record { name = name; methods = methods; suites = unwrap_or s.server_suites both_suites; users = s.users; nonce = nonce })
 
 unfoldable pub setup_of : Settings → Result Setup LineFault
 setup_of s = do
@@ -139,10 +165,15 @@ header = codes "eap-scenario 1"
 abbrev pub read_header : List ℕ → Result ReadLine LineFault
 read_header line = if bytes_eq line header then reads item.Nothing phase.Settings no_settings else Err NoHeader
 
+-- a line that gives a user where 16 are there
+abbrev pub is_crowded : Settings → List ℕ → Bool
+is_crowded s line = nat_le 16 (length s.users) && is_user_line line
+
 -- a line after the first
 abbrev pub read_body : Phase → Settings → List ℕ → Result ReadLine LineFault
 read_body p s line =
     if is_passed_over line then reads item.Nothing p s
+    else if is_crowded s line then Err BadCount
     else entry_of line >>= λ e. read_entry p s e
 
 -- a line of a scenario that has come so far

@@ -1,6 +1,7 @@
 -- What every setting that was read keeps: its number, its name or its nonce is within its limits.
-use Rattle.std.specs.Prelude.{◌≡◌, ℕ, ◌≤◌, ◌<◌, List, [], length, IfSome}
-use Rattle.eap_base.specs.Setup.{IsSoundPeer, IsSoundServer, HasKeys}
+use Rattle.std.specs.Prelude.{◌≡◌, ℕ, ◌≤◌, ◌<◌, List, length, IfSome, IsTrue, All}
+use Rattle.eap_base.specs.Setup.{psk_kind, gpsk_kind, is_kind, are_kinds, are_suites, fits_kind, IsSoundPeer, IsSoundServer, HasKeys}
+use Rattle.eap_base.specs.declared.users.User.{User}
 use Rattle.eap_base.specs.declared.setup.Mode.TheVariants as mode
 use Rattle.eap_base.specs.declared.setup.Accepts.{Accepts}
 use Rattle.eap_base.specs.declared.setup.Accepts.TheVariants.{Any, One}
@@ -26,17 +27,28 @@ abbrev pub AcceptsName : Accepts → Type 0
 AcceptsName Any = Unit {0}
 AcceptsName (One name) = IsName name
 
+-- a user has a name, one of the two kinds, and a key that fits it
+pub record IsValidUser (user : User) : Type 0 where
+  pub name : IsName user.name
+  pub kind : IsTrue (is_kind user.kind)
+  pub psk : IsTrue (fits_kind user.kind user.psk)
+
 abbrev pub IsValidSetting : Setting → Type 0
 IsValidSetting (setting.Mode m) = m ≡ mode.Alone
 IsValidSetting (setting.FirstId id) = id < 256
 IsValidSetting (setting.MaxRetrans count) = count ≤ 10
 IsValidSetting (setting.PeerName name) = IsName name
 IsValidSetting (setting.PeerServer accepts) = AcceptsName accepts
-IsValidSetting (setting.PeerMethods kinds) = kinds ≡ []
+IsValidSetting (setting.PeerMethods kinds) = IsTrue (are_kinds kinds)
+IsValidSetting (setting.PeerSuites suites) = IsTrue (are_suites suites)
+IsValidSetting (setting.PeerPsk47 key) = IsTrue (fits_kind psk_kind key)
+IsValidSetting (setting.PeerPsk51 key) = IsTrue (fits_kind gpsk_kind key)
 IsValidSetting (setting.PeerNonce nonce) = length nonce ≡ 32
 IsValidSetting (setting.ServerName name) = IsName name
-IsValidSetting (setting.ServerMethods kinds) = kinds ≡ []
+IsValidSetting (setting.ServerMethods kinds) = IsTrue (are_kinds kinds)
+IsValidSetting (setting.ServerSuites suites) = IsTrue (are_suites suites)
 IsValidSetting (setting.ServerNonce nonce) = length nonce ≡ 32
+IsValidSetting (setting.User user) = IsValidUser user
 
 abbrev pub IsValidEntry : Entry → Type 0
 IsValidEntry (entry.Set v) = IsValidSetting v
@@ -51,11 +63,16 @@ pub record AreValid (s : Settings) : Type 0 where
   pub max_retrans : IfSome s.max_retrans (λ count. count ≤ 10)
   pub peer_name : IfSome s.peer_name IsName
   pub peer_server : IfSome s.peer_server AcceptsName
-  pub peer_methods : IfSome s.peer_methods (λ kinds. kinds ≡ [])
+  pub peer_methods : IfSome s.peer_methods (λ kinds. IsTrue (are_kinds kinds))
+  pub peer_suites : IfSome s.peer_suites (λ suites. IsTrue (are_suites suites))
+  pub peer_psk47 : IfSome s.peer_psk47 (λ key. IsTrue (fits_kind psk_kind key))
+  pub peer_psk51 : IfSome s.peer_psk51 (λ key. IsTrue (fits_kind gpsk_kind key))
   pub peer_nonce : IfSome s.peer_nonce (λ nonce. length nonce ≡ 32)
   pub server_name : IfSome s.server_name IsName
-  pub server_methods : IfSome s.server_methods (λ kinds. kinds ≡ [])
+  pub server_methods : IfSome s.server_methods (λ kinds. IsTrue (are_kinds kinds))
+  pub server_suites : IfSome s.server_suites (λ suites. IsTrue (are_suites suites))
   pub server_nonce : IfSome s.server_nonce (λ nonce. length nonce ≡ 32)
+  pub users : All IsValidUser s.users
 
 -- the settings of each end and of a run, within their limits
 pub record IsValidPeer (peer : PeerSetup) : Type 0 where
@@ -63,13 +80,12 @@ pub record IsValidPeer (peer : PeerSetup) : Type 0 where
   pub keys : HasKeys peer
   pub name : IsName peer.name
   pub accepts : AcceptsName peer.accepts
-  pub no_methods : peer.methods ≡ []
   pub nonce : length peer.nonce ≡ 32
 
 pub record IsValidServer (server : ServerSetup) : Type 0 where
   pub sound : IsSoundServer server
   pub name : IsName server.name
-  pub no_methods : server.methods ≡ []
+  pub users : All IsValidUser server.users
   pub nonce : length server.nonce ≡ 32
 
 pub record IsValidSetup (setup : Setup) : Type 0 where

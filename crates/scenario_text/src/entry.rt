@@ -1,14 +1,16 @@
 //! The lines of a scenario: each keyword with the words that follow it.
 
-ghost use Rattle.std.specs.Prelude.{◌≡◌, [], length, slice_get, MatchResult, Ok, Err};
+ghost use Rattle.std.specs.Prelude.{◌≡◌, length, slice_get, MatchResult, Ok, Err};
 ghost use Rattle.scenario_text.specs.Words.{words};
 ghost use Rattle.scenario_text.specs.Fields.{number_of};
-ghost use Rattle.scenario_text.specs.Entries.{keyword_of, word_alone, nothing_more, mode_of, name_of, accepts_of, kinds_of, nonce_of, timer_party_of, first_keyword, entry_of, entry_for};
+ghost use Rattle.scenario_text.specs.Entries.{keyword_of, word_alone, nothing_more, mode_of, accepts_of, nonce_of, first_keyword, entry_of, entry_for, is_user_word, is_user_line};
 
+use crate::event_words::{read_alter, read_cut, read_inject, read_timer_party};
 use crate::fault::LineFault;
-use crate::fields::{read_hex, read_number};
+use crate::fields::{read_hex, read_name, read_number};
+use crate::method_words::{read_kinds, read_peer_psk, read_suites, read_user};
 use crate::words::{is_printable_line, word_at, word_count};
-use eap_base::{Accepts, Event, Identity, Kinds, Mode, Nonce, Party};
+use eap_base::{Accepts, Event, Identity, Kinds, Mode, Nonce, Secret, Suites, User};
 
 /// The first word of a line.
 #[derive(Clone, Copy, PartialEq, Eq, Debug)]
@@ -19,14 +21,23 @@ pub enum Keyword {
     PeerName,
     PeerServer,
     PeerMethods,
+    PeerSuites,
+    PeerPsk,
     PeerNonce,
     ServerName,
     ServerMethods,
+    ServerSuites,
     ServerNonce,
+    User,
     Events,
     Deliver,
+    Alter,
+    Cut,
+    Inject,
     Timeout,
     Idle,
+    AltAccept,
+    AltReject,
     End,
 }
 
@@ -39,10 +50,15 @@ pub enum Setting {
     PeerName(Identity),
     PeerServer(Accepts),
     PeerMethods(Kinds),
+    PeerSuites(Suites),
+    PeerPsk47(Secret),
+    PeerPsk51(Secret),
     PeerNonce(Nonce),
     ServerName(Identity),
     ServerMethods(Kinds),
+    ServerSuites(Suites),
     ServerNonce(Nonce),
+    User(User),
 }
 
 /// A line of a scenario after its header.
@@ -71,22 +87,40 @@ fn read_keyword(word: &[u8]) -> Option<Keyword>
         Some(Keyword::PeerServer)
     } else if word == b"peer-methods".as_slice() {
         Some(Keyword::PeerMethods)
+    } else if word == b"peer-suites".as_slice() {
+        Some(Keyword::PeerSuites)
+    } else if word == b"peer-psk".as_slice() {
+        Some(Keyword::PeerPsk)
     } else if word == b"peer-nonce".as_slice() {
         Some(Keyword::PeerNonce)
     } else if word == b"server-name".as_slice() {
         Some(Keyword::ServerName)
     } else if word == b"server-methods".as_slice() {
         Some(Keyword::ServerMethods)
+    } else if word == b"server-suites".as_slice() {
+        Some(Keyword::ServerSuites)
     } else if word == b"server-nonce".as_slice() {
         Some(Keyword::ServerNonce)
+    } else if word == b"user".as_slice() {
+        Some(Keyword::User)
     } else if word == b"events".as_slice() {
         Some(Keyword::Events)
     } else if word == b"deliver".as_slice() {
         Some(Keyword::Deliver)
+    } else if word == b"alter".as_slice() {
+        Some(Keyword::Alter)
+    } else if word == b"cut".as_slice() {
+        Some(Keyword::Cut)
+    } else if word == b"inject".as_slice() {
+        Some(Keyword::Inject)
     } else if word == b"timeout".as_slice() {
         Some(Keyword::Timeout)
     } else if word == b"idle".as_slice() {
         Some(Keyword::Idle)
+    } else if word == b"alt-accept".as_slice() {
+        Some(Keyword::AltAccept)
+    } else if word == b"alt-reject".as_slice() {
+        Some(Keyword::AltReject)
     } else if word == b"end".as_slice() {
         Some(Keyword::End)
     } else {
@@ -119,6 +153,23 @@ fn first_keyword(line: &[u8]) -> Option<Keyword>
     }
 }
 
+/// True where the line gives a user, in however many words.
+#[tactic(auto, unfolding(crate::specs::Entries::is_user_line))]
+pub fn is_user_line(line: &[u8]) -> bool
+    ensures { result ≡ is_user_line line.now }
+{
+    is_printable_line(line) && begins_with_user(line)
+}
+
+fn begins_with_user(line: &[u8]) -> bool
+    ensures { result ≡ is_user_word (slice_get (words line.now) 0) }
+{
+    match word_at(line, 0) {
+        None => false,
+        Some(word) => word == b"user".as_slice(),
+    }
+}
+
 /// The words after the keyword, each as the keyword has it.
 fn read_fields(keyword: Keyword, line: &[u8]) -> Result<Entry, LineFault>
     ensures { result ≡ entry_for keyword (words line.now) }
@@ -130,14 +181,23 @@ fn read_fields(keyword: Keyword, line: &[u8]) -> Result<Entry, LineFault>
         Keyword::PeerName => peer_name_entry(line),
         Keyword::PeerServer => peer_server_entry(line),
         Keyword::PeerMethods => peer_methods_entry(line),
+        Keyword::PeerSuites => peer_suites_entry(line),
+        Keyword::PeerPsk => peer_psk_entry(line),
         Keyword::PeerNonce => peer_nonce_entry(line),
         Keyword::ServerName => server_name_entry(line),
         Keyword::ServerMethods => server_methods_entry(line),
+        Keyword::ServerSuites => server_suites_entry(line),
         Keyword::ServerNonce => server_nonce_entry(line),
+        Keyword::User => user_entry(line),
         Keyword::Events => events_entry(line),
         Keyword::Deliver => deliver_entry(line),
+        Keyword::Alter => alter_entry(line),
+        Keyword::Cut => cut_entry(line),
+        Keyword::Inject => inject_entry(line),
         Keyword::Timeout => timeout_entry(line),
         Keyword::Idle => idle_entry(line),
+        Keyword::AltAccept => alt_accept_entry(line),
+        Keyword::AltReject => alt_reject_entry(line),
         Keyword::End => end_entry(line),
     }
 }
@@ -196,6 +256,25 @@ fn peer_methods_entry(line: &[u8]) -> Result<Entry, LineFault>
 }
 
 #[tactic(auto, unfolding(crate::specs::Entries::entry_for))]
+fn peer_suites_entry(line: &[u8]) -> Result<Entry, LineFault>
+    ensures { result ≡ entry_for Keyword.PeerSuites (words line.now) }
+{
+    let suites = read_suites(line)?;
+    Ok(Entry::Set(Setting::PeerSuites(suites)))
+}
+
+#[tactic(auto, unfolding(crate::specs::Entries::entry_for))]
+fn peer_psk_entry(line: &[u8]) -> Result<Entry, LineFault>
+    ensures { result ≡ entry_for Keyword.PeerPsk (words line.now) }
+{
+    if word_count(line) != 3 {
+        return Err(LineFault::BadCount);
+    }
+    let setting = read_peer_psk(line)?;
+    Ok(Entry::Set(setting))
+}
+
+#[tactic(auto, unfolding(crate::specs::Entries::entry_for))]
 fn peer_nonce_entry(line: &[u8]) -> Result<Entry, LineFault>
     ensures { result ≡ entry_for Keyword.PeerNonce (words line.now) }
 {
@@ -222,12 +301,31 @@ fn server_methods_entry(line: &[u8]) -> Result<Entry, LineFault>
 }
 
 #[tactic(auto, unfolding(crate::specs::Entries::entry_for))]
+fn server_suites_entry(line: &[u8]) -> Result<Entry, LineFault>
+    ensures { result ≡ entry_for Keyword.ServerSuites (words line.now) }
+{
+    let suites = read_suites(line)?;
+    Ok(Entry::Set(Setting::ServerSuites(suites)))
+}
+
+#[tactic(auto, unfolding(crate::specs::Entries::entry_for))]
 fn server_nonce_entry(line: &[u8]) -> Result<Entry, LineFault>
     ensures { result ≡ entry_for Keyword.ServerNonce (words line.now) }
 {
     let word = read_word_alone(line)?;
     let nonce = read_nonce(word)?;
     Ok(Entry::Set(Setting::ServerNonce(nonce)))
+}
+
+#[tactic(auto, unfolding(crate::specs::Entries::entry_for))]
+fn user_entry(line: &[u8]) -> Result<Entry, LineFault>
+    ensures { result ≡ entry_for Keyword.User (words line.now) }
+{
+    if word_count(line) != 5 {
+        return Err(LineFault::BadCount);
+    }
+    let user = read_user(line)?;
+    Ok(Entry::Set(Setting::User(user)))
 }
 
 #[tactic(auto, unfolding(crate::specs::Entries::entry_for))]
@@ -247,6 +345,39 @@ fn deliver_entry(line: &[u8]) -> Result<Entry, LineFault>
 }
 
 #[tactic(auto, unfolding(crate::specs::Entries::entry_for))]
+fn alter_entry(line: &[u8]) -> Result<Entry, LineFault>
+    ensures { result ≡ entry_for Keyword.Alter (words line.now) }
+{
+    if word_count(line) != 4 {
+        return Err(LineFault::BadCount);
+    }
+    let event = read_alter(line)?;
+    Ok(Entry::Happens(event))
+}
+
+#[tactic(auto, unfolding(crate::specs::Entries::entry_for))]
+fn cut_entry(line: &[u8]) -> Result<Entry, LineFault>
+    ensures { result ≡ entry_for Keyword.Cut (words line.now) }
+{
+    if word_count(line) != 3 {
+        return Err(LineFault::BadCount);
+    }
+    let event = read_cut(line)?;
+    Ok(Entry::Happens(event))
+}
+
+#[tactic(auto, unfolding(crate::specs::Entries::entry_for))]
+fn inject_entry(line: &[u8]) -> Result<Entry, LineFault>
+    ensures { result ≡ entry_for Keyword.Inject (words line.now) }
+{
+    if word_count(line) != 3 {
+        return Err(LineFault::BadCount);
+    }
+    let event = read_inject(line)?;
+    Ok(Entry::Happens(event))
+}
+
+#[tactic(auto, unfolding(crate::specs::Entries::entry_for))]
 fn timeout_entry(line: &[u8]) -> Result<Entry, LineFault>
     ensures { result ≡ entry_for Keyword.Timeout (words line.now) }
 {
@@ -260,6 +391,20 @@ fn idle_entry(line: &[u8]) -> Result<Entry, LineFault>
     ensures { result ≡ entry_for Keyword.Idle (words line.now) }
 {
     read_bare(line, Entry::Happens(Event::Idle))
+}
+
+#[tactic(auto, unfolding(crate::specs::Entries::entry_for))]
+fn alt_accept_entry(line: &[u8]) -> Result<Entry, LineFault>
+    ensures { result ≡ entry_for Keyword.AltAccept (words line.now) }
+{
+    read_bare(line, Entry::Happens(Event::AltAccept))
+}
+
+#[tactic(auto, unfolding(crate::specs::Entries::entry_for))]
+fn alt_reject_entry(line: &[u8]) -> Result<Entry, LineFault>
+    ensures { result ≡ entry_for Keyword.AltReject (words line.now) }
+{
+    read_bare(line, Entry::Happens(Event::AltReject))
 }
 
 #[tactic(auto, unfolding(crate::specs::Entries::entry_for))]
@@ -311,16 +456,6 @@ fn read_octet(word: &[u8], high: u8) -> Result<u8, LineFault>
     }
 }
 
-/// A name of 1 to 253 octets.
-fn read_name(word: &[u8]) -> Result<Identity, LineFault>
-    ensures { result ≡ name_of word.now }
-{
-    if word.is_empty() {
-        return Err(LineFault::BadSize);
-    }
-    Identity::from_slice(word).ok_or(LineFault::BadSize)
-}
-
 /// The server names that a peer accepts: `any`, or one name.
 fn read_accepts(word: &[u8]) -> Result<Accepts, LineFault>
     ensures { result ≡ accepts_of word.now }
@@ -334,24 +469,6 @@ fn read_accepts(word: &[u8]) -> Result<Accepts, LineFault>
     }
 }
 
-/// The methods: `-` alone stands for none.
-fn read_kinds(line: &[u8]) -> Result<Kinds, LineFault>
-    ensures { result ≡ kinds_of (words line.now) }
-{
-    match word_count(line) {
-        2 => {
-            let word = word_at(line, 1).ok_or(LineFault::BadCount)?;
-            if word == b"-".as_slice() {
-                Ok(Kinds::new())
-            } else {
-                Err(LineFault::BadNumber)
-            }
-        }
-        3 => Err(LineFault::BadNumber),
-        _ => Err(LineFault::BadCount),
-    }
-}
-
 /// A nonce of 32 octets.
 fn read_nonce(word: &[u8]) -> Result<Nonce, LineFault>
     ensures { result ≡ nonce_of word.now }
@@ -360,16 +477,5 @@ fn read_nonce(word: &[u8]) -> Result<Nonce, LineFault>
     match octets.as_slice().try_into() {
         Ok(nonce) => Ok(nonce),
         Err(_) => Err(LineFault::BadSize),
-    }
-}
-
-/// A party whose retransmission timer can end.
-fn read_timer_party(word: &[u8]) -> Result<Party, LineFault>
-    ensures { result ≡ timer_party_of word.now }
-{
-    if word == b"server".as_slice() {
-        Ok(Party::Server)
-    } else {
-        Err(LineFault::BadChoice)
     }
 }

@@ -21,7 +21,7 @@ pub enum LineFault {
     /// A word that is none of its choices.
     #[error("a word that is none of its choices")]
     BadChoice,
-    /// No decimal number without a leading zero, or one out of range.
+    /// No decimal number without a leading zero, one out of range, or no method or suite that there is.
     #[error("not a number, or one out of range")]
     BadNumber,
     /// An empty hex word, or one that is not an even number of hex digits.
@@ -30,7 +30,7 @@ pub enum LineFault {
     /// A name or a hex word of a wrong length.
     #[error("a wrong length")]
     BadSize,
-    /// A setting that came before.
+    /// A setting that came before, or the same method or suite twice in one line.
     #[error("a setting that came before")]
     Repeated,
     /// A needed setting, or the line `end`, that is not there.

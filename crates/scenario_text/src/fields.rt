@@ -2,10 +2,12 @@
 
 ghost use Rattle.std.specs.Prelude.{◌≡◌, ◌≤◌, ◌<◌, ◌+◌, ◌*◌, ◌^◌, [], length, min, IsTrue, IfOk};
 ghost use Rattle.std.specs.List.{list_all};
-ghost use Rattle.scenario_text.specs.Fields.{number_of, number_after, is_digit, is_decimal, hex_of, hex_value, is_hex_digit, is_hex, octets_of};
+ghost use Rattle.scenario_text.specs.Fields.{number_of, number_after, is_digit, is_decimal, hex_of, hex_value, is_hex_digit, is_hex, octets_of, name_of, number_at, octets_at};
+ghost use Rattle.scenario_text.specs.Words.{words};
 
 use crate::fault::LineFault;
-use eap_base::Octets;
+use crate::words::word_at;
+use eap_base::{Identity, Octets};
 
 /// The number that the word spells in decimal digits without a leading zero. `BadNumber` comes where
 /// it spells none, or one outside `low` to `high`.
@@ -114,4 +116,31 @@ fn hex_digit(digit: u8) -> u8
         b'A'..=b'F' => digit - (b'A' - 10),
         _ => digit - (b'a' - 10),
     }
+}
+
+/// A name of 1 to 253 octets.
+pub(crate) fn read_name(word: &[u8]) -> Result<Identity, LineFault>
+    ensures { result ≡ name_of word.now }
+{
+    if word.is_empty() {
+        return Err(LineFault::BadSize);
+    }
+    Identity::from_slice(word).ok_or(LineFault::BadSize)
+}
+
+/// The number that the word at a place spells.
+pub(crate) fn number_at(line: &[u8], place: usize, low: u32, high: u32) -> Result<u32, LineFault>
+    ensures value { result ≡ number_at (words line.now) place low high }
+    ensures in_range { IfOk result (λ number. (low ≤ number) × (number ≤ high)) }
+{
+    let word = word_at(line, place).ok_or(LineFault::BadCount)?;
+    read_number(word, low, high)
+}
+
+/// The octets of the word at a place.
+pub(crate) fn octets_at(line: &[u8], place: usize) -> Result<Octets<2000>, LineFault>
+    ensures { result ≡ octets_at (words line.now) place }
+{
+    let word = word_at(line, place).ok_or(LineFault::BadCount)?;
+    read_hex(word)
 }

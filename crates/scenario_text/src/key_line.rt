@@ -2,10 +2,11 @@
 
 ghost use Rattle.std.specs.Prelude.{◌≡◌, ◌≤◌, slice_get, length, IfOk, IfSome};
 ghost use Rattle.scenario_text.specs.Words.{words};
-ghost use Rattle.scenario_text.specs.Keys.{both, request_of, total_of, sized_of, sized_at, octets_at, suite_at, eax_words, gpsk_words, fields_of, first_request, asked_by, key_line, HasSizes};
+ghost use Rattle.scenario_text.specs.Fields.{octets_at};
+ghost use Rattle.scenario_text.specs.Keys.{both, request_of, total_of, sized_of, sized_at, suite_at, eax_words, gpsk_words, fields_of, first_request, asked_by, key_line, HasSizes};
 
 use crate::fault::LineFault;
-use crate::fields::{read_hex, read_number};
+use crate::fields::{octets_at, read_hex, read_number};
 use crate::words::{is_comment, is_printable_line, word_at, word_count};
 use eap_base::{Octets, Suite};
 
@@ -295,14 +296,6 @@ fn suite_at(line: &[u8], place: usize) -> Result<Suite, LineFault>
         Ok(_) => Ok(Suite::Hmac),
         Err(fault) => Err(fault),
     }
-}
-
-/// The octets of the word at a place.
-fn octets_at(line: &[u8], place: usize) -> Result<Octets<2000>, LineFault>
-    ensures { result ≡ octets_at (words line.now) place }
-{
-    let word = word_at(line, place).ok_or(LineFault::BadCount)?;
-    read_hex(word)
 }
 
 /// The octets of the word at a place, `low` to `high` of them.

@@ -2,9 +2,11 @@
 #![tactic(auto)]
 
 mod entry;
+mod event_words;
 mod fault;
 mod fields;
 mod key_line;
+mod method_words;
 mod packet_line;
 mod scenario;
 mod settings;

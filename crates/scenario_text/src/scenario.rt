@@ -117,6 +117,9 @@ impl ScenarioReader {
         if is_comment(line) {
             return Ok(Item::Nothing);
         }
+        if self.settings.is_crowded(line) {
+            return Err(LineFault::BadCount);
+        }
         let entry = read_entry(line)?;
         self.take(entry)
     }

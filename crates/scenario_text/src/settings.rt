@@ -1,12 +1,14 @@
 //! The settings of a scenario that have been read so far.
 
-ghost use Rattle.std.specs.Prelude.{◌≡◌, ◌∷◌, [], Some, None};
-ghost use Rattle.scenario_text.specs.Reading.{no_settings, has_setting, with_setting, both_suites, peer_setup_of, server_setup_of, setup_of, needed};
+ghost use Rattle.std.specs.Prelude.{◌≡◌, ◌∷◌, [], unwrap_or};
+ghost use Rattle.eap_base.specs.Setup.{is_among};
+ghost use Rattle.scenario_text.specs.Reading.{no_settings, has_setting, with_user, with_setting, both_suites, key_for, peer_setup_of, server_setup_of, setup_of, is_crowded};
 
-use crate::entry::Setting;
+use crate::entry::{Setting, is_user_line};
 use crate::fault::LineFault;
 use eap_base::{
-    Accepts, Identity, Kinds, Mode, Nonce, PeerSetup, ServerSetup, Setup, Suites, Users,
+    Accepts, Identity, Kinds, Mode, Nonce, PeerSetup, Secret, ServerSetup, Setup, Suites, User,
+    Users,
 };
 
 /// The settings so far; each is None until it has come.
@@ -18,10 +20,15 @@ pub struct Settings {
     pub peer_name: Option<Identity>,
     pub peer_server: Option<Accepts>,
     pub peer_methods: Option<Kinds>,
+    pub peer_suites: Option<Suites>,
+    pub peer_psk47: Option<Secret>,
+    pub peer_psk51: Option<Secret>,
     pub peer_nonce: Option<Nonce>,
     pub server_name: Option<Identity>,
     pub server_methods: Option<Kinds>,
+    pub server_suites: Option<Suites>,
     pub server_nonce: Option<Nonce>,
+    pub users: Users,
 }
 
 impl Settings {
@@ -36,11 +43,23 @@ impl Settings {
             peer_name: None,
             peer_server: None,
             peer_methods: None,
+            peer_suites: None,
+            peer_psk47: None,
+            peer_psk51: None,
             peer_nonce: None,
             server_name: None,
             server_methods: None,
+            server_suites: None,
             server_nonce: None,
+            users: Users::new(),
         }
+    }
+
+    /// True where the line gives a user and 16 are there.
+    pub fn is_crowded(&self, line: &[u8]) -> bool
+        ensures { result ≡ is_crowded self.now line.now }
+    {
+        self.users.as_slice().len() >= 16 && is_user_line(line)
     }
 
     /// True where the setting has come before.
@@ -54,10 +73,15 @@ impl Settings {
             Setting::PeerName(_) => self.peer_name.is_some(),
             Setting::PeerServer(_) => self.peer_server.is_some(),
             Setting::PeerMethods(_) => self.peer_methods.is_some(),
+            Setting::PeerSuites(_) => self.peer_suites.is_some(),
+            Setting::PeerPsk47(_) => self.peer_psk47.is_some(),
+            Setting::PeerPsk51(_) => self.peer_psk51.is_some(),
             Setting::PeerNonce(_) => self.peer_nonce.is_some(),
             Setting::ServerName(_) => self.server_name.is_some(),
             Setting::ServerMethods(_) => self.server_methods.is_some(),
+            Setting::ServerSuites(_) => self.server_suites.is_some(),
             Setting::ServerNonce(_) => self.server_nonce.is_some(),
+            Setting::User(user) => self.users.find(user.name.as_slice(), user.kind).is_some(),
         }
     }
 
@@ -72,10 +96,15 @@ impl Settings {
             Setting::PeerName(name) => self.peer_name = Some(name),
             Setting::PeerServer(accepts) => self.peer_server = Some(accepts),
             Setting::PeerMethods(kinds) => self.peer_methods = Some(kinds),
+            Setting::PeerSuites(suites) => self.peer_suites = Some(suites),
+            Setting::PeerPsk47(key) => self.peer_psk47 = Some(key),
+            Setting::PeerPsk51(key) => self.peer_psk51 = Some(key),
             Setting::PeerNonce(nonce) => self.peer_nonce = Some(nonce),
             Setting::ServerName(name) => self.server_name = Some(name),
             Setting::ServerMethods(kinds) => self.server_methods = Some(kinds),
+            Setting::ServerSuites(suites) => self.server_suites = Some(suites),
             Setting::ServerNonce(nonce) => self.server_nonce = Some(nonce),
+            Setting::User(user) => add_user(&mut self.users, user),
         }
     }
 
@@ -105,13 +134,15 @@ impl Settings {
         let accepts = self.peer_server.as_ref().ok_or(LineFault::Missing)?;
         let methods = self.peer_methods.as_ref().ok_or(LineFault::Missing)?;
         let nonce = self.peer_nonce.ok_or(LineFault::Missing)?;
+        let psk47 = key_for(methods, 47, &self.peer_psk47)?;
+        let psk51 = key_for(methods, 51, &self.peer_psk51)?;
         Ok(PeerSetup {
             name: name.copy(),
             accepts: accepts.copy(),
             methods: methods.copy(),
-            suites: both_suites(),
-            psk47: None,
-            psk51: None,
+            suites: suites_or_both(&self.peer_suites),
+            psk47,
+            psk51,
             nonce,
         })
     }
@@ -127,10 +158,49 @@ impl Settings {
         Ok(ServerSetup {
             name: name.copy(),
             methods: methods.copy(),
-            suites: both_suites(),
-            users: Users::new(),
+            suites: suites_or_both(&self.server_suites),
+            users: self.users.copy(),
             nonce,
         })
+    }
+}
+
+/// Adds a user, unless 16 are there or one of them has its name and kind.
+fn add_user(users: &mut Users, user: User)
+    ensures { users.new ≡ with_user users.old user }
+{
+    users.add(user);
+}
+
+/// The peer's key for a method, or `Missing` where there is none and the method is among these.
+fn key_for(methods: &Kinds, kind: u8, slot: &Option<Secret>) -> Result<Option<Secret>, LineFault>
+    ensures { result ≡ key_for methods.now kind slot.now }
+{
+    match slot {
+        Some(key) => Ok(Some(key.copy())),
+        None => {
+            if is_among(methods.as_slice(), kind) {
+                Err(LineFault::Missing)
+            } else {
+                Ok(None)
+            }
+        }
+    }
+}
+
+fn is_among(kinds: &[u8], kind: u8) -> bool
+    ensures { result ≡ is_among kinds.now kind }
+{
+    kinds.iter().any(|other| *other == kind)
+}
+
+/// The suites that were set, or else both.
+fn suites_or_both(slot: &Option<Suites>) -> Suites
+    ensures { result ≡ unwrap_or slot.now both_suites }
+{
+    match slot {
+        Some(suites) => suites.copy(),
+        None => both_suites(),
     }
 }
 

@@ -1,22 +1,29 @@
 //! Texts read from outside: a whole scenario, and the fault of each refused line.
 
 use super::*;
-use eap_base::{Accepts, Event, Mode, Setup};
+use eap_base::{Accepts, Event, Mode, Port, Setup};
 
-/// A scenario of the Identity round with all of its settings.
-const SCENARIO: [&str; 13] = [
+/// A scenario of both methods with all of its settings.
+const SCENARIO: [&str; 20] = [
     "eap-scenario 1",
     "mode alone",
     "first-id 0",
     "max-retrans 4",
     "peer-name alice",
     "peer-server srv",
-    "peer-methods -",
+    "peer-methods 51 47",
+    "peer-suites 1 2",
+    "peer-psk 51 000102030405060708090a0b0c0d0e0f101112131415161718191a1b1c1d1e1f",
+    "peer-psk 47 000102030405060708090a0b0c0d0e0f",
     "peer-nonce 1111111111111111111111111111111111111111111111111111111111111111",
     "server-name srv",
-    "server-methods -",
+    "server-methods 51 47",
+    "server-suites 1 2",
     "server-nonce 2222222222222222222222222222222222222222222222222222222222222222",
+    "user alice 51 000102030405060708090a0b0c0d0e0f101112131415161718191a1b1c1d1e1f allowed",
+    "user alice 47 000102030405060708090a0b0c0d0e0f allowed",
     "events",
+    "deliver 1",
     "end",
 ];
 
@@ -38,14 +45,13 @@ fn fault_after(count: usize, line: &str) -> &'static str {
 }
 
 #[test]
-fn lines_are_refused(rt: HostRuntime) {
+fn settings_are_refused(rt: HostRuntime) {
     let cases = [
         (0, "", "NoHeader"),
         (0, "# eap-scenario 1", "NoHeader"),
         (0, "eap-scenario 2", "NoHeader"),
         (0, "eap-scenario 1\r", "NoHeader"),
         (1, "eap-scenario 1", "BadWord"),
-        (1, "", ""),
         (1, "# \x01 passed over", ""),
         (1, " mode alone", "BadWord"),
         (1, "mode", "BadCount"),
@@ -57,43 +63,101 @@ fn lines_are_refused(rt: HostRuntime) {
         (2, "first-id 01", "BadNumber"),
         (3, "first-id 1", "Repeated"),
         (3, "deliver 1", "Order"),
+        (3, "inject peer 00", "Order"),
         (3, "end", "Order"),
         (3, "max-retrans 10", ""),
         (3, "max-retrans 11", "BadNumber"),
-        (4, "events", "Missing"),
         (4, "peer-name ", "BadSize"),
         (4, "peer-name -", ""),
         (4, "peer-name #a", ""),
-        (4, "peer-psk 47 00", "BadWord"),
         (5, "peer-server any", ""),
-        (6, "peer-methods 47", "BadNumber"),
+    ];
+    for (count, line, word) in cases {
+        assert_eq!(rt; fault_after(count, line), word, "{line}");
+    }
+}
+
+#[test]
+fn methods_and_users_are_refused(rt: HostRuntime) {
+    let cases = [
+        (6, "peer-methods -", ""),
+        (6, "peer-methods 48", "BadNumber"),
         (6, "peer-methods - -", "BadNumber"),
+        (6, "peer-methods 47 47", "Repeated"),
         (6, "peer-methods - - -", "BadCount"),
+        (7, "peer-suites -", "BadNumber"),
+        (7, "peer-suites 2 2", "Repeated"),
+        (7, "peer-suites 2", ""),
+        (8, "peer-psk 47 00", "BadSize"),
+        (8, "peer-psk 48 0g", "BadNumber"),
         (
-            7,
+            9,
+            "peer-psk 51 000102030405060708090a0b0c0d0e0f101112131415161718191a1b1c1d1e1f",
+            "Repeated",
+        ),
+        (
+            10,
             "peer-nonce 11111111111111111111111111111111111111111111111111111111111111",
             "BadSize",
         ),
-        (7, "peer-nonce -", "BadSize"),
-        (7, "peer-nonce 0g", "BadHex"),
-        (7, "peer-nonce 111", "BadHex"),
-        (7, "peer-nonce ", "BadHex"),
-        (12, "events", "Order"),
-        (12, "first-id 1", "Repeated"),
-        (12, "deliver 0", "BadNumber"),
-        (12, "deliver 1000001", "BadNumber"),
-        (12, "deliver 18446744073709551617", "BadNumber"),
-        (12, "deliver 1 2", "BadCount"),
-        (12, "deliver \x7f", "BadWord"),
-        (12, "timeout both", "BadChoice"),
-        (12, "timeout pass", "BadChoice"),
-        (12, "inject peer 0g", "BadWord"),
-        (12, "idle 1", "BadCount"),
-        (13, "# the end", ""),
-        (13, "deliver 1", "Order"),
-        (13, "end", "Order"),
-        (13, "idle 1", "BadCount"),
-        (13, "mode alone", "Repeated"),
+        (10, "peer-nonce -", "BadSize"),
+        (10, "peer-nonce 0g", "BadHex"),
+        (10, "peer-nonce ", "BadHex"),
+        (15, "user alice 51 00", "BadCount"),
+        (15, "user  48 0g maybe", "BadChoice"),
+        (15, "user  48 0g barred", "BadNumber"),
+        (15, "user  47 0g barred", "BadHex"),
+        (
+            15,
+            "user  47 000102030405060708090a0b0c0d0e0f barred",
+            "BadSize",
+        ),
+        (
+            16,
+            "user alice 51 000102030405060708090a0b0c0d0e0f101112131415161718191a1b1c1d1e1f barred",
+            "Repeated",
+        ),
+    ];
+    for (count, line, word) in cases {
+        assert_eq!(rt; fault_after(count, line), word, "{line}");
+    }
+}
+
+#[test]
+fn events_are_refused(rt: HostRuntime) {
+    let cases = [
+        (18, "events", "Order"),
+        (18, "first-id 1", "Repeated"),
+        (
+            18,
+            "user alice 47 000102030405060708090a0b0c0d0e0f allowed",
+            "Repeated",
+        ),
+        (
+            18,
+            "user bob 47 000102030405060708090a0b0c0d0e0f allowed",
+            "Order",
+        ),
+        (18, "deliver 0", "BadNumber"),
+        (18, "deliver 18446744073709551617", "BadNumber"),
+        (18, "deliver 1 2", "BadCount"),
+        (18, "deliver \x7f", "BadWord"),
+        (18, "timeout both", "BadChoice"),
+        (18, "inject peer 0g", "BadHex"),
+        (18, "inject peer", "BadCount"),
+        (18, "inject pass-peer 0g", "BadChoice"),
+        (18, "inject server -", ""),
+        (18, "alter 1 0 0", "BadNumber"),
+        (18, "alter 1 1500 1", "BadNumber"),
+        (18, "alter 1 1499 255", ""),
+        (18, "cut 1 1501", "BadNumber"),
+        (18, "cut 1 1500", ""),
+        (18, "alt-accept", ""),
+        (18, "alt-reject 1", "BadCount"),
+        (20, "# the end", ""),
+        (20, "deliver 1", "Order"),
+        (20, "end", "Order"),
+        (20, "mode alone", "Repeated"),
     ];
     for (count, line, word) in cases {
         assert_eq!(rt; fault_after(count, line), word, "{line}");
@@ -111,6 +175,68 @@ fn a_late_setting_is_out_of_order(rt: HostRuntime) {
     assert_eq!(rt; fault_name(reader.line(b"first-id 1")), "Order");
 }
 
+/// The name of the line's fault after the scenario's first lines without the one that begins so.
+fn fault_without(begin: &str, count: usize, line: &str) -> &'static str {
+    let mut reader = ScenarioReader::new();
+    for before in SCENARIO.iter().take(count) {
+        if !before.starts_with(begin) {
+            let _ = reader.line(before.as_bytes());
+        }
+    }
+    fault_name(reader.line(line.as_bytes()))
+}
+
+#[test]
+fn needed_settings_are_missed(rt: HostRuntime) {
+    let cases = [
+        ("peer-name", "Missing"),
+        ("peer-psk 47", "Missing"),
+        ("peer-psk 51", "Missing"),
+        ("server-nonce", "Missing"),
+        ("peer-suites", ""),
+        ("server-suites", ""),
+        ("user", ""),
+    ];
+    for (begin, word) in cases {
+        assert_eq!(rt; fault_without(begin, 17, "events"), word, "{begin}");
+    }
+}
+
+/// The name of the line's fault where 16 users are there.
+fn fault_where_full(line: &str) -> &'static str {
+    let mut reader = ScenarioReader::new();
+    let _ = reader.line(b"eap-scenario 1");
+    for letter in b'a'..=b'p' {
+        let mut user = *b"user a 47 000102030405060708090a0b0c0d0e0f allowed";
+        user[5] = letter;
+        let _ = reader.line(user.as_slice());
+    }
+    fault_name(reader.line(line.as_bytes()))
+}
+
+#[test]
+fn a_seventeenth_user_is_refused(rt: HostRuntime) {
+    let cases = [
+        (
+            "user q 47 000102030405060708090a0b0c0d0e0f allowed",
+            "BadCount",
+        ),
+        (
+            "user a 47 000102030405060708090a0b0c0d0e0f allowed",
+            "BadCount",
+        ),
+        ("user q 48 0g maybe", "BadCount"),
+        ("user", "BadCount"),
+        ("user \x7f", "BadWord"),
+        ("users", "BadWord"),
+        ("first-id 1", ""),
+        ("# user", ""),
+    ];
+    for (line, word) in cases {
+        assert_eq!(rt; fault_where_full(line), word, "{line}");
+    }
+}
+
 /// What the end of the input means after the scenario's first `count` lines.
 fn finish_after(count: usize) -> Result<(), LineFault> {
     let mut reader = ScenarioReader::new();
@@ -125,8 +251,8 @@ fn inputs_end(rt: HostRuntime) {
     let cases = [
         (0, Err(LineFault::NoHeader)),
         (1, Err(LineFault::Missing)),
-        (12, Err(LineFault::Missing)),
-        (13, Ok(())),
+        (18, Err(LineFault::Missing)),
+        (20, Ok(())),
     ];
     for (count, answer) in cases {
         assert_eq!(rt; finish_after(count), answer, "{count}");
@@ -155,17 +281,25 @@ fn a_setup_is_read(rt: HostRuntime) {
     assert!(rt;
         matches!(&setup.peer.accepts, Accepts::One(name) if name.as_slice() == b"srv".as_slice())
     );
-    assert!(rt; setup.peer.methods.is_empty());
+    assert_eq!(rt; setup.peer.methods.as_slice(), [51, 47].as_slice());
+    assert_eq!(rt; setup.peer.suites.as_slice(), [1, 2].as_slice());
+    let psk47 = setup.peer.psk47.as_ref().expect(&rt, "a key for EAP-PSK");
+    assert_eq!(rt; psk47.len(), 16);
+    let psk51 = setup.peer.psk51.as_ref().expect(&rt, "a key for EAP-GPSK");
+    assert_eq!(rt; psk51.len(), 32);
     assert_eq!(rt; setup.peer.nonce, [0x11; 32]);
     assert_eq!(rt; setup.server.name.as_slice(), b"srv".as_slice());
-    assert!(rt; setup.server.methods.is_empty());
+    assert_eq!(rt; setup.server.methods.as_slice(), [51, 47].as_slice());
+    let user = setup.server.users.find(b"alice", 47).expect(&rt, "a user");
+    assert_eq!(rt; user.psk.as_slice(), psk47.as_slice());
+    assert!(rt; !user.barred);
     assert_eq!(rt; setup.server.nonce, [0x22; 32]);
 }
 
 #[test]
 fn events_are_read(rt: HostRuntime) {
     let mut reader = ScenarioReader::new();
-    for line in SCENARIO.iter().take(12) {
+    for line in SCENARIO.iter().take(18) {
         let _ = reader.line(line.as_bytes());
     }
     let delivered = reader.line(b"deliver 1000000");
@@ -182,6 +316,33 @@ fn events_are_read(rt: HostRuntime) {
         )
     );
     assert!(rt; matches!(reader.line(b"idle"), Ok(Item::Event(Event::Idle))));
+    assert!(rt;
+        matches!(
+            reader.line(b"alter 3 20 1"),
+            Ok(Item::Event(Event::Alter {
+                number: 3,
+                place: 20,
+                mask: 1
+            }))
+        )
+    );
+    assert!(rt;
+        matches!(
+            reader.line(b"cut 3 20"),
+            Ok(Item::Event(Event::Cut {
+                number: 3,
+                keep: 20
+            }))
+        )
+    );
+    let injected = reader.line(b"inject server 0304");
+    assert!(rt;
+        matches!(
+            &injected,
+            Ok(Item::Event(Event::Inject { port: Port::Server, octets }))
+                if octets.as_slice() == [3, 4].as_slice()
+        )
+    );
     assert!(rt; matches!(reader.line(b"end"), Ok(Item::End)));
 }
 

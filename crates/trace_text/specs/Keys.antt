@@ -1,5 +1,5 @@
 -- The answers to requests for ciphers, MACs and keys: a line for each value, its name and its octets.
-use Rattle.std.specs.Prelude.{ℕ, List, [], ◌∷◌, ◌++◌, length, codes}
+use Rattle.std.specs.Prelude.{ℕ, List, [], ◌∷◌, ◌++◌, codes}
 use Rattle.std.specs.List.{concat}
 use Rattle.aes_block.specs.Cipher.{aes128}
 use Rattle.cmac_mac.specs.Cmac.{aes_cmac}

@@ -1,5 +1,5 @@
 -- The trace of a run: the lines of its start, of each event, and of its end.
-use Rattle.std.specs.Prelude.{ℕ, List, [], ◌∷◌, ◌++◌, length, ◌==◌, nat_le, if◌then◌else◌, Option, Some, None, codes, decimal, slice_index}
+use Rattle.std.specs.Prelude.{ℕ, List, [], ◌∷◌, ◌++◌, length, Bool, ◌==◌, nat_le, if◌then◌else◌, Option, Some, None, codes, decimal, slice_index}
 use Rattle.std.specs.List.{concat}
 use Rattle.eap_base.specs.declared.setup.Party.{Party}
 use Rattle.eap_base.specs.declared.setup.Party.TheVariants as party
@@ -8,12 +8,21 @@ use Rattle.eap_base.specs.declared.setup.Port.TheVariants as port
 use Rattle.eap_packet.specs.Words.{cause_word, state_word}
 use Rattle.eap_packet.specs.declared.cause.Cause.{Cause}
 use Rattle.eap_packet.specs.declared.state.State.{State}
-use Rattle.eap_world.specs.World.{WorldState}
+use Rattle.eap_world.specs.Book.{tags_verdict}
+use Rattle.eap_world.specs.Verdict.{verdict_of}
+use Rattle.eap_world.specs.World.{WorldNow}
+use Rattle.eap_world.specs.declared.book.TagsVerdict.{TagsVerdict}
+use Rattle.eap_world.specs.declared.book.TagsVerdict.TheVariants as tags
 use Rattle.eap_world.specs.declared.told.Counts.{Counts}
+use Rattle.eap_world.specs.declared.told.Named.{Named}
 use Rattle.eap_world.specs.declared.told.SentPacket.{SentPacket}
 use Rattle.eap_world.specs.declared.told.Skip.{Skip}
 use Rattle.eap_world.specs.declared.told.Skip.TheVariants as skip
 use Rattle.eap_world.specs.declared.told.Told.{Told}
+use Rattle.eap_world.specs.declared.verdict.Verdict.{Verdict}
+use Rattle.eap_world.specs.declared.verdict.Verdict.TheVariants as verdict
+use Rattle.login_keys.specs.KeyName.{key_name_of}
+use Rattle.trace_text.specs.Packets.{hex_text}
 
 abbrev pub party_word : Party → List ℕ
 party_word party.Peer = codes "peer"
@@ -75,23 +84,47 @@ sent_text event (Some sent) = concat (
     code_word (slice_index sent.packet 0) ∷ codes " " ∷ decimal (slice_index sent.packet 1) ∷ type_text sent.packet ∷
     codes " length " ∷ decimal (length sent.packet) ∷ codes "\n" ∷ [])
 
+-- the octets of a packet that was sent, which stand only in a trace with names
+abbrev pub octets_line : ℕ → SentPacket → List ℕ
+octets_line event sent = concat (decimal event ∷ codes " octets " ∷ hex_text sent.packet ∷ codes "\n" ∷ [])
+
+abbrev pub octets_text : Bool → ℕ → Option SentPacket → List ℕ
+octets_text names event None = []
+octets_text names event (Some sent) = if names then octets_line event sent else []
+
+-- the names of the keys that a party first reports, which stand only in a trace with names
+abbrev pub keys_line : ℕ → Named → List ℕ
+keys_line event named = concat (
+    decimal event ∷ codes " keys " ∷ party_word named.party ∷ codes " msk " ∷ hex_text (key_name_of named.report.msk) ∷
+    codes " emsk " ∷ hex_text (key_name_of named.report.emsk) ∷ codes "\n" ∷ [])
+
+abbrev pub keys_text : Bool → ℕ → Option Named → List ℕ
+keys_text names event None = []
+keys_text names event (Some named) = if names then keys_line event named else []
+
+-- the lines of the packet that was sent, of its octets, and of the keys
+abbrev pub shown_text : Bool → Told → List ℕ
+shown_text names told = sent_text told.event told.sent
+    ++ (octets_text names told.event told.sent ++ keys_text names told.event told.named)
+
 -- the lines of what was told: a skipped event has one alone
-abbrev pub acted_text : Told → List ℕ
-acted_text told = party_text told.event told.party told.path ++ (cause_text told.event told.cause ++ sent_text told.event told.sent)
+abbrev pub acted_text : Bool → Told → List ℕ
+acted_text names told = party_text told.event told.party told.path ++ (cause_text told.event told.cause ++ shown_text names told)
 
-abbrev pub told_by : Option Skip → Told → List ℕ
-told_by (Some skip) told = concat (decimal told.event ∷ codes " skip " ∷ skip_word skip ∷ codes "\n" ∷ [])
-told_by None told = acted_text told
+abbrev pub told_by : Bool → Told → Option Skip → List ℕ
+told_by names told (Some skip) = concat (decimal told.event ∷ codes " skip " ∷ skip_word skip ∷ codes "\n" ∷ [])
+told_by names told None = acted_text names told
 
-unfoldable pub told_text : Told → List ℕ
-told_text told = told_by told.skip told
+-- the lines of an event, with the octets of packets and the names of keys or without
+unfoldable pub told_text : Bool → Told → List ℕ
+told_text names told = told_by names told told.skip
 
 -- the lines of the start, in which the peer begins before the server asks
 unfoldable pub peer_start_text : List ℕ
 peer_start_text = codes "0 peer INITIALIZE IDLE\n"
 
-abbrev pub start_text : Told → List ℕ
-start_text told = peer_start_text ++ told_text told
+abbrev pub start_text : Bool → Told → List ℕ
+start_text names told = peer_start_text ++ told_text names told
 
 -- where both ends stand
 unfoldable pub ends_text : State → State → List ℕ
@@ -103,11 +136,24 @@ counts_text counts = concat (
     codes "events " ∷ decimal counts.events ∷ codes "\ndeliveries " ∷ decimal counts.deliveries ∷
     codes "\ndiscards " ∷ decimal counts.discards ∷ codes "\n" ∷ [])
 
--- the verdicts. While no end has a method no tag is made or accepted, so all are honest, and no end
--- succeeds
-unfoldable pub verdict_text : List ℕ
-verdict_text = codes "tags honest\nresult open\nend\n"
+-- whether each accepted tag was made earlier by the other end, and else the event of the first that wasn't
+unfoldable pub tags_text : TagsVerdict → List ℕ
+tags_text tags.Honest = codes "tags honest\n"
+tags_text (tags.Broken event) = concat (codes "tags broken " ∷ decimal event ∷ codes "\n" ∷ [])
+
+abbrev pub verdict_word : Verdict → List ℕ
+verdict_word verdict.Agree = codes "agree"
+verdict_word verdict.Apart = codes "apart"
+verdict_word verdict.Unfinished = codes "open"
+
+-- what came of the login, and the last line
+unfoldable pub result_text : Verdict → List ℕ
+result_text v = concat (codes "result " ∷ verdict_word v ∷ codes "\nend\n" ∷ [])
 
 -- the lines of the end
-abbrev pub end_text : WorldState → List ℕ
-end_text w = ends_text w.peer.state w.server.state ++ (counts_text w.counts ++ verdict_text)
+unfoldable pub end_text_of : State → State → Counts → TagsVerdict → Verdict → List ℕ
+end_text_of peer server counts tags verdict =
+    ends_text peer server ++ (counts_text counts ++ (tags_text tags ++ result_text verdict))
+
+abbrev pub end_text : WorldNow → List ℕ
+end_text w = end_text_of w.peer.vars.state w.server.vars.state w.counts (tags_verdict w.book) (verdict_of w)

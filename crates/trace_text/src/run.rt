@@ -1,16 +1,20 @@
 //! The trace of a run: lines of words, each ended by LF. States have their names of RFC 4137, packets the
 //! fields of RFC 3748 section 4.
 
-ghost use Rattle.std.specs.Prelude.{◌≡◌, ◌≤◌, Some, OnErr, slice_index, [], ◌∷◌, ◌++◌, codes, decimal};
+ghost use Rattle.std.specs.Prelude.{◌≡◌, ◌≤◌, Some, OnErr, length, slice_index, [], ◌∷◌, ◌++◌, codes, decimal};
 ghost use Rattle.std.specs.List.{concat};
 ghost use Rattle.trace_text.specs.Writes.{Writes};
-ghost use Rattle.trace_text.specs.Run.{state_text, party_word, port_word, skip_word, code_word, states_text, path_text, party_text, cause_text, sent_text, acted_text, told_by, told_text, peer_start_text, start_text, end_text, ends_text, counts_text, verdict_text};
+ghost use Rattle.trace_text.specs.Run.{state_text, party_word, port_word, skip_word, code_word, states_text, path_text, party_text, cause_text, sent_text, octets_line, octets_text, keys_line, keys_text, shown_text, acted_text, told_by, told_text, peer_start_text, start_text, ends_text, counts_text, tags_text, verdict_word, result_text, end_text_of, end_text};
+ghost use Rattle.eap_world.specs.World.{now_of};
 
+use crate::packet::{MAX_DIGITS, hex_digits};
 use crate::pieces::write_pieces;
 use eap_base::{Failed, Party, Port, Sink};
+use eap_method::{PeerMethod, ServerMethod};
 use eap_packet::{Cause, State};
-use eap_world::{Counts, SentPacket, Skip, Told, World};
+use eap_world::{Counts, Named, SentPacket, Skip, TagsVerdict, Told, Verdict, World};
 use itoa::Buffer;
+use login_keys::key_name;
 
 fn name_of_party(party: Party) -> &'static str
     ensures { result.now ≡ party_word party }
@@ -54,6 +58,16 @@ fn name_of_code(code: u8) -> &'static str
         2 => "response",
         3 => "success",
         _ => "failure",
+    }
+}
+
+fn name_of_verdict(verdict: Verdict) -> &'static str
+    ensures { result.now ≡ verdict_word verdict }
+{
+    match verdict {
+        Verdict::Agree => "agree",
+        Verdict::Apart => "apart",
+        Verdict::Unfinished => "open",
     }
 }
 
@@ -208,16 +222,98 @@ fn write_packet_line<W: Sink>(sink: &mut W, event: u32, sent: &SentPacket) -> Re
     )
 }
 
-/// Writes the lines of an event: of the party that acted, of a discard, of the packet that was sent. A
-/// skipped event has one line alone. `Failed`: a write failed, and a front of the lines was appended.
+/// Writes all octets of a packet in hex, in one line.
+fn write_octets_line<W: Sink>(sink: &mut W, event: u32, sent: &SentPacket) -> Result<(), Failed>
+    ensures writes { Writes result (W.written sink.old) (W.written sink.new) (octets_line event sent.now) }
+    ensures counted { OnErr result (W.write_faults sink.new ≤ W.write_faults sink.old → W.last_write_fault ≡ Some (W.write_faults sink.new)) }
+    ensures never_falls { W.write_faults sink.old ≤ W.write_faults sink.new }
+{
+    let mut number = Buffer::new();
+    let digits = number.format(event).as_bytes();
+    let mut room = [0; MAX_DIGITS];
+    let octets = hex_digits(sent.packet.as_slice(), &mut room);
+    write_pieces(sink, &[digits, b" octets ", octets, b"\n"])
+}
+
+/// Writes the octets of the packet that was sent, if there was one and names are asked for.
+fn write_octets<W: Sink>(
+    sink: &mut W,
+    event: u32,
+    sent: &Option<SentPacket>,
+    names: bool,
+) -> Result<(), Failed>
+    ensures writes { Writes result (W.written sink.old) (W.written sink.new) (octets_text names event sent.now) }
+    ensures counted { OnErr result (W.write_faults sink.new ≤ W.write_faults sink.old → W.last_write_fault ≡ Some (W.write_faults sink.new)) }
+    ensures never_falls { W.write_faults sink.old ≤ W.write_faults sink.new }
+{
+    match sent {
+        None => write_pieces(sink, &[]),
+        Some(packet) => {
+            if names {
+                write_octets_line(sink, event, packet)
+            } else {
+                write_pieces(sink, &[])
+            }
+        }
+    }
+}
+
+/// Writes the names of the keys that a party reports, in one line.
+fn write_keys_line<W: Sink>(sink: &mut W, event: u32, named: &Named) -> Result<(), Failed>
+    ensures writes { Writes result (W.written sink.old) (W.written sink.new) (keys_line event named.now) }
+    ensures counted { OnErr result (W.write_faults sink.new ≤ W.write_faults sink.old → W.last_write_fault ≡ Some (W.write_faults sink.new)) }
+    ensures never_falls { W.write_faults sink.old ≤ W.write_faults sink.new }
+{
+    let mut number = Buffer::new();
+    let digits = number.format(event).as_bytes();
+    let party = name_of_party(named.party).as_bytes();
+    let mut msk_room = [0; MAX_DIGITS];
+    let mut emsk_room = [0; MAX_DIGITS];
+    let msk = hex_digits(&key_name(&named.report.msk), &mut msk_room);
+    let emsk = hex_digits(&key_name(&named.report.emsk), &mut emsk_room);
+    write_pieces(
+        sink,
+        &[
+            digits, b" keys ", party, b" msk ", msk, b" emsk ", emsk, b"\n",
+        ],
+    )
+}
+
+/// Writes the names of the keys, if a party first reports them and names are asked for.
+fn write_keys<W: Sink>(
+    sink: &mut W,
+    event: u32,
+    named: &Option<Named>,
+    names: bool,
+) -> Result<(), Failed>
+    ensures writes { Writes result (W.written sink.old) (W.written sink.new) (keys_text names event named.now) }
+    ensures counted { OnErr result (W.write_faults sink.new ≤ W.write_faults sink.old → W.last_write_fault ≡ Some (W.write_faults sink.new)) }
+    ensures never_falls { W.write_faults sink.old ≤ W.write_faults sink.new }
+{
+    match named {
+        None => write_pieces(sink, &[]),
+        Some(named) => {
+            if names {
+                write_keys_line(sink, event, named)
+            } else {
+                write_pieces(sink, &[])
+            }
+        }
+    }
+}
+
+/// Writes the lines of an event: of the party that acted, of a discard, and of the packet that was sent.
+/// Where names are asked for, the octets of that packet follow in hex, and the names of the keys that the
+/// party first reports. A skipped event has one line alone. `Failed`: a write failed, and a front of the
+/// lines was appended.
 #[tactic(auto, unfolding(crate::specs::Run::told_text))]
-pub fn write_told<W: Sink>(sink: &mut W, told: &Told) -> Result<(), Failed>
-    ensures writes { Writes result (W.written sink.old) (W.written sink.new) (told_text told.now) }
+pub fn write_told<W: Sink>(sink: &mut W, told: &Told, names: bool) -> Result<(), Failed>
+    ensures writes { Writes result (W.written sink.old) (W.written sink.new) (told_text names told.now) }
     ensures counted { OnErr result (W.write_faults sink.new ≤ W.write_faults sink.old → W.last_write_fault ≡ Some (W.write_faults sink.new)) }
     ensures never_falls { W.write_faults sink.old ≤ W.write_faults sink.new }
 {
     match told.skip {
-        None => write_acted(sink, told),
+        None => write_acted(sink, told, names),
         Some(skip) => {
             let mut number = Buffer::new();
             let digits = number.format(told.event).as_bytes();
@@ -231,25 +327,50 @@ pub fn write_told<W: Sink>(sink: &mut W, told: &Told) -> Result<(), Failed>
 
 /// Writes the lines of an event that wasn't skipped.
 #[tactic(auto, using(crate::proofs::Fronts::writes_front_append, crate::proofs::Fronts::writes_append))]
-fn write_acted<W: Sink>(sink: &mut W, told: &Told) -> Result<(), Failed>
-    ensures writes { Writes result (W.written sink.old) (W.written sink.new) (acted_text told.now) }
+fn write_acted<W: Sink>(sink: &mut W, told: &Told, names: bool) -> Result<(), Failed>
+    ensures writes { Writes result (W.written sink.old) (W.written sink.new) (acted_text names told.now) }
     ensures counted { OnErr result (W.write_faults sink.new ≤ W.write_faults sink.old → W.last_write_fault ≡ Some (W.write_faults sink.new)) }
     ensures never_falls { W.write_faults sink.old ≤ W.write_faults sink.new }
 {
     match write_party(sink, told.event, told.party, told.path.as_slice()) {
-        Ok(()) => write_cause_and_sent(sink, told),
+        Ok(()) => write_cause_and_shown(sink, told, names),
         Err(fault) => Err(fault),
     }
 }
 
 #[tactic(auto, using(crate::proofs::Fronts::writes_front_append, crate::proofs::Fronts::writes_append))]
-fn write_cause_and_sent<W: Sink>(sink: &mut W, told: &Told) -> Result<(), Failed>
-    ensures writes { Writes result (W.written sink.old) (W.written sink.new) (cause_text told.now.event told.now.cause ++ sent_text told.now.event told.now.sent) }
+fn write_cause_and_shown<W: Sink>(sink: &mut W, told: &Told, names: bool) -> Result<(), Failed>
+    ensures writes { Writes result (W.written sink.old) (W.written sink.new) (cause_text told.now.event told.now.cause ++ shown_text names told.now) }
     ensures counted { OnErr result (W.write_faults sink.new ≤ W.write_faults sink.old → W.last_write_fault ≡ Some (W.write_faults sink.new)) }
     ensures never_falls { W.write_faults sink.old ≤ W.write_faults sink.new }
 {
     match write_cause(sink, told.event, told.cause) {
-        Ok(()) => write_sent(sink, told.event, &told.sent),
+        Ok(()) => write_shown(sink, told, names),
+        Err(fault) => Err(fault),
+    }
+}
+
+/// Writes the lines of the packet that was sent, of its octets, and of the keys.
+#[tactic(auto, using(crate::proofs::Fronts::writes_front_append, crate::proofs::Fronts::writes_append))]
+fn write_shown<W: Sink>(sink: &mut W, told: &Told, names: bool) -> Result<(), Failed>
+    ensures writes { Writes result (W.written sink.old) (W.written sink.new) (shown_text names told.now) }
+    ensures counted { OnErr result (W.write_faults sink.new ≤ W.write_faults sink.old → W.last_write_fault ≡ Some (W.write_faults sink.new)) }
+    ensures never_falls { W.write_faults sink.old ≤ W.write_faults sink.new }
+{
+    match write_sent(sink, told.event, &told.sent) {
+        Ok(()) => write_octets_and_keys(sink, told, names),
+        Err(fault) => Err(fault),
+    }
+}
+
+#[tactic(auto, using(crate::proofs::Fronts::writes_front_append, crate::proofs::Fronts::writes_append))]
+fn write_octets_and_keys<W: Sink>(sink: &mut W, told: &Told, names: bool) -> Result<(), Failed>
+    ensures writes { Writes result (W.written sink.old) (W.written sink.new) (octets_text names told.now.event told.now.sent ++ keys_text names told.now.event told.now.named) }
+    ensures counted { OnErr result (W.write_faults sink.new ≤ W.write_faults sink.old → W.last_write_fault ≡ Some (W.write_faults sink.new)) }
+    ensures never_falls { W.write_faults sink.old ≤ W.write_faults sink.new }
+{
+    match write_octets(sink, told.event, &told.sent, names) {
+        Ok(()) => write_keys(sink, told.event, &told.named, names),
         Err(fault) => Err(fault),
     }
 }
@@ -264,30 +385,38 @@ fn write_peer_start<W: Sink>(sink: &mut W) -> Result<(), Failed>
     write_pieces(sink, &[b"0 peer INITIALIZE IDLE\n"])
 }
 
-/// Writes the lines of the start, event 0: the peer begins, then what is told of the server. `Failed`: a
-/// write failed, and a front of the lines was appended.
+/// Writes the lines of the start, event 0: the peer begins, then what is told of the server, with the
+/// octets of its packet where names are asked for. `Failed`: a write failed, and a front of the lines was
+/// appended.
 #[tactic(auto, using(crate::proofs::Fronts::writes_front_append, crate::proofs::Fronts::writes_append))]
-pub fn write_start<W: Sink>(sink: &mut W, told: &Told) -> Result<(), Failed>
-    ensures writes { Writes result (W.written sink.old) (W.written sink.new) (start_text told.now) }
+pub fn write_start<W: Sink>(sink: &mut W, told: &Told, names: bool) -> Result<(), Failed>
+    ensures writes { Writes result (W.written sink.old) (W.written sink.new) (start_text names told.now) }
     ensures counted { OnErr result (W.write_faults sink.new ≤ W.write_faults sink.old → W.last_write_fault ≡ Some (W.write_faults sink.new)) }
     ensures never_falls { W.write_faults sink.old ≤ W.write_faults sink.new }
 {
     match write_peer_start(sink) {
-        Ok(()) => write_told(sink, told),
+        Ok(()) => write_told(sink, told, names),
         Err(fault) => Err(fault),
     }
 }
 
 /// Writes the lines of the end: where both ends stand, the counts, and the verdicts. `Failed`: a write
 /// failed, and a front of the lines was appended.
-#[tactic(auto, using(crate::proofs::Fronts::writes_front_append, crate::proofs::Fronts::writes_append))]
-pub fn write_end<W: Sink>(sink: &mut W, world: &World) -> Result<(), Failed>
-    ensures writes { Writes result (W.written sink.old) (W.written sink.new) (end_text world.now) }
+#[tactic(auto, unfolding(crate::specs::Run::end_text_of), using(crate::proofs::Fronts::writes_front_append, crate::proofs::Fronts::writes_append))]
+pub fn write_end_of<W: Sink>(
+    sink: &mut W,
+    peer: State,
+    server: State,
+    counts: Counts,
+    tags: TagsVerdict,
+    verdict: Verdict,
+) -> Result<(), Failed>
+    ensures writes { Writes result (W.written sink.old) (W.written sink.new) (end_text_of peer server counts tags verdict) }
     ensures counted { OnErr result (W.write_faults sink.new ≤ W.write_faults sink.old → W.last_write_fault ≡ Some (W.write_faults sink.new)) }
     ensures never_falls { W.write_faults sink.old ≤ W.write_faults sink.new }
 {
-    match write_ends(sink, world.peer_state(), world.server_state()) {
-        Ok(()) => write_counts_and_verdicts(sink, world.counts()),
+    match write_ends(sink, peer, server) {
+        Ok(()) => write_counts_and_verdicts(sink, counts, tags, verdict),
         Err(fault) => Err(fault),
     }
 }
@@ -314,13 +443,18 @@ fn write_ends<W: Sink>(sink: &mut W, peer: State, server: State) -> Result<(), F
 }
 
 #[tactic(auto, using(crate::proofs::Fronts::writes_front_append, crate::proofs::Fronts::writes_append))]
-fn write_counts_and_verdicts<W: Sink>(sink: &mut W, counts: Counts) -> Result<(), Failed>
-    ensures writes { Writes result (W.written sink.old) (W.written sink.new) (counts_text counts ++ verdict_text) }
+fn write_counts_and_verdicts<W: Sink>(
+    sink: &mut W,
+    counts: Counts,
+    tags: TagsVerdict,
+    verdict: Verdict,
+) -> Result<(), Failed>
+    ensures writes { Writes result (W.written sink.old) (W.written sink.new) (counts_text counts ++ (tags_text tags ++ result_text verdict)) }
     ensures counted { OnErr result (W.write_faults sink.new ≤ W.write_faults sink.old → W.last_write_fault ≡ Some (W.write_faults sink.new)) }
     ensures never_falls { W.write_faults sink.old ≤ W.write_faults sink.new }
 {
     match write_counts(sink, counts) {
-        Ok(()) => write_verdicts(sink),
+        Ok(()) => write_verdicts(sink, tags, verdict),
         Err(fault) => Err(fault),
     }
 }
@@ -352,13 +486,63 @@ fn write_counts<W: Sink>(sink: &mut W, counts: Counts) -> Result<(), Failed>
     )
 }
 
-/// Writes the verdicts and the last line. While no end has a method no tag is accepted and no end
-/// succeeds, so they are always the same.
-#[tactic(auto, unfolding(crate::specs::Run::verdict_text))]
-fn write_verdicts<W: Sink>(sink: &mut W) -> Result<(), Failed>
-    ensures writes { Writes result (W.written sink.old) (W.written sink.new) verdict_text }
+#[tactic(auto, using(crate::proofs::Fronts::writes_front_append, crate::proofs::Fronts::writes_append))]
+fn write_verdicts<W: Sink>(sink: &mut W, tags: TagsVerdict, verdict: Verdict) -> Result<(), Failed>
+    ensures writes { Writes result (W.written sink.old) (W.written sink.new) (tags_text tags ++ result_text verdict) }
     ensures counted { OnErr result (W.write_faults sink.new ≤ W.write_faults sink.old → W.last_write_fault ≡ Some (W.write_faults sink.new)) }
     ensures never_falls { W.write_faults sink.old ≤ W.write_faults sink.new }
 {
-    write_pieces(sink, &[b"tags honest\nresult open\nend\n"])
+    match write_tags(sink, tags) {
+        Ok(()) => write_result(sink, verdict),
+        Err(fault) => Err(fault),
+    }
+}
+
+/// Writes whether each accepted tag was made earlier by the other end, and else the event of the first
+/// that wasn't.
+#[tactic(auto, unfolding(crate::specs::Run::tags_text))]
+fn write_tags<W: Sink>(sink: &mut W, tags: TagsVerdict) -> Result<(), Failed>
+    ensures writes { Writes result (W.written sink.old) (W.written sink.new) (tags_text tags) }
+    ensures counted { OnErr result (W.write_faults sink.new ≤ W.write_faults sink.old → W.last_write_fault ≡ Some (W.write_faults sink.new)) }
+    ensures never_falls { W.write_faults sink.old ≤ W.write_faults sink.new }
+{
+    match tags {
+        TagsVerdict::Honest => write_pieces(sink, &[b"tags honest\n"]),
+        TagsVerdict::Broken(event) => {
+            let mut number = Buffer::new();
+            let digits = number.format(event).as_bytes();
+            write_pieces(sink, &[b"tags broken ", digits, b"\n"])
+        }
+    }
+}
+
+/// Writes what came of the login, and the last line.
+#[tactic(auto, unfolding(crate::specs::Run::result_text))]
+fn write_result<W: Sink>(sink: &mut W, verdict: Verdict) -> Result<(), Failed>
+    ensures writes { Writes result (W.written sink.old) (W.written sink.new) (result_text verdict) }
+    ensures counted { OnErr result (W.write_faults sink.new ≤ W.write_faults sink.old → W.last_write_fault ≡ Some (W.write_faults sink.new)) }
+    ensures never_falls { W.write_faults sink.old ≤ W.write_faults sink.new }
+{
+    let word = name_of_verdict(verdict).as_bytes();
+    write_pieces(sink, &[b"result ", word, b"\nend\n"])
+}
+
+/// Writes the lines of the end: where both ends stand, the counts, and the two verdicts. `Failed`: a write
+/// failed, and a front of the lines was appended.
+pub fn write_end<W: Sink, P: PeerMethod, S: ServerMethod>(
+    sink: &mut W,
+    world: &World<P, S>,
+) -> Result<(), Failed>
+    ensures writes { Writes result (W.written sink.old) (W.written sink.new) (end_text (now_of P.peer_shown S.server_shown world.now)) }
+    ensures counted { OnErr result (W.write_faults sink.new ≤ W.write_faults sink.old → W.last_write_fault ≡ Some (W.write_faults sink.new)) }
+    ensures never_falls { W.write_faults sink.old ≤ W.write_faults sink.new }
+{
+    write_end_of(
+        sink,
+        world.peer_state(),
+        world.server_state(),
+        world.counts(),
+        world.tags(),
+        world.result(),
+    )
 }

@@ -1,30 +1,40 @@
 //! Traces of short runs, answers to requests for keys, and writes that fail.
 
-use crate::{write_end, write_key_line, write_line, write_refused, write_start, write_told};
-use eap_base::{
-    Accepts, Event, Identity, Kinds, MemSink, Mode, Octets, PeerSetup, Port, ServerSetup, Setup,
-    Suites, Users,
-};
-use eap_world::{MAX_EVENTS, World};
+use crate::run::write_end_of;
+use crate::{write_key_line, write_refused, write_start, write_told};
+use eap_base::{Identity, MemSink, Octets, Packet, Party, Port};
+use eap_method::Report;
+use eap_packet::{Cause, Path, State};
+use eap_world::{Counts, Named, SentPacket, Skip, TagsVerdict, Told, Verdict};
 use scenario_text::KeyLine;
 use std::test::Fail;
 
-const IDENTITY_ROUND: &[u8] = b"\
-eap-trace 1
+const START: &[u8] = b"\
 0 peer INITIALIZE IDLE
-0 server INITIALIZE SELECT_ACTION PROPOSE_METHOD METHOD_REQUEST SEND_REQUEST IDLE
+0 server INITIALIZE IDLE
 0 sent 1 to peer request 0 type 1 length 5
-1 peer RECEIVED IDENTITY SEND_RESPONSE IDLE
-1 sent 2 to server response 0 type 1 length 10
-2 server RECEIVED INTEGRITY_CHECK METHOD_RESPONSE SELECT_ACTION FAILURE
-2 sent 3 to peer failure 0 length 4
-3 peer RECEIVED FAILURE
-state peer FAILURE
+0 octets 0100000501
+";
+
+const SUCCESS: &[u8] = b"\
+8 server RECEIVED SUCCESS
+8 sent 9 to peer success 4 length 4
+8 octets 03040004
+8 keys server msk 9eaefdca69b7c464 emsk 5bf03355998410d0
+";
+
+const SUCCESS_WITHOUT_NAMES: &[u8] = b"\
+8 server RECEIVED SUCCESS
+8 sent 9 to peer success 4 length 4
+";
+
+const END: &[u8] = b"\
+state peer SUCCESS
 state server FAILURE
-events 3
-deliveries 3
-discards 0
-tags honest
+events 9
+deliveries 8
+discards 2
+tags broken 6
 result open
 end
 ";
@@ -36,80 +46,117 @@ hmac b0344c61d8db38535ca8afceaf0bf12b881dc200c9833da726e9376c2e32cff7
 eax - e037830e8389f27b025a2d6527e79d01
 ";
 
-fn name(octets: &[u8]) -> Identity {
-    let mut list = Identity::new();
-    list.append(octets);
-    list
+fn told_of(event: u32, party: Option<Party>, states: [State; 2]) -> Told {
+    let mut path = Path::new();
+    if party.is_some() {
+        path.push(states[0]);
+        path.push(states[1]);
+    }
+    Told {
+        event,
+        party,
+        path,
+        cause: None,
+        skip: None,
+        sent: None,
+        named: None,
+    }
 }
 
-/// Alice logs in at the server srv; no end has a method.
-fn alice_at_srv() -> Setup {
-    Setup {
-        mode: Mode::Alone,
-        first_id: 0,
-        max_retrans: 4,
-        peer: PeerSetup {
-            name: name(b"alice"),
-            accepts: Accepts::One(name(b"srv")),
-            methods: Kinds::new(),
-            suites: Suites::new(),
-            psk47: None,
-            psk51: None,
-            nonce: [17; 32],
-        },
-        server: ServerSetup {
-            name: name(b"srv"),
-            methods: Kinds::new(),
-            suites: Suites::new(),
-            users: Users::new(),
-            nonce: [34; 32],
-        },
+fn sent_to_peer(number: u32, octets: &[u8]) -> Option<SentPacket> {
+    let mut packet = Packet::new();
+    packet.append(octets);
+    Some(SentPacket {
+        number,
+        port: Port::Peer,
+        packet,
+    })
+}
+
+fn report() -> Report {
+    Report {
+        method: 51,
+        id_p: Identity::new(),
+        id_s: Identity::new(),
+        suite: 1,
+        msk: [7; 64],
+        emsk: [9; 64],
     }
+}
+
+/// The server ends with a Success and reports its keys.
+fn success() -> Told {
+    let mut told = told_of(8, Some(Party::Server), [State::Received, State::Success]);
+    told.sent = sent_to_peer(9, &[3, 4, 0, 4]);
+    told.named = Some(Named {
+        party: Party::Server,
+        report: report(),
+    });
+    told
 }
 
 #[test]
-fn identity_round(rt: HostRuntime) -> Result<(), Fail> {
-    let mut sink = MemSink::new(rt.alloc(), 1000, 7, &[])?;
-    let mut world = World::new(rt.alloc(), &alice_at_srv());
-    write_line(&mut sink, b"eap-trace 1")?;
-    let begun = world.start()?;
-    write_start(&mut sink, &begun)?;
-    for number in 1..4 {
-        assert!(rt; world.counts().events < MAX_EVENTS);
-        let told = world.step(&Event::Deliver { number })?;
-        write_told(&mut sink, &told)?;
-    }
-    write_end(&mut sink, &world)?;
-    assert!(rt; sink.written() == IDENTITY_ROUND);
+fn octets_of_the_start(rt: HostRuntime) -> Result<(), Fail> {
+    let mut begun = told_of(0, Some(Party::Server), [State::Initialize, State::Idle]);
+    begun.sent = sent_to_peer(1, &[1, 0, 0, 5, 1]);
+    let mut sink = MemSink::new(rt.alloc(), 200, 100, &[])?;
+    write_start(&mut sink, &begun, true)?;
+    assert!(rt; sink.written() == START);
     Ok(())
 }
 
-fn three_octets() -> Octets<2000> {
-    let mut octets = Octets::new();
-    octets.append(&[1, 2, 3]);
-    octets
+// The names of the keys were computed by another program from their definition.
+#[test]
+fn octets_and_keys_by_name(rt: HostRuntime) -> Result<(), Fail> {
+    let rows: [(bool, &[u8]); 2] = [(true, SUCCESS), (false, SUCCESS_WITHOUT_NAMES)];
+    for (names, want) in rows {
+        let mut sink = MemSink::new(rt.alloc(), 200, 100, &[])?;
+        write_told(&mut sink, &success(), names)?;
+        assert!(rt; sink.written() == want);
+    }
+    Ok(())
 }
 
 #[test]
 fn skips_and_discards(rt: HostRuntime) -> Result<(), Fail> {
-    let injected = Event::Inject {
-        port: Port::Peer,
-        octets: three_octets(),
-    };
-    let rows: [(&Event, &[u8]); 4] = [
-        (&Event::Deliver { number: 9 }, b"1 skip Unsent\n"),
-        (&injected, b"2 peer RECEIVED DISCARD IDLE\n2 cause Short\n"),
-        (&Event::Idle, b"3 peer FAILURE\n"),
-        (&injected, b"4 peer -\n4 cause Ended\n"),
+    let mut skipped = told_of(1, None, [State::Idle, State::Idle]);
+    skipped.skip = Some(Skip::Unsent);
+    let mut discarded = told_of(2, Some(Party::Peer), [State::Discard, State::Idle]);
+    discarded.cause = Some(Cause::Short);
+    let mut ended = told_of(4, None, [State::Idle, State::Idle]);
+    ended.party = Some(Party::Peer);
+    ended.cause = Some(Cause::Ended);
+    let rows: [(&Told, &[u8]); 3] = [
+        (&skipped, b"1 skip Unsent\n"),
+        (&discarded, b"2 peer DISCARD IDLE\n2 cause Short\n"),
+        (&ended, b"4 peer -\n4 cause Ended\n"),
     ];
-    let mut world = World::new(rt.alloc(), &alice_at_srv());
-    for (event, want) in rows {
-        assert!(rt; world.counts().events < MAX_EVENTS);
-        let told = world.step(event)?;
+    for (told, want) in rows {
         let mut sink = MemSink::new(rt.alloc(), 100, 100, &[])?;
-        write_told(&mut sink, &told)?;
+        write_told(&mut sink, told, true)?;
         assert!(rt; sink.written() == want);
     }
+    Ok(())
+}
+
+#[test]
+fn end_with_a_broken_tag(rt: HostRuntime) -> Result<(), Fail> {
+    let counts = Counts {
+        events: 9,
+        deliveries: 8,
+        discards: 2,
+    };
+    let tags = TagsVerdict::Broken(6);
+    let mut sink = MemSink::new(rt.alloc(), 200, 100, &[])?;
+    write_end_of(
+        &mut sink,
+        State::Success,
+        State::Failure,
+        counts,
+        tags,
+        Verdict::Unfinished,
+    )?;
+    assert!(rt; sink.written() == END);
     Ok(())
 }
 

@@ -50,7 +50,7 @@ take-requires g c = record {
 
 pub returns-in-Err-Memory-clause-wanting : goal.returns-in-Err-Memory-clause-wanting
 returns-in-Err-Memory-clause-wanting g c _ = record {
-  command = c.loop-command.command;
+  command = g.C.Command.seen c.loop-command.command;
   text = c.line.result.now;
   wanting = rw c.in-Err-Memory.field-0-is at c.in-Err-Memory.ensures.trouble;
 }

@@ -2,7 +2,7 @@ use Rattle.std.proofs.Common.{None, sym, refl}
 use Rattle.eap_base.specs.Lines.{lines}
 use Rattle.scenario_text.specs.Reading.{Reading, no_settings}
 use Rattle.scenario_text.specs.declared.scenario.Phase.TheVariants.{Unread}
-use Rattle.eap_login.specs.declared.replay.Replay.{Replay}
+use Rattle.eap_login.specs.Replay.{ReplayNow}
 use Rattle.eap_login.specs.Scenario.{trace_header}
 use Rattle.eap_login.proofs.Endings.{ends_after, ends_same, front_first}
 use Rattle.eap_login.proofs.Replaying.{AtUnread, answers_before, lacks_only_with_setup}
@@ -11,14 +11,14 @@ use Rattle.eap_login.proofs.login.replay.Goals as goal
 pub returns-in-Ok-clause-ends : goal.returns-in-Ok-clause-ends
 returns-in-Ok-clause-ends g c octets e =
     let nothing_read : Reading = record { phase = Unread; settings = no_settings } in
-    let begun : Replay = record { alloc = c.args.alloc; reader = nothing_read; world = None } in
+    let begun : ReplayNow = record { names = c.args.names; reader = nothing_read; world = None } in
     ends_after _ _ _ _ trace_header _ c.in-Ok.ensures.writes
     (ends_same _ _ _ _ _ (sym (answers_before begun (lines octets) 0 nothing_read (AtUnread refl))) (rw c.new-command.ensures at (c.drive.ensures.ends octets e)))
 
 pub returns-in-Ok-clause-memory : goal.returns-in-Ok-clause-memory
 returns-in-Ok-clause-memory g c m octets e =
     let nothing_read : Reading = record { phase = Unread; settings = no_settings } in
-    let begun : Replay = record { alloc = c.args.alloc; reader = nothing_read; world = None } in
+    let begun : ReplayNow = record { names = c.args.names; reader = nothing_read; world = None } in
     lacks_only_with_setup begun (lines octets) 0 nothing_read (AtUnread refl) (rw c.new-command.ensures at (c.drive.ensures.memory m octets e))
 
 pub returns-in-Err-clause-ends : goal.returns-in-Err-clause-ends

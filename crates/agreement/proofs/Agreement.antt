@@ -1,0 +1,112 @@
+-- Two ends that both succeed over an honest book agree.
+use Rattle.std.proofs.Common.{◌≡◌, ℕ, List, [], Bool, true, false, Option, Some, None, refl, length}
+use Rattle.std.specs.Prelude.{if◌then◌else◌, ◌&&◌}
+use Rattle.eap_base.specs.declared.event.Event.{Event}
+use Rattle.eap_base.specs.declared.setup.PeerSetup.{PeerSetup}
+use Rattle.eap_base.specs.declared.setup.ServerSetup.{ServerSetup}
+use Rattle.eap_base.specs.declared.setup.Setup.{Setup}
+use Rattle.eap_method.specs.declared.tags.TagRecord.{TagRecord}
+use Rattle.eap_method.specs.Steps.{is_end}
+use Rattle.peer_machine.specs.PeerTable.{PeerNow, peer_reports, peer_deliver, peer_idle, peer_alt_accept, peer_alt_reject}
+use Rattle.server_machine.specs.ServerTable.{ServerNow, server_start, server_reports, server_deliver, server_timeout}
+use Rattle.eap_world.specs.Book.{first_broken, verdict_on, tags_verdict}
+use Rattle.eap_world.specs.declared.book.TagsVerdict.TheVariants.{Honest}
+use Rattle.eap_world.specs.Verdict.{verdict_of, is_success, judged}
+use Rattle.eap_world.specs.declared.verdict.Verdict.{Verdict}
+use Rattle.eap_world.specs.declared.verdict.Verdict.TheVariants.{Agree, Apart, Unfinished}
+use Rattle.eap_world.specs.World.{WorldNow, world_made, world_start, run_after}
+use Rattle.eap_world.specs.declared.book.End.TheVariants as end
+use Rattle.agreement.specs.Laws.{IsWhole, HonestEndsAgree}
+use Rattle.agreement.specs.PeerStands.{PeerStands, begins, psk_waits, psk_fails, psk_succeeds, gpsk_waits, gpsk_fails, gpsk_succeeds}
+use Rattle.agreement.specs.ServerStands as server
+use Rattle.agreement.specs.ServerStands.{ServerStands}
+use Rattle.agreement.specs.Records.{AreIn, tags_by}
+use Rattle.agreement.proofs.Booked.{honest_tags}
+use Rattle.agreement.proofs.Running.{BothStand, run_stands, PeerKeeps, ServerKeeps}
+use Rattle.agreement.proofs.PeerKeeps as peer_calls
+use Rattle.agreement.proofs.ServerKeeps as server_calls
+use Rattle.agreement.proofs.Agreeing.{ends_agree}
+
+pub none_if_honest : (o : Option ℕ) → verdict_on o ≡ Honest → o ≡ None
+none_if_honest None e = refl
+none_if_honest (Some event) e = cc
+
+agree_if : (one other same : Bool) → one ≡ true → other ≡ true → same ≡ true
+    → (let verdict : Verdict = if one && other then (if same then Agree else Apart) else Unfinished in verdict) ≡ Agree
+agree_if one other same a b c = rw (a, b, c) refl
+
+-- each end keeps its settings
+pub peer_own : (setup : PeerSetup) (now : PeerNow) (accepted made : List TagRecord) → PeerStands setup now accepted made → now.vars.setup ≡ setup
+peer_own setup now _ _ (begins own none begun fails unsure) = own
+peer_own setup now _ _ (psk_waits login own is_selected in_view facts fails unsure) = own
+peer_own setup now _ _ (psk_fails login accepted made own is_selected in_view fails unsure few) = own
+peer_own setup now _ _ (psk_succeeds login header mac tag sealed id own is_selected in_view facts decided) = own
+peer_own setup now _ _ (gpsk_waits login list own is_selected in_view facts fails unsure) = own
+peer_own setup now _ _ (gpsk_fails login accepted made own is_selected in_view fails unsure few) = own
+peer_own setup now _ _ (gpsk_succeeds login list message own is_selected in_view facts decided) = own
+
+pub server_own : (setup : ServerSetup) (now : ServerNow) (accepted made : List TagRecord) → ServerStands setup now accepted made → now.vars.setup ≡ setup
+server_own setup now _ _ (server.begins own unsure no_tags) = own
+server_own setup now _ _ (server.psk_checks login id own is_current gone_on in_view facts unsure) = own
+server_own setup now _ _ (server.psk_succeeds login header tag sealed id own is_current over in_view facts r_sent) = own
+server_own setup now _ _ (server.gpsk_checks login pd mac own is_current gone_on in_view facts unsure) = own
+server_own setup now _ _ (server.gpsk_bars login taken sent own is_current gone_on in_view unsure) = own
+server_own setup now _ _ (server.gpsk_succeeds login pd mac last own is_current over in_view facts) = own
+server_own setup now _ _ (server.fails accepted made own over unsure few) = own
+
+module _
+    (agree : (peer_setup : PeerSetup) (server_setup : ServerSetup) (p : PeerNow) (s : ServerNow) (peer_accepted peer_made_tags server_accepted server_made_tags : List TagRecord)
+    → length peer_setup.nonce ≡ 32 → length server_setup.nonce ≡ 32
+    → PeerStands peer_setup p peer_accepted peer_made_tags → ServerStands server_setup s server_accepted server_made_tags
+    → AreIn peer_accepted server_made_tags → AreIn server_accepted peer_made_tags
+    → is_success p.vars.state ≡ true → is_success s.vars.state ≡ true
+    → judged peer_setup server_setup (peer_reports p) (server_reports s) ≡ true)
+  where
+    -- a world whose ends stand so, whose book is honest and whose ends both succeed, agrees
+    pub stand_agree : (setup : Setup) → IsWhole setup → (w : WorldNow) → BothStand setup w.peer w.server w.book
+        → tags_verdict w.book ≡ Honest → is_success w.peer.vars.state ≡ true → is_success w.server.vars.state ≡ true → verdict_of w ≡ Agree
+    unfolding verdict_of
+    stand_agree setup whole w both honest p_in s_in =
+        let none = none_if_honest (first_broken [] w.book) honest in
+        let same = agree setup.peer setup.server w.peer w.server _ _ _ _ whole.peer_nonce whole.server_nonce both.peer_stands both.server_stands
+        (honest_tags end.Peer w.book none) (honest_tags end.Server w.book none) p_in s_in in
+        let p_own = peer_own setup.peer w.peer _ _ both.peer_stands in
+        let s_own = server_own setup.server w.server _ _ both.server_stands in
+        agree_if (is_success w.peer.vars.state) (is_success w.server.vars.state) _ p_in s_in (rw (p_own, s_own) same)
+
+-- ---- every run
+
+peer_answers : (peer : PeerNow) (octets : List ℕ) → PeerKeeps peer (peer_deliver peer octets)
+peer_answers peer octets = record { keeps = λ setup accepted made stands. peer_calls.keeps_deliver setup peer accepted made octets stands }
+
+peer_idles : (peer : PeerNow) → is_end peer.vars.state ≡ false → PeerKeeps peer (peer_idle peer)
+peer_idles peer goes = record { keeps = λ setup accepted made stands. peer_calls.keeps_idle setup peer accepted made stands }
+
+peer_accepts : (peer : PeerNow) → is_end peer.vars.state ≡ false → PeerKeeps peer (peer_alt_accept peer)
+peer_accepts peer goes = record { keeps = λ setup accepted made stands. peer_calls.keeps_alt_accept setup peer accepted made stands }
+
+peer_rejects : (peer : PeerNow) → is_end peer.vars.state ≡ false → PeerKeeps peer (peer_alt_reject peer)
+peer_rejects peer goes = record { keeps = λ setup accepted made stands. peer_calls.keeps_alt_reject setup peer accepted made stands }
+
+server_answers : (server : ServerNow) (octets : List ℕ) → ServerKeeps server (server_deliver server octets)
+server_answers server octets = record { keeps = λ setup accepted made stands. server_calls.keeps_deliver setup server accepted made octets stands }
+
+server_times : (server : ServerNow) → is_end server.vars.state ≡ false → ServerKeeps server (server_timeout server)
+server_times server goes = record { keeps = λ setup accepted made stands. server_calls.keeps_timeout setup server accepted made stands }
+
+-- the start makes no tag
+start_stands : (setup : Setup) → (let w = (world_start (world_made setup)).after in BothStand setup w.peer w.server w.book)
+unfolding world_start server_start tags_by
+start_stands setup = record {
+  peer_stands = peer_calls.peer_begins setup.peer;
+  server_stands = server_calls.started_stands setup.server setup.first_id setup.max_retrans;
+}
+
+pub every_run_stands : (setup : Setup) (events : List Event)
+    → (let w = run_after (world_start (world_made setup)).after events in BothStand setup w.peer w.server w.book)
+every_run_stands setup events =
+    run_stands peer_answers peer_idles peer_accepts peer_rejects server_answers server_times setup (world_start (world_made setup)).after events (start_stands setup)
+
+pub honest_ends_agree : HonestEndsAgree
+honest_ends_agree setup events whole honest p_in s_in =
+    stand_agree ends_agree setup whole (run_after (world_start (world_made setup)).after events) (every_run_stands setup events) honest p_in s_in

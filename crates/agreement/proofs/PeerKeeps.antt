@@ -1,0 +1,458 @@
+-- Each call of the peer keeps what stands of it.
+use Rattle.std.proofs.Common.{◌≡◌, ℕ, ◌≤◌, length, List, [], ◌∷◌, ◌++◌, Bool, true, false, if◌then◌else◌, Option, Some, None, Result, Ok, Err, refl, sym, ap, ◌∙◌, subst, arith, append-nil}
+use Rattle.std.specs.Prelude.{◌==◌}
+use Rattle.std.proofs.lemmas.Bool.{cond_both, eqb-true}
+use Rattle.eap_base.specs.declared.setup.PeerSetup.{PeerSetup}
+use Rattle.eap_base.specs.declared.setup.Suite.{Suite}
+use Rattle.eap_base.specs.Setup.{psk_kind, gpsk_kind, is_among}
+use Rattle.eap_packet.specs.Fault.{packet_of}
+use Rattle.eap_packet.specs.Packet.{PacketValue, request, response, success, failure, spelled}
+use Rattle.eap_packet.specs.declared.cause.Cause.{Cause}
+use Rattle.eap_packet.specs.declared.state.State.{State}
+use Rattle.eap_packet.specs.declared.state.State.TheVariants as state
+use Rattle.gpsk_messages.specs.Message.{Message, gpsk1}
+use Rattle.gpsk_messages.specs.Reading as gpsk_reading
+use Rattle.psk_messages.specs.Message.{psk1}
+use Rattle.psk_messages.specs.Reading as psk_reading
+use Rattle.login_policy.specs.Policy.{picked_suite}
+use Rattle.eap_method.specs.declared.tags.TagRecord.{TagRecord}
+use Rattle.eap_method.specs.declared.tags.Tags.{Tags}
+use Rattle.eap_method.specs.declared.turn.PeerTurn.TheVariants.{Reply}
+use Rattle.eap_method.specs.declared.values.Credential.{Credential}
+use Rattle.eap_method.specs.declared.values.Decision.{Decision}
+use Rattle.eap_method.specs.declared.values.Decision.TheVariants.{Fail, CondSucc, UncondSucc}
+use Rattle.eap_method.specs.declared.values.MethodState.TheVariants.{Cont, MayCont, Done}
+use Rattle.eap_method.specs.GpskPeer as gpsk
+use Rattle.eap_method.specs.GpskTags.{sk_record}
+use Rattle.eap_method.specs.Names.{accepts_name}
+use Rattle.eap_method.specs.Peer.{PeerViews, credential_for, views_begun, peer_turn}
+use Rattle.eap_method.specs.PskPeer as psk
+use Rattle.eap_method.specs.PskTags.{header_of}
+use Rattle.eap_method.specs.Steps.{no_tags, is_end}
+use Rattle.eap_method.specs.Turns.{PeerOutcome, id_of, body_of}
+use Rattle.method_laws.specs.GpskPeerRows as gpsk_row
+use Rattle.method_laws.specs.PskPeerRows as psk_row
+use Rattle.method_laws.proofs.GpskPeerCases.{gpsk_peer_steps_are_rows}
+use Rattle.method_laws.proofs.PskPeerCases.{psk_peer_steps_are_rows}
+use Rattle.peer_machine.specs.PeerTable.{PeerNow, PeerAnswer, answer, with_vars, peer_made, is_cont, is_done, is_fail, is_last_id, is_uncond, method_answers, peer_method, get_method, new_request, peer_success, peer_failure, peer_row, peer_deliver, peer_idle, peer_alt_accept, peer_alt_reject}
+use Rattle.peer_machine.specs.declared.variables.PeerVariables.{PeerVariables}
+use Rattle.eap_world.specs.Verdict.{is_success}
+use Rattle.agreement.specs.Records.{AreFew}
+use Rattle.agreement.specs.PeerStands.{psk2_record, gpsk2_record, PeerStands, begins, psk_waits, psk_fails, psk_succeeds, gpsk_waits, gpsk_fails, gpsk_succeeds}
+
+pub peer_begins : (setup : PeerSetup) → PeerStands setup (peer_made setup) [] []
+peer_begins setup = begins refl refl refl refl refl
+
+-- what stands after a call, with the tags of its step
+record Keeps (setup : PeerSetup) (accepted made : List TagRecord) (out : PeerAnswer) : Type 0 where
+  pub stands : PeerStands setup out.after (accepted ++ out.step.tags.accepted) (made ++ out.step.tags.made)
+
+-- a call without tags
+quiet : (setup : PeerSetup) (accepted made : List TagRecord) (out : PeerAnswer) → out.step.tags ≡ no_tags
+    → PeerStands setup out.after accepted made → Keeps setup accepted made out
+quiet setup accepted made out is_quiet stands = record {
+  stands = subst (λ (tags : Tags). PeerStands setup out.after (accepted ++ tags.accepted) (made ++ tags.made)) (sym is_quiet)
+      (rw (append-nil accepted, append-nil made) stands);
+}
+
+-- other values of the variables that the tags don't speak of
+stays : (setup : PeerSetup) (now : PeerNow) (accepted made : List TagRecord) (vars : PeerVariables)
+    → vars.setup ≡ now.vars.setup → vars.selected ≡ now.vars.selected → vars.decision ≡ now.vars.decision
+    → (now.vars.decision ≡ Fail → is_success now.vars.state ≡ false → is_success vars.state ≡ false)
+    → PeerStands setup now accepted made → PeerStands setup (with_vars now vars) accepted made
+stays setup now accepted made vars same_setup same_selected same_decision sure (begins own none begun fails unsure) =
+    begins (same_setup ∙ own) (same_selected ∙ none) begun (same_decision ∙ fails) (sure fails unsure)
+stays setup now accepted made vars same_setup same_selected same_decision sure (psk_waits login own is_selected in_view facts fails unsure) =
+    psk_waits login (same_setup ∙ own) (same_selected ∙ is_selected) in_view facts (same_decision ∙ fails) (sure fails unsure)
+stays setup now accepted made vars same_setup same_selected same_decision sure (psk_fails login _ _ own is_selected in_view fails unsure few) =
+    psk_fails login _ _ (same_setup ∙ own) (same_selected ∙ is_selected) in_view (same_decision ∙ fails) (sure fails unsure) few
+stays setup now accepted made vars same_setup same_selected same_decision sure (psk_succeeds login header mac tag sealed id own is_selected in_view facts decided) =
+    psk_succeeds login header mac tag sealed id (same_setup ∙ own) (same_selected ∙ is_selected) in_view facts (same_decision ∙ decided)
+stays setup now accepted made vars same_setup same_selected same_decision sure (gpsk_waits login list own is_selected in_view facts fails unsure) =
+    gpsk_waits login list (same_setup ∙ own) (same_selected ∙ is_selected) in_view facts (same_decision ∙ fails) (sure fails unsure)
+stays setup now accepted made vars same_setup same_selected same_decision sure (gpsk_fails login _ _ own is_selected in_view fails unsure few) =
+    gpsk_fails login _ _ (same_setup ∙ own) (same_selected ∙ is_selected) in_view (same_decision ∙ fails) (sure fails unsure) few
+stays setup now accepted made vars same_setup same_selected same_decision sure (gpsk_succeeds login list message own is_selected in_view facts decided) =
+    gpsk_succeeds login list message (same_setup ∙ own) (same_selected ∙ is_selected) in_view facts (same_decision ∙ decided)
+
+-- the method of this Type is called: none is selected, or it is
+data Calls (now : PeerNow) (kind : ℕ) : Type 0 where
+  first : now.vars.selected ≡ None → Calls now kind
+  again : now.vars.selected ≡ Some kind → Calls now kind
+
+called : (now : PeerNow) (kind other : ℕ) → Calls now kind → now.vars.selected ≡ Some other → kind ≡ other
+called now kind other (first none) is_selected = cc
+called now kind other (again it) is_selected = cc
+
+apart : psk_kind ≡ gpsk_kind → ⊥
+apart same = omega arith
+
+psk_alone : (now : PeerNow) → Calls now psk_kind → now.vars.selected ≡ Some gpsk_kind → ⊥
+psk_alone now calls is_selected = apart (called now psk_kind gpsk_kind calls is_selected)
+
+gpsk_alone : (now : PeerNow) → Calls now gpsk_kind → now.vars.selected ≡ Some psk_kind → ⊥
+gpsk_alone now calls is_selected = apart (sym (called now gpsk_kind psk_kind calls is_selected))
+
+-- what a view that has begun is
+record IsFresh (own : Bool) (cred known : Credential) (nonce mine : List ℕ) : Type 0 where
+  pub allowed : own ≡ true
+  pub cred_is : known ≡ cred
+  pub nonce_is : mine ≡ nonce
+
+psk_fresh : (own : Bool) (cred known : Credential) (nonce mine : List ℕ)
+    → (if own then psk.fresh cred nonce else psk.unset) ≡ psk.fresh known mine → IsFresh own cred known nonce mine
+psk_fresh true cred known nonce mine same = record { allowed = refl; cred_is = cc; nonce_is = cc }
+psk_fresh false cred known nonce mine same = cc
+
+psk_not_wait : (own : Bool) (cred : Credential) (nonce : List ℕ) (login : psk.Login)
+    → (if own then psk.fresh cred nonce else psk.unset) ≡ psk.wait login → ⊥
+psk_not_wait true cred nonce login same = cc
+psk_not_wait false cred nonce login same = cc
+
+gpsk_fresh : (own : Bool) (cred known : Credential) (nonce mine : List ℕ)
+    → (if own then gpsk.fresh cred nonce else gpsk.unset) ≡ gpsk.fresh known mine → IsFresh own cred known nonce mine
+gpsk_fresh true cred known nonce mine same = record { allowed = refl; cred_is = cc; nonce_is = cc }
+gpsk_fresh false cred known nonce mine same = cc
+
+gpsk_not_wait : (own : Bool) (cred : Credential) (nonce : List ℕ) (login : gpsk.Login)
+    → (if own then gpsk.fresh cred nonce else gpsk.unset) ≡ gpsk.wait login → ⊥
+gpsk_not_wait true cred nonce login same = cc
+gpsk_not_wait false cred nonce login same = cc
+
+module _ (setup : PeerSetup) (views : PeerViews) (begun : views ≡ views_begun setup) where
+  psk_begins : (cred : Credential) (nonce : List ℕ) → views.psk ≡ psk.fresh cred nonce
+      → IsFresh (is_among setup.methods psk_kind) (credential_for setup psk_kind) cred setup.nonce nonce
+  unfolding views_begun
+  psk_begins cred nonce in_view = psk_fresh _ _ _ _ _ (sym (ap (λ (v : PeerViews). v.psk) begun) ∙ in_view)
+
+  psk_begun_waits : (login : psk.Login) → views.psk ≡ psk.wait login → ⊥
+  unfolding views_begun
+  psk_begun_waits login in_view = psk_not_wait (is_among setup.methods psk_kind) _ _ login (sym (ap (λ (v : PeerViews). v.psk) begun) ∙ in_view)
+
+  gpsk_begins : (cred : Credential) (nonce : List ℕ) → views.gpsk ≡ gpsk.fresh cred nonce
+      → IsFresh (is_among setup.methods gpsk_kind) (credential_for setup gpsk_kind) cred setup.nonce nonce
+  unfolding views_begun
+  gpsk_begins cred nonce in_view = gpsk_fresh _ _ _ _ _ (sym (ap (λ (v : PeerViews). v.gpsk) begun) ∙ in_view)
+
+  gpsk_begun_waits : (login : gpsk.Login) → views.gpsk ≡ gpsk.wait login → ⊥
+  unfolding views_begun
+  gpsk_begun_waits login in_view = gpsk_not_wait (is_among setup.methods gpsk_kind) _ _ login (sym (ap (λ (v : PeerViews). v.gpsk) begun) ∙ in_view)
+
+-- the credential of a method holds the policy of the setup
+accepts_of : (setup : PeerSetup) (kind : ℕ) → (credential_for setup kind).accepts ≡ setup.accepts
+unfolding credential_for
+accepts_of setup kind = refl
+
+suites_of : (setup : PeerSetup) (kind : ℕ) → (credential_for setup kind).suites ≡ setup.suites
+unfolding credential_for
+suites_of setup kind = refl
+
+accepts_from : (setup : PeerSetup) (kind : ℕ) (cred : Credential) → cred ≡ credential_for setup kind → cred.accepts ≡ setup.accepts
+accepts_from setup kind cred same = ap (λ (c : Credential). c.accepts) same ∙ accepts_of setup kind
+
+suites_from : (setup : PeerSetup) (kind : ℕ) (cred : Credential) → cred ≡ credential_for setup kind → cred.suites ≡ setup.suites
+suites_from setup kind cred same = ap (λ (c : Credential). c.suites) same ∙ suites_of setup kind
+
+module _ (setup : PeerSetup) (selects : Bool) (now : PeerNow) (id : ℕ) (octets : List ℕ) where
+  -- METHOD, where EAP-PSK has this turn
+  abbrev after_psk : List TagRecord → List TagRecord → PeerOutcome psk.View → Type 0
+  after_psk accepted made out =
+      Keeps setup accepted made (method_answers selects now psk_kind id (record now.views { psk = out.after }) out.turn)
+
+  -- METHOD, where EAP-GPSK has this turn
+  abbrev after_gpsk : List TagRecord → List TagRecord → PeerOutcome gpsk.View → Type 0
+  after_gpsk accepted made out =
+      Keeps setup accepted made (method_answers selects now gpsk_kind id (record now.views { gpsk = out.after }) out.turn)
+
+  module _ (cred : Credential) (nonce rand_s id_s packet : List ℕ) where
+    psk_answers : (accepted made : List TagRecord) → Calls now psk_kind → PeerStands setup now accepted made
+        → now.views.psk ≡ psk.fresh cred nonce → psk_reading.read_of (body_of octets) ≡ Ok (psk1 rand_s id_s)
+        → accepts_name cred.accepts id_s ≡ true
+        → (let login = psk_row.login_from cred nonce id_s rand_s in
+        after_psk accepted made (record { turn = Reply packet Cont Fail (record { accepted = []; made = psk2_record login ∷ [] }); after = psk.wait login }))
+    psk_answers accepted made calls (begins own none begun fails unsure) seen is_read is_accepted =
+        let fresh = psk_begins setup now.views begun cred nonce seen in
+        let known = accepts_from setup psk_kind cred fresh.cred_is in
+        record {
+          stands = psk_waits (psk_row.login_from cred nonce id_s rand_s) own refl refl
+              (record {
+                allowed = fresh.allowed;
+                cred = fresh.cred_is;
+                nonce = fresh.nonce_is;
+                accepted = subst (λ names. accepts_name names id_s ≡ true) known is_accepted;
+                body = body_of octets;
+                is_read = is_read;
+              })
+              refl unsure;
+        }
+    psk_answers accepted made calls (psk_waits _ own is_selected in_view facts fails unsure) seen is_read is_accepted = cc
+    psk_answers accepted made calls (psk_fails _ _ _ own is_selected in_view fails unsure few) seen is_read is_accepted = cc
+    psk_answers accepted made calls (psk_succeeds _ _ _ _ _ _ own is_selected in_view facts decided) seen is_read is_accepted = cc
+    psk_answers accepted made calls (gpsk_waits _ _ own is_selected in_view facts fails unsure) seen is_read is_accepted = absurd (psk_alone now calls is_selected)
+    psk_answers accepted made calls (gpsk_fails _ _ _ own is_selected in_view fails unsure few) seen is_read is_accepted = absurd (psk_alone now calls is_selected)
+    psk_answers accepted made calls (gpsk_succeeds _ _ _ own is_selected in_view facts decided) seen is_read is_accepted = absurd (psk_alone now calls is_selected)
+
+  module _ (login : psk.Login) (packet : List ℕ) where
+    psk_confirms : (header mac tag : List ℕ) (sealed number : ℕ) (accepted made : List TagRecord) → Calls now psk_kind
+        → PeerStands setup now accepted made → now.views.psk ≡ psk.wait login
+        → after_psk accepted made
+        (record {
+          turn = Reply packet Done UncondSucc (record { accepted = psk.psk3_records login header mac tag sealed; made = psk.psk4_record login number 2 });
+          after = psk.over login true;
+        })
+    psk_confirms header mac tag sealed number accepted made calls (begins own none begun fails unsure) seen = absurd (psk_begun_waits setup now.views begun login seen)
+    psk_confirms header mac tag sealed number accepted made calls (psk_waits kept own is_selected in_view facts fails unsure) seen =
+        let same : kept ≡ login = cc in
+        subst
+        (λ (known : psk.Login). after_psk [] (psk2_record kept ∷ [])
+        (record {
+          turn = Reply packet Done UncondSucc (record { accepted = psk.psk3_records known header mac tag sealed; made = psk.psk4_record known number 2 });
+          after = psk.over known true;
+        }))
+        same
+        (record { stands = psk_succeeds kept header mac tag sealed number own refl refl facts refl })
+    psk_confirms header mac tag sealed number accepted made calls (psk_fails _ _ _ own is_selected in_view fails unsure few) seen = cc
+    psk_confirms header mac tag sealed number accepted made calls (psk_succeeds _ _ _ _ _ _ own is_selected in_view facts decided) seen = cc
+    psk_confirms header mac tag sealed number accepted made calls (gpsk_waits _ _ own is_selected in_view facts fails unsure) seen = absurd (psk_alone now calls is_selected)
+    psk_confirms header mac tag sealed number accepted made calls (gpsk_fails _ _ _ own is_selected in_view fails unsure few) seen = absurd (psk_alone now calls is_selected)
+    psk_confirms header mac tag sealed number accepted made calls (gpsk_succeeds _ _ _ own is_selected in_view facts decided) seen = absurd (psk_alone now calls is_selected)
+
+    psk_refuses : (tags : Tags) → length tags.accepted ≤ 2 → length tags.made ≤ 1 → (accepted made : List TagRecord) → Calls now psk_kind
+        → PeerStands setup now accepted made → now.views.psk ≡ psk.wait login
+        → after_psk accepted made (record { turn = Reply packet MayCont Fail tags; after = psk.over login false })
+    psk_refuses tags two one accepted made calls (begins own none begun fails unsure) seen = absurd (psk_begun_waits setup now.views begun login seen)
+    psk_refuses tags two one accepted made calls (psk_waits _ own is_selected in_view facts fails unsure) seen =
+        record { stands = psk_fails login _ _ own refl refl refl unsure (record { few_accepted = two; few_made = omega (arith, one) }) }
+    psk_refuses tags two one accepted made calls (psk_fails _ _ _ own is_selected in_view fails unsure few) seen = cc
+    psk_refuses tags two one accepted made calls (psk_succeeds _ _ _ _ _ _ own is_selected in_view facts decided) seen = cc
+    psk_refuses tags two one accepted made calls (gpsk_waits _ _ own is_selected in_view facts fails unsure) seen = absurd (psk_alone now calls is_selected)
+    psk_refuses tags two one accepted made calls (gpsk_fails _ _ _ own is_selected in_view fails unsure few) seen = absurd (psk_alone now calls is_selected)
+    psk_refuses tags two one accepted made calls (gpsk_succeeds _ _ _ own is_selected in_view facts decided) seen = absurd (psk_alone now calls is_selected)
+
+  module _ (cred : Credential) (nonce id_s rand_s list : List ℕ) (suite : Suite) (packet : List ℕ) where
+    gpsk_answers : (accepted made : List TagRecord) → Calls now gpsk_kind → PeerStands setup now accepted made
+        → now.views.gpsk ≡ gpsk.fresh cred nonce → gpsk_reading.read_of None (body_of octets) ≡ Ok (gpsk1 id_s rand_s list)
+        → accepts_name cred.accepts id_s ≡ true → picked_suite cred.suites list ≡ Some suite
+        → (let login = gpsk_row.login_from cred nonce id_s rand_s suite in
+        after_gpsk accepted made (record { turn = Reply packet Cont Fail (record { accepted = []; made = gpsk2_record login list ∷ [] }); after = gpsk.wait login }))
+    gpsk_answers accepted made calls (begins own none begun fails unsure) seen is_read is_accepted is_picked =
+        let fresh = gpsk_begins setup now.views begun cred nonce seen in
+        let known = accepts_from setup gpsk_kind cred fresh.cred_is in
+        let suites = suites_from setup gpsk_kind cred fresh.cred_is in
+        record {
+          stands = gpsk_waits (gpsk_row.login_from cred nonce id_s rand_s suite) list own refl refl
+              (record {
+                allowed = fresh.allowed;
+                cred = fresh.cred_is;
+                nonce = fresh.nonce_is;
+                accepted = subst (λ names. accepts_name names id_s ≡ true) known is_accepted;
+                picked = subst (λ known_suites. picked_suite known_suites list ≡ Some suite) suites is_picked;
+                body = body_of octets;
+                is_read = is_read;
+              })
+              refl unsure;
+        }
+    gpsk_answers accepted made calls (psk_waits _ own is_selected in_view facts fails unsure) seen is_read is_accepted is_picked = absurd (gpsk_alone now calls is_selected)
+    gpsk_answers accepted made calls (psk_fails _ _ _ own is_selected in_view fails unsure few) seen is_read is_accepted is_picked = absurd (gpsk_alone now calls is_selected)
+    gpsk_answers accepted made calls (psk_succeeds _ _ _ _ _ _ own is_selected in_view facts decided) seen is_read is_accepted is_picked = absurd (gpsk_alone now calls is_selected)
+    gpsk_answers accepted made calls (gpsk_waits _ _ own is_selected in_view facts fails unsure) seen is_read is_accepted is_picked = cc
+    gpsk_answers accepted made calls (gpsk_fails _ _ _ own is_selected in_view fails unsure few) seen is_read is_accepted is_picked = cc
+    gpsk_answers accepted made calls (gpsk_succeeds _ _ _ own is_selected in_view facts decided) seen is_read is_accepted is_picked = cc
+
+  module _ (login : gpsk.Login) (packet : List ℕ) where
+    gpsk_confirms : (message : Message) (accepted made : List TagRecord) → Calls now gpsk_kind
+        → PeerStands setup now accepted made → now.views.gpsk ≡ gpsk.wait login
+        → after_gpsk accepted made
+        (record {
+          turn = Reply packet Done CondSucc (record { accepted = sk_record login.cred.psk message ∷ []; made = sk_record login.cred.psk (gpsk.gpsk4_of login) ∷ [] });
+          after = gpsk.over login true;
+        })
+    gpsk_confirms message accepted made calls (begins own none begun fails unsure) seen = absurd (gpsk_begun_waits setup now.views begun login seen)
+    gpsk_confirms message accepted made calls (psk_waits _ own is_selected in_view facts fails unsure) seen = absurd (gpsk_alone now calls is_selected)
+    gpsk_confirms message accepted made calls (psk_fails _ _ _ own is_selected in_view fails unsure few) seen = absurd (gpsk_alone now calls is_selected)
+    gpsk_confirms message accepted made calls (psk_succeeds _ _ _ _ _ _ own is_selected in_view facts decided) seen = absurd (gpsk_alone now calls is_selected)
+    gpsk_confirms message accepted made calls (gpsk_waits kept list own is_selected in_view facts fails unsure) seen =
+        let same : kept ≡ login = cc in
+        subst
+        (λ (known : gpsk.Login). after_gpsk [] (gpsk2_record kept list ∷ [])
+        (record {
+          turn = Reply packet Done CondSucc (record { accepted = sk_record known.cred.psk message ∷ []; made = sk_record known.cred.psk (gpsk.gpsk4_of known) ∷ [] });
+          after = gpsk.over known true;
+        }))
+        same
+        (record { stands = gpsk_succeeds kept list message own refl refl facts refl })
+    gpsk_confirms message accepted made calls (gpsk_fails _ _ _ own is_selected in_view fails unsure few) seen = cc
+    gpsk_confirms message accepted made calls (gpsk_succeeds _ _ _ own is_selected in_view facts decided) seen = cc
+
+    gpsk_refuses : (tags : Tags) → length tags.accepted ≤ 2 → length tags.made ≤ 1 → (accepted made : List TagRecord) → Calls now gpsk_kind
+        → PeerStands setup now accepted made → now.views.gpsk ≡ gpsk.wait login
+        → after_gpsk accepted made (record { turn = Reply packet MayCont Fail tags; after = gpsk.over login false })
+    gpsk_refuses tags two one accepted made calls (begins own none begun fails unsure) seen = absurd (gpsk_begun_waits setup now.views begun login seen)
+    gpsk_refuses tags two one accepted made calls (psk_waits _ own is_selected in_view facts fails unsure) seen = absurd (gpsk_alone now calls is_selected)
+    gpsk_refuses tags two one accepted made calls (psk_fails _ _ _ own is_selected in_view fails unsure few) seen = absurd (gpsk_alone now calls is_selected)
+    gpsk_refuses tags two one accepted made calls (psk_succeeds _ _ _ _ _ _ own is_selected in_view facts decided) seen = absurd (gpsk_alone now calls is_selected)
+    gpsk_refuses tags two one accepted made calls (gpsk_waits _ _ own is_selected in_view facts fails unsure) seen =
+        record { stands = gpsk_fails login _ _ own refl refl refl unsure (record { few_accepted = two; few_made = omega (arith, one) }) }
+    gpsk_refuses tags two one accepted made calls (gpsk_fails _ _ _ own is_selected in_view fails unsure few) seen = cc
+    gpsk_refuses tags two one accepted made calls (gpsk_succeeds _ _ _ own is_selected in_view facts decided) seen = cc
+
+  module _ (accepted made : List TagRecord) (stands : PeerStands setup now accepted made) where
+    psk_keeps : (out : PeerOutcome psk.View) → Calls now psk_kind → psk_row.PskPeerRow now.views.psk octets out → after_psk accepted made out
+    psk_keeps out calls (psk_row.drops c) = quiet setup accepted made _ refl stands
+    psk_keeps out calls (psk_row.answers cred nonce rand_s id_s in_view is_read is_accepted) =
+        psk_answers cred nonce rand_s id_s _ accepted made calls stands in_view is_read is_accepted
+    psk_keeps out calls (psk_row.confirms_success login rand_s mac nonce tag sealed in_view _ _ _ _ _ _ _ _ _) =
+        psk_confirms login _ (header_of octets) mac tag sealed (id_of octets) accepted made calls stands in_view
+    psk_keeps out calls (psk_row.confirms_failure login rand_s mac nonce tag sealed in_view _ _ _ _ _ _ _ _ _ _ _) =
+        psk_refuses login _ _ (omega arith) (omega arith) accepted made calls stands in_view
+
+    gpsk_keeps : (out : PeerOutcome gpsk.View) → Calls now gpsk_kind → gpsk_row.GpskPeerRow now.views.gpsk octets out → after_gpsk accepted made out
+    gpsk_keeps out calls (gpsk_row.drops c) = quiet setup accepted made _ refl stands
+    gpsk_keeps out calls (gpsk_row.answers cred nonce id_s rand_s list suite in_view is_read is_accepted picked) =
+        gpsk_answers cred nonce id_s rand_s list suite _ accepted made calls stands in_view is_read is_accepted picked
+    gpsk_keeps out calls (gpsk_row.confirms login rand_p rand_s id_s suite pd mac in_view _ _ _ _ _ _ _ _) =
+        gpsk_confirms login _ _ accepted made calls stands in_view
+    gpsk_keeps out calls (gpsk_row.repeats_fail login code in_view _) = gpsk_refuses login _ _ (omega arith) (omega arith) accepted made calls stands in_view
+    gpsk_keeps out calls (gpsk_row.repeats_protected login code mac in_view _ _ _) = gpsk_refuses login _ _ (omega arith) (omega arith) accepted made calls stands in_view
+
+not_fail : (decision : Decision) → decision ≡ Fail → is_fail decision ≡ false → ⊥
+not_fail decision fails sure =
+    let told : is_fail decision ≡ true = ap (λ (d : Decision). is_fail d) fails in cc
+
+module _ (setup : PeerSetup) (now : PeerNow) (accepted made : List TagRecord) (stands : PeerStands setup now accepted made) where
+  -- what stands of the machine after this call
+  abbrev after_call : PeerAnswer → Type 0
+  after_call out = Keeps setup accepted made out
+
+  discards_keep : (path : List State) (c : Cause) → after_call (answer (record { path = path; cause = Some c; sent = None; tags = no_tags }) now)
+  discards_keep path c = quiet setup accepted made _ refl stands
+
+  -- a Response that is no method's, and the last one again
+  responds_keep : (path : List State) (sent : Option (List ℕ)) (last : Option ℕ) (octets : List ℕ)
+      → after_call (answer (record { path = path; cause = None; sent = sent; tags = no_tags }) (with_vars now (record now.vars { last_id = last; last_response = octets })))
+  responds_keep path sent last octets =
+      quiet setup accepted made _ refl
+      (stays setup now accepted made (record now.vars { last_id = last; last_response = octets }) refl refl refl (λ fails unsure. unsure) stands)
+
+  waits_keep : (path : List State) (sent : Option (List ℕ)) → after_call (answer (record { path = path; cause = None; sent = sent; tags = no_tags }) now)
+  waits_keep path sent = quiet setup accepted made _ refl stands
+
+  -- an end: SUCCESS only after a decision other than FAIL
+  ends_keep : (path : List State) (s : State) → (now.vars.decision ≡ Fail → is_success s ≡ false)
+      → after_call (answer (record { path = path; cause = None; sent = None; tags = no_tags }) (with_vars now (record now.vars { state = s })))
+  ends_keep path s sure =
+      quiet setup accepted made _ refl
+      (stays setup now accepted made (record now.vars { state = s }) refl refl refl (λ fails unsure. sure fails) stands)
+
+  peer_method_keeps : (selects : Bool) (kind id : ℕ) (octets : List ℕ) → Calls now kind → after_call (peer_method selects now kind id octets)
+  unfolding peer_method peer_turn
+  peer_method_keeps selects kind id octets calls =
+      cond_both (kind == psk_kind) _ _ (λ (out : PeerOutcome PeerViews). after_call (method_answers selects now kind id out.after out.turn))
+      (λ is_psk.
+      let same : kind ≡ psk_kind = eqb-true _ _ is_psk in
+      let step = psk.step now.views.psk octets in
+      subst (λ (known : ℕ). after_call (method_answers selects now known id (record now.views { psk = step.after }) step.turn)) (sym same)
+      (psk_keeps setup selects now id octets accepted made stands step (subst (λ (known : ℕ). Calls now known) same calls)
+      (psk_peer_steps_are_rows now.views.psk octets)))
+      (λ _. cond_both (kind == gpsk_kind) _ _ (λ (out : PeerOutcome PeerViews). after_call (method_answers selects now kind id out.after out.turn))
+      (λ is_gpsk.
+      let same : kind ≡ gpsk_kind = eqb-true _ _ is_gpsk in
+      let step = gpsk.step now.views.gpsk octets in
+      subst (λ (known : ℕ). after_call (method_answers selects now known id (record now.views { gpsk = step.after }) step.turn)) (sym same)
+      (gpsk_keeps setup selects now id octets accepted made stands step (subst (λ (known : ℕ). Calls now known) same calls)
+      (gpsk_peer_steps_are_rows now.views.gpsk octets)))
+      (λ _. discards_keep _ _))
+
+  get_method_keeps : (id kind : ℕ) (octets : List ℕ) → now.vars.selected ≡ None → after_call (get_method now id kind octets)
+  get_method_keeps id kind octets none =
+      cond_both (is_among now.vars.setup.methods kind) _ _ after_call
+      (λ _. peer_method_keeps true kind id octets (first none))
+      (λ _. responds_keep _ _ _ _)
+
+  new_request_keeps : (id kind : ℕ) (octets : List ℕ) (selected : Option ℕ) → now.vars.selected ≡ selected
+      → after_call (new_request now id kind octets selected)
+  new_request_keeps id kind octets None is_selected =
+      cond_both (kind == 1) _ _ after_call (λ _. responds_keep _ _ _ _)
+      (λ _. cond_both (kind == 2) _ _ after_call (λ _. responds_keep _ _ _ _)
+      (λ _. get_method_keeps id kind octets is_selected))
+  new_request_keeps id kind octets (Some selected) is_selected =
+      cond_both (kind == 2) _ _ after_call (λ _. discards_keep _ _)
+      (λ _. cond_both (kind == selected) _ _ after_call
+      (λ is_kind. cond_both (is_done now.vars.method_state) _ _ after_call (λ _. discards_keep _ _)
+      (λ _. peer_method_keeps false kind id octets (again (is_selected ∙ sym (ap (λ (known : ℕ). Some known) (eqb-true kind selected is_kind))))))
+      (λ _. discards_keep _ _))
+
+  success_keeps : after_call (peer_success now)
+  success_keeps =
+      cond_both (is_fail now.vars.decision) _ _ after_call
+      (λ _. cond_both (is_cont now.vars.method_state) _ _ after_call (λ _. discards_keep _ _) (λ _. ends_keep _ _ (λ _. refl)))
+      (λ sure. ends_keep _ _ (λ fails. absurd (not_fail now.vars.decision fails sure)))
+
+  failure_keeps : after_call (peer_failure now)
+  failure_keeps =
+      cond_both (is_uncond now.vars.decision) _ _ after_call (λ _. discards_keep _ _)
+      (λ _. cond_both (is_cont now.vars.method_state) _ _ after_call (λ _. discards_keep _ _) (λ _. ends_keep _ _ (λ _. refl)))
+
+  row_keeps : (packet : Result PacketValue Cause) → after_call (peer_row now packet)
+  row_keeps (Err c) = discards_keep _ _
+  row_keeps (Ok (request id kind body)) =
+      cond_both (is_last_id now.vars.last_id id) _ _ after_call (λ _. waits_keep _ _)
+      (λ _. new_request_keeps id kind (spelled (request id kind body)) now.vars.selected refl)
+  row_keeps (Ok (response id kind body)) = discards_keep _ _
+  row_keeps (Ok (success id)) =
+      cond_both (is_last_id now.vars.last_id id) _ _ after_call (λ _. success_keeps) (λ _. discards_keep _ _)
+  row_keeps (Ok (failure id)) =
+      cond_both (is_last_id now.vars.last_id id) _ _ after_call (λ _. failure_keeps) (λ _. discards_keep _ _)
+
+  deliver_keeps : (octets : List ℕ) → after_call (peer_deliver now octets)
+  unfolding peer_deliver
+  deliver_keeps octets =
+      cond_both (is_end now.vars.state) _ _ after_call (λ _. discards_keep _ _) (λ _. row_keeps (packet_of octets))
+
+  idle_keeps : after_call (peer_idle now)
+  unfolding peer_idle
+  idle_keeps =
+      ends_keep _ _ (λ fails. ap (λ (decision : Decision). is_success (if is_uncond decision then state.Success else state.Failure)) fails)
+
+  alt_accept_keeps : after_call (peer_alt_accept now)
+  unfolding peer_alt_accept
+  alt_accept_keeps =
+      cond_both (is_fail now.vars.decision) _ _ after_call
+      (λ _. cond_both (is_cont now.vars.method_state) _ _ after_call (λ _. waits_keep _ _) (λ _. ends_keep _ _ (λ _. refl)))
+      (λ sure. ends_keep _ _ (λ fails. absurd (not_fail now.vars.decision fails sure)))
+
+  alt_reject_keeps : after_call (peer_alt_reject now)
+  unfolding peer_alt_reject
+  alt_reject_keeps = ends_keep _ _ (λ _. refl)
+
+-- a delivery keeps what stands
+pub keeps_deliver : (setup : PeerSetup) (now : PeerNow) (accepted made : List TagRecord) (octets : List ℕ) → PeerStands setup now accepted made
+    → (let out = peer_deliver now octets in
+    PeerStands setup out.after (accepted ++ out.step.tags.accepted) (made ++ out.step.tags.made))
+keeps_deliver setup now accepted made octets stands = (deliver_keeps setup now accepted made stands octets).stands
+
+-- so does each report of the lower layer
+pub keeps_idle : (setup : PeerSetup) (now : PeerNow) (accepted made : List TagRecord) → PeerStands setup now accepted made
+    → (let out = peer_idle now in
+    PeerStands setup out.after (accepted ++ out.step.tags.accepted) (made ++ out.step.tags.made))
+keeps_idle setup now accepted made stands = (idle_keeps setup now accepted made stands).stands
+
+pub keeps_alt_accept : (setup : PeerSetup) (now : PeerNow) (accepted made : List TagRecord) → PeerStands setup now accepted made
+    → (let out = peer_alt_accept now in
+    PeerStands setup out.after (accepted ++ out.step.tags.accepted) (made ++ out.step.tags.made))
+keeps_alt_accept setup now accepted made stands = (alt_accept_keeps setup now accepted made stands).stands
+
+pub keeps_alt_reject : (setup : PeerSetup) (now : PeerNow) (accepted made : List TagRecord) → PeerStands setup now accepted made
+    → (let out = peer_alt_reject now in
+    PeerStands setup out.after (accepted ++ out.step.tags.accepted) (made ++ out.step.tags.made))
+keeps_alt_reject setup now accepted made stands = (alt_reject_keeps setup now accepted made stands).stands
+
+-- a peer has accepted at most two tags and made at most two
+pub peer_few : (setup : PeerSetup) (now : PeerNow) (accepted made : List TagRecord) → PeerStands setup now accepted made → AreFew accepted made
+peer_few setup now _ _ (begins own none begun fails unsure) = record { few_accepted = omega arith; few_made = omega arith }
+peer_few setup now _ _ (psk_waits login own is_selected in_view facts fails unsure) = record { few_accepted = omega arith; few_made = omega arith }
+peer_few setup now _ _ (psk_fails login accepted made own is_selected in_view fails unsure few) = few
+peer_few setup now _ _ (psk_succeeds login header mac tag sealed id own is_selected in_view facts decided) = record { few_accepted = omega arith; few_made = omega arith }
+peer_few setup now _ _ (gpsk_waits login list own is_selected in_view facts fails unsure) = record { few_accepted = omega arith; few_made = omega arith }
+peer_few setup now _ _ (gpsk_fails login accepted made own is_selected in_view fails unsure few) = few
+peer_few setup now _ _ (gpsk_succeeds login list message own is_selected in_view facts decided) = record { few_accepted = omega arith; few_made = omega arith }

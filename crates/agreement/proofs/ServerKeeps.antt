@@ -1,0 +1,703 @@
+-- Each call of the server keeps what holds of it at every moment.
+use Rattle.std.proofs.Common.{◌≡◌, ℕ, ◌≤◌, length, List, [], ◌∷◌, ◌++◌, Bool, true, false, Option, Some, None, Result, Ok, Err, refl, ap, sym, subst, ◌∙◌, arith, length-append}
+use Rattle.std.specs.Prelude.{◌==◌, ◌&&◌, ◌+◌, nat_le}
+use Rattle.std.proofs.lemmas.Bool.{false≢true, cond_both, and_parts, eqb-true, eq-eqb}
+use Rattle.std.proofs.lemmas.List.{append-nil}
+use Rattle.eap_base.specs.declared.setup.ServerSetup.{ServerSetup}
+use Rattle.eap_base.specs.declared.setup.Suite.{Suite}
+use Rattle.eap_base.specs.declared.users.User.{User}
+use Rattle.eap_base.specs.Setup.{psk_kind, gpsk_kind, is_among}
+use Rattle.eap_base.specs.Suite.{suite_number}
+use Rattle.eap_base.specs.Users.{user_of}
+use Rattle.eap_packet.specs.Fault.{packet_of}
+use Rattle.eap_packet.specs.Packet.{PacketValue, request, response, success, failure, spelled}
+use Rattle.eap_packet.specs.declared.cause.Cause.{Cause}
+use Rattle.eap_packet.specs.declared.state.State.{State}
+use Rattle.gpsk_messages.specs.Message.{Message, gpsk2}
+use Rattle.gpsk_messages.specs.Reading as gpsk_reading
+use Rattle.psk_messages.specs.Message.{psk2}
+use Rattle.psk_messages.specs.Reading as psk_reading
+use Rattle.login_policy.specs.Policy.{next_kind}
+use Rattle.login_policy.proofs.Choices.{next_is_ordered}
+use Rattle.eap_method.specs.declared.tags.TagRecord.{TagRecord}
+use Rattle.eap_method.specs.declared.tags.Tags.{Tags}
+use Rattle.eap_method.specs.declared.turn.ServerTurn.TheVariants as turn
+use Rattle.eap_method.specs.declared.values.ServerSide.{ServerSide}
+use Rattle.eap_method.specs.GpskServer as gpsk
+use Rattle.eap_method.specs.GpskTags.{sk_record, suite_list}
+use Rattle.eap_method.specs.PskServer as psk
+use Rattle.eap_method.specs.PskTags.{ak_record, tek_record, rand_of, header_of}
+use Rattle.eap_method.specs.Server.{ServerViews, side_of, server_offer, Offer, server_turn, psk_hears, gpsk_hears, psk_turn, gpsk_turn, psk_offer, gpsk_offer}
+use Rattle.eap_method.specs.Steps.{discards, is_end}
+use Rattle.eap_method.specs.Turns.{ServerOutcome, body_of}
+use Rattle.method_laws.specs.GpskServerRows as gpsk_rows
+use Rattle.method_laws.specs.PskServerRows as psk_rows
+use Rattle.method_laws.proofs.GpskServerCases.{gpsk_server_steps_are_rows}
+use Rattle.method_laws.proofs.PskServerCases.{psk_server_steps_are_rows}
+use Rattle.server_machine.specs.ServerTable.{ServerNow, ServerAnswer, answer, server_made, identity, nak, next_id, before_proposal, ends_badly, offers, proposes, select_action, method_answers, server_method, is_awaited, is_proposed, hears_identity, current_response, server_row, server_start, server_deliver, server_timeout}
+use Rattle.server_machine.specs.declared.variables.Progress.TheVariants as progress
+use Rattle.server_machine.specs.declared.variables.ServerVariables.{ServerVariables}
+use Rattle.eap_world.specs.Verdict.{is_success}
+use Rattle.agreement.specs.Records.{AreFew}
+use Rattle.agreement.specs.ServerStands.{PskChecked, GpskChecked, psk2_record, gpsk2_taken, HasNoTags, before, asks_identity, asks_psk, asks_gpsk, refuses_gpsk, ended, ServerStands, begins, psk_checks, psk_succeeds, gpsk_checks, gpsk_bars, gpsk_succeeds, fails}
+
+-- after a call the invariant stands, with the tags of its step
+pub record Keeps (setup : ServerSetup) (accepted made : List TagRecord) (out : ServerAnswer) : Type 0 where
+  pub stands : ServerStands setup out.after (accepted ++ out.step.tags.accepted) (made ++ out.step.tags.made)
+
+-- a test has one outcome
+clash : (A : Type 0) (test : Bool) → test ≡ true → test ≡ false → A
+clash A test is_true is_false = absurd (false≢true (sym is_false ∙ is_true))
+
+some_same : (one other : ℕ) → Some one ≡ Some other → one ≡ other
+some_same one other same = cc
+
+-- a server has one current method
+apart : (A : Type 0) (current : Option ℕ) (one other : ℕ) → (one == other) ≡ false → current ≡ Some one → current ≡ Some other → A
+apart A current one other differ is_one is_other =
+    clash A (one == other) (eq-eqb one other (some_same one other (sym is_one ∙ is_other))) differ
+
+is_awaited_is : (current : Option ℕ) (kind : ℕ) → is_awaited current kind ≡ true → current ≡ Some kind
+is_awaited_is None kind awaited = absurd (false≢true awaited)
+is_awaited_is (Some number) kind awaited = ap (λ (n : ℕ). Some n) (eqb-true number kind awaited)
+
+-- equal lists of tags
+recast : (setup : ServerSetup) (now : ServerNow) (a b c d : List TagRecord) → a ≡ c → b ≡ d → ServerStands setup now a b → ServerStands setup now c d
+recast setup now a b c d first second stands =
+    subst (λ (x : List TagRecord). ServerStands setup now x d) first (subst (λ (y : List TagRecord). ServerStands setup now a y) second stands)
+
+-- the settings are the setup's
+pub own_of : (setup : ServerSetup) (now : ServerNow) (accepted made : List TagRecord) → ServerStands setup now accepted made → now.vars.setup ≡ setup
+own_of setup now accepted made (begins own unsure no_tags) = own
+own_of setup now accepted made (psk_checks login id own is_current gone_on in_view facts unsure) = own
+own_of setup now accepted made (psk_succeeds login header tag sealed id own is_current over in_view facts r_sent) = own
+own_of setup now accepted made (gpsk_checks login pd mac own is_current gone_on in_view facts unsure) = own
+own_of setup now accepted made (gpsk_bars login taken sent own is_current gone_on in_view unsure) = own
+own_of setup now accepted made (gpsk_succeeds login pd mac last own is_current over in_view facts) = own
+own_of setup now accepted made (fails some others own over unsure few) = own
+
+-- it has accepted at most two tags and made at most two
+pub server_few : (setup : ServerSetup) (now : ServerNow) (accepted made : List TagRecord) → ServerStands setup now accepted made → AreFew accepted made
+server_few setup now accepted made (begins own unsure no_tags) = record { few_accepted = omega arith; few_made = omega arith }
+server_few setup now accepted made (psk_checks login id own is_current gone_on in_view facts unsure) = record { few_accepted = omega arith; few_made = omega arith }
+server_few setup now accepted made (psk_succeeds login header tag sealed id own is_current over in_view facts r_sent) = record { few_accepted = omega arith; few_made = omega arith }
+server_few setup now accepted made (gpsk_checks login pd mac own is_current gone_on in_view facts unsure) = record { few_accepted = omega arith; few_made = omega arith }
+server_few setup now accepted made (gpsk_bars login taken sent own is_current gone_on in_view unsure) = record { few_accepted = omega arith; few_made = omega arith }
+server_few setup now accepted made (gpsk_succeeds login pd mac last own is_current over in_view facts) = record { few_accepted = omega arith; few_made = omega arith }
+server_few setup now accepted made (fails some others own over unsure few) = few
+
+-- before its end it has accepted at most one
+going_one : (setup : ServerSetup) (now : ServerNow) (accepted made : List TagRecord) → is_end now.vars.state ≡ false
+    → ServerStands setup now accepted made → length accepted ≤ 1
+going_one setup now accepted made going (begins own unsure no_tags) = omega arith
+going_one setup now accepted made going (psk_checks login id own is_current gone_on in_view facts unsure) = omega arith
+going_one setup now accepted made going (psk_succeeds login header tag sealed id own is_current over in_view facts r_sent) = clash _ _ over going
+going_one setup now accepted made going (gpsk_checks login pd mac own is_current gone_on in_view facts unsure) = omega arith
+going_one setup now accepted made going (gpsk_bars login taken sent own is_current gone_on in_view unsure) = omega arith
+going_one setup now accepted made going (gpsk_succeeds login pd mac last own is_current over in_view facts) = clash _ _ over going
+going_one setup now accepted made going (fails some others own over unsure few) = clash _ _ over going
+
+-- few tags stay few where none is added
+few_stay : (accepted made : List TagRecord) → AreFew accepted made → AreFew (accepted ++ []) (made ++ [])
+few_stay accepted made few = rw (append-nil accepted, append-nil made) few
+
+-- one more accepted tag, and none made
+few_grow : (accepted made : List TagRecord) (tags : Tags) → AreFew accepted made → length accepted ≤ 1 → length tags.accepted ≤ 1 → length tags.made ≤ 0
+    → AreFew (accepted ++ tags.accepted) (made ++ tags.made)
+few_grow accepted made tags few one more none = record {
+  few_accepted = omega (arith, length-append accepted tags.accepted, one, more);
+  few_made = omega (arith, length-append made tags.made, few.few_made, none);
+}
+
+-- the world's server before and after its start
+pub server_begins : (setup : ServerSetup) (first_id max_retrans : ℕ) → ServerStands setup (server_made setup first_id max_retrans) [] []
+server_begins setup first_id max_retrans = begins refl refl (before refl)
+
+pub keeps_start : (setup : ServerSetup) (now : ServerNow) → now.vars.setup ≡ setup
+    → (let out = server_start now in ServerStands setup out.after ([] ++ out.step.tags.accepted) ([] ++ out.step.tags.made))
+unfolding server_start
+keeps_start setup now own = begins own refl (asks_identity refl)
+
+pub started_stands : (setup : ServerSetup) (first_id max_retrans : ℕ)
+    → (let out = server_start (server_made setup first_id max_retrans) in ServerStands setup out.after [] [])
+unfolding server_start
+started_stands setup first_id max_retrans = begins refl refl (asks_identity refl)
+
+-- the count of retransmissions says nothing of the tags
+abbrev counted : ServerNow → ℕ → ServerNow
+counted now count = record { vars = record now.vars { retrans_count = count }; views = now.views }
+
+no_tags-stay : (setup : ServerSetup) (now : ServerNow) (count : ℕ) → HasNoTags setup now → HasNoTags setup (counted now count)
+no_tags-stay setup now count (before none) = before none
+no_tags-stay setup now count (asks_identity is_identity) = asks_identity is_identity
+no_tags-stay setup now count (asks_psk ordered is_current in_view) = asks_psk ordered is_current in_view
+no_tags-stay setup now count (asks_gpsk ordered is_current in_view) = asks_gpsk ordered is_current in_view
+no_tags-stay setup now count (refuses_gpsk is_current gone_on in_view) = refuses_gpsk is_current gone_on in_view
+no_tags-stay setup now count (ended over) = ended over
+
+stays : (setup : ServerSetup) (now : ServerNow) (count : ℕ) (accepted made : List TagRecord)
+    → ServerStands setup now accepted made → ServerStands setup (counted now count) accepted made
+stays setup now count accepted made (begins own unsure no_tags) = begins own unsure (no_tags-stay setup now count no_tags)
+stays setup now count accepted made (psk_checks login id own is_current gone_on in_view facts unsure) =
+    psk_checks login id own is_current gone_on in_view facts unsure
+stays setup now count accepted made (psk_succeeds login header tag sealed id own is_current over in_view facts r_sent) =
+    psk_succeeds login header tag sealed id own is_current over in_view facts r_sent
+stays setup now count accepted made (gpsk_checks login pd mac own is_current gone_on in_view facts unsure) =
+    gpsk_checks login pd mac own is_current gone_on in_view facts unsure
+stays setup now count accepted made (gpsk_bars login taken sent own is_current gone_on in_view unsure) =
+    gpsk_bars login taken sent own is_current gone_on in_view unsure
+stays setup now count accepted made (gpsk_succeeds login pd mac last own is_current over in_view facts) =
+    gpsk_succeeds login pd mac last own is_current over in_view facts
+stays setup now count accepted made (fails some others own over unsure few) = fails some others own over unsure few
+
+-- a step without tags
+untagged : (setup : ServerSetup) (now : ServerNow) (accepted made : List TagRecord) → ServerStands setup now accepted made
+    → ServerStands setup now (accepted ++ []) (made ++ [])
+untagged setup now accepted made stands =
+    recast setup now accepted made (accepted ++ []) (made ++ []) (sym (append-nil accepted)) (sym (append-nil made)) stands
+
+timeout-keeps : (setup : ServerSetup) (now : ServerNow) (accepted made : List TagRecord) → ServerStands setup now accepted made
+    → Keeps setup accepted made (server_timeout now)
+unfolding server_timeout
+timeout-keeps setup now accepted made stands =
+    cond_both (nat_le (now.vars.retrans_count + 1) now.vars.max_retrans) _ _ (Keeps setup accepted made)
+    (λ _. record { stands = untagged setup (counted now (now.vars.retrans_count + 1)) accepted made (stays setup now (now.vars.retrans_count + 1) accepted made stands) })
+    (λ _. record { stands = fails (accepted ++ []) (made ++ []) (own_of setup now accepted made stands) refl refl (few_stay accepted made (server_few setup now accepted made stands)) })
+
+pub keeps_timeout : (setup : ServerSetup) (now : ServerNow) (accepted made : List TagRecord) → ServerStands setup now accepted made
+    → (let out = server_timeout now in ServerStands setup out.after (accepted ++ out.step.tags.accepted) (made ++ out.step.tags.made))
+keeps_timeout setup now accepted made stands = (timeout-keeps setup now accepted made stands).stands
+
+-- what a server without tags knows
+record IsFresh (setup : ServerSetup) (now : ServerNow) (accepted made : List TagRecord) : Type 0 where
+  pub own : now.vars.setup ≡ setup
+  pub unsure : is_success now.vars.state ≡ false
+  pub none_accepted : [] ≡ accepted
+  pub none_made : [] ≡ made
+
+-- a server whose method is only proposed has no tags
+proposed-fresh : (setup : ServerSetup) (now : ServerNow) (accepted made : List TagRecord) → is_end now.vars.state ≡ false
+    → is_proposed now.vars.progress ≡ true → ServerStands setup now accepted made → IsFresh setup now accepted made
+proposed-fresh setup now accepted made going waits (begins own unsure no_tags) =
+    record { own = own; unsure = unsure; none_accepted = refl; none_made = refl }
+proposed-fresh setup now accepted made going waits (psk_checks login id own is_current gone_on in_view facts unsure) = clash _ _ waits gone_on
+proposed-fresh setup now accepted made going waits (psk_succeeds login header tag sealed id own is_current over in_view facts r_sent) = clash _ _ over going
+proposed-fresh setup now accepted made going waits (gpsk_checks login pd mac own is_current gone_on in_view facts unsure) = clash _ _ waits gone_on
+proposed-fresh setup now accepted made going waits (gpsk_bars login taken sent own is_current gone_on in_view unsure) = clash _ _ waits gone_on
+proposed-fresh setup now accepted made going waits (gpsk_succeeds login pd mac last own is_current over in_view facts) = clash _ _ over going
+proposed-fresh setup now accepted made going waits (fails some others own over unsure few) = clash _ _ over going
+
+-- a server in its Identity round has no tags
+identity-fresh : (setup : ServerSetup) (now : ServerNow) (accepted made : List TagRecord) → is_end now.vars.state ≡ false
+    → now.vars.current ≡ Some identity → ServerStands setup now accepted made → IsFresh setup now accepted made
+identity-fresh setup now accepted made going asks (begins own unsure no_tags) =
+    record { own = own; unsure = unsure; none_accepted = refl; none_made = refl }
+identity-fresh setup now accepted made going asks (psk_checks login id own is_current gone_on in_view facts unsure) =
+    apart _ _ identity psk_kind refl asks is_current
+identity-fresh setup now accepted made going asks (psk_succeeds login header tag sealed id own is_current over in_view facts r_sent) = clash _ _ over going
+identity-fresh setup now accepted made going asks (gpsk_checks login pd mac own is_current gone_on in_view facts unsure) =
+    apart _ _ identity gpsk_kind refl asks is_current
+identity-fresh setup now accepted made going asks (gpsk_bars login taken sent own is_current gone_on in_view unsure) =
+    apart _ _ identity gpsk_kind refl asks is_current
+identity-fresh setup now accepted made going asks (gpsk_succeeds login pd mac last own is_current over in_view facts) = clash _ _ over going
+identity-fresh setup now accepted made going asks (fails some others own over unsure few) = clash _ _ over going
+
+-- a server that has asked by EAP-PSK
+record PskIsAsked (setup : ServerSetup) (now : ServerNow) (accepted made : List TagRecord) (own : ServerSide) (nonce : List ℕ) : Type 0 where
+  pub ordered : is_among setup.methods psk_kind ≡ true
+  pub own_side : own ≡ side_of setup
+  pub own_nonce : nonce ≡ setup.nonce
+  pub unsure : is_success now.vars.state ≡ false
+  pub none_accepted : [] ≡ accepted
+  pub none_made : [] ≡ made
+
+same_psk_side : (own side : ServerSide) (nonce other : List ℕ) (held : Option psk.View) → held ≡ Some (psk.asked own nonce) → held ≡ Some (psk.asked side other)
+    → own ≡ side
+same_psk_side own side nonce other held is_one is_other = cc
+
+same_psk_nonce : (own side : ServerSide) (nonce other : List ℕ) (held : Option psk.View) → held ≡ Some (psk.asked own nonce) → held ≡ Some (psk.asked side other)
+    → nonce ≡ other
+same_psk_nonce own side nonce other held is_one is_other = cc
+
+psk-asked-not-checked : (A : Type 0) (own : ServerSide) (nonce : List ℕ) (login : psk.Login) (held : Option psk.View) → held ≡ Some (psk.asked own nonce)
+    → held ≡ Some (psk.checked login) → A
+psk-asked-not-checked A own nonce login held is_asked is_checked = absurd cc
+
+no_tags-psk : (setup : ServerSetup) (now : ServerNow) (own : ServerSide) (nonce : List ℕ) → is_end now.vars.state ≡ false
+    → now.vars.current ≡ Some psk_kind → now.views.psk ≡ Some (psk.asked own nonce) → is_success now.vars.state ≡ false
+    → HasNoTags setup now → PskIsAsked setup now [] [] own nonce
+no_tags-psk setup now own nonce going by_psk at_view unsure (before none) = absurd cc
+no_tags-psk setup now own nonce going by_psk at_view unsure (asks_identity is_identity) = apart _ _ identity psk_kind refl is_identity by_psk
+no_tags-psk setup now own nonce going by_psk at_view unsure (asks_psk ordered is_current in_view) = record {
+  ordered = ordered;
+  own_side = same_psk_side _ _ _ _ _ at_view in_view;
+  own_nonce = same_psk_nonce _ _ _ _ _ at_view in_view;
+  unsure = unsure;
+  none_accepted = refl;
+  none_made = refl;
+}
+no_tags-psk setup now own nonce going by_psk at_view unsure (asks_gpsk ordered is_current in_view) = apart _ _ psk_kind gpsk_kind refl by_psk is_current
+no_tags-psk setup now own nonce going by_psk at_view unsure (refuses_gpsk is_current gone_on in_view) = apart _ _ psk_kind gpsk_kind refl by_psk is_current
+no_tags-psk setup now own nonce going by_psk at_view unsure (ended over) = clash _ _ over going
+
+psk-asked : (setup : ServerSetup) (now : ServerNow) (own : ServerSide) (nonce : List ℕ) → is_end now.vars.state ≡ false
+    → now.vars.current ≡ Some psk_kind → now.views.psk ≡ Some (psk.asked own nonce)
+    → (accepted made : List TagRecord) → ServerStands setup now accepted made → PskIsAsked setup now accepted made own nonce
+psk-asked setup now own nonce going by_psk at_view accepted made (begins owned unsure no_tags) =
+    no_tags-psk setup now own nonce going by_psk at_view unsure no_tags
+psk-asked setup now own nonce going by_psk at_view accepted made (psk_checks login id owned is_current gone_on in_view facts unsure) =
+    psk-asked-not-checked _ own nonce login _ at_view in_view
+psk-asked setup now own nonce going by_psk at_view accepted made (psk_succeeds login header tag sealed id owned is_current over in_view facts r_sent) = clash _ _ over going
+psk-asked setup now own nonce going by_psk at_view accepted made (gpsk_checks login pd mac owned is_current gone_on in_view facts unsure) =
+    apart _ _ psk_kind gpsk_kind refl by_psk is_current
+psk-asked setup now own nonce going by_psk at_view accepted made (gpsk_bars login taken sent owned is_current gone_on in_view unsure) =
+    apart _ _ psk_kind gpsk_kind refl by_psk is_current
+psk-asked setup now own nonce going by_psk at_view accepted made (gpsk_succeeds login pd mac last owned is_current over in_view facts) = clash _ _ over going
+psk-asked setup now own nonce going by_psk at_view accepted made (fails some others owned over unsure few) = clash _ _ over going
+
+-- a server that has sent PSK-3
+record PskIsChecked (setup : ServerSetup) (accepted made : List TagRecord) (login : psk.Login) : Type 0 where
+  pub id : ℕ
+  pub facts : PskChecked setup login
+  pub one_accepted : psk2_record login facts.mac ∷ [] ≡ accepted
+  pub some_made : psk.psk3_records login id ≡ made
+
+same_psk_login : (login other : psk.Login) (held : Option psk.View) → held ≡ Some (psk.checked login) → held ≡ Some (psk.checked other) → other ≡ login
+same_psk_login login other held is_one is_other = cc
+
+no_tags-not-checked-psk : (A : Type 0) (setup : ServerSetup) (now : ServerNow) (login : psk.Login) → is_end now.vars.state ≡ false
+    → now.vars.current ≡ Some psk_kind → now.views.psk ≡ Some (psk.checked login) → HasNoTags setup now → A
+no_tags-not-checked-psk A setup now login going by_psk at_view (before none) = absurd cc
+no_tags-not-checked-psk A setup now login going by_psk at_view (asks_identity is_identity) = apart _ _ identity psk_kind refl is_identity by_psk
+no_tags-not-checked-psk A setup now login going by_psk at_view (asks_psk ordered is_current in_view) = psk-asked-not-checked _ _ _ login _ in_view at_view
+no_tags-not-checked-psk A setup now login going by_psk at_view (asks_gpsk ordered is_current in_view) = apart _ _ psk_kind gpsk_kind refl by_psk is_current
+no_tags-not-checked-psk A setup now login going by_psk at_view (refuses_gpsk is_current gone_on in_view) = apart _ _ psk_kind gpsk_kind refl by_psk is_current
+no_tags-not-checked-psk A setup now login going by_psk at_view (ended over) = clash _ _ over going
+
+psk-checked : (setup : ServerSetup) (now : ServerNow) (login : psk.Login) → is_end now.vars.state ≡ false
+    → now.vars.current ≡ Some psk_kind → now.views.psk ≡ Some (psk.checked login)
+    → (accepted made : List TagRecord) → ServerStands setup now accepted made → PskIsChecked setup accepted made login
+psk-checked setup now login going by_psk at_view accepted made (begins owned unsure no_tags) =
+    no_tags-not-checked-psk _ setup now login going by_psk at_view no_tags
+psk-checked setup now login going by_psk at_view accepted made (psk_checks other id owned is_current gone_on in_view facts unsure) =
+    subst (λ (l : psk.Login). PskIsChecked setup (psk2_record other facts.mac ∷ []) (psk.psk3_records other id) l)
+    (same_psk_login login other _ at_view in_view)
+    (record { id = id; facts = facts; one_accepted = refl; some_made = refl })
+psk-checked setup now login going by_psk at_view accepted made (psk_succeeds other header tag sealed id owned is_current over in_view facts r_sent) = clash _ _ over going
+psk-checked setup now login going by_psk at_view accepted made (gpsk_checks other pd mac owned is_current gone_on in_view facts unsure) =
+    apart _ _ psk_kind gpsk_kind refl by_psk is_current
+psk-checked setup now login going by_psk at_view accepted made (gpsk_bars other taken sent owned is_current gone_on in_view unsure) =
+    apart _ _ psk_kind gpsk_kind refl by_psk is_current
+psk-checked setup now login going by_psk at_view accepted made (gpsk_succeeds other pd mac last owned is_current over in_view facts) = clash _ _ over going
+psk-checked setup now login going by_psk at_view accepted made (fails some others owned over unsure few) = clash _ _ over going
+
+-- a server that has asked by EAP-GPSK
+record GpskIsAsked (setup : ServerSetup) (now : ServerNow) (accepted made : List TagRecord) (own : ServerSide) (nonce : List ℕ) : Type 0 where
+  pub ordered : is_among setup.methods gpsk_kind ≡ true
+  pub own_side : own ≡ side_of setup
+  pub own_nonce : nonce ≡ setup.nonce
+  pub unsure : is_success now.vars.state ≡ false
+  pub none_accepted : [] ≡ accepted
+  pub none_made : [] ≡ made
+
+same_gpsk_side : (own side : ServerSide) (nonce other : List ℕ) (held : Option gpsk.View) → held ≡ Some (gpsk.asked own nonce) → held ≡ Some (gpsk.asked side other)
+    → own ≡ side
+same_gpsk_side own side nonce other held is_one is_other = cc
+
+same_gpsk_nonce : (own side : ServerSide) (nonce other : List ℕ) (held : Option gpsk.View) → held ≡ Some (gpsk.asked own nonce) → held ≡ Some (gpsk.asked side other)
+    → nonce ≡ other
+same_gpsk_nonce own side nonce other held is_one is_other = cc
+
+gpsk-asked-not-checked : (A : Type 0) (own : ServerSide) (nonce : List ℕ) (login : gpsk.Login) (held : Option gpsk.View) → held ≡ Some (gpsk.asked own nonce)
+    → held ≡ Some (gpsk.checked login) → A
+gpsk-asked-not-checked A own nonce login held is_asked is_checked = absurd cc
+
+gpsk-asked-not-barring : (A : Type 0) (own : ServerSide) (nonce : List ℕ) (login : gpsk.Login) (held : Option gpsk.View) → held ≡ Some (gpsk.asked own nonce)
+    → held ≡ Some (gpsk.barring login) → A
+gpsk-asked-not-barring A own nonce login held is_asked is_barring = absurd cc
+
+gpsk-asked-not-refusing : (A : Type 0) (own side : ServerSide) (nonce other : List ℕ) (held : Option gpsk.View) → held ≡ Some (gpsk.asked own nonce)
+    → held ≡ Some (gpsk.refusing side other) → A
+gpsk-asked-not-refusing A own side nonce other held is_asked is_refusing = absurd cc
+
+gpsk-checked-not-barring : (A : Type 0) (login other : gpsk.Login) (held : Option gpsk.View) → held ≡ Some (gpsk.checked login)
+    → held ≡ Some (gpsk.barring other) → A
+gpsk-checked-not-barring A login other held is_checked is_barring = absurd cc
+
+gpsk-checked-not-refusing : (A : Type 0) (login : gpsk.Login) (side : ServerSide) (other : List ℕ) (held : Option gpsk.View) → held ≡ Some (gpsk.checked login)
+    → held ≡ Some (gpsk.refusing side other) → A
+gpsk-checked-not-refusing A login side other held is_checked is_refusing = absurd cc
+
+no_tags-gpsk : (setup : ServerSetup) (now : ServerNow) (own : ServerSide) (nonce : List ℕ) → is_end now.vars.state ≡ false
+    → now.vars.current ≡ Some gpsk_kind → now.views.gpsk ≡ Some (gpsk.asked own nonce) → is_success now.vars.state ≡ false
+    → HasNoTags setup now → GpskIsAsked setup now [] [] own nonce
+no_tags-gpsk setup now own nonce going by_gpsk at_view unsure (before none) = absurd cc
+no_tags-gpsk setup now own nonce going by_gpsk at_view unsure (asks_identity is_identity) = apart _ _ identity gpsk_kind refl is_identity by_gpsk
+no_tags-gpsk setup now own nonce going by_gpsk at_view unsure (asks_psk ordered is_current in_view) = apart _ _ gpsk_kind psk_kind refl by_gpsk is_current
+no_tags-gpsk setup now own nonce going by_gpsk at_view unsure (asks_gpsk ordered is_current in_view) = record {
+  ordered = ordered;
+  own_side = same_gpsk_side _ _ _ _ _ at_view in_view;
+  own_nonce = same_gpsk_nonce _ _ _ _ _ at_view in_view;
+  unsure = unsure;
+  none_accepted = refl;
+  none_made = refl;
+}
+no_tags-gpsk setup now own nonce going by_gpsk at_view unsure (refuses_gpsk is_current gone_on in_view) =
+    gpsk-asked-not-refusing _ _ _ _ _ _ at_view in_view
+no_tags-gpsk setup now own nonce going by_gpsk at_view unsure (ended over) = clash _ _ over going
+
+gpsk-asked : (setup : ServerSetup) (now : ServerNow) (own : ServerSide) (nonce : List ℕ) → is_end now.vars.state ≡ false
+    → now.vars.current ≡ Some gpsk_kind → now.views.gpsk ≡ Some (gpsk.asked own nonce)
+    → (accepted made : List TagRecord) → ServerStands setup now accepted made → GpskIsAsked setup now accepted made own nonce
+gpsk-asked setup now own nonce going by_gpsk at_view accepted made (begins owned unsure no_tags) =
+    no_tags-gpsk setup now own nonce going by_gpsk at_view unsure no_tags
+gpsk-asked setup now own nonce going by_gpsk at_view accepted made (psk_checks login id owned is_current gone_on in_view facts unsure) =
+    apart _ _ gpsk_kind psk_kind refl by_gpsk is_current
+gpsk-asked setup now own nonce going by_gpsk at_view accepted made (psk_succeeds login header tag sealed id owned is_current over in_view facts r_sent) = clash _ _ over going
+gpsk-asked setup now own nonce going by_gpsk at_view accepted made (gpsk_checks login pd mac owned is_current gone_on in_view facts unsure) =
+    gpsk-asked-not-checked _ own nonce login _ at_view in_view
+gpsk-asked setup now own nonce going by_gpsk at_view accepted made (gpsk_bars login taken sent owned is_current gone_on in_view unsure) =
+    gpsk-asked-not-barring _ own nonce login _ at_view in_view
+gpsk-asked setup now own nonce going by_gpsk at_view accepted made (gpsk_succeeds login pd mac last owned is_current over in_view facts) = clash _ _ over going
+gpsk-asked setup now own nonce going by_gpsk at_view accepted made (fails some others owned over unsure few) = clash _ _ over going
+
+-- a server that has sent GPSK-3
+record GpskIsChecked (setup : ServerSetup) (accepted made : List TagRecord) (login : gpsk.Login) : Type 0 where
+  pub pd : List ℕ
+  pub mac : List ℕ
+  pub facts : GpskChecked setup login pd mac
+  pub one_accepted : sk_record login.psk (gpsk2_taken login pd mac) ∷ [] ≡ accepted
+  pub one_made : sk_record login.psk (gpsk.gpsk3_of login) ∷ [] ≡ made
+
+same_gpsk_login : (login other : gpsk.Login) (held : Option gpsk.View) → held ≡ Some (gpsk.checked login) → held ≡ Some (gpsk.checked other) → other ≡ login
+same_gpsk_login login other held is_one is_other = cc
+
+no_tags-not-checked-gpsk : (A : Type 0) (setup : ServerSetup) (now : ServerNow) (login : gpsk.Login) → is_end now.vars.state ≡ false
+    → now.vars.current ≡ Some gpsk_kind → now.views.gpsk ≡ Some (gpsk.checked login) → HasNoTags setup now → A
+no_tags-not-checked-gpsk A setup now login going by_gpsk at_view (before none) = absurd cc
+no_tags-not-checked-gpsk A setup now login going by_gpsk at_view (asks_identity is_identity) = apart _ _ identity gpsk_kind refl is_identity by_gpsk
+no_tags-not-checked-gpsk A setup now login going by_gpsk at_view (asks_psk ordered is_current in_view) = apart _ _ gpsk_kind psk_kind refl by_gpsk is_current
+no_tags-not-checked-gpsk A setup now login going by_gpsk at_view (asks_gpsk ordered is_current in_view) =
+    gpsk-asked-not-checked _ _ _ login _ in_view at_view
+no_tags-not-checked-gpsk A setup now login going by_gpsk at_view (refuses_gpsk is_current gone_on in_view) =
+    gpsk-checked-not-refusing _ login _ _ _ at_view in_view
+no_tags-not-checked-gpsk A setup now login going by_gpsk at_view (ended over) = clash _ _ over going
+
+gpsk-checked : (setup : ServerSetup) (now : ServerNow) (login : gpsk.Login) → is_end now.vars.state ≡ false
+    → now.vars.current ≡ Some gpsk_kind → now.views.gpsk ≡ Some (gpsk.checked login)
+    → (accepted made : List TagRecord) → ServerStands setup now accepted made → GpskIsChecked setup accepted made login
+gpsk-checked setup now login going by_gpsk at_view accepted made (begins owned unsure no_tags) =
+    no_tags-not-checked-gpsk _ setup now login going by_gpsk at_view no_tags
+gpsk-checked setup now login going by_gpsk at_view accepted made (psk_checks other id owned is_current gone_on in_view facts unsure) =
+    apart _ _ gpsk_kind psk_kind refl by_gpsk is_current
+gpsk-checked setup now login going by_gpsk at_view accepted made (psk_succeeds other header tag sealed id owned is_current over in_view facts r_sent) = clash _ _ over going
+gpsk-checked setup now login going by_gpsk at_view accepted made (gpsk_checks other pd mac owned is_current gone_on in_view facts unsure) =
+    subst (λ (l : gpsk.Login). GpskIsChecked setup (sk_record other.psk (gpsk2_taken other pd mac) ∷ []) (sk_record other.psk (gpsk.gpsk3_of other) ∷ []) l)
+    (same_gpsk_login login other _ at_view in_view)
+    (record { pd = pd; mac = mac; facts = facts; one_accepted = refl; one_made = refl })
+gpsk-checked setup now login going by_gpsk at_view accepted made (gpsk_bars other taken sent owned is_current gone_on in_view unsure) =
+    gpsk-checked-not-barring _ login other _ at_view in_view
+gpsk-checked setup now login going by_gpsk at_view accepted made (gpsk_succeeds other pd mac last owned is_current over in_view facts) = clash _ _ over going
+gpsk-checked setup now login going by_gpsk at_view accepted made (fails some others owned over unsure few) = clash _ _ over going
+
+side-suites : (setup : ServerSetup) → (side_of setup).suites ≡ setup.suites
+unfolding side_of
+side-suites setup = refl
+
+-- what a call of a server in this state, which has not ended, keeps
+module _ (setup : ServerSetup) (now : ServerNow) (accepted made : List TagRecord) (stands : ServerStands setup now accepted made) where
+  own-setup : now.vars.setup ≡ setup
+  own-setup = own_of setup now accepted made stands
+
+  -- a discard changes nothing
+  discard-keeps : (path : List State) (cause : Cause) → Keeps setup accepted made (answer (discards path cause) now)
+  discard-keeps path cause = record { stands = untagged setup now accepted made stands }
+
+  -- a failure
+  badly-keeps : (entered : List State) (vars : ServerVariables) (views : ServerViews) (id : ℕ) → vars.setup ≡ setup
+      → Keeps setup accepted made (ends_badly entered vars views id (record { accepted = []; made = [] }))
+  badly-keeps entered vars views id own = record {
+    stands = fails (accepted ++ []) (made ++ []) own refl refl (few_stay accepted made (server_few setup now accepted made stands));
+  }
+
+  -- a proposal by a server without tags
+  module _ (fresh : IsFresh setup now accepted made) (entered : List State) (vars : ServerVariables) (own : vars.setup ≡ setup)
+      (unsure : is_success vars.state ≡ false) (id kind : ℕ) (ordered : is_among vars.setup.methods kind ≡ true) where
+    begun-keeps : (after : ServerNow) → after.vars.setup ≡ setup → is_success after.vars.state ≡ false → HasNoTags setup after
+        → ServerStands setup after (accepted ++ []) (made ++ [])
+    begun-keeps after its_own its_unsure no_tags =
+        recast setup after [] [] (accepted ++ []) (made ++ []) (fresh.none_accepted ∙ sym (append-nil accepted)) (fresh.none_made ∙ sym (append-nil made))
+        (begins its_own its_unsure no_tags)
+
+    psk_offer-keeps : kind ≡ psk_kind → (view : Option psk.View)
+        → (let offer = psk_offer (side_of vars.setup) vars.setup.nonce (next_id vars) now.views view in
+        Keeps setup accepted made (offers entered vars offer.after id kind offer.packet))
+    psk_offer-keeps by_psk None = badly-keeps entered vars _ id own
+    psk_offer-keeps by_psk (Some view) = record {
+      stands = begun-keeps _ own unsure (asks_psk
+          (ap (λ (s : ServerSetup). is_among s.methods psk_kind) (sym own) ∙ (ap (λ (k : ℕ). is_among vars.setup.methods k) (sym by_psk) ∙ ordered))
+          (ap (λ (k : ℕ). Some k) by_psk)
+          (ap (λ (s : ServerSetup). Some (psk.asked (side_of s) s.nonce)) own));
+    }
+
+    gpsk_offer-keeps : kind ≡ gpsk_kind → (view : Option gpsk.View)
+        → (let offer = gpsk_offer (side_of vars.setup) vars.setup.nonce (next_id vars) now.views view in
+        Keeps setup accepted made (offers entered vars offer.after id kind offer.packet))
+    gpsk_offer-keeps by_gpsk None = badly-keeps entered vars _ id own
+    gpsk_offer-keeps by_gpsk (Some view) = record {
+      stands = begun-keeps _ own unsure (asks_gpsk
+          (ap (λ (s : ServerSetup). is_among s.methods gpsk_kind) (sym own) ∙ (ap (λ (k : ℕ). is_among vars.setup.methods k) (sym by_gpsk) ∙ ordered))
+          (ap (λ (k : ℕ). Some k) by_gpsk)
+          (ap (λ (s : ServerSetup). Some (gpsk.asked (side_of s) s.nonce)) own));
+    }
+
+    offer-keeps : (let offer = server_offer (side_of vars.setup) vars.setup.nonce kind (next_id vars) now.views in
+        Keeps setup accepted made (offers entered vars offer.after id kind offer.packet))
+    unfolding server_offer
+    offer-keeps =
+        cond_both (kind == psk_kind) _ _ (λ (offer : Offer). Keeps setup accepted made (offers entered vars offer.after id kind offer.packet))
+        (λ by_psk. psk_offer-keeps (eqb-true kind psk_kind by_psk) now.views.psk)
+        (λ _. cond_both (kind == gpsk_kind) _ _ (λ (offer : Offer). Keeps setup accepted made (offers entered vars offer.after id kind offer.packet))
+        (λ by_gpsk. gpsk_offer-keeps (eqb-true kind gpsk_kind by_gpsk) now.views.gpsk)
+        (λ _. badly-keeps entered vars _ id own))
+
+  proposes-keeps : IsFresh setup now accepted made → (entered : List State) (vars : ServerVariables) → vars.setup ≡ setup → is_success vars.state ≡ false
+      → (id : ℕ) (desired : Option (List ℕ)) (next : Option ℕ) → next_kind vars.setup.methods vars.proposed desired ≡ next
+      → Keeps setup accepted made (proposes entered vars now.views id next)
+  proposes-keeps fresh entered vars own unsure id desired None is_next = badly-keeps entered vars _ id own
+  proposes-keeps fresh entered vars own unsure id desired (Some kind) is_next =
+      offer-keeps fresh entered vars own unsure id kind (next_is_ordered vars.setup.methods vars.proposed desired kind is_next)
+
+  select_action-keeps : IsFresh setup now accepted made → (entered : List State) (vars : ServerVariables) → vars.setup ≡ setup → is_success vars.state ≡ false
+      → (id : ℕ) (desired : Option (List ℕ)) → Keeps setup accepted made (select_action entered vars now.views id desired)
+  unfolding select_action
+  select_action-keeps fresh entered vars own unsure id desired =
+      proposes-keeps fresh entered vars own unsure id desired (next_kind vars.setup.methods vars.proposed desired) refl
+
+  module _ (going : is_end now.vars.state ≡ false) (id : ℕ) (octets : List ℕ) where
+    -- a method that ends without success
+    method_fails-keeps : (views : ServerViews) (tags : Tags) → length tags.accepted ≤ 1 → length tags.made ≤ 0
+        → Keeps setup accepted made (method_answers now id views (turn.Done false tags))
+    method_fails-keeps views tags one none = record {
+      stands = fails (accepted ++ tags.accepted) (made ++ tags.made) own-setup refl refl
+          (few_grow accepted made tags (server_few setup now accepted made stands) (going_one setup now accepted made going stands) one none);
+    }
+
+    -- a turn of EAP-PSK
+    module _ (by_psk : now.vars.current ≡ Some psk_kind) (view : psk.View) (at_view : now.views.psk ≡ Some view) where
+      psk_answer-keeps : (own : ServerSide) (nonce rand_s rand_p mac id_p : List ℕ) (user : User) → view ≡ psk.asked own nonce
+          → psk_reading.read_of (body_of octets) ≡ Ok (psk2 rand_s rand_p mac id_p) → rand_s ≡ rand_of nonce
+          → user_of now.vars.setup.users id_p psk_kind ≡ Some user → (packet : List ℕ)
+          → (let login = psk_rows.login_from own nonce id_p user rand_p in
+          Keeps setup accepted made (method_answers now id (record now.views { psk = Some (psk.checked login) })
+          (turn.Request packet (record { accepted = ak_record user.psk (psk.mac_p_covers login) mac ∷ []; made = psk.psk3_records login (next_id now.vars) }))))
+      psk_answer-keeps own nonce rand_s rand_p mac id_p user in_view is_read own_nonce known packet =
+          let login : psk.Login = psk_rows.login_from own nonce id_p user rand_p in
+          let asked : PskIsAsked setup now accepted made own nonce =
+          psk-asked setup now own nonce going by_psk (at_view ∙ ap (λ (v : psk.View). Some v) in_view) accepted made stands in
+          let facts : PskChecked setup login = record {
+            ordered = asked.ordered;
+            own = asked.own_side;
+            nonce = asked.own_nonce;
+            user = user;
+            known = ap (λ (s : ServerSetup). user_of s.users id_p psk_kind) (sym own-setup) ∙ known;
+            key = refl;
+            r = refl;
+            body = body_of octets;
+            mac = mac;
+            is_read = is_read ∙ ap (λ (r : List ℕ). Ok (psk2 r rand_p mac id_p)) own_nonce;
+          } in
+          record {
+            stands = recast setup _ _ _ _ _
+                (ap (λ (tags : List TagRecord). tags ++ (ak_record user.psk (psk.mac_p_covers login) mac ∷ [])) asked.none_accepted)
+                (ap (λ (tags : List TagRecord). tags ++ psk.psk3_records login (next_id now.vars)) asked.none_made)
+                (psk_checks login (next_id now.vars) own-setup by_psk refl refl facts asked.unsure);
+          }
+
+      psk_success-keeps : (login : psk.Login) (header tag : List ℕ) (sealed : ℕ) → view ≡ psk.checked login → login.r ≡ 2
+          → Keeps setup accepted made (method_answers now id (record now.views { psk = Some (psk.over login true) })
+          (turn.Done true (record { accepted = tek_record login.psk 1 header sealed tag ∷ []; made = [] })))
+      psk_success-keeps login header tag sealed in_view r_sent =
+          let held : PskIsChecked setup accepted made login =
+          psk-checked setup now login going by_psk (at_view ∙ ap (λ (v : psk.View). Some v) in_view) accepted made stands in
+          record {
+            stands = recast setup _ _ _ _ _
+                (ap (λ (tags : List TagRecord). tags ++ (tek_record login.psk 1 header sealed tag ∷ [])) held.one_accepted)
+                (held.some_made ∙ sym (append-nil made))
+                (psk_succeeds login header tag sealed held.id own-setup by_psk refl refl held.facts r_sent);
+          }
+
+      psk_row-keeps : (out : ServerOutcome psk.View) → psk_rows.PskServerRow now.vars.setup.users (next_id now.vars) view octets out
+          → Keeps setup accepted made (method_answers now id (psk_turn now.views out).after (psk_turn now.views out).turn)
+      psk_row-keeps out (psk_rows.drops cause) = discard-keeps _ cause
+      psk_row-keeps out (psk_rows.refuses own nonce rand_s rand_p mac id_p in_view is_read own_nonce unknown) =
+          method_fails-keeps _ _ (omega arith) (omega arith)
+      psk_row-keeps out (psk_rows.answers own nonce rand_s rand_p mac id_p user in_view is_read own_nonce known has_mac) =
+          psk_answer-keeps own nonce rand_s rand_p mac id_p user in_view is_read own_nonce known _
+      psk_row-keeps out (psk_rows.ends_success login rand_s nonce tag sealed in_view is_read own_nonce is_second has_seal has_tag is_plain both own_success their_success) =
+          psk_success-keeps login (header_of octets) tag sealed in_view own_success
+      psk_row-keeps out (psk_rows.ends_failure login rand_s nonce tag sealed in_view is_read own_nonce is_second has_seal has_tag is_plain has_result not_both is_failure) =
+          method_fails-keeps _ _ (omega arith) (omega arith)
+
+    -- a turn of EAP-GPSK
+    module _ (by_gpsk : now.vars.current ≡ Some gpsk_kind) (view : gpsk.View) (at_view : now.views.gpsk ≡ Some view) where
+      gpsk_refuse-keeps : (own : ServerSide) (nonce : List ℕ) → view ≡ gpsk.asked own nonce → (packet : List ℕ)
+          → Keeps setup accepted made (method_answers now id (record now.views { gpsk = Some (gpsk.refusing own nonce) })
+          (turn.Request packet (record { accepted = []; made = [] })))
+      gpsk_refuse-keeps own nonce in_view packet =
+          let asked : GpskIsAsked setup now accepted made own nonce =
+          gpsk-asked setup now own nonce going by_gpsk (at_view ∙ ap (λ (v : gpsk.View). Some v) in_view) accepted made stands in
+          let same : Some (gpsk.refusing own nonce) ≡ Some (gpsk.refusing (side_of setup) setup.nonce) =
+          ap (λ (s : ServerSide). Some (gpsk.refusing s nonce)) asked.own_side
+          ∙ ap (λ (n : List ℕ). Some (gpsk.refusing (side_of setup) n)) asked.own_nonce in
+          record {
+            stands = recast setup _ _ _ _ _
+                (asked.none_accepted ∙ sym (append-nil accepted))
+                (asked.none_made ∙ sym (append-nil made))
+                (begins own-setup asked.unsure (refuses_gpsk by_gpsk refl same));
+          }
+
+      gpsk_bar-keeps : (own : ServerSide) (nonce : List ℕ) (login : gpsk.Login) → view ≡ gpsk.asked own nonce → (packet : List ℕ) (taken sent : TagRecord)
+          → Keeps setup accepted made (method_answers now id (record now.views { gpsk = Some (gpsk.barring login) })
+          (turn.Request packet (record { accepted = taken ∷ []; made = sent ∷ [] })))
+      gpsk_bar-keeps own nonce login in_view packet taken sent =
+          let asked : GpskIsAsked setup now accepted made own nonce =
+          gpsk-asked setup now own nonce going by_gpsk (at_view ∙ ap (λ (v : gpsk.View). Some v) in_view) accepted made stands in
+          record {
+            stands = recast setup _ _ _ _ _
+                (ap (λ (tags : List TagRecord). tags ++ (taken ∷ [])) asked.none_accepted)
+                (ap (λ (tags : List TagRecord). tags ++ (sent ∷ [])) asked.none_made)
+                (gpsk_bars login taken sent own-setup by_gpsk refl refl asked.unsure);
+          }
+
+      gpsk_check-keeps : (own : ServerSide) (nonce id_p id_s rand_p rand_s list : List ℕ) (suite : Suite) (pd mac : List ℕ) (user : User)
+          → view ≡ gpsk.asked own nonce
+          → gpsk_reading.read_of None (body_of octets) ≡ Ok (gpsk2 id_p id_s rand_p rand_s list suite pd mac)
+          → id_s ≡ own.id_s → rand_s ≡ nonce → list ≡ suite_list own.suites
+          → is_among own.suites (suite_number suite) ≡ true
+          → user_of now.vars.setup.users id_p gpsk_kind ≡ Some user → user.barred ≡ false → (packet : List ℕ)
+          → (let login = gpsk_rows.login_from own nonce id_p user rand_p suite in
+          Keeps setup accepted made (method_answers now id (record now.views { gpsk = Some (gpsk.checked login) })
+          (turn.Request packet (record {
+            accepted = sk_record user.psk (gpsk2 id_p id_s rand_p rand_s list suite pd mac) ∷ [];
+            made = sk_record user.psk (gpsk.gpsk3_of login) ∷ [];
+          }))))
+      gpsk_check-keeps own nonce id_p id_s rand_p rand_s list suite pd mac user in_view is_read own_name own_nonce own_list offered known not_barred packet =
+          let login : gpsk.Login = gpsk_rows.login_from own nonce id_p user rand_p suite in
+          let asked : GpskIsAsked setup now accepted made own nonce =
+          gpsk-asked setup now own nonce going by_gpsk (at_view ∙ ap (λ (v : gpsk.View). Some v) in_view) accepted made stands in
+          let same : gpsk2 id_p id_s rand_p rand_s list suite pd mac ≡ gpsk2_taken login pd mac =
+          ap (λ (x : List ℕ). gpsk2 id_p x rand_p rand_s list suite pd mac) own_name
+          ∙ (ap (λ (x : List ℕ). gpsk2 id_p own.id_s rand_p x list suite pd mac) own_nonce
+          ∙ ap (λ (x : List ℕ). gpsk2 id_p own.id_s rand_p nonce x suite pd mac) own_list) in
+          let facts : GpskChecked setup login pd mac = record {
+            ordered = asked.ordered;
+            own = asked.own_side;
+            nonce = asked.own_nonce;
+            user = user;
+            known = ap (λ (s : ServerSetup). user_of s.users id_p gpsk_kind) (sym own-setup) ∙ known;
+            key = refl;
+            welcome = not_barred;
+            offered = ap (λ (suites : List ℕ). is_among suites (suite_number suite))
+                (sym (ap (λ (s : ServerSide). s.suites) asked.own_side ∙ side-suites setup)) ∙ offered;
+            body = body_of octets;
+            is_read = is_read ∙ ap (λ (m : Message). Ok m) same;
+          } in
+          record {
+            stands = recast setup _ _ _ _ _
+                (ap (λ (m : Message). [] ++ (sk_record user.psk m ∷ [])) (sym same)
+                ∙ ap (λ (tags : List TagRecord). tags ++ (sk_record user.psk (gpsk2 id_p id_s rand_p rand_s list suite pd mac) ∷ [])) asked.none_accepted)
+                (ap (λ (tags : List TagRecord). tags ++ (sk_record user.psk (gpsk.gpsk3_of login) ∷ [])) asked.none_made)
+                (gpsk_checks login pd mac own-setup by_gpsk refl refl facts asked.unsure);
+          }
+
+      gpsk_success-keeps : (login : gpsk.Login) (last : Message) → view ≡ gpsk.checked login
+          → Keeps setup accepted made (method_answers now id (record now.views { gpsk = Some (gpsk.over login true) })
+          (turn.Done true (record { accepted = sk_record login.psk last ∷ []; made = [] })))
+      gpsk_success-keeps login last in_view =
+          let held : GpskIsChecked setup accepted made login =
+          gpsk-checked setup now login going by_gpsk (at_view ∙ ap (λ (v : gpsk.View). Some v) in_view) accepted made stands in
+          record {
+            stands = recast setup _ _ _ _ _
+                (ap (λ (tags : List TagRecord). tags ++ (sk_record login.psk last ∷ [])) held.one_accepted)
+                (held.one_made ∙ sym (append-nil made))
+                (gpsk_succeeds login held.pd held.mac last own-setup by_gpsk refl refl held.facts);
+          }
+
+      gpsk_row-keeps : (out : ServerOutcome gpsk.View) → gpsk_rows.GpskServerRow now.vars.setup.users (next_id now.vars) view octets out
+          → Keeps setup accepted made (method_answers now id (gpsk_turn now.views out).after (gpsk_turn now.views out).turn)
+      gpsk_row-keeps out (gpsk_rows.drops cause) = discard-keeps _ cause
+      gpsk_row-keeps out (gpsk_rows.refuses own nonce id_p id_s rand_p rand_s list suite pd mac in_view is_read repeated own_name own_nonce own_list offered unknown) =
+          gpsk_refuse-keeps own nonce in_view _
+      gpsk_row-keeps out (gpsk_rows.bars own nonce id_p id_s rand_p rand_s list suite pd mac user in_view is_read repeated own_name own_nonce own_list offered known is_barred is_tagged has_mac) =
+          gpsk_bar-keeps own nonce (gpsk_rows.login_from own nonce id_p user rand_p suite) in_view _ _ _
+      gpsk_row-keeps out (gpsk_rows.checks own nonce id_p id_s rand_p rand_s list suite pd mac user in_view is_read repeated own_name own_nonce own_list offered known not_barred is_tagged has_mac) =
+          gpsk_check-keeps own nonce id_p id_s rand_p rand_s list suite pd mac user in_view is_read own_name own_nonce own_list offered known not_barred _
+      gpsk_row-keeps out (gpsk_rows.ends_refusing own nonce code in_view is_read own_code) = method_fails-keeps _ _ (omega arith) (omega arith)
+      gpsk_row-keeps out (gpsk_rows.ends_barring login code mac in_view is_read own_code is_tagged has_mac) = method_fails-keeps _ _ (omega arith) (omega arith)
+      gpsk_row-keeps out (gpsk_rows.ends_checked login pd mac in_view is_read is_tagged has_mac) = gpsk_success-keeps login _ in_view
+
+    -- a turn of the current method
+    psk_hears-keeps : now.vars.current ≡ Some psk_kind → (view : Option psk.View) → now.views.psk ≡ view
+        → (let out = psk_hears now.vars.setup.users (next_id now.vars) now.views octets view in
+        Keeps setup accepted made (method_answers now id out.after out.turn))
+    psk_hears-keeps by_psk None at_view = discard-keeps _ _
+    psk_hears-keeps by_psk (Some view) at_view =
+        psk_row-keeps by_psk view at_view _ (psk_server_steps_are_rows now.vars.setup.users (next_id now.vars) view octets)
+
+    gpsk_hears-keeps : now.vars.current ≡ Some gpsk_kind → (view : Option gpsk.View) → now.views.gpsk ≡ view
+        → (let out = gpsk_hears now.vars.setup.users (next_id now.vars) now.views octets view in
+        Keeps setup accepted made (method_answers now id out.after out.turn))
+    gpsk_hears-keeps by_gpsk None at_view = discard-keeps _ _
+    gpsk_hears-keeps by_gpsk (Some view) at_view =
+        gpsk_row-keeps by_gpsk view at_view _ (gpsk_server_steps_are_rows now.vars.setup.users (next_id now.vars) view octets)
+
+    server_method-keeps : (kind : ℕ) → now.vars.current ≡ Some kind → Keeps setup accepted made (server_method now id kind octets)
+    unfolding server_method server_turn
+    server_method-keeps kind is_current =
+        cond_both (kind == psk_kind) _ _ (λ (out : ServerOutcome ServerViews). Keeps setup accepted made (method_answers now id out.after out.turn))
+        (λ by_psk. psk_hears-keeps (is_current ∙ ap (λ (k : ℕ). Some k) (eqb-true kind psk_kind by_psk)) now.views.psk refl)
+        (λ _. cond_both (kind == gpsk_kind) _ _ (λ (out : ServerOutcome ServerViews). Keeps setup accepted made (method_answers now id out.after out.turn))
+        (λ by_gpsk. gpsk_hears-keeps (is_current ∙ ap (λ (k : ℕ). Some k) (eqb-true kind gpsk_kind by_gpsk)) now.views.gpsk refl)
+        (λ _. discard-keeps _ _))
+
+  module _ (going : is_end now.vars.state ≡ false) where
+    hears_identity-keeps : (id kind : ℕ) → now.vars.current ≡ Some kind → (kind == identity) ≡ true
+        → Keeps setup accepted made (hears_identity now id)
+    hears_identity-keeps id kind is_current is_identity =
+        let fresh : IsFresh setup now accepted made =
+        identity-fresh setup now accepted made going (is_current ∙ ap (λ (k : ℕ). Some k) (eqb-true kind identity is_identity)) stands in
+        select_action-keeps fresh (before_proposal false) (record now.vars { progress = progress.End }) own-setup fresh.unsure id None
+
+    nak-keeps : (id : ℕ) (body : List ℕ) → is_proposed now.vars.progress ≡ true
+        → Keeps setup accepted made (select_action (before_proposal true) now.vars now.views id (Some body))
+    nak-keeps id body waits =
+        let fresh : IsFresh setup now accepted made = proposed-fresh setup now accepted made going waits stands in
+        select_action-keeps fresh (before_proposal true) now.vars own-setup fresh.unsure id (Some body)
+
+    current_response-keeps : (id kind : ℕ) (body : List ℕ) → Keeps setup accepted made (current_response now id kind body)
+    current_response-keeps id kind body =
+        cond_both ((kind == nak) && is_proposed now.vars.progress) _ _ (Keeps setup accepted made)
+        (λ is_nak. nak-keeps id body (and_parts (kind == nak) (is_proposed now.vars.progress) is_nak).1)
+        (λ _. cond_both (is_awaited now.vars.current kind) _ _ (Keeps setup accepted made)
+        (λ awaited. cond_both (kind == identity) _ _ (Keeps setup accepted made)
+        (λ is_identity. hears_identity-keeps id kind (is_awaited_is now.vars.current kind awaited) is_identity)
+        (λ _. server_method-keeps going id (spelled (response id kind body)) kind (is_awaited_is now.vars.current kind awaited)))
+        (λ _. discard-keeps _ _))
+
+    server_row-keeps : (packet : Result PacketValue Cause) → Keeps setup accepted made (server_row now packet)
+    server_row-keeps (Err cause) = discard-keeps _ _
+    server_row-keeps (Ok (request id kind body)) = discard-keeps _ _
+    server_row-keeps (Ok (response id kind body)) =
+        cond_both (is_awaited now.vars.current_id id) _ _ (Keeps setup accepted made) (λ _. current_response-keeps id kind body) (λ _. discard-keeps _ _)
+    server_row-keeps (Ok (success id)) = discard-keeps _ _
+    server_row-keeps (Ok (failure id)) = discard-keeps _ _
+
+  deliver-keeps : (octets : List ℕ) → Keeps setup accepted made (server_deliver now octets)
+  unfolding server_deliver
+  deliver-keeps octets =
+      cond_both (is_end now.vars.state) _ _ (Keeps setup accepted made) (λ _. discard-keeps _ _) (λ going. server_row-keeps going (packet_of octets))
+
+pub keeps_deliver : (setup : ServerSetup) (now : ServerNow) (accepted made : List TagRecord) (octets : List ℕ) → ServerStands setup now accepted made
+    → (let out = server_deliver now octets in ServerStands setup out.after (accepted ++ out.step.tags.accepted) (made ++ out.step.tags.made))
+keeps_deliver setup now accepted made octets stands = (deliver-keeps setup now accepted made stands octets).stands

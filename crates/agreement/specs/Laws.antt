@@ -1,0 +1,76 @@
+-- Agreement over an altering network.
+use Rattle.std.specs.Prelude.{◌≡◌, ◌≤◌, List, length, true, false, Some}
+use Rattle.eap_base.specs.declared.event.Event.{Event}
+use Rattle.eap_base.specs.declared.setup.Setup.{Setup}
+use Rattle.eap_base.specs.declared.setup.Suite.{Suite}
+use Rattle.eap_base.specs.declared.users.User.{User}
+use Rattle.eap_base.specs.Setup.{IsSoundPeer, IsSoundServer, HasKeys, gpsk_kind}
+use Rattle.eap_base.specs.Suite.{suite_number}
+use Rattle.eap_base.specs.Users.{user_of}
+use Rattle.login_policy.specs.Policy.{picked_suite}
+use Rattle.eap_method.specs.declared.values.Report.{Report}
+use Rattle.eap_method.specs.GpskTags.{suite_list}
+use Rattle.eap_method.specs.Peer.{key_for}
+use Rattle.peer_machine.specs.PeerTable.{peer_reports}
+use Rattle.server_machine.specs.ServerTable.{server_reports}
+use Rattle.eap_world.specs.Book.{tags_verdict}
+use Rattle.eap_world.specs.declared.book.TagsVerdict.TheVariants.{Honest}
+use Rattle.eap_world.specs.declared.book.End.{End}
+use Rattle.eap_world.specs.declared.book.Entry.{Entry}
+use Rattle.eap_world.specs.declared.book.Use.{Use}
+use Rattle.eap_world.specs.Verdict.{verdict_of, is_success}
+use Rattle.eap_world.specs.declared.verdict.Verdict.TheVariants.{Agree}
+use Rattle.eap_world.specs.World.{WorldNow, world_made, world_start, run_after}
+use Rattle.agreement.specs.Records.{tags_by}
+
+-- a setup as a scenario gives it: both ends are sound, and each nonce has 32 octets
+pub record IsWhole (setup : Setup) : Type 0 where
+  pub peer : IsSoundPeer setup.peer
+  pub keys : HasKeys setup.peer
+  pub server : IsSoundServer setup.server
+  pub peer_nonce : length setup.peer.nonce ≡ 32
+  pub server_nonce : length setup.server.nonce ≡ 32
+
+-- whatever is delivered, lost, repeated, reordered, altered or injected: where each accepted tag was made
+-- earlier by the other end, two ends that both stand in SUCCESS agree
+abbrev pub HonestEndsAgree : Type 0
+HonestEndsAgree =
+    (setup : Setup) (events : List Event) → IsWhole setup →
+    (let w = run_after (world_start (world_made setup)).after events in
+    tags_verdict w.book ≡ Honest → is_success w.peer.vars.state ≡ true → is_success w.server.vars.state ≡ true → verdict_of w ≡ Agree)
+
+-- the reported suite is the first of the server's own list that the peer allows
+pub record TakesFirstSuite (setup : Setup) (report : Report) : Type 0 where
+  pub suite : Suite
+  pub picked : picked_suite setup.peer.suites (suite_list setup.server.suites) ≡ Some suite
+  pub is_suite : report.suite ≡ suite_number suite
+
+-- both ends hold one report, whose names are those of both setups; the server knows the peer by its name, with
+-- the peer's own key, and lets it in; by EAP-GPSK the suite is the one picked of the server's own list
+pub record AreTheirs (setup : Setup) (w : WorldNow) : Type 0 where
+  pub report : Report
+  pub holds : peer_reports w.peer ≡ Some report
+  pub same : server_reports w.server ≡ Some report
+  pub id_p : report.id_p ≡ setup.peer.name
+  pub id_s : report.id_s ≡ setup.server.name
+  pub user : User
+  pub known : user_of setup.server.users setup.peer.name report.method ≡ Some user
+  pub key : user.psk ≡ key_for setup.peer report.method
+  pub welcome : user.barred ≡ false
+  pub first_suite : report.method ≡ gpsk_kind → TakesFirstSuite setup report
+
+-- under the premises of agreement, what both ends report is their own: names, key and suite
+abbrev pub HonestNamesAreTheirs : Type 0
+HonestNamesAreTheirs =
+    (setup : Setup) (events : List Event) → IsWhole setup →
+    (let w = run_after (world_start (world_made setup)).after events in
+    tags_verdict w.book ≡ Honest → is_success w.peer.vars.state ≡ true → is_success w.server.vars.state ≡ true → AreTheirs setup w)
+
+-- at most two tags of each end and use, so at most eight entries
+pub record HasFewTags (book : List Entry) : Type 0 where
+  pub each : (end : End) (how : Use) → length (tags_by end how book) ≤ 2
+  pub all : length book ≤ 8
+
+-- the book stays small however many events there are
+abbrev pub FewTags : Type 0
+FewTags = (setup : Setup) (events : List Event) → HasFewTags (run_after (world_start (world_made setup)).after events).book

@@ -1,0 +1,4 @@
+pub mod Records
+pub mod PeerStands
+pub mod ServerStands
+pub mod Laws

@@ -1,0 +1,33 @@
+-- The tags of each end, taken out of the book in their order.
+use Rattle.std.specs.Prelude.{◌≤◌, List, [], ◌∷◌, length, Bool, true, false, ◌&&◌, if◌then◌else◌}
+use Rattle.eap_method.specs.declared.tags.TagRecord.{TagRecord}
+use Rattle.eap_world.specs.Book.{same_end}
+use Rattle.eap_world.specs.declared.book.End.{End}
+use Rattle.eap_world.specs.declared.book.Use.{Use}
+use Rattle.eap_world.specs.declared.book.Use.TheVariants.{Accepted, Made}
+use Rattle.eap_world.specs.declared.book.Entry.{Entry}
+
+abbrev pub same_use : Use → Use → Bool
+same_use Accepted Accepted = true
+same_use Accepted Made = false
+same_use Made Accepted = false
+same_use Made Made = true
+
+-- the tags that an end accepted, or made
+unfoldable pub tags_by : End → Use → List Entry → List TagRecord
+tags_by end how [] = []
+tags_by end how (e ∷ rest) = if same_end e.end end && same_use e.used how then e.tag ∷ tags_by end how rest else tags_by end how rest
+
+-- a record is among these
+pub data IsIn (tag : TagRecord) : List TagRecord → Type 0 where
+  here : (rest : List TagRecord) → IsIn tag (tag ∷ rest)
+  later : (other : TagRecord) (rest : List TagRecord) → IsIn tag rest → IsIn tag (other ∷ rest)
+
+-- each record of the first list is among the second
+pub record AreIn (some all : List TagRecord) : Type 0 where
+  pub each : (tag : TagRecord) → IsIn tag some → IsIn tag all
+
+-- at most two accepted and two made
+pub record AreFew (accepted made : List TagRecord) : Type 0 where
+  pub few_accepted : length accepted ≤ 2
+  pub few_made : length made ≤ 2

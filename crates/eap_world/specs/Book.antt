@@ -1,0 +1,67 @@
+-- The book of tags: which tags each end made and accepted, in their order, and whether each accepted tag
+-- was made earlier by the other end.
+use Rattle.std.specs.Prelude.{ℕ, List, [], ◌∷◌, ◌++◌, Bool, true, false, ◌==◌, ◌&&◌, not, if◌then◌else◌, Option, Some, None, map}
+use Rattle.std.specs.Str.{bytes_eq}
+use Rattle.std.specs.List.{list_any}
+use Rattle.eap_method.specs.declared.tags.Label.{Label}
+use Rattle.eap_method.specs.declared.tags.Label.TheVariants.{Ak, Tek, Sk}
+use Rattle.eap_method.specs.declared.tags.TagRecord.{TagRecord}
+use Rattle.eap_method.specs.declared.tags.Tags.{Tags}
+use Rattle.eap_world.specs.declared.book.End.{End}
+use Rattle.eap_world.specs.declared.book.End.TheVariants.{Peer, Server}
+use Rattle.eap_world.specs.declared.book.Use.{Use}
+use Rattle.eap_world.specs.declared.book.Use.TheVariants.{Accepted, Made}
+use Rattle.eap_world.specs.declared.book.Entry.{Entry}
+use Rattle.eap_world.specs.declared.book.TagsVerdict.{TagsVerdict}
+use Rattle.eap_world.specs.declared.book.TagsVerdict.TheVariants.{Honest, Broken}
+
+abbrev pub entry : ℕ → End → Use → TagRecord → Entry
+entry event end how tag = record { event = event; end = end; used = how; tag = tag }
+
+-- the entries of an event: the accepted tags before those made
+abbrev pub booked : ℕ → End → Tags → List Entry
+booked event end tags = map (entry event end Accepted) tags.accepted ++ map (entry event end Made) tags.made
+
+-- whether two ends, two labels, two records are the same
+abbrev pub same_end : End → End → Bool
+same_end Peer Peer = true
+same_end Peer Server = false
+same_end Server Peer = false
+same_end Server Server = true
+
+abbrev pub label_number : Label → ℕ
+label_number Ak = 0
+label_number Tek = 1
+label_number Sk = 2
+
+abbrev pub same_label : Label → Label → Bool
+same_label one other = label_number one == label_number other
+
+abbrev pub same_tag : TagRecord → TagRecord → Bool
+same_tag one other =
+    (one.method == other.method)
+    && (same_label one.label other.label && (bytes_eq one.psk other.psk && (bytes_eq one.octets other.octets && bytes_eq one.tag other.tag)))
+
+abbrev pub is_accepted : Entry → Bool
+is_accepted e = elim e.used [ Accepted ↦ true | Made ↦ false ]
+
+-- whether an entry is that of the same tag, made by the other end
+abbrev pub vouches : Entry → Entry → Bool
+vouches accepted made = not (is_accepted made) && (not (same_end made.end accepted.end) && same_tag made.tag accepted.tag)
+
+-- whether an entry is no accepted tag, or one that the other end made earlier
+abbrev pub is_honest : List Entry → Entry → Bool
+is_honest earlier e = if is_accepted e then list_any (vouches e) earlier else true
+
+-- the event of the first accepted tag which the other end hasn't made earlier
+unfoldable pub first_broken : List Entry → List Entry → Option ℕ
+first_broken earlier [] = None
+first_broken earlier (e ∷ rest) = if is_honest earlier e then first_broken (earlier ++ e ∷ []) rest else Some e.event
+
+abbrev pub verdict_on : Option ℕ → TagsVerdict
+verdict_on None = Honest
+verdict_on (Some event) = Broken event
+
+-- whether each accepted tag was made earlier by the other end
+abbrev pub tags_verdict : List Entry → TagsVerdict
+tags_verdict book = verdict_on (first_broken [] book)

@@ -1,0 +1,117 @@
+//! The book of tags.
+
+ghost use Rattle.std.specs.Prelude.{◌≡◌, ◌≤◌, ◌+◌, ◌++◌, map, vec_len, vec_capacity};
+ghost use Rattle.std.specs.List.{list_any};
+ghost use Rattle.eap_world.specs.Book.{entry, booked, tags_verdict, is_honest, vouches, same_tag};
+
+use eap_method::{TagList, TagRecord, Tags};
+
+/// One of the two ends of a login.
+#[derive(Clone, Copy, PartialEq, Eq, Debug)]
+pub enum End {
+    Peer,
+    Server,
+}
+
+/// What an end did with a tag.
+#[derive(Clone, Copy, PartialEq, Eq, Debug)]
+pub enum Use {
+    /// It found the tag right in a packet that it took.
+    Accepted,
+    /// It made the tag for a packet that it sent.
+    Made,
+}
+
+/// A tag that an end accepted or made.
+#[derive(Drop)]
+pub struct Entry {
+    /// The event in which it did.
+    pub event: u32,
+    pub end: End,
+    pub used: Use,
+    pub tag: TagRecord,
+}
+
+/// Whether each accepted tag was made earlier by the other end.
+#[derive(Clone, Copy, PartialEq, Eq, Debug)]
+pub enum TagsVerdict {
+    /// Each was.
+    Honest,
+    /// The first accepted tag that wasn't was accepted in this event.
+    Broken(u32),
+}
+
+/// Writes the tags of an event into the book, the accepted ones before those made. There is room.
+pub fn book_tags(book: &mut Vec<Entry>, event: u32, end: End, tags: &Tags)
+    requires { vec_len book.old + 4 ≤ vec_capacity book.old }
+    ensures items { book.new.items ≡ book.old.items ++ booked event end tags.now }
+    ensures few { vec_len book.new ≤ vec_len book.old + 4 }
+{
+    book_each(book, event, end, Use::Accepted, &tags.accepted);
+    book_each(book, event, end, Use::Made, &tags.made);
+}
+
+/// Writes these tags into the book. There is room.
+fn book_each(book: &mut Vec<Entry>, event: u32, end: End, used: Use, tags: &TagList)
+    requires { vec_len book.old + 2 ≤ vec_capacity book.old }
+    ensures items { book.new.items ≡ book.old.items ++ map (entry event end used) tags.now }
+    ensures few { vec_len book.new ≤ vec_len book.old + 2 }
+    ensures capacity { vec_capacity book.old ≤ vec_capacity book.new }
+{
+    for tag in tags.as_slice() {
+        let _ = book.push(Entry {
+            event,
+            end,
+            used,
+            tag: tag.copy(),
+        });
+    }
+}
+
+/// Whether each accepted tag of a book was made earlier by the other end.
+#[tactic(auto, using(crate::proofs::Booking::broken_more, crate::proofs::Booking::broken_here, crate::proofs::Booking::broken_all))]
+pub fn judge_tags(book: &[Entry]) -> TagsVerdict
+    ensures { result ≡ tags_verdict book.now }
+{
+    for place in 0..book.len() {
+        if !is_honest(&book[..place], &book[place]) {
+            return TagsVerdict::Broken(book[place].event);
+        }
+    }
+    TagsVerdict::Honest
+}
+
+/// Whether an entry is no accepted tag, or one that the other end made earlier.
+fn is_honest(earlier: &[Entry], entry: &Entry) -> bool
+    ensures { result ≡ is_honest earlier.now entry.now }
+{
+    match entry.used {
+        Use::Made => true,
+        Use::Accepted => is_vouched(earlier, entry),
+    }
+}
+
+/// Whether the other end made this tag earlier.
+fn is_vouched(earlier: &[Entry], accepted: &Entry) -> bool
+    ensures { result ≡ list_any (vouches accepted.now) earlier.now }
+{
+    earlier.iter().any(|made| vouches(accepted, made))
+}
+
+/// Whether an entry is that of the same tag, made by the other end.
+fn vouches(accepted: &Entry, made: &Entry) -> bool
+    ensures { result ≡ vouches accepted.now made.now }
+{
+    made.used == Use::Made && made.end != accepted.end && is_same(&made.tag, &accepted.tag)
+}
+
+/// Whether two records are equal.
+fn is_same(one: &TagRecord, other: &TagRecord) -> bool
+    ensures { result ≡ same_tag one.now other.now }
+{
+    one.method == other.method
+        && one.label == other.label
+        && one.psk.as_slice() == other.psk.as_slice()
+        && one.octets.as_slice() == other.octets.as_slice()
+        && one.tag.as_slice() == other.tag.as_slice()
+}

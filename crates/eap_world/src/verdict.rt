@@ -1,0 +1,114 @@
+//! Whether both ends agree.
+
+ghost use Rattle.std.specs.Prelude.{◌≡◌};
+ghost use Rattle.eap_base.specs.Setup.{is_among};
+ghost use Rattle.eap_method.specs.Names.{accepts_name};
+ghost use Rattle.eap_base.specs.Users.{user_of};
+ghost use Rattle.eap_world.specs.Verdict.{same_report, allows_suite, peer_agrees, server_agrees, agree, judged, is_welcome};
+
+use eap_base::{Accepts, PeerSetup, ServerSetup};
+use eap_method::Report;
+
+/// What came of a login.
+#[derive(Clone, Copy, PartialEq, Eq, Debug)]
+pub enum Verdict {
+    /// Both ends report success, with the same method, identities, suite and keys, which both policies
+    /// allow.
+    Agree,
+    /// Both ends report success, but not the same, or what a policy doesn't allow.
+    Apart,
+    /// Not both ends report success.
+    Unfinished,
+}
+
+/// Type 51, EAP-GPSK.
+const GPSK: u8 = 51;
+
+/// Whether both reports are there and agree.
+pub fn judge_reports(
+    peer: &PeerSetup,
+    server: &ServerSetup,
+    one: &Option<Report>,
+    other: &Option<Report>,
+) -> bool
+    ensures { result ≡ judged peer.now server.now one.now other.now }
+{
+    match one {
+        None => false,
+        Some(one) => match other {
+            None => false,
+            Some(other) => agree(peer, server, one, other),
+        },
+    }
+}
+
+/// Whether both reports are equal, and both policies allow them.
+fn agree(peer: &PeerSetup, server: &ServerSetup, one: &Report, other: &Report) -> bool
+    ensures { result ≡ agree peer.now server.now one.now other.now }
+{
+    is_same(one, other) && peer_agrees(peer, one) && server_agrees(server, one)
+}
+
+/// Whether two reports are equal.
+fn is_same(one: &Report, other: &Report) -> bool
+    ensures { result ≡ same_report one.now other.now }
+{
+    one.method == other.method
+        && one.id_p.as_slice() == other.id_p.as_slice()
+        && one.id_s.as_slice() == other.id_s.as_slice()
+        && one.suite == other.suite
+        && one.msk.as_slice() == other.msk.as_slice()
+        && one.emsk.as_slice() == other.emsk.as_slice()
+}
+
+/// Whether the peer's policy allows the method, the server's name and the suite.
+fn peer_agrees(setup: &PeerSetup, report: &Report) -> bool
+    ensures { result ≡ peer_agrees setup.now report.now }
+{
+    is_among(setup.methods.as_slice(), report.method)
+        && accepts(&setup.accepts, report.id_s.as_slice())
+        && allows_suite(setup.suites.as_slice(), report)
+}
+
+/// Whether the server's policy allows the method, the suite and the user.
+fn server_agrees(setup: &ServerSetup, report: &Report) -> bool
+    ensures { result ≡ server_agrees setup.now report.now }
+{
+    is_among(setup.methods.as_slice(), report.method)
+        && allows_suite(setup.suites.as_slice(), report)
+        && welcomes(setup, report)
+}
+
+/// Whether the server has a user of this name and method who isn't barred.
+fn welcomes(setup: &ServerSetup, report: &Report) -> bool
+    ensures { result ≡ is_welcome (user_of setup.now.users report.now.id_p report.now.method) }
+{
+    match setup.users.find(report.id_p.as_slice(), report.method) {
+        None => false,
+        Some(user) => !user.barred,
+    }
+}
+
+/// Whether the suite is allowed; EAP-PSK has none.
+fn allows_suite(suites: &[u8], report: &Report) -> bool
+    ensures { result ≡ allows_suite suites.now report.now }
+{
+    report.method != GPSK || is_among(suites, report.suite)
+}
+
+/// Whether a name is accepted.
+fn accepts(accepts: &Accepts, name: &[u8]) -> bool
+    ensures { result ≡ accepts_name accepts.now name.now }
+{
+    match accepts {
+        Accepts::Any => true,
+        Accepts::One(accepted) => accepted.as_slice() == name,
+    }
+}
+
+/// Whether a number is among these.
+fn is_among(numbers: &[u8], number: u8) -> bool
+    ensures { result ≡ is_among numbers.now number }
+{
+    numbers.iter().any(|other| *other == number)
+}
