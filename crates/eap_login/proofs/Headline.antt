@@ -4,12 +4,8 @@ use Rattle.std.specs.Prelude.{if◌then◌else◌, ◌&&◌, nat_le, IfOk}
 use Rattle.eap_base.specs.declared.event.Event.{Event}
 use Rattle.eap_base.specs.declared.setup.Setup.{Setup}
 use Rattle.eap_base.specs.Lines.{Lines, ended, too_long, too_much, line, lines}
-use Rattle.agreement.specs.Laws.{IsWhole}
-use Rattle.agreement.proofs.Agreement.{honest_ends_agree}
-use Rattle.eap_world.specs.Verdict.{verdict_of, is_success}
-use Rattle.eap_world.specs.declared.verdict.Verdict.{Verdict}
-use Rattle.eap_world.specs.declared.verdict.Verdict.TheVariants.{Agree, Apart, Unfinished}
-use Rattle.eap_world.specs.World.{WorldNow}
+use Rattle.eap_world.specs.Agreement.{IsWhole}
+use Rattle.eap_world.proofs.Agreement.{honest_ends_agree}
 use Rattle.scenario_text.specs.Reading.{Reading, ReadLine, no_settings, read_line}
 use Rattle.scenario_text.specs.Valid.{AreValid, IsValidSetup, IsValidItem, IsValidReadLine}
 use Rattle.scenario_text.specs.declared.fault.LineFault.{LineFault}
@@ -17,7 +13,7 @@ use Rattle.scenario_text.specs.declared.scenario.Item.{Item}
 use Rattle.scenario_text.specs.declared.scenario.Item.TheVariants as item
 use Rattle.scenario_text.specs.declared.scenario.Phase.TheVariants as phase
 use Rattle.scenario_text.proofs.ValidReading.{no_settings-valid, read_line-valid}
-use Rattle.eap_login.specs.Headline.{run_of, HonestEndsAgree}
+use Rattle.eap_login.specs.Headline.{HonestEndsAgree}
 use Rattle.eap_login.specs.Replay.{max_events}
 use Rattle.eap_login.specs.Scenario.{Scenario, stops, too_much_at, adds, is_event, with_line, events_after, read_after, scenario_from, scenario_of}
 
@@ -64,30 +60,6 @@ whole_if_valid setup valid = record {
   server_nonce = valid.server.nonce;
 }
 
--- ---- the verdict
-
-record BothIn (one other : Bool) : Type 0 where
-  pub one_in : one ≡ true
-  pub other_in : other ≡ true
-
-apart_only : (one other same : Bool) → (let verdict : Verdict = if one && other then (if same then Agree else Apart) else Unfinished in verdict) ≡ Apart → BothIn one other
-apart_only true true same e = record { one_in = refl; other_in = refl }
-apart_only true false same e = cc
-apart_only false other same e = cc
-
-apart_in : (w : WorldNow) → verdict_of w ≡ Apart → BothIn (is_success w.peer.vars.state) (is_success w.server.vars.state)
-unfolding verdict_of
-apart_in w e = apart_only (is_success w.peer.vars.state) (is_success w.server.vars.state) _ e
-
-not_both : (verdict : Verdict) → verdict ≡ Agree → verdict ≡ Apart → ⊥
-not_both verdict agrees apart = cc
-
 pub headline : (octets : List ℕ) → HonestEndsAgree octets
 headline octets setup is =
-    let whole = whole_if_valid setup (setup_valid (lines octets) 0 0 (record { phase = phase.Unread; settings = no_settings }) setup no_settings-valid is) in
-    let w = run_of setup (scenario_of octets).events in
-    let agree = honest_ends_agree setup (scenario_of octets).events whole in
-    record {
-      agrees = agree;
-      never_apart = λ honest apart. (let both = apart_in w apart in not_both (verdict_of w) (agree honest both.one_in both.other_in) apart);
-    }
+    honest_ends_agree setup (scenario_of octets).events (whole_if_valid setup (setup_valid (lines octets) 0 0 (record { phase = phase.Unread; settings = no_settings }) setup no_settings-valid is))

@@ -7,6 +7,7 @@ use Rattle.eap_base.specs.declared.setup.Party.{Party}
 use Rattle.eap_base.specs.declared.setup.Party.TheVariants as party
 use Rattle.eap_base.specs.declared.event.Event.{Event}
 use Rattle.eap_base.specs.declared.event.Event.TheVariants as event
+use Rattle.eap_packet.specs.declared.state.State.{State}
 use Rattle.eap_method.specs.Peer.{PeerShown}
 use Rattle.eap_method.specs.Server.{ServerShown}
 use Rattle.eap_method.specs.Steps.{is_end}
@@ -196,6 +197,12 @@ abbrev pub named_by : Held → Acted → Action → Option Named
 named_by held out (Skipped skip) = None
 named_by held out (Peer is_delivery step) = first_report held.peer party.Peer (peer_reports out.peer)
 named_by held out (Server is_delivery step) = first_report held.server party.Server (server_reports out.server)
+
+-- where a party stands; no pass-through is there
+abbrev pub state_of : WorldNow → Party → Option State
+state_of w party.Peer = Some w.peer.vars.state
+state_of w party.Pass = None
+state_of w party.Server = Some w.server.vars.state
 
 -- which ends have held a report
 abbrev pub held_by : Held → Party → Held

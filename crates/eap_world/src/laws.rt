@@ -1,5 +1,6 @@
 //! Laws of both ends over events. Each is the contract of a function that does nothing.
 
+ghost use Rattle.eap_world.specs.Agreement.{HonestEndsAgree, HonestNamesAreTheirs, FewTags};
 ghost use Rattle.eap_world.specs.Laws.{DiscardsKeep, RunsTellReports};
 
 /// An event that an end discards changes nothing but the counts: no variable and no method's view at
@@ -14,4 +15,27 @@ pub fn discards_keep()
 #[tactic(auto, using(crate::proofs::Discards::runs_tell_reports))]
 pub fn runs_tell_reports()
     ensures { RunsTellReports }
+{}
+/// Whatever is delivered, lost, repeated, reordered, altered or injected: where each tag that an end
+/// accepted was made earlier by the other end, two ends that both stand in SUCCESS agree in method,
+/// identities, suite, MSK and EMSK, which both policies allow.
+#[tactic(auto, using(crate::proofs::Agreement::honest_ends_agree))]
+pub fn honest_ends_agree()
+    ensures { HonestEndsAgree }
+{}
+
+/// Under the premises of [`honest_ends_agree`], both ends report one value, and it speaks of them: ID_Peer
+/// and ID_Server are the names of their own setups, the server has a user of that name and method who is
+/// not barred, and the user's PSK is the peer's own. By EAP-GPSK the ciphersuite is the first of the
+/// server's own CSuite_List that the peer allows (RFC 5433 section 3): no alteration of GPSK-1
+/// brings both ends to a weaker one.
+#[tactic(auto, using(crate::proofs::Whose::honest_names_are_theirs))]
+pub fn honest_names_are_theirs()
+    ensures { HonestNamesAreTheirs }
+{}
+
+/// However many events there are, each end accepts at most two tags and makes at most two, so that the
+/// book holds at most eight.
+pub fn few_tags()
+    ensures { FewTags }
 {}

@@ -13,7 +13,9 @@ mod world;
 
 pub use act::{Action, Sent};
 pub use book::{End, Entry, TagsVerdict, Use};
-pub use laws::{discards_keep, runs_tell_reports};
+pub use laws::{
+    discards_keep, few_tags, honest_ends_agree, honest_names_are_theirs, runs_tell_reports,
+};
 pub use told::{Counts, Named, SentPacket, Skip, Told};
 pub use verdict::Verdict;
 pub use world::{Held, MAX_EVENTS, Memory, Methods, World};

@@ -115,8 +115,10 @@ fn identity_round(rt: HostRuntime) -> Result<(), Fail> {
         discards: 0,
     };
     assert_eq!(rt; world.counts(), counts);
-    assert_eq!(rt; world.peer_state(), State::Failure);
-    assert_eq!(rt; world.server_state(), State::Failure);
+    assert_eq!(rt; world.mode(), Mode::Alone);
+    assert_eq!(rt; world.state(Party::Peer), Some(State::Failure));
+    assert_eq!(rt; world.state(Party::Server), Some(State::Failure));
+    assert_eq!(rt; world.state(Party::Pass), None);
     assert_eq!(rt; world.tags(), TagsVerdict::Honest);
     assert_eq!(rt; world.result(), Verdict::Unfinished);
     assert!(rt; world.into_methods().peer.is_empty());

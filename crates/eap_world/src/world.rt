@@ -14,7 +14,7 @@ use crate::act::{Action, Sent, act};
 use crate::book::{End, Entry, TagsVerdict, book_tags, judge_tags};
 use crate::told::{Counts, Named, SentPacket, Told};
 use crate::verdict::{Verdict, judge_reports};
-use eap_base::{Event, Packet, Party, Port, Setup};
+use eap_base::{Event, Mode, Packet, Party, Port, Setup};
 use eap_method::{PeerMethod, ServerMethod, Step};
 use eap_packet::{Path, State};
 use peer_machine::PeerMachine;
@@ -75,9 +75,12 @@ impl<P, S> Model for World<P, S> {
 impl<P: PeerMethod, S: ServerMethod> World<P, S> {
     ghost use Rattle.eap_method.specs.Peer.{peer_kinds, have_each};
     ghost use Rattle.eap_method.specs.Server.{server_kinds};
+    ghost use Rattle.eap_world.specs.Agreement.{IsOfRun};
     ghost use Rattle.eap_world.specs.Book.{tags_verdict};
+    ghost use Rattle.eap_world.specs.declared.book.TagsVerdict.TheVariants.{Honest};
+    ghost use Rattle.eap_world.specs.declared.verdict.Verdict.TheVariants.{Apart};
     ghost use Rattle.eap_world.specs.Verdict.{verdict_of};
-    ghost use Rattle.eap_world.specs.World.{WorldOutcome, world_outcome, world_made, world_start, world_step, now_of};
+    ghost use Rattle.eap_world.specs.World.{WorldOutcome, world_outcome, world_made, world_start, world_step, now_of, state_of};
 
     /// The world of a setup, in which the peer has begun and the server hasn't started. The server
     /// answers by itself; each method that an end allows or proposes has an object. It takes no memory.
@@ -175,6 +178,24 @@ impl<P: PeerMethod, S: ServerMethod> World<P, S> {
         self.started
     }
 
+    /// The mode: the server answers by itself.
+    pub fn mode(&self) -> Mode
+        ensures { result ≡ Alone }
+    {
+        Mode::Alone
+    }
+
+    /// The state of a party (RFC 4137 sections 4.5 and 5.5); None for the pass-through, which isn't there.
+    pub fn state(&self, party: Party) -> Option<State>
+        ensures { result ≡ state_of (now_of P.peer_shown S.server_shown self.now) party }
+    {
+        match party {
+            Party::Peer => Some(self.peer_state()),
+            Party::Pass => None,
+            Party::Server => Some(self.server_state()),
+        }
+    }
+
     /// The state of the peer (RFC 4137 section 4.5).
     pub fn peer_state(&self) -> State
         ensures { result ≡ self.now.peer.vars.state }
@@ -204,9 +225,19 @@ impl<P: PeerMethod, S: ServerMethod> World<P, S> {
         judge_tags(self.book.as_slice())
     }
 
+    /// Whether both ends agree. In every run of a setup whose ends are sound, with nonces of 32 octets,
+    /// it is never Apart where [`World::tags`] is Honest.
+    #[tactic(auto, using(crate::proofs::Agreement::never_apart))]
+    pub fn result(&self) -> Verdict
+        ensures value { result ≡ verdict_of (now_of P.peer_shown S.server_shown self.now) }
+        ensures never_apart { IsOfRun (now_of P.peer_shown S.server_shown self.now) → tags_verdict self.now.book ≡ Honest → result ≡ Apart → ⊥ }
+    {
+        self.verdict()
+    }
+
     /// Whether both ends agree.
     #[tactic(auto, unfolding(crate::specs::Verdict::verdict_of))]
-    pub fn result(&self) -> Verdict
+    fn verdict(&self) -> Verdict
         ensures { result ≡ verdict_of (now_of P.peer_shown S.server_shown self.now) }
     {
         if self.peer.state() == State::Success && self.server.state() == State::Success {

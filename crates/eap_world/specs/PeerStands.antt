@@ -18,7 +18,7 @@ use Rattle.eap_method.specs.PskPeer as psk
 use Rattle.eap_method.specs.PskTags.{ak_record}
 use Rattle.peer_machine.specs.PeerTable.{PeerNow}
 use Rattle.eap_world.specs.Verdict.{is_success}
-use Rattle.agreement.specs.Records.{AreFew}
+use Rattle.eap_world.specs.Records.{AreFew}
 
 -- a login by EAP-PSK that the peer has begun: what it keeps is its setup's, or was read of a PSK-1
 pub record PskBegun (setup : PeerSetup) (login : psk.Login) : Type 0 where

@@ -19,9 +19,9 @@ use Rattle.eap_world.specs.declared.book.End.{End}
 use Rattle.eap_world.specs.declared.book.Entry.{Entry}
 use Rattle.eap_world.specs.declared.book.Use.{Use}
 use Rattle.eap_world.specs.Verdict.{verdict_of, is_success}
-use Rattle.eap_world.specs.declared.verdict.Verdict.TheVariants.{Agree}
+use Rattle.eap_world.specs.declared.verdict.Verdict.TheVariants.{Agree, Apart}
 use Rattle.eap_world.specs.World.{WorldNow, world_made, world_start, run_after}
-use Rattle.agreement.specs.Records.{tags_by}
+use Rattle.eap_world.specs.Records.{tags_by}
 
 -- a setup as a scenario gives it: both ends are sound, and each nonce has 32 octets
 pub record IsWhole (setup : Setup) : Type 0 where
@@ -31,13 +31,27 @@ pub record IsWhole (setup : Setup) : Type 0 where
   pub peer_nonce : length setup.peer.nonce ≡ 32
   pub server_nonce : length setup.server.nonce ≡ 32
 
+-- the world after the run of these events
+abbrev pub run_of : Setup → List Event → WorldNow
+run_of setup events = run_after (world_start (world_made setup)).after events
+
+-- a world at some moment of a run of a whole setup
+pub record IsOfRun (w : WorldNow) : Type 0 where
+  pub setup : Setup
+  pub events : List Event
+  pub whole : IsWhole setup
+  pub is_after : w ≡ run_of setup events
+
+-- over an honest book two ends that both stand in SUCCESS agree, and the verdict is never that they don't
+pub record AgreesWhereHonest (w : WorldNow) : Type 0 where
+  pub agrees : tags_verdict w.book ≡ Honest → is_success w.peer.vars.state ≡ true → is_success w.server.vars.state ≡ true → verdict_of w ≡ Agree
+  pub never_apart : tags_verdict w.book ≡ Honest → verdict_of w ≡ Apart → ⊥
+
 -- whatever is delivered, lost, repeated, reordered, altered or injected: where each accepted tag was made
 -- earlier by the other end, two ends that both stand in SUCCESS agree
 abbrev pub HonestEndsAgree : Type 0
 HonestEndsAgree =
-    (setup : Setup) (events : List Event) → IsWhole setup →
-    (let w = run_after (world_start (world_made setup)).after events in
-    tags_verdict w.book ≡ Honest → is_success w.peer.vars.state ≡ true → is_success w.server.vars.state ≡ true → verdict_of w ≡ Agree)
+    (setup : Setup) (events : List Event) → IsWhole setup → AgreesWhereHonest (run_of setup events)
 
 -- the reported suite is the first of the server's own list that the peer allows
 pub record TakesFirstSuite (setup : Setup) (report : Report) : Type 0 where
@@ -63,7 +77,7 @@ pub record AreTheirs (setup : Setup) (w : WorldNow) : Type 0 where
 abbrev pub HonestNamesAreTheirs : Type 0
 HonestNamesAreTheirs =
     (setup : Setup) (events : List Event) → IsWhole setup →
-    (let w = run_after (world_start (world_made setup)).after events in
+    (let w = run_of setup events in
     tags_verdict w.book ≡ Honest → is_success w.peer.vars.state ≡ true → is_success w.server.vars.state ≡ true → AreTheirs setup w)
 
 -- at most two tags of each end and use, so at most eight entries
@@ -73,4 +87,4 @@ pub record HasFewTags (book : List Entry) : Type 0 where
 
 -- the book stays small however many events there are
 abbrev pub FewTags : Type 0
-FewTags = (setup : Setup) (events : List Event) → HasFewTags (run_after (world_start (world_made setup)).after events).book
+FewTags = (setup : Setup) (events : List Event) → HasFewTags (run_of setup events).book

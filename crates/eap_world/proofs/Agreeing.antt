@@ -14,14 +14,14 @@ use Rattle.eap_method.specs.GpskTags.{sk_record}
 use Rattle.peer_machine.specs.PeerTable.{PeerNow, peer_reports}
 use Rattle.server_machine.specs.ServerTable.{ServerNow, server_reports}
 use Rattle.eap_world.specs.Verdict.{judged, is_success}
-use Rattle.agreement.specs.Records.{IsIn, AreIn, here}
-use Rattle.agreement.specs.PeerStands as peers
-use Rattle.agreement.specs.PeerStands.{PeerStands}
-use Rattle.agreement.specs.ServerStands as servers
-use Rattle.agreement.specs.ServerStands.{ServerStands}
-use Rattle.agreement.proofs.Among.{among_two}
-use Rattle.agreement.proofs.GpskAgrees as gpsk
-use Rattle.agreement.proofs.PskAgrees as psk
+use Rattle.eap_world.specs.Records.{IsIn, AreIn, here}
+use Rattle.eap_world.specs.PeerStands as peers
+use Rattle.eap_world.specs.PeerStands.{PeerStands}
+use Rattle.eap_world.specs.ServerStands as servers
+use Rattle.eap_world.specs.ServerStands.{ServerStands}
+use Rattle.eap_world.proofs.Among.{among_two}
+use Rattle.eap_world.proofs.GpskAgrees as gpsk
+use Rattle.eap_world.proofs.PskAgrees as psk
 
 -- an end that hasn't succeeded doesn't stand in SUCCESS
 unsure_stops : (state : State) → is_success state ≡ false → is_success state ≡ true → ⊥

@@ -38,8 +38,8 @@ use Rattle.server_machine.specs.ServerTable.{ServerNow, ServerAnswer, answer, se
 use Rattle.server_machine.specs.declared.variables.Progress.TheVariants as progress
 use Rattle.server_machine.specs.declared.variables.ServerVariables.{ServerVariables}
 use Rattle.eap_world.specs.Verdict.{is_success}
-use Rattle.agreement.specs.Records.{AreFew}
-use Rattle.agreement.specs.ServerStands.{PskChecked, GpskChecked, psk2_record, gpsk2_taken, HasNoTags, before, asks_identity, asks_psk, asks_gpsk, refuses_gpsk, ended, ServerStands, begins, psk_checks, psk_succeeds, gpsk_checks, gpsk_bars, gpsk_succeeds, fails}
+use Rattle.eap_world.specs.Records.{AreFew}
+use Rattle.eap_world.specs.ServerStands.{PskChecked, GpskChecked, psk2_record, gpsk2_taken, HasNoTags, before, asks_identity, asks_psk, asks_gpsk, refuses_gpsk, ended, ServerStands, begins, psk_checks, psk_succeeds, gpsk_checks, gpsk_bars, gpsk_succeeds, fails}
 
 -- after a call the invariant stands, with the tags of its step
 pub record Keeps (setup : ServerSetup) (accepted made : List TagRecord) (out : ServerAnswer) : Type 0 where

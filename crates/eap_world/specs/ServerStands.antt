@@ -19,7 +19,7 @@ use Rattle.eap_method.specs.Server.{side_of}
 use Rattle.eap_method.specs.Steps.{is_end}
 use Rattle.server_machine.specs.ServerTable.{ServerNow, identity, is_proposed}
 use Rattle.eap_world.specs.Verdict.{is_success}
-use Rattle.agreement.specs.Records.{AreFew}
+use Rattle.eap_world.specs.Records.{AreFew}
 
 -- a login by EAP-PSK of a user: what the server keeps is its setup's, or was read of a PSK-2
 pub record PskChecked (setup : ServerSetup) (login : psk.Login) : Type 0 where

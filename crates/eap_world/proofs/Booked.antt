@@ -15,7 +15,7 @@ use Rattle.eap_world.specs.declared.book.End.TheVariants.{Peer, Server}
 use Rattle.eap_world.specs.declared.book.Use.{Use}
 use Rattle.eap_world.specs.declared.book.Use.TheVariants.{Accepted, Made}
 use Rattle.eap_world.specs.declared.book.Entry.{Entry}
-use Rattle.agreement.specs.Records.{same_use, tags_by, IsIn, here, later, AreIn}
+use Rattle.eap_world.specs.Records.{same_use, tags_by, IsIn, here, later, AreIn}
 
 -- ---- the lists of a longer book
 

@@ -23,10 +23,10 @@ use Rattle.eap_world.specs.declared.book.End.TheVariants as end
 use Rattle.eap_world.specs.declared.book.Entry.{Entry}
 use Rattle.eap_world.specs.declared.book.Use.TheVariants.{Accepted, Made}
 use Rattle.eap_world.specs.declared.told.Skip.{Skip}
-use Rattle.agreement.specs.PeerStands.{PeerStands}
-use Rattle.agreement.specs.ServerStands.{ServerStands}
-use Rattle.agreement.specs.Records.{tags_by}
-use Rattle.agreement.proofs.Booked as book
+use Rattle.eap_world.specs.PeerStands.{PeerStands}
+use Rattle.eap_world.specs.ServerStands.{ServerStands}
+use Rattle.eap_world.specs.Records.{tags_by}
+use Rattle.eap_world.proofs.Booked as book
 
 -- both ends stand as their views tell, with the tags of each in the book
 pub record BothStand (setup : Setup) (peer : PeerNow) (server : ServerNow) (entries : List Entry) : Type 0 where

@@ -15,15 +15,15 @@ use Rattle.eap_method.specs.Server.{server_report_of, psk_report}
 use Rattle.peer_machine.specs.PeerTable.{PeerNow, selected_report, peer_reports}
 use Rattle.server_machine.specs.ServerTable.{ServerNow, current_report, server_reports}
 use Rattle.eap_world.specs.Verdict.{judged, peer_agrees, server_agrees, is_welcome}
-use Rattle.agreement.specs.Records.{IsIn}
-use Rattle.agreement.specs.PeerStands.{PskBegun}
-use Rattle.agreement.specs.PeerStands as peer_stands
-use Rattle.agreement.specs.ServerStands.{PskChecked}
-use Rattle.agreement.specs.ServerStands as server_stands
-use Rattle.agreement.proofs.Fields.{ends}
-use Rattle.agreement.proofs.PskFields.{front_size, read_rand}
-use Rattle.agreement.proofs.Among.{among_two}
-use Rattle.agreement.proofs.Agrees.{reports_agree}
+use Rattle.eap_world.specs.Records.{IsIn}
+use Rattle.eap_world.specs.PeerStands.{PskBegun}
+use Rattle.eap_world.specs.PeerStands as peer_stands
+use Rattle.eap_world.specs.ServerStands.{PskChecked}
+use Rattle.eap_world.specs.ServerStands as server_stands
+use Rattle.eap_world.proofs.Fields.{ends}
+use Rattle.eap_world.proofs.PskFields.{front_size, read_rand}
+use Rattle.eap_world.proofs.Among.{among_two}
+use Rattle.eap_world.proofs.Agrees.{reports_agree}
 
 -- both ends speak of the same login
 pub record IsSame (p : peer.Login) (s : server.Login) : Type 0 where

@@ -37,8 +37,8 @@ use Rattle.method_laws.proofs.PskPeerCases.{psk_peer_steps_are_rows}
 use Rattle.peer_machine.specs.PeerTable.{PeerNow, PeerAnswer, answer, with_vars, peer_made, is_cont, is_done, is_fail, is_last_id, is_uncond, method_answers, peer_method, get_method, new_request, peer_success, peer_failure, peer_row, peer_deliver, peer_idle, peer_alt_accept, peer_alt_reject}
 use Rattle.peer_machine.specs.declared.variables.PeerVariables.{PeerVariables}
 use Rattle.eap_world.specs.Verdict.{is_success}
-use Rattle.agreement.specs.Records.{AreFew}
-use Rattle.agreement.specs.PeerStands.{psk2_record, gpsk2_record, PeerStands, begins, psk_waits, psk_fails, psk_succeeds, gpsk_waits, gpsk_fails, gpsk_succeeds}
+use Rattle.eap_world.specs.Records.{AreFew}
+use Rattle.eap_world.specs.PeerStands.{psk2_record, gpsk2_record, PeerStands, begins, psk_waits, psk_fails, psk_succeeds, gpsk_waits, gpsk_fails, gpsk_succeeds}
 
 pub peer_begins : (setup : PeerSetup) → PeerStands setup (peer_made setup) [] []
 peer_begins setup = begins refl refl refl refl refl

@@ -1,5 +1,5 @@
 -- Two ends that both succeed over an honest book agree.
-use Rattle.std.proofs.Common.{◌≡◌, ℕ, List, [], Bool, true, false, Option, Some, None, refl, length}
+use Rattle.std.proofs.Common.{◌≡◌, ℕ, List, [], Bool, true, false, Option, Some, None, refl, sym, subst, length}
 use Rattle.std.specs.Prelude.{if◌then◌else◌, ◌&&◌}
 use Rattle.eap_base.specs.declared.event.Event.{Event}
 use Rattle.eap_base.specs.declared.setup.PeerSetup.{PeerSetup}
@@ -14,18 +14,18 @@ use Rattle.eap_world.specs.declared.book.TagsVerdict.TheVariants.{Honest}
 use Rattle.eap_world.specs.Verdict.{verdict_of, is_success, judged}
 use Rattle.eap_world.specs.declared.verdict.Verdict.{Verdict}
 use Rattle.eap_world.specs.declared.verdict.Verdict.TheVariants.{Agree, Apart, Unfinished}
-use Rattle.eap_world.specs.World.{WorldNow, world_made, world_start, run_after}
+use Rattle.eap_world.specs.World.{WorldNow, world_made, world_start}
 use Rattle.eap_world.specs.declared.book.End.TheVariants as end
-use Rattle.agreement.specs.Laws.{IsWhole, HonestEndsAgree}
-use Rattle.agreement.specs.PeerStands.{PeerStands, begins, psk_waits, psk_fails, psk_succeeds, gpsk_waits, gpsk_fails, gpsk_succeeds}
-use Rattle.agreement.specs.ServerStands as server
-use Rattle.agreement.specs.ServerStands.{ServerStands}
-use Rattle.agreement.specs.Records.{AreIn, tags_by}
-use Rattle.agreement.proofs.Booked.{honest_tags}
-use Rattle.agreement.proofs.Running.{BothStand, run_stands, PeerKeeps, ServerKeeps}
-use Rattle.agreement.proofs.PeerKeeps as peer_calls
-use Rattle.agreement.proofs.ServerKeeps as server_calls
-use Rattle.agreement.proofs.Agreeing.{ends_agree}
+use Rattle.eap_world.specs.Agreement.{IsWhole, IsOfRun, AgreesWhereHonest, HonestEndsAgree, run_of}
+use Rattle.eap_world.specs.PeerStands.{PeerStands, begins, psk_waits, psk_fails, psk_succeeds, gpsk_waits, gpsk_fails, gpsk_succeeds}
+use Rattle.eap_world.specs.ServerStands as server
+use Rattle.eap_world.specs.ServerStands.{ServerStands}
+use Rattle.eap_world.specs.Records.{AreIn, tags_by}
+use Rattle.eap_world.proofs.Booked.{honest_tags}
+use Rattle.eap_world.proofs.Running.{BothStand, run_stands, PeerKeeps, ServerKeeps}
+use Rattle.eap_world.proofs.PeerKeeps as peer_calls
+use Rattle.eap_world.proofs.ServerKeeps as server_calls
+use Rattle.eap_world.proofs.Agreeing.{ends_agree}
 
 pub none_if_honest : (o : Option ℕ) → verdict_on o ≡ Honest → o ≡ None
 none_if_honest None e = refl
@@ -103,10 +103,39 @@ start_stands setup = record {
 }
 
 pub every_run_stands : (setup : Setup) (events : List Event)
-    → (let w = run_after (world_start (world_made setup)).after events in BothStand setup w.peer w.server w.book)
+    → (let w = run_of setup events in BothStand setup w.peer w.server w.book)
 every_run_stands setup events =
     run_stands peer_answers peer_idles peer_accepts peer_rejects server_answers server_times setup (world_start (world_made setup)).after events (start_stands setup)
 
+-- ---- the verdict
+
+record BothIn (one other : Bool) : Type 0 where
+  pub one_in : one ≡ true
+  pub other_in : other ≡ true
+
+apart_only : (one other same : Bool) → (let verdict : Verdict = if one && other then (if same then Agree else Apart) else Unfinished in verdict) ≡ Apart → BothIn one other
+apart_only true true same e = record { one_in = refl; other_in = refl }
+apart_only true false same e = cc
+apart_only false other same e = cc
+
+apart_in : (w : WorldNow) → verdict_of w ≡ Apart → BothIn (is_success w.peer.vars.state) (is_success w.server.vars.state)
+unfolding verdict_of
+apart_in w e = apart_only (is_success w.peer.vars.state) (is_success w.server.vars.state) _ e
+
+not_both : (verdict : Verdict) → verdict ≡ Agree → verdict ≡ Apart → ⊥
+not_both verdict agrees apart = cc
+
 pub honest_ends_agree : HonestEndsAgree
-honest_ends_agree setup events whole honest p_in s_in =
-    stand_agree ends_agree setup whole (run_after (world_start (world_made setup)).after events) (every_run_stands setup events) honest p_in s_in
+honest_ends_agree setup events whole =
+    let w = run_of setup events in
+    let agree = stand_agree ends_agree setup whole w (every_run_stands setup events) in
+    record {
+      agrees = agree;
+      never_apart = λ honest apart. (let both = apart_in w apart in not_both (verdict_of w) (agree honest both.one_in both.other_in) apart);
+    }
+
+world_agrees : (w : WorldNow) → IsOfRun w → AgreesWhereHonest w
+world_agrees w run = subst AgreesWhereHonest (sym run.is_after) (honest_ends_agree run.setup run.events run.whole)
+
+pub never_apart : (w : WorldNow) (verdict : Verdict) → verdict ≡ verdict_of w → IsOfRun w → tags_verdict w.book ≡ Honest → verdict ≡ Apart → ⊥
+never_apart w verdict is run honest apart = (world_agrees w run).never_apart honest cc

@@ -11,12 +11,12 @@ use Rattle.eap_world.specs.declared.book.End.TheVariants.{Peer, Server}
 use Rattle.eap_world.specs.declared.book.Entry.{Entry}
 use Rattle.eap_world.specs.declared.book.Use.{Use}
 use Rattle.eap_world.specs.declared.book.Use.TheVariants.{Accepted, Made}
-use Rattle.agreement.specs.Laws.{HasFewTags, FewTags}
-use Rattle.agreement.specs.Records.{AreFew, same_use, tags_by}
-use Rattle.agreement.proofs.Agreement.{every_run_stands}
-use Rattle.agreement.proofs.PeerKeeps.{peer_few}
-use Rattle.agreement.proofs.Running.{BothStand}
-use Rattle.agreement.proofs.ServerKeeps.{server_few}
+use Rattle.eap_world.specs.Agreement.{HasFewTags, FewTags}
+use Rattle.eap_world.specs.Records.{AreFew, same_use, tags_by}
+use Rattle.eap_world.proofs.Agreement.{every_run_stands}
+use Rattle.eap_world.proofs.PeerKeeps.{peer_few}
+use Rattle.eap_world.proofs.Running.{BothStand}
+use Rattle.eap_world.proofs.ServerKeeps.{server_few}
 
 -- one more entry is in one of the four lists
 one_longer : (end : End) (how : Use) (tag : TagRecord) (a b c d : List TagRecord) (whole : ℕ)

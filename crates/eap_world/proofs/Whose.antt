@@ -14,16 +14,16 @@ use Rattle.eap_method.specs.PskPeer as psk_peer
 use Rattle.eap_method.specs.PskServer as psk_server
 use Rattle.eap_method.specs.Server.{side_of}
 use Rattle.eap_world.specs.Book.{first_broken}
-use Rattle.eap_world.specs.World.{WorldNow, world_made, world_start, run_after}
+use Rattle.eap_world.specs.World.{WorldNow}
 use Rattle.eap_world.specs.declared.book.End.TheVariants as end
-use Rattle.agreement.specs.Laws.{AreTheirs, TakesFirstSuite, HonestNamesAreTheirs}
-use Rattle.agreement.specs.PeerStands.{PskBegun, GpskBegun}
-use Rattle.agreement.specs.ServerStands.{PskChecked, GpskChecked}
-use Rattle.agreement.proofs.Agreeing.{BothSucceed, by_psk, by_gpsk, ends_succeed}
-use Rattle.agreement.proofs.Agreement.{none_if_honest, every_run_stands}
-use Rattle.agreement.proofs.Booked.{honest_tags}
-use Rattle.agreement.proofs.GpskAgrees as gpsk
-use Rattle.agreement.proofs.PskAgrees as psk
+use Rattle.eap_world.specs.Agreement.{AreTheirs, TakesFirstSuite, HonestNamesAreTheirs, run_of}
+use Rattle.eap_world.specs.PeerStands.{PskBegun, GpskBegun}
+use Rattle.eap_world.specs.ServerStands.{PskChecked, GpskChecked}
+use Rattle.eap_world.proofs.Agreeing.{BothSucceed, by_psk, by_gpsk, ends_succeed}
+use Rattle.eap_world.proofs.Agreement.{none_if_honest, every_run_stands}
+use Rattle.eap_world.proofs.Booked.{honest_tags}
+use Rattle.eap_world.proofs.GpskAgrees as gpsk
+use Rattle.eap_world.proofs.PskAgrees as psk
 
 -- what the peer brings into a method is its setup's
 own_name : (setup : PeerSetup) (kind : ℕ) (cred : Credential) → cred ≡ credential_for setup kind → cred.id_p ≡ setup.name
@@ -105,7 +105,7 @@ both_theirs setup w (by_gpsk login list facts other pd mac checked is_selected i
 
 pub honest_names_are_theirs : HonestNamesAreTheirs
 honest_names_are_theirs setup events whole honest p_in s_in =
-    let w = run_after (world_start (world_made setup)).after events in
+    let w = run_of setup events in
     let both = every_run_stands setup events in
     let none = none_if_honest (first_broken [] w.book) honest in
     both_theirs setup w

@@ -1,4 +1,0 @@
-pub mod Records
-pub mod PeerStands
-pub mod ServerStands
-pub mod Laws
