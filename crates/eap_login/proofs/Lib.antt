@@ -4,3 +4,4 @@ pub mod Replaying
 pub mod Runs
 pub mod Ready
 pub mod Headline
+pub mod NeverBoth

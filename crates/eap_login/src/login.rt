@@ -5,7 +5,7 @@ ghost use Rattle.eap_login.specs.Answers.{Ends, Drains, IsWritten};
 ghost use Rattle.eap_login.specs.Login.{is_alone, are_two, reads_scenario, is_form, login_answer, usage_answer, usage_text, HasSetup};
 ghost use Rattle.eap_login.specs.Decode.{decode_answer};
 ghost use Rattle.eap_login.specs.Keys.{keys_answer};
-ghost use Rattle.eap_login.specs.Headline.{HonestEndsAgree};
+ghost use Rattle.eap_login.specs.Headline.{HonestEndsAgree, WritesNeverBoth};
 ghost use Rattle.eap_login.specs.Replay.{HasBoth};
 ghost use Rattle.eap_login.specs.Scenario.{replay_answer, trace_header};
 ghost use Rattle.trace_text.specs.Writes.{Writes};
@@ -31,7 +31,7 @@ use trace_text::write_line;
 /// - All other words write the usage line; the source isn't touched.
 ///
 /// Each of the two lists of `methods` has an object of EAP-PSK and one of EAP-GPSK.
-#[tactic(auto, using(crate::proofs::Headline::headline))]
+#[tactic(auto, using(crate::proofs::Headline::headline, crate::proofs::NeverBoth::usage_writes))]
 pub fn eap_login<P: PeerMethod, M: ServerMethod, S: Source, W: Sink>(
     alloc: Global,
     words: &Vec<String>,
@@ -50,6 +50,10 @@ pub fn eap_login<P: PeerMethod, M: ServerMethod, S: Source, W: Sink>(
     // that an end accepted was made earlier by the other end, two ends that both stand in SUCCESS at the
     // end of its run agree in method, identities, suite, MSK and EMSK, which both policies allow.
     ensures honest_ends_agree { (octets : List ℕ) → S.left source.old ≡ Some octets → HonestEndsAgree octets }
+
+    // On octets alone: no text written with status 0 has both the line `tags honest` and the line
+    // `result apart`.
+    ensures never_both { (octets : List ℕ) → S.left source.old ≡ Some octets → WritesNeverBoth result (W.written sink.old) (W.written sink.new) }
 
     // A fault comes only where its count rose in this call, or stands at its last value; want of
     // memory only for `replay`, after the line `events` was taken.

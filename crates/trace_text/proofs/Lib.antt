@@ -1,4 +1,9 @@
 pub mod Numbers
 pub mod Fronts
 pub mod States
+pub mod Scanning
+pub mod Plain
+pub mod PlainTexts
+pub mod Verdicts
+pub mod PlainAnswers
 mod Worked

@@ -1,0 +1,158 @@
+-- Which texts are plain: each of their lines begins with a number, or with a word of its own.
+use Rattle.std.proofs.Common.{◌≡◌, ℕ, ◌≤◌, ◌==◌, ◌||◌, List, [], ◌∷◌, ◌++◌, length, Bool, true, false, cond, Option, Some, None, refl, codes, decimal, slice_index, arith}
+use Rattle.std.proofs.lemmas.Bool.{or_from, ne_eqb}
+use Rattle.std.specs.List.{concat}
+use Rattle.eap_base.specs.declared.setup.Party.{Party}
+use Rattle.eap_base.specs.declared.setup.Party.TheVariants as party
+use Rattle.eap_base.specs.declared.setup.Port.{Port}
+use Rattle.eap_base.specs.declared.setup.Port.TheVariants as port
+use Rattle.eap_packet.specs.Words.{cause_word, state_word}
+use Rattle.eap_packet.specs.declared.cause.Cause.{Cause}
+use Rattle.eap_packet.specs.declared.cause.Cause.TheVariants as cause
+use Rattle.eap_packet.specs.declared.state.State.{State}
+use Rattle.eap_packet.specs.declared.state.State.TheVariants as state
+use Rattle.eap_world.specs.declared.told.Counts.{Counts}
+use Rattle.eap_world.specs.declared.told.Named.{Named}
+use Rattle.eap_world.specs.declared.told.SentPacket.{SentPacket}
+use Rattle.eap_world.specs.declared.told.Skip.{Skip}
+use Rattle.eap_world.specs.declared.told.Skip.TheVariants as skip
+use Rattle.eap_world.specs.declared.told.Told.{Told}
+use Rattle.login_keys.specs.KeyName.{key_name_of}
+use Rattle.trace_text.specs.Packets.{hex_text}
+use Rattle.trace_text.specs.Run.{party_word, port_word, skip_word, code_word, type_text, states_text, path_text, party_text, cause_text, sent_text, octets_line, octets_text, keys_line, keys_text, shown_text, acted_text, told_by, told_text, peer_start_text, start_text, ends_text, counts_text}
+use Rattle.trace_text.proofs.Plain.{is_within, plain, join, through, within_join, encoded_within, decimal_within, decimal_first, numbered}
+
+-- ---- words
+
+pub cause_within : (c : Cause) → is_within (cause_word c) ≡ true
+cause_within cause.Short = refl
+cause_within other = refl
+
+state_within : (s : State) → is_within (state_word s) ≡ true
+state_within state.Initialize = refl
+state_within other = refl
+
+party_within : (p : Party) → is_within (party_word p) ≡ true
+party_within party.Peer = refl
+party_within other = refl
+
+port_within : (p : Port) → is_within (port_word p) ≡ true
+port_within port.Peer = refl
+port_within other = refl
+
+skip_within : (s : Skip) → is_within (skip_word s) ≡ true
+skip_within skip.NoParty = refl
+skip_within other = refl
+
+pub either_within : (t : Bool) (xs ys : List ℕ) → is_within xs ≡ true → is_within ys ≡ true → is_within (cond t xs ys) ≡ true
+either_within true xs ys p q = p
+either_within false xs ys p q = q
+
+code_within : (code : ℕ) → is_within (code_word code) ≡ true
+code_within code =
+    either_within (code == 1) (codes "request") _ refl (either_within (code == 2) (codes "response") _ refl
+    (either_within (code == 3) (codes "success") (codes "failure") refl refl))
+
+pub hex_within : (octets : List ℕ) → is_within (hex_text octets) ≡ true
+hex_within [] = refl
+hex_within (o ∷ octets) = encoded_within (o ∷ octets)
+
+type_within : (octets : List ℕ) → is_within (type_text octets) ≡ true
+type_within octets =
+    either_within _ (concat (codes " type " ∷ decimal (slice_index octets 4) ∷ [])) []
+    (within_join (decimal (slice_index octets 4)) [] (decimal_within (slice_index octets 4)) refl) refl
+
+-- ---- the lines of events
+
+module _ (bad : ℕ → Bool) (no_digit : (o : ℕ) → 48 ≤ o → o ≤ 57 → bad o ≡ false) where
+  states_plain : (path : List State) → plain bad false (states_text path) ≡ true
+  states_plain [] = refl
+  states_plain (s ∷ rest) = through bad (state_word s ++ []) (states_text rest) (within_join (state_word s) [] (state_within s) refl) (states_plain rest)
+
+  path_plain : (path : List State) → plain bad false (path_text path) ≡ true
+  path_plain [] = refl
+  path_plain (s ∷ rest) = states_plain (s ∷ rest)
+
+  party_plain : (event : ℕ) (p : Option Party) (path : List State) → plain bad true (party_text event p path) ≡ true
+  party_plain event None path = refl
+  party_plain event (Some p) path =
+      numbered bad no_digit event (codes " " ++ (party_word p ++ [])) (path_text path) (within_join (party_word p) [] (party_within p) refl) (path_plain path)
+
+  cause_plain : (event : ℕ) (c : Option Cause) → plain bad true (cause_text event c) ≡ true
+  cause_plain event None = refl
+  cause_plain event (Some c) = decimal_first bad no_digit event _ (through bad (cause_word c) _ (cause_within c) refl)
+
+  sent_plain : (event : ℕ) (s : Option SentPacket) → plain bad true (sent_text event s) ≡ true
+  sent_plain event None = refl
+  sent_plain event (Some sent) =
+      decimal_first bad no_digit event _ (through bad (decimal sent.number) _ (decimal_within sent.number)
+      (through bad (port_word sent.port) _ (port_within sent.port)
+      (through bad (code_word (slice_index sent.packet 0)) _ (code_within (slice_index sent.packet 0))
+      (through bad (decimal (slice_index sent.packet 1)) _ (decimal_within (slice_index sent.packet 1))
+      (through bad (type_text sent.packet) _ (type_within sent.packet)
+      (through bad (decimal (length sent.packet)) _ (decimal_within (length sent.packet)) refl))))))
+
+  octets_line-plain : (event : ℕ) (sent : SentPacket) → plain bad true (octets_line event sent) ≡ true
+  octets_line-plain event sent = decimal_first bad no_digit event _ (through bad (hex_text sent.packet) _ (hex_within sent.packet) refl)
+
+  octets_plain : (names : Bool) (event : ℕ) (s : Option SentPacket) → plain bad true (octets_text names event s) ≡ true
+  octets_plain names event None = refl
+  octets_plain true event (Some sent) = octets_line-plain event sent
+  octets_plain false event (Some sent) = refl
+
+  keys_line-plain : (event : ℕ) (named : Named) → plain bad true (keys_line event named) ≡ true
+  keys_line-plain event named =
+      let msk = key_name_of named.report.msk in
+      let emsk = key_name_of named.report.emsk in
+      decimal_first bad no_digit event _ (through bad (party_word named.party) _ (party_within named.party)
+      (through bad (hex_text msk) _ (hex_within msk) (through bad (hex_text emsk) _ (hex_within emsk) refl)))
+
+  keys_plain : (names : Bool) (event : ℕ) (n : Option Named) → plain bad true (keys_text names event n) ≡ true
+  keys_plain names event None = refl
+  keys_plain true event (Some named) = keys_line-plain event named
+  keys_plain false event (Some named) = refl
+
+  shown_plain : (names : Bool) (told : Told) → plain bad true (shown_text names told) ≡ true
+  shown_plain names told =
+      join bad (sent_text told.event told.sent) _ true (sent_plain told.event told.sent)
+      (join bad (octets_text names told.event told.sent) (keys_text names told.event told.named) true
+      (octets_plain names told.event told.sent) (keys_plain names told.event told.named))
+
+  acted_plain : (names : Bool) (told : Told) → plain bad true (acted_text names told) ≡ true
+  acted_plain names told =
+      join bad (party_text told.event told.party told.path) _ true (party_plain told.event told.party told.path)
+      (join bad (cause_text told.event told.cause) (shown_text names told) true (cause_plain told.event told.cause) (shown_plain names told))
+
+  told_by-plain : (names : Bool) (told : Told) (s : Option Skip) → plain bad true (told_by names told s) ≡ true
+  told_by-plain names told None = acted_plain names told
+  told_by-plain names told (Some s) = decimal_first bad no_digit told.event _ (through bad (skip_word s) _ (skip_within s) refl)
+
+  -- the lines of an event
+  pub told_plain : (names : Bool) (told : Told) → plain bad true (told_text names told) ≡ true
+  unfolding told_text
+  told_plain names told = told_by-plain names told told.skip
+
+-- ---- the lines of the start and the end
+
+-- the first octets of `tags` and `result`
+abbrev pub begins_verdict : ℕ → Bool
+begins_verdict o = o == 116 || o == 114
+
+-- no number begins so
+pub no_verdict : (o : ℕ) → 48 ≤ o → o ≤ 57 → begins_verdict o ≡ false
+no_verdict o h k = or_from (o == 116) (o == 114) (ne_eqb o 116 (λ e. omega (arith, k, e))) (ne_eqb o 114 (λ e. omega (arith, k, e)))
+
+pub start_plain : (names : Bool) (told : Told) → plain begins_verdict true (start_text names told) ≡ true
+unfolding peer_start_text
+start_plain names told = told_plain begins_verdict no_verdict names told
+
+pub ends_plain : (peer server : State) → plain begins_verdict true (ends_text peer server) ≡ true
+unfolding ends_text
+ends_plain peer server = through begins_verdict (state_word peer) _ (state_within peer) (through begins_verdict (state_word server) _ (state_within server) refl)
+
+pub counts_plain : (counts : Counts) → plain begins_verdict true (counts_text counts) ≡ true
+unfolding counts_text
+counts_plain counts =
+    through begins_verdict (decimal counts.events) _ (decimal_within counts.events)
+    (through begins_verdict (decimal counts.deliveries) _ (decimal_within counts.deliveries)
+    (through begins_verdict (decimal counts.discards) _ (decimal_within counts.discards) refl))

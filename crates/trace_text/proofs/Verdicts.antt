@@ -1,0 +1,65 @@
+-- Which lines of the end tell the verdicts.
+use Rattle.std.proofs.Common.{◌≡◌, ℕ, List, [], ◌∷◌, ◌++◌, true, false, refl, sym, ap, ◌∙◌, codes, decimal, append_assoc}
+use Rattle.std.proofs.lemmas.Bool.{true≢false}
+use Rattle.eap_packet.specs.declared.state.State.{State}
+use Rattle.eap_world.specs.declared.book.TagsVerdict.{TagsVerdict}
+use Rattle.eap_world.specs.declared.book.TagsVerdict.TheVariants as tags
+use Rattle.eap_world.specs.declared.told.Counts.{Counts}
+use Rattle.eap_world.specs.declared.verdict.Verdict.{Verdict}
+use Rattle.eap_world.specs.declared.verdict.Verdict.TheVariants as verdict
+use Rattle.trace_text.specs.Run.{tags_text, result_text, ends_text, counts_text, end_text_of}
+use Rattle.trace_text.proofs.Plain.{over, has_through, decimal_within}
+use Rattle.trace_text.proofs.PlainTexts.{begins_verdict, ends_plain, counts_plain}
+use Rattle.trace_text.proofs.Scanning.{has_mark}
+
+-- the two lines
+abbrev pub honest_line : List ℕ
+honest_line = codes "tags honest\n"
+
+abbrev pub apart_line : List ℕ
+apart_line = codes "result apart\n"
+
+no_honest : (v : Verdict) → has_mark honest_line false (codes "\n" ++ result_text v) ≡ false
+unfolding result_text
+no_honest verdict.Agree = refl
+no_honest verdict.Apart = refl
+no_honest verdict.Unfinished = refl
+
+broken_is_not : (event : ℕ) (v : Verdict) → has_mark honest_line true (tags_text (tags.Broken event) ++ result_text v) ≡ false
+unfolding tags_text
+broken_is_not event v =
+    ap (λ (text : List ℕ). has_mark honest_line false text) (append_assoc (decimal event) (codes "\n" ++ []) (result_text v))
+    ∙ (has_through honest_line (decimal event) (codes "\n" ++ result_text v) (decimal_within event) ∙ no_honest v)
+
+tells_honest : (t : TagsVerdict) (v : Verdict) → has_mark honest_line true (tags_text t ++ result_text v) ≡ true → t ≡ tags.Honest
+tells_honest tags.Honest v h = refl
+tells_honest (tags.Broken event) v h = absurd (true≢false (sym h ∙ broken_is_not event v))
+
+over_tags : (t : TagsVerdict) (v : Verdict) → has_mark apart_line true (tags_text t ++ result_text v) ≡ has_mark apart_line true (result_text v)
+unfolding tags_text
+over_tags tags.Honest v = refl
+over_tags (tags.Broken event) v =
+    ap (λ (text : List ℕ). has_mark apart_line false text) (append_assoc (decimal event) (codes "\n" ++ []) (result_text v))
+    ∙ has_through apart_line (decimal event) (codes "\n" ++ result_text v) (decimal_within event)
+
+tells_apart : (v : Verdict) → has_mark apart_line true (result_text v) ≡ true → v ≡ verdict.Apart
+unfolding result_text
+tells_apart verdict.Agree h = absurd (true≢false (sym h))
+tells_apart verdict.Apart h = refl
+tells_apart verdict.Unfinished h = absurd (true≢false (sym h))
+
+module _ (peer server : State) (counts : Counts) (t : TagsVerdict) (v : Verdict) where
+  over_states : (m : ℕ) (mark : List ℕ) → begins_verdict m ≡ true
+      → has_mark (m ∷ mark) true (end_text_of peer server counts t v) ≡ has_mark (m ∷ mark) true (tags_text t ++ result_text v)
+  unfolding end_text_of
+  over_states m mark bad =
+      over begins_verdict m mark bad (ends_text peer server) (counts_text counts ++ (tags_text t ++ result_text v)) true (ends_plain peer server)
+      ∙ over begins_verdict m mark bad (counts_text counts) (tags_text t ++ result_text v) true (counts_plain counts)
+
+  -- only honest tags are told by this line
+  pub end_tells_honest : has_mark honest_line true (end_text_of peer server counts t v) ≡ true → t ≡ tags.Honest
+  end_tells_honest h = tells_honest t v (sym (over_states 116 (codes "ags honest\n") refl) ∙ h)
+
+  -- only ends that are apart are told by this line
+  pub end_tells_apart : has_mark apart_line true (end_text_of peer server counts t v) ≡ true → v ≡ verdict.Apart
+  end_tells_apart h = tells_apart v (sym (over_tags t v) ∙ (sym (over_states 114 (codes "esult apart\n") refl) ∙ h))
