@@ -1,6 +1,10 @@
 //! Replays EAP logins by shared keys from recorded schedules.
 #![tactic(auto)]
 
+ghost use Rattle.std.specs.Prelude.{◌≡◌, false, map, string_bytes, IfOk};
+ghost use Rattle.eap_login.specs.Login.{is_form};
+ghost use Rattle.eap_login.specs.Statuses.{IsUsage, exit_number_of, failure_number_of};
+
 mod command;
 mod decode;
 mod drive;
@@ -29,7 +33,7 @@ const NO_WORDS: u8 = 8;
 
 fn main(rt: HostRuntime) -> ExitCode {
     match words(&rt) {
-        Ok(words) => ExitCode::from(run(&rt, &words)),
+        Ok(words) => ExitCode::from(exit_number(answer(&rt, &words))),
         Err(error) => ExitCode::from(failure_number(error.kind())),
     }
 }
@@ -41,17 +45,20 @@ fn words(rt: &HostRuntime) -> io::Result<Vec<String>> {
 }
 
 /// The exit status where the words could not be taken.
-fn failure_number(kind: io::ErrorKind) -> u8 {
-    if kind == io::ErrorKind::OutOfMemory {
-        Status::Memory.number()
-    } else {
-        NO_WORDS
+fn failure_number(kind: io::ErrorKind) -> u8
+    ensures { result ≡ failure_number_of kind }
+{
+    match kind {
+        io::ErrorKind::OutOfMemory => Status::Memory.number(),
+        _ => NO_WORDS,
     }
 }
 
-/// Answers to the words over standard input and output, and gives the exit status.
-fn run(rt: &HostRuntime, words: &Vec<String>) -> u8 {
-    match answer(rt, words) {
+/// The exit status where the words were taken.
+fn exit_number(answered: io::Result<Status>) -> u8
+    ensures { result ≡ exit_number_of answered }
+{
+    match answered {
         Ok(status) => status.number(),
         Err(_) => Status::Memory.number(),
     }
@@ -59,7 +66,9 @@ fn run(rt: &HostRuntime, words: &Vec<String>) -> u8 {
 
 /// Makes the objects of both methods for both ends, and answers to the words over standard input and
 /// output. An error comes only for want of memory.
-fn answer(rt: &HostRuntime, words: &Vec<String>) -> io::Result<Status> {
+fn answer(rt: &HostRuntime, words: &Vec<String>) -> io::Result<Status>
+    ensures usage { is_form (map string_bytes words.now.items) ≡ false → IfOk result IsUsage }
+{
     let alloc = rt.alloc();
     let psk_peer: Box<dyn PeerMethod> = Box::new(alloc, PskPeer::new())?;
     let gpsk_peer: Box<dyn PeerMethod> = Box::new(alloc, GpskPeer::new())?;
