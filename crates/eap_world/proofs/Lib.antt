@@ -13,6 +13,7 @@ pub mod PeerKeeps
 pub mod PskAgrees
 pub mod PskFields
 pub mod Running
+pub mod Runs
 pub mod ServerKeeps
 pub mod Whose
 mod Worked

@@ -1,5 +1,5 @@
 -- Both ends over events: what was sent, the book of tags, what each event does, and the run.
-use Rattle.std.specs.Prelude.{◌≡◌, ◌≤◌, ℕ, ◌+◌, ◌-◌, ◌*◌, List, [], ◌∷◌, ◌++◌, length, take, drop, Bool, true, false, ◌==◌, nat_lt, nat_le, if◌then◌else◌, Option, Some, None, slice_get, slice_index, bit_xor, is_some, option_map}
+use Rattle.std.specs.Prelude.{◌≡◌, ◌≤◌, ℕ, ◌+◌, ◌-◌, ◌*◌, List, [], ◌∷◌, ◌++◌, length, take, drop, Bool, true, false, ◌==◌, nat_lt, nat_le, if◌then◌else◌, Option, Some, None, slice_get, slice_index, bit_xor, is_some, map, option_map}
 use Rattle.eap_base.specs.declared.setup.Setup.{Setup}
 use Rattle.eap_base.specs.declared.setup.Port.{Port}
 use Rattle.eap_base.specs.declared.setup.Port.TheVariants as port
@@ -8,8 +8,8 @@ use Rattle.eap_base.specs.declared.setup.Party.TheVariants as party
 use Rattle.eap_base.specs.declared.event.Event.{Event}
 use Rattle.eap_base.specs.declared.event.Event.TheVariants as event
 use Rattle.eap_packet.specs.declared.state.State.{State}
-use Rattle.eap_method.specs.Peer.{PeerShown}
-use Rattle.eap_method.specs.Server.{ServerShown}
+use Rattle.eap_method.specs.Peer.{PeerShown, peer_kinds}
+use Rattle.eap_method.specs.Server.{ServerShown, server_kinds}
 use Rattle.eap_method.specs.Steps.{is_end}
 use Rattle.eap_method.specs.declared.step.Step.{Step}
 use Rattle.eap_method.specs.declared.values.Report.{Report}
@@ -64,6 +64,15 @@ now_of peer_shown server_shown w = record {
   held = w.held;
   started = w.started;
 }
+
+-- the methods of which each end has an object, one after the other
+pub record Kinds : Type 0 where
+  pub peer : List ℕ
+  pub server : List ℕ
+
+abbrev pub kinds_of : {P S : Type 0} → (P → PeerShown) → (S → ServerShown) → List P → List S → Kinds
+kinds_of peer_shown server_shown peer server =
+    record { peer = peer_kinds (map peer_shown peer); server = server_kinds (map server_shown server) }
 
 -- the world before its start
 abbrev pub world_made : Setup → WorldNow

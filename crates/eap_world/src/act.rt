@@ -4,7 +4,7 @@ ghost use Rattle.std.specs.Prelude.{◌≡◌, ◌≤◌, ◌<◌, length, optio
 ghost use Rattle.peer_machine.specs.PeerTable as peers;
 ghost use Rattle.peer_machine.specs.PeerTable.{peer_idle, peer_alt_accept, peer_alt_reject};
 ghost use Rattle.server_machine.specs.ServerTable as servers;
-ghost use Rattle.eap_world.specs.World.{Acted, act, acted, handed, altered, packet_numbered, deliver_sent, alter_sent, cut_sent, timer_ends, lower_layer};
+ghost use Rattle.eap_world.specs.World.{Acted, kinds_of, act, acted, handed, altered, packet_numbered, deliver_sent, alter_sent, cut_sent, timer_ends, lower_layer};
 
 use crate::told::Skip;
 use eap_base::{Event, Packet, Party, Port};
@@ -37,6 +37,7 @@ pub fn act<P: PeerMethod, S: ServerMethod>(
     event: &Event,
 ) -> Action
     ensures acts { act (peers.now_of P.peer_shown peer.old) (servers.now_of S.server_shown server.old) sent.now event.now ≡ acted result (peers.now_of P.peer_shown peer.new) (servers.now_of S.server_shown server.new) }
+    ensures kinds { kinds_of P.peer_shown S.server_shown peer.new.methods server.new.methods ≡ kinds_of P.peer_shown S.server_shown peer.old.methods server.old.methods }
 {
     match event {
         Event::Deliver { number } => deliver(peer, server, packet(sent, *number)),
@@ -74,6 +75,7 @@ fn hand<P: PeerMethod, S: ServerMethod>(
     octets: &[u8],
 ) -> Action
     ensures acts { handed (peers.now_of P.peer_shown peer.old) (servers.now_of S.server_shown server.old) port octets.now ≡ acted result (peers.now_of P.peer_shown peer.new) (servers.now_of S.server_shown server.new) }
+    ensures kinds { kinds_of P.peer_shown S.server_shown peer.new.methods server.new.methods ≡ kinds_of P.peer_shown S.server_shown peer.old.methods server.old.methods }
 {
     match port {
         Port::Peer => Action::Peer(true, peer.deliver(octets)),
@@ -90,6 +92,7 @@ fn deliver<P: PeerMethod, S: ServerMethod>(
     packet: Option<&Sent>,
 ) -> Action
     ensures acts { deliver_sent (peers.now_of P.peer_shown peer.old) (servers.now_of S.server_shown server.old) (option_copied packet.entry) ≡ acted result (peers.now_of P.peer_shown peer.new) (servers.now_of S.server_shown server.new) }
+    ensures kinds { kinds_of P.peer_shown S.server_shown peer.new.methods server.new.methods ≡ kinds_of P.peer_shown S.server_shown peer.old.methods server.old.methods }
 {
     match packet {
         None => Action::Skipped(Skip::Unsent),
@@ -106,6 +109,7 @@ fn alter<P: PeerMethod, S: ServerMethod>(
     packet: Option<&Sent>,
 ) -> Action
     ensures acts { alter_sent (peers.now_of P.peer_shown peer.old) (servers.now_of S.server_shown server.old) place mask (option_copied packet.entry) ≡ acted result (peers.now_of P.peer_shown peer.new) (servers.now_of S.server_shown server.new) }
+    ensures kinds { kinds_of P.peer_shown S.server_shown peer.new.methods server.new.methods ≡ kinds_of P.peer_shown S.server_shown peer.old.methods server.old.methods }
 {
     match packet {
         None => Action::Skipped(Skip::Unsent),
@@ -143,6 +147,7 @@ fn cut<P: PeerMethod, S: ServerMethod>(
     packet: Option<&Sent>,
 ) -> Action
     ensures acts { cut_sent (peers.now_of P.peer_shown peer.old) (servers.now_of S.server_shown server.old) keep (option_copied packet.entry) ≡ acted result (peers.now_of P.peer_shown peer.new) (servers.now_of S.server_shown server.new) }
+    ensures kinds { kinds_of P.peer_shown S.server_shown peer.new.methods server.new.methods ≡ kinds_of P.peer_shown S.server_shown peer.old.methods server.old.methods }
 {
     match packet {
         None => Action::Skipped(Skip::Unsent),
@@ -165,6 +170,7 @@ fn end_timer<P: PeerMethod, S: ServerMethod>(
     party: Party,
 ) -> Action
     ensures acts { timer_ends (peers.now_of P.peer_shown peer.old) (servers.now_of S.server_shown server.old) party ≡ acted result (peers.now_of P.peer_shown peer.new) (servers.now_of S.server_shown server.new) }
+    ensures kinds { kinds_of P.peer_shown S.server_shown peer.new.methods server.new.methods ≡ kinds_of P.peer_shown S.server_shown peer.old.methods server.old.methods }
 {
     match party {
         Party::Peer => {
@@ -191,6 +197,7 @@ fn idle<P: PeerMethod, S: ServerMethod>(
     server: &mut ServerMachine<S>,
 ) -> Action
     ensures acts { lower_layer (peers.now_of P.peer_shown peer.old) (servers.now_of S.server_shown server.old) (peer_idle (peers.now_of P.peer_shown peer.old)) ≡ acted result (peers.now_of P.peer_shown peer.new) (servers.now_of S.server_shown server.new) }
+    ensures kinds { kinds_of P.peer_shown S.server_shown peer.new.methods server.new.methods ≡ kinds_of P.peer_shown S.server_shown peer.old.methods server.old.methods }
 {
     if peer.ended() {
         Action::Skipped(Skip::Ended)
@@ -205,6 +212,7 @@ fn accept<P: PeerMethod, S: ServerMethod>(
     server: &mut ServerMachine<S>,
 ) -> Action
     ensures acts { lower_layer (peers.now_of P.peer_shown peer.old) (servers.now_of S.server_shown server.old) (peer_alt_accept (peers.now_of P.peer_shown peer.old)) ≡ acted result (peers.now_of P.peer_shown peer.new) (servers.now_of S.server_shown server.new) }
+    ensures kinds { kinds_of P.peer_shown S.server_shown peer.new.methods server.new.methods ≡ kinds_of P.peer_shown S.server_shown peer.old.methods server.old.methods }
 {
     if peer.ended() {
         Action::Skipped(Skip::Ended)
@@ -219,6 +227,7 @@ fn reject<P: PeerMethod, S: ServerMethod>(
     server: &mut ServerMachine<S>,
 ) -> Action
     ensures acts { lower_layer (peers.now_of P.peer_shown peer.old) (servers.now_of S.server_shown server.old) (peer_alt_reject (peers.now_of P.peer_shown peer.old)) ≡ acted result (peers.now_of P.peer_shown peer.new) (servers.now_of S.server_shown server.new) }
+    ensures kinds { kinds_of P.peer_shown S.server_shown peer.new.methods server.new.methods ≡ kinds_of P.peer_shown S.server_shown peer.old.methods server.old.methods }
 {
     if peer.ended() {
         Action::Skipped(Skip::Ended)

@@ -1,6 +1,6 @@
 //! Both ends over events.
 
-ghost use Rattle.std.specs.Prelude.{◌≡◌, ◌≤◌, ◌<◌, ◌+◌, ◌-◌, ◌*◌, ◌^◌, ◌++◌, [], true, false, map, length, MatchResult, IfOk, option_to_list, vec_len, vec_capacity};
+ghost use Rattle.std.specs.Prelude.{◌≡◌, ◌≤◌, ◌<◌, ◌+◌, ◌-◌, ◌*◌, ◌^◌, ◌++◌, ◌∷◌, List, [], true, false, map, length, MatchResult, IfOk, option_to_list, vec_len, vec_capacity};
 ghost use Rattle.eap_base.specs.Setup.{IsSoundPeer, IsSoundServer, HasKeys};
 ghost use Rattle.eap_base.specs.declared.setup.Mode.TheVariants.{Alone};
 ghost use Rattle.eap_base.specs.declared.setup.Party.TheVariants.{Peer, Server};
@@ -75,12 +75,12 @@ impl<P, S> Model for World<P, S> {
 impl<P: PeerMethod, S: ServerMethod> World<P, S> {
     ghost use Rattle.eap_method.specs.Peer.{peer_kinds, have_each};
     ghost use Rattle.eap_method.specs.Server.{server_kinds};
-    ghost use Rattle.eap_world.specs.Agreement.{IsOfRun};
+    ghost use Rattle.eap_world.specs.Agreement.{IsOfRun, run_of};
     ghost use Rattle.eap_world.specs.Book.{tags_verdict};
     ghost use Rattle.eap_world.specs.declared.book.TagsVerdict.TheVariants.{Honest};
     ghost use Rattle.eap_world.specs.declared.verdict.Verdict.TheVariants.{Apart};
     ghost use Rattle.eap_world.specs.Verdict.{verdict_of};
-    ghost use Rattle.eap_world.specs.World.{WorldOutcome, world_outcome, world_made, world_start, world_step, now_of, state_of};
+    ghost use Rattle.eap_world.specs.World.{WorldOutcome, world_outcome, world_made, world_start, world_step, kinds_of, now_of, state_of};
 
     /// The world of a setup, in which the peer has begun and the server hasn't started. The server
     /// answers by itself; each method that an end allows or proposes has an object. It takes no memory.
@@ -92,7 +92,8 @@ impl<P: PeerMethod, S: ServerMethod> World<P, S> {
         requires sound_server { IsSoundServer setup.server }
         requires peer_objects { have_each (peer_kinds (map P.peer_shown methods.peer.items)) setup.peer.methods ≡ true }
         requires server_objects { have_each (server_kinds (map S.server_shown methods.server.items)) setup.server.methods ≡ true }
-        ensures { now_of P.peer_shown S.server_shown result ≡ world_made setup }
+        ensures made { now_of P.peer_shown S.server_shown result ≡ world_made setup }
+        ensures kinds { kinds_of P.peer_shown S.server_shown result.peer.methods result.server.methods ≡ kinds_of P.peer_shown S.server_shown methods.peer.items methods.server.items }
     {
         World {
             peer: PeerMachine::new(setup.peer, methods.peer),
@@ -118,11 +119,38 @@ impl<P: PeerMethod, S: ServerMethod> World<P, S> {
     }
 
     /// The server starts, as event 0: it sends packet 1, the Identity Request. `Memory` comes only for
-    /// want of memory for what it sends; the world then is as it was. The world has not started.
-    #[tactic(auto, unfolding(crate::specs::World::world_start))]
+    /// want of memory for what it sends; the world then is as it was. The world has not started. A world
+    /// that has just been made then is that of the run without events.
     pub fn start(&mut self) -> Result<Told, Memory>
         requires { self.old.started ≡ false }
         ensures told { MatchResult result (λ told. world_start (now_of P.peer_shown S.server_shown self.old) ≡ world_outcome told (now_of P.peer_shown S.server_shown self.new)) (λ _. self.new ≡ self.old) }
+        ensures run { IfOk result (λ told. (setup : Setup) → now_of P.peer_shown S.server_shown self.old ≡ world_made setup → now_of P.peer_shown S.server_shown self.new ≡ run_of setup []) }
+        ensures kinds { kinds_of P.peer_shown S.server_shown self.new.peer.methods self.new.server.methods ≡ kinds_of P.peer_shown S.server_shown self.old.peer.methods self.old.server.methods }
+    {
+        self.begin()
+    }
+
+    /// The next event, numbered from 1. A delivery hands octets to the peer (RFC 4137 section 4) or the
+    /// server (section 5); an event that has nobody or nothing to act on is skipped and only counted.
+    /// `Memory` comes only for want of memory for one more packet and its tags; the world then is as it
+    /// was, and the event isn't counted. A world that was that of the run over some events then is that
+    /// of the run over these and this one.
+    pub fn step(&mut self, event: &Event) -> Result<Told, Memory>
+        requires started { self.old.started ≡ true }
+        requires room { self.old.counts.events < MAX_EVENTS }
+        ensures told { MatchResult result (λ told. world_step (now_of P.peer_shown S.server_shown self.old) event.now ≡ world_outcome told (now_of P.peer_shown S.server_shown self.new)) (λ _. self.new ≡ self.old) }
+        ensures run { IfOk result (λ told. (setup : Setup) (events : List Event) → now_of P.peer_shown S.server_shown self.old ≡ run_of setup events → now_of P.peer_shown S.server_shown self.new ≡ run_of setup (events ++ (event.now ∷ []))) }
+        ensures kinds { kinds_of P.peer_shown S.server_shown self.new.peer.methods self.new.server.methods ≡ kinds_of P.peer_shown S.server_shown self.old.peer.methods self.old.server.methods }
+    {
+        self.take(event)
+    }
+
+    /// The start.
+    #[tactic(auto, unfolding(crate::specs::World::world_start))]
+    fn begin(&mut self) -> Result<Told, Memory>
+        requires { self.old.started ≡ false }
+        ensures told { MatchResult result (λ told. world_start (now_of P.peer_shown S.server_shown self.old) ≡ world_outcome told (now_of P.peer_shown S.server_shown self.new)) (λ _. self.new ≡ self.old) }
+        ensures kinds { kinds_of P.peer_shown S.server_shown self.new.peer.methods self.new.server.methods ≡ kinds_of P.peer_shown S.server_shown self.old.peer.methods self.old.server.methods }
     {
         if !make_room(&mut self.sent, &mut self.book) {
             return Err(Memory);
@@ -140,15 +168,13 @@ impl<P: PeerMethod, S: ServerMethod> World<P, S> {
         ))
     }
 
-    /// The next event, numbered from 1. A delivery hands octets to the peer (RFC 4137 section 4) or the
-    /// server (section 5); an event that has nobody or nothing to act on is skipped and only counted.
-    /// `Memory` comes only for want of memory for one more packet and its tags; the world then is as it
-    /// was, and the event isn't counted.
+    /// An event.
     #[tactic(auto, unfolding(crate::specs::World::world_step))]
-    pub fn step(&mut self, event: &Event) -> Result<Told, Memory>
+    fn take(&mut self, event: &Event) -> Result<Told, Memory>
         requires started { self.old.started ≡ true }
         requires room { self.old.counts.events < MAX_EVENTS }
         ensures told { MatchResult result (λ told. world_step (now_of P.peer_shown S.server_shown self.old) event.now ≡ world_outcome told (now_of P.peer_shown S.server_shown self.new)) (λ _. self.new ≡ self.old) }
+        ensures kinds { kinds_of P.peer_shown S.server_shown self.new.peer.methods self.new.server.methods ≡ kinds_of P.peer_shown S.server_shown self.old.peer.methods self.old.server.methods }
     {
         if !make_room(&mut self.sent, &mut self.book) {
             return Err(Memory);

@@ -1,0 +1,32 @@
+-- The run goes on event by event.
+use Rattle.std.proofs.Common.{◌≡◌, List, [], ◌∷◌, ◌++◌, Result, Ok, Err, IfOk, MatchResult, refl, sym, ap, ◌∙◌}
+use Rattle.eap_base.specs.declared.event.Event.{Event}
+use Rattle.eap_base.specs.declared.setup.Setup.{Setup}
+use Rattle.eap_world.specs.Agreement.{run_of}
+use Rattle.eap_world.specs.World.{WorldNow, WorldOutcome, world_outcome, world_made, world_start, world_step, run_after}
+use Rattle.eap_world.specs.declared.told.Told.{Told}
+
+one_more : (w : WorldNow) (events : List Event) (e : Event) → (world_step (run_after w events) e).after ≡ run_after w (events ++ (e ∷ []))
+unfolding run_after
+one_more w [] e = refl
+one_more w (first ∷ rest) e = one_more (world_step w first).after rest e
+
+no_events : (setup : Setup) → (world_start (world_made setup)).after ≡ run_of setup []
+unfolding run_after
+no_events setup = refl
+
+module _ {E : Type 0} (before after : WorldNow) (same : Type 0) where
+  -- a world that was made and has started
+  pub run_begins : (result : Result Told E) → MatchResult result (λ told. world_start before ≡ world_outcome told after) (λ error. same)
+      → IfOk result (λ told. (setup : Setup) → before ≡ world_made setup → after ≡ run_of setup [])
+  run_begins (Err error) h = tt
+  run_begins (Ok told) h = λ setup made.
+      sym (ap (λ (out : WorldOutcome). out.after) h) ∙ (ap (λ (w : WorldNow). (world_start w).after) made ∙ no_events setup)
+
+  -- a world of a run that has taken an event
+  pub run_goes_on : (e : Event) (result : Result Told E) → MatchResult result (λ told. world_step before e ≡ world_outcome told after) (λ error. same)
+      → IfOk result (λ told. (setup : Setup) (events : List Event) → before ≡ run_of setup events → after ≡ run_of setup (events ++ (e ∷ [])))
+  run_goes_on e (Err error) h = tt
+  run_goes_on e (Ok told) h = λ setup events is.
+      sym (ap (λ (out : WorldOutcome). out.after) h)
+      ∙ (ap (λ (w : WorldNow). (world_step w e).after) is ∙ one_more (world_start (world_made setup)).after events e)
