@@ -23,10 +23,10 @@ exit_number_of (Err error) = number_of status.Memory
 -- the exit status where words could not be taken
 abbrev pub failure_number_of : ErrorKind → ℕ
 failure_number_of kind.OutOfMemory = number_of status.Memory
-failure_number_of other = 8
+failure_number_of _ = 8
 
 -- the statuses of words that are none of the forms: the usage line was written, or a write failed
 abbrev pub IsUsage : Status → Type 0
 IsUsage status.Usage = Unit {0}
 IsUsage status.WriteFault = Unit {0}
-IsUsage other = ⊥
+IsUsage _ = ⊥

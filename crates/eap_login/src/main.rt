@@ -1,7 +1,9 @@
 //! Replays EAP logins by shared keys from recorded schedules.
 #![tactic(auto)]
 
-ghost use Rattle.std.specs.Prelude.{◌≡◌, false, map, string_bytes, IfOk};
+ghost use Rattle.std.specs.Prelude.{◌≡◌, false, map, string_bytes, IfOk, IfErr};
+ghost use Rattle.std.specs.IoError.{error_kind};
+ghost use Rattle.std.specs.declared.io.ErrorKind.TheVariants.{OutOfMemory};
 ghost use Rattle.eap_login.specs.Login.{is_form};
 ghost use Rattle.eap_login.specs.Statuses.{IsUsage, exit_number_of, failure_number_of};
 
@@ -68,6 +70,7 @@ fn exit_number(answered: io::Result<Status>) -> u8
 /// output. An error comes only for want of memory.
 fn answer(rt: &HostRuntime, words: &Vec<String>) -> io::Result<Status>
     ensures usage { is_form (map string_bytes words.now.items) ≡ false → IfOk result IsUsage }
+    ensures memory { IfErr result (λ error. error_kind error ≡ OutOfMemory) }
 {
     let alloc = rt.alloc();
     let psk_peer: Box<dyn PeerMethod> = Box::new(alloc, PskPeer::new())?;

@@ -1,6 +1,8 @@
 //! The objects of both methods at one end.
 
-ghost use Rattle.std.specs.Prelude.{◌≡◌, ◌∷◌, [], true, map, IfOk};
+ghost use Rattle.std.specs.Prelude.{◌≡◌, ◌∷◌, [], true, map, IfOk, IfErr};
+ghost use Rattle.std.specs.IoError.{error_kind};
+ghost use Rattle.std.specs.declared.io.ErrorKind.TheVariants.{OutOfMemory};
 ghost use Rattle.eap_base.specs.Setup.{psk_kind, gpsk_kind};
 ghost use Rattle.eap_method.specs.Peer.{peer_kind, peer_kinds, have_each};
 ghost use Rattle.eap_method.specs.Server.{server_kind, server_kinds};
@@ -13,7 +15,8 @@ use std::io;
 pub fn both_peers<M: PeerMethod>(alloc: Global, psk: M, gpsk: M) -> io::Result<Vec<M>>
     requires is_psk { peer_kind (M.peer_shown psk) ≡ psk_kind }
     requires is_gpsk { peer_kind (M.peer_shown gpsk) ≡ gpsk_kind }
-    ensures { IfOk result (λ methods. have_each (peer_kinds (map M.peer_shown methods.items)) (psk_kind ∷ gpsk_kind ∷ []) ≡ true) }
+    ensures kinds { IfOk result (λ methods. have_each (peer_kinds (map M.peer_shown methods.items)) (psk_kind ∷ gpsk_kind ∷ []) ≡ true) }
+    ensures memory { IfErr result (λ error. error_kind error ≡ OutOfMemory) }
 {
     let mut methods = Vec::new(alloc);
     methods.push(psk)?;
@@ -25,7 +28,8 @@ pub fn both_peers<M: PeerMethod>(alloc: Global, psk: M, gpsk: M) -> io::Result<V
 pub fn both_servers<M: ServerMethod>(alloc: Global, psk: M, gpsk: M) -> io::Result<Vec<M>>
     requires is_psk { server_kind (M.server_shown psk) ≡ psk_kind }
     requires is_gpsk { server_kind (M.server_shown gpsk) ≡ gpsk_kind }
-    ensures { IfOk result (λ methods. have_each (server_kinds (map M.server_shown methods.items)) (psk_kind ∷ gpsk_kind ∷ []) ≡ true) }
+    ensures kinds { IfOk result (λ methods. have_each (server_kinds (map M.server_shown methods.items)) (psk_kind ∷ gpsk_kind ∷ []) ≡ true) }
+    ensures memory { IfErr result (λ error. error_kind error ≡ OutOfMemory) }
 {
     let mut methods = Vec::new(alloc);
     methods.push(psk)?;
