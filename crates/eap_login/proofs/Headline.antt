@@ -6,6 +6,8 @@ use Rattle.eap_base.specs.declared.setup.Setup.{Setup}
 use Rattle.eap_base.specs.Lines.{Lines, ended, too_long, too_much, line, lines}
 use Rattle.eap_world.specs.Agreement.{IsWhole}
 use Rattle.eap_world.proofs.Agreement.{honest_ends_agree}
+use Rattle.eap_world.proofs.Few.{few_tags}
+use Rattle.eap_world.proofs.Whose.{honest_names_are_theirs}
 use Rattle.scenario_text.specs.Reading.{Reading, ReadLine, no_settings, read_line}
 use Rattle.scenario_text.specs.Valid.{AreValid, IsValidSetup, IsValidItem, IsValidReadLine}
 use Rattle.scenario_text.specs.declared.fault.LineFault.{LineFault}
@@ -62,4 +64,10 @@ whole_if_valid setup valid = record {
 
 pub headline : (octets : List ℕ) → HonestEndsAgree octets
 headline octets setup is =
-    honest_ends_agree setup (scenario_of octets).events (whole_if_valid setup (setup_valid (lines octets) 0 0 (record { phase = phase.Unread; settings = no_settings }) setup no_settings-valid is))
+    let events = (scenario_of octets).events in
+    let whole = whole_if_valid setup (setup_valid (lines octets) 0 0 (record { phase = phase.Unread; settings = no_settings }) setup no_settings-valid is) in
+    record {
+      agrees = honest_ends_agree setup events whole;
+      theirs = honest_names_are_theirs setup events whole;
+      few_tags = few_tags setup events;
+    }

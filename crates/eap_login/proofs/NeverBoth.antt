@@ -136,7 +136,7 @@ never_setup names (Some setup) events (refused number word s) agrees sound = rec
 never_replay : (names : Bool) (octets : List ℕ) → Never (replay_answer names octets)
 never_replay names octets =
     let s = scenario_of octets in
-    never_setup names s.setup s.events s.outcome (headline octets) (sound_outcome (lines octets) 0 0 _)
+    never_setup names s.setup s.events s.outcome (λ setup is. (headline octets setup is).agrees) (sound_outcome (lines octets) 0 0 _)
 
 -- ---- the texts of the other commands
 

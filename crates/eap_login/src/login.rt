@@ -31,7 +31,7 @@ use trace_text::write_line;
 /// - All other words write the usage line; the source isn't touched.
 ///
 /// Each of the two lists of `methods` has an object of EAP-PSK and one of EAP-GPSK.
-#[tactic(auto, using(crate::proofs::Headline::headline, crate::proofs::NeverBoth::usage_writes))]
+#[tactic(auto, using(crate::proofs::NeverBoth::usage_writes))]
 pub fn eap_login<P: PeerMethod, M: ServerMethod, S: Source, W: Sink>(
     alloc: Global,
     words: &Vec<String>,
@@ -48,7 +48,9 @@ pub fn eap_login<P: PeerMethod, M: ServerMethod, S: Source, W: Sink>(
 
     // Whatever the scenario has delivered, lost, repeated, reordered, altered or injected: where each tag
     // that an end accepted was made earlier by the other end, two ends that both stand in SUCCESS at the
-    // end of its run agree in method, identities, suite, MSK and EMSK, which both policies allow.
+    // end of its run agree in method, identities, suite, MSK and EMSK, which both policies allow; the
+    // identities are their own names, the server's user has the peer's key, and by EAP-GPSK the suite is
+    // the first of the server's that the peer allows.
     ensures honest_ends_agree { (octets : List ℕ) → S.left source.old ≡ Some octets → HonestEndsAgree octets }
 
     // On octets alone: no text written with status 0 has both the line `tags honest` and the line

@@ -109,7 +109,7 @@ every_run_stands setup events =
 
 -- ---- the verdict
 
-record BothIn (one other : Bool) : Type 0 where
+pub record BothIn (one other : Bool) : Type 0 where
   pub one_in : one ≡ true
   pub other_in : other ≡ true
 
@@ -121,6 +121,15 @@ apart_only false other same e = cc
 apart_in : (w : WorldNow) → verdict_of w ≡ Apart → BothIn (is_success w.peer.vars.state) (is_success w.server.vars.state)
 unfolding verdict_of
 apart_in w e = apart_only (is_success w.peer.vars.state) (is_success w.server.vars.state) _ e
+
+agree_only : (one other same : Bool) → (let verdict : Verdict = if one && other then (if same then Agree else Apart) else Unfinished in verdict) ≡ Agree → BothIn one other
+agree_only true true same e = record { one_in = refl; other_in = refl }
+agree_only true false same e = cc
+agree_only false other same e = cc
+
+pub agree_in : (w : WorldNow) → verdict_of w ≡ Agree → BothIn (is_success w.peer.vars.state) (is_success w.server.vars.state)
+unfolding verdict_of
+agree_in w e = agree_only (is_success w.peer.vars.state) (is_success w.server.vars.state) _ e
 
 not_both : (verdict : Verdict) → verdict ≡ Agree → verdict ≡ Apart → ⊥
 not_both verdict agrees apart = cc

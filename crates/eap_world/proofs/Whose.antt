@@ -1,7 +1,8 @@
 -- What two ends in SUCCESS report over an honest book is their own: names, key and suite.
-use Rattle.std.proofs.Common.{◌≡◌, ℕ, List, [], true, Some, refl, sym, ap, ◌∙◌, arith}
+use Rattle.std.proofs.Common.{◌≡◌, ℕ, List, [], true, Some, refl, sym, ap, subst, ◌∙◌, arith}
 use Rattle.eap_base.specs.declared.setup.PeerSetup.{PeerSetup}
 use Rattle.eap_base.specs.declared.setup.Setup.{Setup}
+use Rattle.eap_base.specs.declared.event.Event.{Event}
 use Rattle.eap_base.specs.Setup.{psk_kind, gpsk_kind}
 use Rattle.eap_base.specs.Users.{user_of}
 use Rattle.login_policy.specs.Policy.{picked_suite}
@@ -13,14 +14,18 @@ use Rattle.eap_method.specs.Peer.{credential_for, key_for}
 use Rattle.eap_method.specs.PskPeer as psk_peer
 use Rattle.eap_method.specs.PskServer as psk_server
 use Rattle.eap_method.specs.Server.{side_of}
-use Rattle.eap_world.specs.Book.{first_broken}
+use Rattle.eap_world.specs.Book.{first_broken, tags_verdict}
+use Rattle.eap_world.specs.declared.book.TagsVerdict.TheVariants.{Honest}
+use Rattle.eap_world.specs.Verdict.{verdict_of}
+use Rattle.eap_world.specs.declared.verdict.Verdict.{Verdict}
+use Rattle.eap_world.specs.declared.verdict.Verdict.TheVariants.{Agree}
 use Rattle.eap_world.specs.World.{WorldNow}
 use Rattle.eap_world.specs.declared.book.End.TheVariants as end
-use Rattle.eap_world.specs.Agreement.{AreTheirs, TakesFirstSuite, HonestNamesAreTheirs, run_of}
+use Rattle.eap_world.specs.Agreement.{IsWhole, AreTheirs, TakesFirstSuite, TheirsWhereHonest, HonestNamesAreTheirs, run_of}
 use Rattle.eap_world.specs.PeerStands.{PskBegun, GpskBegun}
 use Rattle.eap_world.specs.ServerStands.{PskChecked, GpskChecked}
 use Rattle.eap_world.proofs.Agreeing.{BothSucceed, by_psk, by_gpsk, ends_succeed}
-use Rattle.eap_world.proofs.Agreement.{none_if_honest, every_run_stands}
+use Rattle.eap_world.proofs.Agreement.{none_if_honest, every_run_stands, agree_in}
 use Rattle.eap_world.proofs.Booked.{honest_tags}
 use Rattle.eap_world.proofs.GpskAgrees as gpsk
 use Rattle.eap_world.proofs.PskAgrees as psk
@@ -111,3 +116,12 @@ honest_names_are_theirs setup events whole honest p_in s_in =
     both_theirs setup w
     (ends_succeed setup.peer setup.server w.peer w.server _ _ _ _ whole.peer_nonce whole.server_nonce both.peer_stands both.server_stands
     (honest_tags end.Peer w.book none) (honest_tags end.Server w.book none) p_in s_in)
+
+agreed_theirs : (setup : Setup) (w : WorldNow) → TheirsWhereHonest setup w → tags_verdict w.book ≡ Honest → verdict_of w ≡ Agree → AreTheirs setup w
+agreed_theirs setup w theirs honest agrees = let both = agree_in w agrees in theirs honest both.one_in both.other_in
+
+-- so it is with a verdict
+pub theirs_if_agreed : (setup : Setup) (events : List Event) (w : WorldNow) (verdict : Verdict) → verdict ≡ verdict_of w → IsWhole setup → w ≡ run_of setup events
+    → tags_verdict w.book ≡ Honest → verdict ≡ Agree → AreTheirs setup w
+theirs_if_agreed setup events w verdict is whole after honest agrees =
+    agreed_theirs setup w (subst (TheirsWhereHonest setup) (sym after) (honest_names_are_theirs setup events whole)) honest (sym is ∙ agrees)

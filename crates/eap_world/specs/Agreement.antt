@@ -73,12 +73,14 @@ pub record AreTheirs (setup : Setup) (w : WorldNow) : Type 0 where
   pub welcome : user.barred ≡ false
   pub first_suite : report.method ≡ gpsk_kind → TakesFirstSuite setup report
 
+-- over an honest book what two ends that both stand in SUCCESS report is their own
+abbrev pub TheirsWhereHonest : Setup → WorldNow → Type 0
+TheirsWhereHonest setup w =
+    tags_verdict w.book ≡ Honest → is_success w.peer.vars.state ≡ true → is_success w.server.vars.state ≡ true → AreTheirs setup w
+
 -- under the premises of agreement, what both ends report is their own: names, key and suite
 abbrev pub HonestNamesAreTheirs : Type 0
-HonestNamesAreTheirs =
-    (setup : Setup) (events : List Event) → IsWhole setup →
-    (let w = run_of setup events in
-    tags_verdict w.book ≡ Honest → is_success w.peer.vars.state ≡ true → is_success w.server.vars.state ≡ true → AreTheirs setup w)
+HonestNamesAreTheirs = (setup : Setup) (events : List Event) → IsWhole setup → TheirsWhereHonest setup (run_of setup events)
 
 -- at most two tags of each end and use, so at most eight entries
 pub record HasFewTags (book : List Entry) : Type 0 where

@@ -75,10 +75,10 @@ impl<P, S> Model for World<P, S> {
 impl<P: PeerMethod, S: ServerMethod> World<P, S> {
     ghost use Rattle.eap_method.specs.Peer.{peer_kinds, have_each};
     ghost use Rattle.eap_method.specs.Server.{server_kinds};
-    ghost use Rattle.eap_world.specs.Agreement.{IsOfRun, run_of};
+    ghost use Rattle.eap_world.specs.Agreement.{IsOfRun, IsWhole, AreTheirs, run_of};
     ghost use Rattle.eap_world.specs.Book.{tags_verdict};
     ghost use Rattle.eap_world.specs.declared.book.TagsVerdict.TheVariants.{Honest};
-    ghost use Rattle.eap_world.specs.declared.verdict.Verdict.TheVariants.{Apart};
+    ghost use Rattle.eap_world.specs.declared.verdict.Verdict.TheVariants.{Agree, Apart};
     ghost use Rattle.eap_world.specs.Verdict.{verdict_of};
     ghost use Rattle.eap_world.specs.World.{WorldOutcome, world_outcome, world_made, world_start, world_step, kinds_of, now_of, state_of};
 
@@ -251,12 +251,15 @@ impl<P: PeerMethod, S: ServerMethod> World<P, S> {
         judge_tags(self.book.as_slice())
     }
 
-    /// Whether both ends agree. In every run of a setup whose ends are sound, with nonces of 32 octets,
-    /// it is never Apart where [`World::tags`] is Honest.
-    #[tactic(auto, using(crate::proofs::Agreement::never_apart))]
+    /// Whether both ends agree. In every run of a setup whose ends are sound, with a key of the peer for
+    /// each of its methods and nonces of 32 octets, it is never Apart where [`World::tags`] is Honest; and
+    /// where both ends then agree, what they report is their own: the names of their setups, a user of the
+    /// server with the peer's key, by EAP-GPSK the first suite of the server's that the peer allows.
+    #[tactic(auto, using(crate::proofs::Agreement::never_apart, crate::proofs::Whose::theirs_if_agreed))]
     pub fn result(&self) -> Verdict
         ensures value { result ≡ verdict_of (now_of P.peer_shown S.server_shown self.now) }
         ensures never_apart { IsOfRun (now_of P.peer_shown S.server_shown self.now) → tags_verdict self.now.book ≡ Honest → result ≡ Apart → ⊥ }
+        ensures theirs { (setup : Setup) (events : List Event) → IsWhole setup → now_of P.peer_shown S.server_shown self.now ≡ run_of setup events → tags_verdict self.now.book ≡ Honest → result ≡ Agree → AreTheirs setup (now_of P.peer_shown S.server_shown self.now) }
     {
         self.verdict()
     }

@@ -1,4 +1,5 @@
 use Rattle.std.proofs.Common.{true, false}
+use Rattle.eap_login.proofs.Headline.{headline}
 use Rattle.eap_login.proofs.NeverBoth.{replay_writes, decode_writes, keys_writes}
 use Rattle.eap_login.proofs.login.eap_login.Goals as goal
 
@@ -14,3 +15,18 @@ returns-then-are_alone-2-clause-never_both g c octets h = decode_writes c.decode
 
 pub returns-then-are_alone-3-clause-never_both : goal.returns-then-are_alone-3-clause-never_both
 returns-then-are_alone-3-clause-never_both g c octets h = keys_writes c.keys.result _ _ octets (c.keys.ensures.ends octets h)
+
+pub returns-then-are_alone-clause-honest_ends_agree : goal.returns-then-are_alone-clause-honest_ends_agree
+returns-then-are_alone-clause-honest_ends_agree g c octets h = headline octets
+
+pub returns-then-are_two-clause-honest_ends_agree : goal.returns-then-are_two-clause-honest_ends_agree
+returns-then-are_two-clause-honest_ends_agree g c octets h = headline octets
+
+pub returns-then-are_alone-2-clause-honest_ends_agree : goal.returns-then-are_alone-2-clause-honest_ends_agree
+returns-then-are_alone-2-clause-honest_ends_agree g c octets h = headline octets
+
+pub returns-then-are_alone-3-clause-honest_ends_agree : goal.returns-then-are_alone-3-clause-honest_ends_agree
+returns-then-are_alone-3-clause-honest_ends_agree g c octets h = headline octets
+
+pub returns-clause-honest_ends_agree : goal.returns-clause-honest_ends_agree
+returns-clause-honest_ends_agree g c octets h = headline octets
