@@ -15,5 +15,6 @@ pub mod PskFields
 pub mod Running
 pub mod Runs
 pub mod ServerKeeps
+pub mod ServerViews
 pub mod Whose
 mod Worked
