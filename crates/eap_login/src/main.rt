@@ -4,34 +4,18 @@
 ghost use Rattle.std.specs.Prelude.{◌≡◌, false, map, string_bytes, IfOk, IfErr};
 ghost use Rattle.std.specs.IoError.{error_kind};
 ghost use Rattle.std.specs.declared.io.ErrorKind.TheVariants.{OutOfMemory};
-ghost use Rattle.eap_login.specs.Login.{is_form};
-ghost use Rattle.eap_login.specs.Statuses.{IsUsage, exit_number_of, failure_number_of};
+ghost use Rattle.login_call.specs.Login.{is_form};
+ghost use Rattle.login_call.specs.Statuses.{IsUsage};
 
-mod command;
-mod decode;
-mod drive;
-mod keys;
-mod login;
-mod objects;
-mod replay;
-mod status;
-#[cfg(test)]
-mod tests;
-
-use crate::login::eap_login;
-use crate::objects::{both_peers, both_servers};
-use crate::status::Status;
 use eap_base::{StdSink, StdSource};
 use eap_method::{PeerMethod, ServerMethod};
 use eap_world::Methods;
 use gpsk_ends::{GpskPeer, GpskServer};
+use login_call::{Status, both_peers, both_servers, eap_login, exit_number, failure_number};
 use psk_ends::{PskPeer, PskServer};
 use std::env;
 use std::io::{self, BufReader};
 use std::process::ExitCode;
-
-/// The exit status where the words could not be taken, for another cause than want of memory.
-const NO_WORDS: u8 = 8;
 
 fn main(rt: HostRuntime) -> ExitCode {
     match words(&rt) {
@@ -44,26 +28,6 @@ fn main(rt: HostRuntime) -> ExitCode {
 fn words(rt: &HostRuntime) -> io::Result<Vec<String>> {
     let words = env::args(rt)?.skip(1).collect(rt.alloc())?;
     Ok(words)
-}
-
-/// The exit status where the words could not be taken.
-fn failure_number(kind: io::ErrorKind) -> u8
-    ensures { result ≡ failure_number_of kind }
-{
-    match kind {
-        io::ErrorKind::OutOfMemory => Status::Memory.number(),
-        _ => NO_WORDS,
-    }
-}
-
-/// The exit status where the words were taken.
-fn exit_number(answered: io::Result<Status>) -> u8
-    ensures { result ≡ exit_number_of answered }
-{
-    match answered {
-        Ok(status) => status.number(),
-        Err(_) => Status::Memory.number(),
-    }
 }
 
 /// Makes the objects of both methods for both ends, and answers to the words over standard input and

@@ -5,8 +5,6 @@
 mod act;
 mod book;
 mod laws;
-#[cfg(test)]
-mod tests;
 mod told;
 mod verdict;
 mod world;

@@ -21,6 +21,33 @@ use Rattle.scenario_text.specs.declared.entry.Entry.{Entry}
 use Rattle.scenario_text.specs.declared.entry.Entry.TheVariants.{Set, Events, Happens, End}
 
 -- the keywords
+
+-- the keyword of an event, or the end
+unfoldable pub event_keyword_of : List ℕ → Option Keyword
+event_keyword_of word =
+    if bytes_eq word (codes "deliver") then Some key.Deliver
+    else if bytes_eq word (codes "alter") then Some key.Alter
+    else if bytes_eq word (codes "cut") then Some key.Cut
+    else if bytes_eq word (codes "inject") then Some key.Inject
+    else if bytes_eq word (codes "timeout") then Some key.Timeout
+    else if bytes_eq word (codes "idle") then Some key.Idle
+    else if bytes_eq word (codes "alt-accept") then Some key.AltAccept
+    else if bytes_eq word (codes "alt-reject") then Some key.AltReject
+    else if bytes_eq word (codes "end") then Some key.End
+    else None
+
+-- the keyword of a setting of the server, or one of the events
+unfoldable pub server_keyword_of : List ℕ → Option Keyword
+server_keyword_of word =
+    if bytes_eq word (codes "server-name") then Some key.ServerName
+    else if bytes_eq word (codes "server-methods") then Some key.ServerMethods
+    else if bytes_eq word (codes "server-suites") then Some key.ServerSuites
+    else if bytes_eq word (codes "server-nonce") then Some key.ServerNonce
+    else if bytes_eq word (codes "user") then Some key.User
+    else if bytes_eq word (codes "events") then Some key.Events
+    else event_keyword_of word
+
+-- the keyword that a word is, if it is one
 unfoldable pub keyword_of : List ℕ → Option Keyword
 keyword_of word =
     if bytes_eq word (codes "mode") then Some key.Mode
@@ -32,22 +59,7 @@ keyword_of word =
     else if bytes_eq word (codes "peer-suites") then Some key.PeerSuites
     else if bytes_eq word (codes "peer-psk") then Some key.PeerPsk
     else if bytes_eq word (codes "peer-nonce") then Some key.PeerNonce
-    else if bytes_eq word (codes "server-name") then Some key.ServerName
-    else if bytes_eq word (codes "server-methods") then Some key.ServerMethods
-    else if bytes_eq word (codes "server-suites") then Some key.ServerSuites
-    else if bytes_eq word (codes "server-nonce") then Some key.ServerNonce
-    else if bytes_eq word (codes "user") then Some key.User
-    else if bytes_eq word (codes "events") then Some key.Events
-    else if bytes_eq word (codes "deliver") then Some key.Deliver
-    else if bytes_eq word (codes "alter") then Some key.Alter
-    else if bytes_eq word (codes "cut") then Some key.Cut
-    else if bytes_eq word (codes "inject") then Some key.Inject
-    else if bytes_eq word (codes "timeout") then Some key.Timeout
-    else if bytes_eq word (codes "idle") then Some key.Idle
-    else if bytes_eq word (codes "alt-accept") then Some key.AltAccept
-    else if bytes_eq word (codes "alt-reject") then Some key.AltReject
-    else if bytes_eq word (codes "end") then Some key.End
-    else None
+    else server_keyword_of word
 
 -- the one word after the keyword
 abbrev pub word_alone : List (List ℕ) → Result (List ℕ) LineFault

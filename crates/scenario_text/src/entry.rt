@@ -3,7 +3,7 @@
 ghost use Rattle.std.specs.Prelude.{◌≡◌, length, slice_get, MatchResult, Ok, Err};
 ghost use Rattle.scenario_text.specs.Words.{words};
 ghost use Rattle.scenario_text.specs.Fields.{number_of};
-ghost use Rattle.scenario_text.specs.Entries.{keyword_of, word_alone, nothing_more, mode_of, accepts_of, nonce_of, first_keyword, entry_of, entry_for, is_user_word, is_user_line};
+ghost use Rattle.scenario_text.specs.Entries.{keyword_of, server_keyword_of, event_keyword_of, word_alone, nothing_more, mode_of, accepts_of, nonce_of, first_keyword, entry_of, entry_for, is_user_word, is_user_line};
 
 use crate::event_words::{read_alter, read_cut, read_inject, read_timer_party};
 use crate::fault::LineFault;
@@ -93,7 +93,17 @@ fn read_keyword(word: &[u8]) -> Option<Keyword>
         Some(Keyword::PeerPsk)
     } else if word == b"peer-nonce".as_slice() {
         Some(Keyword::PeerNonce)
-    } else if word == b"server-name".as_slice() {
+    } else {
+        read_server_keyword(word)
+    }
+}
+
+/// The same, where it is none of the first settings and none of the peer's.
+#[tactic(auto, unfolding(crate::specs::Entries::server_keyword_of))]
+fn read_server_keyword(word: &[u8]) -> Option<Keyword>
+    ensures { result ≡ server_keyword_of word.now }
+{
+    if word == b"server-name".as_slice() {
         Some(Keyword::ServerName)
     } else if word == b"server-methods".as_slice() {
         Some(Keyword::ServerMethods)
@@ -105,7 +115,17 @@ fn read_keyword(word: &[u8]) -> Option<Keyword>
         Some(Keyword::User)
     } else if word == b"events".as_slice() {
         Some(Keyword::Events)
-    } else if word == b"deliver".as_slice() {
+    } else {
+        read_event_keyword(word)
+    }
+}
+
+/// The same, where it is no setting.
+#[tactic(auto, unfolding(crate::specs::Entries::event_keyword_of))]
+fn read_event_keyword(word: &[u8]) -> Option<Keyword>
+    ensures { result ≡ event_keyword_of word.now }
+{
+    if word == b"deliver".as_slice() {
         Some(Keyword::Deliver)
     } else if word == b"alter".as_slice() {
         Some(Keyword::Alter)

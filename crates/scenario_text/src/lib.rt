@@ -10,8 +10,6 @@ mod method_words;
 mod packet_line;
 mod scenario;
 mod settings;
-#[cfg(test)]
-mod tests;
 mod words;
 
 pub use fault::LineFault;

@@ -8,8 +8,6 @@ mod lines;
 mod packet;
 mod pieces;
 mod run;
-#[cfg(test)]
-mod tests;
 
 pub use keys::write_key_line;
 pub use lines::{write_line, write_refused};

@@ -1,0 +1,239 @@
+-- No text that ends with status 0 has both the line of honest tags and the line of ends that are apart.
+use Rattle.std.proofs.Common.{◌≡◌, ℕ, ◌+◌, List, [], ◌∷◌, ◌++◌, Bool, true, false, Option, Some, None, Result, Ok, Err, flat_map, refl, sym, subst, ◌∙◌, codes}
+use Rattle.std.proofs.lemmas.Bool.{true≢false}
+use Rattle.std.proofs.lemmas.Option.{same_Some}
+use Rattle.std.proofs.lemmas.List.{append_cancel_left}
+use Rattle.std.specs.Prelude.{if◌then◌else◌, ◌&&◌, nat_le}
+use Rattle.eap_base.specs.Known.{append_known}
+use Rattle.eap_base.specs.Lines.{Lines, ended, too_long, too_much, line, lines}
+use Rattle.eap_base.specs.declared.event.Event.{Event}
+use Rattle.eap_base.specs.declared.setup.Setup.{Setup}
+use Rattle.eap_world.specs.Agreement.{run_of, AgreesWhereHonest}
+use Rattle.eap_world.specs.Book.{tags_verdict}
+use Rattle.eap_world.specs.Verdict.{verdict_of}
+use Rattle.eap_world.specs.World.{world_made, world_start, told_after}
+use Rattle.eap_world.specs.declared.told.Told.{Told}
+use Rattle.scenario_text.specs.Reading.{Reading, ReadLine, read_line, finish_of}
+use Rattle.scenario_text.specs.Packets.{packet_line}
+use Rattle.scenario_text.specs.Keys.{key_line}
+use Rattle.scenario_text.specs.declared.key_line.KeyLine.{KeyLine}
+use Rattle.scenario_text.specs.declared.fault.LineFault.{LineFault}
+use Rattle.scenario_text.specs.declared.scenario.Item.{Item}
+use Rattle.scenario_text.specs.declared.scenario.Item.TheVariants as item
+use Rattle.trace_text.specs.Run.{start_text, told_text, end_text}
+use Rattle.trace_text.proofs.Plain.{plain, over, none, join}
+use Rattle.trace_text.proofs.PlainAnswers.{begins_result, packet_plain, packets_plain, key_plain}
+use Rattle.trace_text.proofs.PlainTexts.{begins_verdict, no_verdict, told_plain, start_plain}
+use Rattle.trace_text.proofs.Scanning.{has_mark, found}
+use Rattle.trace_text.proofs.Verdicts.{honest_line, apart_line, end_tells_honest, end_tells_apart}
+use Rattle.login_call.specs.Answers.{Answer, after_text, IsRefusal, Ends, Gives}
+use Rattle.login_call.specs.Commands.{Took, Closing, Verdict, goes, refuses, Closed, ends, misses, after_verdict, closing_answer, answer}
+use Rattle.login_call.specs.Decode.{took_packet, decode_took, decode_closing, nothing_decoded, decode_answer}
+use Rattle.login_call.specs.Keys.{took_request, keys_took, keys_closing, all_asked, keys_answer}
+use Rattle.login_call.specs.Login.{usage_answer}
+use Rattle.login_call.specs.declared.decode.Decode.{Decode}
+use Rattle.login_call.specs.declared.keys.Keys.{Keys}
+use Rattle.login_call.specs.Headline.{NeverBoth, WritesNeverBoth}
+use Rattle.login_call.specs.Scenario.{Outcome, whole, refused, Scenario, stops, adds, is_event, with_line, events_after, read_after, scenario_from, scenario_of, too_much_at, finish_outcome, events_text, setup_answer, trace_header, replay_answer}
+use Rattle.login_call.specs.Replay.{max_events}
+use Rattle.login_call.specs.declared.status.Status.{Status}
+use Rattle.login_call.specs.declared.status.Status.TheVariants as status
+use Rattle.login_call.proofs.Headline.{headline}
+
+-- an answer with status 0 has not both lines
+record Never (a : Answer) : Type 0 where
+  pub holds : a.status ≡ status.Done → NeverBoth a.text
+
+-- a status of a refusal is never 0
+refusal_is_not : (s : Status) → IsRefusal s → s ≡ status.Done → ⊥
+refusal_is_not s h e = subst IsRefusal e h
+
+-- ---- the outcome of a scenario
+
+abbrev IsSound : Outcome → Type 0
+IsSound whole = Unit {0}
+IsSound (refused number word s) = IsRefusal s
+
+sound_finish : (number : ℕ) (x : Result (Unit {0}) LineFault) → IsSound (finish_outcome number x)
+sound_finish number (Ok done) = tt
+sound_finish number (Err fault) = tt
+
+sound_item : (i : Item) (s : Scenario) → IsSound s.outcome → IsSound (adds i s).outcome
+sound_item item.Nothing s h = h
+sound_item (item.Ready setup) s h = h
+sound_item (item.Event e) s h = h
+sound_item item.End s h = h
+
+sound_test : (t : Bool) (number : ℕ) (s : Scenario) → IsSound s.outcome → (let made : Scenario = if t then stops (too_much_at number) else s in IsSound made.outcome)
+sound_test true number s h = tt
+sound_test false number s h = h
+
+sound_line : (number k : ℕ) (x : Result ReadLine LineFault) (s : Scenario) → IsSound s.outcome → IsSound (with_line number k x s).outcome
+sound_line number k (Err fault) s h = tt
+sound_line number k (Ok out) s h = sound_test (is_event out.item && nat_le max_events k) number (adds out.item s) (sound_item out.item s h)
+
+sound_outcome : (ls : Lines) (n k : ℕ) (r : Reading) → IsSound (scenario_from n k r ls).outcome
+unfolding scenario_from
+sound_outcome ended n k r = sound_finish (n + 1) (finish_of r)
+sound_outcome too_long n k r = tt
+sound_outcome too_much n k r = tt
+sound_outcome (line l rest) n k r =
+    sound_line (n + 1) k (read_line r l) _ (sound_outcome rest (n + 1) (events_after k (read_line r l)) (read_after r (read_line r l)))
+
+-- ---- the text of a run
+
+header_plain : plain begins_verdict true trace_header ≡ true
+unfolding trace_header
+header_plain = refl
+
+told_all-plain : (names : Bool) (told : List Told) → plain begins_verdict true (flat_map (told_text names) told) ≡ true
+told_all-plain names [] = refl
+told_all-plain names (t ∷ rest) = join begins_verdict (told_text names t) _ true (told_plain begins_verdict no_verdict names t) (told_all-plain names rest)
+
+-- without a setup nothing is told
+nothing_told : has_mark apart_line true (trace_header ++ []) ≡ false
+nothing_told = over begins_verdict 114 (codes "esult apart\n") refl trace_header [] true header_plain
+
+never_unset : NeverBoth (trace_header ++ [])
+never_unset honest apart = true≢false (sym (found (codes "result apart") (trace_header ++ []) apart) ∙ nothing_told)
+
+module _ (names : Bool) (setup : Setup) (events : List Event) where
+  run_text : List ℕ
+  run_text = (after_text trace_header (setup_answer names (Some setup) events whole)).text
+
+  over_events : (m : ℕ) (mark : List ℕ) → begins_verdict m ≡ true
+      → has_mark (m ∷ mark) true run_text ≡ has_mark (m ∷ mark) true (end_text (run_of setup events))
+  unfolding run_text
+  over_events m mark bad =
+      let begun = world_start (world_made setup) in
+      let shown = end_text (run_of setup events) in
+      let lines = events_text names begun.after events in
+      over begins_verdict m mark bad trace_header (start_text names begun.told ++ (lines ++ shown)) true header_plain
+      ∙ (over begins_verdict m mark bad (start_text names begun.told) (lines ++ shown) true (start_plain names begun.told)
+      ∙ over begins_verdict m mark bad lines shown true (told_all-plain names (told_after begun.after events)))
+
+  tells : (mark text : List ℕ) → has_mark mark true text ≡ has_mark mark true (end_text (run_of setup events)) → has_mark mark true text ≡ true
+      → has_mark mark true (end_text (run_of setup events)) ≡ true
+  tells mark text e h = sym e ∙ h
+
+  never_run : AgreesWhereHonest (run_of setup events) → NeverBoth run_text
+  never_run agrees honest apart =
+      let w = run_of setup events in
+      agrees.never_apart
+      (end_tells_honest w.peer.vars.state w.server.vars.state w.counts (tags_verdict w.book) (verdict_of w)
+      (tells honest_line run_text (over_events 116 (codes "ags honest\n") refl) (found (codes "tags honest") run_text honest)))
+      (end_tells_apart w.peer.vars.state w.server.vars.state w.counts (tags_verdict w.book) (verdict_of w)
+      (tells apart_line run_text (over_events 114 (codes "esult apart\n") refl) (found (codes "result apart") run_text apart)))
+
+never_setup : (names : Bool) (x : Option Setup) (events : List Event) (o : Outcome)
+    → ((setup : Setup) → x ≡ Some setup → AgreesWhereHonest (run_of setup events)) → IsSound o → Never (after_text trace_header (setup_answer names x events o))
+unfolding run_text
+never_setup names None events whole agrees sound = record { holds = λ done. never_unset }
+never_setup names None events (refused number word s) agrees sound = record { holds = λ done. absurd (refusal_is_not s sound done) }
+never_setup names (Some setup) events whole agrees sound = record { holds = λ done. never_run names setup events (agrees setup refl) }
+never_setup names (Some setup) events (refused number word s) agrees sound = record { holds = λ done. absurd (refusal_is_not s sound done) }
+
+never_replay : (names : Bool) (octets : List ℕ) → Never (replay_answer names octets)
+never_replay names octets =
+    let s = scenario_of octets in
+    never_setup names s.setup s.events s.outcome (λ setup is. (headline octets setup is).agrees) (sound_outcome (lines octets) 0 0 _)
+
+-- ---- the texts of the other commands
+
+record IsPlain (a : Answer) : Type 0 where
+  pub holds : a.status ≡ status.Done → plain begins_result true a.text ≡ true
+
+-- a refusing verdict never has status 0
+abbrev Refuses : Verdict → Type 0
+Refuses goes = Unit {0}
+Refuses (refuses word s) = IsRefusal s
+
+plain_closing : (number : ℕ) (text : List ℕ) (x : Closed) → plain begins_result true text ≡ true → IsPlain (after_text text (closing_answer number x))
+plain_closing number text (ends s) h = record { holds = λ done. join begins_result text [] true h refl }
+plain_closing number text (misses word) h = record { holds = λ done. absurd (refusal_is_not status.Refused tt done) }
+
+plain_after : (number : ℕ) (text : List ℕ) (v : Verdict) (a : Answer) → plain begins_result true text ≡ true → Refuses v → IsPlain a → IsPlain (after_text text (after_verdict number v a))
+plain_after number text goes a h k rest = record { holds = λ done. join begins_result text a.text true h (rest.holds done) }
+plain_after number text (refuses word s) a h k rest = record { holds = λ done. absurd (refusal_is_not s k done) }
+
+module _ {C : Type 0} (took : C → List ℕ → Took C) (closing : C → Closing) (plain_took : (c : C) (l : List ℕ) → plain begins_result true (took c l).text ≡ true)
+    (refusing : (c : C) (l : List ℕ) → Refuses (took c l).verdict) (plain_end : (c : C) → plain begins_result true (closing c).text ≡ true) where
+  plain_answer : (ls : Lines) (n : ℕ) (c : C) → IsPlain (answer took closing n c ls)
+  unfolding answer
+  plain_answer ended n c = plain_closing (n + 1) (closing c).text (closing c).closed (plain_end c)
+  plain_answer too_long n c = record { holds = λ done. absurd (refusal_is_not status.TooMuch tt done) }
+  plain_answer too_much n c = record { holds = λ done. absurd (refusal_is_not status.TooMuch tt done) }
+  plain_answer (line l rest) n c =
+      plain_after (n + 1) (took c l).text (took c l).verdict (answer took closing (n + 1) (took c l).after rest) (plain_took c l) (refusing c l)
+      (plain_answer rest (n + 1) (took c l).after)
+
+never_if_plain : (a : Answer) → IsPlain a → Never a
+never_if_plain a p = record {
+  holds = λ done honest apart. true≢false (sym (found (codes "result apart") a.text apart) ∙ none begins_result 114 (codes "esult apart\n") refl a.text true (p.holds done));
+}
+
+packet_took : (c : Decode) (x : Result (Option (List ℕ)) LineFault) → (plain begins_result true (took_packet c x).text ≡ true) × Refuses (took_packet c x).verdict
+packet_took c (Err fault) = (refl, tt)
+packet_took c (Ok None) = (refl, tt)
+packet_took c (Ok (Some octets)) = (packet_plain (c.packets + 1) octets, tt)
+
+line_decoded : (c : Decode) (l : List ℕ) → (plain begins_result true (decode_took c l).text ≡ true) × Refuses (decode_took c l).verdict
+unfolding decode_took
+line_decoded c l = packet_took c (packet_line l)
+
+all_decoded : (c : Decode) → plain begins_result true (decode_closing c).text ≡ true
+unfolding decode_closing
+all_decoded c = packets_plain c.packets c.malformed
+
+never_decode : (octets : List ℕ) → Never (decode_answer octets)
+never_decode octets =
+    never_if_plain _ (plain_answer decode_took decode_closing (λ c l. (line_decoded c l).0) (λ c l. (line_decoded c l).1) all_decoded (lines octets) 0 nothing_decoded)
+
+request_took : (c : Keys) (x : Result (Option KeyLine) LineFault) → (plain begins_result true (took_request c x).text ≡ true) × Refuses (took_request c x).verdict
+request_took c (Err fault) = (refl, tt)
+request_took c (Ok None) = (refl, tt)
+request_took c (Ok (Some asked)) = (key_plain asked, tt)
+
+line_asked : (c : Keys) (l : List ℕ) → (plain begins_result true (keys_took c l).text ≡ true) × Refuses (keys_took c l).verdict
+unfolding keys_took
+line_asked c l = request_took c (key_line l)
+
+all_answered : (c : Keys) → plain begins_result true (keys_closing c).text ≡ true
+unfolding keys_closing
+all_answered c = refl
+
+never_keys : (octets : List ℕ) → Never (keys_answer octets)
+never_keys octets =
+    never_if_plain _ (plain_answer keys_took keys_closing (λ c l. (line_asked c l).0) (λ c l. (line_asked c l).1) all_answered (lines octets) 0 all_asked)
+
+-- ---- what is written
+
+never_usage : Never usage_answer
+never_usage = record { holds = λ done. absurd (usage_is_not done) }
+  where
+    usage_is_not : status.Usage ≡ status.Done → ⊥
+    usage_is_not e = cc
+
+same_text : (old one other : List ℕ) (now : Option (List ℕ)) → append_known (Some old) one ≡ now → now ≡ Some (old ++ other) → one ≡ other
+same_text old one other now p q = append_cancel_left old one other (same_Some (old ++ one) (old ++ other) (p ∙ q))
+
+given : (a : Answer) (before now : Option (List ℕ)) → Never a → Gives before now a status.Done → (old text : List ℕ) → before ≡ Some old → now ≡ Some (old ++ text) → NeverBoth text
+given a before now never gives old text p q =
+    let appended : append_known (Some old) a.text ≡ now = subst (λ (x : Option (List ℕ)). append_known x a.text ≡ now) p gives.text in
+    subst NeverBoth (same_text old a.text text now appended q) (never.holds gives.status)
+
+written : (a : Answer) (s : Status) (before now : Option (List ℕ)) → Never a → Ends s before now a → WritesNeverBoth s before now
+written a s before now never h = record { holds = λ done. given a before now never (subst (λ (x : Status). Ends x before now a) done h) }
+
+module _ (s : Status) (before now : Option (List ℕ)) where
+  pub replay_writes : (names : Bool) (octets : List ℕ) → Ends s before now (replay_answer names octets) → WritesNeverBoth s before now
+  replay_writes names octets = written (replay_answer names octets) s before now (never_replay names octets)
+
+  pub decode_writes : (octets : List ℕ) → Ends s before now (decode_answer octets) → WritesNeverBoth s before now
+  decode_writes octets = written (decode_answer octets) s before now (never_decode octets)
+
+  pub keys_writes : (octets : List ℕ) → Ends s before now (keys_answer octets) → WritesNeverBoth s before now
+  keys_writes octets = written (keys_answer octets) s before now (never_keys octets)
+
+  pub usage_writes : Ends s before now usage_answer → WritesNeverBoth s before now
+  usage_writes = written usage_answer s before now never_usage

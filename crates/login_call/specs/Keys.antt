@@ -1,0 +1,36 @@
+-- The command keys: each line asks for a cipher, a MAC, a key schedule or the name of a key.
+use Rattle.std.specs.Prelude.{ℕ, List, [], Bool, false, Option, Some, None, Result, Ok, Err}
+use Rattle.eap_base.specs.Lines.{lines}
+use Rattle.scenario_text.specs.Words.{fault_word}
+use Rattle.scenario_text.specs.Keys.{key_line}
+use Rattle.scenario_text.specs.declared.fault.LineFault.{LineFault}
+use Rattle.scenario_text.specs.declared.key_line.KeyLine.{KeyLine}
+use Rattle.trace_text.specs.Keys.{key_text}
+use Rattle.login_call.specs.Answers.{Answer}
+use Rattle.login_call.specs.Commands.{Took, Closing, goes, refuses, ends, answer}
+use Rattle.login_call.specs.declared.keys.Keys.{Keys}
+use Rattle.login_call.specs.declared.status.Status.TheVariants as status
+
+abbrev pub took_request : Keys → Result (Option KeyLine) LineFault → Took Keys
+took_request c (Err fault) = record { text = []; verdict = refuses (fault_word fault) status.Refused; after = c }
+took_request c (Ok None) = record { text = []; verdict = goes; after = c }
+took_request c (Ok (Some asked)) = record { text = key_text asked; verdict = goes; after = c }
+
+-- what a line brings
+unfoldable pub keys_took : Keys → List ℕ → Took Keys
+keys_took c line = took_request c (key_line line)
+
+-- the end of the input
+unfoldable pub keys_closing : Keys → Closing
+keys_closing c = record { text = []; closed = ends status.Done }
+
+-- no line finds memory wanting
+abbrev pub keys_lacks : Keys → List ℕ → Bool
+keys_lacks c line = false
+
+abbrev pub all_asked : Keys
+all_asked = record {}
+
+-- what an input answers
+abbrev pub keys_answer : List ℕ → Answer
+keys_answer octets = answer keys_took keys_closing 0 all_asked (lines octets)

@@ -1,0 +1,62 @@
+-- What the program answers to words and an input.
+use Rattle.std.specs.Prelude.{◌≡◌, ℕ, List, [], ◌∷◌, Bool, true, false, ◌||◌, ◌&&◌, if◌then◌else◌, codes, is_some}
+use Rattle.std.specs.Str.{bytes_eq}
+use Rattle.trace_text.specs.Lines.{line_text}
+use Rattle.login_call.specs.Answers.{Answer}
+use Rattle.login_call.specs.Decode.{decode_answer}
+use Rattle.login_call.specs.Keys.{keys_answer}
+use Rattle.login_call.specs.Scenario.{replay_answer, scenario_of}
+use Rattle.login_call.specs.declared.status.Status.TheVariants as status
+
+-- the words are this one alone
+abbrev pub is_alone : List ℕ → List (List ℕ) → Bool
+is_alone name [] = false
+is_alone name (word ∷ []) = bytes_eq word name
+is_alone name (word ∷ next ∷ rest) = false
+
+abbrev pub is_replay : List (List ℕ) → Bool
+is_replay words = is_alone (codes "replay") words
+
+abbrev pub is_decode : List (List ℕ) → Bool
+is_decode words = is_alone (codes "decode") words
+
+abbrev pub is_keys : List (List ℕ) → Bool
+is_keys words = is_alone (codes "keys") words
+
+-- the words are these two
+abbrev pub are_two : List ℕ → List ℕ → List (List ℕ) → Bool
+are_two first second [] = false
+are_two first second (word ∷ []) = false
+are_two first second (word ∷ next ∷ []) = bytes_eq word first && bytes_eq next second
+are_two first second (word ∷ next ∷ more ∷ rest) = false
+
+abbrev pub is_replay_names : List (List ℕ) → Bool
+is_replay_names words = are_two (codes "replay") (codes "names") words
+
+-- the words are one of the two forms that read a scenario
+abbrev pub reads_scenario : List (List ℕ) → Bool
+reads_scenario words = is_replay words || is_replay_names words
+
+-- the words are one of the forms that are built
+abbrev pub is_form : List (List ℕ) → Bool
+is_form words = is_replay words || (is_replay_names words || (is_decode words || is_keys words))
+
+-- for all other words the program says how it is used
+unfoldable pub usage_text : List ℕ
+usage_text = line_text (codes "usage: eap_login replay | replay names | decode | keys | check | bulk N K")
+
+abbrev pub usage_answer : Answer
+usage_answer = record { text = usage_text; status = status.Usage }
+
+-- the answer to words and an input
+abbrev pub login_answer : List (List ℕ) → List ℕ → Answer
+login_answer words octets =
+    if is_replay words then replay_answer false octets
+    else if is_replay_names words then replay_answer true octets
+    else if is_decode words then decode_answer octets
+    else if is_keys words then keys_answer octets
+    else usage_answer
+
+-- the input's settings are whole, so that the run of its events begins
+abbrev pub HasSetup : List ℕ → Type 0
+HasSetup octets = is_some (scenario_of octets).setup ≡ true

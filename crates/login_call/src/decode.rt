@@ -1,0 +1,96 @@
+//! The command `decode`: says what each packet of a list is.
+
+ghost use Rattle.std.specs.Prelude.{◌≡◌, ◌≤◌, ◌<◌, ◌^◌, false};
+ghost use Rattle.login_call.specs.Decode.{is_malformed};
+
+use crate::command::{Close, Command, Next, Trouble};
+use crate::status::Status;
+use eap_base::{Failed, Sink};
+use eap_packet::decode;
+use scenario_text::read_packet_line;
+use trace_text::{write_packet, write_packet_counts};
+
+/// How many packets there were so far, and how many of them were malformed.
+#[derive(Clone, Copy, PartialEq, Eq, Debug)]
+pub struct Decode {
+    packets: u32,
+    malformed: u32,
+}
+
+/// True where the octets begin with no packet.
+#[tactic(auto, unfolding(crate::specs::Decode::is_malformed))]
+fn begins_with_none(octets: &[u8]) -> bool
+    ensures { result ≡ is_malformed octets.now }
+{
+    match decode(octets) {
+        Ok(_) => false,
+        Err(_) => true,
+    }
+}
+
+impl Decode {
+    ghost use Rattle.login_call.specs.Decode.{took_packet, with_packet, nothing_decoded};
+    ghost use Rattle.login_call.specs.Commands.{Takes, Troubles};
+    ghost use Rattle.std.specs.Prelude.{Some, Ok};
+
+    /// No packet so far.
+    pub fn new() -> Decode
+        ensures { result ≡ nothing_decoded }
+    {
+        Decode {
+            packets: 0,
+            malformed: 0,
+        }
+    }
+
+    /// One more packet.
+    fn packet<W: Sink>(&mut self, sink: &mut W, octets: &[u8]) -> Result<Next, Trouble>
+        requires packets { self.old.packets < 2 ^ 31 }
+        requires malformed { self.old.malformed < 2 ^ 31 }
+        ensures takes { Takes result (took_packet self.old (Ok (Some octets.now))) (W.written sink.old) (W.written sink.new) self.new }
+        ensures trouble { Troubles result W.last_write_fault (W.write_faults sink.old) (W.write_faults sink.new) false }
+        ensures never_falls { W.write_faults sink.old ≤ W.write_faults sink.new }
+        ensures after { self.new ≡ with_packet self.old octets.now }
+    {
+        self.packets += 1;
+        self.malformed += u32::from(begins_with_none(octets));
+        match write_packet(sink, self.packets, octets) {
+            Ok(()) => Ok(Next::Goes),
+            Err(_) => Err(Trouble::Write),
+        }
+    }
+}
+
+impl Command for Decode {
+    ghost use Rattle.login_call.specs.declared.decode.Decode.{Decode};
+    ghost use Rattle.login_call.specs.Decode.{decode_took, decode_closing, decode_lacks, HasCounted};
+
+    ghost Seen = { Decode };
+
+    ghost seen = { λ c. c };
+
+    ghost took = { decode_took };
+
+    ghost closing = { decode_closing };
+
+    ghost lacks = { decode_lacks };
+
+    ghost holds = { HasCounted };
+
+    #[tactic(auto, unfolding(crate::specs::Decode::decode_took))]
+    fn take<W: Sink>(&mut self, sink: &mut W, line: &[u8]) -> Result<Next, Trouble> {
+        match read_packet_line(line) {
+            Ok(None) => Ok(Next::Goes),
+            Ok(Some(octets)) => self.packet(sink, octets.as_slice()),
+            Err(fault) => Ok(Next::Refuses(fault.word(), Status::Refused)),
+        }
+    }
+
+    #[tactic(auto, unfolding(crate::specs::Decode::decode_closing))]
+    fn close<W: Sink>(&self, sink: &mut W) -> Result<Close, Failed> {
+        match write_packet_counts(sink, self.packets, self.malformed) {
+            Ok(()) => Ok(Close::Ends(Status::Done)),
+            Err(fault) => Err(fault),
+        }
+    }
+}

@@ -1,0 +1,16 @@
+//! The one call that the program makes, [`eap_login`], and its commands: `replay` and `replay names` of
+//! a scenario, `decode` of packets, `keys` for ciphers, MACs and key schedules.
+#![tactic(auto)]
+
+mod command;
+mod decode;
+mod drive;
+mod keys;
+mod login;
+mod objects;
+mod replay;
+mod status;
+
+pub use login::eap_login;
+pub use objects::{both_peers, both_servers};
+pub use status::{Status, exit_number, failure_number};

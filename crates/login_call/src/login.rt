@@ -1,0 +1,187 @@
+//! The program's one call.
+
+ghost use Rattle.std.specs.Prelude.{◌≡◌, ◌≢◌, ◌≤◌, ℕ, List, Option, Some, OnErr, true, false, map, string_bytes};
+ghost use Rattle.login_call.specs.Answers.{Ends, Drains, IsWritten};
+ghost use Rattle.login_call.specs.Login.{is_alone, are_two, reads_scenario, is_form, login_answer, usage_answer, usage_text, HasSetup};
+ghost use Rattle.login_call.specs.Decode.{decode_answer};
+ghost use Rattle.login_call.specs.Keys.{keys_answer};
+ghost use Rattle.login_call.specs.Headline.{HonestEndsAgree, WritesNeverBoth};
+ghost use Rattle.login_call.specs.Replay.{HasBoth};
+ghost use Rattle.login_call.specs.Scenario.{replay_answer, trace_header};
+ghost use Rattle.trace_text.specs.Writes.{Writes};
+
+use crate::decode::Decode;
+use crate::drive::drive;
+use crate::keys::Keys;
+use crate::replay::Replay;
+use crate::status::Status;
+use eap_base::{Failed, Sink, Source};
+use eap_method::{PeerMethod, ServerMethod};
+use eap_world::Methods;
+use std::alloc::Global;
+use trace_text::write_line;
+
+/// Answers to the words after the program's name: reads `source`, writes `sink`, and says how it
+/// ended.
+///
+/// - `replay` reads a scenario and writes the trace of its run; `replay names` writes the octets of each
+///   packet and the names of keys besides. Both take memory.
+/// - `decode` reads packets in hex and writes what they are. It takes no memory.
+/// - `keys` reads requests for ciphers, MACs and keys and writes the answers. It takes no memory.
+/// - All other words write the usage line; the source isn't touched.
+///
+/// Each of the two lists of `methods` has an object of EAP-PSK and one of EAP-GPSK.
+#[tactic(auto, using(crate::proofs::NeverBoth::usage_writes))]
+pub fn eap_login<P: PeerMethod, M: ServerMethod, S: Source, W: Sink>(
+    alloc: Global,
+    words: &Vec<String>,
+    source: &mut S,
+    sink: &mut W,
+    methods: Methods<P, M>,
+) -> Status
+    requires { HasBoth P.peer_shown M.server_shown methods }
+
+    // With status 0, 1, 2 or 6 the whole text was written and the status is that of the answer. With
+    // 3, 4 or 5 a front of the text was.
+    ensures ends { (octets : List ℕ) → S.left source.old ≡ Some octets → Ends result (W.written sink.old) (W.written sink.new) (login_answer (map string_bytes words.now.items) octets) }
+    ensures drains { Drains result (S.left source.new) }
+
+    // Whatever the scenario has delivered, lost, repeated, reordered, altered or injected: where each tag
+    // that an end accepted was made earlier by the other end, two ends that both stand in SUCCESS at the
+    // end of its run agree in method, identities, suite, MSK and EMSK, which both policies allow; the
+    // identities are their own names, the server's user has the peer's key, and by EAP-GPSK the suite is
+    // the first of the server's that the peer allows.
+    ensures honest_ends_agree { (octets : List ℕ) → S.left source.old ≡ Some octets → HonestEndsAgree octets }
+
+    // On octets alone: no text written with status 0 has both the line `tags honest` and the line
+    // `result apart`.
+    ensures never_both { (octets : List ℕ) → S.left source.old ≡ Some octets → WritesNeverBoth result (W.written sink.old) (W.written sink.new) }
+
+    // A fault comes only where its count rose in this call, or stands at its last value; want of
+    // memory only for `replay`, after the line `events` was taken.
+    ensures read_fault { result ≡ Status.ReadFault → S.read_faults source.new ≤ S.read_faults source.old → S.last_read_fault ≡ Some (S.read_faults source.new) }
+    ensures write_fault { result ≡ Status.WriteFault → W.write_faults sink.new ≤ W.write_faults sink.old → W.last_write_fault ≡ Some (W.write_faults sink.new) }
+    ensures memory { result ≡ Status.Memory → reads_scenario (map string_bytes words.now.items) ≡ true }
+    ensures setup { result ≡ Status.Memory → (octets : List ℕ) → S.left source.old ≡ Some octets → HasSetup octets }
+
+    // Words that are none of the forms leave the source as it was.
+    ensures usage_ends { is_form (map string_bytes words.now.items) ≡ false → Ends result (W.written sink.old) (W.written sink.new) usage_answer }
+    ensures usage_written { is_form (map string_bytes words.now.items) ≡ false → IsWritten result }
+    ensures untouched { is_form (map string_bytes words.now.items) ≡ false → source.new ≡ source.old }
+{
+    if are_alone(words, "replay") {
+        replay(alloc, false, source, sink, methods)
+    } else if are_two(words, "replay", "names") {
+        replay(alloc, true, source, sink, methods)
+    } else if are_alone(words, "decode") {
+        decode(source, sink)
+    } else if are_alone(words, "keys") {
+        keys(source, sink)
+    } else {
+        show_usage(sink)
+    }
+}
+
+/// True where the words are this one alone.
+fn are_alone(words: &Vec<String>, name: &str) -> bool
+    ensures { result ≡ is_alone name.now (map string_bytes words.now.items) }
+{
+    match words.as_slice() {
+        [word] => word.as_str() == name,
+        _ => false,
+    }
+}
+
+/// True where the words are these two.
+fn are_two(words: &Vec<String>, first: &str, second: &str) -> bool
+    ensures { result ≡ are_two first.now second.now (map string_bytes words.now.items) }
+{
+    match words.as_slice() {
+        [word, next] => word.as_str() == first && next.as_str() == second,
+        _ => false,
+    }
+}
+
+/// Writes the usage line.
+fn show_usage<W: Sink>(sink: &mut W) -> Status
+    ensures ends { Ends result (W.written sink.old) (W.written sink.new) usage_answer }
+    ensures written { IsWritten result }
+    ensures drains { (left : Option (List ℕ)) → Drains result left }
+    ensures write_fault { result ≡ Status.WriteFault → W.write_faults sink.new ≤ W.write_faults sink.old → W.last_write_fault ≡ Some (W.write_faults sink.new) }
+    ensures never_falls { W.write_faults sink.old ≤ W.write_faults sink.new }
+{
+    match write_usage(sink) {
+        Ok(()) => Status::Usage,
+        Err(_) => Status::WriteFault,
+    }
+}
+
+#[tactic(auto, unfolding(crate::specs::Login::usage_text))]
+fn write_usage<W: Sink>(sink: &mut W) -> Result<(), Failed>
+    ensures writes { Writes result (W.written sink.old) (W.written sink.new) usage_text }
+    ensures counted { OnErr result (W.write_faults sink.new ≤ W.write_faults sink.old → W.last_write_fault ≡ Some (W.write_faults sink.new)) }
+    ensures never_falls { W.write_faults sink.old ≤ W.write_faults sink.new }
+{
+    write_line(
+        sink,
+        b"usage: eap_login replay | replay names | decode | keys | check | bulk N K",
+    )
+}
+
+/// Reads a scenario and writes the trace of its run, with names or without.
+fn replay<P: PeerMethod, M: ServerMethod, S: Source, W: Sink>(
+    alloc: Global,
+    names: bool,
+    source: &mut S,
+    sink: &mut W,
+    methods: Methods<P, M>,
+) -> Status
+    requires { HasBoth P.peer_shown M.server_shown methods }
+    ensures ends { (octets : List ℕ) → S.left source.old ≡ Some octets → Ends result (W.written sink.old) (W.written sink.new) (replay_answer names octets) }
+    ensures drains { Drains result (S.left source.new) }
+    ensures read_fault { result ≡ Status.ReadFault → S.read_faults source.new ≤ S.read_faults source.old → S.last_read_fault ≡ Some (S.read_faults source.new) }
+    ensures write_fault { result ≡ Status.WriteFault → W.write_faults sink.new ≤ W.write_faults sink.old → W.last_write_fault ≡ Some (W.write_faults sink.new) }
+    ensures memory { result ≡ Status.Memory → (octets : List ℕ) → S.left source.old ≡ Some octets → HasSetup octets }
+{
+    match write_trace_header(sink) {
+        Ok(()) => {
+            let mut command = Replay::new(alloc, names, methods);
+            drive(&mut command, source, sink)
+        }
+        Err(_) => Status::WriteFault,
+    }
+}
+
+/// Writes the first line of a trace.
+#[tactic(auto, unfolding(crate::specs::Scenario::trace_header))]
+fn write_trace_header<W: Sink>(sink: &mut W) -> Result<(), Failed>
+    ensures writes { Writes result (W.written sink.old) (W.written sink.new) trace_header }
+    ensures counted { OnErr result (W.write_faults sink.new ≤ W.write_faults sink.old → W.last_write_fault ≡ Some (W.write_faults sink.new)) }
+    ensures never_falls { W.write_faults sink.old ≤ W.write_faults sink.new }
+{
+    write_line(sink, b"eap-trace 1")
+}
+
+/// Reads packets in hex and writes what they are.
+fn decode<S: Source, W: Sink>(source: &mut S, sink: &mut W) -> Status
+    ensures ends { (octets : List ℕ) → S.left source.old ≡ Some octets → Ends result (W.written sink.old) (W.written sink.new) (decode_answer octets) }
+    ensures drains { Drains result (S.left source.new) }
+    ensures read_fault { result ≡ Status.ReadFault → S.read_faults source.new ≤ S.read_faults source.old → S.last_read_fault ≡ Some (S.read_faults source.new) }
+    ensures write_fault { result ≡ Status.WriteFault → W.write_faults sink.new ≤ W.write_faults sink.old → W.last_write_fault ≡ Some (W.write_faults sink.new) }
+    ensures no_memory { result ≢ Status.Memory }
+{
+    let mut command = Decode::new();
+    drive(&mut command, source, sink)
+}
+
+/// Reads requests for ciphers, MACs and keys and writes the answers.
+fn keys<S: Source, W: Sink>(source: &mut S, sink: &mut W) -> Status
+    ensures ends { (octets : List ℕ) → S.left source.old ≡ Some octets → Ends result (W.written sink.old) (W.written sink.new) (keys_answer octets) }
+    ensures drains { Drains result (S.left source.new) }
+    ensures read_fault { result ≡ Status.ReadFault → S.read_faults source.new ≤ S.read_faults source.old → S.last_read_fault ≡ Some (S.read_faults source.new) }
+    ensures write_fault { result ≡ Status.WriteFault → W.write_faults sink.new ≤ W.write_faults sink.old → W.last_write_fault ≡ Some (W.write_faults sink.new) }
+    ensures no_memory { result ≢ Status.Memory }
+{
+    let mut command = Keys::new();
+    drive(&mut command, source, sink)
+}

@@ -1,0 +1,157 @@
+//! The commands `replay` and `replay names`: a scenario is read line by line, and each event is run as it
+//! comes.
+
+ghost use Rattle.std.specs.Prelude.{◌≡◌, ◌≤◌, None, Some, OnErr, IfOk, ℕ, ◌+◌};
+ghost use Rattle.scenario_text.specs.Valid.{IsValidSetup};
+ghost use Rattle.login_call.specs.Replay.{IsReady, HasBoth, seen_of};
+
+use crate::command::{Close, Command, Next, Trouble};
+use crate::status::Status;
+use eap_base::{Event, Failed, Setup, Sink};
+use eap_method::{PeerMethod, ServerMethod};
+use eap_world::{Methods, World};
+use scenario_text::{Item, ScenarioReader};
+use std::alloc::Global;
+use trace_text::{write_end, write_start, write_told};
+
+/// The most events of a scenario.
+const MAX_EVENTS: u32 = 10_000;
+
+/// A scenario on its way: what has been read of it, and its world from the line `events` on.
+#[derive(Drop)]
+pub struct Replay<P, S> {
+    alloc: Global,
+    /// Whether the octets of packets and the names of keys are written.
+    names: bool,
+    reader: ScenarioReader,
+    /// The objects, until the world begins.
+    methods: Option<Methods<P, S>>,
+    world: Option<World<P, S>>,
+}
+
+impl<P: PeerMethod, S: ServerMethod> Replay<P, S> {
+    ghost use Rattle.login_call.specs.Replay.{starts, steps, end_of};
+    ghost use Rattle.login_call.specs.Commands.{Takes, Troubles, Closes, Closing, ends};
+    ghost use Rattle.scenario_text.specs.Reading.{no_settings};
+    ghost use Rattle.scenario_text.specs.declared.scenario.Phase.TheVariants as Phase;
+    ghost use Rattle.std.specs.Prelude.{true};
+
+    /// Nothing has been read yet.
+    pub fn new(alloc: Global, names: bool, methods: Methods<P, S>) -> Replay<P, S>
+        ensures { result ≡ record { alloc = alloc; names = names; reader = record { phase = Phase.Unread; settings = no_settings }; methods = Some methods; world = None } }
+    {
+        Replay {
+            alloc,
+            names,
+            reader: ScenarioReader::new(),
+            methods: Some(methods),
+            world: None,
+        }
+    }
+
+    /// The line `events`: the world starts.
+    fn start<W: Sink>(&mut self, sink: &mut W, setup: Setup) -> Result<Next, Trouble>
+        requires valid { IsValidSetup setup }
+        requires ready { IsReady P.peer_shown S.server_shown self.old 0 }
+        ensures ready_after { IfOk result (λ next. IsReady P.peer_shown S.server_shown self.new 0) }
+        ensures takes { Takes result (starts (seen_of P.peer_shown S.server_shown self.old) setup) (W.written sink.old) (W.written sink.new) (seen_of P.peer_shown S.server_shown self.new) }
+        ensures trouble { Troubles result W.last_write_fault (W.write_faults sink.old) (W.write_faults sink.new) true }
+        ensures never_falls { W.write_faults sink.old ≤ W.write_faults sink.new }
+    {
+        if self.world.is_some() {
+            return Ok(Next::Goes);
+        }
+        match self.methods.take() {
+            None => Ok(Next::Goes),
+            Some(methods) => {
+                let mut world = World::new(self.alloc, setup, methods);
+                match world.start() {
+                    Ok(told) => {
+                        self.world = Some(world);
+                        match write_start(sink, &told, self.names) {
+                            Ok(()) => Ok(Next::Goes),
+                            Err(_) => Err(Trouble::Write),
+                        }
+                    }
+                    Err(_) => Err(Trouble::Memory),
+                }
+            }
+        }
+    }
+
+    /// The end of the input, after the line `end`.
+    fn end<W: Sink>(&self, sink: &mut W) -> Result<Close, Failed>
+        ensures closes { Closes result (record { text = end_of (seen_of P.peer_shown S.server_shown self.now).world; closed = ends Status.Done }) (W.written sink.old) (W.written sink.new) }
+        ensures counted { OnErr result (W.write_faults sink.new ≤ W.write_faults sink.old → W.last_write_fault ≡ Some (W.write_faults sink.new)) }
+        ensures never_falls { W.write_faults sink.old ≤ W.write_faults sink.new }
+    {
+        match &self.world {
+            None => Ok(Close::Ends(Status::Done)),
+            Some(world) => match write_end(sink, world) {
+                Ok(()) => Ok(Close::Ends(Status::Done)),
+                Err(fault) => Err(fault),
+            },
+        }
+    }
+
+    /// An event.
+    fn step<W: Sink>(&mut self, sink: &mut W, event: &Event) -> Result<Next, Trouble>
+        requires ready { IsReady P.peer_shown S.server_shown self.old 0 }
+        ensures ready_after { IfOk result (λ next. IsReady P.peer_shown S.server_shown self.new 0) }
+        ensures takes { Takes result (steps (seen_of P.peer_shown S.server_shown self.old) event.now) (W.written sink.old) (W.written sink.new) (seen_of P.peer_shown S.server_shown self.new) }
+        ensures trouble { Troubles result W.last_write_fault (W.write_faults sink.old) (W.write_faults sink.new) true }
+        ensures never_falls { W.write_faults sink.old ≤ W.write_faults sink.new }
+    {
+        let names = self.names;
+        match &mut self.world {
+            None => Ok(Next::Goes),
+            Some(world) => {
+                if world.counts().events >= MAX_EVENTS {
+                    return Ok(Next::Refuses("TooMuch", Status::TooMuch));
+                }
+                match world.step(event) {
+                    Ok(told) => match write_told(sink, &told, names) {
+                        Ok(()) => Ok(Next::Goes),
+                        Err(_) => Err(Trouble::Write),
+                    },
+                    Err(_) => Err(Trouble::Memory),
+                }
+            }
+        }
+    }
+}
+
+impl<P: PeerMethod, S: ServerMethod> Command for Replay<P, S> {
+    ghost use Rattle.login_call.specs.Replay.{ReplayNow, replay_took, replay_closing, replay_lacks};
+
+    ghost Seen = { ReplayNow };
+
+    ghost seen = { seen_of P.peer_shown S.server_shown };
+
+    ghost took = { replay_took };
+
+    ghost closing = { replay_closing };
+
+    ghost lacks = { replay_lacks };
+
+    ghost holds = { IsReady P.peer_shown S.server_shown };
+
+    #[tactic(auto, unfolding(crate::specs::Replay::replay_took, crate::specs::Replay::replay_lacks))]
+    fn take<W: Sink>(&mut self, sink: &mut W, line: &[u8]) -> Result<Next, Trouble> {
+        match self.reader.line(line) {
+            Ok(Item::Nothing) => Ok(Next::Goes),
+            Ok(Item::Ready(setup)) => self.start(sink, setup),
+            Ok(Item::Event(event)) => self.step(sink, &event),
+            Ok(Item::End) => Ok(Next::Goes),
+            Err(fault) => Ok(Next::Refuses(fault.word(), Status::Refused)),
+        }
+    }
+
+    #[tactic(auto, unfolding(crate::specs::Replay::replay_closing))]
+    fn close<W: Sink>(&self, sink: &mut W) -> Result<Close, Failed> {
+        match self.reader.finish() {
+            Ok(()) => self.end(sink),
+            Err(fault) => Ok(Close::Misses(fault.word())),
+        }
+    }
+}

@@ -1,0 +1,68 @@
+//! How the program ends.
+
+ghost use Rattle.std.specs.Prelude.{◌≡◌};
+ghost use Rattle.login_call.specs.Statuses.{number_of, exit_number_of, failure_number_of};
+
+use std::io;
+
+/// The exit status where the words could not be taken, for another cause than want of memory.
+const NO_WORDS: u8 = 8;
+
+/// How a run ends. Its number is the exit status of the program.
+#[derive(Clone, Copy, PartialEq, Eq, Debug)]
+pub enum Status {
+    /// 0: every line was written, and the input was read to its end.
+    Done,
+    /// 1: the words are none that the program knows.
+    Usage,
+    /// 2: a line is refused, or the input ended too early.
+    Refused,
+    /// 3: a read failed.
+    ReadFault,
+    /// 4: a write failed.
+    WriteFault,
+    /// 5: memory was wanting.
+    Memory,
+    /// 6: a line or the input is too long, or there are too many events.
+    TooMuch,
+    /// 7: the input was read to its end, and something in it is wrong.
+    Findings,
+}
+
+impl Status {
+    /// The number, 0 to 7.
+    pub fn number(&self) -> u8
+        ensures { result ≡ number_of self.now }
+    {
+        match self {
+            Status::Done => 0,
+            Status::Usage => 1,
+            Status::Refused => 2,
+            Status::ReadFault => 3,
+            Status::WriteFault => 4,
+            Status::Memory => 5,
+            Status::TooMuch => 6,
+            Status::Findings => 7,
+        }
+    }
+}
+
+/// The exit status where the words could not be taken.
+pub fn failure_number(kind: io::ErrorKind) -> u8
+    ensures { result ≡ failure_number_of kind }
+{
+    match kind {
+        io::ErrorKind::OutOfMemory => Status::Memory.number(),
+        _ => NO_WORDS,
+    }
+}
+
+/// The exit status where the words were taken.
+pub fn exit_number(answered: io::Result<Status>) -> u8
+    ensures { result ≡ exit_number_of answered }
+{
+    match answered {
+        Ok(status) => status.number(),
+        Err(_) => Status::Memory.number(),
+    }
+}

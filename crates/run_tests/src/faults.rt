@@ -1,0 +1,128 @@
+//! Cuttings of the input and the output, reads and writes that fail, and the limit of a line.
+
+use crate::blocks::{answered, answered_to, scenario};
+use eap_base::{MemSink, MemSource};
+use login_call::Status;
+use std::alloc::Global;
+use std::io;
+use std::test::Fail;
+
+/// A login by EAP-GPSK, and its last lines.
+const LOGIN: &str =
+    "run deliver 1;deliver 2;deliver 3;deliver 4;deliver 5;deliver 6;deliver 7;end\n";
+
+/// The Identity round of ends without methods.
+const ROUND: &str = "\
+set peer-methods|peer-methods -
+set peer-suites|
+set peer-psk|
+set server-methods|server-methods -
+set server-suites|
+set user|
+run deliver 1;deliver 2;deliver 3;end
+";
+
+/// The octets that are written where nothing fails.
+fn whole(alloc: Global, block: &str) -> io::Result<MemSink> {
+    let (_, sink) = answered_to(alloc, "replay", &scenario(alloc, block)?)?;
+    Ok(sink)
+}
+
+/// True where these cuttings of reads and writes give the same.
+fn is_the_same(alloc: Global, read: usize, write: usize) -> io::Result<bool> {
+    let input = scenario(alloc, LOGIN)?;
+    let source = MemSource::new(alloc, input.as_bytes(), read, &[])?;
+    let sink = MemSink::new(alloc, 10_000, write, &[])?;
+    let (status, sink) = answered(alloc, "replay", source, sink)?;
+    Ok(status == Status::Done && sink.written() == whole(alloc, LOGIN)?.written())
+}
+
+#[test]
+fn the_trace_is_the_same_in_every_cutting(rt: HostRuntime) -> Result<(), Fail> {
+    for (read, write) in [(1, 100), (7, 1), (100, 7)] {
+        assert!(rt; is_the_same(rt.alloc(), read, write)?, "{read} {write}");
+    }
+    Ok(())
+}
+
+/// True where a run that met the fault, if it did, ended so and wrote a front of the text, or the whole.
+fn ends_well(status: Status, fault: Status, wrote: &[u8], text: &[u8]) -> bool {
+    let wanted = if wrote.len() == text.len() {
+        Status::Done
+    } else {
+        fault
+    };
+    status == wanted && text.starts_with(wrote)
+}
+
+/// True where a run whose read of this number fails ends well.
+fn read_fails_well(alloc: Global, call: u32, text: &[u8]) -> io::Result<bool> {
+    let input = scenario(alloc, ROUND)?;
+    let source = MemSource::new(alloc, input.as_bytes(), 100, &[call])?;
+    let sink = MemSink::new(alloc, 2000, 100, &[])?;
+    let (status, sink) = answered(alloc, "replay", source, sink)?;
+    let is_first = call == 1;
+    let has_header_alone = sink.written() == b"eap-trace 1\n".as_slice();
+    Ok(
+        ends_well(status, Status::ReadFault, sink.written(), text)
+            && (has_header_alone || !is_first),
+    )
+}
+
+// The reader asks for one octet at a time: the scenario has fewer than 400.
+#[test]
+fn each_read_may_fail(rt: HostRuntime) -> Result<(), Fail> {
+    let text = whole(rt.alloc(), ROUND)?;
+    for call in 1..400 {
+        assert!(rt;
+            read_fails_well(rt.alloc(), call, text.written())?,
+            "call {call}"
+        );
+    }
+    Ok(())
+}
+
+/// True where a run whose write of this number fails ends well.
+fn write_fails_well(alloc: Global, call: u32, text: &[u8]) -> io::Result<bool> {
+    let input = scenario(alloc, ROUND)?;
+    let source = MemSource::new(alloc, input.as_bytes(), 100, &[])?;
+    let sink = MemSink::new(alloc, 2000, 7, &[call])?;
+    let (status, sink) = answered(alloc, "replay", source, sink)?;
+    let is_first = call == 1;
+    Ok(
+        ends_well(status, Status::WriteFault, sink.written(), text)
+            && sink.written().is_empty() == is_first,
+    )
+}
+
+#[test]
+fn each_write_may_fail(rt: HostRuntime) -> Result<(), Fail> {
+    let text = whole(rt.alloc(), ROUND)?;
+    for call in 1..400 {
+        assert!(rt;
+            write_fails_well(rt.alloc(), call, text.written())?,
+            "call {call}"
+        );
+    }
+    Ok(())
+}
+
+/// True where a scenario whose second line is a comment of so many octets is answered so.
+fn comment_is_answered(alloc: Global, octets: u32, text: &str, wanted: Status) -> io::Result<bool> {
+    let mut input = String::from_str(alloc, "eap-scenario 1\n")?;
+    for _ in 0..octets {
+        input.push_str("#")?;
+    }
+    let (status, sink) = answered_to(alloc, "replay", &input)?;
+    Ok(status == wanted && sink.written() == text.as_bytes())
+}
+
+// A comment may fill its line, and not more.
+#[test]
+fn a_line_has_a_limit(rt: HostRuntime) -> Result<(), Fail> {
+    let filled = "eap-trace 1\nrefused line 3 Missing\n";
+    assert!(rt; comment_is_answered(rt.alloc(), 4096, filled, Status::Refused)?);
+    let longer = "eap-trace 1\nrefused line 2 TooMuch\n";
+    assert!(rt; comment_is_answered(rt.alloc(), 4097, longer, Status::TooMuch)?);
+    Ok(())
+}

@@ -1,0 +1,17 @@
+//! Tests over the world, the texts and the one call: what no contract says of them.
+#![tactic(auto)]
+
+#[cfg(test)]
+mod blocks;
+#[cfg(test)]
+mod commands;
+#[cfg(test)]
+mod faults;
+#[cfg(test)]
+mod lines;
+#[cfg(test)]
+mod logins;
+#[cfg(test)]
+mod texts;
+#[cfg(test)]
+mod worlds;
