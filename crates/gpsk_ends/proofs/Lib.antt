@@ -1,5 +1,4 @@
 pub mod Covered
 pub mod MacLaws
-pub mod PeerTurns
+pub mod Requests
 pub mod UserKeys
-pub mod ServerTurns

@@ -1,4 +1,6 @@
 pub mod Heard
-pub mod Sealed
+pub mod PeerLogin
 pub mod PeerStage
+pub mod Sealed
+pub mod ServerLogin
 pub mod ServerStage

@@ -1,43 +1,26 @@
--- What a server's object shows: where it stands, its turn, its user's key.
-use Rattle.std.specs.Prelude.{ℕ, length}
+-- Where a server of EAP-GPSK stands, as its definition says it.
 use Rattle.eap_method.specs.GpskServer.{View, unset, begun, asked, refusing, barring, checked, refused, over}
-use Rattle.eap_method.specs.GpskServer as spec
 use Rattle.eap_method.specs.Turns.{ServerOutcome, FirstOutcome}
-use Rattle.gpsk_ends.specs.declared.server_rows.Login.{Login}
-use Rattle.gpsk_ends.specs.declared.server_rows.Stage.{Stage}
-use Rattle.gpsk_ends.specs.declared.server_rows.Stage.TheVariants.{Unset, Begun, Asked, Refusing, Barring, Checked, Refused, Over}
-use Rattle.gpsk_ends.specs.declared.server_rows.Outcome.{Outcome}
-use Rattle.gpsk_ends.specs.declared.server_rows.First.{First}
-
-abbrev pub login_of : Login → spec.Login
-login_of login = record { own = login.own; nonce = login.nonce; id_p = login.id_p; psk = login.psk; rand_p = login.rand_p; suite = login.suite }
+use Rattle.gpsk_ends.specs.declared.server.stage.Stage.{Stage}
+use Rattle.gpsk_ends.specs.declared.server.stage.Stage.TheVariants as stage
+use Rattle.gpsk_ends.specs.declared.server.stage.First.{First}
+use Rattle.gpsk_ends.specs.declared.server.stage.Taken.{Taken}
 
 -- where the server stands
 abbrev pub view_of : Stage → View
-view_of Unset = unset
-view_of (Begun own nonce) = begun own nonce
-view_of (Asked own nonce) = asked own nonce
-view_of (Refusing own nonce) = refusing own nonce
-view_of (Barring login) = barring (login_of login)
-view_of (Checked login) = checked (login_of login)
-view_of (Refused own nonce) = refused own nonce
-view_of (Over login good) = over (login_of login) good
-
--- a turn, and where the server stands after it
-abbrev pub outcome_of : Outcome → ServerOutcome View
-outcome_of out = record { turn = out.turn; after = view_of out.after }
+view_of stage.Unset = unset
+view_of (stage.Begun own) = begun own.side own.nonce
+view_of (stage.Asked own) = asked own.side own.nonce
+view_of (stage.Refusing own) = refusing own.side own.nonce
+view_of (stage.Barring login) = barring login
+view_of (stage.Checked login) = checked login
+view_of (stage.Refused own) = refused own.side own.nonce
+view_of (stage.Over login good) = over login good
 
 -- the first Request, and where the server stands after it
 abbrev pub first_of : First → FirstOutcome View
-first_of out = record { packet = out.packet; after = view_of out.after }
+first_of made = record { packet = made.packet; after = view_of made.after }
 
--- the octets of the user's key; where there is no user, as many as a key has at least
-abbrev pub key_size : Stage → ℕ
-key_size Unset = 32
-key_size (Begun own nonce) = 32
-key_size (Asked own nonce) = 32
-key_size (Refusing own nonce) = 32
-key_size (Barring login) = length login.psk
-key_size (Checked login) = length login.psk
-key_size (Refused own nonce) = 32
-key_size (Over login good) = length login.psk
+-- a turn, and where the server stands after it
+abbrev pub outcome_of : Taken → ServerOutcome View
+outcome_of taken = record { turn = taken.turn; after = view_of taken.after }

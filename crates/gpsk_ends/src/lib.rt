@@ -1,13 +1,12 @@
-//! Both ends of EAP-GPSK (RFC 5433): a peer and a server, each behind the trait of its methods.
+//! The two ends of EAP-GPSK (RFC 5433): a peer and a server, each behind the trait of its side. No call
+//! takes memory.
 #![tactic(auto)]
 
 mod copies;
 mod hearing;
 mod peer;
-mod peer_rows;
 mod sealing;
 mod server;
-mod server_rows;
 #[cfg(test)]
 mod tests;
 

@@ -1,36 +1,39 @@
-//! The peer of EAP-GPSK.
+//! The peer of EAP-GPSK (RFC 5433 section 3).
 
-ghost use Rattle.std.specs.Prelude.{◌≡◌, ◌≤◌};
+ghost use Rattle.std.specs.Prelude.{◌≡◌};
+ghost use Rattle.eap_method.specs.GpskPeer.{unset};
+
+mod login;
+mod stage;
+mod turns;
 
 use crate::hearing::GPSK;
-use crate::peer_rows::{Stage, report_of, step};
+use crate::peer::login::Begun;
+use crate::peer::stage::{Stage, Taken};
+use crate::peer::turns::take;
 use eap_base::Nonce;
 use eap_method::{Credential, PeerMethod, PeerTurn, Report};
 use std::marker::Model;
 use std::mem;
 
-/// A peer's object of EAP-GPSK (RFC 5433 section 3). Its keys are those of the credential with which
-/// it began, and it takes no memory.
+/// A peer of EAP-GPSK. Contracts see where it stands. It derives its keys once a login, and takes no
+/// memory.
 #[derive(Drop)]
 pub struct GpskPeer {
     stage: Stage,
 }
 
 impl Model for GpskPeer {
-    ghost use Rattle.std.specs.Prelude.{◌≤◌};
     ghost use Rattle.eap_method.specs.GpskPeer.{View};
-    ghost use Rattle.gpsk_ends.specs.PeerStage.{view_of, key_size};
 
     ghost Value = { View };
 
-    ghost view = { λ p. view_of p.stage };
+    ghost use Rattle.gpsk_ends.specs.PeerStage.{view_of};
 
-    ghost invariant = { λ p. 32 ≤ key_size p.stage };
+    ghost view = { λ p. view_of p.stage };
 }
 
 impl GpskPeer {
-    ghost use Rattle.eap_method.specs.GpskPeer.{unset};
-
     /// A peer that has not begun: it answers no Request, and holds no report.
     pub fn new() -> GpskPeer
         ensures { result ≡ unset }
@@ -52,22 +55,23 @@ impl PeerMethod for GpskPeer {
 
     fn begin(&mut self, cred: &Credential, nonce: &Nonce) {
         self.stage = Stage::Fresh {
-            cred: cred.copy(),
-            nonce: *nonce,
+            own: Begun {
+                cred: cred.copy(),
+                nonce: *nonce,
+            },
         };
     }
 
+    #[tactic(auto, unfolding(eap_method::specs::Peer::peer_step))]
     fn handle(&mut self, request: &[u8]) -> PeerTurn {
-        let out = step(mem::replace(&mut self.stage, Stage::Unset), request);
-        self.stage = out.after;
-        out.turn
+        let stage = mem::replace(&mut self.stage, Stage::Unset);
+        let Taken { turn, after } = take(stage, request);
+        self.stage = after;
+        turn
     }
 
     #[tactic(auto, unfolding(eap_method::specs::Peer::peer_report))]
     fn report(&self) -> Option<Report> {
-        match &self.stage {
-            Stage::Over { login, good } => { if *good { Some(report_of(login)) } else { None } }
-            _ => None,
-        }
+        self.stage.report()
     }
 }

@@ -1,35 +1,40 @@
-//! The server of EAP-GPSK.
+//! The server of EAP-GPSK (RFC 5433 section 3).
 
-ghost use Rattle.std.specs.Prelude.{◌≡◌, ◌≤◌};
+ghost use Rattle.std.specs.Prelude.{◌≡◌};
+ghost use Rattle.eap_method.specs.GpskServer.{unset};
+
+mod gpsk2;
+mod login;
+mod stage;
+mod turns;
 
 use crate::hearing::GPSK;
-use crate::server_rows::{Stage, first_step, report_of, step};
+use crate::server::login::Begun;
+use crate::server::stage::{First, Stage, Taken};
+use crate::server::turns::{ask, take};
 use eap_base::{Nonce, Packet, Users};
 use eap_method::{Report, ServerMethod, ServerSide, ServerTurn};
 use std::marker::Model;
 use std::mem;
 
-/// A server's object of EAP-GPSK (RFC 5433 section 3). It takes no memory.
+/// A server of EAP-GPSK. Contracts see where it stands. It derives its keys once for each GPSK-2 of a
+/// known user, and takes no memory.
 #[derive(Drop)]
 pub struct GpskServer {
     stage: Stage,
 }
 
 impl Model for GpskServer {
-    ghost use Rattle.std.specs.Prelude.{◌≤◌};
     ghost use Rattle.eap_method.specs.GpskServer.{View};
-    ghost use Rattle.gpsk_ends.specs.ServerStage.{view_of, key_size};
 
     ghost Value = { View };
 
-    ghost view = { λ s. view_of s.stage };
+    ghost use Rattle.gpsk_ends.specs.ServerStage.{view_of};
 
-    ghost invariant = { λ s. 32 ≤ key_size s.stage };
+    ghost view = { λ s. view_of s.stage };
 }
 
 impl GpskServer {
-    ghost use Rattle.eap_method.specs.GpskServer.{unset};
-
     /// A server that has not begun: it answers no Response, and holds no report.
     pub fn new() -> GpskServer
         ensures { result ≡ unset }
@@ -51,29 +56,31 @@ impl ServerMethod for GpskServer {
 
     fn begin(&mut self, own: &ServerSide, nonce: &Nonce) {
         self.stage = Stage::Begun {
-            own: own.copy(),
-            nonce: *nonce,
+            own: Begun {
+                side: own.copy(),
+                nonce: *nonce,
+            },
         };
     }
 
+    #[tactic(auto, unfolding(eap_method::specs::Server::server_first_step))]
     fn first(&mut self, id: u8) -> Packet {
-        let out = first_step(mem::replace(&mut self.stage, Stage::Unset), id);
-        self.stage = out.after;
-        out.packet
+        let stage = mem::replace(&mut self.stage, Stage::Unset);
+        let First { packet, after } = ask(stage, id);
+        self.stage = after;
+        packet
     }
 
+    #[tactic(auto, unfolding(eap_method::specs::Server::server_step))]
     fn handle(&mut self, response: &[u8], next_id: u8, users: &Users) -> ServerTurn {
         let stage = mem::replace(&mut self.stage, Stage::Unset);
-        let out = step(users, next_id, stage, response);
-        self.stage = out.after;
-        out.turn
+        let Taken { turn, after } = take(stage, response, next_id, users);
+        self.stage = after;
+        turn
     }
 
     #[tactic(auto, unfolding(eap_method::specs::Server::server_report))]
     fn report(&self) -> Option<Report> {
-        match &self.stage {
-            Stage::Over { login, good } => { if *good { Some(report_of(login)) } else { None } }
-            _ => None,
-        }
+        self.stage.report()
     }
 }

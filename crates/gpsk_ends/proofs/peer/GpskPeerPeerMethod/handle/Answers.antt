@@ -1,14 +1,9 @@
--- The turn of the stage is that of the object.
-use Rattle.std.proofs.Common.{◌∙◌, ap}
-use Rattle.gpsk_ends.specs.PeerStage.{view_of}
-use Rattle.gpsk_ends.proofs.PeerTurns.{header_stands, request_fits, turns}
+use Rattle.eap_base.specs.Setup.{gpsk_kind}
+use Rattle.gpsk_ends.proofs.Requests.{holds_a_type, request_fits}
 use Rattle.gpsk_ends.proofs.peer.GpskPeerPeerMethod.handle.Goals as goal
 
-pub step-out-requires-clause-header : goal.step-out-requires-clause-header
-step-out-requires-clause-header c = header_stands _ c.args.request.now c.requires
+pub take-turn-requires-clause-header : goal.take-turn-requires-clause-header
+take-turn-requires-clause-header c = holds_a_type gpsk_kind c.args.request.now c.requires
 
-pub step-out-requires-clause-size : goal.step-out-requires-clause-size
-step-out-requires-clause-size c = request_fits _ c.args.request.now c.requires
-
-pub returns : goal.returns
-returns c = turns c.args.self.now c.replace.result c.args.request.now c.step-out.result (ap view_of c.replace.ensures.value ∙ c.self.view_is) c.step-out.ensures.turn
+pub take-turn-requires-clause-size : goal.take-turn-requires-clause-size
+take-turn-requires-clause-size c = request_fits gpsk_kind c.args.request.now c.requires
