@@ -15,7 +15,7 @@ pub(crate) fn list_of<const N: usize>(octets: &[u8]) -> Octets<N>
     list
 }
 
-/// The specifier of a suite (RFC 5433 section 6).
+/// The specifier of a suite (RFC 5433, sections 6 and 9.2).
 pub(crate) fn number_of(suite: Suite) -> u8
     ensures { result ≡ suite_number suite }
 {

@@ -62,8 +62,8 @@ fn covered_part<'a>(view: &GpskView, body: &'a [u8]) -> &'a [u8]
     &body[1..body.len() - mac_part(view).len()]
 }
 
-/// Whether the message, which the Type-Data spells, has the MAC of its covered octets under `sk`. All
-/// octets of the MAC are compared.
+/// Whether the message, which the Type-Data spells, has the MAC of its covered octets under `sk` (RFC
+/// 5433, sections 8.1.2 and 8.2.2). All octets of the MAC are compared. MACs are compared here alone.
 pub(crate) fn has_tag(view: &GpskView, body: &[u8], suite: Suite, sk: &[u8]) -> bool
     requires spelling { body.now ≡ spelled (message_of view.now) }
     requires key { length sk.now ≡ ks_of suite }

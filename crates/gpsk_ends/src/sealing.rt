@@ -23,7 +23,8 @@ pub(crate) struct Sealed {
     pub(crate) tag: TagRecord,
 }
 
-/// The octets of a packet before those that the MAC covers: its header of five, and the OP-Code.
+/// The octets of a packet before those that the MAC covers: its header of five, and the OP-Code (RFC
+/// 5433 section 9.1).
 const BEFORE_COVERED: usize = 6;
 
 /// The place of a MAC of KS octets that is yet to come.

@@ -119,7 +119,6 @@ fn confirm(login: Login, id: u8, view: &GpskView, body: &[u8]) -> Taken
 }
 
 /// GPSK-Fail is answered by itself, and the login is over.
-#[tactic(auto, unfolding(eap_method::specs::GpskPeer::repeats_fail))]
 fn repeat_fail(login: Login, id: u8, code: u32) -> Taken
     ensures { outcome_of result ≡ repeats_fail login id code }
 {

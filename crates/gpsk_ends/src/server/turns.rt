@@ -6,7 +6,7 @@ ghost use Rattle.eap_base.specs.Suite.{ks_of};
 ghost use Rattle.gpsk_messages.specs.Message.{message_of};
 ghost use Rattle.gpsk_messages.specs.Reading.{read_of};
 ghost use Rattle.eap_method.specs.GpskTags.{sk_record};
-ghost use Rattle.eap_method.specs.GpskServer as spec;
+ghost use Rattle.eap_method.specs.GpskServer.{first_step, asked_reads, refusing_hears, refusing_reads, over, barring_hears, barring_reads, checked_hears, checked_reads, idle_reads, step};
 ghost use Rattle.eap_method.specs.Turns.{done};
 ghost use Rattle.gpsk_ends.specs.Heard.{IsHeard};
 ghost use Rattle.gpsk_ends.specs.ServerStage.{view_of, outcome_of, first_of};
@@ -24,7 +24,7 @@ use gpsk_messages::GpskView;
 /// stands.
 #[tactic(auto, unfolding(eap_method::specs::GpskServer::first_step))]
 pub fn ask(stage: Stage, id: u8) -> First
-    ensures { first_of result ≡ spec.first_step (view_of stage) id }
+    ensures { first_of result ≡ first_step (view_of stage) id }
 {
     match stage {
         Stage::Begun { own } => First {
@@ -42,7 +42,7 @@ pub fn ask(stage: Stage, id: u8) -> First
 fn asked_reads(own: Begun, next_id: u8, body: &[u8], users: &Users) -> Taken
     requires size { length body.now ≤ 1495 }
     requires keys { All (λ user. IsTrue (fits_kind user.kind user.psk)) users.now }
-    ensures { outcome_of result ≡ spec.asked_reads users.now own.side own.nonce next_id (read_of None body.now) }
+    ensures { outcome_of result ≡ asked_reads users.now own.side own.nonce next_id (read_of None body.now) }
 {
     match hear(body, None) {
         Err(cause) => Taken::dropped(Stage::Asked { own }, cause),
@@ -53,7 +53,7 @@ fn asked_reads(own: Begun, next_id: u8, body: &[u8], users: &Users) -> Taken
 /// A message at a server that has sent GPSK-Fail: the same failure ends the method. `FieldMismatch`: it
 /// is another.
 fn refusing_hears(own: Begun, view: &GpskView) -> Taken
-    ensures { outcome_of result ≡ spec.refusing_hears own.side own.nonce (message_of view.now) }
+    ensures { outcome_of result ≡ refusing_hears own.side own.nonce (message_of view.now) }
 {
     match view {
         GpskView::Fail { code } => {
@@ -70,7 +70,7 @@ fn refusing_hears(own: Begun, view: &GpskView) -> Taken
 /// The Type-Data at a server that has sent GPSK-Fail.
 fn refusing_reads(own: Begun, body: &[u8]) -> Taken
     requires { length body.now ≤ 1495 }
-    ensures { outcome_of result ≡ spec.refusing_reads own.side own.nonce (read_of None body.now) }
+    ensures { outcome_of result ≡ refusing_reads own.side own.nonce (read_of None body.now) }
 {
     match hear(body, None) {
         Err(cause) => Taken::dropped(Stage::Refusing { own }, cause),
@@ -81,7 +81,7 @@ fn refusing_reads(own: Begun, body: &[u8]) -> Taken
 /// A message with the MAC of the login ends it.
 fn end(login: Login, success: bool, view: &GpskView, body: &[u8]) -> Taken
     requires { IsHeard (message_of view.now) body.now }
-    ensures { outcome_of result ≡ done (spec.over login success) success (sk_record login.psk (message_of view.now) ∷ []) }
+    ensures { outcome_of result ≡ done (over login success) success (sk_record login.psk (message_of view.now) ∷ []) }
 {
     let accepted = TagList::one(login.record(view, body));
     let after = Stage::Over {
@@ -96,7 +96,7 @@ fn end(login: Login, success: bool, view: &GpskView, body: &[u8]) -> Taken
 #[tactic(auto, unfolding(eap_method::specs::GpskServer::ends))]
 fn barring_hears(login: Login, view: &GpskView, body: &[u8]) -> Taken
     requires { IsHeard (message_of view.now) body.now }
-    ensures { outcome_of result ≡ spec.barring_hears login (message_of view.now) }
+    ensures { outcome_of result ≡ barring_hears login (message_of view.now) }
 {
     match view {
         GpskView::ProtectedFail { code, .. } => {
@@ -115,7 +115,7 @@ fn barring_hears(login: Login, view: &GpskView, body: &[u8]) -> Taken
 /// The Type-Data at a server that has sent GPSK-Protected-Fail.
 fn barring_reads(login: Login, body: &[u8]) -> Taken
     requires { length body.now ≤ 1495 }
-    ensures { outcome_of result ≡ spec.barring_reads login (read_of (Some (ks_of login.suite)) body.now) }
+    ensures { outcome_of result ≡ barring_reads login (read_of (Some (ks_of login.suite)) body.now) }
 {
     match hear(body, Some(login.suite())) {
         Err(cause) => Taken::dropped(Stage::Barring { login }, cause),
@@ -128,7 +128,7 @@ fn barring_reads(login: Login, body: &[u8]) -> Taken
 #[tactic(auto, unfolding(eap_method::specs::GpskServer::ends))]
 fn checked_hears(login: Login, view: &GpskView, body: &[u8]) -> Taken
     requires { IsHeard (message_of view.now) body.now }
-    ensures { outcome_of result ≡ spec.checked_hears login (message_of view.now) }
+    ensures { outcome_of result ≡ checked_hears login (message_of view.now) }
 {
     match view {
         GpskView::M4 { .. } => {
@@ -145,7 +145,7 @@ fn checked_hears(login: Login, view: &GpskView, body: &[u8]) -> Taken
 /// The Type-Data at a server that has sent GPSK-3.
 fn checked_reads(login: Login, body: &[u8]) -> Taken
     requires { length body.now ≤ 1495 }
-    ensures { outcome_of result ≡ spec.checked_reads login (read_of (Some (ks_of login.suite)) body.now) }
+    ensures { outcome_of result ≡ checked_reads login (read_of (Some (ks_of login.suite)) body.now) }
 {
     match hear(body, Some(login.suite())) {
         Err(cause) => Taken::dropped(Stage::Checked { login }, cause),
@@ -156,7 +156,7 @@ fn checked_reads(login: Login, body: &[u8]) -> Taken
 /// The Type-Data at a server that awaits nothing.
 fn idle_reads(stage: Stage, suite: Option<Suite>, body: &[u8]) -> Taken
     requires { length body.now ≤ 1495 }
-    ensures { outcome_of result ≡ spec.idle_reads (view_of stage) (read_of (option_map ks_of suite) body.now) }
+    ensures { outcome_of result ≡ idle_reads (view_of stage) (read_of (option_map ks_of suite) body.now) }
 {
     let cause = match hear(body, suite) {
         Err(cause) => cause,
@@ -171,7 +171,7 @@ pub fn take(stage: Stage, response: &[u8], next_id: u8, users: &Users) -> Taken
     requires header { 5 ≤ length response.now }
     requires size { length response.now ≤ 1500 }
     requires keys { All (λ user. IsTrue (fits_kind user.kind user.psk)) users.now }
-    ensures { outcome_of result ≡ spec.step users.now next_id (view_of stage) response.now }
+    ensures { outcome_of result ≡ step users.now next_id (view_of stage) response.now }
 {
     let body = &response[5..];
     match stage {
