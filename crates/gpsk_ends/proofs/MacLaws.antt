@@ -128,20 +128,24 @@ pub record IsFront (code : Code) (id : ℕ) (suite : Suite) (message : Message) 
   pub sealed : (tag : List ℕ) → length tag ≡ ks_of suite → octets ++ tag ≡ packets.spelled (value_with code id 51 (spelled (with_mac message tag)))
 
 -- the packet of a message, in parts
-in_parts : (code : Code) (id : ℕ) (message : Message) (packet : List ℕ) → IsTrue (has_type code) → packet ≡ packets.spelled (value_with code id 51 (spelled message)) →
-    packet ≡ front_of (number_of code) id (length (51 ∷ op_code message ∷ covered_of message ++ mac_of message) + 4) (op_code message) (covered_of message) ++ mac_of message
+in_parts : (code : Code) (id : ℕ) (message : Message) (packet : List ℕ) → IsTrue (has_type code) →
+    packet ≡ packets.spelled (value_with code id 51 (spelled message)) →
+    (let count = length (51 ∷ op_code message ∷ covered_of message ++ mac_of message) + 4 in
+    packet ≡ front_of (number_of code) id count (op_code message) (covered_of message) ++ mac_of message)
 unfolding spelled
 in_parts code id message packet t e = e ∙ typed code id (spelled message) t ∙ parts (number_of code) id (op_code message) (covered_of message) (mac_of message)
 
 pub mac_fits : (code : Code) (id : ℕ) (suite : Suite) (message : Message) (packet : List ℕ) → IsTrue (has_type code) → length (mac_of message) ≡ ks_of suite →
     packet ≡ packets.spelled (value_with code id 51 (spelled message)) → ks_of suite ≤ length packet
 mac_fits code id suite message packet t m e =
-    let front = front_of (number_of code) id (length (51 ∷ op_code message ∷ covered_of message ++ mac_of message) + 4) (op_code message) (covered_of message) in
+    let count = length (51 ∷ op_code message ∷ covered_of message ++ mac_of message) + 4 in
+    let front = front_of (number_of code) id count (op_code message) (covered_of message) in
     let size = ap length (in_parts code id message packet t e) ∙ length-append front (mac_of message) in
     omega arith
 
-pub is_front : (code : Code) (id : ℕ) (suite : Suite) (message : Message) (packet octets : List ℕ) → IsTrue (has_type code) → length (mac_of message) ≡ ks_of suite →
-    packet ≡ packets.spelled (value_with code id 51 (spelled message)) → octets ≡ take (length packet - ks_of suite) packet → IsFront code id suite message octets
+pub is_front : (code : Code) (id : ℕ) (suite : Suite) (message : Message) (packet octets : List ℕ) → IsTrue (has_type code) →
+    length (mac_of message) ≡ ks_of suite → packet ≡ packets.spelled (value_with code id 51 (spelled message)) →
+    octets ≡ take (length packet - ks_of suite) packet → IsFront code id suite message octets
 is_front code id suite message packet octets t m e o =
     let op = op_code message in
     let covered = covered_of message in

@@ -45,7 +45,8 @@ fn front(view: &GpskView, code: Code, id: u8, suite: Suite) -> Packet
     ensures begins { 6 ≤ length result }
     ensures room { length result + ks_of suite ≤ 1500 }
     ensures covered { drop 6 result ≡ covered_of (message_of view.now) }
-    ensures sealed { (tag : List ℕ) → length tag ≡ ks_of suite → result ++ tag ≡ packets.spelled (value_with code id 51 (spelled (with_mac (message_of view.now) tag))) }
+    ensures sealed { (tag : List ℕ) → length tag ≡ ks_of suite
+        → result ++ tag ≡ packets.spelled (value_with code id 51 (spelled (with_mac (message_of view.now) tag))) }
 {
     let mut packet = write_gpsk(view, code, id);
     packet.truncate(packet.len() - suite.ks());

@@ -8,7 +8,8 @@ ghost use Rattle.gpsk_messages.specs.Reading.{read_of};
 ghost use Rattle.login_policy.specs.Policy.{picked_suite};
 ghost use Rattle.eap_method.specs.Names.{accepts_name};
 ghost use Rattle.eap_method.specs.Turns.{fault_if};
-ghost use Rattle.eap_method.specs.GpskPeer.{answers, picks, hears_gpsk1, fresh_hears, fresh_reads, confirms, repeats_fail, repeats_protected, is_tagged_by, wait_hears, wait_reads, over_reads, step};
+ghost use Rattle.eap_method.specs.GpskPeer.{answers, picks, hears_gpsk1, fresh_hears, fresh_reads, over_reads, step};
+ghost use Rattle.eap_method.specs.GpskPeer.{confirms, repeats_fail, repeats_protected, is_tagged_by, wait_hears, wait_reads};
 ghost use Rattle.gpsk_ends.specs.Heard.{IsHeard};
 ghost use Rattle.gpsk_ends.specs.PeerStage.{view_of, outcome_of};
 
@@ -138,7 +139,8 @@ fn repeat_fail(login: Login, id: u8, code: u32) -> Taken
 #[tactic(auto, unfolding(eap_method::specs::GpskPeer::repeats_protected))]
 fn repeat_protected(login: Login, id: u8, code: u32, view: &GpskView, body: &[u8]) -> Taken
     requires { IsHeard (message_of view.now) body.now }
-    ensures { outcome_of result ≡ repeats_protected login id code (message_of view.now) (fault_if (not (is_tagged_by login (message_of view.now))) BadTag None) }
+    ensures { outcome_of result
+        ≡ repeats_protected login id code (message_of view.now) (fault_if (not (is_tagged_by login (message_of view.now))) BadTag None) }
 {
     if !login.is_tagged(view, body) {
         return Taken::discarded(Stage::Wait { login }, Cause::BadTag);

@@ -12,7 +12,8 @@ slice_bounds-result-count c = omega (arith, covered_start (message_of c.args.vie
 
 pub slice_bounds-result-start : goal.slice_bounds-result-start
 slice_bounds-result-start c =
-    let h : length c.mac_part.result.now + 1 ≤ length c.args.body.now = covered_start (message_of c.args.view.now) c.args.body.now c.mac_part.result.now c.requires c.mac_part.ensures in
+    let h : length c.mac_part.result.now + 1 ≤ length c.args.body.now =
+    covered_start (message_of c.args.view.now) c.args.body.now c.mac_part.result.now c.requires c.mac_part.ensures in
     search rules
 
 pub returns-clause-covered : goal.returns-clause-covered

@@ -6,7 +6,9 @@ use Rattle.gpsk_ends.proofs.sealing.front.Goals as goal
 
 pub overflow_sub-len : goal.overflow_sub-len
 overflow_sub-len c =
-    omega (arith, mac_fits c.args.code c.args.id c.args.suite (message_of c.args.view.now) c.write_gpsk-packet.result c.requires.typed c.requires.mac c.write_gpsk-packet.ensures)
+    let message = message_of c.args.view.now in
+    let packet = c.write_gpsk-packet.result in
+    omega (arith, mac_fits c.args.code c.args.id c.args.suite message packet c.requires.typed c.requires.mac c.write_gpsk-packet.ensures)
 
 is_cut : (c : goal.After-truncate) → IsFront c.args.code c.args.id c.args.suite (message_of c.args.view.now) c.truncate.new.self
 is_cut c =
