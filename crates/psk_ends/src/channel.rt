@@ -1,4 +1,4 @@
-//! PCHANNEL, the protected channel (RFC 4764 section 5.3), with the one octet that it hides.
+//! PCHANNEL, the protected channel (RFC 4764 section 3.3), with the one octet that it hides.
 
 ghost use Rattle.std.specs.Prelude.{◌≡◌, ◌<◌, slice_index, Some, None, if◌then◌else◌};
 ghost use Rattle.eap_method.specs.PskTags.{channel_nonce, sealed_result, is_sealed, opened, result_fault, result_of};

@@ -14,5 +14,5 @@ mod tests;
 pub use peer::PskPeer;
 pub use server::PskServer;
 
-/// The Type of EAP-PSK (RFC 4764 section 3).
+/// The Type of EAP-PSK (RFC 4764 section 5).
 const PSK: u8 = 47;

@@ -48,7 +48,7 @@ pub fn rand_of(nonce: &Nonce) -> [u8; 16]
     array_of(&nonce[..16])
 }
 
-/// The header of a packet for PCHANNEL: its first 22 octets (RFC 4764 section 5.3).
+/// The header of a packet for PCHANNEL: its first 22 octets (RFC 4764 section 3.3).
 pub fn header_of<'a>(packet: &'a [u8]) -> &'a [u8]
     ensures header { result.now ≡ header_of packet.now }
     ensures size { length result.now ≤ 22 }

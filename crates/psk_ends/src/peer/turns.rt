@@ -1,13 +1,13 @@
 //! A peer's turn for each Request (RFC 4764 section 4).
 
 ghost use Rattle.std.specs.Prelude.{◌≡◌, ◌≤◌, length};
-ghost use Rattle.psk_messages.specs.Message.{message_of, AreFields};
+ghost use Rattle.psk_messages.specs.Message.{message_of, AreFields, psk2};
 ghost use Rattle.psk_messages.specs.Reading.{read_of};
 ghost use Rattle.eap_method.specs.Names.{accepts_name};
 ghost use Rattle.eap_method.specs.Turns.{id_of, body_of};
 ghost use Rattle.eap_method.specs.PskTags.{psk_response, header_of};
-ghost use Rattle.eap_method.specs.PskPeer.{psk2_of, answers, hears_psk1, fresh_hears, fresh_reads, wait_hears, wait_reads, over_reads, step};
-ghost use Rattle.psk_ends.specs.PeerStage.{login_of, view_of, outcome_of};
+ghost use Rattle.eap_method.specs.PskPeer.{rand_p_of, answers, hears_psk1, fresh_hears, fresh_reads, wait_hears, wait_reads, over_reads, step};
+ghost use Rattle.psk_ends.specs.PeerStage.{view_of, outcome_of};
 
 use crate::octets::{header_of, list_of};
 use crate::peer::login::{Begun, Login};
@@ -29,30 +29,31 @@ fn accepts_name(accepts: &Accepts, name: &[u8]) -> bool
     }
 }
 
-/// PSK-2 (RFC 4764 section 5.2).
-fn psk2(login: &Login, id: u8) -> Packet
-    ensures { result ≡ psk_response id (psk2_of (login_of login.now)) }
+/// PSK-2 with this MAC_P (RFC 4764 section 5.2).
+fn psk2(login: &Login, id: u8, mac: &[u8; 16]) -> Packet
+    ensures { result ≡ psk_response id (psk2 login.now.rand_s (rand_p_of login.now) mac.now login.now.cred.id_p) }
 {
     let message = PskView::P2 {
-        rand_s: login.rand_s,
+        rand_s: *login.rand_s(),
         rand_p: login.rand_p(),
-        mac: login.mac_p(),
-        id_p: login.own.cred.id_p.as_slice(),
+        mac: *mac,
+        id_p: login.id_p().as_slice(),
     };
     write_psk(&message, Code::Response, id)
 }
 
 /// PSK-1 is answered by PSK-2, and the login begins.
-#[tactic(auto, unfolding(eap_method::specs::PskPeer::answers))]
+#[tactic(auto, unfolding(eap_method::specs::PskPeer::answers, eap_method::specs::PskPeer::mac_p_of))]
 fn answer(login: Login, id: u8) -> Taken
-    ensures { outcome_of result ≡ answers (login_of login) id }
+    ensures { outcome_of result ≡ answers login id }
 {
-    let record = mac_record(&login.own.cred.psk, login.mac_p_covers(), &login.mac_p());
+    let covered = login.mac_p_covers();
+    let mac = login.mac_over(&covered);
     let reply = Reply {
-        packet: psk2(&login, id),
+        packet: psk2(&login, id, &mac),
         state: MethodState::Cont,
         decision: Decision::Fail,
-        made: TagList::one(record),
+        made: TagList::one(mac_record(login.psk(), covered, &mac)),
     };
     Taken::replied(Stage::Wait { login }, reply, TagList::new())
 }
@@ -63,12 +64,7 @@ fn hears_psk1(own: Begun, id: u8, rand_s: [u8; 16], id_s: &[u8]) -> Taken
     ensures { outcome_of result ≡ hears_psk1 own.cred own.nonce id rand_s id_s.now }
 {
     if accepts_name(&own.cred.accepts, id_s) {
-        let login = Login {
-            own,
-            id_s: list_of(id_s),
-            rand_s,
-        };
-        answer(login, id)
+        answer(Login::new(own, list_of(id_s), rand_s), id)
     } else {
         Taken::discarded(Stage::Fresh { own }, Cause::UnknownServer)
     }
@@ -99,7 +95,7 @@ fn fresh_reads(own: Begun, request: &[u8]) -> Taken
 /// A message, with this Identifier and this header, at a peer that has sent PSK-2.
 fn wait_hears(login: Login, id: u8, header: &[u8], message: &PskView) -> Taken
     requires { length header.now ≤ 22 }
-    ensures { outcome_of result ≡ wait_hears (login_of login) id header.now (message_of message.now) }
+    ensures { outcome_of result ≡ wait_hears login id header.now (message_of message.now) }
 {
     match message {
         PskView::P3 {
@@ -125,7 +121,7 @@ fn wait_hears(login: Login, id: u8, header: &[u8], message: &PskView) -> Taken
 /// A Request at a peer that has sent PSK-2.
 fn wait_reads(login: Login, request: &[u8]) -> Taken
     requires { 5 ≤ length request.now }
-    ensures { outcome_of result ≡ wait_reads (login_of login) (id_of request.now) (header_of request.now) (read_of (body_of request.now)) }
+    ensures { outcome_of result ≡ wait_reads login (id_of request.now) (header_of request.now) (read_of (body_of request.now)) }
 {
     match read_psk(&request[5..]) {
         Err(cause) => Taken::discarded(Stage::Wait { login }, cause),
@@ -136,7 +132,7 @@ fn wait_reads(login: Login, request: &[u8]) -> Taken
 /// A Request at a peer whose login is over.
 fn over_reads(login: Login, good: bool, request: &[u8]) -> Taken
     requires { 5 ≤ length request.now }
-    ensures { outcome_of result ≡ over_reads (login_of login) good (read_of (body_of request.now)) }
+    ensures { outcome_of result ≡ over_reads login good (read_of (body_of request.now)) }
 {
     let cause = match read_psk(&request[5..]) {
         Err(cause) => cause,

@@ -1,20 +1,23 @@
 //! PSK-2 is checked, and answered by PSK-3 (RFC 4764 sections 5.2 and 5.3).
 
-ghost use Rattle.std.specs.Prelude.{◌≡◌, ◌≤◌, length, All, IsTrue};
+ghost use Rattle.std.specs.Prelude.{◌≡◌, ◌≤◌, length, All, IsTrue, Some};
 ghost use Rattle.eap_base.specs.Setup.{fits_kind, psk_kind};
 ghost use Rattle.eap_base.specs.Users.{user_of};
 ghost use Rattle.psk_messages.specs.Message.{psk3};
+ghost use Rattle.eap_method.specs.Turns.{requested};
 ghost use Rattle.eap_method.specs.PskTags.{psk_request};
-ghost use Rattle.eap_method.specs.PskServer.{rand_s_of, mac_s_of, psk3_of, psk3_records, answers, checks, r_for, finds, hears_psk2};
-ghost use Rattle.psk_ends.specs.ServerStage.{login_of, view_of, outcome_of};
+ghost use Rattle.eap_method.specs.PskServer.{rand_s_of, psk3_of, psk3_records, checked, finds, hears_psk2};
+ghost use Rattle.psk_ends.specs.ServerStage.{outcome_of};
 
 use crate::PSK;
-use crate::channel::{DONE_FAILURE, DONE_SUCCESS, Sealed, seal};
+use crate::channel::{Sealed, seal};
+use crate::keys::long_keys;
 use crate::octets::{agree, header_of, list_of, rand_of};
-use crate::records::{channel_record, mac_record};
+use crate::records::{channel_record, mac_p_octets, mac_record};
 use crate::server::login::{Begun, Login};
 use crate::server::stage::{Stage, Taken};
-use eap_base::{Packet, Users};
+use cmac_mac::cmac_whole;
+use eap_base::{Identity, Packet, User, Users};
 use eap_method::{TagList, Tags};
 use eap_packet::{Cause, Code};
 use psk_messages::{PskView, write_psk};
@@ -27,13 +30,13 @@ pub struct Psk2 {
     pub mac: [u8; 16],
 }
 
-/// PSK-3 with these parts of PCHANNEL.
-fn write_psk3(login: &Login, id: u8, tag: &[u8; 16], sealed: u8) -> Packet
-    ensures { result ≡ psk_request id (psk3 (rand_s_of (login_of login.now)) (mac_s_of (login_of login.now)) 0 tag.now sealed) }
+/// PSK-3 with this MAC_S and these parts of PCHANNEL.
+fn write_psk3(login: &Login, id: u8, mac: &[u8; 16], tag: &[u8; 16], sealed: u8) -> Packet
+    ensures { result ≡ psk_request id (psk3 (rand_s_of login.now) mac.now 0 tag.now sealed) }
 {
     let message = PskView::P3 {
         rand_s: login.rand_s(),
-        mac: login.mac_s(),
+        mac: *mac,
         nonce: 0,
         tag: *tag,
         sealed,
@@ -48,51 +51,49 @@ struct Sent {
 }
 
 /// PSK-3. It is written twice, since PCHANNEL's tag covers its first octets.
-#[tactic(auto, unfolding(eap_method::specs::PskServer::psk3_header, eap_method::specs::PskServer::psk3_sealed))]
+#[tactic(auto, unfolding(eap_method::specs::PskServer::mac_s_of, eap_method::specs::PskServer::psk3_header, eap_method::specs::PskServer::psk3_sealed))]
 fn psk3(login: &Login, id: u8) -> Sent
-    ensures packet { result.packet ≡ psk_request id (psk3_of (login_of login.now) id) }
-    ensures made { result.made ≡ psk3_records (login_of login.now) id }
+    ensures packet { result.packet ≡ psk_request id (psk3_of login.now id) }
+    ensures made { result.made ≡ psk3_records login.now id }
 {
-    let blank = write_psk3(login, id, &[0; 16], 0);
+    let covered = login.mac_s_covers();
+    let mac = login.mac_over(&covered);
+    let blank = write_psk3(login, id, &mac, &[0; 16], 0);
     let header = header_of(blank.as_slice());
-    let keys = login.keys();
-    let Sealed { octet, tag } = seal(&keys.tek, 0, header, login.r);
+    let Sealed { octet, tag } = seal(login.tek(), 0, header, login.r());
     Sent {
-        packet: write_psk3(login, id, &tag, octet),
+        packet: write_psk3(login, id, &mac, &tag, octet),
         made: TagList::two(
-            mac_record(&login.psk, login.mac_s_covers(), &login.mac_s()),
-            channel_record(&login.psk, 0, header, octet, &tag),
+            mac_record(login.psk(), covered, &mac),
+            channel_record(login.psk(), 0, header, octet, &tag),
         ),
     }
 }
 
-/// A PSK-2 with the right MAC_P is answered by PSK-3.
-#[tactic(auto, unfolding(eap_method::specs::PskServer::answers))]
-fn answer(login: Login, next_id: u8, mac: &[u8; 16]) -> Taken
-    ensures { outcome_of result ≡ answers (login_of login) next_id mac.now }
+/// A PSK-2 whose MAC_P is accepted is answered by PSK-3.
+fn answer(login: Login, next_id: u8, accepted: TagList) -> Taken
+    ensures { outcome_of result ≡ requested (checked login) (psk_request next_id (psk3_of login next_id)) accepted (psk3_records login next_id) }
 {
-    let accepted = TagList::one(mac_record(&login.psk, login.mac_p_covers(), mac));
     let Sent { packet, made } = psk3(&login, next_id);
     Taken::requested(Stage::Checked { login }, packet, Tags { accepted, made })
 }
 
-/// A PSK-2 of a known user. `BadTag`: MAC_P is wrong.
-fn check(login: Login, next_id: u8, mac: &[u8; 16]) -> Taken
-    ensures { outcome_of result ≡ checks (login_of login) next_id mac.now }
+/// A PSK-2 of this user, under this name. `BadTag`: MAC_P is wrong.
+#[tactic(auto, unfolding(eap_method::specs::PskServer::answers, eap_method::specs::PskServer::mac_p_of, eap_method::specs::PskServer::mac_p_covers, eap_method::specs::PskServer::ak_of))]
+fn check(own: Begun, next_id: u8, psk2: &Psk2, id_p: Identity, user: &User) -> Taken
+    requires { length user.now.psk ≡ 16 }
+    ensures { outcome_of result ≡ finds own.side own.nonce next_id psk2.now.rand_p psk2.now.mac id_p (Some user.now) }
 {
-    if agree(&login.mac_p(), mac) {
-        answer(login, next_id, mac)
+    let rand_s = rand_of(&own.nonce);
+    let covered = mac_p_octets(&id_p, &own.side.id_s, &rand_s, &psk2.rand_p);
+    let long = long_keys(&user.psk);
+    if agree(&cmac_whole(&long.ak, covered.as_slice()), &psk2.mac) {
+        let accepted = TagList::one(mac_record(&user.psk, covered, &psk2.mac));
+        let login = Login::new(own, id_p, user, psk2.rand_p, long);
+        answer(login, next_id, accepted)
     } else {
-        let Login { own, .. } = login;
         Taken::dropped(Stage::Asked { own }, Cause::BadTag)
     }
-}
-
-/// R for a user: a barred one gets a failure.
-fn r_for(barred: bool) -> u8
-    ensures { result ≡ r_for barred }
-{
-    if barred { DONE_FAILURE } else { DONE_SUCCESS }
 }
 
 /// A PSK-2 that answers PSK-1, of the user of this name. Where there is none, the login fails.
@@ -103,16 +104,7 @@ fn find(own: Begun, next_id: u8, psk2: &Psk2, id_p: &[u8], users: &Users) -> Tak
 {
     match users.find(id_p, PSK) {
         None => Taken::done(Stage::Refused { own }, false, TagList::new()),
-        Some(user) => {
-            let login = Login {
-                own,
-                id_p: list_of(id_p),
-                psk: user.psk.copy(),
-                rand_p: psk2.rand_p,
-                r: r_for(user.barred),
-            };
-            check(login, next_id, &psk2.mac)
-        }
+        Some(user) => check(own, next_id, psk2, list_of(id_p), user),
     }
 }
 

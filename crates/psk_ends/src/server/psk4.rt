@@ -6,7 +6,7 @@ ghost use Rattle.eap_method.specs.Turns.{fault_if};
 ghost use Rattle.eap_method.specs.PskTags.{opened, is_sealed, result_fault, result_of, tek_record};
 ghost use Rattle.eap_method.specs.PskServer.{keys_of, psk4_fault, ends};
 ghost use Rattle.psk_ends.specs.Checks.{checked};
-ghost use Rattle.psk_ends.specs.ServerStage.{login_of, view_of, outcome_of};
+ghost use Rattle.psk_ends.specs.ServerStage.{view_of, outcome_of};
 
 use crate::channel::{DONE_SUCCESS, check_result, open};
 use crate::records::channel_record;
@@ -26,10 +26,9 @@ pub struct Psk4 {
 
 /// The octet in PCHANNEL, where the tag is right and it has no fault. `BadTag`: the tag is wrong.
 fn check_tag(login: &Login, header: &[u8], psk4: &Psk4) -> Result<u8, Cause>
-    ensures { result ≡ checked (fault_if (not (is_sealed (keys_of (login_of login.now)).tek 1 header.now psk4.now.sealed psk4.now.tag)) BadTag (result_fault (opened (keys_of (login_of login.now)).tek 1 psk4.now.sealed))) (opened (keys_of (login_of login.now)).tek 1 psk4.now.sealed) }
+    ensures { result ≡ checked (fault_if (not (is_sealed (keys_of login.now).tek 1 header.now psk4.now.sealed psk4.now.tag)) BadTag (result_fault (opened (keys_of login.now).tek 1 psk4.now.sealed))) (opened (keys_of login.now).tek 1 psk4.now.sealed) }
 {
-    let keys = login.keys();
-    match open(&keys.tek, 1, header, psk4.sealed, &psk4.tag) {
+    match open(login.tek(), 1, header, psk4.sealed, &psk4.tag) {
         None => Err(Cause::BadTag),
         Some(octet) => check_result(octet),
     }
@@ -37,7 +36,7 @@ fn check_tag(login: &Login, header: &[u8], psk4: &Psk4) -> Result<u8, Cause>
 
 /// The octet in PCHANNEL, where PSK-4 has no fault; else the first one, in the order of the causes.
 fn check_psk4(login: &Login, header: &[u8], psk4: &Psk4) -> Result<u8, Cause>
-    ensures { result ≡ checked (psk4_fault (login_of login.now) header.now psk4.now.rand_s psk4.now.nonce psk4.now.tag psk4.now.sealed) (opened (keys_of (login_of login.now)).tek 1 psk4.now.sealed) }
+    ensures { result ≡ checked (psk4_fault login.now header.now psk4.now.rand_s psk4.now.nonce psk4.now.tag psk4.now.sealed) (opened (keys_of login.now).tek 1 psk4.now.sealed) }
 {
     if psk4.rand_s.as_slice() != login.rand_s().as_slice() {
         Err(Cause::FieldMismatch)
@@ -51,9 +50,9 @@ fn check_psk4(login: &Login, header: &[u8], psk4: &Psk4) -> Result<u8, Cause>
 /// A PSK-4 without a fault ends the login, with success where both sides sent it.
 #[tactic(auto, unfolding(eap_method::specs::PskServer::ends))]
 fn end(login: Login, octet: u8, accepted: TagList) -> Taken
-    ensures { outcome_of result ≡ ends (login_of login) (result_of octet) accepted None }
+    ensures { outcome_of result ≡ ends login (result_of octet) accepted None }
 {
-    let success = login.r == DONE_SUCCESS && octet / 64 == DONE_SUCCESS;
+    let success = login.r() == DONE_SUCCESS && octet / 64 == DONE_SUCCESS;
     Taken::done(Stage::Over { login, success }, success, accepted)
 }
 
@@ -61,12 +60,12 @@ fn end(login: Login, octet: u8, accepted: TagList) -> Taken
 #[tactic(auto, using(crate::proofs::ServerChecks::ends_faultless))]
 pub fn hears_psk4(login: Login, header: &[u8], psk4: &Psk4) -> Taken
     requires { length header.now ≤ 22 }
-    ensures { outcome_of result ≡ ends (login_of login) (result_of (opened (keys_of (login_of login)).tek 1 psk4.now.sealed)) (tek_record login.psk 1 header.now psk4.now.sealed psk4.now.tag ∷ []) (psk4_fault (login_of login) header.now psk4.now.rand_s psk4.now.nonce psk4.now.tag psk4.now.sealed) }
+    ensures { outcome_of result ≡ ends login (result_of (opened (keys_of login).tek 1 psk4.now.sealed)) (tek_record login.psk 1 header.now psk4.now.sealed psk4.now.tag ∷ []) (psk4_fault login header.now psk4.now.rand_s psk4.now.nonce psk4.now.tag psk4.now.sealed) }
 {
     match check_psk4(&login, header, psk4) {
         Err(cause) => Taken::dropped(Stage::Checked { login }, cause),
         Ok(octet) => {
-            let record = channel_record(&login.psk, 1, header, psk4.sealed, &psk4.tag);
+            let record = channel_record(login.psk(), 1, header, psk4.sealed, &psk4.tag);
             end(login, octet, TagList::one(record))
         }
     }

@@ -7,7 +7,7 @@ ghost use Rattle.psk_messages.specs.Reading.{read_of};
 ghost use Rattle.eap_method.specs.Turns.{body_of};
 ghost use Rattle.eap_method.specs.PskTags.{header_of};
 ghost use Rattle.eap_method.specs.PskServer.{first, first_step, asked_hears, asked_reads, checked_hears, checked_reads, idle_reads, step};
-ghost use Rattle.psk_ends.specs.ServerStage.{login_of, view_of, outcome_of, first_of};
+ghost use Rattle.psk_ends.specs.ServerStage.{view_of, outcome_of, first_of};
 
 use crate::octets::{header_of, rand_of};
 use crate::server::login::{Begun, Login};
@@ -87,7 +87,7 @@ fn asked_reads(own: Begun, next_id: u8, response: &[u8], users: &Users) -> Taken
 /// A message, with this header, at a server that has sent PSK-3.
 fn checked_hears(login: Login, header: &[u8], message: &PskView) -> Taken
     requires { length header.now ≤ 22 }
-    ensures { outcome_of result ≡ checked_hears (login_of login) header.now (message_of message.now) }
+    ensures { outcome_of result ≡ checked_hears login header.now (message_of message.now) }
 {
     match message {
         PskView::P4 {
@@ -111,7 +111,7 @@ fn checked_hears(login: Login, header: &[u8], message: &PskView) -> Taken
 /// A Response at a server that has sent PSK-3.
 fn checked_reads(login: Login, response: &[u8]) -> Taken
     requires { 5 ≤ length response.now }
-    ensures { outcome_of result ≡ checked_reads (login_of login) (header_of response.now) (read_of (body_of response.now)) }
+    ensures { outcome_of result ≡ checked_reads login (header_of response.now) (read_of (body_of response.now)) }
 {
     match read_psk(&response[5..]) {
         Err(cause) => Taken::dropped(Stage::Checked { login }, cause),
