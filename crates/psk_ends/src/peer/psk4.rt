@@ -94,7 +94,10 @@ fn confirm(login: Login, id: u8, octet: u8, accepted: TagList) -> Taken
 #[tactic(auto, unfolding(eap_method::specs::PskPeer::mac_s_of))]
 fn check_tags(login: &Login, covered: &Covered, header: &[u8], psk3: &Psk3) -> Result<u8, Cause>
     requires { covered.now ≡ mac_s_covers login.now }
-    ensures { result ≡ checked (fault_if (not (are_right login.now header.now psk3.now.mac psk3.now.tag psk3.now.sealed)) BadTag (result_fault (opened (keys_of login.now).tek 0 psk3.now.sealed))) (opened (keys_of login.now).tek 0 psk3.now.sealed) }
+    ensures { result ≡ checked
+        (fault_if (not (are_right login.now header.now psk3.now.mac psk3.now.tag psk3.now.sealed)) BadTag
+        (result_fault (opened (keys_of login.now).tek 0 psk3.now.sealed)))
+        (opened (keys_of login.now).tek 0 psk3.now.sealed) }
 {
     if !agree(&login.mac_over(covered), &psk3.mac) {
         return Err(Cause::BadTag);
@@ -108,7 +111,9 @@ fn check_tags(login: &Login, covered: &Covered, header: &[u8], psk3: &Psk3) -> R
 /// The octet in PCHANNEL, where PSK-3 has no fault; else the first one, in the order of the causes.
 fn check_psk3(login: &Login, covered: &Covered, header: &[u8], psk3: &Psk3) -> Result<u8, Cause>
     requires { covered.now ≡ mac_s_covers login.now }
-    ensures { result ≡ checked (psk3_fault login.now header.now psk3.now.rand_s psk3.now.mac psk3.now.nonce psk3.now.tag psk3.now.sealed) (opened (keys_of login.now).tek 0 psk3.now.sealed) }
+    ensures { result ≡ checked
+        (psk3_fault login.now header.now psk3.now.rand_s psk3.now.mac psk3.now.nonce psk3.now.tag psk3.now.sealed)
+        (opened (keys_of login.now).tek 0 psk3.now.sealed) }
 {
     if psk3.rand_s.as_slice() != login.rand_s().as_slice() {
         Err(Cause::FieldMismatch)
@@ -135,7 +140,10 @@ fn psk3_records(login: &Login, covered: Covered, header: &[u8], psk3: &Psk3) -> 
 #[tactic(auto, using(crate::proofs::PeerChecks::confirms_faultless))]
 pub fn hears_psk3(login: Login, id: u8, header: &[u8], psk3: &Psk3) -> Taken
     requires { length header.now ≤ 22 }
-    ensures { outcome_of result ≡ confirms login id (result_of (opened (keys_of login).tek 0 psk3.now.sealed)) (psk3_records login header.now psk3.now.mac psk3.now.tag psk3.now.sealed) (psk3_fault login header.now psk3.now.rand_s psk3.now.mac psk3.now.nonce psk3.now.tag psk3.now.sealed) }
+    ensures { outcome_of result ≡ confirms login id
+        (result_of (opened (keys_of login).tek 0 psk3.now.sealed))
+        (psk3_records login header.now psk3.now.mac psk3.now.tag psk3.now.sealed)
+        (psk3_fault login header.now psk3.now.rand_s psk3.now.mac psk3.now.nonce psk3.now.tag psk3.now.sealed) }
 {
     let covered = login.mac_s_covers();
     match check_psk3(&login, &covered, header, psk3) {

@@ -100,7 +100,8 @@ fn check(own: Begun, next_id: u8, psk2: &Psk2, id_p: Identity, user: &User) -> T
 fn find(own: Begun, next_id: u8, psk2: &Psk2, id_p: &[u8], users: &Users) -> Taken
     requires size { length id_p.now ≤ 253 }
     requires keys { All (λ user. IsTrue (fits_kind user.kind user.psk)) users.now }
-    ensures { outcome_of result ≡ finds own.side own.nonce next_id psk2.now.rand_p psk2.now.mac id_p.now (user_of users.now id_p.now psk_kind) }
+    ensures { outcome_of result ≡ finds own.side own.nonce next_id psk2.now.rand_p psk2.now.mac id_p.now
+        (user_of users.now id_p.now psk_kind) }
 {
     match users.find(id_p, PSK) {
         None => Taken::done(Stage::Refused { own }, false, TagList::new()),

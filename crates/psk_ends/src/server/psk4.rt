@@ -26,7 +26,10 @@ pub struct Psk4 {
 
 /// The octet in PCHANNEL, where the tag is right and it has no fault. `BadTag`: the tag is wrong.
 fn check_tag(login: &Login, header: &[u8], psk4: &Psk4) -> Result<u8, Cause>
-    ensures { result ≡ checked (fault_if (not (is_sealed (keys_of login.now).tek 1 header.now psk4.now.sealed psk4.now.tag)) BadTag (result_fault (opened (keys_of login.now).tek 1 psk4.now.sealed))) (opened (keys_of login.now).tek 1 psk4.now.sealed) }
+    ensures { result ≡ checked
+        (fault_if (not (is_sealed (keys_of login.now).tek 1 header.now psk4.now.sealed psk4.now.tag)) BadTag
+        (result_fault (opened (keys_of login.now).tek 1 psk4.now.sealed)))
+        (opened (keys_of login.now).tek 1 psk4.now.sealed) }
 {
     match open(login.tek(), 1, header, psk4.sealed, &psk4.tag) {
         None => Err(Cause::BadTag),
@@ -36,7 +39,9 @@ fn check_tag(login: &Login, header: &[u8], psk4: &Psk4) -> Result<u8, Cause>
 
 /// The octet in PCHANNEL, where PSK-4 has no fault; else the first one, in the order of the causes.
 fn check_psk4(login: &Login, header: &[u8], psk4: &Psk4) -> Result<u8, Cause>
-    ensures { result ≡ checked (psk4_fault login.now header.now psk4.now.rand_s psk4.now.nonce psk4.now.tag psk4.now.sealed) (opened (keys_of login.now).tek 1 psk4.now.sealed) }
+    ensures { result ≡ checked
+        (psk4_fault login.now header.now psk4.now.rand_s psk4.now.nonce psk4.now.tag psk4.now.sealed)
+        (opened (keys_of login.now).tek 1 psk4.now.sealed) }
 {
     if psk4.rand_s.as_slice() != login.rand_s().as_slice() {
         Err(Cause::FieldMismatch)
@@ -60,7 +65,10 @@ fn end(login: Login, octet: u8, accepted: TagList) -> Taken
 #[tactic(auto, using(crate::proofs::ServerChecks::ends_faultless))]
 pub fn hears_psk4(login: Login, header: &[u8], psk4: &Psk4) -> Taken
     requires { length header.now ≤ 22 }
-    ensures { outcome_of result ≡ ends login (result_of (opened (keys_of login).tek 1 psk4.now.sealed)) (tek_record login.psk 1 header.now psk4.now.sealed psk4.now.tag ∷ []) (psk4_fault login header.now psk4.now.rand_s psk4.now.nonce psk4.now.tag psk4.now.sealed) }
+    ensures { outcome_of result ≡ ends login
+        (result_of (opened (keys_of login).tek 1 psk4.now.sealed))
+        (tek_record login.psk 1 header.now psk4.now.sealed psk4.now.tag ∷ [])
+        (psk4_fault login header.now psk4.now.rand_s psk4.now.nonce psk4.now.tag psk4.now.sealed) }
 {
     match check_psk4(&login, header, psk4) {
         Err(cause) => Taken::dropped(Stage::Checked { login }, cause),
