@@ -1,0 +1,167 @@
+//! EAP-GPSK messages, read and written.
+
+ghost use Rattle.std.specs.Prelude.{◌+◌, ◌≤◌, IsTrue};
+ghost use Rattle.eap_packet.specs.Packet.{has_type};
+ghost use Rattle.gpsk_messages.specs.Message.{message_of, size_of};
+
+use crate::row::Row;
+use eap_base::Suite;
+use eap_packet::{Code, decode};
+use gpsk_messages::{GpskView, covered, read_gpsk, write_gpsk};
+
+/// The message that the Type-Data is, where its MAC has so many octets, or why it is none.
+fn note_of(body: &[u8], ks: Option<u8>) -> &'static str {
+    match read_gpsk(body, ks) {
+        Ok(GpskView::M1 { .. }) => "gpsk-1",
+        Ok(GpskView::M2 { .. }) => "gpsk-2",
+        Ok(GpskView::M3 { .. }) => "gpsk-3",
+        Ok(GpskView::M4 { .. }) => "gpsk-4",
+        Ok(GpskView::Fail { .. }) => "fail",
+        Ok(GpskView::ProtectedFail { .. }) => "protected-fail",
+        Err(cause) => cause.word(),
+    }
+}
+
+// Type-Data, the size of a MAC, 0 where it isn't known, and the message that it is (RFC 5433 section 7).
+const READ: &str = "\
+07 0 GpskShape
+0500000001 0 fail
+050000000100 0 GpskShape
+0400002e2e2e2e2e2e2e2e2e2e2e2e2e2e2e2e 0 gpsk-4
+0400002e2e2e2e2e2e2e2e2e2e2e2e2e2e2e2e2e2e2e2e2e2e2e2e2e2e2e2e2e2e2e2e 0 gpsk-4
+0400002e2e2e2e2e2e2e2e2e2e2e2e2e2e2e2e 16 gpsk-4
+0400002e2e2e2e2e2e2e2e2e2e2e2e2e2e2e2e 32 GpskShape
+0400002e2e2e2e2e2e2e2e2e2e2e2e2e2e2e2e2e2e2e2e2e2e2e2e2e2e2e2e2e2e2e2e 32 gpsk-4";
+
+/// Whether the row's Type-Data is its message.
+fn reads(row: &str) -> bool {
+    let mut row = Row::new(row);
+    let body = row.octets();
+    let ks = match row.octet() {
+        0 => None,
+        size => Some(size),
+    };
+    note_of(body.as_slice(), ks) == row.word() && row.is_read()
+}
+
+#[test]
+fn messages_are_read(rt: HostRuntime) {
+    for row in READ.lines() {
+        assert!(rt; reads(row), "{row}");
+    }
+}
+
+/// No suites, or 21 times suite 0.
+static SUITES: [u8; 126] = [0; 126];
+
+/// A message by its name.
+fn message(name: &str) -> GpskView<'static>
+    ensures { size_of (message_of result) + 5 ≤ 1500 }
+{
+    let (rand_p, rand_s) = ([17; 32], [34; 32]);
+    let (id_p, id_s): (&[u8], &[u8]) = (b"alice", b"srv");
+    let list: &[u8] = b"\0\0\0\0\0\x01\0\0\0\0\0\x02";
+    match name {
+        "offer" => GpskView::M1 { id_s, rand_s, list },
+        "twenty" => GpskView::M1 {
+            id_s,
+            rand_s,
+            list: &SUITES[..120],
+        },
+        "twenty-one" => GpskView::M1 {
+            id_s,
+            rand_s,
+            list: &SUITES,
+        },
+        "second" => GpskView::M2 {
+            id_p,
+            id_s,
+            rand_p,
+            rand_s,
+            list,
+            suite: Suite::Hmac,
+            pd: &[],
+            mac: &[9; 32],
+        },
+        "third" => GpskView::M3 {
+            rand_p,
+            rand_s,
+            id_s,
+            suite: Suite::Cmac,
+            pd: &[],
+            mac: &[9; 16],
+        },
+        "fourth" => GpskView::M4 {
+            pd: &[],
+            mac: &[9; 16],
+        },
+        "protected" => GpskView::ProtectedFail {
+            code: 3,
+            mac: &[9; 32],
+        },
+        _ => GpskView::Fail { code: 1 },
+    }
+}
+
+/// Request or Response.
+fn code_of(word: &str) -> Code
+    ensures { IsTrue (has_type result) }
+{
+    match word {
+        "request" => Code::Request,
+        _ => Code::Response,
+    }
+}
+
+// A message, the Code of its packet, the octets of the packet, and the message that is read from it.
+const SIZES: &str = "\
+twenty request 165 gpsk-1
+twenty-one request 171 ListTooLong
+second response 136 gpsk-2
+third request 99 gpsk-3
+fourth response 24 gpsk-4
+protected request 42 protected-fail";
+
+/// Whether the row's message has its size, and is read as the row says.
+fn is_read_back(row: &str) -> bool {
+    let mut row = Row::new(row);
+    let packet = write_gpsk(&message(row.word()), code_of(row.word()), 1);
+    let note = match decode(packet.as_slice()) {
+        Ok(view) => note_of(view.body, None),
+        Err(cause) => cause.word(),
+    };
+    packet.len() == row.number() && note == row.word() && row.is_read()
+}
+
+#[test]
+fn messages_are_written_and_read(rt: HostRuntime) {
+    for row in SIZES.lines() {
+        assert!(rt; is_read_back(row), "{row}");
+    }
+}
+
+// A message, the Code and the Identifier of its packet, and the packet (RFC 5433 section 7).
+const WRITTEN: &str = "\
+offer request 1 01010039330100037372762222222222222222222222222222222222222222222222222222222222222222000c0000000000010000000000\
+    02
+fail response 2 0202000a330500000001";
+
+/// Whether the row's message is written as its packet.
+fn is_written(row: &str) -> bool {
+    let mut row = Row::new(row);
+    let packet = write_gpsk(&message(row.word()), code_of(row.word()), row.octet());
+    packet.as_slice() == row.octets().as_slice() && row.is_read()
+}
+
+#[test]
+fn messages_are_written(rt: HostRuntime) {
+    for row in WRITTEN.lines() {
+        assert!(rt; is_written(row), "{row}");
+    }
+}
+
+#[test]
+fn the_mac_covers_what_stands_before_it(rt: HostRuntime) {
+    let octets = covered(b"\x04\0\x01\x07................", 16);
+    assert!(rt; *octets == *b"\0\x01\x07".as_slice());
+}

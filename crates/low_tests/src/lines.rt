@@ -1,0 +1,137 @@
+//! Lines of sources.
+
+use crate::row::Row;
+use eap_base::{Failed, LineReader, MemSource, NextLine, Octets, Source, SureSource};
+use std::alloc::{AllocError, Global};
+use std::test::Fail;
+
+const LF: u8 = 10;
+
+// An input whose last line lacks its LF.
+const INPUT: &[u8] = b"one\r\ntwo\r\r\n\nla\rst\r";
+
+/// The name of what the reader met.
+fn word_of(met: NextLine) -> &'static str {
+    match met {
+        NextLine::Line => "Line",
+        NextLine::End => "End",
+        NextLine::TooLong => "TooLong",
+        NextLine::TooMuch => "TooMuch",
+        NextLine::Read => "Read",
+    }
+}
+
+/// The source's lines, each with an LF, then the name of what ended the reading; and the number of the last
+/// line.
+fn lines_of<S: Source>(source: &mut S) -> (Octets<100>, u32) {
+    let mut reader = LineReader::new();
+    let mut lines = Octets::new();
+    for _ in 0..10 {
+        if reader.is_over() {
+            break;
+        }
+        match reader.next_line(source) {
+            NextLine::Line => {
+                lines.append(reader.line());
+                lines.push(LF);
+            }
+            met => {
+                lines.append(word_of(met).as_bytes());
+            }
+        }
+    }
+    (lines, reader.number())
+}
+
+#[test]
+fn lines_are_the_same_in_every_cutting(rt: HostRuntime) -> Result<(), Fail> {
+    for piece in [1, 2, 3, 100] {
+        let mut source = MemSource::new(rt.alloc(), INPUT, piece, &[])?;
+        let (lines, number) = lines_of(&mut source);
+        assert!(rt; *lines.as_slice() == *b"one\ntwo\r\n\nla\rst\r\nEnd".as_slice() && number == 4);
+    }
+    Ok(())
+}
+
+#[test]
+fn a_read_that_fails_ends_the_reading(rt: HostRuntime) -> Result<(), Fail> {
+    let mut source = MemSource::new(rt.alloc(), INPUT, 1, &[7])?;
+    let (lines, _) = lines_of(&mut source);
+    assert!(rt; *lines.as_slice() == *b"one\nRead".as_slice());
+    Ok(())
+}
+
+// How many octets a line has, what stands behind them, and what the reader meets first. A line has 4,096
+// octets at most, a CR at its end among them.
+const LIMITS: &str = "\
+4096 0a Line
+4095 0d0a Line
+4096 - Line
+4097 0a TooLong
+4096 0d0a TooLong";
+
+/// Whether the reader meets the row's word first, in line 1.
+fn meets(alloc: Global, row: &str) -> Result<bool, AllocError> {
+    let mut row = Row::new(row);
+    let mut octets = vec![in alloc; b'x'; row.number()]?;
+    octets.extend_from_slice(row.octets().as_slice())?;
+    let mut source = SureSource::new(alloc, &octets)?;
+    let mut reader = LineReader::new();
+    let met = reader.next_line(&mut source);
+    Ok(word_of(met) == row.word() && reader.number() == 1 && row.is_read())
+}
+
+#[test]
+fn a_line_has_a_limit(rt: HostRuntime) -> Result<(), Fail> {
+    for row in LIMITS.lines() {
+        assert!(rt; meets(rt.alloc(), row)?, "{row}");
+    }
+    Ok(())
+}
+
+/// A source of so many octets, of which each 64th from the end back is LF.
+#[derive(Drop)]
+struct Ruled {
+    left: u32,
+}
+
+impl Source for Ruled {
+    ghost use Rattle.std.specs.Prelude.{None};
+
+    ghost left = { λ _. None };
+
+    ghost read_faults = { λ _. 0 };
+
+    ghost last_read_fault = { None };
+
+    fn read(&mut self, buf: &mut [u8]) -> Result<usize, Failed> {
+        if self.left == 0 || buf.is_empty() {
+            return Ok(0);
+        }
+        self.left -= 1;
+        buf[0] = if self.left % 64 == 0 { LF } else { b'x' };
+        Ok(1)
+    }
+}
+
+/// What ends the reading of so many octets in lines of 64, and the number of the last line.
+fn end_of(octets: u32) -> (NextLine, u32) {
+    let mut source = Ruled { left: octets };
+    let mut reader = LineReader::new();
+    let mut met = NextLine::Line;
+    for _ in 0..300_000 {
+        if reader.is_over() {
+            break;
+        }
+        met = reader.next_line(&mut source);
+    }
+    (met, reader.number())
+}
+
+// The input has 16,777,216 octets at most: 262,144 lines of 64 octets. One octet more is too much, also
+// where it is an LF.
+#[test]
+fn the_input_has_a_limit(rt: HostRuntime) {
+    let ends = [end_of(16_777_216), end_of(16_777_217)];
+    assert!(rt; ends == [(NextLine::End, 262_144), (NextLine::TooMuch, 262_145)]);
+}

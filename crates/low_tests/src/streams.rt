@@ -1,0 +1,101 @@
+//! Sources and sinks, and reads and writes that fail.
+
+ghost use Rattle.std.specs.Prelude.{◌≤◌, IfOk};
+
+use eap_base::{MemSink, MemSource, Sink, Source, StdSink, StdSource, SureSink, SureSource};
+use std::io;
+use std::io::{ErrorKind, Read, Write};
+use std::test::Fail;
+
+/// Whether the reads into the buffer answer the numbers of these words, or fail where a word is `fault`.
+fn reads<S: Source>(source: &mut S, buf: &mut [u8], answers: &str) -> bool {
+    let mut is_same = true;
+    for word in answers.split_whitespace() {
+        is_same &= match source.read(buf) {
+            Ok(count) => word.parse().ok() == Some(count),
+            Err(_) => word == "fault",
+        };
+    }
+    is_same
+}
+
+/// Whether the writes of the piece answer the numbers of these words, or fail where a word is `fault`.
+fn writes<W: Sink>(sink: &mut W, piece: &[u8], answers: &str) -> bool {
+    let mut is_same = true;
+    for word in answers.split_whitespace() {
+        is_same &= match sink.write(piece) {
+            Ok(count) => word.parse().ok() == Some(count),
+            Err(_) => word == "fault",
+        };
+    }
+    is_same
+}
+
+#[test]
+fn a_source_fails_at_its_listed_calls(rt: HostRuntime) -> Result<(), Fail> {
+    let mut source = MemSource::new(rt.alloc(), b"abcde", 2, &[4, 2])?;
+    let mut buf = [0; 4];
+    assert!(rt; reads(&mut source, &mut buf, "2 fault 2 fault 1 0") && buf == *b"ed\0\0");
+    Ok(())
+}
+
+#[test]
+fn a_sink_fails_at_its_listed_calls_and_where_it_is_full(rt: HostRuntime) -> Result<(), Fail> {
+    let mut sink = MemSink::new(rt.alloc(), 5, 2, &[2])?;
+    let is_same = writes(&mut sink, b"abcd", "2 fault 2 1 fault") && writes(&mut sink, b"", "0");
+    assert!(rt; is_same && *sink.written() == *b"ababa".as_slice());
+    Ok(())
+}
+
+#[test]
+fn the_sure_ones_never_fail(rt: HostRuntime) -> Result<(), Fail> {
+    let mut source = SureSource::new(rt.alloc(), b"abcde")?;
+    let mut buf = [0; 4];
+    assert!(rt; reads(&mut source, &mut buf, "4 1 0") && buf == *b"ebcd");
+    assert!(rt; writes(&mut SureSink::new(), b"abc", "3"));
+    Ok(())
+}
+
+/// A reader and a writer that give or take two octets, fail, and then give or take no more.
+#[derive(Drop)]
+struct Stream {
+    calls: u8,
+}
+
+impl Stream {
+    fn next(&mut self, size: usize) -> io::Result<usize>
+        ensures { IfOk result (λ n. n ≤ size) }
+    {
+        self.calls = self.calls.saturating_add(1);
+        match self.calls {
+            1 => Ok(size.min(2)),
+            2 => Err(io::Error::from(ErrorKind::TimedOut)),
+            _ => Ok(0),
+        }
+    }
+}
+
+impl Read for Stream {
+    fn read(&mut self, buf: &mut [u8]) -> io::Result<usize> {
+        self.next(buf.len())
+    }
+}
+
+impl Write for Stream {
+    fn write(&mut self, buf: &[u8]) -> io::Result<usize> {
+        self.next(buf.len())
+    }
+
+    fn flush(&mut self) -> io::Result<()> {
+        Ok(())
+    }
+}
+
+// A write that takes nothing of something is a fault too.
+#[test]
+fn a_stream_fails_midway(rt: HostRuntime) {
+    let mut source = StdSource::new(Stream { calls: 0 });
+    assert!(rt; reads(&mut source, &mut [0; 4], "2 fault 0"));
+    let mut sink = StdSink::new(Stream { calls: 0 });
+    assert!(rt; writes(&mut sink, b"abcd", "2 fault fault") && writes(&mut sink, b"", "0"));
+}
