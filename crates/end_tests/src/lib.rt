@@ -1,0 +1,13 @@
+//! Tests of both methods' ends and of the two machines, by their public calls.
+#![tactic(auto)]
+
+#[cfg(test)]
+mod gpsk;
+#[cfg(test)]
+mod login;
+#[cfg(test)]
+mod machines;
+#[cfg(test)]
+mod psk;
+#[cfg(test)]
+mod row;

@@ -1,0 +1,145 @@
+//! A peer and a server with no method, stepped by hand.
+
+use crate::row::Row;
+use eap_base::{Accepts, Identity, Kinds, PeerSetup, ServerSetup, Suites, Users};
+use eap_method::{PeerMethod, ServerMethod, Step};
+use eap_packet::State;
+use peer_machine::PeerMachine;
+use server_machine::ServerMachine;
+use std::alloc::Global;
+
+/// Whether the step sends the row's octets, discards for its cause and goes through its states; a dash
+/// stands for no octets and for no cause.
+fn is_step(step: &Step, row: &mut Row) -> bool {
+    let sent = match &step.sent {
+        None => &[],
+        Some(packet) => packet.as_slice(),
+    };
+    let is_sent = sent == row.octets().as_slice();
+    let cause = match step.cause {
+        None => "-",
+        Some(cause) => cause.word(),
+    };
+    let is_cause = cause == row.word();
+    is_sent && is_cause && are_states(step.path.as_slice(), row) && row.is_read()
+}
+
+/// Whether the states are those of the row.
+fn are_states(states: &[State], row: &mut Row) -> bool {
+    let mut are_same = true;
+    for state in states {
+        are_same &= state.word() == row.word();
+    }
+    are_same
+}
+
+/// Alice, who allows no method.
+fn alice(alloc: Global) -> PeerMachine<Box<dyn PeerMethod>> {
+    let mut name = Identity::new();
+    name.append(b"alice");
+    let mut suites = Suites::new();
+    suites.push(1);
+    let setup = PeerSetup {
+        name,
+        accepts: Accepts::Any,
+        methods: Kinds::new(),
+        suites,
+        psk47: None,
+        psk51: None,
+        nonce: [17; 32],
+    };
+    PeerMachine::new(setup, Vec::new(alloc))
+}
+
+// What is delivered to the peer, what it sends, why it discards, and the states that it enters (RFC 4137
+// section 4): the identity, asked for twice, a Nak that desires nothing (RFC 3748 section 5.3.1), the answer
+// to a notification, a Success with another Identifier, the Failure, and a Success after it.
+const PEER: &str = "\
+0100000501 0200000a01616c696365 - RECEIVED IDENTITY SEND_RESPONSE IDLE
+0100000501 0200000a01616c696365 - RECEIVED RETRANSMIT SEND_RESPONSE IDLE
+010100062f00 020100060300 - RECEIVED GET_METHOD SEND_RESPONSE IDLE
+010200060221 0202000502 - RECEIVED NOTIFICATION SEND_RESPONSE IDLE
+03010004 - IdMismatch RECEIVED DISCARD IDLE
+04020004 - - RECEIVED FAILURE
+03020004 - Ended";
+
+#[test]
+fn peer_without_methods(rt: HostRuntime) {
+    let mut peer = alice(rt.alloc());
+    for line in PEER.lines() {
+        let mut row = Row::new(line);
+        let step = peer.deliver(row.octets().as_slice());
+        assert!(rt; is_step(&step, &mut row), "{line}");
+    }
+    assert!(rt; peer.ended() && peer.report().is_none());
+    assert!(rt; peer.into_methods().is_empty());
+}
+
+type Server = ServerMachine<Box<dyn ServerMethod>>;
+
+/// A server that has not started, has no method and sends a Request again four times.
+fn bare_server(alloc: Global) -> Server {
+    let mut suites = Suites::new();
+    suites.push(1);
+    let setup = ServerSetup {
+        name: Identity::new(),
+        methods: Kinds::new(),
+        suites,
+        users: Users::new(),
+        nonce: [34; 32],
+    };
+    ServerMachine::new(setup, 0, 4, Vec::new(alloc))
+}
+
+/// What the server does at the row's call: `start`, `timeout`, or `deliver` with what is delivered.
+fn step_of(server: &mut Server, row: &mut Row) -> Step {
+    match row.word() {
+        "start" if !server.started() => server.start(),
+        "timeout" if !server.ended() => server.timeout(),
+        _ => server.deliver(row.octets().as_slice()),
+    }
+}
+
+/// The first row that isn't as the server does, empty where each is.
+fn wrong_row(server: &mut Server, rows: &'static str) -> &'static str {
+    for line in rows.lines() {
+        let mut row = Row::new(line);
+        let step = step_of(server, &mut row);
+        if !is_step(&step, &mut row) {
+            return line;
+        }
+    }
+    ""
+}
+
+// A call of the server, what it sends, why it discards, and the states that it enters (RFC 4137 section 5):
+// the Identity round, which ends in a Failure, and the same Response again.
+const IDENTITY: &str = "\
+start 0100000501 - INITIALIZE SELECT_ACTION PROPOSE_METHOD METHOD_REQUEST SEND_REQUEST IDLE
+deliver 0200000a01616c696365 04000004 - RECEIVED INTEGRITY_CHECK METHOD_RESPONSE SELECT_ACTION FAILURE
+deliver 0200000a01616c696365 - Ended";
+
+#[test]
+fn identity_round(rt: HostRuntime) {
+    let mut server = bare_server(rt.alloc());
+    assert!(rt; wrong_row(&mut server, IDENTITY) == "");
+    assert!(rt; server.ended() && server.report().is_none());
+    assert!(rt; server.into_methods().is_empty());
+}
+
+// Five timeouts, and the Response after them.
+const TIMEOUTS: &str = "\
+start 0100000501 - INITIALIZE SELECT_ACTION PROPOSE_METHOD METHOD_REQUEST SEND_REQUEST IDLE
+timeout 0100000501 - RETRANSMIT IDLE
+timeout 0100000501 - RETRANSMIT IDLE
+timeout 0100000501 - RETRANSMIT IDLE
+timeout 0100000501 - RETRANSMIT IDLE
+timeout - - RETRANSMIT TIMEOUT_FAILURE
+deliver 0200000a01616c696365 - Ended";
+
+#[test]
+fn five_timeouts(rt: HostRuntime) {
+    let mut server = bare_server(rt.alloc());
+    assert!(rt; wrong_row(&mut server, TIMEOUTS) == "");
+    assert!(rt; server.state() == State::TimeoutFailure);
+}

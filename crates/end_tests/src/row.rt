@@ -1,0 +1,88 @@
+//! Rows of a text: words by spaces, octets in hex.
+
+use eap_base::Octets;
+use hex::decode_to_slice;
+use std::str::SplitWhitespace;
+
+/// A row whose words are read one after the other.
+#[derive(Drop)]
+pub struct Row<'a> {
+    words: SplitWhitespace<'a>,
+    is_sound: bool,
+}
+
+impl<'a> Row<'a> {
+    /// The row before its first word.
+    pub fn new(row: &'a str) -> Row<'a> {
+        Row {
+            words: row.split_whitespace(),
+            is_sound: true,
+        }
+    }
+
+    /// The next word.
+    pub fn word(&mut self) -> &'a str {
+        match self.words.next() {
+            Some(word) => word,
+            None => {
+                self.is_sound = false;
+                ""
+            }
+        }
+    }
+
+    /// The octets that the next word spells, at most 1,500; a dash stands for none.
+    pub fn octets(&mut self) -> Octets<1500> {
+        self.list()
+    }
+
+    /// The octets that the next word spells, at most `N`; a dash stands for none.
+    pub fn list<const N: usize>(&mut self) -> Octets<N> {
+        let word = self.word();
+        let mut room = [0; 1500];
+        let size = (word.len() / 2).min(1500);
+        let mut list = Octets::new();
+        if word != "-"
+            && !(decode_to_slice(word, &mut room[..size]).is_ok() && list.append(&room[..size]))
+        {
+            self.is_sound = false;
+        }
+        list
+    }
+
+    /// The octets that the next word spells, exactly `N`.
+    pub fn array<const N: usize>(&mut self) -> [u8; N] {
+        let mut array = [0; N];
+        if decode_to_slice(self.word(), &mut array).is_err() {
+            self.is_sound = false;
+        }
+        array
+    }
+
+    /// The number that the next word spells.
+    pub fn number(&mut self) -> usize {
+        match self.word().parse() {
+            Ok(number) => number,
+            Err(_) => {
+                self.is_sound = false;
+                0
+            }
+        }
+    }
+
+    /// The octet whose number the next word spells.
+    pub fn octet(&mut self) -> u8 {
+        match self.word().parse() {
+            Ok(octet) => octet,
+            Err(_) => {
+                self.is_sound = false;
+                0
+            }
+        }
+    }
+
+    /// True where each word was what was asked for, and none is left.
+    pub fn is_read(&mut self) -> bool {
+        self.is_sound && self.words.next().is_none()
+    }
+}
