@@ -22,16 +22,16 @@ fn note_of(body: &[u8], ks: Option<u8>) -> &'static str {
     }
 }
 
-// Type-Data, the size of a MAC, 0 where it isn't known, and the message that it is (RFC 5433 section 7).
+// Type-Data, the size of a MAC in hex, 00 where it isn't known, and the message that it is (RFC 5433 section 7).
 const READ: &str = "\
-07 0 GpskShape
-0500000001 0 fail
-050000000100 0 GpskShape
-0400002e2e2e2e2e2e2e2e2e2e2e2e2e2e2e2e 0 gpsk-4
-0400002e2e2e2e2e2e2e2e2e2e2e2e2e2e2e2e2e2e2e2e2e2e2e2e2e2e2e2e2e2e2e2e 0 gpsk-4
-0400002e2e2e2e2e2e2e2e2e2e2e2e2e2e2e2e 16 gpsk-4
-0400002e2e2e2e2e2e2e2e2e2e2e2e2e2e2e2e 32 GpskShape
-0400002e2e2e2e2e2e2e2e2e2e2e2e2e2e2e2e2e2e2e2e2e2e2e2e2e2e2e2e2e2e2e2e 32 gpsk-4";
+07 00 GpskShape
+0500000001 00 fail
+050000000100 00 GpskShape
+0400002e2e2e2e2e2e2e2e2e2e2e2e2e2e2e2e 00 gpsk-4
+0400002e2e2e2e2e2e2e2e2e2e2e2e2e2e2e2e2e2e2e2e2e2e2e2e2e2e2e2e2e2e2e2e 00 gpsk-4
+0400002e2e2e2e2e2e2e2e2e2e2e2e2e2e2e2e 10 gpsk-4
+0400002e2e2e2e2e2e2e2e2e2e2e2e2e2e2e2e 20 GpskShape
+0400002e2e2e2e2e2e2e2e2e2e2e2e2e2e2e2e2e2e2e2e2e2e2e2e2e2e2e2e2e2e2e2e 20 gpsk-4";
 
 /// Whether the row's Type-Data is its message.
 fn reads(row: &str) -> bool {
@@ -142,9 +142,9 @@ fn messages_are_written_and_read(rt: HostRuntime) {
 
 // A message, the Code and the Identifier of its packet, and the packet (RFC 5433 section 7).
 const WRITTEN: &str = "\
-offer request 1 01010039330100037372762222222222222222222222222222222222222222222222222222222222222222000c0000000000010000000000\
+offer request 01 01010039330100037372762222222222222222222222222222222222222222222222222222222222222222000c0000000000010000000000\
     02
-fail response 2 0202000a330500000001";
+fail response 02 0202000a330500000001";
 
 /// Whether the row's message is written as its packet.
 fn is_written(row: &str) -> bool {

@@ -6,16 +6,16 @@ use eap_packet::{Code, Path, State, decode, encode, encode_end};
 // Octets, and what is read from them: the cause of a discard, or the Code, and then the Identifier and the
 // Type, 0 where there is none.
 const READ: &str = "\
-010203 Short 0 0
-05000004 BadCode 0 0
-01000004 BadLength 0 0
-0100000a01 Truncated 0 0
-0302000500 BadLength 0 0
-0100000503 NakRequest 0 0
-0200000503 BadNak 0 0
-04000003 BadLength 0 0
-020700070161620000 response 7 1
-04090004 failure 9 0";
+010203 Short 00 00
+05000004 BadCode 00 00
+01000004 BadLength 00 00
+0100000a01 Truncated 00 00
+0302000500 BadLength 00 00
+0100000503 NakRequest 00 00
+0200000503 BadNak 00 00
+04000003 BadLength 00 00
+020700070161620000 response 07 01
+04090004 failure 09 00";
 
 /// The name of the Code.
 fn word_of(code: Code) -> &'static str {

@@ -20,9 +20,9 @@ fn peer(methods: Kinds) -> PeerSetup {
 // The Types of the methods that the peer allows, those that its Nak lists, one Type, and whether the peer
 // allows it.
 const ALLOWED: &str = "\
-- 00 51 false
-332f 332f 47 true
-332f 332f 4 false";
+- 00 33 false
+332f 332f 2f true
+332f 332f 04 false";
 
 /// Whether the row's peer lists and allows so.
 fn allows(row: &str) -> bool {
@@ -74,10 +74,10 @@ fn the_first_allowed_suite_is_picked(rt: HostRuntime) {
 // The Types of the methods in their order, of those already proposed, of those that a Nak desires (a dash
 // where no Nak came), and of the method that is proposed next, 0 for none.
 const NEXT: &str = "\
-332f - - 51
-332f 33 2f 47
-332f 33 00 0
-332f 332f - 0";
+332f - - 33
+332f 33 2f 2f
+332f 33 00 00
+332f 332f - 00";
 
 /// Whether the row's method is next.
 fn is_next(row: &str) -> bool {

@@ -1,120 +1,100 @@
 //! Lists of octets, users, settings and suites.
 
-use crate::row::Row;
 use eap_base::{Accepts, Mode, Octets, PeerSetup, ServerSetup, Setup, Suite, User, Users};
 
-// A call of a list of at most four octets, what it is given, its answer, and the octets that the list then
-// has; a call after the other.
-const CALLS: &str = "\
-append 6162 true 6162
-push 99 true 616263
-append 6465 false 616263
-append 64 true 61626364
-push 101 false 61626364
-truncate 1 true 61";
-
-/// Whether the list answers the row's call so, and then has its octets.
-fn list_answers(list: &mut Octets<4>, row: &str) -> bool {
-    let mut row = Row::new(row);
-    let answer = match row.word() {
-        "append" => list.append(row.octets().as_slice()),
-        "push" => list.push(row.octet()),
-        _ => {
-            list.truncate(row.number());
-            true
-        }
-    };
-    answer == (row.word() == "true") && list.as_slice() == row.octets().as_slice() && row.is_read()
+/// What a list of two octets, which has room for four, answers to each call, and its size then.
+fn answers(list: &mut Octets<4>) -> [(bool, usize); 4] {
+    [
+        (list.push(b'c'), list.len()),
+        (list.append(b"de"), list.len()),
+        (list.append(b"d"), list.len()),
+        (list.push(b'e'), list.len()),
+    ]
 }
 
 #[test]
 fn lists_take_what_fits(rt: HostRuntime) {
-    let mut list = Octets::default();
-    assert!(rt; list.is_empty());
-    for row in CALLS.lines() {
-        assert!(rt; list_answers(&mut list, row), "{row}");
-    }
+    let mut list = list_of(b"ab");
+    let found = answers(&mut list);
+    let wanted = [(true, 3), (false, 3), (true, 4), (false, 4)];
+    assert!(rt;
+        found == wanted && *list.as_slice() == *b"abcd".as_slice(),
+        "{found:?}"
+    );
 }
 
-/// The sizes of a list of at most four octets with these, and of its copy; none where they don't fit.
-fn sizes_of(octets: &[u8]) -> Option<(usize, usize)> {
-    let list: Octets<4> = Octets::from_slice(octets)?;
-    Some((list.len(), list.copy().len()))
+/// A list of four octets, its copy, and what is left of it when it is cut to one.
+fn copied_and_cut() -> [Octets<4>; 2] {
+    let mut list = list_of(b"abcd");
+    let copied = list.copy();
+    list.truncate(1);
+    [copied, list]
 }
 
 #[test]
-fn lists_are_made_and_copied(rt: HostRuntime) {
-    let sizes = [sizes_of(b"ab"), sizes_of(b"abcd"), sizes_of(b"abcde")];
-    assert!(rt; sizes == [Some((2, 2)), Some((4, 4)), None]);
+fn lists_are_copied_and_cut(rt: HostRuntime) {
+    let [copied, cut] = copied_and_cut();
+    assert!(rt; *copied.as_slice() == *b"abcd".as_slice() && *cut.as_slice() == *b"a".as_slice());
 }
 
-// The name and the kind of a user that is added, and whether the users take it; a user after the other.
-const ADDED: &str = "\
-anna 47 true
-anna 51 true
-anna 47 false
-bert 47 true";
-
-// The same for users up to the sixteenth and the one after it.
-const MANY: &str = "\
-a 47 true
-b 47 true
-c 47 true
-d 47 true
-e 47 true
-f 47 true
-g 47 true
-h 47 true
-i 47 true
-j 47 true
-k 47 true
-l 47 true
-m 47 true
-n 47 true
-o 47 true
-p 47 true
-q 47 false";
-
-// A name, a kind, and whether there is a user of both.
-const FOUND: &str = "\
-anna 51 true
-bert 51 false";
-
-/// Whether the users answer so when the row's user is added.
-fn takes(users: &mut Users, row: &str) -> bool {
-    let mut row = Row::new(row);
-    let mut user = User::default();
-    user.name.append(row.word().as_bytes());
-    user.kind = row.octet();
-    user.psk.append(&[7; 16]);
-    users.add(user) == (row.word() == "true") && row.is_read()
+#[test]
+fn lists_are_made(rt: HostRuntime) {
+    let found = [
+        Octets::<4>::from_slice(b"ab").is_some(),
+        Octets::<4>::from_slice(b"abcde").is_none(),
+        Octets::<4>::default().is_empty(),
+    ];
+    assert!(rt; found == [true; 3], "{found:?}");
 }
 
-/// Whether the users answer so when the row's user is sought.
-fn finds(users: &Users, row: &str) -> bool {
-    let mut row = Row::new(row);
-    let found = users.find(row.word().as_bytes(), row.octet());
-    found.is_some() == (row.word() == "true") && row.is_read()
+/// Whether the users take one of this name and kind.
+fn takes(users: &mut Users, name: &[u8], kind: u8) -> bool {
+    users.add(User {
+        name: list_of(name),
+        kind,
+        psk: list_of(&[7; 16]),
+        barred: false,
+    })
+}
+
+/// Whether the users take anna for both methods, her again, and bert.
+fn taken(users: &mut Users) -> [bool; 4] {
+    [
+        takes(users, b"anna", 47),
+        takes(users, b"anna", 51),
+        takes(users, b"anna", 47),
+        takes(users, b"bert", 47),
+    ]
 }
 
 #[test]
 fn users_are_told_apart_by_name_and_kind(rt: HostRuntime) {
     let mut users = Users::new();
-    for row in ADDED.lines() {
-        assert!(rt; takes(&mut users, row), "{row}");
+    let found = taken(&mut users);
+    assert!(rt; found == [true, true, false, true], "{found:?}");
+    let found = (
+        users.find(b"anna", 51).is_some(),
+        users.find(b"bert", 51).is_some(),
+    );
+    assert!(rt;
+        found == (true, false) && users.copy().as_slice().len() == 3,
+        "{found:?}"
+    );
+}
+
+/// How many of the users a to q, all for EAP-PSK, are taken.
+fn count_of_taken() -> u8 {
+    let mut users = Users::new();
+    let mut count: u8 = 0;
+    for letter in b'a'..=b'q' {
+        count = count.wrapping_add(u8::from(takes(&mut users, &[letter], 47)));
     }
-    for row in FOUND.lines() {
-        assert!(rt; finds(&users, row), "{row}");
-    }
-    assert!(rt; users.copy().as_slice().len() == 3);
+    count
 }
 
 #[test]
 fn the_users_are_sixteen_at_most(rt: HostRuntime) {
-    let mut users = Users::new();
-    for row in MANY.lines() {
-        assert!(rt; takes(&mut users, row), "{row}");
-    }
+    assert!(rt; count_of_taken() == 16);
 }
 
 /// A list with these octets, without those that don't fit.

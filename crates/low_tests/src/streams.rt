@@ -7,43 +7,42 @@ use std::io;
 use std::io::{ErrorKind, Read, Write};
 use std::test::Fail;
 
-/// Whether the reads into the buffer answer the numbers of these words, or fail where a word is `fault`.
-fn reads<S: Source>(source: &mut S, buf: &mut [u8], answers: &str) -> bool {
-    let mut is_same = true;
-    for word in answers.split_whitespace() {
-        is_same &= match source.read(buf) {
-            Ok(count) => word.parse().ok() == Some(count),
-            Err(_) => word == "fault",
-        };
+/// Stands for a fault among the answers to reads and writes.
+const FAULT: usize = 99;
+
+/// Whether the reads into the buffer answer these numbers.
+fn reads<S: Source>(source: &mut S, buf: &mut [u8], answers: &[usize]) -> bool {
+    let mut are_same = true;
+    for answer in answers {
+        are_same &= source.read(buf).unwrap_or(FAULT) == *answer;
     }
-    is_same
+    are_same
 }
 
-/// Whether the writes of the piece answer the numbers of these words, or fail where a word is `fault`.
-fn writes<W: Sink>(sink: &mut W, piece: &[u8], answers: &str) -> bool {
-    let mut is_same = true;
-    for word in answers.split_whitespace() {
-        is_same &= match sink.write(piece) {
-            Ok(count) => word.parse().ok() == Some(count),
-            Err(_) => word == "fault",
-        };
+/// Whether the writes of the piece answer these numbers.
+fn writes<W: Sink>(sink: &mut W, piece: &[u8], answers: &[usize]) -> bool {
+    let mut are_same = true;
+    for answer in answers {
+        are_same &= sink.write(piece).unwrap_or(FAULT) == *answer;
     }
-    is_same
+    are_same
 }
 
 #[test]
 fn a_source_fails_at_its_listed_calls(rt: HostRuntime) -> Result<(), Fail> {
     let mut source = MemSource::new(rt.alloc(), b"abcde", 2, &[4, 2])?;
     let mut buf = [0; 4];
-    assert!(rt; reads(&mut source, &mut buf, "2 fault 2 fault 1 0") && buf == *b"ed\0\0");
+    let are_same = reads(&mut source, &mut buf, &[2, FAULT, 2, FAULT, 1, 0]);
+    assert!(rt; are_same && buf == *b"ed\0\0");
     Ok(())
 }
 
 #[test]
 fn a_sink_fails_at_its_listed_calls_and_where_it_is_full(rt: HostRuntime) -> Result<(), Fail> {
     let mut sink = MemSink::new(rt.alloc(), 5, 2, &[2])?;
-    let is_same = writes(&mut sink, b"abcd", "2 fault 2 1 fault") && writes(&mut sink, b"", "0");
-    assert!(rt; is_same && *sink.written() == *b"ababa".as_slice());
+    let are_same = writes(&mut sink, b"abcd", &[2, FAULT, 2, 1, FAULT]);
+    let is_nothing = writes(&mut sink, b"", &[0]);
+    assert!(rt; are_same && is_nothing && *sink.written() == *b"ababa".as_slice());
     Ok(())
 }
 
@@ -51,8 +50,9 @@ fn a_sink_fails_at_its_listed_calls_and_where_it_is_full(rt: HostRuntime) -> Res
 fn the_sure_ones_never_fail(rt: HostRuntime) -> Result<(), Fail> {
     let mut source = SureSource::new(rt.alloc(), b"abcde")?;
     let mut buf = [0; 4];
-    assert!(rt; reads(&mut source, &mut buf, "4 1 0") && buf == *b"ebcd");
-    assert!(rt; writes(&mut SureSink::new(), b"abc", "3"));
+    let are_same = reads(&mut source, &mut buf, &[4, 1, 0]);
+    let is_whole = writes(&mut SureSink::new(), b"abc", &[3]);
+    assert!(rt; are_same && is_whole && buf == *b"ebcd");
     Ok(())
 }
 
@@ -95,7 +95,11 @@ impl Write for Stream {
 #[test]
 fn a_stream_fails_midway(rt: HostRuntime) {
     let mut source = StdSource::new(Stream { calls: 0 });
-    assert!(rt; reads(&mut source, &mut [0; 4], "2 fault 0"));
     let mut sink = StdSink::new(Stream { calls: 0 });
-    assert!(rt; writes(&mut sink, b"abcd", "2 fault fault") && writes(&mut sink, b"", "0"));
+    let found = [
+        reads(&mut source, &mut [0; 4], &[2, FAULT, 0]),
+        writes(&mut sink, b"abcd", &[2, FAULT, FAULT]),
+        writes(&mut sink, b"", &[0]),
+    ];
+    assert!(rt; found == [true; 3], "{found:?}");
 }
