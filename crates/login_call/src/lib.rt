@@ -2,6 +2,7 @@
 //! a scenario, `decode` of packets, `keys` for ciphers, MACs and key schedules.
 #![tactic(auto)]
 
+mod beginning;
 mod command;
 mod decode;
 mod drive;
@@ -11,6 +12,7 @@ mod objects;
 mod replay;
 mod status;
 
+pub use beginning::world_of;
 pub use login::eap_login;
 pub use objects::{both_peers, both_servers};
 pub use status::{Status, exit_number, failure_number};

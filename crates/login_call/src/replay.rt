@@ -5,6 +5,7 @@ ghost use Rattle.std.specs.Prelude.{◌≡◌, ◌≤◌, None, Some, OnErr, IfO
 ghost use Rattle.scenario_text.specs.Valid.{IsValidSetup};
 ghost use Rattle.login_call.specs.Replay.{IsReady, HasBoth, seen_of};
 
+use crate::beginning::world_of;
 use crate::command::{Close, Command, Next, Trouble};
 use crate::status::Status;
 use eap_base::{Event, Failed, Setup, Sink};
@@ -64,7 +65,7 @@ impl<P: PeerMethod, S: ServerMethod> Replay<P, S> {
         match self.methods.take() {
             None => Ok(Next::Goes),
             Some(methods) => {
-                let mut world = World::new(self.alloc, setup, methods);
+                let mut world = world_of(self.alloc, setup, methods);
                 match world.start() {
                     Ok(told) => {
                         self.world = Some(world);
