@@ -72,28 +72,3 @@ fn last_round(state: &[u8; 16], key: &[u8; 16]) -> [u8; 16]
 {
     add_round_key(&shift_rows(&sub_bytes(state)), key)
 }
-
-#[cfg(test)]
-mod tests {
-    use super::*;
-
-    #[test]
-    fn encrypts_the_examples_of_the_standard(rt: HostRuntime) {
-        // FIPS 197, appendix B, and its example vector of AES-128.
-        let examples: [([u8; 16], [u8; 16], [u8; 16]); 2] = [
-            (
-                *b"\x2b\x7e\x15\x16\x28\xae\xd2\xa6\xab\xf7\x15\x88\x09\xcf\x4f\x3c",
-                *b"\x32\x43\xf6\xa8\x88\x5a\x30\x8d\x31\x31\x98\xa2\xe0\x37\x07\x34",
-                *b"\x39\x25\x84\x1d\x02\xdc\x09\xfb\xdc\x11\x85\x97\x19\x6a\x0b\x32",
-            ),
-            (
-                *b"\x00\x01\x02\x03\x04\x05\x06\x07\x08\x09\x0a\x0b\x0c\x0d\x0e\x0f",
-                *b"\x00\x11\x22\x33\x44\x55\x66\x77\x88\x99\xaa\xbb\xcc\xdd\xee\xff",
-                *b"\x69\xc4\xe0\xd8\x6a\x7b\x04\x30\xd8\xcd\xb7\x80\x70\xb4\xc5\x5a",
-            ),
-        ];
-        for (key, block, expected) in examples {
-            assert_eq!(rt; Aes128::new(&key).encrypt(&block), expected);
-        }
-    }
-}

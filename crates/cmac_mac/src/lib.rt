@@ -98,5 +98,3 @@ pub fn cmac_whole(key: &[u8; 16], text: &[u8]) -> [u8; 16]
     mac.finish()
 }
 
-#[cfg(test)]
-mod tests;

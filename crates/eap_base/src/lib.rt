@@ -12,8 +12,6 @@ mod sink;
 mod source;
 mod standard;
 mod sure;
-#[cfg(test)]
-mod tests;
 mod unread;
 mod users;
 

@@ -6,8 +6,6 @@ mod laws;
 mod packet;
 mod path;
 mod state;
-#[cfg(test)]
-mod tests;
 
 pub use cause::Cause;
 pub use laws::{faultless_is_spelled, reads_the_spelling, spellings_are_apart, spellings_are_read};

@@ -11,8 +11,6 @@ ghost use Rattle.eax_mode.specs.Eax as spec;
 use aes_block::Aes128;
 use cmac_mac::Cmac;
 
-#[cfg(test)]
-mod tests;
 
 /// The octets of a block of AES.
 const BLOCK_LEN: usize = 16;

@@ -7,8 +7,6 @@ mod hearing;
 mod peer;
 mod sealing;
 mod server;
-#[cfg(test)]
-mod tests;
 
 pub use peer::GpskPeer;
 pub use server::GpskServer;

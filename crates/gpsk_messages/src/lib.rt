@@ -4,8 +4,6 @@
 mod fields;
 mod laws;
 mod reading;
-#[cfg(test)]
-mod tests;
 mod view;
 mod writing;
 

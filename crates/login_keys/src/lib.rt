@@ -8,8 +8,6 @@ mod gkdf;
 mod gpsk;
 mod naming;
 mod psk;
-#[cfg(test)]
-mod tests;
 
 pub use gpsk::{GpskKeys, gpsk_keys, gpsk_tag};
 pub use naming::key_name;

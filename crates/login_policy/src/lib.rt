@@ -4,8 +4,6 @@
 
 mod laws;
 mod policy;
-#[cfg(test)]
-mod tests;
 
 pub use laws::{
     allowed_is_listed, nak_is_allowed, nak_lists_some, next_is_first, none_is_next, none_is_picked,

@@ -3,8 +3,6 @@
 
 mod laws;
 mod machine;
-#[cfg(test)]
-mod tests;
 mod variables;
 
 pub use laws::discards_keep;

@@ -25,8 +25,3 @@ key_of_user (first ∷ rest) name user is keys =
     key_found (is_named name psk_kind first) first user (user_of rest name psk_kind) is
     (λ named. key_named name first named (keys zero first (omega arith)))
     (λ found. key_of_user rest name user found (λ k d below. keys (suc k) d (omega arith)))
-
--- a list of one user with such a key
-pub one_user : (user : User) → HasKey user → All (λ each. IsTrue (fits_kind each.kind each.psk)) (user ∷ [])
-one_user user key zero d below = key
-one_user user key (suc k) d below = absurd (omega arith)

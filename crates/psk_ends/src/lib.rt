@@ -8,8 +8,6 @@ mod octets;
 mod peer;
 mod records;
 mod server;
-#[cfg(test)]
-mod tests;
 
 pub use peer::PskPeer;
 pub use server::PskServer;

@@ -1,5 +1,0 @@
-//! Worked values from outside, the happy path of each call, and reads and writes that fail.
-
-mod lines;
-mod memory;
-mod values;
