@@ -1,3 +1,4 @@
+mod Differences
 pub mod LineLaws
 mod LineRows
 pub mod LineState

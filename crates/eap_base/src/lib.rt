@@ -3,6 +3,7 @@
 #![tactic(auto)]
 
 mod calls;
+mod comparison;
 mod event;
 mod lines;
 mod memory;
@@ -15,6 +16,7 @@ mod sure;
 mod unread;
 mod users;
 
+pub use comparison::equal_in_full;
 pub use event::Event;
 pub use lines::{LineReader, NextLine};
 pub use memory::{MemSink, MemSource};

@@ -1,4 +1,3 @@
-pub mod Agreement
 pub mod Combining
 pub mod Laws
 pub mod Sealing

@@ -4,12 +4,12 @@
 
 ghost use Rattle.std.specs.Prelude.{◌≡◌, ◌≤◌, ◌↔◌, IsTrue, length};
 ghost use Rattle.std.specs.Bool.{OnTrue, OnFalse};
-ghost use Rattle.std.specs.Str.{bytes_eq};
 ghost use Rattle.eax_mode.specs.Eax.{IsOnlyTextOf, combined, counter_mode, eax_accepts, eax_plaintext, eax_sealed, eax_tag};
 ghost use Rattle.eax_mode.specs.Eax as spec;
 
 use aes_block::Aes128;
 use cmac_mac::Cmac;
+use eap_base::equal_in_full;
 
 
 /// The octets of a block of AES.
@@ -73,18 +73,6 @@ fn tag_over(
     tag
 }
 
-/// Whether two tags are the same. It reads all octets of both, so that the time it takes doesn't tell
-/// where they differ.
-fn agree(left: &[u8; BLOCK_LEN], right: &[u8; BLOCK_LEN]) -> bool
-    ensures { result ≡ bytes_eq left.now right.now }
-{
-    let mut difference = 0;
-    'octets: for i in 0..BLOCK_LEN {
-        difference |= left[i] ^ right[i];
-    }
-    difference == 0
-}
-
 /// Seals `text` in place under a nonce and with a header, all of any length: it becomes the
 /// ciphertext, and the tag of sixteen octets is returned. Under one key no nonce may serve twice,
 /// or the two ciphertexts tell how their texts differ.
@@ -120,7 +108,7 @@ pub fn eax_unseal(
 {
     let nonce_mac = omac(key, 0, nonce);
     let expected = tag_over(key, &nonce_mac, header, text);
-    if !agree(&expected, tag) {
+    if !equal_in_full(&expected, tag) {
         return false;
     }
     let first_counter = u128::from_be_bytes(nonce_mac);

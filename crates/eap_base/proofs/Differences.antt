@@ -1,13 +1,12 @@
 -- The octets in which two lists differ, gathered in one octet.
-use Rattle.std.proofs.Common.{◌≡◌, ℕ, ◌+◌, ◌<◌, ◌≤◌, eqb, List, ◌∷◌, [], ◌++◌, length, get_or, take, sym, ap, ◌∙◌, arith}
+use Rattle.std.proofs.Common.{◌≡◌, ◌≢◌, ℕ, ◌+◌, ◌<◌, ◌≤◌, false, eqb, List, ◌∷◌, [], ◌++◌, length, get_or, take, sym, ap, ◌∙◌, arith}
 use Rattle.std.specs.Prelude.{bit_or, bit_xor}
 use Rattle.std.specs.Str.{bytes_eq}
-use Rattle.std.specs.Int.Bits.{or_zero_l, xor_self, xor_zero_l}
+use Rattle.std.specs.Int.Bits.{or_zero_l, xor_self, xor_zero_l, xor_assoc, xor_zero_r}
 use Rattle.std.proofs.lemmas.Nat.{and_le_l, and_le_r}
 use Rattle.std.proofs.lemmas.List.{same_from_push, take_all, take_more}
 use Rattle.std.proofs.lemmas.Bool.Decides.{Decides-eqb, same_from_decides}
 use Rattle.std.proofs.lemmas.Slice.Eq.{bytes_eq-Decides}
-use Rattle.eax_mode.proofs.Combining.{xor_twice}
 use lib.Bits.{bit_and, or_add_and}
 
 or_none : (a b : ℕ) → bit_or a b ≡ 0 → (a ≡ 0) × (b ≡ 0)
@@ -16,6 +15,10 @@ or_none a b e =
     let left : bit_and a b ≤ a = and_le_l a b in
     let right : bit_and a b ≤ b = and_le_r a b in
     (omega arith, omega arith)
+
+-- an octet combined twice with the same one
+xor_twice : (x y : ℕ) → bit_xor (bit_xor x y) y ≡ x
+xor_twice x y = xor_assoc x y y ∙ ap (λ n. bit_xor x n) (xor_self y) ∙ xor_zero_r x
 
 xor_none : (x y : ℕ) → bit_xor x y ≡ 0 → x ≡ y
 xor_none x y e = sym (xor_twice x y) ∙ ap (λ n. bit_xor n y) e ∙ xor_zero_l y
@@ -51,9 +54,9 @@ difference_more octet i xs ys in_xs in_ys so_far =
     }
 
 -- all octets
-pub difference_all : (octet i : ℕ) (xs ys : List ℕ) → length xs ≤ i → length ys ≤ i
-    → IsDifference octet i xs ys → eqb octet 0 ≡ bytes_eq xs ys
-difference_all octet i xs ys all_xs all_ys so_far =
+pub differences_of_all : (octet i : ℕ) (xs ys : List ℕ) → IsDifference octet i xs ys → length xs ≤ i → length ys ≤ i
+    → eqb octet 0 ≡ bytes_eq xs ys
+differences_of_all octet i xs ys so_far all_xs all_ys =
     let whole_xs : take i xs ≡ xs = take_all i xs all_xs in
     let whole_ys : take i ys ≡ ys = take_all i ys all_ys in
     let zero_is_same : (octet ≡ 0 → xs ≡ ys) × (xs ≡ ys → octet ≡ 0) = (
@@ -64,3 +67,8 @@ difference_all octet i xs ys all_xs all_ys so_far =
     same_from_decides (eqb octet 0) (bytes_eq xs ys)
     (λ t. zero_is_same.0 (tested.0 t), λ e. tested.1 (zero_is_same.1 e))
     (bytes_eq-Decides xs ys)
+
+-- lists of different lengths
+pub differs_by_length : (xs ys : List ℕ) → length xs ≢ length ys → false ≡ bytes_eq xs ys
+differs_by_length xs ys other =
+    same_from_decides false (bytes_eq xs ys) (λ t. absurd (cc), λ e. absurd (other (ap length e))) (bytes_eq-Decides xs ys)

@@ -1,6 +1,6 @@
 use Rattle.std.proofs.Common.{arith, refl}
-use Rattle.eax_mode.proofs.Agreement.{difference_all, difference_more}
-use Rattle.eax_mode.proofs.agree.Goals as goal
+use Rattle.eap_base.proofs.Differences.{difference_more}
+use Rattle.eap_base.proofs.comparison.equal_in_full.Goals as goal
 
 pub octets-init : goal.octets-init
 octets-init c = record { same = λ _. refl; none = λ _. refl }
@@ -8,6 +8,3 @@ octets-init c = record { same = λ _. refl; none = λ _. refl }
 pub octets-preserved : goal.octets-preserved
 octets-preserved c =
     difference_more c.octets.difference c.octets.i c.args.left.now c.args.right.now (omega arith) (omega arith) c.octets.invariant
-
-pub returns : goal.returns
-returns c = difference_all c.octets.difference c.octets.i c.args.left.now c.args.right.now (omega arith) (omega arith) c.octets.invariant
