@@ -46,6 +46,15 @@ impl Aes128 {
         Aes128 { round_keys }
     }
 
+    /// An equal expanded key.
+    pub fn copy(&self) -> Aes128
+        ensures { result ≡ self.now }
+    {
+        Aes128 {
+            round_keys: self.round_keys,
+        }
+    }
+
     /// Encrypts a block (FIPS 197, section 5.1).
     pub fn encrypt(&self, block: &[u8; 16]) -> [u8; 16]
         ensures { result ≡ aes128 self.now block.now }

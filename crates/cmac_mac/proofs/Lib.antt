@@ -1,5 +1,6 @@
-pub mod Padding
-pub mod Growing
-pub mod Tag
+mod Lanes
+mod Growing
+mod Tag
+pub mod Pieces
 pub mod Laws
-pub mod Example
+mod Example

@@ -1,2 +1,3 @@
 pub mod Cmac
+pub mod Chained
 pub mod Holds

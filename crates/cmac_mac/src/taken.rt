@@ -1,0 +1,103 @@
+//! What is taken in of a text.
+
+ghost use Rattle.std.specs.Prelude.{◌≡◌, List, ℕ, ◌+◌, ◌≤◌, ◌++◌, [], length};
+ghost use Rattle.std.specs.List.{concat};
+ghost use Rattle.aes_block.specs.Cipher.{aes128};
+ghost use Rattle.cmac_mac.specs.Cmac as spec;
+ghost use Rattle.cmac_mac.specs.Chained.{IsChained, IsTakenIn};
+
+use crate::blocks::xor_blocks;
+use crate::key::CmacKey;
+use aes_block::Aes128;
+
+/// The octets of a block.
+const BLOCK_LEN: usize = 16;
+
+// The text so far: all its blocks before the last one are in the chain, and the last one is held back.
+#[derive(Drop)]
+pub(crate) struct Taken {
+    pub(crate) chain: [u8; 16],
+    // `count` octets of the text, then zeros.
+    pub(crate) held: [u8; 16],
+    pub(crate) count: usize,
+    ghost within: { count ≤ 16 },
+}
+
+impl Taken {
+    ghost use Rattle.cmac_mac.specs.Holds.{HasTaken};
+
+    // Nothing of a text.
+    #[tactic(auto, using(crate::proofs::Growing::taken_none), unfolding(crate::specs::Holds::HasTaken))]
+    pub(crate) fn new() -> Taken
+        ensures { (key : List ℕ) → HasTaken result key [] }
+    {
+        Taken {
+            chain: [0; 16],
+            held: [0; 16],
+            count: 0,
+        }
+    }
+
+    // Appends a piece to the text.
+    pub(crate) fn update(&mut self, key: &CmacKey, piece: &[u8])
+        ensures { (text : List ℕ) → HasTaken self.old key.now text → HasTaken self.new key.now (text ++ piece.now) }
+    {
+        let room = BLOCK_LEN - self.count;
+        if piece.len() <= room {
+            self.hold(piece);
+        } else {
+            let (front, rest) = piece.split_at(room);
+            self.hold(front);
+            self.take_in(key.cipher(), rest);
+        }
+    }
+
+    // Appends octets for which the block has room.
+    fn hold(&mut self, octets: &[u8])
+        requires { self.old.count + length octets.now ≤ 16 }
+        ensures taken { (key text : List ℕ) (n : ℕ) → IsTakenIn self.old.chain self.old.held self.old.count key text n
+            → IsTakenIn self.new.chain self.new.held self.new.count key (text ++ octets.now) n }
+        ensures count { self.new.count ≡ self.old.count + length octets.now }
+    {
+        let end = self.count + octets.len();
+        self.held[self.count..end].copy_from_slice(octets);
+        self.count = end;
+    }
+
+    // Appends octets where the block is full, so that it isn't the last one.
+    fn take_in(&mut self, cipher: &Aes128, octets: &[u8])
+        requires full { self.old.count ≡ 16 }
+        requires more { 1 ≤ length octets.now }
+        ensures { (text : List ℕ) (n : ℕ) → IsTakenIn self.old.chain self.old.held self.old.count cipher.now text n
+            → HasTaken self.new cipher.now (text ++ octets.now) }
+    {
+        let inner = (octets.len() - 1) / BLOCK_LEN;
+        let (front, end) = octets.split_at(BLOCK_LEN * inner);
+        let (blocks, _) = front.as_chunks::<16>();
+        let chain = chain_block(cipher, &self.chain, &self.held);
+        self.chain = chain_blocks(cipher, chain, blocks);
+        self.held = [0; 16];
+        self.count = 0;
+        self.hold(end);
+    }
+}
+
+// The chain, a block on (RFC 4493, section 2.4, step 6).
+fn chain_block(cipher: &Aes128, chain: &[u8; 16], block: &[u8; 16]) -> [u8; 16]
+    ensures { result ≡ aes128 cipher.now (spec.xor_blocks chain.now block.now) }
+{
+    cipher.encrypt(&xor_blocks(chain, block))
+}
+
+// The chain, these blocks on.
+fn chain_blocks(cipher: &Aes128, before: [u8; 16], blocks: &[[u8; 16]]) -> [u8; 16]
+    ensures { (text : List ℕ) (n : ℕ) → IsChained before cipher.now text n
+        → IsChained result cipher.now (text ++ concat blocks.now) (n + length blocks.now) }
+{
+    let mut chain = before;
+    for block in blocks {
+        let next = chain_block(cipher, &chain, block);
+        chain = next;
+    }
+    chain
+}
