@@ -65,6 +65,53 @@ fn keyed_hash(block: &[u8; BLOCK_LEN], pad: u8) -> Sha256
     Sha256::new_with_prefix(key.as_slice())
 }
 
+// An equal state of the hash.
+fn copy_of(hash: &Sha256) -> Sha256
+    ensures { result ≡ hash.now }
+{
+    match hash.clone() {
+        Ok(copy) => copy,
+        Err(_) => unreachable!(),
+    }
+}
+
+/// A key that is made once for many texts (RFC 2104, section 4): the states of the inner and of the
+/// outer hash after the key. The key itself isn't kept.
+///
+/// A contract says by `IsKeyOf key octets` for which octets a value stands.
+#[derive(Drop)]
+pub struct HmacKey {
+    inner: Sha256,
+    outer: Sha256,
+}
+
+impl HmacKey {
+    ghost use Rattle.hmac_mac.specs.Holds.{IsKeyOf};
+
+    /// The key of these octets, of any number: where they are over 64, their SHA-256 stands for them.
+    #[tactic(auto, unfolding(crate::specs::Holds::IsKeyOf))]
+    pub fn new(key: &[u8]) -> HmacKey
+        ensures { IsKeyOf result key.now }
+    {
+        let block = key_block(key);
+        HmacKey {
+            inner: keyed_hash(&block, INNER_PAD),
+            outer: keyed_hash(&block, OUTER_PAD),
+        }
+    }
+
+    /// An authenticator of the empty text under this key.
+    #[tactic(auto, unfolding(crate::specs::Holds::Holds, crate::specs::Holds::IsKeyOf))]
+    pub fn begin(&self) -> Hmac
+        ensures { (key : List ℕ) → IsKeyOf self.now key → Holds result key [] }
+    {
+        Hmac {
+            inner: copy_of(&self.inner),
+            outer: copy_of(&self.outer),
+        }
+    }
+}
+
 /// An authenticator under one key that is fed its text in pieces (RFC 2104). It keeps two states of
 /// the hash, and neither the key nor the text.
 #[derive(Drop)]
@@ -76,15 +123,12 @@ pub struct Hmac {
 impl Hmac {
     /// An authenticator of the empty text under `key`, of any length: a key over 64 octets is
     /// replaced by its SHA-256.
-    #[tactic(auto, unfolding(crate::specs::Holds::Holds))]
+    #[tactic(auto, unfolding(crate::specs::Holds::Holds, crate::specs::Holds::IsKeyOf))]
     pub fn new(key: &[u8]) -> Hmac
         ensures { Holds result key.now [] }
     {
-        let block = key_block(key);
-        Hmac {
-            inner: keyed_hash(&block, INNER_PAD),
-            outer: keyed_hash(&block, OUTER_PAD),
-        }
+        let HmacKey { inner, outer } = HmacKey::new(key);
+        Hmac { inner, outer }
     }
 
     /// Adds `piece` at the end of the text.
