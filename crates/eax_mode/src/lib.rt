@@ -8,7 +8,7 @@ ghost use Rattle.eax_mode.specs.Eax.{IsOnlyTextOf, combined, counter_mode, eax_a
 ghost use Rattle.eax_mode.specs.Eax as spec;
 
 use aes_block::Aes128;
-use cmac_mac::Cmac;
+use cmac_mac::CmacKey;
 use eap_base::equal_in_full;
 
 
@@ -35,12 +35,11 @@ fn stream_block(cipher: &Aes128, start: u128, index: usize) -> [u8; BLOCK_LEN]
 }
 
 /// Combines a text with the key stream whose counters begin at `start`.
-fn apply_key_stream(key: &[u8; BLOCK_LEN], start: u128, text: &mut [u8])
-    ensures { text.new ≡ counter_mode key.now start text.old }
+fn apply_key_stream(cipher: &Aes128, start: u128, text: &mut [u8])
+    ensures { text.new ≡ counter_mode cipher.now start text.old }
 {
-    let cipher = Aes128::new(key);
     'counters: for index in 0..text.len().div_ceil(BLOCK_LEN) {
-        let block = stream_block(&cipher, start, index);
+        let block = stream_block(cipher, start, index);
         let from = BLOCK_LEN * index;
         let end = text.len().min(from + BLOCK_LEN);
         combine(&mut text[from..end], &block);
@@ -49,18 +48,15 @@ fn apply_key_stream(key: &[u8; BLOCK_LEN], start: u128, text: &mut [u8])
 
 /// The CMAC of a number, as one block, and a text.
 #[tactic(auto, unfolding(crate::specs::Eax::omac))]
-fn omac(key: &[u8; BLOCK_LEN], number: u128, text: &[u8]) -> [u8; BLOCK_LEN]
+fn omac(key: &CmacKey, number: u128, text: &[u8]) -> [u8; BLOCK_LEN]
     ensures { result ≡ spec.omac key.now number text.now }
 {
-    let mut mac = Cmac::new(key);
-    mac.update(&number.to_be_bytes());
-    mac.update(text);
-    mac.finish()
+    key.tag(&number.to_be_bytes(), &[text])
 }
 
 /// The tag over a nonce, whose OMAC is given, a header and a ciphertext.
 fn tag_over(
-    key: &[u8; BLOCK_LEN],
+    key: &CmacKey,
     nonce_mac: &[u8; BLOCK_LEN],
     header: &[u8],
     ciphertext: &[u8],
@@ -82,9 +78,10 @@ pub fn eax_seal(key: &[u8; 16], nonce: &[u8], header: &[u8], text: &mut [u8]) ->
     ensures tag { result ≡ (eax_sealed key.now nonce.now header.now text.old).tag }
     ensures comes_back { eax_plaintext key.now nonce.now text.new ≡ text.old }
 {
-    let nonce_mac = omac(key, 0, nonce);
-    apply_key_stream(key, u128::from_be_bytes(nonce_mac), text);
-    tag_over(key, &nonce_mac, header, text)
+    let key = CmacKey::new(key);
+    let nonce_mac = omac(&key, 0, nonce);
+    apply_key_stream(key.cipher(), u128::from_be_bytes(nonce_mac), text);
+    tag_over(&key, &nonce_mac, header, text)
 }
 
 /// Unseals the ciphertext `text` in place. Where `tag` is the tag over nonce, header and ciphertext,
@@ -106,12 +103,13 @@ pub fn eax_unseal(
     ensures only { OnTrue result (IsOnlyTextOf key.now nonce.now header.now text.old tag.now text.new) }
     ensures unchanged { OnFalse result (text.new ≡ text.old) }
 {
-    let nonce_mac = omac(key, 0, nonce);
-    let expected = tag_over(key, &nonce_mac, header, text);
+    let key = CmacKey::new(key);
+    let nonce_mac = omac(&key, 0, nonce);
+    let expected = tag_over(&key, &nonce_mac, header, text);
     if !equal_in_full(&expected, tag) {
         return false;
     }
     let first_counter = u128::from_be_bytes(nonce_mac);
-    apply_key_stream(key, first_counter, text);
+    apply_key_stream(key.cipher(), first_counter, text);
     true
 }
