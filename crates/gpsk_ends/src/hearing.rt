@@ -8,7 +8,7 @@ ghost use Rattle.eap_method.specs.GpskTags.{is_tagged, sk_record};
 ghost use Rattle.gpsk_ends.specs.Heard.{IsHeard};
 
 use crate::copies::list_of;
-use eap_base::{Secret, Suite};
+use eap_base::{Secret, Suite, equal_in_full};
 use eap_method::{Label, TagRecord};
 use eap_packet::Cause;
 use gpsk_messages::{GpskView, read_gpsk};
@@ -69,7 +69,10 @@ pub(crate) fn has_tag(view: &GpskView, body: &[u8], suite: Suite, sk: &[u8]) -> 
     requires key { length sk.now ≡ ks_of suite }
     ensures { result ≡ is_tagged suite sk.now (message_of view.now) }
 {
-    gpsk_tag(suite, sk, covered_part(view, body)).as_slice() == mac_part(view)
+    equal_in_full(
+        gpsk_tag(suite, sk, covered_part(view, body)).as_slice(),
+        mac_part(view),
+    )
 }
 
 /// The record of the message's MAC, where the Type-Data spells the message.

@@ -1,7 +1,6 @@
 //! Octets in the types that fields and calls want.
 
 ghost use Rattle.std.specs.Prelude.{◌≡◌, ◌≤◌, length};
-ghost use Rattle.std.specs.Str.{bytes_eq};
 ghost use Rattle.eap_method.specs.PskTags.{header_of, rand_of};
 
 use eap_base::{Nonce, Octets};
@@ -27,18 +26,6 @@ pub fn list_of<const N: usize>(octets: &[u8]) -> Octets<N>
     let mut list = Octets::new();
     list.append(octets);
     list
-}
-
-/// Whether two MACs are the same. It reads all octets of both, so that the time it takes doesn't tell
-/// where they differ.
-pub fn agree(left: &[u8; 16], right: &[u8; 16]) -> bool
-    ensures { result ≡ bytes_eq left.now right.now }
-{
-    let mut difference = 0;
-    'octets: for i in 0..16 {
-        difference |= left[i] ^ right[i];
-    }
-    difference == 0
 }
 
 /// RAND_S or RAND_P: the first 16 octets of an end's nonce.

@@ -10,11 +10,11 @@ ghost use Rattle.psk_ends.specs.Checks.{checked};
 ghost use Rattle.psk_ends.specs.PeerStage.{view_of, outcome_of};
 
 use crate::channel::{DONE_FAILURE, DONE_SUCCESS, Sealed, check_result, open, seal};
-use crate::octets::{agree, header_of};
+use crate::octets::header_of;
 use crate::peer::login::Login;
 use crate::peer::stage::{Reply, Stage, Taken};
 use crate::records::{Covered, channel_record, mac_record};
-use eap_base::Packet;
+use eap_base::{Packet, equal_in_full};
 use eap_method::{Decision, MethodState, TagList};
 use eap_packet::{Cause, Code};
 use psk_messages::{PskView, write_psk};
@@ -99,7 +99,7 @@ fn check_tags(login: &Login, covered: &Covered, header: &[u8], psk3: &Psk3) -> R
         (result_fault (opened (keys_of login.now).tek 0 psk3.now.sealed)))
         (opened (keys_of login.now).tek 0 psk3.now.sealed) }
 {
-    if !agree(&login.mac_over(covered), &psk3.mac) {
+    if !equal_in_full(&login.mac_over(covered), &psk3.mac) {
         return Err(Cause::BadTag);
     }
     match open(login.tek(), 0, header, psk3.sealed, &psk3.tag) {

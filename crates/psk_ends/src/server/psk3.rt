@@ -12,12 +12,12 @@ ghost use Rattle.psk_ends.specs.ServerStage.{outcome_of};
 use crate::PSK;
 use crate::channel::{Sealed, seal};
 use crate::keys::long_keys;
-use crate::octets::{agree, header_of, list_of, rand_of};
+use crate::octets::{header_of, list_of, rand_of};
 use crate::records::{channel_record, mac_p_octets, mac_record};
 use crate::server::login::{Begun, Login};
 use crate::server::stage::{Stage, Taken};
 use cmac_mac::cmac_whole;
-use eap_base::{Identity, Packet, User, Users};
+use eap_base::{Identity, Packet, User, Users, equal_in_full};
 use eap_method::{TagList, Tags};
 use eap_packet::{Cause, Code};
 use psk_messages::{PskView, write_psk};
@@ -87,7 +87,7 @@ fn check(own: Begun, next_id: u8, psk2: &Psk2, id_p: Identity, user: &User) -> T
     let rand_s = rand_of(&own.nonce);
     let covered = mac_p_octets(&id_p, &own.side.id_s, &rand_s, &psk2.rand_p);
     let long = long_keys(&user.psk);
-    if agree(&cmac_whole(&long.ak, covered.as_slice()), &psk2.mac) {
+    if equal_in_full(&cmac_whole(&long.ak, covered.as_slice()), &psk2.mac) {
         let accepted = TagList::one(mac_record(&user.psk, covered, &psk2.mac));
         let login = Login::new(own, id_p, user, psk2.rand_p, long);
         answer(login, next_id, accepted)
