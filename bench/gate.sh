@@ -1,0 +1,92 @@
+#!/bin/sh
+# Measures the whole gate in a fresh clone, with nothing kept from earlier runs. README.md beside it says what is measured.
+set -eu
+
+here=$(cd "$(dirname "$0")/.." && pwd)
+work=$(mktemp -d)
+trap 'rm -rf "$work"' EXIT
+git clone -q "$here" "$work/repository"
+
+# rt ci runs the checker once for each crate, once for its tests and, in a folder of its own each time, for each
+# must-fail edit. A checker forks further processes, and a parent's count takes in the children that have ended.
+python3 - "$work/repository" <<'END'
+import collections, os, re, resource, subprocess, sys, time
+
+TICK = os.sysconf("SC_CLK_TCK")
+
+
+def process(pid):
+    """The parent, the ticks used (those of ended children too) and the words of a process; None where it has ended."""
+    try:
+        with open(f"/proc/{pid}/stat", encoding="utf-8", errors="replace") as it:
+            fields = it.read().rpartition(")")[2].split()
+        with open(f"/proc/{pid}/cmdline", "rb") as it:
+            words = it.read().decode(errors="replace").split("\0")
+        return int(fields[1]), sum(map(int, fields[11:15])), words, os.readlink(f"/proc/{pid}/cwd")
+    except (OSError, IndexError, ValueError):
+        return None
+
+
+def crate_of(words):
+    return words[words.index("--crate-name") + 1] if "--crate-name" in words else None
+
+
+def part_of(words, folder):
+    if "/rt-edit-" in folder:
+        return "edits"
+    return "tests" if "--test" in words else "proof"
+
+
+def sample(used, root):
+    """Adds up what the checkers below this process have used so far."""
+    all = {int(pid): it for pid in os.listdir("/proc") if pid.isdigit() and (it := process(pid))}
+
+    def begins(pid):
+        """The checker that a process is or belongs to, if it is one below the root."""
+        first, at = None, pid
+        while at in all and at != root:
+            first = at if crate_of(all[at][2]) else first
+            at = all[at][0]
+        return first if at == root else None
+
+    now = collections.Counter()
+    for pid, (_, ticks, _, _) in all.items():
+        if first := begins(pid):
+            now[first] += ticks
+    for pid, ticks in now.items():
+        label = crate_of(all[pid][2]), part_of(all[pid][2], all[pid][3])
+        used[pid] = label, max(ticks, used.get(pid, (label, 0))[1])
+
+
+def free():
+    with open("/proc/meminfo", encoding="utf-8") as it:
+        return int(re.search(r"MemAvailable:\s+(\d+)", it.read()).group(1))
+
+
+begun, before, least = time.time(), free(), free()
+used = {}
+run = subprocess.Popen(["rt", "ci", "--anew"], cwd=sys.argv[1], stdin=subprocess.DEVNULL, stdout=subprocess.PIPE, stderr=subprocess.STDOUT, text=True)
+os.set_blocking(run.stdout.fileno(), False)
+said = ""
+while run.poll() is None:
+    sample(used, run.pid)
+    least = min(least, free())
+    said += run.stdout.read() or ""
+    time.sleep(0.25)
+said += run.stdout.read() or ""
+mine = resource.getrusage(resource.RUSAGE_CHILDREN)
+
+rows = collections.defaultdict(collections.Counter)
+for (crate, part), ticks in used.values():
+    rows[crate][part] += ticks / TICK
+print(f"{'crate':16}{'proof, s':>10}{'tests, s':>10}{'edits, s':>10}{'all, s':>10}")
+for crate, parts in sorted(rows.items(), key=lambda it: -sum(it[1].values())):
+    print(f"{crate:16}" + "".join(f"{parts[it]:10.0f}" for it in ("proof", "tests", "edits")) + f"{sum(parts.values()):10.0f}")
+sums = {it: sum(parts[it] for parts in rows.values()) for it in ("proof", "tests", "edits")}
+print(f"{'all':16}" + "".join(f"{it:10.0f}" for it in sums.values()) + f"{sum(sums.values()):10.0f}")
+print(f"processor minutes {(mine.ru_utime + mine.ru_stime) / 60:.1f}")
+print(f"minutes by the clock {(time.time() - begun) / 60:.1f}, on {os.cpu_count()} processors")
+print(f"memory: the largest process {mine.ru_maxrss / 1e6:.1f} GB, all together {(before - least) / 1e6:.1f} GB")
+print(said.strip().splitlines()[-1])
+sys.exit(run.returncode)
+END
