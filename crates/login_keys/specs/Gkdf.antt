@@ -9,7 +9,8 @@ use Rattle.eap_base.specs.declared.setup.Suite.TheVariants.{Cmac, Hmac}
 use Rattle.cmac_mac.specs.Cmac.{aes_cmac}
 use Rattle.hmac_mac.specs.Hmac.{hmac_sha256}
 
--- the MAC of octets under a key: AES-CMAC for suite 1, HMAC-SHA256 for suite 2 (section 6)
+-- the MAC of octets under a key: AES-CMAC for suite 1, HMAC-SHA256 for suite 2 (sections 8.1.2
+-- and 8.2.2)
 unfoldable pub gpsk_tag_of : Suite → List ℕ → List ℕ → List ℕ
 gpsk_tag_of Cmac key octets = aes_cmac key octets
 gpsk_tag_of Hmac key octets = hmac_sha256 key octets
@@ -26,6 +27,6 @@ gkdf_block suite y z n = gpsk_tag_of suite y (two_octets n ++ z)
 unfoldable pub gkdf_blocks : Suite → List ℕ → List ℕ → ℕ → List ℕ
 gkdf_blocks suite y z count = flat_map (gkdf_block suite y z) (range_with_len 1 count)
 
--- GKDF-X (Y, Z): the first X octets of MAC_Y (1 || Z) || MAC_Y (2 || Z) || .. (section 4)
+-- GKDF-X (Y, Z): the first X octets of MAC_Y (1 || Z) || MAC_Y (2 || Z) || .. (section 7)
 unfoldable pub gkdf : Suite → ℕ → List ℕ → List ℕ → List ℕ
 gkdf suite x y z = take x (gkdf_blocks suite y z (div_ceil x (ks_of suite)))

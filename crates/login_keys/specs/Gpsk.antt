@@ -1,4 +1,4 @@
--- The key schedule of EAP-GPSK (RFC 5433, sections 4 and 6), on whole lists of octets.
+-- The key schedule of EAP-GPSK (RFC 5433, section 4), on whole lists of octets.
 use Rattle.std.specs.Prelude.{ℕ, ◌+◌, List, ◌++◌, length, take, slice_range}
 use Rattle.eap_base.specs.Suite.{ks_of, suite_octets}
 use Rattle.eap_base.specs.declared.setup.Suite.{Suite}

@@ -1,4 +1,5 @@
 pub mod Gkdf
 pub mod Gpsk
+pub mod MacKey
 pub mod Psk
 pub mod KeyName

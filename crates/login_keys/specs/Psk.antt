@@ -1,4 +1,4 @@
--- The key schedule of EAP-PSK (RFC 4764, section 3), on whole lists of octets. A block is a list of
+-- The key schedule of EAP-PSK (RFC 4764, sections 3.1 and 3.2), on whole lists of octets. A block is a list of
 -- sixteen octets.
 use Rattle.std.specs.Prelude.{ℕ, List, [], ◌∷◌, replicate, bit_xor}
 use Rattle.std.specs.Int.{w128, from_be_bytes, to_be_bytes}

@@ -12,7 +12,7 @@ use cmac_mac::cmac_whole;
 use eap_base::{Octets, Suite};
 use hmac_mac::hmac_whole;
 
-/// The keys of an EAP-GPSK login (RFC 5433, sections 4 and 6). KS is 16 for suite 1 and 32 for suite 2.
+/// The keys of an EAP-GPSK login (RFC 5433, section 4). KS is 16 for suite 1 and 32 for suite 2.
 #[derive(Drop)]
 pub struct GpskKeys {
     /// The master key, of KS octets, from which the others are derived.
@@ -117,8 +117,8 @@ fn cut_keys(suite: Suite, mk: Octets<32>, derived: &[u8]) -> GpskKeys
     }
 }
 
-/// The MAC of a suite over the octets that a message covers (RFC 5433, section 6), of KS octets. The
-/// session key `sk` has KS octets too.
+/// The MAC of a suite over the octets that a message covers (RFC 5433, sections 8.1.2 and 8.2.2). It has
+/// KS octets, as the session key `sk` has.
 #[tactic(auto, unfolding(crate::specs::Gkdf::gpsk_tag_of))]
 pub fn gpsk_tag(suite: Suite, sk: &[u8], octets: &[u8]) -> Octets<32>
     requires { length sk.now ≡ ks_of suite }

@@ -6,6 +6,7 @@
 mod copies;
 mod gkdf;
 mod gpsk;
+mod mac_key;
 mod naming;
 mod psk;
 

@@ -1,0 +1,12 @@
+-- For which ciphersuite of EAP-GPSK and which key a `MacKey` stands.
+use Rattle.std.specs.Prelude.{◌≡◌, ℕ, List}
+use Rattle.eap_base.specs.declared.setup.Suite.{Suite}
+use Rattle.eap_base.specs.declared.setup.Suite.TheVariants as suite_of
+use Rattle.hmac_mac.specs.Holds.{IsKeyOf}
+use Rattle.login_keys.specs.declared.mac_key.MacKey.{MacKey}
+use Rattle.login_keys.specs.declared.mac_key.MacKey.TheVariants.{Cmac, Hmac}
+
+-- AES-CMAC with this key for suite 1, HMAC-SHA256 with it for suite 2
+unfoldable pub IsMacKey : MacKey → Suite → List ℕ → Type 0
+IsMacKey (Cmac made) suite key = (suite ≡ suite_of.Cmac) × (made ≡ key)
+IsMacKey (Hmac made) suite key = (suite ≡ suite_of.Hmac) × IsKeyOf made key

@@ -1,0 +1,61 @@
+//! A key of an EAP-GPSK ciphersuite's MAC, made once for many texts.
+
+ghost use Rattle.std.specs.Prelude.{◌≡◌, ℕ, List, ◌++◌, length, map};
+ghost use Rattle.std.specs.List.{concat};
+ghost use Rattle.hmac_mac.specs.Hmac.{hmac_sha256};
+ghost use Rattle.hmac_mac.specs.Holds.{IsKeyOf};
+ghost use Rattle.eap_base.specs.Suite.{ks_of};
+ghost use Rattle.eap_base.specs.declared.setup.Suite.{Suite};
+ghost use Rattle.login_keys.specs.Gkdf.{gpsk_tag_of};
+ghost use Rattle.login_keys.specs.MacKey.{IsMacKey};
+
+use crate::copies::{array_of, list_of};
+use cmac_mac::CmacKey;
+use eap_base::{Octets, Suite};
+use hmac_mac::HmacKey;
+
+// A key of the MAC of suite 1 or of suite 2 (RFC 5433, sections 8.1.2 and 8.2.2).
+#[derive(Drop)]
+pub enum MacKey {
+    Cmac(CmacKey),
+    Hmac(HmacKey),
+}
+
+impl MacKey {
+    // The key of these octets.
+    #[tactic(auto, unfolding(crate::specs::MacKey::IsMacKey))]
+    pub fn new(suite: Suite, key: &[u8]) -> MacKey
+        requires { length key.now ≡ ks_of suite }
+        ensures { IsMacKey result suite key.now }
+    {
+        match suite {
+            Suite::Cmac => MacKey::Cmac(CmacKey::new(&array_of(key))),
+            Suite::Hmac => MacKey::Hmac(HmacKey::new(key)),
+        }
+    }
+
+    // The MAC of the text that begins with `front` and goes on with the pieces.
+    #[tactic(auto, unfolding(crate::specs::MacKey::IsMacKey, crate::specs::Gkdf::gpsk_tag_of))]
+    pub fn tag(&self, front: &[u8], pieces: &[&[u8]]) -> Octets<32>
+        ensures { (suite : Suite) (key : List ℕ) → IsMacKey self.now suite key
+            → result ≡ gpsk_tag_of suite key (front.now ++ concat (map (λ p. p.now) pieces.now)) }
+    {
+        match self {
+            MacKey::Cmac(key) => list_of(&key.tag(front, pieces)),
+            MacKey::Hmac(key) => list_of(&hmac_tag(key, front, pieces)),
+        }
+    }
+}
+
+// HMAC-SHA256 of the text that begins with `front` and goes on with the pieces.
+fn hmac_tag(key: &HmacKey, front: &[u8], pieces: &[&[u8]]) -> [u8; 32]
+    ensures { (octets : List ℕ) → IsKeyOf key.now octets
+        → result ≡ hmac_sha256 octets (front.now ++ concat (map (λ p. p.now) pieces.now)) }
+{
+    let mut mac = key.begin();
+    mac.update(front);
+    for piece in pieces {
+        mac.update(piece);
+    }
+    mac.finish()
+}
