@@ -1,12 +1,13 @@
 -- What holds of every encryption: it is a block, and its octets are octets where the key's are. The
 -- inverse of an octet is the only one.
-use Rattle.std.proofs.Common.{◌≡◌, ℕ, zero, suc, ◌+◌, ◌-◌, ◌*◌, ◌/◌, ◌%◌, ◌<◌, eqb, true, cond, nat_lt, List, [], ◌∷◌, ◌++◌, length, refl, sym, ◌∙◌, All, map, bit_xor, slice_index, arith, lit<, inl, inr}
+use Rattle.std.proofs.Common.{◌≡◌, ℕ, zero, suc, ◌+◌, ◌-◌, ◌*◌, ◌/◌, ◌%◌, ◌<◌, eqb, true, cond, nat_lt, List, [], ◌∷◌, ◌++◌, length, refl, sym, ◌∙◌, All, map, bit_xor, slice_index, lit<, inl, inr}
 use Rattle.std.proofs.lemmas.Nat.{xor_lt}
 use Rattle.std.proofs.lemmas.Bool.{cases_lt, ltb-true, eq-eqb, cond-true, cond_both}
 use Rattle.std.proofs.lemmas.List.{get_or_past}
 use Rattle.std.proofs.lemmas.Grind.{get_or_default_zero}
 use Rattle.aes_block.proofs.Octets.{same_at}
-use Rattle.aes_block.specs.Field.{times, octets, inverse, affine, affine_bit, sub_byte}
+use Rattle.aes_block.proofs.Sbox.{sub_byte-lt}
+use Rattle.aes_block.specs.Field.{times, octets, inverse, sub_byte}
 use Rattle.aes_block.specs.KeySchedule.{KeyWords, word_of, key_words, change_at, power_of_x, round_constant, xor_words, sub_word, rot_word, round_key}
 use Rattle.aes_block.specs.Cipher.{sub_bytes, shift_rows, entry, add_round_key, rounds, aes128}
 
@@ -35,25 +36,6 @@ inverse_only b c hb hc h =
 -- each number is an octet
 AreOctets : List ℕ → Type 0
 AreOctets xs = (i : ℕ) → slice_index xs i < 256
-
-affine_bit-lt : (b i : ℕ) → affine_bit b i < 2
-affine_bit-lt b i = omega arith
-
-sub_byte-lt : (b : ℕ) → sub_byte b < 256
-unfolding sub_byte affine
-sub_byte-lt b =
-    let x : ℕ = inverse b in
-    omega (
-      arith,
-      affine_bit-lt x 0,
-      affine_bit-lt x 1,
-      affine_bit-lt x 2,
-      affine_bit-lt x 3,
-      affine_bit-lt x 4,
-      affine_bit-lt x 5,
-      affine_bit-lt x 6,
-      affine_bit-lt x 7,
-    )
 
 double_test : map (λ b. nat_lt (times 2 b) 256) octets ≡ map (λ _. true) octets
 unfolding times

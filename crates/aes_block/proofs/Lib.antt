@@ -1,6 +1,13 @@
 pub mod Octets
-pub mod Tables
+pub mod Sbox
+pub mod Xor
+pub mod Sixteen
+pub mod HalfTests
+pub mod Inverting
+pub mod Basis
+pub mod Lanewise
 pub mod Schedule
-pub mod Rounds
+pub mod KeyLanes
+pub mod RoundByRound
 pub mod Laws
 pub mod Example

@@ -1,3 +1,4 @@
 pub mod Field
 pub mod KeySchedule
 pub mod Cipher
+pub mod Turned

@@ -4,33 +4,38 @@
 #![tactic(auto)]
 
 ghost use Rattle.std.specs.Prelude.{◌≡◌};
-ghost use Rattle.aes_block.specs.Cipher.{aes128, full_round_of, last_round_of};
+ghost use Rattle.aes_block.specs.Cipher.{aes128};
 
-use crate::key_schedule::next_round_key;
-use crate::state::{add_round_key, mix_columns, shift_rows, sub_bytes};
+use crate::key_schedule::{KeptKey, kept, kept_last, next_round_key};
+use crate::rounds::{begin, full_round, last_round};
 use std::marker::Model;
+use std::simd::prelude::*;
 
-mod field;
 mod key_schedule;
-mod state;
+mod lanes;
+mod rounds;
+mod tables;
 
 /// A key of 16 octets, expanded into its eleven round keys (FIPS 197, section 5.2).
 ///
-/// A contract sees it as the key's octets.
+/// A contract sees it as the key's octets. At the processor level that programs are built for by default,
+/// no address in memory depends on the key or on a block.
 #[derive(Drop)]
 pub struct Aes128 {
-    round_keys: [[u8; 16]; 11],
+    key: u8x16,
+    full_keys: [KeptKey; 9],
+    last_key: u8x16,
 }
 
 impl Model for Aes128 {
-    ghost use Rattle.std.specs.Prelude.{List, ℕ, [], slice_index_or};
-    ghost use Rattle.aes_block.specs.KeySchedule.{AreRoundKeys};
+    ghost use Rattle.std.specs.Prelude.{List, ℕ};
+    ghost use Rattle.aes_block.specs.Turned.{AreKept};
 
     ghost Value = { List ℕ };
 
-    ghost view = { λ a. slice_index_or a.round_keys 0 [] };
+    ghost view = { λ a. a.key };
 
-    ghost invariant = { λ a. AreRoundKeys (slice_index_or a.round_keys 0 []) a.round_keys 11 };
+    ghost invariant = { λ a. AreKept a.key a.full_keys a.last_key };
 }
 
 impl Aes128 {
@@ -38,20 +43,29 @@ impl Aes128 {
     pub fn new(key: &[u8; 16]) -> Aes128
         ensures { result ≡ key.now }
     {
-        let mut round_keys = [*key; 11];
-        for round in 0..10 {
-            let next = next_round_key(round, &round_keys[round]);
-            round_keys[round + 1] = next;
+        let first = u8x16::from_array(*key);
+        let mut full_keys = [KeptKey { lanes: first }; 9];
+        let mut round_key = first;
+        for round in 0..9 {
+            let next = next_round_key(round, round_key);
+            full_keys[round] = kept(next);
+            round_key = next;
         }
-        Aes128 { round_keys }
+        Aes128 {
+            key: first,
+            full_keys,
+            last_key: kept_last(next_round_key(9, round_key)),
+        }
     }
 
-    /// An equal expanded key.
+    /// The same key, once more.
     pub fn copy(&self) -> Aes128
         ensures { result ≡ self.now }
     {
         Aes128 {
-            round_keys: self.round_keys,
+            key: self.key,
+            full_keys: self.full_keys,
+            last_key: self.last_key,
         }
     }
 
@@ -59,25 +73,11 @@ impl Aes128 {
     pub fn encrypt(&self, block: &[u8; 16]) -> [u8; 16]
         ensures { result ≡ aes128 self.now block.now }
     {
-        let mut state = add_round_key(block, &self.round_keys[0]);
-        for round in 1..10 {
-            let next = full_round(&state, &self.round_keys[round]);
+        let mut state = begin(u8x16::from_array(*block), self.key);
+        for round in 0..9 {
+            let next = full_round(state, self.full_keys[round].lanes);
             state = next;
         }
-        last_round(&state, &self.round_keys[10])
+        last_round(state, self.last_key).to_array()
     }
-}
-
-// One of the nine rounds that mix the columns.
-fn full_round(state: &[u8; 16], key: &[u8; 16]) -> [u8; 16]
-    ensures { result ≡ full_round_of state.now key.now }
-{
-    add_round_key(&mix_columns(&shift_rows(&sub_bytes(state))), key)
-}
-
-// The tenth round, which doesn't.
-fn last_round(state: &[u8; 16], key: &[u8; 16]) -> [u8; 16]
-    ensures { result ≡ last_round_of state.now key.now }
-{
-    add_round_key(&shift_rows(&sub_bytes(state)), key)
 }

@@ -1,14 +1,7 @@
-use Rattle.std.proofs.Common.{sym}
-use Rattle.aes_block.proofs.Schedule.{get_or-ROUND_CONSTANTS, change_at_first}
+use Rattle.aes_block.proofs.KeyLanes.{change_is}
 use Rattle.aes_block.proofs.key_schedule.change.Goals as goal
 
 pub returns : goal.returns
 returns c =
-    rw (
-      c.substitute.ensures,
-      c.substitute-2.ensures,
-      c.substitute-3.ensures,
-      c.substitute-4.ensures,
-      get_or-ROUND_CONSTANTS c.args.round c.requires,
-    )
-    (sym (change_at_first c.args.round c.args.last))
+    change_is c.args.round c.args.key c.rotated_word.result c.substitute.result c.in_first_row.result c.requires
+    c.rotated_word.ensures c.substitute.ensures c.in_first_row.ensures
