@@ -54,7 +54,7 @@ mixed_are once twice b d p long eb ed ep =
     let partial_is : zip2 bit_xor twice b ≡ state_of partial =
     ap (zip2 bit_xor twice) eb ∙ ap (λ v. zip2 bit_xor v (state_of (below once 1))) (spread twice long) in
     let p_is : p ≡ state_of (below (state_of partial) 1) = ep ∙ ap (λ v. state_of (below v 1)) partial_is in
-    rw (partial_is, ed, p_is) refl
+    rw (partial_is, ed, p_is) (refl {a = mixed_lanes once twice})
 
 -- the octet in this place after SHIFTROWS
 abbrev shifted : List ℕ → ℕ → ℕ → ℕ

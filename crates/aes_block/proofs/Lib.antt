@@ -11,3 +11,5 @@ pub mod KeyLanes
 pub mod RoundByRound
 pub mod Laws
 pub mod Example
+pub mod WordTables
+pub mod Columns

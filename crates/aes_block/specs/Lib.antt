@@ -2,3 +2,4 @@ pub mod Field
 pub mod KeySchedule
 pub mod Cipher
 pub mod Turned
+pub mod Words

@@ -13,7 +13,9 @@ use std::simd::prelude::*;
 const AFFINE_CONSTANT: u8 = 0x63;
 
 // The round constants, for the rounds from 1 on: each is the first octet of its word.
-static ROUND_CONSTANTS: [u8; 10] = [0x01, 0x02, 0x04, 0x08, 0x10, 0x20, 0x40, 0x80, 0x1b, 0x36];
+pub(crate) static ROUND_CONSTANTS: [u8; 10] = [
+    0x01, 0x02, 0x04, 0x08, 0x10, 0x20, 0x40, 0x80, 0x1b, 0x36,
+];
 
 // The S-box of each octet.
 #[inline(always)]

@@ -11,10 +11,14 @@ use crate::rounds::{begin, full_round, last_round};
 use std::marker::Model;
 use std::simd::prelude::*;
 
+mod by_tables;
 mod key_schedule;
 mod lanes;
 mod rounds;
 mod tables;
+mod word_schedule;
+
+pub use by_tables::TableAes128;
 
 /// A key of 16 octets, expanded into its eleven round keys (FIPS 197, section 5.2).
 ///
