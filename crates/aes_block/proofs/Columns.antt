@@ -58,4 +58,5 @@ next_words_are key change round ec initial ek =
     let third : ℕ = bit_xor (slice_index key 2) second in
     let fourth : ℕ = bit_xor (slice_index key 3) third in
     next_key initial (state_of_words key) (octets_of change) (octets_of first) (octets_of second) (octets_of third) (octets_of fourth) round ek ec
-    (octets_of-xor (slice_index key 0) change) (octets_of-xor (slice_index key 1) first) (octets_of-xor (slice_index key 2) second) (octets_of-xor (slice_index key 3) third)
+    (octets_of-xor (slice_index key 0) change) (octets_of-xor (slice_index key 1) first)
+    (octets_of-xor (slice_index key 2) second) (octets_of-xor (slice_index key 3) third)

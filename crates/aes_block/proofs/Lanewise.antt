@@ -63,7 +63,9 @@ shifted state row column = entry state row ((column + row) % 4)
 abbrev full_lane : List ℕ → List ℕ → ℕ → ℕ → ℕ
 full_lane state kept row column =
     let s : ℕ → ℕ = λ r. shifted state ((row + r) % 4) column in
-    plain (bit_xor (bit_xor (bit_xor (bit_xor (twice (shifted state row column)) (once (s 1))) (once (s 3))) (bit_xor (twice (s 1)) (once (s 2)))) (entry kept row column))
+    plain (bit_xor
+    (bit_xor (bit_xor (bit_xor (twice (shifted state row column)) (once (s 1))) (once (s 3))) (bit_xor (twice (s 1)) (once (s 2))))
+    (entry kept row column))
 
 abbrev full_octet : List ℕ → List ℕ → ℕ → ℕ → ℕ
 full_octet state kept row column =

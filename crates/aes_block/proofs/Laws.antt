@@ -88,8 +88,10 @@ round_constant_octets j (suc (suc (suc (suc i)))) = lit< tt
 change_at_octets : (i : ℕ) (w : List ℕ) → AreOctets w → AreOctets (change_at i w)
 unfolding change_at
 change_at_octets i w h =
+    let octet : ℕ → ℕ = λ j. slice_index (rot_word w) j in
+    let substituted : AreOctets (sub_word (rot_word w)) = word_octets (λ j. sub_byte (octet j)) (λ j _. sub_byte-lt (octet j)) in
     cond_both (eqb (i % 4) 0) (xor_words (sub_word (rot_word w)) (round_constant (i / 4))) w AreOctets
-    (λ _. xor_words_octets (sub_word (rot_word w)) (round_constant (i / 4)) (word_octets (λ j. sub_byte (slice_index (rot_word w) j)) (λ j _. sub_byte-lt (slice_index (rot_word w) j))) (round_constant_octets (i / 4)))
+    (λ _. xor_words_octets (sub_word (rot_word w)) (round_constant (i / 4)) substituted (round_constant_octets (i / 4)))
     (λ _. h)
 
 -- each word is of octets
