@@ -1,8 +1,8 @@
 -- Sixteen lanes, one by one.
-use Rattle.std.proofs.Common.{◌≡◌, ℕ, zero, suc, ◌+◌, ◌*◌, ◌/◌, ◌≤◌, ◌<◌, leb, ltb, ◌||◌, T, List, [], ◌∷◌, ◌++◌, map, length, get_or, refl, sym, ap, subst, ◌∙◌, arith, w8, Fits}
+use Rattle.std.proofs.Common.{◌≡◌, ℕ, zero, suc, ◌+◌, ◌*◌, ◌/◌, ◌≤◌, ◌<◌, leb, ltb, ◌||◌, T, List, [], ◌∷◌, map, length, get_or, refl, sym, ap, subst, ◌∙◌, arith, w8, Fits}
 use Rattle.std.proofs.lemmas.List.FromFn.{fill_by_all}
-use Rattle.std.proofs.lemmas.Simd.{swz_l, SwzOk, SwzOk-from_Each1, Each1-from_get_or, pick_l_left}
-use lib.Lanes.{Each1, pick_l, all_below}
+use Rattle.std.proofs.lemmas.Simd.{swz_l, SwzOk, SwzOk-from_Each1, Each1-from_get_or}
+use lib.Lanes.{Each1}
 use Rattle.aes_block.specs.Turned.{all, IsPlace, ArePlaces, look}
 
 -- sixteen lanes, written out
@@ -14,10 +14,6 @@ pub lane_fits : (xs : List ℕ) (i : ℕ) → Each1 (Fits w8) xs → get_or xs i
 lane_fits [] i h = omega arith
 lane_fits (x ∷ xs) zero h = h.0.fits
 lane_fits (x ∷ xs) (suc i) h = lane_fits xs i h.1
-
--- a shuffle by literal places
-pub picked : (xs ks : List ℕ) → length xs ≡ 16 → T (all_below 16 ks) → pick_l 0 (xs ++ xs) ks ≡ pick_l 0 xs ks
-picked xs ks long h = pick_l_left 0 xs xs 16 ks long h
 
 -- a look-up at each place
 swz_look : (table js : List ℕ) (i : ℕ) → i + length js ≤ 16 → swz_l w8 16 table i js ≡ map (look table) js

@@ -1,11 +1,11 @@
 -- The round tables, entry by entry: each by one test over all octets, which computes.
-use Rattle.std.proofs.Common.{◌≡◌, ℕ, zero, suc, ◌-◌, ◌*◌, ◌/◌, ◌%◌, ◌^◌, ◌<◌, List, [], ◌∷◌, map, refl, bit_xor, get_or, ap, ◌∙◌, arith}
+use Rattle.std.proofs.Common.{◌≡◌, ℕ, ◌/◌, ◌^◌, ◌<◌, List, [], ◌∷◌, map, refl, bit_xor, get_or, ap, ◌∙◌}
 use Rattle.std.proofs.lemmas.Nat.{xor_mod, xor_shr, xor_comm}
 use Rattle.std.specs.Int.Bits.{xor_assoc}
 use Rattle.aes_block.specs.Field.{octets, times, sub_byte}
 use Rattle.aes_block.specs.KeySchedule.{xor_words, sub_word}
 use Rattle.aes_block.specs.Cipher.{mixed, mixed_column}
-use Rattle.aes_block.specs.Words.{octets_of, octet, added}
+use Rattle.aes_block.specs.Words.{octets_of, added}
 use Rattle.aes_block.specs.declared.tables.TheConstants.{S_BOX, FIRST_ROW, SECOND_ROW, THIRD_ROW, FOURTH_ROW}
 use Rattle.aes_block.proofs.Octets.{same_at}
 use Rattle.aes_block.proofs.Sbox.{get_or-S_BOX}
@@ -47,20 +47,6 @@ pub get_or-FOURTH_ROW : (b : ℕ) → b < 256 → octets_of (get_or FOURTH_ROW b
 get_or-FOURTH_ROW = entry_at FOURTH_ROW 1 fourth_test
 
 -- ---- octets of words
-
-pub octet_at : (w row : ℕ) → row < 4 → w / 2 ^ (24 - 8 * row) % 256 ≡ octet w row
-octet_at w zero h = refl
-octet_at w (suc zero) h = refl
-octet_at w (suc (suc zero)) h = refl
-octet_at w (suc (suc (suc zero))) h = omega arith
-octet_at w (suc (suc (suc (suc row)))) h = absurd (omega arith)
-
-pub octet-lt : (w row : ℕ) → row < 4 → octet w row < 256
-octet-lt w zero h = omega arith
-octet-lt w (suc zero) h = omega arith
-octet-lt w (suc (suc zero)) h = omega arith
-octet-lt w (suc (suc (suc zero))) h = omega arith
-octet-lt w (suc (suc (suc (suc row)))) h = absurd (omega arith)
 
 -- the octets of a sum
 pub octets_of-xor : (a b : ℕ) → octets_of (bit_xor a b) ≡ xor_words (octets_of a) (octets_of b)

@@ -14,10 +14,11 @@ all f state = state_of (λ row column. f (entry state row column))
 abbrev pub below : List ℕ → ℕ → ℕ → ℕ → ℕ
 below state r row column = entry state ((row + r) % 4) column
 
--- a half of an octet
+-- the lower four bits of an octet
 abbrev pub lower : ℕ → ℕ
 lower b = bit_and b 15
 
+-- its upper four bits
 abbrev pub upper : ℕ → ℕ
 upper b = b / 16
 

@@ -29,7 +29,8 @@ static S_BOX: [u8; 256] = [
     0x8c, 0xa1, 0x89, 0x0d, 0xbf, 0xe6, 0x42, 0x68, 0x41, 0x99, 0x2d, 0x0f, 0xb0, 0x54, 0xbb, 0x16,
 ];
 
-// By the octet in the first row: the octets 2 s, s, s and 3 s, with s the S-box of the octet.
+// By the octet in the first row: the octets 2 s, s, s and 3 s from the most significant down, with s the
+// S-box of the octet.
 #[rattlefmt::skip]
 static FIRST_ROW: [u32; 256] = [
     0xc66363a5, 0xf87c7c84, 0xee777799, 0xf67b7b8d, 0xfff2f20d, 0xd66b6bbd, 0xde6f6fb1, 0x91c5c554,
@@ -66,7 +67,7 @@ static FIRST_ROW: [u32; 256] = [
     0x824141c3, 0x299999b0, 0x5a2d2d77, 0x1e0f0f11, 0x7bb0b0cb, 0xa85454fc, 0x6dbbbbd6, 0x2c16163a,
 ];
 
-// By the octet in the second row: the table before, rotated by an octet to the right.
+// By the octet in the second row: the table before, each entry rotated by eight bits to the right.
 #[rattlefmt::skip]
 static SECOND_ROW: [u32; 256] = [
     0xa5c66363, 0x84f87c7c, 0x99ee7777, 0x8df67b7b, 0x0dfff2f2, 0xbdd66b6b, 0xb1de6f6f, 0x5491c5c5,
@@ -103,7 +104,7 @@ static SECOND_ROW: [u32; 256] = [
     0xc3824141, 0xb0299999, 0x775a2d2d, 0x111e0f0f, 0xcb7bb0b0, 0xfca85454, 0xd66dbbbb, 0x3a2c1616,
 ];
 
-// By the octet in the third row: the table before, rotated by an octet to the right.
+// By the octet in the third row: the table before, each entry rotated by eight bits to the right.
 #[rattlefmt::skip]
 static THIRD_ROW: [u32; 256] = [
     0x63a5c663, 0x7c84f87c, 0x7799ee77, 0x7b8df67b, 0xf20dfff2, 0x6bbdd66b, 0x6fb1de6f, 0xc55491c5,
@@ -140,7 +141,7 @@ static THIRD_ROW: [u32; 256] = [
     0x41c38241, 0x99b02999, 0x2d775a2d, 0x0f111e0f, 0xb0cb7bb0, 0x54fca854, 0xbbd66dbb, 0x163a2c16,
 ];
 
-// By the octet in the fourth row: the table before, rotated by an octet to the right.
+// By the octet in the fourth row: the table before, each entry rotated by eight bits to the right.
 #[rattlefmt::skip]
 static FOURTH_ROW: [u32; 256] = [
     0x6363a5c6, 0x7c7c84f8, 0x777799ee, 0x7b7b8df6, 0xf2f20dff, 0x6b6bbdd6, 0x6f6fb1de, 0xc5c55491,
@@ -203,6 +204,7 @@ pub(crate) fn substitute(octet: usize) -> u8
     S_BOX[octet]
 }
 
+// What an octet in the first row adds to its column.
 #[inline(always)]
 fn by_first_row(octet: usize) -> u32
     requires { octet < 256 }
@@ -211,6 +213,7 @@ fn by_first_row(octet: usize) -> u32
     FIRST_ROW[octet]
 }
 
+// What an octet in the second row adds to its column.
 #[inline(always)]
 fn by_second_row(octet: usize) -> u32
     requires { octet < 256 }
@@ -219,6 +222,7 @@ fn by_second_row(octet: usize) -> u32
     SECOND_ROW[octet]
 }
 
+// What an octet in the third row adds to its column.
 #[inline(always)]
 fn by_third_row(octet: usize) -> u32
     requires { octet < 256 }
@@ -227,6 +231,7 @@ fn by_third_row(octet: usize) -> u32
     THIRD_ROW[octet]
 }
 
+// What an octet in the fourth row adds to its column.
 #[inline(always)]
 fn by_fourth_row(octet: usize) -> u32
     requires { octet < 256 }
