@@ -21,8 +21,8 @@ state_of_words words = state_of (λ row column. octet (slice_index words column)
 abbrev pub diagonal : ℕ → ℕ → ℕ → ℕ → List ℕ
 diagonal a b c d = octet a 0 ∷ octet b 1 ∷ octet c 2 ∷ octet d 3 ∷ []
 
--- what an octet adds to its column when that is mixed, from the row on that is r rows below its own, round
--- about
+-- what an octet adds to its column when that is mixed: its products, beginning with the one at the place r,
+-- round about
 abbrev pub added : ℕ → ℕ → List ℕ
 added r octet =
     let products : List ℕ = times 2 octet ∷ octet ∷ octet ∷ times 3 octet ∷ [] in
