@@ -33,7 +33,7 @@ use aes_block::{Aes128, TableAes128};
 use cmac_mac::{CmacKey, cmac_whole};
 use eap_base::Suite;
 use hmac_mac::hmac_whole;
-use login_keys::gpsk_keys;
+use login_keys::{gkdf, gpsk_keys};
 use std::rt::Clock;
 use std::time::Instant;
 use std::{env, io};
@@ -112,6 +112,16 @@ fn hmacs(text: &[u8], count: u32) -> u8 {
     key[0]
 }
 
+// GKDF of 160 octets, by the MAC of suite 1; the front of what it gives is the front of the next key.
+fn derivations(count: u32) -> u8 {
+    let mut key = KEY;
+    for _ in 0..count {
+        let derived = gkdf(Suite::Cmac, 160, &key, &[&LONG_KEY, b"alice", &LONG_KEY, b"srv"]);
+        key[0] = derived.as_slice()[0];
+    }
+    key[0]
+}
+
 // The keys of an EAP-GPSK login, with the MSK's front as the next nonce.
 fn schedules(suite: Suite, count: u32) -> u8 {
     let mut nonce = LONG_KEY;
@@ -143,6 +153,8 @@ fn macs(what: &str, text: &[u8], count: u32) -> u8 {
         kept_cmacs(text, count)
     } else if what == "hmac" {
         hmacs(text, count)
+    } else if what == "gkdf" {
+        derivations(count)
     } else if what == "gpsk-keys-1" {
         schedules(Suite::Cmac, count)
     } else {
@@ -255,7 +267,7 @@ def nanoseconds(program, what, size, count, cap=None):
 
 ROWS = [("aes", 0, 500, "a block by lanes"), ("tables", 0, 500, "a block by tables"), ("aes-key", 0, 500, "a key by lanes, and a block"), ("tables-key", 0, 500, "a key by tables, and a block"),
     ("cmac", 64, 100, "CMAC of 64 octets"), ("cmac-kept", 64, 100, "the same under a kept key"), ("cmac", 1048576, 1, "CMAC of 1 MiB"), ("hmac", 64, 100, "HMAC of 64 octets"),
-    ("gpsk-keys-1", 0, 20, "EAP-GPSK's keys, suite 1"), ("gpsk-keys-2", 0, 20, "EAP-GPSK's keys, suite 2")]
+    ("gkdf", 0, 20, "GKDF of 160 octets, suite 1"), ("gpsk-keys-1", 0, 20, "EAP-GPSK's keys, suite 1"), ("gpsk-keys-2", 0, 20, "EAP-GPSK's keys, suite 2")]
 print(f"{'instructions':32}{'ours':>12}{'ssse3':>12}{'portable':>12}{'ratio':>8}{'ratio':>8}")
 for what, size, count, name in ROWS:
     own = instructions(ours, what, size, count)

@@ -1,5 +1,5 @@
 -- The key expansion of AES-128 (FIPS 197, section 5.2). A word is a list of four octets.
-use Rattle.std.specs.Prelude.{ℕ, zero, suc, ◌+◌, ◌-◌, ◌*◌, ◌/◌, ◌%◌, ◌==◌, ◌<◌, ◌≡◌, if◌then◌else◌, List, [], ◌∷◌, ◌++◌, slice_index, slice_index_or, bit_xor}
+use Rattle.std.specs.Prelude.{ℕ, zero, suc, ◌+◌, ◌-◌, ◌*◌, ◌/◌, ◌%◌, ◌==◌, if◌then◌else◌, List, [], ◌∷◌, ◌++◌, slice_index, bit_xor}
 use Rattle.aes_block.specs.Field.{times, sub_byte}
 
 -- the word with these octets
@@ -70,7 +70,3 @@ key_octets k = joined k.first k.second k.third k.fourth
 -- the key of round r: the words w[4r] to w[4r+3]
 unfoldable pub round_key : List ℕ → ℕ → List ℕ
 round_key key r = key_octets (key_words key (4 * r))
-
--- the first n of these lists are the keys of the rounds from 0 on
-abbrev pub AreRoundKeys : List ℕ → List (List ℕ) → ℕ → Type 0
-AreRoundKeys key keys n = (r : ℕ) → r < n → slice_index_or keys r [] ≡ round_key key r

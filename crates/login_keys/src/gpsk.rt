@@ -7,7 +7,7 @@ ghost use Rattle.login_keys.specs.Gpsk.{gpsk_keys_of, input_string, keys_from, p
 ghost use Rattle.login_keys.specs.Gpsk as spec;
 
 use crate::copies::{array_of, list_of};
-use crate::gkdf::gkdf;
+use crate::derivation::gkdf;
 use cmac_mac::cmac_whole;
 use eap_base::{Octets, Suite};
 use hmac_mac::hmac_whole;

@@ -4,12 +4,13 @@
 #![tactic(auto)]
 
 mod copies;
-mod gkdf;
+mod derivation;
 mod gpsk;
 mod mac_key;
 mod naming;
 mod psk;
 
+pub use derivation::gkdf;
 pub use gpsk::{GpskKeys, gpsk_keys, gpsk_tag};
 pub use naming::key_name;
 pub use psk::{PskKeys, PskLong, psk_long, psk_session};

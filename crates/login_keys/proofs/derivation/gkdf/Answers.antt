@@ -7,7 +7,7 @@ use Rattle.login_keys.specs.Gkdf.{gkdf, gkdf_block, gkdf_blocks, gpsk_tag_of}
 use Rattle.login_keys.proofs.Blocks.{joined_none, joined_push, before_last, after_last, ks-le}
 use Rattle.cmac_mac.proofs.Pieces.{joined}
 use Rattle.login_keys.proofs.Laws.{length-gpsk_tag_of}
-use Rattle.login_keys.proofs.gkdf.gkdf.Goals as goal
+use Rattle.login_keys.proofs.derivation.gkdf.Goals as goal
 
 pub numbers-init : goal.numbers-init
 numbers-init c = joined_none _ _ _ _ c.new-out.ensures
