@@ -39,46 +39,38 @@ impl<'a> Row<'a> {
     /// The octets that the next word spells, at most `N`; a dash stands for none.
     pub fn list<const N: usize>(&mut self) -> Octets<N> {
         let word = self.word();
+        let digits = if word == "-" { "" } else { word };
         let mut room = [0; 1500];
-        let size = (word.len() / 2).min(1500);
+        let octets = &mut room[..(digits.len() / 2).min(1500)];
+        let is_hex = decode_to_slice(digits, octets).is_ok();
         let mut list = Octets::new();
-        if word != "-"
-            && !(decode_to_slice(word, &mut room[..size]).is_ok() && list.append(&room[..size]))
-        {
-            self.is_sound = false;
-        }
+        let fits = list.append(octets);
+        self.is_sound &= is_hex & fits;
         list
     }
 
     /// The octets that the next word spells, exactly `N`.
     pub fn array<const N: usize>(&mut self) -> [u8; N] {
         let mut array = [0; N];
-        if decode_to_slice(self.word(), &mut array).is_err() {
-            self.is_sound = false;
-        }
+        self.is_sound &= decode_to_slice(self.word(), &mut array).is_ok();
         array
     }
 
-    /// The number that the next word spells.
-    pub fn number(&mut self) -> usize {
-        match self.word().parse() {
-            Ok(number) => number,
-            Err(_) => {
-                self.is_sound = false;
-                0
-            }
-        }
+    /// The octet that the next word spells.
+    pub fn octet(&mut self) -> u8 {
+        let octet: [u8; 1] = self.array();
+        octet[0]
     }
 
-    /// The octet whose number the next word spells.
-    pub fn octet(&mut self) -> u8 {
-        match self.word().parse() {
-            Ok(octet) => octet,
-            Err(_) => {
-                self.is_sound = false;
-                0
-            }
+    /// The number that the next word spells in decimal digits.
+    pub fn number(&mut self) -> usize {
+        let mut number: usize = 0;
+        for digit in self.word().bytes() {
+            self.is_sound &= digit.is_ascii_digit();
+            let value = usize::from(digit.wrapping_sub(b'0'));
+            number = number.wrapping_mul(10).wrapping_add(value);
         }
+        number
     }
 
     /// True where each word was what was asked for, and none is left.

@@ -1,5 +1,7 @@
 //! Published vectors of the block cipher, the MACs and EAX.
 
+ghost use Rattle.std.specs.Prelude.{◌≤◌, length};
+
 use crate::row::Row;
 use aes_block::Aes128;
 use cmac_mac::{Cmac, cmac_whole};
@@ -43,18 +45,16 @@ fn end_of_chain(key: &[u8; 16], block: &[u8; 16]) -> [u8; 16] {
     block
 }
 
-#[test]
-fn a_chain_of_a_thousand_blocks(rt: HostRuntime) {
-    let mut row = Row::new(CHAIN);
+/// Whether the row's chain ends in its last block.
+fn ends_chain(row: &str) -> bool {
+    let mut row = Row::new(row);
     let end = end_of_chain(&row.array(), &row.array());
-    assert!(rt; end == row.array() && row.is_read());
+    end == row.array() && row.is_read()
 }
 
-/// The text in three pieces, cut after its first `first` and after its first `second` octets.
-fn in_three<'a>(text: &'a [u8], first: usize, second: usize) -> [&'a [u8]; 3] {
-    let second = second.min(text.len());
-    let first = first.min(second);
-    [&text[..first], &text[first..second], &text[second..]]
+#[test]
+fn a_chain_of_a_thousand_blocks(rt: HostRuntime) {
+    assert!(rt; ends_chain(CHAIN));
 }
 
 // Key, text and tag: the examples of RFC 4493, section 4.
@@ -66,39 +66,42 @@ const CMACS: &str = "\
 2b7e151628aed2a6abf7158809cf4f3c 6bc1bee22e409f96e93d7e117393172aae2d8a571e03ac9c9eb76fac45af8e5130c81c46a35ce411e5fbc1191a0a52e\
     ff69f2445df4f9b17ad2b417be66c3710 51f0bebf7e3b9d92fc49741779363cfe";
 
-/// Whether the row's text has its tag.
-fn has_cmac(row: &str) -> bool {
-    let mut row = Row::new(row);
-    let tag = cmac_whole(&row.array(), row.octets().as_slice());
-    tag == row.array() && row.is_read()
-}
-
-#[test]
-fn cmacs_of_whole_texts(rt: HostRuntime) {
-    for row in CMACS.lines() {
-        assert!(rt; has_cmac(row), "{row}");
-    }
-}
-
-/// The CMAC of the text, in three pieces.
-fn cmac_in_three(key: &[u8; 16], text: &[u8], first: usize, second: usize) -> [u8; 16] {
+/// The CMAC of the text in three pieces, cut after its first `first` and after its first `second` octets.
+fn cmac_in_three(key: &[u8; 16], text: &[u8], first: usize, second: usize) -> [u8; 16]
+    requires ordered { first ≤ second }
+    requires inside { second ≤ length text.now }
+{
     let mut mac = Cmac::new(key);
-    for piece in in_three(text, first, second) {
-        mac.update(piece);
-    }
+    mac.update(&text[..first]);
+    mac.update(&text[first..second]);
+    mac.update(&text[second..]);
     mac.finish()
 }
 
-// The third example, of 40 octets, in every three pieces.
-#[test]
-fn cmacs_of_texts_in_pieces(rt: HostRuntime) {
-    let mut row = Row::new(CMACS.lines().nth(2).expect(&rt, "three rows"));
-    let (key, text, tag) = (row.array(), row.octets(), row.array());
-    for second in 0..41 {
-        for first in 0..41 {
-            let found = cmac_in_three(&key, text.as_slice(), first, second);
-            assert!(rt; found == tag, "cut at {first} and {second}");
+/// Whether the text has this tag however it is cut into three pieces.
+fn has_cmac_in_pieces(key: &[u8; 16], text: &[u8], tag: &[u8; 16]) -> bool {
+    let mut is_same = true;
+    for second in 0..=text.len() {
+        for first in 0..=second {
+            is_same &= cmac_in_three(key, text, first, second) == *tag;
         }
+    }
+    is_same
+}
+
+/// Whether the row's text has its tag, whole and in pieces.
+fn has_cmac(row: &str) -> bool {
+    let mut row = Row::new(row);
+    let (key, text, tag) = (row.array(), row.octets(), row.array());
+    let is_whole = cmac_whole(&key, text.as_slice()) == tag;
+    let is_cut = has_cmac_in_pieces(&key, text.as_slice(), &tag);
+    is_whole && is_cut && row.is_read()
+}
+
+#[test]
+fn cmacs_of_texts_and_pieces(rt: HostRuntime) {
+    for row in CMACS.lines() {
+        assert!(rt; has_cmac(row), "{row}");
     }
 }
 
@@ -122,39 +125,31 @@ aaaaaaaaaaaaaaaaaaaaaaaaaaaaaaaaaaaaaaaaaaaaaaaaaaaaaaaaaaaaaaaaaaaaaaaaaaaaaaaa
     572207468616e20626c6f636b2d73697a6520646174612e20546865206b6579206e6565647320746f20626520686173686564206265666f7265206265696e672\
     0757365642062792074686520484d414320616c676f726974686d2e 9b09ffa71b942fcb27635fbcd5b0e944bfdc63644f0713938a7f51535c3a35e2";
 
-/// Whether the row's text has its MAC.
+/// Whether the text has this MAC wherever it is cut into two pieces.
+fn has_hmac_in_pieces(key: &[u8], text: &[u8], mac: &[u8; 32]) -> bool {
+    let mut is_same = true;
+    for cut in 0..=text.len() {
+        let mut pieces = Hmac::new(key);
+        pieces.update(&text[..cut]);
+        pieces.update(&text[cut..]);
+        is_same &= pieces.finish() == *mac;
+    }
+    is_same
+}
+
+/// Whether the row's text has its MAC, whole and in pieces.
 fn has_hmac(row: &str) -> bool {
     let mut row = Row::new(row);
-    let mac = hmac_whole(row.octets().as_slice(), row.octets().as_slice());
-    mac == row.array() && row.is_read()
+    let (key, text, mac) = (row.octets(), row.octets(), row.array());
+    let is_whole = hmac_whole(key.as_slice(), text.as_slice()) == mac;
+    let is_cut = has_hmac_in_pieces(key.as_slice(), text.as_slice(), &mac);
+    is_whole && is_cut && row.is_read()
 }
 
 #[test]
-fn hmacs_of_whole_texts(rt: HostRuntime) {
+fn hmacs_of_texts_and_pieces(rt: HostRuntime) {
     for row in HMACS.lines() {
         assert!(rt; has_hmac(row), "{row}");
-    }
-}
-
-/// The HMAC of the text, in three pieces.
-fn hmac_in_three(key: &[u8], text: &[u8], first: usize, second: usize) -> [u8; 32] {
-    let mut mac = Hmac::new(key);
-    for piece in in_three(text, first, second) {
-        mac.update(piece);
-    }
-    mac.finish()
-}
-
-// Test case 2, of 28 octets, in every three pieces.
-#[test]
-fn hmacs_of_texts_in_pieces(rt: HostRuntime) {
-    let mut row = Row::new(HMACS.lines().nth(1).expect(&rt, "two rows"));
-    let (key, text, mac) = (row.octets(), row.octets(), row.array());
-    for second in 0..29 {
-        for first in 0..29 {
-            let found = hmac_in_three(key.as_slice(), text.as_slice(), first, second);
-            assert!(rt; found == mac, "cut at {first} and {second}");
-        }
     }
 }
 

@@ -94,9 +94,14 @@ fn keys_of_eap_psk(rt: HostRuntime) {
 const NAMED: &str = "\
 030a11181f262d343b424950575e656c737a81888f969da4abb2b9c0c7ced5dce3eaf1f8ff060d141b222930373e45 4fbc20df5e667a60";
 
+/// Whether the row's key has its name.
+fn is_named(row: &str) -> bool {
+    let mut row = Row::new(row);
+    let name = key_name(row.octets().as_slice());
+    name == row.array() && row.is_read()
+}
+
 #[test]
 fn name_of_a_key(rt: HostRuntime) {
-    let mut row = Row::new(NAMED);
-    let name = key_name(row.octets().as_slice());
-    assert!(rt; name == row.array() && row.is_read());
+    assert!(rt; is_named(NAMED));
 }

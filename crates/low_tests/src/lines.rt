@@ -10,45 +10,31 @@ const LF: u8 = 10;
 // An input whose last line lacks its LF.
 const INPUT: &[u8] = b"one\r\ntwo\r\r\n\nla\rst\r";
 
-/// The name of what the reader met.
-fn word_of(met: NextLine) -> &'static str {
-    match met {
-        NextLine::Line => "Line",
-        NextLine::End => "End",
-        NextLine::TooLong => "TooLong",
-        NextLine::TooMuch => "TooMuch",
-        NextLine::Read => "Read",
-    }
-}
-
-/// The source's lines, each with an LF, then the name of what ended the reading; and the number of the last
-/// line.
-fn lines_of<S: Source>(source: &mut S) -> (Octets<100>, u32) {
+/// Whether the source has these lines, each with an LF here, the reader then meets this, and it is in the
+/// line of this number.
+fn has_lines<S: Source>(source: &mut S, wanted: &[u8], last: NextLine, number: u32) -> bool {
     let mut reader = LineReader::new();
-    let mut lines = Octets::new();
+    let mut lines: Octets<100> = Octets::new();
+    let mut met = NextLine::Line;
     for _ in 0..10 {
         if reader.is_over() {
             break;
         }
-        match reader.next_line(source) {
-            NextLine::Line => {
-                lines.append(reader.line());
-                lines.push(LF);
-            }
-            met => {
-                lines.append(word_of(met).as_bytes());
-            }
+        met = reader.next_line(source);
+        if met == NextLine::Line {
+            lines.append(reader.line());
+            lines.push(LF);
         }
     }
-    (lines, reader.number())
+    lines.as_slice() == wanted && met == last && reader.number() == number
 }
 
 #[test]
 fn lines_are_the_same_in_every_cutting(rt: HostRuntime) -> Result<(), Fail> {
     for piece in [1, 2, 3, 100] {
         let mut source = MemSource::new(rt.alloc(), INPUT, piece, &[])?;
-        let (lines, number) = lines_of(&mut source);
-        assert!(rt; *lines.as_slice() == *b"one\ntwo\r\n\nla\rst\r\nEnd".as_slice() && number == 4);
+        let is_same = has_lines(&mut source, b"one\ntwo\r\n\nla\rst\r\n", NextLine::End, 4);
+        assert!(rt; is_same, "{piece}");
     }
     Ok(())
 }
@@ -56,21 +42,20 @@ fn lines_are_the_same_in_every_cutting(rt: HostRuntime) -> Result<(), Fail> {
 #[test]
 fn a_read_that_fails_ends_the_reading(rt: HostRuntime) -> Result<(), Fail> {
     let mut source = MemSource::new(rt.alloc(), INPUT, 1, &[7])?;
-    let (lines, _) = lines_of(&mut source);
-    assert!(rt; *lines.as_slice() == *b"one\nRead".as_slice());
+    assert!(rt; has_lines(&mut source, b"one\n", NextLine::Read, 2));
     Ok(())
 }
 
-// How many octets a line has, what stands behind them, and what the reader meets first. A line has 4,096
-// octets at most, a CR at its end among them.
+// How many octets a line has, what stands behind them, and whether that is a line or too long. A line has
+// 4,096 octets at most, a CR at its end among them.
 const LIMITS: &str = "\
-4096 0a Line
-4095 0d0a Line
-4096 - Line
-4097 0a TooLong
-4096 0d0a TooLong";
+4096 0a line
+4095 0d0a line
+4096 - line
+4097 0a long
+4096 0d0a long";
 
-/// Whether the reader meets the row's word first, in line 1.
+/// Whether the reader meets first what the row says, in line 1.
 fn meets(alloc: Global, row: &str) -> Result<bool, AllocError> {
     let mut row = Row::new(row);
     let mut octets = vec![in alloc; b'x'; row.number()]?;
@@ -78,7 +63,11 @@ fn meets(alloc: Global, row: &str) -> Result<bool, AllocError> {
     let mut source = SureSource::new(alloc, &octets)?;
     let mut reader = LineReader::new();
     let met = reader.next_line(&mut source);
-    Ok(word_of(met) == row.word() && reader.number() == 1 && row.is_read())
+    let wanted = match row.word() {
+        "line" => NextLine::Line,
+        _ => NextLine::TooLong,
+    };
+    Ok(met == wanted && reader.number() == 1 && row.is_read())
 }
 
 #[test]

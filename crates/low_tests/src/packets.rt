@@ -49,29 +49,21 @@ fn packets_are_read(rt: HostRuntime) {
     }
 }
 
+/// Whether a Response and a Success are written as these octets.
+fn are_written(response: &[u8], success: &[u8]) -> bool {
+    let is_response = encode(Code::Response, 7, 1, b"ab").as_slice() == response;
+    let is_success = encode_end(Code::Success, 255).as_slice() == success;
+    is_response && is_success
+}
+
 #[test]
 fn packets_are_written(rt: HostRuntime) {
-    let identity = encode(Code::Response, 7, 1, b"ab");
-    let success = encode_end(Code::Success, 255);
-    let found = [identity.as_slice(), success.as_slice()];
-    assert!(rt;
-        found
-            == [
-                b"\x02\x07\x00\x07\x01ab".as_slice(),
-                b"\x03\xff\x00\x04".as_slice()
-            ]
-    );
+    assert!(rt; are_written(b"\x02\x07\x00\x07\x01ab", b"\x03\xff\x00\x04"));
 }
 
 #[test]
 fn states_are_added_to_a_path(rt: HostRuntime) {
     let mut path = Path::new();
     let is_added = path.push(State::SendRequest2);
-    assert!(rt;
-        is_added
-            && path
-                .as_slice()
-                .iter()
-                .all(|state| state.word() == "SEND_REQUEST2")
-    );
+    assert!(rt; is_added && path.as_slice()[0].word() == "SEND_REQUEST2");
 }

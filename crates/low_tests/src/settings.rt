@@ -2,49 +2,30 @@
 
 use eap_base::{Accepts, Mode, Octets, PeerSetup, ServerSetup, Setup, Suite, User, Users};
 
-/// What a list of two octets, which has room for four, answers to each call, and its size then.
-fn answers(list: &mut Octets<4>) -> [(bool, usize); 4] {
-    [
-        (list.push(b'c'), list.len()),
-        (list.append(b"de"), list.len()),
-        (list.append(b"d"), list.len()),
-        (list.push(b'e'), list.len()),
-    ]
-}
-
-#[test]
-fn lists_take_what_fits(rt: HostRuntime) {
-    let mut list = list_of(b"ab");
-    let found = answers(&mut list);
-    let wanted = [(true, 3), (false, 3), (true, 4), (false, 4)];
-    assert!(rt;
-        found == wanted && *list.as_slice() == *b"abcd".as_slice(),
-        "{found:?}"
-    );
-}
-
-/// A list of four octets, its copy, and what is left of it when it is cut to one.
-fn copied_and_cut() -> [Octets<4>; 2] {
-    let mut list = list_of(b"abcd");
+/// Whether a list of two octets, which has room for four, answers each call so and has the octets that fit.
+fn takes_what_fits() -> bool {
+    let mut list: Octets<4> = list_of(b"ab");
+    let is_pushed = list.push(b'c');
+    let is_refused = !list.append(b"de");
+    let is_kept = list.as_slice() == b"abc".as_slice();
+    let is_appended = list.append(b"d");
+    let is_full = !list.push(b'e');
     let copied = list.copy();
     list.truncate(1);
-    [copied, list]
+    let is_cut = list.as_slice() == b"a".as_slice();
+    is_pushed & is_refused & is_kept & is_appended & is_full & is_cut & (copied.len() == 4)
+}
+
+/// Whether a list is made of octets that fit, and of no others.
+fn is_made_of_what_fits() -> bool {
+    let made: Option<Octets<4>> = Octets::from_slice(b"ab");
+    let refused: Option<Octets<4>> = Octets::from_slice(b"abcde");
+    made.is_some() & refused.is_none() & Octets::<4>::default().is_empty()
 }
 
 #[test]
-fn lists_are_copied_and_cut(rt: HostRuntime) {
-    let [copied, cut] = copied_and_cut();
-    assert!(rt; *copied.as_slice() == *b"abcd".as_slice() && *cut.as_slice() == *b"a".as_slice());
-}
-
-#[test]
-fn lists_are_made(rt: HostRuntime) {
-    let found = [
-        Octets::<4>::from_slice(b"ab").is_some(),
-        Octets::<4>::from_slice(b"abcde").is_none(),
-        Octets::<4>::default().is_empty(),
-    ];
-    assert!(rt; found == [true; 3], "{found:?}");
+fn lists_have_what_fits(rt: HostRuntime) {
+    assert!(rt; takes_what_fits() && is_made_of_what_fits());
 }
 
 /// Whether the users take one of this name and kind.
@@ -57,29 +38,21 @@ fn takes(users: &mut Users, name: &[u8], kind: u8) -> bool {
     })
 }
 
-/// Whether the users take anna for both methods, her again, and bert.
-fn taken(users: &mut Users) -> [bool; 4] {
-    [
-        takes(users, b"anna", 47),
-        takes(users, b"anna", 51),
-        takes(users, b"anna", 47),
-        takes(users, b"bert", 47),
-    ]
+/// Whether the users tell anna and bert and both methods apart.
+fn are_told_apart() -> bool {
+    let mut users = Users::new();
+    let is_taken = takes(&mut users, b"anna", 47);
+    let is_taken_for_both = takes(&mut users, b"anna", 51);
+    let is_refused = !takes(&mut users, b"anna", 47);
+    let is_other_taken = takes(&mut users, b"bert", 47);
+    let is_found = users.find(b"anna", 51).is_some() & users.find(b"bert", 51).is_none();
+    let are_three = users.copy().as_slice().len() == 3;
+    is_taken & is_taken_for_both & is_refused & is_other_taken & is_found & are_three
 }
 
 #[test]
 fn users_are_told_apart_by_name_and_kind(rt: HostRuntime) {
-    let mut users = Users::new();
-    let found = taken(&mut users);
-    assert!(rt; found == [true, true, false, true], "{found:?}");
-    let found = (
-        users.find(b"anna", 51).is_some(),
-        users.find(b"bert", 51).is_some(),
-    );
-    assert!(rt;
-        found == (true, false) && users.copy().as_slice().len() == 3,
-        "{found:?}"
-    );
+    assert!(rt; are_told_apart());
 }
 
 /// How many of the users a to q, all for EAP-PSK, are taken.
@@ -131,24 +104,29 @@ fn settings() -> Setup {
     }
 }
 
+/// Whether a copy of the settings has what they have.
+fn is_copied() -> bool {
+    let copied = settings().copy();
+    (copied.first_id == 9)
+        & (copied.peer.methods.as_slice() == [51, 47].as_slice())
+        & copied.peer.psk51.is_some()
+        & (copied.server.name.as_slice() == b"server".as_slice())
+}
+
 #[test]
 fn settings_are_copied(rt: HostRuntime) {
-    let copied = settings().copy();
-    let found = [
-        copied.first_id == 9,
-        copied.peer.methods.as_slice() == [51, 47].as_slice(),
-        copied.peer.psk51.is_some(),
-        copied.server.name.as_slice() == b"server".as_slice(),
-    ];
-    assert!(rt; found == [true; 4], "{found:?}");
+    assert!(rt; is_copied());
 }
 
 // RFC 5433 section 6: the octets of a key of each suite, and how CSuite_Sel spells it.
+/// Whether the suite has keys of so many octets and is spelled so.
+fn is_suite(suite: Suite, ks: usize, octets: [u8; 6]) -> bool {
+    suite.ks() == ks && suite.octets() == octets
+}
+
 #[test]
 fn suites_are_spelled(rt: HostRuntime) {
-    let found = [
-        (Suite::Cmac.ks(), Suite::Cmac.octets()),
-        (Suite::Hmac.ks(), Suite::Hmac.octets()),
-    ];
-    assert!(rt; found == [(16, [0, 0, 0, 0, 0, 1]), (32, [0, 0, 0, 0, 0, 2])]);
+    let is_first = is_suite(Suite::Cmac, 16, [0, 0, 0, 0, 0, 1]);
+    let is_second = is_suite(Suite::Hmac, 32, [0, 0, 0, 0, 0, 2]);
+    assert!(rt; is_first && is_second);
 }
