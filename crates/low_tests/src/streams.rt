@@ -97,6 +97,11 @@ fn reader_fails() -> bool {
     reads(&mut source, &mut [0; 4], &[2, FAULT, 0])
 }
 
+#[test]
+fn a_reader_fails_midway(rt: HostRuntime) {
+    assert!(rt; reader_fails());
+}
+
 /// Whether a writer fails midway, as its sink. A write that takes nothing of something is a fault too.
 fn writer_fails() -> bool {
     let mut sink = StdSink::new(Stream { calls: 0 });
@@ -105,6 +110,6 @@ fn writer_fails() -> bool {
 }
 
 #[test]
-fn a_stream_fails_midway(rt: HostRuntime) {
-    assert!(rt; reader_fails() && writer_fails());
+fn a_writer_fails_midway(rt: HostRuntime) {
+    assert!(rt; writer_fails());
 }
