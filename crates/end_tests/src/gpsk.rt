@@ -15,7 +15,7 @@ const SERVER: &[u8] = b"aaa.example.net";
 /// The name of the peer.
 const PEER: &[u8] = b"alice@example.net";
 
-/// The shared key, RAND_Peer and RAND_Server.
+// The shared key, RAND_Peer and RAND_Server.
 const SHARED: &str = "\
 0714212e3b4855626f7c8996a3b0bdcad7e4f1fe0b1825323f4c596673808d9aa7b4c1cedbe8f5020f1c293643505d a0a3a6a9acafb2b5b8bbbec1c4c7cacdd\
     0d3d6d9dcdfe2e5e8ebeef1f4f7fafd 05162738495a6b7c8d9eafc0d1e2f30415263748596a7b8c9daebfd0e1f20314";
@@ -71,16 +71,16 @@ server 0108006f3303a0a3a6a9acafb2b5b8bbbec1c4c7cacdd0d3d6d9dcdfe2e5e8ebeef1f4f7f
 peer-has none
 peer 02080018330400009a15d11e92c3472e2f4155e2d9506df1 -
 server success
-peer-has 1 97131caad17a45f617354b95c1f8997650a6bc5c826dddc131093c89178d72cf01e529cb6c719d889dd69b0793bc97744b7039f1c6a767db7bf85\
-    c15dcd1d208 8849f30f1beffbd839d7694613ba1082460effb44688fe06cd20469479ca39e6dbbd27905e2a4c8eafa745a035ae4cf2f65a240a907a1c38c5cd\
-    1128f62e5ca3
-server-has 1 97131caad17a45f617354b95c1f8997650a6bc5c826dddc131093c89178d72cf01e529cb6c719d889dd69b0793bc97744b7039f1c6a767db7bf\
-    85c15dcd1d208 8849f30f1beffbd839d7694613ba1082460effb44688fe06cd20469479ca39e6dbbd27905e2a4c8eafa745a035ae4cf2f65a240a907a1c38c5\
-    cd1128f62e5ca3";
+peer-has 01 97131caad17a45f617354b95c1f8997650a6bc5c826dddc131093c89178d72cf01e529cb6c719d889dd69b0793bc97744b7039f1c6a767db7bf8\
+    5c15dcd1d208 8849f30f1beffbd839d7694613ba1082460effb44688fe06cd20469479ca39e6dbbd27905e2a4c8eafa745a035ae4cf2f65a240a907a1c38c5c\
+    d1128f62e5ca3
+server-has 01 97131caad17a45f617354b95c1f8997650a6bc5c826dddc131093c89178d72cf01e529cb6c719d889dd69b0793bc97744b7039f1c6a767db7b\
+    f85c15dcd1d208 8849f30f1beffbd839d7694613ba1082460effb44688fe06cd20469479ca39e6dbbd27905e2a4c8eafa745a035ae4cf2f65a240a907a1c38c\
+    5cd1128f62e5ca3";
 
 #[test]
 fn login_under_suite_1(rt: HostRuntime) {
-    assert!(rt; wrong_row(&[2, 1], PEER, false, SUITE_1) == "");
+    assert_eq!(rt; wrong_row(&[2, 1], PEER, false, SUITE_1), "");
 }
 
 const SUITE_2: &str = "\
@@ -95,16 +95,16 @@ server 0108007f3303a0a3a6a9acafb2b5b8bbbec1c4c7cacdd0d3d6d9dcdfe2e5e8ebeef1f4f7f
 peer-has none
 peer 0208002833040000c789d3657e6e8548ffd8d7b6753e9f45573f0640b8e015bb9d0a1fe83d08be62 -
 server success
-peer-has 2 5a130f2649c08acecd38ce0afa53d70ddfe25f7993c93cff715cb218029f8d53e4ecc129a3221f2189785873ac223a821eb8e23a28ee5e7d98a93\
-    67e24dc5c68 14e4bae2e1f4d4066248caf896c1fc47fac8f45e3a025db31d401ebef5fa2e2ea47ef441f5a155b1590f98a7795fe14a370ba0ac8edc715eac88\
-    3acae29cc6bb
-server-has 2 5a130f2649c08acecd38ce0afa53d70ddfe25f7993c93cff715cb218029f8d53e4ecc129a3221f2189785873ac223a821eb8e23a28ee5e7d98a\
-    9367e24dc5c68 14e4bae2e1f4d4066248caf896c1fc47fac8f45e3a025db31d401ebef5fa2e2ea47ef441f5a155b1590f98a7795fe14a370ba0ac8edc715eac\
-    883acae29cc6bb";
+peer-has 02 5a130f2649c08acecd38ce0afa53d70ddfe25f7993c93cff715cb218029f8d53e4ecc129a3221f2189785873ac223a821eb8e23a28ee5e7d98a9\
+    367e24dc5c68 14e4bae2e1f4d4066248caf896c1fc47fac8f45e3a025db31d401ebef5fa2e2ea47ef441f5a155b1590f98a7795fe14a370ba0ac8edc715eac8\
+    83acae29cc6bb
+server-has 02 5a130f2649c08acecd38ce0afa53d70ddfe25f7993c93cff715cb218029f8d53e4ecc129a3221f2189785873ac223a821eb8e23a28ee5e7d98\
+    a9367e24dc5c68 14e4bae2e1f4d4066248caf896c1fc47fac8f45e3a025db31d401ebef5fa2e2ea47ef441f5a155b1590f98a7795fe14a370ba0ac8edc715ea\
+    c883acae29cc6bb";
 
 #[test]
 fn login_under_suite_2(rt: HostRuntime) {
-    assert!(rt; wrong_row(&[2], PEER, false, SUITE_2) == "");
+    assert_eq!(rt; wrong_row(&[2], PEER, false, SUITE_2), "");
 }
 
 // GPSK-Fail with Failure-Code 1, PSK Not Found.
@@ -122,7 +122,7 @@ server-has none";
 
 #[test]
 fn unknown_user(rt: HostRuntime) {
-    assert!(rt; wrong_row(&[1], b"bob", false, UNKNOWN) == "");
+    assert_eq!(rt; wrong_row(&[1], b"bob", false, UNKNOWN), "");
 }
 
 // GPSK-Protected-Fail with Failure-Code 3, Authorization Failure.
@@ -140,5 +140,5 @@ server-has none";
 
 #[test]
 fn barred_user(rt: HostRuntime) {
-    assert!(rt; wrong_row(&[1], PEER, true, BARRED) == "");
+    assert_eq!(rt; wrong_row(&[1], PEER, true, BARRED), "");
 }

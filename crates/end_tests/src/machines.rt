@@ -33,8 +33,10 @@ fn are_states(states: &[State], row: &mut Row) -> bool {
     are_same
 }
 
+type Peer = PeerMachine<Box<dyn PeerMethod>>;
+
 /// Alice, who allows no method.
-fn alice(alloc: Global) -> PeerMachine<Box<dyn PeerMethod>> {
+fn alice(alloc: Global) -> Peer {
     let mut name = Identity::new();
     name.append(b"alice");
     let mut suites = Suites::new();
@@ -63,16 +65,29 @@ const PEER: &str = "\
 04020004 - - RECEIVED FAILURE
 03020004 - Ended";
 
+/// The first row that isn't as the peer does, empty where each is.
+fn wrong_delivery(peer: &mut Peer, rows: &'static str) -> &'static str {
+    for line in rows.lines() {
+        let mut row = Row::new(line);
+        let step = peer.deliver(row.octets().as_slice());
+        if !is_step(&step, &mut row) {
+            return line;
+        }
+    }
+    ""
+}
+
+/// Whether the peer has ended, with nothing to report and no objects.
+fn peer_is_over(peer: Peer) -> bool {
+    let is_over = peer.ended() && peer.report().is_none();
+    is_over && peer.into_methods().is_empty()
+}
+
 #[test]
 fn peer_without_methods(rt: HostRuntime) {
     let mut peer = alice(rt.alloc());
-    for line in PEER.lines() {
-        let mut row = Row::new(line);
-        let step = peer.deliver(row.octets().as_slice());
-        assert!(rt; is_step(&step, &mut row), "{line}");
-    }
-    assert!(rt; peer.ended() && peer.report().is_none());
-    assert!(rt; peer.into_methods().is_empty());
+    let wrong = wrong_delivery(&mut peer, PEER);
+    assert!(rt; wrong.is_empty() && peer_is_over(peer), "{wrong}");
 }
 
 type Server = ServerMachine<Box<dyn ServerMethod>>;
@@ -119,12 +134,17 @@ start 0100000501 - INITIALIZE SELECT_ACTION PROPOSE_METHOD METHOD_REQUEST SEND_R
 deliver 0200000a01616c696365 04000004 - RECEIVED INTEGRITY_CHECK METHOD_RESPONSE SELECT_ACTION FAILURE
 deliver 0200000a01616c696365 - Ended";
 
+/// Whether the server has ended, with nothing to report and no objects.
+fn server_is_over(server: Server) -> bool {
+    let is_over = server.ended() && server.report().is_none();
+    is_over && server.into_methods().is_empty()
+}
+
 #[test]
 fn identity_round(rt: HostRuntime) {
     let mut server = bare_server(rt.alloc());
-    assert!(rt; wrong_row(&mut server, IDENTITY) == "");
-    assert!(rt; server.ended() && server.report().is_none());
-    assert!(rt; server.into_methods().is_empty());
+    let wrong = wrong_row(&mut server, IDENTITY);
+    assert!(rt; wrong.is_empty() && server_is_over(server), "{wrong}");
 }
 
 // Five timeouts, and the Response after them.
@@ -140,6 +160,9 @@ deliver 0200000a01616c696365 - Ended";
 #[test]
 fn five_timeouts(rt: HostRuntime) {
     let mut server = bare_server(rt.alloc());
-    assert!(rt; wrong_row(&mut server, TIMEOUTS) == "");
-    assert!(rt; server.state() == State::TimeoutFailure);
+    let wrong = wrong_row(&mut server, TIMEOUTS);
+    assert!(rt;
+        wrong.is_empty() && server.state() == State::TimeoutFailure,
+        "{wrong}"
+    );
 }

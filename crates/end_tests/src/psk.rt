@@ -13,9 +13,10 @@ const SERVER: &[u8] = b"gate.example";
 /// The name of the peer.
 const PEER: &[u8] = b"ann@example";
 
-/// The peer's key, its nonce, and the server's nonce.
+/// The peer's key.
 const PEER_KEY: &str = "101112131415161718191a1b1c1d1e1f";
 
+// The nonces of the peer and of the server.
 const NONCES: &str = "\
 303132333435363738393a3b3c3d3e3f404142434445464748494a4b4c4d4e4f a0a1a2a3a4a5a6a7a8a9aaabacadaeafb0b1b2b3b4b5b6b7b8b9babbbcbdbeb\
     f";
@@ -62,16 +63,16 @@ peer 020700412f40a0a1a2a3a4a5a6a7a8a9aaabacadaeaf303132333435363738393a3b3c3d3e3
 server 0108003b2f80a0a1a2a3a4a5a6a7a8a9aaabacadaeaf8744ed0fcdedf2de35e0ce89ea3f2ba000000000f36f3729c4a1bf7edcc96ccc98b60455ce
 peer 0208002b2fc0a0a1a2a3a4a5a6a7a8a9aaabacadaeaf000000017143cc3d82ee529ccea178f5152d5ae677 DONE/UNCOND_SUCC
 server success
-peer-has 0 53902b4172228dfcddcf20d8d0bf98065a6dcdfe40ee0244ff559933f56b2cf35075441341bcf9a2d842714acfe40b6bcaa91033c7903f9994de9\
-    c63a014a799 444eed26a84527b0e31003e878685c4a3d1f79546aa53d2a92296bdc81341cdb1c0e375a0261cb0624b1f42a115a51961fbc7cb4c8083f68cd55\
-    11b02b73ccf1
-server-has 0 53902b4172228dfcddcf20d8d0bf98065a6dcdfe40ee0244ff559933f56b2cf35075441341bcf9a2d842714acfe40b6bcaa91033c7903f9994d\
-    e9c63a014a799 444eed26a84527b0e31003e878685c4a3d1f79546aa53d2a92296bdc81341cdb1c0e375a0261cb0624b1f42a115a51961fbc7cb4c8083f68cd\
-    5511b02b73ccf1";
+peer-has 00 53902b4172228dfcddcf20d8d0bf98065a6dcdfe40ee0244ff559933f56b2cf35075441341bcf9a2d842714acfe40b6bcaa91033c7903f9994de\
+    9c63a014a799 444eed26a84527b0e31003e878685c4a3d1f79546aa53d2a92296bdc81341cdb1c0e375a0261cb0624b1f42a115a51961fbc7cb4c8083f68cd5\
+    511b02b73ccf1
+server-has 00 53902b4172228dfcddcf20d8d0bf98065a6dcdfe40ee0244ff559933f56b2cf35075441341bcf9a2d842714acfe40b6bcaa91033c7903f9994\
+    de9c63a014a799 444eed26a84527b0e31003e878685c4a3d1f79546aa53d2a92296bdc81341cdb1c0e375a0261cb0624b1f42a115a51961fbc7cb4c8083f68c\
+    d5511b02b73ccf1";
 
 #[test]
 fn login_that_succeeds(rt: HostRuntime) {
-    assert!(rt; wrong_row(PEER_KEY, false, SUCCEEDS) == "");
+    assert_eq!(rt; wrong_row(PEER_KEY, false, SUCCEEDS), "");
 }
 
 // PSK-3 and PSK-4 have the result DONE_FAILURE.
@@ -87,7 +88,7 @@ server-has none";
 
 #[test]
 fn barred_user(rt: HostRuntime) {
-    assert!(rt; wrong_row(PEER_KEY, true, BARRED) == "");
+    assert_eq!(rt; wrong_row(PEER_KEY, true, BARRED), "");
 }
 
 // The last packet that is handed to the peer is PSK-3 under the other key.
@@ -101,5 +102,8 @@ peer BadTag";
 
 #[test]
 fn wrong_key(rt: HostRuntime) {
-    assert!(rt; wrong_row("1112131415161718191a1b1c1d1e1f20", false, WRONG_KEY) == "");
+    assert_eq!(rt;
+        wrong_row("1112131415161718191a1b1c1d1e1f20", false, WRONG_KEY),
+        ""
+    );
 }
