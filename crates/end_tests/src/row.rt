@@ -62,17 +62,6 @@ impl<'a> Row<'a> {
         octet[0]
     }
 
-    /// The number that the next word spells in decimal digits.
-    pub fn number(&mut self) -> usize {
-        let mut number: usize = 0;
-        for digit in self.word().bytes() {
-            self.is_sound &= digit.is_ascii_digit();
-            let value = usize::from(digit.wrapping_sub(b'0'));
-            number = number.wrapping_mul(10).wrapping_add(value);
-        }
-        number
-    }
-
     /// True where each word was what was asked for, and none is left.
     pub fn is_read(&mut self) -> bool {
         self.is_sound && self.words.next().is_none()
