@@ -3,22 +3,22 @@
 ghost use Rattle.std.specs.Prelude.{◌≤◌, length};
 
 use crate::row::Row;
-use aes_block::Aes128;
-use cmac_mac::{Cmac, cmac_whole};
+use aes_block::{Aes128, TableAes128};
+use cmac_mac::{Cmac, CmacKey, cmac_whole};
 use eax_mode::{eax_seal, eax_unseal};
-use hmac_mac::{Hmac, hmac_whole};
+use hmac_mac::{HmacKey, hmac_whole};
 
 // Key, block and its ciphertext: FIPS 197, appendix B, and its example vector of AES-128.
 const BLOCKS: &str = "\
 2b7e151628aed2a6abf7158809cf4f3c 3243f6a8885a308d313198a2e0370734 3925841d02dc09fbdc118597196a0b32
 000102030405060708090a0b0c0d0e0f 00112233445566778899aabbccddeeff 69c4e0d86a7b0430d8cdb78070b4c55a";
 
-/// Whether the row's block is encrypted to its ciphertext.
+/// Whether the row's block is encrypted to its ciphertext, by shuffles and by tables.
 fn encrypts(row: &str) -> bool {
     let mut row = Row::new(row);
-    let cipher = Aes128::new(&row.array());
-    let block = cipher.encrypt(&row.array());
-    block == row.array() && row.is_read()
+    let (key, block, wanted) = (row.array(), row.array(), row.array());
+    let by_shuffles = Aes128::new(&key).copy().encrypt(&block) == wanted;
+    by_shuffles && TableAes128::new(&key).encrypt(&block) == wanted && row.is_read()
 }
 
 #[test]
@@ -34,22 +34,25 @@ fn blocks_are_encrypted(rt: HostRuntime) {
 const CHAIN: &str = "\
 000102030405060708090a0b0c0d0e0f 00112233445566778899aabbccddeeff b7449c8da15defeb78dbc57ea81db8ee";
 
-/// The block after it was encrypted 1,000 times.
-fn end_of_chain(key: &[u8; 16], block: &[u8; 16]) -> [u8; 16] {
-    let cipher = Aes128::new(key);
+/// The block after it was encrypted 1,000 times, where both bodies of the cipher give each block alike.
+fn end_of_chain(key: &[u8; 16], block: &[u8; 16]) -> Option<[u8; 16]> {
+    let (shuffles, tables) = (Aes128::new(key), TableAes128::new(key));
     let mut block = *block;
     for _ in 0..1000 {
-        let next = cipher.encrypt(&block);
+        let next = shuffles.encrypt(&block);
+        if next != tables.encrypt(&block) {
+            return None;
+        }
         block = next;
     }
-    block
+    Some(block)
 }
 
 /// Whether the row's chain ends in its last block.
 fn ends_chain(row: &str) -> bool {
     let mut row = Row::new(row);
     let end = end_of_chain(&row.array(), &row.array());
-    end == row.array() && row.is_read()
+    end == Some(row.array()) && row.is_read()
 }
 
 #[test]
@@ -89,11 +92,20 @@ fn has_cmac_in_pieces(key: &[u8; 16], text: &[u8], tag: &[u8; 16]) -> bool {
     is_same
 }
 
+/// Whether the text has this tag under a key that is kept, in one call and in pieces.
+fn has_cmac_of_kept_key(key: &[u8; 16], text: &[u8], tag: &[u8; 16]) -> bool {
+    let kept = CmacKey::new(key);
+    let mut mac = kept.begin();
+    mac.update(text);
+    kept.copy().tag(text, &[]) == *tag && kept.tag(b"", &[text]) == *tag && mac.finish() == *tag
+}
+
 /// Whether the row's text has its tag, whole and in pieces.
 fn has_cmac(row: &str) -> bool {
     let mut row = Row::new(row);
     let (key, text, tag) = (row.array(), row.octets(), row.array());
-    let is_whole = cmac_whole(&key, text.as_slice()) == tag;
+    let is_whole = cmac_whole(&key, text.as_slice()) == tag
+        && has_cmac_of_kept_key(&key, text.as_slice(), &tag);
     let is_cut = has_cmac_in_pieces(&key, text.as_slice(), &tag);
     is_whole && is_cut && row.is_read()
 }
@@ -127,9 +139,10 @@ aaaaaaaaaaaaaaaaaaaaaaaaaaaaaaaaaaaaaaaaaaaaaaaaaaaaaaaaaaaaaaaaaaaaaaaaaaaaaaaa
 
 /// Whether the text has this MAC wherever it is cut into two pieces.
 fn has_hmac_in_pieces(key: &[u8], text: &[u8], mac: &[u8; 32]) -> bool {
+    let kept = HmacKey::new(key);
     let mut is_same = true;
     for cut in 0..=text.len() {
-        let mut pieces = Hmac::new(key);
+        let mut pieces = kept.begin();
         pieces.update(&text[..cut]);
         pieces.update(&text[cut..]);
         is_same &= pieces.finish() == *mac;
