@@ -1,9 +1,11 @@
 -- What is taken in as a text grows.
-use Rattle.std.proofs.Common.{◌≡◌, ℕ, zero, suc, ◌+◌, ◌-◌, ◌*◌, ◌/◌, ◌%◌, ◌<◌, ◌≤◌, List, [], ◌∷◌, ◌++◌, length, take, drop, replicate, get_or, refl, sym, ap, subst, ◌∙◌, arith, append_assoc, length-append, length-drop}
+use Rattle.std.proofs.Common.{◌≡◌, ℕ, zero, suc, ◌+◌, ◌-◌, ◌*◌, ◌/◌, ◌%◌, ◌<◌, ◌≤◌, List, [], ◌∷◌, ◌++◌, length, take, drop, replicate, get_or, refl, sym, ap}
+use Rattle.std.proofs.Common.{subst, ◌∙◌, arith, append_assoc, length-append, length-drop}
 use Rattle.std.specs.List.{concat}
 use Rattle.std.specs.Simd.{first_chunks}
 use Rattle.std.proofs.lemmas.List.Folds.{concat-append}
-use Rattle.std.proofs.lemmas.List.{take_more, take-append-le, drop-append-le, take_all, drop_all, take_at, drop_at, append-nil, drop-replicate, take-append-drop}
+use Rattle.std.proofs.lemmas.List.{take_more, take-append-le, drop-append-le, take_all, drop_all, take_at, drop_at, append-nil, drop-replicate}
+use Rattle.std.proofs.lemmas.List.{take-append-drop}
 use Rattle.aes_block.specs.Cipher.{aes128}
 use Rattle.cmac_mac.specs.Cmac.{chain, inner_count, block_at, xor_blocks}
 use Rattle.cmac_mac.specs.Chained.{IsChained, IsTakenIn}
@@ -67,9 +69,10 @@ pub chained_more : (value next key text block : List ℕ) (n : ℕ) → IsChaine
     → next ≡ aes128 key (xor_blocks value block) → IsChained next key (text ++ block) (n + 1)
 chained_more value next key text block n before len is_next =
     let e : n + 1 ≡ suc n = omega arith in
-    let last : block_at (text ++ block) n ≡ block =
-    ap (take 16) (drop-append-le (16 * n) text block (omega (arith, before.whole)) ∙ ap (λ l. l ++ block) (drop_all (16 * n) text (omega (arith, before.whole))))
-    ∙ take_all 16 block (omega arith) in
+    let none : drop (16 * n) text ≡ [] = drop_all (16 * n) text (omega (arith, before.whole)) in
+    let end : drop (16 * n) (text ++ block) ≡ block =
+    drop-append-le (16 * n) text block (omega (arith, before.whole)) ∙ ap (λ l. l ++ block) none in
+    let last : block_at (text ++ block) n ≡ block = ap (take 16) end ∙ take_all 16 block (omega arith) in
     let same : value ≡ chain key (text ++ block) n = before.same ∙ sym (chain-append key text block n (omega (arith, before.whole))) in
     record {
       same = is_next
@@ -101,7 +104,8 @@ chained_full value held next key text count n before full is_next =
 -- one block more of many
 pub blocks_more : (value next key text : List ℕ) (blocks : List (List ℕ)) (i n : ℕ) (d : List ℕ) → i < length blocks
     → length (get_or blocks i d) ≡ 16 → IsChained value key (text ++ concat (take i blocks)) (n + i)
-    → next ≡ aes128 key (xor_blocks value (get_or blocks i d)) → IsChained next key (text ++ concat (take (i + 1) blocks)) (n + (i + 1))
+    → next ≡ aes128 key (xor_blocks value (get_or blocks i d))
+    → IsChained next key (text ++ concat (take (i + 1) blocks)) (n + (i + 1))
 blocks_more value next key text blocks i n d inside len before is_next =
     let block : List ℕ = get_or blocks i d in
     let more : concat (take (i + 1) blocks) ≡ concat (take i blocks) ++ block =

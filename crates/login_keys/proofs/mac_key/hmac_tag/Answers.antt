@@ -11,7 +11,8 @@ loop-piece-init c = λ octets is_key.
 pub loop-piece-preserved : goal.loop-piece-preserved
 loop-piece-preserved c = λ octets is_key.
     fed_more (Holds c.update-in-loop-piece.new.self octets) c.args.front.now c.args.pieces.now c.loop-piece.piece-index _ (search rules)
-    (c.update-in-loop-piece.ensures octets (c.args.front.now ++ joined (take c.loop-piece.piece-index c.args.pieces.now)) (c.loop-piece.invariant octets is_key))
+    (c.update-in-loop-piece.ensures octets (c.args.front.now ++ joined (take c.loop-piece.piece-index c.args.pieces.now))
+    (c.loop-piece.invariant octets is_key))
 
 pub returns : goal.returns
 returns c = λ octets is_key.

@@ -21,5 +21,6 @@ returns-else-piece-room c = λ text before.
     subst (λ key. IsTakenIn c.args.self.now.chain c.args.self.now.held c.args.self.now.count key text m) (sym c.cipher.ensures) before in
     let after = c.take_in.ensures (text ++ front) m (c.hold-else-piece-room.ensures.taken cipher text m under) in
     let whole = pieces text front c.split_at.result.1.now c.args.piece.now _ c.split_at.ensures.front c.split_at.ensures.back in
-    let new : List ℕ → List ℕ → Type 0 = λ key grown. IsTakenIn c.take_in.new.self.chain c.take_in.new.self.held c.take_in.new.self.count key grown (inner_count grown) in
+    let new : List ℕ → List ℕ → Type 0 = λ key grown.
+    IsTakenIn c.take_in.new.self.chain c.take_in.new.self.held c.take_in.new.self.count key grown (inner_count grown) in
     subst (λ key. new key (text ++ c.args.piece.now)) c.cipher.ensures (subst (new cipher) whole after)
