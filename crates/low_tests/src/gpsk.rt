@@ -51,7 +51,7 @@ fn messages_are_read(rt: HostRuntime) {
     }
 }
 
-/// No suites, or 21 times suite 0.
+/// A CSuite_List of 21 suites; its first 120 octets are one of 20.
 static SUITES: [u8; 126] = [0; 126];
 
 /// A message by its number: an offer of two suites, the same of 20 and of 21, the other messages in their

@@ -55,19 +55,19 @@ fn users_are_told_apart_by_name_and_kind(rt: HostRuntime) {
     assert!(rt; are_told_apart());
 }
 
-/// How many of the users a to q, all for EAP-PSK, are taken.
-fn count_of_taken() -> u8 {
+/// Whether of the users a to q, all for EAP-PSK, each is taken but the last.
+fn all_but_the_last_are_taken() -> bool {
     let mut users = Users::new();
-    let mut count: u8 = 0;
+    let mut are_so = true;
     for letter in b'a'..=b'q' {
-        count = count.wrapping_add(u8::from(takes(&mut users, &[letter], 47)));
+        are_so &= takes(&mut users, &[letter], 47) == (letter < b'q');
     }
-    count
+    are_so
 }
 
 #[test]
 fn the_users_are_sixteen_at_most(rt: HostRuntime) {
-    assert!(rt; count_of_taken() == 16);
+    assert!(rt; all_but_the_last_are_taken());
 }
 
 /// A list with these octets, without those that don't fit.
