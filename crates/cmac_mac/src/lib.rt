@@ -74,4 +74,3 @@ pub fn cmac_whole(key: &[u8; 16], text: &[u8]) -> [u8; 16]
 {
     CmacKey::new(key).tag(text, &[])
 }
-

@@ -11,7 +11,6 @@ use aes_block::Aes128;
 use cmac_mac::CmacKey;
 use eap_base::equal_in_full;
 
-
 /// The octets of a block of AES.
 const BLOCK_LEN: usize = 16;
 

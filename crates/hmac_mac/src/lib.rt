@@ -9,7 +9,6 @@ ghost use Rattle.sha2.specs.Hashers.{Holds256};
 
 use sha2::{Digest, Sha256};
 
-
 /// The octets of a block of SHA-256.
 const BLOCK_LEN: usize = 64;
 
