@@ -1,5 +1,5 @@
 -- The keys of a server's users.
-use Rattle.std.proofs.Common.{ℕ, zero, suc, List, [], ◌∷◌, All, IsTrue, arith}
+use Rattle.std.proofs.Common.{zero, suc, [], ◌∷◌, All, IsTrue, arith}
 use Rattle.eap_base.specs.declared.users.User.{User}
 use Rattle.eap_base.specs.Setup.{fits_kind}
 
