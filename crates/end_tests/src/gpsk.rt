@@ -4,10 +4,10 @@
 ghost use Rattle.std.specs.Prelude.{◌≤◌, length};
 
 use crate::login::{first_wrong, list_of, one_user};
-use crate::row::Row;
 use eap_base::{Accepts, Packet};
 use eap_method::{Credential, PeerMethod, ServerMethod, ServerSide};
 use gpsk_ends::{GpskPeer, GpskServer};
+use low_tests::row::Row;
 
 /// The name of the server.
 const SERVER: &[u8] = b"aaa.example.net";

@@ -9,5 +9,3 @@ mod login;
 mod machines;
 #[cfg(test)]
 mod psk;
-#[cfg(test)]
-mod row;

@@ -13,10 +13,10 @@
 ghost use Rattle.std.specs.Prelude.{◌≡◌, ◌≤◌, length, All, IsTrue};
 ghost use Rattle.eap_base.specs.Setup.{fits_kind};
 
-use crate::row::Row;
 use eap_base::{Octets, Packet, Secret, User, Users};
 use eap_method::{Decision, MethodState, PeerMethod, PeerTurn, Report, ServerMethod, ServerTurn};
 use eap_packet::{Code, decode};
+use low_tests::row::Row;
 
 /// The octets as a list.
 pub fn list_of<const N: usize>(octets: &[u8]) -> Octets<N>

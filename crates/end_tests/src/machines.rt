@@ -1,9 +1,9 @@
 //! A peer and a server with no method, stepped by hand.
 
-use crate::row::Row;
 use eap_base::{Accepts, Identity, Kinds, PeerSetup, ServerSetup, Suites, Users};
 use eap_method::{PeerMethod, ServerMethod, Step};
 use eap_packet::State;
+use low_tests::row::Row;
 use peer_machine::PeerMachine;
 use server_machine::ServerMachine;
 use std::alloc::Global;

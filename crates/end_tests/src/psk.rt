@@ -2,9 +2,9 @@
 //! EAX as its paper defines it, put together as RFC 4764, sections 3 and 5, says.
 
 use crate::login::{first_wrong, list_of, one_user};
-use crate::row::Row;
 use eap_base::{Accepts, Packet, Suites};
 use eap_method::{Credential, PeerMethod, ServerMethod, ServerSide};
+use low_tests::row::Row;
 use psk_ends::{PskPeer, PskServer};
 
 /// The name of the server.

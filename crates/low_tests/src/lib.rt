@@ -1,5 +1,5 @@
 //! Tests of the base, the packets, the ciphers, the key schedules, the messages and the policies, by
-//! their public calls.
+//! their public calls; and the rows of a text, which other crates of tests read too.
 #![tactic(auto)]
 
 #[cfg(test)]
@@ -16,8 +16,7 @@ mod packets;
 mod policies;
 #[cfg(test)]
 mod psk;
-#[cfg(test)]
-mod row;
+pub mod row;
 #[cfg(test)]
 mod settings;
 #[cfg(test)]
