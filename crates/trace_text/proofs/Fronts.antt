@@ -1,16 +1,12 @@
 -- Writing a text part by part.
-use Rattle.std.proofs.Common.{◌≡◌, ℕ, List, [], ◌++◌, Option, Some, None, Result, Ok, Err, refl, sym, ◌∙◌, ap, append_assoc, take, drop, length, ◌-◌, arith, take-append-drop, append-nil, map, get_or, ◌+◌, ◌<◌, add-one, drop-cons, Bor, subst}
+use Rattle.std.proofs.Common.{◌≡◌, ℕ, ◌≤◌, ◌+◌, ◌-◌, ◌<◌, List, [], ◌++◌, length, take, drop, map, get_or, Bor, Option, Some, None, Result, Ok, Err}
+use Rattle.std.specs.Prelude.{IsErr}
+use Rattle.std.proofs.Common.{refl, sym, ◌∙◌, ap, subst, arith, append_assoc, append-nil, take-append-drop, add-one, drop-cons}
 use Rattle.std.specs.List.{concat}
 use Rattle.std.proofs.lemmas.Grind.{common_steps}
 use Rattle.eap_base.specs.Known.{append_known}
 use Rattle.eap_base.specs.declared.source.Failed.{Failed}
-use Rattle.trace_text.specs.Writes.{WritesFront, Writes}
-
--- the text has been written up to the rest
-pub record WroteUpTo (before now : Option (List ℕ)) (text rest : List ℕ) : Type 0 where
-  pub front : List ℕ
-  pub split : text ≡ front ++ rest
-  pub appended : append_known before front ≡ now
+use Rattle.trace_text.specs.Writes.{Appended, Appends}
 
 pub append_known-nil : (known : Option (List ℕ)) → append_known known [] ≡ known
 append_known-nil None = refl
@@ -20,34 +16,6 @@ pub append_known-append : (known : Option (List ℕ)) (xs ys : List ℕ) → app
 append_known-append None xs ys = refl
 append_known-append (Some zs) xs ys = ap Some (sym (append_assoc zs xs ys))
 
--- nothing has been written of the whole text
-pub wrote_none : (before : Option (List ℕ)) (text : List ℕ) → WroteUpTo before before text text
-wrote_none before text = record { front = []; split = refl; appended = append_known-nil before }
-
--- one more front of the rest is written
-pub wrote_more : (before now after : Option (List ℕ)) (text rest : List ℕ) (n : ℕ) → WroteUpTo before now text rest
-    → append_known now (take n rest) ≡ after → WroteUpTo before after text (drop n rest)
-wrote_more before now after text rest n w e = record {
-  front = w.front ++ take n rest;
-  split = w.split ∙ ap (λ r. w.front ++ r) (sym (take-append-drop n rest)) ∙ sym (append_assoc w.front (take n rest) (drop n rest));
-  appended = append_known-append before w.front (take n rest) ∙ ap (λ k. append_known k (take n rest)) w.appended ∙ e;
-}
-
--- the same, with the rest as a range of the slice
-pub wrote_range : (before now after : Option (List ℕ)) (text rest : List ℕ) (n : ℕ) → WroteUpTo before now text rest
-    → append_known now (take n rest) ≡ after → WroteUpTo before after text (take (length rest - n) (drop n rest))
-wrote_range before now after text rest n w e =
-    let all : take (length rest - n) (drop n rest) ≡ drop n rest = grind (arith, common_steps) in
-    rw all (wrote_more before now after text rest n w e)
-
--- all has been written
-pub wrote_all : (before now : Option (List ℕ)) (text rest : List ℕ) → WroteUpTo before now text rest → rest ≡ [] → append_known before text ≡ now
-wrote_all before now text rest w e = ap (append_known before) (w.split ∙ ap (λ r. w.front ++ r) e ∙ append-nil w.front) ∙ w.appended
-
--- a front has been written
-pub wrote_front : (before now : Option (List ℕ)) (text rest : List ℕ) → WroteUpTo before now text rest → WritesFront before now text
-wrote_front before now text rest w = record { front = w.front; rest = rest; split = w.split; appended = w.appended }
-
 -- the pieces of references joined
 abbrev pub joined : List (Bor (List ℕ)) → List ℕ
 joined pieces = concat (map (λ p. p.now) pieces)
@@ -56,59 +24,104 @@ pub joined-drop : (pieces : List (Bor (List ℕ))) (i : ℕ) (d : Bor (List ℕ)
     → joined (drop i pieces) ≡ (get_or pieces i d).now ++ joined (drop (i + 1) pieces)
 joined-drop pieces i d h = rw (add-one, drop-cons pieces i d h) refl
 
--- a piece is written after what was written
-pub wrote_piece : (before now after : Option (List ℕ)) (text piece more : List ℕ) → WroteUpTo before now text (piece ++ more)
-    → append_known now piece ≡ after → WroteUpTo before after text more
-wrote_piece before now after text piece more w e = record {
-  front = w.front ++ piece;
-  split = w.split ∙ sym (append_assoc w.front piece more);
-  appended = append_known-append before w.front piece ∙ ap (λ k. append_known k piece) w.appended ∙ e;
-}
+module _ {S : Type 0} (written : S → Option (List ℕ)) (faults : S → ℕ) (last : Option ℕ) where
+  -- a text in two parts: the first was written, and then the second
+  pub appends_both : (result : Result (Unit {0}) Failed) (done : Unit {0}) (before mid after : S) (first second : List ℕ)
+      → Appends written faults last (Ok done) before mid first → Appends written faults last result mid after second
+      → Appends written faults last result before after (first ++ second)
+  unfolding Appends
+  appends_both (Ok all) done before mid after first second a b = record {
+    writes = append_known-append (written before) first second ∙ ap (λ k. append_known k second) a.writes ∙ b.writes;
+    counted = tt;
+    never_falls = omega arith;
+  }
+  appends_both (Err fault) done before mid after first second a b = record {
+    writes = record {
+      front = first ++ b.writes.front;
+      rest = b.writes.rest;
+      split = ap (λ t. first ++ t) b.writes.split ∙ sym (append_assoc first b.writes.front b.writes.rest);
+      appended = append_known-append (written before) first b.writes.front ∙ ap (λ k. append_known k b.writes.front) a.writes ∙ b.writes.appended;
+    };
+    counted = λ h. b.counted (omega arith);
+    never_falls = omega arith;
+  }
 
--- a front of a piece is written after what was written
-pub wrote_piece_front : (before now after : Option (List ℕ)) (text piece more : List ℕ) → WroteUpTo before now text (piece ++ more)
-    → WritesFront now after piece → WritesFront before after text
-wrote_piece_front before now after text piece more w p = record {
-  front = w.front ++ p.front;
-  rest = p.rest ++ more;
-  split = w.split ∙ ap (λ r. w.front ++ (r ++ more)) p.split ∙ simp append_assoc;
-  appended = append_known-append before w.front p.front ∙ ap (λ k. append_known k p.front) w.appended ∙ p.appended;
-}
+  -- the first part was not written whole
+  pub appends_front : (result first_result : Result (Unit {0}) Failed) (before after : S) (first second : List ℕ) → IsErr result → IsErr first_result
+      → Appends written faults last first_result before after first → Appends written faults last result before after (first ++ second)
+  unfolding Appends
+  appends_front (Ok done) first_result before after first second e f a = absurd cc
+  appends_front (Err other) (Ok done) before after first second e f a = absurd cc
+  appends_front (Err other) (Err fault) before after first second e f a = record {
+    writes = record {
+      front = a.writes.front;
+      rest = a.writes.rest ++ second;
+      split = ap (λ t. t ++ second) a.writes.split ∙ append_assoc a.writes.front a.writes.rest second;
+      appended = a.writes.appended;
+    };
+    counted = a.counted;
+    never_falls = a.never_falls;
+  }
 
--- the same at a place of the pieces
-pub wrote_at : (before now after : Option (List ℕ)) (text : List ℕ) (pieces : List (Bor (List ℕ))) (i : ℕ) (d : Bor (List ℕ)) → i < length pieces
-    → WroteUpTo before now text (joined (drop i pieces)) → append_known now (get_or pieces i d).now ≡ after
-    → WroteUpTo before after text (joined (drop (i + 1) pieces))
-wrote_at before now after text pieces i d h w e =
-    wrote_piece before now after text (get_or pieces i d).now (joined (drop (i + 1) pieces)) (rw (joined-drop pieces i d h) at w) e
+  -- nothing was written
+  pub appends_none : (done : Unit {0}) (now : S) → Appends written faults last (Ok done) now now []
+  unfolding Appends
+  appends_none done now = record { writes = append_known-nil (written now); counted = tt; never_falls = omega arith }
 
-pub wrote_front_at : (before now after : Option (List ℕ)) (text : List ℕ) (pieces : List (Bor (List ℕ))) (i : ℕ) (d : Bor (List ℕ)) → i < length pieces
-    → WroteUpTo before now text (joined (drop i pieces)) → WritesFront now after (get_or pieces i d).now → WritesFront before after text
-wrote_front_at before now after text pieces i d h w p =
-    wrote_piece_front before now after text (get_or pieces i d).now (joined (drop (i + 1) pieces)) (rw (joined-drop pieces i d h) at w) p
+  -- the text has been written up to the rest
+  pub record Appending (before now : S) (text rest : List ℕ) : Type 0 where
+    pub front : List ℕ
+    pub split : text ≡ front ++ rest
+    pub appends : Appends written faults last (Ok tt) before now front
 
--- a front of the first part is a front of both
-pub writes_front_append : (before after : Option (List ℕ)) (first second : List ℕ) → WritesFront before after first → WritesFront before after (first ++ second)
-writes_front_append before after first second w = record {
-  front = w.front;
-  rest = w.rest ++ second;
-  split = ap (λ t. t ++ second) w.split ∙ append_assoc w.front w.rest second;
-  appended = w.appended;
-}
+  pub appending_begins : (now : S) (text : List ℕ) → Appending now now text text
+  appending_begins now text = record { front = []; split = refl; appends = appends_none tt now }
 
--- a text in two parts: the first was written, and then the second
-pub writes_append : (result : Result (Unit {0}) Failed) (before mid after : Option (List ℕ)) (first second : List ℕ)
-    → append_known before first ≡ mid → Writes result mid after second → Writes result before after (first ++ second)
-writes_append (Ok done) before mid after first second e w = append_known-append before first second ∙ ap (λ k. append_known k second) e ∙ w
-writes_append (Err fault) before mid after first second e w = record {
-  front = first ++ w.front;
-  rest = w.rest;
-  split = ap (λ t. first ++ t) w.split ∙ sym (append_assoc first w.front w.rest);
-  appended = append_known-append before first w.front ∙ ap (λ k. append_known k w.front) e ∙ w.appended;
-}
+  -- one more piece was written
+  pub appending_next : (before now after : S) (text rest piece more : List ℕ) → rest ≡ piece ++ more → Appending before now text rest
+      → Appends written faults last (Ok tt) now after piece → Appending before after text more
+  appending_next before now after text rest piece more e a p = record {
+    front = a.front ++ piece;
+    split = a.split ∙ ap (λ t. a.front ++ t) e ∙ sym (append_assoc a.front piece more);
+    appends = appends_both (Ok tt) tt before now after a.front piece a.appends p;
+  }
 
--- the rest of a text is written
-pub writes_rest : (result : Result (Unit {0}) Failed) (before now after : Option (List ℕ)) (text rest : List ℕ)
-    → WroteUpTo before now text rest → Writes result now after rest → Writes result before after text
-writes_rest result before now after text rest w r =
-    subst (λ t. Writes result before after t) (sym w.split) (writes_append result before now after w.front rest w.appended r)
+  -- the rest was written, or a front of it
+  pub appending_ends : (result : Result (Unit {0}) Failed) (before now after : S) (text rest : List ℕ) → Appending before now text rest
+      → Appends written faults last result now after rest → Appends written faults last result before after text
+  appending_ends result before now after text rest a r =
+      subst (λ t. Appends written faults last result before after t) (sym a.split) (appends_both result tt before now after a.front rest a.appends r)
+
+  -- one more piece was not written whole
+  pub appending_cut : (result : Result (Unit {0}) Failed) (fault : Failed) (before now after : S) (text rest piece more : List ℕ) → IsErr result
+      → rest ≡ piece ++ more → Appending before now text rest
+      → Appends written faults last (Err fault) now after piece → Appends written faults last result before after text
+  appending_cut result fault before now after text rest piece more is e a p =
+      appending_ends result before now after text rest a
+      (subst (λ t. Appends written faults last result now after t) (sym e) (appends_front result (Err fault) now after piece more is refl p))
+
+  -- nothing is left
+  pub appending_over : (before now : S) (text rest : List ℕ) → Appending before now text rest → rest ≡ [] → Appends written faults last (Ok tt) before now text
+  appending_over before now text rest a e =
+      appending_ends (Ok tt) before now now text rest a (subst (λ t. Appends written faults last (Ok tt) now now t) (sym e) (appends_none tt now))
+
+  -- some octets of a slice were written, and the rest of it is a range
+  pub appending_range : (before now after : S) (text rest : List ℕ) (n : ℕ) → Appending before now text rest
+      → append_known (written now) (take n rest) ≡ written after → faults now ≤ faults after
+      → Appending before after text (take (length rest - n) (drop n rest))
+  unfolding Appends
+  appending_range before now after text rest n a e f =
+      let all : take (length rest - n) (drop n rest) ≡ drop n rest = grind (arith, common_steps) in
+      let took : Appended written faults last (Ok tt) now after (take n rest) = record { writes = e; counted = tt; never_falls = f } in
+      rw all (appending_next before now after text rest (take n rest) (drop n rest) (sym (take-append-drop n rest)) a took)
+
+  -- a fault came, and nothing was written
+  pub appends_nothing : (result : Result (Unit {0}) Failed) (before after : S) (text : List ℕ) → IsErr result → written after ≡ written before
+      → (faults after ≤ faults before → last ≡ Some (faults after)) → faults before ≤ faults after → Appends written faults last result before after text
+  unfolding Appends
+  appends_nothing (Ok done) before after text is e h f = absurd cc
+  appends_nothing (Err fault) before after text is e h f = record {
+    writes = record { front = []; rest = text; split = refl; appended = append_known-nil (written before) ∙ sym e };
+    counted = h;
+    never_falls = f;
+  }

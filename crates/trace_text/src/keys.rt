@@ -2,7 +2,7 @@
 
 ghost use Rattle.std.specs.Prelude.{◌≡◌, ◌≤◌, Some, OnErr, length, ◌++◌, codes};
 ghost use Rattle.eax_mode.specs.Eax.{eax_sealed};
-ghost use Rattle.trace_text.specs.Writes.{Writes};
+ghost use Rattle.trace_text.specs.Writes.{Appends};
 ghost use Rattle.scenario_text.specs.Keys.{HasSizes};
 ghost use Rattle.trace_text.specs.Keys.{exported_text, gpsk_text, hex_line, key_text, long_text, psk_text, sealed_text, session_text};
 
@@ -20,9 +20,7 @@ use scenario_text::KeyLine;
 #[tactic(auto, unfolding(crate::specs::Keys::hex_line))]
 fn write_hex_line<W: Sink>(sink: &mut W, name: &str, octets: &[u8]) -> Result<(), Failed>
     requires { length octets.now ≤ 2000 }
-    ensures writes { Writes result (W.written sink.old) (W.written sink.new) (hex_line name.now octets.now) }
-    ensures counted { OnErr result (W.write_faults sink.new ≤ W.write_faults sink.old → W.last_write_fault ≡ Some (W.write_faults sink.new)) }
-    ensures never_falls { W.write_faults sink.old ≤ W.write_faults sink.new }
+    ensures { Appends W.written W.write_faults W.last_write_fault result sink.old sink.new (hex_line name.now octets.now) }
 {
     let mut room = [0; MAX_DIGITS];
     let digits = hex_digits(octets, &mut room);
@@ -39,9 +37,7 @@ fn write_sealed<W: Sink>(
     text: &mut [u8],
 ) -> Result<(), Failed>
     requires { length text.old ≤ 2000 }
-    ensures writes { Writes result (W.written sink.old) (W.written sink.new) (sealed_text (eax_sealed key.now nonce.now header.now text.old)) }
-    ensures counted { OnErr result (W.write_faults sink.new ≤ W.write_faults sink.old → W.last_write_fault ≡ Some (W.write_faults sink.new)) }
-    ensures never_falls { W.write_faults sink.old ≤ W.write_faults sink.new }
+    ensures { Appends W.written W.write_faults W.last_write_fault result sink.old sink.new (sealed_text (eax_sealed key.now nonce.now header.now text.old)) }
 {
     let tag = eax_seal(key, nonce, header, text);
     let mut text_room = [0; MAX_DIGITS];
@@ -60,9 +56,7 @@ fn write_eax<W: Sink>(
     text: &[u8],
 ) -> Result<(), Failed>
     requires { length text.now ≤ 2000 }
-    ensures writes { Writes result (W.written sink.old) (W.written sink.new) (sealed_text (eax_sealed key.now nonce.now header.now text.now)) }
-    ensures counted { OnErr result (W.write_faults sink.new ≤ W.write_faults sink.old → W.last_write_fault ≡ Some (W.write_faults sink.new)) }
-    ensures never_falls { W.write_faults sink.old ≤ W.write_faults sink.new }
+    ensures { Appends W.written W.write_faults W.last_write_fault result sink.old sink.new (sealed_text (eax_sealed key.now nonce.now header.now text.now)) }
 {
     let mut room = [0; 2000];
     let copy = &mut room[..text.len()];
@@ -71,95 +65,51 @@ fn write_eax<W: Sink>(
 }
 
 /// Writes the keys that both methods export (RFC 3748 section 7.10).
-#[tactic(auto, using(crate::proofs::Fronts::writes_front_append, crate::proofs::Fronts::writes_append))]
+#[tactic(auto, using(crate::proofs::Fronts::appends_both, crate::proofs::Fronts::appends_front))]
 fn write_exported<W: Sink>(sink: &mut W, msk: &[u8; 64], emsk: &[u8; 64]) -> Result<(), Failed>
-    ensures writes { Writes result (W.written sink.old) (W.written sink.new) (exported_text msk.now emsk.now) }
-    ensures counted { OnErr result (W.write_faults sink.new ≤ W.write_faults sink.old → W.last_write_fault ≡ Some (W.write_faults sink.new)) }
-    ensures never_falls { W.write_faults sink.old ≤ W.write_faults sink.new }
+    ensures { Appends W.written W.write_faults W.last_write_fault result sink.old sink.new (exported_text msk.now emsk.now) }
 {
-    match write_hex_line(sink, "msk", msk) {
-        Ok(()) => write_hex_line(sink, "emsk", emsk),
-        Err(fault) => Err(fault),
-    }
-}
-
-/// Writes the keys whose sizes are those of the suite (RFC 5433 section 4).
-#[tactic(auto, using(crate::proofs::Fronts::writes_front_append, crate::proofs::Fronts::writes_append))]
-fn write_suite_keys<W: Sink>(sink: &mut W, keys: &GpskKeys) -> Result<(), Failed>
-    ensures writes { Writes result (W.written sink.old) (W.written sink.new) (hex_line (codes "sk") keys.now.sk ++ hex_line (codes "pk") keys.now.pk) }
-    ensures counted { OnErr result (W.write_faults sink.new ≤ W.write_faults sink.old → W.last_write_fault ≡ Some (W.write_faults sink.new)) }
-    ensures never_falls { W.write_faults sink.old ≤ W.write_faults sink.new }
-{
-    match write_hex_line(sink, "sk", keys.sk.as_slice()) {
-        Ok(()) => write_hex_line(sink, "pk", keys.pk.as_slice()),
-        Err(fault) => Err(fault),
-    }
-}
-
-/// Writes the keys that are derived from the master key (RFC 5433 section 4).
-#[tactic(auto, using(crate::proofs::Fronts::writes_front_append, crate::proofs::Fronts::writes_append))]
-fn write_derived_keys<W: Sink>(sink: &mut W, keys: &GpskKeys) -> Result<(), Failed>
-    ensures writes { Writes result (W.written sink.old) (W.written sink.new) (exported_text keys.now.msk keys.now.emsk ++ (hex_line (codes "sk") keys.now.sk ++ hex_line (codes "pk") keys.now.pk)) }
-    ensures counted { OnErr result (W.write_faults sink.new ≤ W.write_faults sink.old → W.last_write_fault ≡ Some (W.write_faults sink.new)) }
-    ensures never_falls { W.write_faults sink.old ≤ W.write_faults sink.new }
-{
-    match write_exported(sink, &keys.msk, &keys.emsk) {
-        Ok(()) => write_suite_keys(sink, keys),
-        Err(fault) => Err(fault),
-    }
+    write_hex_line(sink, "msk", msk)?;
+    write_hex_line(sink, "emsk", emsk)
 }
 
 /// Writes the keys of an EAP-GPSK login.
-#[tactic(auto, using(crate::proofs::Fronts::writes_front_append, crate::proofs::Fronts::writes_append))]
+#[tactic(auto, using(crate::proofs::Fronts::appends_both, crate::proofs::Fronts::appends_front))]
 fn write_gpsk_keys<W: Sink>(sink: &mut W, keys: &GpskKeys) -> Result<(), Failed>
-    ensures writes { Writes result (W.written sink.old) (W.written sink.new) (gpsk_text keys.now) }
-    ensures counted { OnErr result (W.write_faults sink.new ≤ W.write_faults sink.old → W.last_write_fault ≡ Some (W.write_faults sink.new)) }
-    ensures never_falls { W.write_faults sink.old ≤ W.write_faults sink.new }
+    ensures { Appends W.written W.write_faults W.last_write_fault result sink.old sink.new (gpsk_text keys.now) }
 {
-    match write_hex_line(sink, "mk", keys.mk.as_slice()) {
-        Ok(()) => write_derived_keys(sink, keys),
-        Err(fault) => Err(fault),
-    }
+    write_hex_line(sink, "mk", keys.mk.as_slice())?;
+    write_exported(sink, &keys.msk, &keys.emsk)?;
+    write_hex_line(sink, "sk", keys.sk.as_slice())?;
+    write_hex_line(sink, "pk", keys.pk.as_slice())
 }
 
 /// Writes the long-lived keys of EAP-PSK (RFC 4764 section 3.1).
-#[tactic(auto, using(crate::proofs::Fronts::writes_front_append, crate::proofs::Fronts::writes_append))]
+#[tactic(auto, using(crate::proofs::Fronts::appends_both, crate::proofs::Fronts::appends_front))]
 fn write_psk_long<W: Sink>(sink: &mut W, long: &PskLong) -> Result<(), Failed>
-    ensures writes { Writes result (W.written sink.old) (W.written sink.new) (long_text long.now) }
-    ensures counted { OnErr result (W.write_faults sink.new ≤ W.write_faults sink.old → W.last_write_fault ≡ Some (W.write_faults sink.new)) }
-    ensures never_falls { W.write_faults sink.old ≤ W.write_faults sink.new }
+    ensures { Appends W.written W.write_faults W.last_write_fault result sink.old sink.new (long_text long.now) }
 {
-    match write_hex_line(sink, "ak", &long.ak) {
-        Ok(()) => write_hex_line(sink, "kdk", &long.kdk),
-        Err(fault) => Err(fault),
-    }
+    write_hex_line(sink, "ak", &long.ak)?;
+    write_hex_line(sink, "kdk", &long.kdk)
 }
 
 /// Writes the keys of an EAP-PSK login (RFC 4764 section 3.2).
-#[tactic(auto, using(crate::proofs::Fronts::writes_front_append, crate::proofs::Fronts::writes_append))]
+#[tactic(auto, using(crate::proofs::Fronts::appends_both, crate::proofs::Fronts::appends_front))]
 fn write_psk_session<W: Sink>(sink: &mut W, keys: &PskKeys) -> Result<(), Failed>
-    ensures writes { Writes result (W.written sink.old) (W.written sink.new) (session_text keys.now) }
-    ensures counted { OnErr result (W.write_faults sink.new ≤ W.write_faults sink.old → W.last_write_fault ≡ Some (W.write_faults sink.new)) }
-    ensures never_falls { W.write_faults sink.old ≤ W.write_faults sink.new }
+    ensures { Appends W.written W.write_faults W.last_write_fault result sink.old sink.new (session_text keys.now) }
 {
-    match write_hex_line(sink, "tek", &keys.tek) {
-        Ok(()) => write_exported(sink, &keys.msk, &keys.emsk),
-        Err(fault) => Err(fault),
-    }
+    write_hex_line(sink, "tek", &keys.tek)?;
+    write_exported(sink, &keys.msk, &keys.emsk)
 }
 
 /// Writes the keys of EAP-PSK under a shared key and a peer's random number.
-#[tactic(auto, using(crate::proofs::Fronts::writes_front_append, crate::proofs::Fronts::writes_append))]
+#[tactic(auto, using(crate::proofs::Fronts::appends_both, crate::proofs::Fronts::appends_front))]
 fn write_psk<W: Sink>(sink: &mut W, psk: &[u8; 16], rand_p: &[u8; 16]) -> Result<(), Failed>
-    ensures writes { Writes result (W.written sink.old) (W.written sink.new) (psk_text psk.now rand_p.now) }
-    ensures counted { OnErr result (W.write_faults sink.new ≤ W.write_faults sink.old → W.last_write_fault ≡ Some (W.write_faults sink.new)) }
-    ensures never_falls { W.write_faults sink.old ≤ W.write_faults sink.new }
+    ensures { Appends W.written W.write_faults W.last_write_fault result sink.old sink.new (psk_text psk.now rand_p.now) }
 {
     let long = psk_long(psk);
-    match write_psk_long(sink, &long) {
-        Ok(()) => write_psk_session(sink, &psk_session(&long.kdk, rand_p)),
-        Err(fault) => Err(fault),
-    }
+    write_psk_long(sink, &long)?;
+    write_psk_session(sink, &psk_session(&long.kdk, rand_p))
 }
 
 /// Writes the answer to a request: a line for each value, its name and its octets in hex, `-` where there
@@ -167,9 +117,7 @@ fn write_psk<W: Sink>(sink: &mut W, psk: &[u8; 16], rand_p: &[u8; 16]) -> Result
 #[tactic(auto, unfolding(crate::specs::Keys::key_text))]
 pub fn write_key_line<W: Sink>(sink: &mut W, asked: &KeyLine) -> Result<(), Failed>
     requires { HasSizes asked.now }
-    ensures writes { Writes result (W.written sink.old) (W.written sink.new) (key_text asked.now) }
-    ensures counted { OnErr result (W.write_faults sink.new ≤ W.write_faults sink.old → W.last_write_fault ≡ Some (W.write_faults sink.new)) }
-    ensures never_falls { W.write_faults sink.old ≤ W.write_faults sink.new }
+    ensures { Appends W.written W.write_faults W.last_write_fault result sink.old sink.new (key_text asked.now) }
 {
     match asked {
         KeyLine::Aes { key, block } => {

@@ -1,7 +1,7 @@
 //! Lines that every command writes.
 
 ghost use Rattle.std.specs.Prelude.{◌≡◌, ◌≤◌, Some, OnErr};
-ghost use Rattle.trace_text.specs.Writes.{Writes};
+ghost use Rattle.trace_text.specs.Writes.{Appends};
 ghost use Rattle.trace_text.specs.Lines.{line_text, refused_text};
 
 use crate::pieces::write_pieces;
@@ -10,9 +10,7 @@ use itoa::Buffer;
 
 /// Writes the octets and LF. `Failed`: a write failed, and a front of the line was appended.
 pub fn write_line<W: Sink>(sink: &mut W, line: &[u8]) -> Result<(), Failed>
-    ensures writes { Writes result (W.written sink.old) (W.written sink.new) (line_text line.now) }
-    ensures counted { OnErr result (W.write_faults sink.new ≤ W.write_faults sink.old → W.last_write_fault ≡ Some (W.write_faults sink.new)) }
-    ensures never_falls { W.write_faults sink.old ≤ W.write_faults sink.new }
+    ensures { Appends W.written W.write_faults W.last_write_fault result sink.old sink.new (line_text line.now) }
 {
     write_pieces(sink, &[line, b"\n"])
 }
@@ -20,9 +18,7 @@ pub fn write_line<W: Sink>(sink: &mut W, line: &[u8]) -> Result<(), Failed>
 /// Writes the last line of a refused input, `refused line N WORD`: the number of the refused line, from
 /// 1, and why. `Failed`: a write failed, and a front of the line was appended.
 pub fn write_refused<W: Sink>(sink: &mut W, line: u32, word: &str) -> Result<(), Failed>
-    ensures writes { Writes result (W.written sink.old) (W.written sink.new) (refused_text line word.now) }
-    ensures counted { OnErr result (W.write_faults sink.new ≤ W.write_faults sink.old → W.last_write_fault ≡ Some (W.write_faults sink.new)) }
-    ensures never_falls { W.write_faults sink.old ≤ W.write_faults sink.new }
+    ensures { Appends W.written W.write_faults W.last_write_fault result sink.old sink.new (refused_text line word.now) }
 {
     let mut number = Buffer::new();
     let digits = number.format(line).as_bytes();

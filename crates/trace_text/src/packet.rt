@@ -8,9 +8,11 @@ ghost use Rattle.psk_messages.specs.Message as psk;
 ghost use Rattle.psk_messages.specs.Reading as psk_reading;
 ghost use Rattle.gpsk_messages.specs.Message as gpsk;
 ghost use Rattle.gpsk_messages.specs.Reading as gpsk_reading;
-ghost use Rattle.trace_text.specs.Writes.{Writes};
+ghost use Rattle.trace_text.specs.Writes.{Appends};
 ghost use Rattle.eap_packet.specs.Packet.{value_of};
-ghost use Rattle.trace_text.specs.Packets.{identity_word, hex_text, number_text, numbers_text, nak_word, psk_note, gpsk_note, note_text, type_text, sizes_text, line_end, end_text, end_sizes_text, malformed_text, value_text, packet_text, packets_text};
+ghost use Rattle.trace_text.specs.Packets.{identity_word, hex_text, number_text, numbers_text, nak_word, psk_note, gpsk_note, note_text};
+ghost use Rattle.trace_text.specs.Packets.{type_text, sizes_text, line_end, typed_text, end_text, end_sizes_text, end_line_text};
+ghost use Rattle.trace_text.specs.Packets.{malformed_text, value_text, packet_text, packets_text};
 
 use crate::pieces::write_pieces;
 use eap_base::{Failed, Sink};
@@ -35,46 +37,20 @@ pub(crate) fn hex_digits<'a>(octets: &[u8], room: &'a mut [u8; MAX_DIGITS]) -> &
     digits
 }
 
-/// Writes octets in hex, `-` where there are none.
-fn write_hex<W: Sink>(sink: &mut W, octets: &[u8]) -> Result<(), Failed>
-    requires { length octets.now ≤ 2000 }
-    ensures writes { Writes result (W.written sink.old) (W.written sink.new) (hex_text octets.now) }
-    ensures counted { OnErr result (W.write_faults sink.new ≤ W.write_faults sink.old → W.last_write_fault ≡ Some (W.write_faults sink.new)) }
-    ensures never_falls { W.write_faults sink.old ≤ W.write_faults sink.new }
-{
-    let mut room = [0; MAX_DIGITS];
-    write_pieces(sink, &[hex_digits(octets, &mut room)])
-}
-
 /// Writes the identity of an Identity Request or Response.
-#[tactic(auto, using(crate::proofs::Fronts::writes_front_append, crate::proofs::Fronts::writes_append))]
+#[tactic(auto, unfolding(crate::specs::Packets::identity_word))]
 fn write_identity<W: Sink>(sink: &mut W, name: &[u8]) -> Result<(), Failed>
     requires { length name.now ≤ 1500 }
-    ensures writes { Writes result (W.written sink.old) (W.written sink.new) (identity_word ++ hex_text name.now) }
-    ensures counted { OnErr result (W.write_faults sink.new ≤ W.write_faults sink.old → W.last_write_fault ≡ Some (W.write_faults sink.new)) }
-    ensures never_falls { W.write_faults sink.old ≤ W.write_faults sink.new }
+    ensures { Appends W.written W.write_faults W.last_write_fault result sink.old sink.new (identity_word ++ hex_text name.now) }
 {
-    match write_identity_word(sink) {
-        Ok(()) => write_hex(sink, name),
-        Err(fault) => Err(fault),
-    }
-}
-
-#[tactic(auto, unfolding(crate::specs::Packets::identity_word))]
-fn write_identity_word<W: Sink>(sink: &mut W) -> Result<(), Failed>
-    ensures writes { Writes result (W.written sink.old) (W.written sink.new) (identity_word) }
-    ensures counted { OnErr result (W.write_faults sink.new ≤ W.write_faults sink.old → W.last_write_fault ≡ Some (W.write_faults sink.new)) }
-    ensures never_falls { W.write_faults sink.old ≤ W.write_faults sink.new }
-{
-    write_pieces(sink, &[b"identity "])
+    let mut room = [0; MAX_DIGITS];
+    write_pieces(sink, &[b"identity ", hex_digits(name, &mut room)])
 }
 
 /// Writes an octet as a decimal number, after a space.
 #[tactic(auto, unfolding(crate::specs::Packets::number_text))]
 fn write_number<W: Sink>(sink: &mut W, octet: u8) -> Result<(), Failed>
-    ensures writes { Writes result (W.written sink.old) (W.written sink.new) (number_text octet) }
-    ensures counted { OnErr result (W.write_faults sink.new ≤ W.write_faults sink.old → W.last_write_fault ≡ Some (W.write_faults sink.new)) }
-    ensures never_falls { W.write_faults sink.old ≤ W.write_faults sink.new }
+    ensures { Appends W.written W.write_faults W.last_write_fault result sink.old sink.new (number_text octet) }
 {
     let mut buffer = Buffer::new();
     let digits = buffer.format(octet).as_bytes();
@@ -83,37 +59,26 @@ fn write_number<W: Sink>(sink: &mut W, octet: u8) -> Result<(), Failed>
 
 /// Writes octets as decimal numbers, each after a space.
 fn write_numbers<W: Sink>(sink: &mut W, octets: &[u8]) -> Result<(), Failed>
-    ensures writes { Writes result (W.written sink.old) (W.written sink.new) (numbers_text octets.now) }
-    ensures counted { OnErr result (W.write_faults sink.new ≤ W.write_faults sink.old → W.last_write_fault ≡ Some (W.write_faults sink.new)) }
-    ensures never_falls { W.write_faults sink.old ≤ W.write_faults sink.new }
+    ensures { Appends W.written W.write_faults W.last_write_fault result sink.old sink.new (numbers_text octets.now) }
 {
     for octet in octets {
-        match write_number(sink, *octet) {
-            Ok(()) => {}
-            Err(fault) => return Err(fault),
-        }
+        write_number(sink, *octet)?;
     }
     write_pieces(sink, &[])
 }
 
 /// Writes the methods that a Nak desires.
-#[tactic(auto, using(crate::proofs::Fronts::writes_front_append, crate::proofs::Fronts::writes_append))]
+#[tactic(auto, using(crate::proofs::Fronts::appends_both, crate::proofs::Fronts::appends_front))]
 fn write_nak<W: Sink>(sink: &mut W, desired: &[u8]) -> Result<(), Failed>
-    ensures writes { Writes result (W.written sink.old) (W.written sink.new) (nak_word ++ numbers_text desired.now) }
-    ensures counted { OnErr result (W.write_faults sink.new ≤ W.write_faults sink.old → W.last_write_fault ≡ Some (W.write_faults sink.new)) }
-    ensures never_falls { W.write_faults sink.old ≤ W.write_faults sink.new }
+    ensures { Appends W.written W.write_faults W.last_write_fault result sink.old sink.new (nak_word ++ numbers_text desired.now) }
 {
-    match write_nak_word(sink) {
-        Ok(()) => write_numbers(sink, desired),
-        Err(fault) => Err(fault),
-    }
+    write_nak_word(sink)?;
+    write_numbers(sink, desired)
 }
 
 #[tactic(auto, unfolding(crate::specs::Packets::nak_word))]
 fn write_nak_word<W: Sink>(sink: &mut W) -> Result<(), Failed>
-    ensures writes { Writes result (W.written sink.old) (W.written sink.new) (nak_word) }
-    ensures counted { OnErr result (W.write_faults sink.new ≤ W.write_faults sink.old → W.last_write_fault ≡ Some (W.write_faults sink.new)) }
-    ensures never_falls { W.write_faults sink.old ≤ W.write_faults sink.new }
+    ensures { Appends W.written W.write_faults W.last_write_fault result sink.old sink.new (nak_word) }
 {
     write_pieces(sink, &[b"nak"])
 }
@@ -132,26 +97,14 @@ fn name_of_psk(body: &[u8]) -> &'static str
 }
 
 fn write_psk_note<W: Sink>(sink: &mut W, body: &[u8]) -> Result<(), Failed>
-    ensures writes { Writes result (W.written sink.old) (W.written sink.new) (psk_note (psk_reading.read_of body.now)) }
-    ensures counted { OnErr result (W.write_faults sink.new ≤ W.write_faults sink.old → W.last_write_fault ≡ Some (W.write_faults sink.new)) }
-    ensures never_falls { W.write_faults sink.old ≤ W.write_faults sink.new }
+    ensures { Appends W.written W.write_faults W.last_write_fault result sink.old sink.new (psk_note (psk_reading.read_of body.now)) }
 {
-    write_word(sink, name_of_psk(body))
-}
-
-fn write_word<W: Sink>(sink: &mut W, word: &str) -> Result<(), Failed>
-    ensures writes { Writes result (W.written sink.old) (W.written sink.new) (word.now) }
-    ensures counted { OnErr result (W.write_faults sink.new ≤ W.write_faults sink.old → W.last_write_fault ≡ Some (W.write_faults sink.new)) }
-    ensures never_falls { W.write_faults sink.old ≤ W.write_faults sink.new }
-{
-    write_pieces(sink, &[word.as_bytes()])
+    write_pieces(sink, &[name_of_psk(body).as_bytes()])
 }
 
 /// Writes a name and a number after it.
 fn write_code<W: Sink>(sink: &mut W, name: &str, code: u32) -> Result<(), Failed>
-    ensures writes { Writes result (W.written sink.old) (W.written sink.new) (concat (name.now ∷ decimal code ∷ [])) }
-    ensures counted { OnErr result (W.write_faults sink.new ≤ W.write_faults sink.old → W.last_write_fault ≡ Some (W.write_faults sink.new)) }
-    ensures never_falls { W.write_faults sink.old ≤ W.write_faults sink.new }
+    ensures { Appends W.written W.write_faults W.last_write_fault result sink.old sink.new (concat (name.now ∷ decimal code ∷ [])) }
 {
     let mut buffer = Buffer::new();
     let digits = buffer.format(code).as_bytes();
@@ -160,9 +113,7 @@ fn write_code<W: Sink>(sink: &mut W, name: &str, code: u32) -> Result<(), Failed
 
 /// Writes the name of an EAP-GPSK message, or why it is none.
 fn write_gpsk_note<W: Sink>(sink: &mut W, body: &[u8]) -> Result<(), Failed>
-    ensures writes { Writes result (W.written sink.old) (W.written sink.new) (gpsk_note (gpsk_reading.read_of None body.now)) }
-    ensures counted { OnErr result (W.write_faults sink.new ≤ W.write_faults sink.old → W.last_write_fault ≡ Some (W.write_faults sink.new)) }
-    ensures never_falls { W.write_faults sink.old ≤ W.write_faults sink.new }
+    ensures { Appends W.written W.write_faults W.last_write_fault result sink.old sink.new (gpsk_note (gpsk_reading.read_of None body.now)) }
 {
     match read_gpsk(body, None) {
         Ok(GpskView::M1 { .. }) => write_pieces(sink, &[b"gpsk-1"]),
@@ -179,9 +130,7 @@ fn write_gpsk_note<W: Sink>(sink: &mut W, body: &[u8]) -> Result<(), Failed>
 #[tactic(auto, unfolding(crate::specs::Packets::note_text))]
 fn write_note<W: Sink>(sink: &mut W, kind: u8, body: &[u8]) -> Result<(), Failed>
     requires { length body.now ≤ 1500 }
-    ensures writes { Writes result (W.written sink.old) (W.written sink.new) (note_text kind body.now) }
-    ensures counted { OnErr result (W.write_faults sink.new ≤ W.write_faults sink.old → W.last_write_fault ≡ Some (W.write_faults sink.new)) }
-    ensures never_falls { W.write_faults sink.old ≤ W.write_faults sink.new }
+    ensures { Appends W.written W.write_faults W.last_write_fault result sink.old sink.new (note_text kind body.now) }
 {
     match kind {
         1 => write_identity(sink, body),
@@ -201,9 +150,7 @@ fn write_type<W: Sink>(
     id: u8,
     kind: u8,
 ) -> Result<(), Failed>
-    ensures writes { Writes result (W.written sink.old) (W.written sink.new) (type_text number code.now id kind) }
-    ensures counted { OnErr result (W.write_faults sink.new ≤ W.write_faults sink.old → W.last_write_fault ≡ Some (W.write_faults sink.new)) }
-    ensures never_falls { W.write_faults sink.old ≤ W.write_faults sink.new }
+    ensures { Appends W.written W.write_faults W.last_write_fault result sink.old sink.new (type_text number code.now id kind) }
 {
     let mut number_buffer = Buffer::new();
     let mut id_buffer = Buffer::new();
@@ -229,9 +176,7 @@ fn write_type<W: Sink>(
 #[tactic(auto, unfolding(crate::specs::Packets::sizes_text))]
 fn write_sizes<W: Sink>(sink: &mut W, whole: usize, octets: usize) -> Result<(), Failed>
     requires { whole ≤ octets }
-    ensures writes { Writes result (W.written sink.old) (W.written sink.new) (sizes_text whole octets) }
-    ensures counted { OnErr result (W.write_faults sink.new ≤ W.write_faults sink.old → W.last_write_fault ≡ Some (W.write_faults sink.new)) }
-    ensures never_falls { W.write_faults sink.old ≤ W.write_faults sink.new }
+    ensures { Appends W.written W.write_faults W.last_write_fault result sink.old sink.new (sizes_text whole octets) }
 {
     let mut whole_buffer = Buffer::new();
     let mut padding_buffer = Buffer::new();
@@ -251,48 +196,13 @@ fn write_sizes<W: Sink>(sink: &mut W, whole: usize, octets: usize) -> Result<(),
 
 #[tactic(auto, unfolding(crate::specs::Packets::line_end))]
 fn write_line_end<W: Sink>(sink: &mut W) -> Result<(), Failed>
-    ensures writes { Writes result (W.written sink.old) (W.written sink.new) (line_end) }
-    ensures counted { OnErr result (W.write_faults sink.new ≤ W.write_faults sink.old → W.last_write_fault ≡ Some (W.write_faults sink.new)) }
-    ensures never_falls { W.write_faults sink.old ≤ W.write_faults sink.new }
+    ensures { Appends W.written W.write_faults W.last_write_fault result sink.old sink.new (line_end) }
 {
     write_pieces(sink, &[b"\n"])
 }
 
-#[tactic(auto, using(crate::proofs::Fronts::writes_front_append, crate::proofs::Fronts::writes_append))]
-fn write_note_line<W: Sink>(sink: &mut W, kind: u8, body: &[u8]) -> Result<(), Failed>
-    requires { length body.now ≤ 1500 }
-    ensures writes { Writes result (W.written sink.old) (W.written sink.new) (note_text kind body.now ++ line_end) }
-    ensures counted { OnErr result (W.write_faults sink.new ≤ W.write_faults sink.old → W.last_write_fault ≡ Some (W.write_faults sink.new)) }
-    ensures never_falls { W.write_faults sink.old ≤ W.write_faults sink.new }
-{
-    match write_note(sink, kind, body) {
-        Ok(()) => write_line_end(sink),
-        Err(fault) => Err(fault),
-    }
-}
-
-#[tactic(auto, using(crate::proofs::Fronts::writes_front_append, crate::proofs::Fronts::writes_append))]
-fn write_sizes_and_note<W: Sink>(
-    sink: &mut W,
-    whole: usize,
-    octets: usize,
-    kind: u8,
-    body: &[u8],
-) -> Result<(), Failed>
-    requires whole { whole ≤ octets }
-    requires body { length body.now ≤ 1500 }
-    ensures writes { Writes result (W.written sink.old) (W.written sink.new) (sizes_text whole octets ++ (note_text kind body.now ++ line_end)) }
-    ensures counted { OnErr result (W.write_faults sink.new ≤ W.write_faults sink.old → W.last_write_fault ≡ Some (W.write_faults sink.new)) }
-    ensures never_falls { W.write_faults sink.old ≤ W.write_faults sink.new }
-{
-    match write_sizes(sink, whole, octets) {
-        Ok(()) => write_note_line(sink, kind, body),
-        Err(fault) => Err(fault),
-    }
-}
-
 /// Writes the line of a Request or a Response.
-#[tactic(auto, using(crate::proofs::Fronts::writes_front_append, crate::proofs::Fronts::writes_append))]
+#[tactic(auto, using(crate::proofs::Fronts::appends_both, crate::proofs::Fronts::appends_front))]
 fn write_typed<W: Sink>(
     sink: &mut W,
     number: u32,
@@ -302,22 +212,19 @@ fn write_typed<W: Sink>(
 ) -> Result<(), Failed>
     requires whole { length view.now.whole.now ≤ octets }
     requires body { length view.now.body.now ≤ 1500 }
-    ensures writes { Writes result (W.written sink.old) (W.written sink.new) (type_text number code.now view.now.id view.now.kind ++ (sizes_text (length view.now.whole.now) octets ++ (note_text view.now.kind view.now.body.now ++ line_end))) }
-    ensures counted { OnErr result (W.write_faults sink.new ≤ W.write_faults sink.old → W.last_write_fault ≡ Some (W.write_faults sink.new)) }
-    ensures never_falls { W.write_faults sink.old ≤ W.write_faults sink.new }
+    ensures { Appends W.written W.write_faults W.last_write_fault result sink.old sink.new
+        (typed_text number code.now view.now.id view.now.kind view.now.body.now (length view.now.whole.now) octets) }
 {
-    match write_type(sink, number, code, view.id, view.kind) {
-        Ok(()) => write_sizes_and_note(sink, view.whole.len(), octets, view.kind, view.body),
-        Err(fault) => Err(fault),
-    }
+    write_type(sink, number, code, view.id, view.kind)?;
+    write_sizes(sink, view.whole.len(), octets)?;
+    write_note(sink, view.kind, view.body)?;
+    write_line_end(sink)
 }
 
 /// Writes the number, the Code and the Identifier of a Success or a Failure.
 #[tactic(auto, unfolding(crate::specs::Packets::end_text))]
 fn write_end_head<W: Sink>(sink: &mut W, number: u32, code: &str, id: u8) -> Result<(), Failed>
-    ensures writes { Writes result (W.written sink.old) (W.written sink.new) (end_text number code.now id) }
-    ensures counted { OnErr result (W.write_faults sink.new ≤ W.write_faults sink.old → W.last_write_fault ≡ Some (W.write_faults sink.new)) }
-    ensures never_falls { W.write_faults sink.old ≤ W.write_faults sink.new }
+    ensures { Appends W.written W.write_faults W.last_write_fault result sink.old sink.new (end_text number code.now id) }
 {
     let mut number_buffer = Buffer::new();
     let mut id_buffer = Buffer::new();
@@ -333,9 +240,7 @@ fn write_end_head<W: Sink>(sink: &mut W, number: u32, code: &str, id: u8) -> Res
 #[tactic(auto, unfolding(crate::specs::Packets::end_sizes_text))]
 fn write_end_sizes<W: Sink>(sink: &mut W, whole: usize, octets: usize) -> Result<(), Failed>
     requires { whole ≤ octets }
-    ensures writes { Writes result (W.written sink.old) (W.written sink.new) (end_sizes_text whole octets) }
-    ensures counted { OnErr result (W.write_faults sink.new ≤ W.write_faults sink.old → W.last_write_fault ≡ Some (W.write_faults sink.new)) }
-    ensures never_falls { W.write_faults sink.old ≤ W.write_faults sink.new }
+    ensures { Appends W.written W.write_faults W.last_write_fault result sink.old sink.new (end_sizes_text whole octets) }
 {
     let mut whole_buffer = Buffer::new();
     let mut padding_buffer = Buffer::new();
@@ -354,7 +259,7 @@ fn write_end_sizes<W: Sink>(sink: &mut W, whole: usize, octets: usize) -> Result
 }
 
 /// Writes the line of a Success or a Failure.
-#[tactic(auto, using(crate::proofs::Fronts::writes_front_append, crate::proofs::Fronts::writes_append))]
+#[tactic(auto, using(crate::proofs::Fronts::appends_both, crate::proofs::Fronts::appends_front))]
 fn write_end_line<W: Sink>(
     sink: &mut W,
     number: u32,
@@ -364,21 +269,15 @@ fn write_end_line<W: Sink>(
     octets: usize,
 ) -> Result<(), Failed>
     requires { whole ≤ octets }
-    ensures writes { Writes result (W.written sink.old) (W.written sink.new) (end_text number code.now id ++ end_sizes_text whole octets) }
-    ensures counted { OnErr result (W.write_faults sink.new ≤ W.write_faults sink.old → W.last_write_fault ≡ Some (W.write_faults sink.new)) }
-    ensures never_falls { W.write_faults sink.old ≤ W.write_faults sink.new }
+    ensures { Appends W.written W.write_faults W.last_write_fault result sink.old sink.new (end_line_text number code.now id whole octets) }
 {
-    match write_end_head(sink, number, code, id) {
-        Ok(()) => write_end_sizes(sink, whole, octets),
-        Err(fault) => Err(fault),
-    }
+    write_end_head(sink, number, code, id)?;
+    write_end_sizes(sink, whole, octets)
 }
 
 /// Writes the line of octets that begin with no packet.
 fn write_malformed<W: Sink>(sink: &mut W, number: u32, cause: Cause) -> Result<(), Failed>
-    ensures writes { Writes result (W.written sink.old) (W.written sink.new) (malformed_text number cause) }
-    ensures counted { OnErr result (W.write_faults sink.new ≤ W.write_faults sink.old → W.last_write_fault ≡ Some (W.write_faults sink.new)) }
-    ensures never_falls { W.write_faults sink.old ≤ W.write_faults sink.new }
+    ensures { Appends W.written W.write_faults W.last_write_fault result sink.old sink.new (malformed_text number cause) }
 {
     let mut buffer = Buffer::new();
     let digits = buffer.format(number).as_bytes();
@@ -391,9 +290,8 @@ fn write_malformed<W: Sink>(sink: &mut W, number: u32, cause: Cause) -> Result<(
 fn write_view<W: Sink>(sink: &mut W, number: u32, view: &View, octets: usize) -> Result<(), Failed>
     requires whole { length view.now.whole.now ≤ octets }
     requires body { length view.now.body.now ≤ 1500 }
-    ensures writes { Writes result (W.written sink.old) (W.written sink.new) (value_text number (value_of view.now) (length view.now.whole.now) octets) }
-    ensures counted { OnErr result (W.write_faults sink.new ≤ W.write_faults sink.old → W.last_write_fault ≡ Some (W.write_faults sink.new)) }
-    ensures never_falls { W.write_faults sink.old ≤ W.write_faults sink.new }
+    ensures { Appends W.written W.write_faults W.last_write_fault result sink.old sink.new
+        (value_text number (value_of view.now) (length view.now.whole.now) octets) }
 {
     match view.code {
         Code::Request => write_typed(sink, number, "request", view, octets),
@@ -407,9 +305,7 @@ fn write_view<W: Sink>(sink: &mut W, number: u32, view: &View, octets: usize) ->
 /// says; or why it is malformed.
 #[tactic(auto, unfolding(crate::specs::Packets::packet_text))]
 pub fn write_packet<W: Sink>(sink: &mut W, number: u32, octets: &[u8]) -> Result<(), Failed>
-    ensures writes { Writes result (W.written sink.old) (W.written sink.new) (packet_text number octets.now) }
-    ensures counted { OnErr result (W.write_faults sink.new ≤ W.write_faults sink.old → W.last_write_fault ≡ Some (W.write_faults sink.new)) }
-    ensures never_falls { W.write_faults sink.old ≤ W.write_faults sink.new }
+    ensures { Appends W.written W.write_faults W.last_write_fault result sink.old sink.new (packet_text number octets.now) }
 {
     match decode(octets) {
         Ok(view) => write_view(sink, number, &view, octets.len()),
@@ -424,9 +320,7 @@ pub fn write_packet_counts<W: Sink>(
     packets: u32,
     malformed: u32,
 ) -> Result<(), Failed>
-    ensures writes { Writes result (W.written sink.old) (W.written sink.new) (packets_text packets malformed) }
-    ensures counted { OnErr result (W.write_faults sink.new ≤ W.write_faults sink.old → W.last_write_fault ≡ Some (W.write_faults sink.new)) }
-    ensures never_falls { W.write_faults sink.old ≤ W.write_faults sink.new }
+    ensures { Appends W.written W.write_faults W.last_write_fault result sink.old sink.new (packets_text packets malformed) }
 {
     let mut packets_buffer = Buffer::new();
     let mut malformed_buffer = Buffer::new();

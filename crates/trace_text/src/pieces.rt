@@ -2,15 +2,13 @@
 
 ghost use Rattle.std.specs.Prelude.{◌≡◌, ◌≤◌, List, ℕ, Some, OnErr, map};
 ghost use Rattle.std.specs.List.{concat};
-ghost use Rattle.trace_text.specs.Writes.{Writes};
+ghost use Rattle.trace_text.specs.Writes.{Appends};
 
 use eap_base::{Failed, Sink};
 
 /// Writes a piece whole, in as many writes as the sink asks for.
 fn write_whole<W: Sink>(sink: &mut W, piece: &[u8]) -> Result<(), Failed>
-    ensures writes { Writes result (W.written sink.old) (W.written sink.new) piece.now }
-    ensures counted { OnErr result (W.write_faults sink.new ≤ W.write_faults sink.old → W.last_write_fault ≡ Some (W.write_faults sink.new)) }
-    ensures never_falls { W.write_faults sink.old ≤ W.write_faults sink.new }
+    ensures { Appends W.written W.write_faults W.last_write_fault result sink.old sink.new piece.now }
 {
     let mut rest = piece;
     while !rest.is_empty() {
@@ -23,15 +21,11 @@ fn write_whole<W: Sink>(sink: &mut W, piece: &[u8]) -> Result<(), Failed>
 /// Writes pieces one after the other: the text that they make joined. `Failed`: a write failed, and a
 /// front of that text was appended.
 pub fn write_pieces<W: Sink>(sink: &mut W, pieces: &[&[u8]]) -> Result<(), Failed>
-    ensures writes { (text : List ℕ) → text ≡ concat (map (λ p. p.now) pieces.now) → Writes result (W.written sink.old) (W.written sink.new) text }
-    ensures counted { OnErr result (W.write_faults sink.new ≤ W.write_faults sink.old → W.last_write_fault ≡ Some (W.write_faults sink.new)) }
-    ensures never_falls { W.write_faults sink.old ≤ W.write_faults sink.new }
+    ensures { (text : List ℕ) → text ≡ concat (map (λ p. p.now) pieces.now)
+        → Appends W.written W.write_faults W.last_write_fault result sink.old sink.new text }
 {
     for piece in pieces {
-        match write_whole(sink, piece) {
-            Ok(()) => {}
-            Err(fault) => return Err(fault),
-        }
+        write_whole(sink, piece)?;
     }
     Ok(())
 }

@@ -3,8 +3,11 @@
 
 ghost use Rattle.std.specs.Prelude.{◌≡◌, ◌≤◌, Some, OnErr, length, slice_index, [], ◌∷◌, ◌++◌, codes, decimal};
 ghost use Rattle.std.specs.List.{concat};
-ghost use Rattle.trace_text.specs.Writes.{Writes};
-ghost use Rattle.trace_text.specs.Run.{state_text, party_word, port_word, skip_word, code_word, states_text, path_text, party_text, cause_text, sent_text, octets_line, octets_text, keys_line, keys_text, shown_text, acted_text, told_by, told_text, peer_start_text, start_text, ends_text, counts_text, tags_text, verdict_word, result_text, end_text_of, end_text};
+ghost use Rattle.trace_text.specs.Writes.{Appends};
+ghost use Rattle.trace_text.specs.Run.{state_text, party_word, port_word, skip_word, code_word, states_text, path_text, party_text};
+ghost use Rattle.trace_text.specs.Run.{cause_text, sent_text, octets_line, octets_text, keys_line, keys_text, shown_text, acted_text};
+ghost use Rattle.trace_text.specs.Run.{told_text, peer_start_text, start_text, ends_text, counts_text, tags_text, verdict_word};
+ghost use Rattle.trace_text.specs.Run.{result_text, end_text_of, end_text};
 ghost use Rattle.eap_world.specs.World.{now_of};
 
 use crate::packet::{MAX_DIGITS, hex_digits};
@@ -83,33 +86,24 @@ fn octet_at(octets: &[u8], place: usize) -> u8
 
 /// Writes a state of a path, after a space.
 fn write_state<W: Sink>(sink: &mut W, state: State) -> Result<(), Failed>
-    ensures writes { Writes result (W.written sink.old) (W.written sink.new) (state_text state) }
-    ensures counted { OnErr result (W.write_faults sink.new ≤ W.write_faults sink.old → W.last_write_fault ≡ Some (W.write_faults sink.new)) }
-    ensures never_falls { W.write_faults sink.old ≤ W.write_faults sink.new }
+    ensures { Appends W.written W.write_faults W.last_write_fault result sink.old sink.new (state_text state) }
 {
     write_pieces(sink, &[b" ", state.word().as_bytes()])
 }
 
 /// Writes the states of a path, each after a space, and the end of the line.
 fn write_states<W: Sink>(sink: &mut W, states: &[State]) -> Result<(), Failed>
-    ensures writes { Writes result (W.written sink.old) (W.written sink.new) (states_text states.now) }
-    ensures counted { OnErr result (W.write_faults sink.new ≤ W.write_faults sink.old → W.last_write_fault ≡ Some (W.write_faults sink.new)) }
-    ensures never_falls { W.write_faults sink.old ≤ W.write_faults sink.new }
+    ensures { Appends W.written W.write_faults W.last_write_fault result sink.old sink.new (states_text states.now) }
 {
     for state in states {
-        match write_state(sink, *state) {
-            Ok(()) => {}
-            Err(fault) => return Err(fault),
-        }
+        write_state(sink, *state)?;
     }
     write_pieces(sink, &[b"\n"])
 }
 
 /// Writes the states of a path and the end of the line, `-` for no states.
 fn write_path<W: Sink>(sink: &mut W, states: &[State]) -> Result<(), Failed>
-    ensures writes { Writes result (W.written sink.old) (W.written sink.new) (path_text states.now) }
-    ensures counted { OnErr result (W.write_faults sink.new ≤ W.write_faults sink.old → W.last_write_fault ≡ Some (W.write_faults sink.new)) }
-    ensures never_falls { W.write_faults sink.old ≤ W.write_faults sink.new }
+    ensures { Appends W.written W.write_faults W.last_write_fault result sink.old sink.new (path_text states.now) }
 {
     if states.is_empty() {
         write_pieces(sink, &[b" -\n"])
@@ -120,9 +114,7 @@ fn write_path<W: Sink>(sink: &mut W, states: &[State]) -> Result<(), Failed>
 
 /// Writes the event's number and the party.
 fn write_head<W: Sink>(sink: &mut W, event: u32, party: Party) -> Result<(), Failed>
-    ensures writes { Writes result (W.written sink.old) (W.written sink.new) (concat (decimal event ∷ codes " " ∷ party_word party ∷ [])) }
-    ensures counted { OnErr result (W.write_faults sink.new ≤ W.write_faults sink.old → W.last_write_fault ≡ Some (W.write_faults sink.new)) }
-    ensures never_falls { W.write_faults sink.old ≤ W.write_faults sink.new }
+    ensures { Appends W.written W.write_faults W.last_write_fault result sink.old sink.new (concat (decimal event ∷ codes " " ∷ party_word party ∷ [])) }
 {
     let mut number = Buffer::new();
     let digits = number.format(event).as_bytes();
@@ -130,31 +122,27 @@ fn write_head<W: Sink>(sink: &mut W, event: u32, party: Party) -> Result<(), Fai
 }
 
 /// Writes the line of the party that acted, with the states that it entered.
-#[tactic(auto, using(crate::proofs::Fronts::writes_front_append, crate::proofs::Fronts::writes_append))]
+#[tactic(auto, using(crate::proofs::Fronts::appends_both, crate::proofs::Fronts::appends_front))]
 fn write_party<W: Sink>(
     sink: &mut W,
     event: u32,
     party: Option<Party>,
     path: &[State],
 ) -> Result<(), Failed>
-    ensures writes { Writes result (W.written sink.old) (W.written sink.new) (party_text event party path.now) }
-    ensures counted { OnErr result (W.write_faults sink.new ≤ W.write_faults sink.old → W.last_write_fault ≡ Some (W.write_faults sink.new)) }
-    ensures never_falls { W.write_faults sink.old ≤ W.write_faults sink.new }
+    ensures { Appends W.written W.write_faults W.last_write_fault result sink.old sink.new (party_text event party path.now) }
 {
     match party {
         None => write_pieces(sink, &[]),
-        Some(party) => match write_head(sink, event, party) {
-            Ok(()) => write_path(sink, path),
-            Err(fault) => Err(fault),
-        },
+        Some(party) => {
+            write_head(sink, event, party)?;
+            write_path(sink, path)
+        }
     }
 }
 
 /// Writes the line of a discard, if there was one.
 fn write_cause<W: Sink>(sink: &mut W, event: u32, cause: Option<Cause>) -> Result<(), Failed>
-    ensures writes { Writes result (W.written sink.old) (W.written sink.new) (cause_text event cause) }
-    ensures counted { OnErr result (W.write_faults sink.new ≤ W.write_faults sink.old → W.last_write_fault ≡ Some (W.write_faults sink.new)) }
-    ensures never_falls { W.write_faults sink.old ≤ W.write_faults sink.new }
+    ensures { Appends W.written W.write_faults W.last_write_fault result sink.old sink.new (cause_text event cause) }
 {
     match cause {
         None => write_pieces(sink, &[]),
@@ -168,9 +156,7 @@ fn write_cause<W: Sink>(sink: &mut W, event: u32, cause: Option<Cause>) -> Resul
 
 /// Writes the line of the packet that was sent, if there was one.
 fn write_sent<W: Sink>(sink: &mut W, event: u32, sent: &Option<SentPacket>) -> Result<(), Failed>
-    ensures writes { Writes result (W.written sink.old) (W.written sink.new) (sent_text event sent.now) }
-    ensures counted { OnErr result (W.write_faults sink.new ≤ W.write_faults sink.old → W.last_write_fault ≡ Some (W.write_faults sink.new)) }
-    ensures never_falls { W.write_faults sink.old ≤ W.write_faults sink.new }
+    ensures { Appends W.written W.write_faults W.last_write_fault result sink.old sink.new (sent_text event sent.now) }
 {
     match sent {
         None => write_pieces(sink, &[]),
@@ -181,9 +167,7 @@ fn write_sent<W: Sink>(sink: &mut W, event: u32, sent: &Option<SentPacket>) -> R
 /// Writes the line of a packet: its number and port, then its Code, Identifier, Type and length in
 /// octets. A Success and a Failure have no Type (RFC 3748 section 4.2).
 fn write_packet_line<W: Sink>(sink: &mut W, event: u32, sent: &SentPacket) -> Result<(), Failed>
-    ensures writes { Writes result (W.written sink.old) (W.written sink.new) (sent_text event (Some sent.now)) }
-    ensures counted { OnErr result (W.write_faults sink.new ≤ W.write_faults sink.old → W.last_write_fault ≡ Some (W.write_faults sink.new)) }
-    ensures never_falls { W.write_faults sink.old ≤ W.write_faults sink.new }
+    ensures { Appends W.written W.write_faults W.last_write_fault result sink.old sink.new (sent_text event (Some sent.now)) }
 {
     let octets = sent.packet.as_slice();
     let mut event_buffer = Buffer::new();
@@ -224,9 +208,7 @@ fn write_packet_line<W: Sink>(sink: &mut W, event: u32, sent: &SentPacket) -> Re
 
 /// Writes all octets of a packet in hex, in one line.
 fn write_octets_line<W: Sink>(sink: &mut W, event: u32, sent: &SentPacket) -> Result<(), Failed>
-    ensures writes { Writes result (W.written sink.old) (W.written sink.new) (octets_line event sent.now) }
-    ensures counted { OnErr result (W.write_faults sink.new ≤ W.write_faults sink.old → W.last_write_fault ≡ Some (W.write_faults sink.new)) }
-    ensures never_falls { W.write_faults sink.old ≤ W.write_faults sink.new }
+    ensures { Appends W.written W.write_faults W.last_write_fault result sink.old sink.new (octets_line event sent.now) }
 {
     let mut number = Buffer::new();
     let digits = number.format(event).as_bytes();
@@ -242,9 +224,7 @@ fn write_octets<W: Sink>(
     sent: &Option<SentPacket>,
     names: bool,
 ) -> Result<(), Failed>
-    ensures writes { Writes result (W.written sink.old) (W.written sink.new) (octets_text names event sent.now) }
-    ensures counted { OnErr result (W.write_faults sink.new ≤ W.write_faults sink.old → W.last_write_fault ≡ Some (W.write_faults sink.new)) }
-    ensures never_falls { W.write_faults sink.old ≤ W.write_faults sink.new }
+    ensures { Appends W.written W.write_faults W.last_write_fault result sink.old sink.new (octets_text names event sent.now) }
 {
     match sent {
         None => write_pieces(sink, &[]),
@@ -260,9 +240,7 @@ fn write_octets<W: Sink>(
 
 /// Writes the names of the keys that a party reports, in one line.
 fn write_keys_line<W: Sink>(sink: &mut W, event: u32, named: &Named) -> Result<(), Failed>
-    ensures writes { Writes result (W.written sink.old) (W.written sink.new) (keys_line event named.now) }
-    ensures counted { OnErr result (W.write_faults sink.new ≤ W.write_faults sink.old → W.last_write_fault ≡ Some (W.write_faults sink.new)) }
-    ensures never_falls { W.write_faults sink.old ≤ W.write_faults sink.new }
+    ensures { Appends W.written W.write_faults W.last_write_fault result sink.old sink.new (keys_line event named.now) }
 {
     let mut number = Buffer::new();
     let digits = number.format(event).as_bytes();
@@ -286,9 +264,7 @@ fn write_keys<W: Sink>(
     named: &Option<Named>,
     names: bool,
 ) -> Result<(), Failed>
-    ensures writes { Writes result (W.written sink.old) (W.written sink.new) (keys_text names event named.now) }
-    ensures counted { OnErr result (W.write_faults sink.new ≤ W.write_faults sink.old → W.last_write_fault ≡ Some (W.write_faults sink.new)) }
-    ensures never_falls { W.write_faults sink.old ≤ W.write_faults sink.new }
+    ensures { Appends W.written W.write_faults W.last_write_fault result sink.old sink.new (keys_text names event named.now) }
 {
     match named {
         None => write_pieces(sink, &[]),
@@ -308,9 +284,7 @@ fn write_keys<W: Sink>(
 /// lines was appended.
 #[tactic(auto, unfolding(crate::specs::Run::told_text))]
 pub fn write_told<W: Sink>(sink: &mut W, told: &Told, names: bool) -> Result<(), Failed>
-    ensures writes { Writes result (W.written sink.old) (W.written sink.new) (told_text names told.now) }
-    ensures counted { OnErr result (W.write_faults sink.new ≤ W.write_faults sink.old → W.last_write_fault ≡ Some (W.write_faults sink.new)) }
-    ensures never_falls { W.write_faults sink.old ≤ W.write_faults sink.new }
+    ensures { Appends W.written W.write_faults W.last_write_fault result sink.old sink.new (told_text names told.now) }
 {
     match told.skip {
         None => write_acted(sink, told, names),
@@ -326,61 +300,29 @@ pub fn write_told<W: Sink>(sink: &mut W, told: &Told, names: bool) -> Result<(),
 }
 
 /// Writes the lines of an event that wasn't skipped.
-#[tactic(auto, using(crate::proofs::Fronts::writes_front_append, crate::proofs::Fronts::writes_append))]
+#[tactic(auto, using(crate::proofs::Fronts::appends_both, crate::proofs::Fronts::appends_front))]
 fn write_acted<W: Sink>(sink: &mut W, told: &Told, names: bool) -> Result<(), Failed>
-    ensures writes { Writes result (W.written sink.old) (W.written sink.new) (acted_text names told.now) }
-    ensures counted { OnErr result (W.write_faults sink.new ≤ W.write_faults sink.old → W.last_write_fault ≡ Some (W.write_faults sink.new)) }
-    ensures never_falls { W.write_faults sink.old ≤ W.write_faults sink.new }
+    ensures { Appends W.written W.write_faults W.last_write_fault result sink.old sink.new (acted_text names told.now) }
 {
-    match write_party(sink, told.event, told.party, told.path.as_slice()) {
-        Ok(()) => write_cause_and_shown(sink, told, names),
-        Err(fault) => Err(fault),
-    }
-}
-
-#[tactic(auto, using(crate::proofs::Fronts::writes_front_append, crate::proofs::Fronts::writes_append))]
-fn write_cause_and_shown<W: Sink>(sink: &mut W, told: &Told, names: bool) -> Result<(), Failed>
-    ensures writes { Writes result (W.written sink.old) (W.written sink.new) (cause_text told.now.event told.now.cause ++ shown_text names told.now) }
-    ensures counted { OnErr result (W.write_faults sink.new ≤ W.write_faults sink.old → W.last_write_fault ≡ Some (W.write_faults sink.new)) }
-    ensures never_falls { W.write_faults sink.old ≤ W.write_faults sink.new }
-{
-    match write_cause(sink, told.event, told.cause) {
-        Ok(()) => write_shown(sink, told, names),
-        Err(fault) => Err(fault),
-    }
+    write_party(sink, told.event, told.party, told.path.as_slice())?;
+    write_cause(sink, told.event, told.cause)?;
+    write_shown(sink, told, names)
 }
 
 /// Writes the lines of the packet that was sent, of its octets, and of the keys.
-#[tactic(auto, using(crate::proofs::Fronts::writes_front_append, crate::proofs::Fronts::writes_append))]
+#[tactic(auto, using(crate::proofs::Fronts::appends_both, crate::proofs::Fronts::appends_front))]
 fn write_shown<W: Sink>(sink: &mut W, told: &Told, names: bool) -> Result<(), Failed>
-    ensures writes { Writes result (W.written sink.old) (W.written sink.new) (shown_text names told.now) }
-    ensures counted { OnErr result (W.write_faults sink.new ≤ W.write_faults sink.old → W.last_write_fault ≡ Some (W.write_faults sink.new)) }
-    ensures never_falls { W.write_faults sink.old ≤ W.write_faults sink.new }
+    ensures { Appends W.written W.write_faults W.last_write_fault result sink.old sink.new (shown_text names told.now) }
 {
-    match write_sent(sink, told.event, &told.sent) {
-        Ok(()) => write_octets_and_keys(sink, told, names),
-        Err(fault) => Err(fault),
-    }
-}
-
-#[tactic(auto, using(crate::proofs::Fronts::writes_front_append, crate::proofs::Fronts::writes_append))]
-fn write_octets_and_keys<W: Sink>(sink: &mut W, told: &Told, names: bool) -> Result<(), Failed>
-    ensures writes { Writes result (W.written sink.old) (W.written sink.new) (octets_text names told.now.event told.now.sent ++ keys_text names told.now.event told.now.named) }
-    ensures counted { OnErr result (W.write_faults sink.new ≤ W.write_faults sink.old → W.last_write_fault ≡ Some (W.write_faults sink.new)) }
-    ensures never_falls { W.write_faults sink.old ≤ W.write_faults sink.new }
-{
-    match write_octets(sink, told.event, &told.sent, names) {
-        Ok(()) => write_keys(sink, told.event, &told.named, names),
-        Err(fault) => Err(fault),
-    }
+    write_sent(sink, told.event, &told.sent)?;
+    write_octets(sink, told.event, &told.sent, names)?;
+    write_keys(sink, told.event, &told.named, names)
 }
 
 /// Writes the line of the peer's INITIALIZE (RFC 4137 section 4.5).
 #[tactic(auto, unfolding(crate::specs::Run::peer_start_text))]
 fn write_peer_start<W: Sink>(sink: &mut W) -> Result<(), Failed>
-    ensures writes { Writes result (W.written sink.old) (W.written sink.new) peer_start_text }
-    ensures counted { OnErr result (W.write_faults sink.new ≤ W.write_faults sink.old → W.last_write_fault ≡ Some (W.write_faults sink.new)) }
-    ensures never_falls { W.write_faults sink.old ≤ W.write_faults sink.new }
+    ensures { Appends W.written W.write_faults W.last_write_fault result sink.old sink.new peer_start_text }
 {
     write_pieces(sink, &[b"0 peer INITIALIZE IDLE\n"])
 }
@@ -388,21 +330,17 @@ fn write_peer_start<W: Sink>(sink: &mut W) -> Result<(), Failed>
 /// Writes the lines of the start, event 0: the peer begins, then what is told of the server, with the
 /// octets of its packet where names are asked for. `Failed`: a write failed, and a front of the lines was
 /// appended.
-#[tactic(auto, using(crate::proofs::Fronts::writes_front_append, crate::proofs::Fronts::writes_append))]
+#[tactic(auto, using(crate::proofs::Fronts::appends_both, crate::proofs::Fronts::appends_front))]
 pub fn write_start<W: Sink>(sink: &mut W, told: &Told, names: bool) -> Result<(), Failed>
-    ensures writes { Writes result (W.written sink.old) (W.written sink.new) (start_text names told.now) }
-    ensures counted { OnErr result (W.write_faults sink.new ≤ W.write_faults sink.old → W.last_write_fault ≡ Some (W.write_faults sink.new)) }
-    ensures never_falls { W.write_faults sink.old ≤ W.write_faults sink.new }
+    ensures { Appends W.written W.write_faults W.last_write_fault result sink.old sink.new (start_text names told.now) }
 {
-    match write_peer_start(sink) {
-        Ok(()) => write_told(sink, told, names),
-        Err(fault) => Err(fault),
-    }
+    write_peer_start(sink)?;
+    write_told(sink, told, names)
 }
 
 /// Writes the lines of the end: where both ends stand, the counts, and the verdicts. `Failed`: a write
 /// failed, and a front of the lines was appended.
-#[tactic(auto, unfolding(crate::specs::Run::end_text_of), using(crate::proofs::Fronts::writes_front_append, crate::proofs::Fronts::writes_append))]
+#[tactic(auto, unfolding(crate::specs::Run::end_text_of), using(crate::proofs::Fronts::appends_both, crate::proofs::Fronts::appends_front))]
 pub fn write_end_of<W: Sink>(
     sink: &mut W,
     peer: State,
@@ -411,22 +349,18 @@ pub fn write_end_of<W: Sink>(
     tags: TagsVerdict,
     verdict: Verdict,
 ) -> Result<(), Failed>
-    ensures writes { Writes result (W.written sink.old) (W.written sink.new) (end_text_of peer server counts tags verdict) }
-    ensures counted { OnErr result (W.write_faults sink.new ≤ W.write_faults sink.old → W.last_write_fault ≡ Some (W.write_faults sink.new)) }
-    ensures never_falls { W.write_faults sink.old ≤ W.write_faults sink.new }
+    ensures { Appends W.written W.write_faults W.last_write_fault result sink.old sink.new (end_text_of peer server counts tags verdict) }
 {
-    match write_ends(sink, peer, server) {
-        Ok(()) => write_counts_and_verdicts(sink, counts, tags, verdict),
-        Err(fault) => Err(fault),
-    }
+    write_ends(sink, peer, server)?;
+    write_counts(sink, counts)?;
+    write_tags(sink, tags)?;
+    write_result(sink, verdict)
 }
 
 /// Writes the states of both ends.
 #[tactic(auto, unfolding(crate::specs::Run::ends_text))]
 fn write_ends<W: Sink>(sink: &mut W, peer: State, server: State) -> Result<(), Failed>
-    ensures writes { Writes result (W.written sink.old) (W.written sink.new) (ends_text peer server) }
-    ensures counted { OnErr result (W.write_faults sink.new ≤ W.write_faults sink.old → W.last_write_fault ≡ Some (W.write_faults sink.new)) }
-    ensures never_falls { W.write_faults sink.old ≤ W.write_faults sink.new }
+    ensures { Appends W.written W.write_faults W.last_write_fault result sink.old sink.new (ends_text peer server) }
 {
     let peer_word = peer.word().as_bytes();
     let server_word = server.word().as_bytes();
@@ -442,29 +376,10 @@ fn write_ends<W: Sink>(sink: &mut W, peer: State, server: State) -> Result<(), F
     )
 }
 
-#[tactic(auto, using(crate::proofs::Fronts::writes_front_append, crate::proofs::Fronts::writes_append))]
-fn write_counts_and_verdicts<W: Sink>(
-    sink: &mut W,
-    counts: Counts,
-    tags: TagsVerdict,
-    verdict: Verdict,
-) -> Result<(), Failed>
-    ensures writes { Writes result (W.written sink.old) (W.written sink.new) (counts_text counts ++ (tags_text tags ++ result_text verdict)) }
-    ensures counted { OnErr result (W.write_faults sink.new ≤ W.write_faults sink.old → W.last_write_fault ≡ Some (W.write_faults sink.new)) }
-    ensures never_falls { W.write_faults sink.old ≤ W.write_faults sink.new }
-{
-    match write_counts(sink, counts) {
-        Ok(()) => write_verdicts(sink, tags, verdict),
-        Err(fault) => Err(fault),
-    }
-}
-
 /// Writes how many events, deliveries and discards there were.
 #[tactic(auto, unfolding(crate::specs::Run::counts_text))]
 fn write_counts<W: Sink>(sink: &mut W, counts: Counts) -> Result<(), Failed>
-    ensures writes { Writes result (W.written sink.old) (W.written sink.new) (counts_text counts) }
-    ensures counted { OnErr result (W.write_faults sink.new ≤ W.write_faults sink.old → W.last_write_fault ≡ Some (W.write_faults sink.new)) }
-    ensures never_falls { W.write_faults sink.old ≤ W.write_faults sink.new }
+    ensures { Appends W.written W.write_faults W.last_write_fault result sink.old sink.new (counts_text counts) }
 {
     let mut events_buffer = Buffer::new();
     let mut deliveries_buffer = Buffer::new();
@@ -486,25 +401,11 @@ fn write_counts<W: Sink>(sink: &mut W, counts: Counts) -> Result<(), Failed>
     )
 }
 
-#[tactic(auto, using(crate::proofs::Fronts::writes_front_append, crate::proofs::Fronts::writes_append))]
-fn write_verdicts<W: Sink>(sink: &mut W, tags: TagsVerdict, verdict: Verdict) -> Result<(), Failed>
-    ensures writes { Writes result (W.written sink.old) (W.written sink.new) (tags_text tags ++ result_text verdict) }
-    ensures counted { OnErr result (W.write_faults sink.new ≤ W.write_faults sink.old → W.last_write_fault ≡ Some (W.write_faults sink.new)) }
-    ensures never_falls { W.write_faults sink.old ≤ W.write_faults sink.new }
-{
-    match write_tags(sink, tags) {
-        Ok(()) => write_result(sink, verdict),
-        Err(fault) => Err(fault),
-    }
-}
-
 /// Writes whether each accepted tag was made earlier by the other end, and else the event of the first
 /// that wasn't.
 #[tactic(auto, unfolding(crate::specs::Run::tags_text))]
 fn write_tags<W: Sink>(sink: &mut W, tags: TagsVerdict) -> Result<(), Failed>
-    ensures writes { Writes result (W.written sink.old) (W.written sink.new) (tags_text tags) }
-    ensures counted { OnErr result (W.write_faults sink.new ≤ W.write_faults sink.old → W.last_write_fault ≡ Some (W.write_faults sink.new)) }
-    ensures never_falls { W.write_faults sink.old ≤ W.write_faults sink.new }
+    ensures { Appends W.written W.write_faults W.last_write_fault result sink.old sink.new (tags_text tags) }
 {
     match tags {
         TagsVerdict::Honest => write_pieces(sink, &[b"tags honest\n"]),
@@ -519,9 +420,7 @@ fn write_tags<W: Sink>(sink: &mut W, tags: TagsVerdict) -> Result<(), Failed>
 /// Writes what came of the login, and the last line.
 #[tactic(auto, unfolding(crate::specs::Run::result_text))]
 fn write_result<W: Sink>(sink: &mut W, verdict: Verdict) -> Result<(), Failed>
-    ensures writes { Writes result (W.written sink.old) (W.written sink.new) (result_text verdict) }
-    ensures counted { OnErr result (W.write_faults sink.new ≤ W.write_faults sink.old → W.last_write_fault ≡ Some (W.write_faults sink.new)) }
-    ensures never_falls { W.write_faults sink.old ≤ W.write_faults sink.new }
+    ensures { Appends W.written W.write_faults W.last_write_fault result sink.old sink.new (result_text verdict) }
 {
     let word = name_of_verdict(verdict).as_bytes();
     write_pieces(sink, &[b"result ", word, b"\nend\n"])
@@ -533,9 +432,7 @@ pub fn write_end<W: Sink, P: PeerMethod, S: ServerMethod>(
     sink: &mut W,
     world: &World<P, S>,
 ) -> Result<(), Failed>
-    ensures writes { Writes result (W.written sink.old) (W.written sink.new) (end_text (now_of P.peer_shown S.server_shown world.now)) }
-    ensures counted { OnErr result (W.write_faults sink.new ≤ W.write_faults sink.old → W.last_write_fault ≡ Some (W.write_faults sink.new)) }
-    ensures never_falls { W.write_faults sink.old ≤ W.write_faults sink.new }
+    ensures { Appends W.written W.write_faults W.last_write_fault result sink.old sink.new (end_text (now_of P.peer_shown S.server_shown world.now)) }
 {
     write_end_of(
         sink,

@@ -1,15 +1,13 @@
-use Rattle.std.proofs.Common.{arith, sym, subst}
-use Rattle.trace_text.specs.Writes.{WritesFront}
-use Rattle.trace_text.proofs.Fronts.{wrote_at, wrote_front_at}
+use Rattle.trace_text.proofs.Fronts.{appending_begins, appending_next, appending_cut, joined-drop}
 use Rattle.trace_text.proofs.pieces.write_pieces.Goals as goal
 
-pub loop-piece-preserved : goal.loop-piece-preserved
-loop-piece-preserved g c = record {
-  wrote = wrote_at _ _ _ _ _ _ _ c.loop-piece-test.true c.loop-piece.invariant.wrote c.in-Ok.ensures.writes;
-  never_falls = omega arith;
-}
+pub loop-piece-init : goal.loop-piece-init
+loop-piece-init g c = appending_begins _ _ _ _ _
 
-pub returns-in-Err-clause-writes : goal.returns-in-Err-clause-writes
-returns-in-Err-clause-writes g c text e =
-    subst (λ t. WritesFront (g.W.Sink.written c.args.sink.now) (g.W.Sink.written c.write_whole.new.sink) t) (sym e)
-    (wrote_front_at _ _ _ _ _ _ _ c.loop-piece-test.true c.loop-piece.invariant.wrote c.in-Err.ensures.writes)
+pub loop-piece-preserved : goal.loop-piece-preserved
+loop-piece-preserved g c =
+    appending_next _ _ _ _ _ _ _ _ _ _ (joined-drop _ _ _ c.loop-piece-test.true) c.loop-piece.invariant c.in_ok-write_whole.ensures
+
+pub returns-in_err-write_whole : goal.returns-in_err-write_whole
+returns-in_err-write_whole g c text e =
+    rw e (appending_cut _ _ _ _ _ _ _ _ _ _ _ _ c.from_residual.ensures.0 (joined-drop _ _ _ c.loop-piece-test.true) c.loop-piece.invariant c.in_err-write_whole.ensures)
