@@ -1,11 +1,11 @@
 -- How a run ends after a part of its text has been written.
-use Rattle.std.proofs.Common.{◌≡◌, ℕ, List, [], ◌++◌, Option, refl, sym, ◌∙◌, ap, subst, append_assoc}
+use Rattle.std.proofs.Common.{◌≡◌, ◌≤◌, ℕ, List, [], ◌++◌, Option, refl, sym, ◌∙◌, ap, subst, append_assoc, arith}
 use Rattle.eap_base.specs.Known.{append_known}
 use Rattle.trace_text.specs.Writes.{WritesFront}
 use Rattle.trace_text.proofs.Fronts.{append_known-append, append_known-nil}
 use Rattle.login_call.specs.declared.status.Status.{Status}
 use Rattle.login_call.specs.declared.status.Status.TheVariants as status
-use Rattle.login_call.specs.Answers.{Answer, after_text, Gives, Ends}
+use Rattle.login_call.specs.Answers.{Answer, after_text, Gives, Ends, Finishes}
 
 -- a text after what was written
 pub gives_after : (s : Status) (before mid now : Option (List ℕ)) (front : List ℕ) (a : Answer) → append_known before front ≡ mid
@@ -34,6 +34,16 @@ ends_after status.WriteFault before mid now front a e w = front_after before mid
 ends_after status.Memory before mid now front a e w = front_after before mid now front a.text e w
 ends_after status.TooMuch before mid now front a e w = gives_after status.TooMuch before mid now front a e w
 ends_after status.Findings before mid now front a e w = gives_after status.Findings before mid now front a e w
+
+pub finishes_after : {S : Type 0} (written : S → Option (List ℕ)) (faults : S → ℕ) (last : Option ℕ) (result : Status) (before mid now : S) (front : List ℕ) (a : Answer)
+    → append_known (written before) front ≡ written mid → faults before ≤ faults mid
+    → Finishes written faults last result mid now a → Finishes written faults last result before now (after_text front a)
+finishes_after written faults last result before mid now front a e f w = record {
+  ends = ends_after result (written before) (written mid) (written now) front a e w.ends;
+  written_only = w.written_only;
+  counted = λ is h. w.counted is (omega arith);
+  never_falls = omega arith;
+}
 
 -- the same answer
 pub ends_same : (s : Status) (before now : Option (List ℕ)) (a b : Answer) → a ≡ b → Ends s before now b → Ends s before now a

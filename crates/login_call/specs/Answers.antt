@@ -1,5 +1,5 @@
 -- What the program answers: the text that it writes, and its status.
-use Rattle.std.specs.Prelude.{◌≡◌, ℕ, List, ◌++◌, Option, codes}
+use Rattle.std.specs.Prelude.{◌≡◌, ◌≤◌, ℕ, List, ◌++◌, Option, Some, codes}
 use Rattle.eap_base.specs.Known.{append_known, nothing_known}
 use Rattle.trace_text.specs.Lines.{refused_text}
 use Rattle.trace_text.specs.Writes.{WritesFront}
@@ -60,6 +60,15 @@ IsWritten status.WriteFault = Unit {0}
 IsWritten status.Memory = ⊥
 IsWritten status.TooMuch = Unit {0}
 IsWritten status.Findings = Unit {0}
+
+-- how a run ends that only writes an answer: a write failed only where the count of faults rose, or stands
+-- at its last value, and that count never falls
+pub record Finishes {S : Type 0} (written : S → Option (List ℕ)) (faults : S → ℕ) (last : Option ℕ)
+    (result : Status) (before now : S) (a : Answer) : Type 0 where
+  pub ends : Ends result (written before) (written now) a
+  pub written_only : IsWritten result
+  pub counted : result ≡ status.WriteFault → faults now ≤ faults before → last ≡ Some (faults now)
+  pub never_falls : faults before ≤ faults now
 
 -- where the input was read to its end, nothing is left
 abbrev pub Drains : Status → Option (List ℕ) → Type 0

@@ -1,7 +1,7 @@
 //! A command that reads lines.
 
-ghost use Rattle.std.specs.Prelude.{◌≡◌, ◌≤◌, ◌+◌, ℕ, Some, OnErr, IfOk};
-ghost use Rattle.login_call.specs.Commands.{Takes, Closes, Troubles, AfterLines};
+ghost use Rattle.std.specs.Prelude.{◌+◌, ℕ, IfOk};
+ghost use Rattle.login_call.specs.Commands.{AnswersLine, AnswersEnd, AfterLines};
 
 use crate::status::Status;
 use eap_base::{Failed, Sink};
@@ -60,13 +60,12 @@ pub trait Command {
     fn take<W: Sink>(&mut self, sink: &mut W, line: &[u8]) -> Result<Next, Trouble>
         requires { AfterLines holds self.old }
         ensures holds_after { IfOk result (λ next. (lines : ℕ) → holds self.old lines → holds self.new (lines + 1)) }
-        ensures takes { Takes result (took (seen self.old) line.now) (W.written sink.old) (W.written sink.new) (seen self.new) }
-        ensures trouble { Troubles result W.last_write_fault (W.write_faults sink.old) (W.write_faults sink.new) (lacks (seen self.old) line.now) }
-        ensures never_falls { W.write_faults sink.old ≤ W.write_faults sink.new };
+        ensures answers {
+            AnswersLine W.written W.write_faults W.last_write_fault result sink.old sink.new
+                (took (seen self.old) line.now) (lacks (seen self.old) line.now) (seen self.new)
+        };
 
     /// Meets the end of the input and writes its answer.
     fn close<W: Sink>(&self, sink: &mut W) -> Result<Close, Failed>
-        ensures closes { Closes result (closing (seen self.now)) (W.written sink.old) (W.written sink.new) }
-        ensures counted { OnErr result (W.write_faults sink.new ≤ W.write_faults sink.old → W.last_write_fault ≡ Some (W.write_faults sink.new)) }
-        ensures never_falls { W.write_faults sink.old ≤ W.write_faults sink.new };
+        ensures { AnswersEnd W.written W.write_faults W.last_write_fault result sink.old sink.new (closing (seen self.now)) };
 }

@@ -30,7 +30,7 @@ fn begins_with_none(octets: &[u8]) -> bool
 
 impl Decode {
     ghost use Rattle.login_call.specs.Decode.{took_packet, with_packet, nothing_decoded};
-    ghost use Rattle.login_call.specs.Commands.{Takes, Troubles};
+    ghost use Rattle.login_call.specs.Commands.{AnswersLine};
     ghost use Rattle.std.specs.Prelude.{Some, Ok};
 
     /// No packet so far.
@@ -44,12 +44,14 @@ impl Decode {
     }
 
     /// One more packet.
+    #[tactic(auto, unfolding(trace_text::specs::Writes::Appends))]
     fn packet<W: Sink>(&mut self, sink: &mut W, octets: &[u8]) -> Result<Next, Trouble>
         requires packets { self.old.packets < 2 ^ 31 }
         requires malformed { self.old.malformed < 2 ^ 31 }
-        ensures takes { Takes result (took_packet self.old (Ok (Some octets.now))) (W.written sink.old) (W.written sink.new) self.new }
-        ensures trouble { Troubles result W.last_write_fault (W.write_faults sink.old) (W.write_faults sink.new) false }
-        ensures never_falls { W.write_faults sink.old ≤ W.write_faults sink.new }
+        ensures answers {
+            AnswersLine W.written W.write_faults W.last_write_fault result sink.old sink.new
+                (took_packet self.old (Ok (Some octets.now))) false self.new
+        }
         ensures after { self.new ≡ with_packet self.old octets.now }
     {
         self.packets += 1;
@@ -86,7 +88,7 @@ impl Command for Decode {
         }
     }
 
-    #[tactic(auto, unfolding(crate::specs::Decode::decode_closing))]
+    #[tactic(auto, unfolding(crate::specs::Decode::decode_closing, trace_text::specs::Writes::Appends))]
     fn close<W: Sink>(&self, sink: &mut W) -> Result<Close, Failed> {
         match write_packet_counts(sink, self.packets, self.malformed) {
             Ok(()) => Ok(Close::Ends(Status::Done)),

@@ -39,7 +39,7 @@ impl Command for Keys {
 
     ghost holds = { λ _ _. Unit {0} };
 
-    #[tactic(auto, unfolding(crate::specs::Keys::keys_took))]
+    #[tactic(auto, unfolding(crate::specs::Keys::keys_took, trace_text::specs::Writes::Appends))]
     fn take<W: Sink>(&mut self, sink: &mut W, line: &[u8]) -> Result<Next, Trouble> {
         match read_key_line(line) {
             Ok(None) => Ok(Next::Goes),

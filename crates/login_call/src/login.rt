@@ -1,14 +1,14 @@
 //! The program's one call.
 
 ghost use Rattle.std.specs.Prelude.{◌≡◌, ◌≢◌, ◌≤◌, ℕ, List, Option, Some, OnErr, true, false, map, string_bytes};
-ghost use Rattle.login_call.specs.Answers.{Ends, Drains, IsWritten};
+ghost use Rattle.login_call.specs.Answers.{Ends, Drains, Finishes, IsWritten};
 ghost use Rattle.login_call.specs.Login.{is_alone, are_two, reads_scenario, is_form, login_answer, usage_answer, usage_text, HasSetup};
 ghost use Rattle.login_call.specs.Decode.{decode_answer};
 ghost use Rattle.login_call.specs.Keys.{keys_answer};
 ghost use Rattle.login_call.specs.Headline.{HonestEndsAgree, WritesNeverBoth};
 ghost use Rattle.login_call.specs.Replay.{HasBoth};
 ghost use Rattle.login_call.specs.Scenario.{replay_answer, trace_header};
-ghost use Rattle.trace_text.specs.Writes.{Writes};
+ghost use Rattle.trace_text.specs.Writes.{Appends};
 
 use crate::decode::Decode;
 use crate::drive::drive;
@@ -103,12 +103,10 @@ fn are_two(words: &Vec<String>, first: &str, second: &str) -> bool
 }
 
 /// Writes the usage line.
+#[tactic(auto, unfolding(trace_text::specs::Writes::Appends))]
 fn show_usage<W: Sink>(sink: &mut W) -> Status
-    ensures ends { Ends result (W.written sink.old) (W.written sink.new) usage_answer }
-    ensures written { IsWritten result }
+    ensures finishes { Finishes W.written W.write_faults W.last_write_fault result sink.old sink.new usage_answer }
     ensures drains { (left : Option (List ℕ)) → Drains result left }
-    ensures write_fault { result ≡ Status.WriteFault → W.write_faults sink.new ≤ W.write_faults sink.old → W.last_write_fault ≡ Some (W.write_faults sink.new) }
-    ensures never_falls { W.write_faults sink.old ≤ W.write_faults sink.new }
 {
     match write_usage(sink) {
         Ok(()) => Status::Usage,
@@ -118,9 +116,7 @@ fn show_usage<W: Sink>(sink: &mut W) -> Status
 
 #[tactic(auto, unfolding(crate::specs::Login::usage_text))]
 fn write_usage<W: Sink>(sink: &mut W) -> Result<(), Failed>
-    ensures writes { Writes result (W.written sink.old) (W.written sink.new) usage_text }
-    ensures counted { OnErr result (W.write_faults sink.new ≤ W.write_faults sink.old → W.last_write_fault ≡ Some (W.write_faults sink.new)) }
-    ensures never_falls { W.write_faults sink.old ≤ W.write_faults sink.new }
+    ensures { Appends W.written W.write_faults W.last_write_fault result sink.old sink.new usage_text }
 {
     write_line(
         sink,
@@ -129,6 +125,7 @@ fn write_usage<W: Sink>(sink: &mut W) -> Result<(), Failed>
 }
 
 /// Reads a scenario and writes the trace of its run, with names or without.
+#[tactic(auto, unfolding(trace_text::specs::Writes::Appends))]
 fn replay<P: PeerMethod, M: ServerMethod, S: Source, W: Sink>(
     alloc: Global,
     names: bool,
@@ -155,9 +152,7 @@ fn replay<P: PeerMethod, M: ServerMethod, S: Source, W: Sink>(
 /// Writes the first line of a trace.
 #[tactic(auto, unfolding(crate::specs::Scenario::trace_header))]
 fn write_trace_header<W: Sink>(sink: &mut W) -> Result<(), Failed>
-    ensures writes { Writes result (W.written sink.old) (W.written sink.new) trace_header }
-    ensures counted { OnErr result (W.write_faults sink.new ≤ W.write_faults sink.old → W.last_write_fault ≡ Some (W.write_faults sink.new)) }
-    ensures never_falls { W.write_faults sink.old ≤ W.write_faults sink.new }
+    ensures { Appends W.written W.write_faults W.last_write_fault result sink.old sink.new trace_header }
 {
     write_line(sink, b"eap-trace 1")
 }

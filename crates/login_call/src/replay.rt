@@ -32,7 +32,7 @@ pub struct Replay<P, S> {
 
 impl<P: PeerMethod, S: ServerMethod> Replay<P, S> {
     ghost use Rattle.login_call.specs.Replay.{starts, steps, end_of};
-    ghost use Rattle.login_call.specs.Commands.{Takes, Troubles, Closes, Closing, ends};
+    ghost use Rattle.login_call.specs.Commands.{AnswersLine, AnswersEnd, Closing, ends};
     ghost use Rattle.scenario_text.specs.Reading.{no_settings};
     ghost use Rattle.scenario_text.specs.declared.scenario.Phase.TheVariants as Phase;
     ghost use Rattle.std.specs.Prelude.{true};
@@ -51,13 +51,15 @@ impl<P: PeerMethod, S: ServerMethod> Replay<P, S> {
     }
 
     /// The line `events`: the world starts.
+    #[tactic(auto, unfolding(trace_text::specs::Writes::Appends))]
     fn start<W: Sink>(&mut self, sink: &mut W, setup: Setup) -> Result<Next, Trouble>
         requires valid { IsValidSetup setup }
         requires ready { IsReady P.peer_shown S.server_shown self.old 0 }
         ensures ready_after { IfOk result (λ next. IsReady P.peer_shown S.server_shown self.new 0) }
-        ensures takes { Takes result (starts (seen_of P.peer_shown S.server_shown self.old) setup) (W.written sink.old) (W.written sink.new) (seen_of P.peer_shown S.server_shown self.new) }
-        ensures trouble { Troubles result W.last_write_fault (W.write_faults sink.old) (W.write_faults sink.new) true }
-        ensures never_falls { W.write_faults sink.old ≤ W.write_faults sink.new }
+        ensures answers {
+            AnswersLine W.written W.write_faults W.last_write_fault result sink.old sink.new
+                (starts (seen_of P.peer_shown S.server_shown self.old) setup) true (seen_of P.peer_shown S.server_shown self.new)
+        }
     {
         if self.world.is_some() {
             return Ok(Next::Goes);
@@ -81,10 +83,12 @@ impl<P: PeerMethod, S: ServerMethod> Replay<P, S> {
     }
 
     /// The end of the input, after the line `end`.
+    #[tactic(auto, unfolding(trace_text::specs::Writes::Appends))]
     fn end<W: Sink>(&self, sink: &mut W) -> Result<Close, Failed>
-        ensures closes { Closes result (record { text = end_of (seen_of P.peer_shown S.server_shown self.now).world; closed = ends Status.Done }) (W.written sink.old) (W.written sink.new) }
-        ensures counted { OnErr result (W.write_faults sink.new ≤ W.write_faults sink.old → W.last_write_fault ≡ Some (W.write_faults sink.new)) }
-        ensures never_falls { W.write_faults sink.old ≤ W.write_faults sink.new }
+        ensures {
+            AnswersEnd W.written W.write_faults W.last_write_fault result sink.old sink.new
+                (record { text = end_of (seen_of P.peer_shown S.server_shown self.now).world; closed = ends Status.Done })
+        }
     {
         match &self.world {
             None => Ok(Close::Ends(Status::Done)),
@@ -96,12 +100,14 @@ impl<P: PeerMethod, S: ServerMethod> Replay<P, S> {
     }
 
     /// An event.
+    #[tactic(auto, unfolding(trace_text::specs::Writes::Appends))]
     fn step<W: Sink>(&mut self, sink: &mut W, event: &Event) -> Result<Next, Trouble>
         requires ready { IsReady P.peer_shown S.server_shown self.old 0 }
         ensures ready_after { IfOk result (λ next. IsReady P.peer_shown S.server_shown self.new 0) }
-        ensures takes { Takes result (steps (seen_of P.peer_shown S.server_shown self.old) event.now) (W.written sink.old) (W.written sink.new) (seen_of P.peer_shown S.server_shown self.new) }
-        ensures trouble { Troubles result W.last_write_fault (W.write_faults sink.old) (W.write_faults sink.new) true }
-        ensures never_falls { W.write_faults sink.old ≤ W.write_faults sink.new }
+        ensures answers {
+            AnswersLine W.written W.write_faults W.last_write_fault result sink.old sink.new
+                (steps (seen_of P.peer_shown S.server_shown self.old) event.now) true (seen_of P.peer_shown S.server_shown self.new)
+        }
     {
         let names = self.names;
         match &mut self.world {
