@@ -35,7 +35,8 @@ ends_after status.Memory before mid now front a e w = front_after before mid now
 ends_after status.TooMuch before mid now front a e w = gives_after status.TooMuch before mid now front a e w
 ends_after status.Findings before mid now front a e w = gives_after status.Findings before mid now front a e w
 
-pub finishes_after : {S : Type 0} (written : S → Option (List ℕ)) (faults : S → ℕ) (last : Option ℕ) (result : Status) (before mid now : S) (front : List ℕ) (a : Answer)
+pub finishes_after : {S : Type 0} (written : S → Option (List ℕ)) (faults : S → ℕ) (last : Option ℕ)
+    (result : Status) (before mid now : S) (front : List ℕ) (a : Answer)
     → append_known (written before) front ≡ written mid → faults before ≤ faults mid
     → Finishes written faults last result mid now a → Finishes written faults last result before now (after_text front a)
 finishes_after written faults last result before mid now front a e f w = record {

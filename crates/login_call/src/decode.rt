@@ -1,6 +1,6 @@
 //! The command `decode`: says what each packet of a list is.
 
-ghost use Rattle.std.specs.Prelude.{◌≡◌, ◌≤◌, ◌<◌, ◌^◌, false};
+ghost use Rattle.std.specs.Prelude.{◌≡◌, ◌<◌, ◌^◌, false};
 ghost use Rattle.login_call.specs.Decode.{is_malformed};
 
 use crate::command::{Close, Command, Next, Trouble};
@@ -48,10 +48,8 @@ impl Decode {
     fn packet<W: Sink>(&mut self, sink: &mut W, octets: &[u8]) -> Result<Next, Trouble>
         requires packets { self.old.packets < 2 ^ 31 }
         requires malformed { self.old.malformed < 2 ^ 31 }
-        ensures answers {
-            AnswersLine W.written W.write_faults W.last_write_fault result sink.old sink.new
-                (took_packet self.old (Ok (Some octets.now))) false self.new
-        }
+        ensures answers { AnswersLine W.written W.write_faults W.last_write_fault result sink.old sink.new
+            (took_packet self.old (Ok (Some octets.now))) false self.new }
         ensures after { self.new ≡ with_packet self.old octets.now }
     {
         self.packets += 1;

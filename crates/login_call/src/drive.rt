@@ -1,7 +1,7 @@
 //! The lines of an input, one after the other, to a command.
 
 ghost use Rattle.std.specs.Prelude.{◌≡◌, ◌≤◌, ◌+◌, ℕ, List, Option, Some, true};
-ghost use Rattle.eap_base.specs.Lines.{lines, max_input};
+ghost use Rattle.eap_base.specs.Lines.{lines};
 ghost use Rattle.login_call.specs.Answers.{Ends, Finishes, IsRefusal, Drains, refusal, after_text};
 ghost use Rattle.login_call.specs.Commands.{answer, lacking, closing_answer, SomeLacks};
 
@@ -25,10 +25,8 @@ fn refuse<W: Sink>(sink: &mut W, line: u32, word: &str, status: Status) -> Statu
 
 /// Meets the end of the input, where the next line would have the number `line`.
 fn close<C: Command, W: Sink>(command: &C, sink: &mut W, line: u32) -> Status
-    ensures {
-        Finishes W.written W.write_faults W.last_write_fault result sink.old sink.new
-            (after_text (C.closing (C.seen command.now)).text (closing_answer line (C.closing (C.seen command.now)).closed))
-    }
+    ensures { Finishes W.written W.write_faults W.last_write_fault result sink.old sink.new
+        (after_text (C.closing (C.seen command.now)).text (closing_answer line (C.closing (C.seen command.now)).closed)) }
 {
     match command.close(sink) {
         Ok(Close::Ends(status)) => status,
@@ -45,17 +43,13 @@ pub fn drive<C: Command, S: Source, W: Sink>(
     sink: &mut W,
 ) -> Status
     requires { C.holds command.old 0 }
-    ensures ends {
-        (octets : List ℕ) → S.left source.old ≡ Some octets
-            → Ends result (W.written sink.old) (W.written sink.new) (answer C.took C.closing 0 (C.seen command.old) (lines octets))
-    }
+    ensures ends { (octets : List ℕ) → S.left source.old ≡ Some octets
+        → Ends result (W.written sink.old) (W.written sink.new) (answer C.took C.closing 0 (C.seen command.old) (lines octets)) }
     ensures drains { Drains result (S.left source.new) }
     ensures read_fault { result ≡ Status.ReadFault → S.read_faults source.new ≤ S.read_faults source.old → S.last_read_fault ≡ Some (S.read_faults source.new) }
     ensures write_fault { result ≡ Status.WriteFault → W.write_faults sink.new ≤ W.write_faults sink.old → W.last_write_fault ≡ Some (W.write_faults sink.new) }
-    ensures memory {
-        result ≡ Status.Memory → (octets : List ℕ) → S.left source.old ≡ Some octets
-            → lacking C.took C.lacks (C.seen command.old) (lines octets) ≡ true
-    }
+    ensures memory { result ≡ Status.Memory → (octets : List ℕ) → S.left source.old ≡ Some octets
+        → lacking C.took C.lacks (C.seen command.old) (lines octets) ≡ true }
     ensures wanting { result ≡ Status.Memory → SomeLacks C.lacks }
     ensures read_never_falls { S.read_faults source.old ≤ S.read_faults source.new }
     ensures write_never_falls { W.write_faults sink.old ≤ W.write_faults sink.new }

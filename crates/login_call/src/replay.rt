@@ -1,9 +1,9 @@
 //! The commands `replay` and `replay names`: a scenario is read line by line, and each event is run as it
 //! comes.
 
-ghost use Rattle.std.specs.Prelude.{◌≡◌, ◌≤◌, None, Some, OnErr, IfOk, ℕ, ◌+◌};
+ghost use Rattle.std.specs.Prelude.{◌≡◌, None, Some, IfOk};
 ghost use Rattle.scenario_text.specs.Valid.{IsValidSetup};
-ghost use Rattle.login_call.specs.Replay.{IsReady, HasBoth, seen_of};
+ghost use Rattle.login_call.specs.Replay.{IsReady, seen_of};
 
 use crate::beginning::world_of;
 use crate::command::{Close, Command, Next, Trouble};
@@ -32,14 +32,20 @@ pub struct Replay<P, S> {
 
 impl<P: PeerMethod, S: ServerMethod> Replay<P, S> {
     ghost use Rattle.login_call.specs.Replay.{starts, steps, end_of};
-    ghost use Rattle.login_call.specs.Commands.{AnswersLine, AnswersEnd, Closing, ends};
+    ghost use Rattle.login_call.specs.Commands.{AnswersLine, AnswersEnd, ends};
     ghost use Rattle.scenario_text.specs.Reading.{no_settings};
     ghost use Rattle.scenario_text.specs.declared.scenario.Phase.TheVariants as Phase;
     ghost use Rattle.std.specs.Prelude.{true};
 
     /// Nothing has been read yet.
     pub fn new(alloc: Global, names: bool, methods: Methods<P, S>) -> Replay<P, S>
-        ensures { result ≡ record { alloc = alloc; names = names; reader = record { phase = Phase.Unread; settings = no_settings }; methods = Some methods; world = None } }
+        ensures { result ≡ record {
+          alloc = alloc;
+          names = names;
+          reader = record { phase = Phase.Unread; settings = no_settings };
+          methods = Some methods;
+          world = None;
+        } }
     {
         Replay {
             alloc,
@@ -56,10 +62,8 @@ impl<P: PeerMethod, S: ServerMethod> Replay<P, S> {
         requires valid { IsValidSetup setup }
         requires ready { IsReady P.peer_shown S.server_shown self.old 0 }
         ensures ready_after { IfOk result (λ next. IsReady P.peer_shown S.server_shown self.new 0) }
-        ensures answers {
-            AnswersLine W.written W.write_faults W.last_write_fault result sink.old sink.new
-                (starts (seen_of P.peer_shown S.server_shown self.old) setup) true (seen_of P.peer_shown S.server_shown self.new)
-        }
+        ensures answers { AnswersLine W.written W.write_faults W.last_write_fault result sink.old sink.new
+            (starts (seen_of P.peer_shown S.server_shown self.old) setup) true (seen_of P.peer_shown S.server_shown self.new) }
     {
         if self.world.is_some() {
             return Ok(Next::Goes);
@@ -85,10 +89,8 @@ impl<P: PeerMethod, S: ServerMethod> Replay<P, S> {
     /// The end of the input, after the line `end`.
     #[tactic(auto, unfolding(trace_text::specs::Writes::Appends))]
     fn end<W: Sink>(&self, sink: &mut W) -> Result<Close, Failed>
-        ensures {
-            AnswersEnd W.written W.write_faults W.last_write_fault result sink.old sink.new
-                (record { text = end_of (seen_of P.peer_shown S.server_shown self.now).world; closed = ends Status.Done })
-        }
+        ensures { AnswersEnd W.written W.write_faults W.last_write_fault result sink.old sink.new
+            (record { text = end_of (seen_of P.peer_shown S.server_shown self.now).world; closed = ends Status.Done }) }
     {
         match &self.world {
             None => Ok(Close::Ends(Status::Done)),
@@ -104,10 +106,8 @@ impl<P: PeerMethod, S: ServerMethod> Replay<P, S> {
     fn step<W: Sink>(&mut self, sink: &mut W, event: &Event) -> Result<Next, Trouble>
         requires ready { IsReady P.peer_shown S.server_shown self.old 0 }
         ensures ready_after { IfOk result (λ next. IsReady P.peer_shown S.server_shown self.new 0) }
-        ensures answers {
-            AnswersLine W.written W.write_faults W.last_write_fault result sink.old sink.new
-                (steps (seen_of P.peer_shown S.server_shown self.old) event.now) true (seen_of P.peer_shown S.server_shown self.new)
-        }
+        ensures answers { AnswersLine W.written W.write_faults W.last_write_fault result sink.old sink.new
+            (steps (seen_of P.peer_shown S.server_shown self.old) event.now) true (seen_of P.peer_shown S.server_shown self.new) }
     {
         let names = self.names;
         match &mut self.world {

@@ -1,6 +1,6 @@
 -- Writing a text part by part.
-use Rattle.std.proofs.Common.{◌≡◌, ℕ, ◌≤◌, ◌+◌, ◌-◌, ◌<◌, List, [], ◌++◌, length, take, drop, map, get_or, Bor, Option, Some, None, Result, Ok, Err}
-use Rattle.std.specs.Prelude.{IsErr}
+use Rattle.std.proofs.Common.{◌≡◌, ℕ, ◌≤◌, ◌+◌, ◌-◌, ◌<◌, List, [], ◌++◌, length, take, drop, map, get_or, Bor, Option, Some, None}
+use Rattle.std.specs.Prelude.{Result, Ok, Err, IsErr}
 use Rattle.std.proofs.Common.{refl, sym, ◌∙◌, ap, subst, arith, append_assoc, append-nil, take-append-drop, add-one, drop-cons}
 use Rattle.std.specs.List.{concat}
 use Rattle.std.proofs.lemmas.Grind.{common_steps}
@@ -101,7 +101,8 @@ module _ {S : Type 0} (written : S → Option (List ℕ)) (faults : S → ℕ) (
       (subst (λ t. Appends written faults last result now after t) (sym e) (appends_front result (Err fault) now after piece more is refl p))
 
   -- nothing is left
-  pub appending_over : (before now : S) (text rest : List ℕ) → Appending before now text rest → rest ≡ [] → Appends written faults last (Ok tt) before now text
+  pub appending_over : (before now : S) (text rest : List ℕ) → Appending before now text rest → rest ≡ []
+      → Appends written faults last (Ok tt) before now text
   appending_over before now text rest a e =
       appending_ends (Ok tt) before now now text rest a (subst (λ t. Appends written faults last (Ok tt) now now t) (sym e) (appends_none tt now))
 
@@ -117,7 +118,8 @@ module _ {S : Type 0} (written : S → Option (List ℕ)) (faults : S → ℕ) (
 
   -- a fault came, and nothing was written
   pub appends_nothing : (result : Result (Unit {0}) Failed) (before after : S) (text : List ℕ) → IsErr result → written after ≡ written before
-      → (faults after ≤ faults before → last ≡ Some (faults after)) → faults before ≤ faults after → Appends written faults last result before after text
+      → (faults after ≤ faults before → last ≡ Some (faults after)) → faults before ≤ faults after
+      → Appends written faults last result before after text
   unfolding Appends
   appends_nothing (Ok done) before after text is e h f = absurd cc
   appends_nothing (Err fault) before after text is e h f = record {

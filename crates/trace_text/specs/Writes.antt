@@ -15,13 +15,15 @@ abbrev pub Writes : {A : Type 0} → Result A Failed → Option (List ℕ) → O
 Writes (Ok done) before after text = append_known before text ≡ after
 Writes (Err fault) before after text = WritesFront before after text
 
--- what a writer does to a sink, by what the sink tells of itself: the text was written, or a front of it;
--- a write failed only where the count of faults rose, or stands at its last value; that count never falls
-pub record Appended {S : Type 0} (written : S → Option (List ℕ)) (faults : S → ℕ) (last : Option ℕ)
-    (result : Result (Unit {0}) Failed) (before after : S) (text : List ℕ) : Type 0 where
-  pub writes : Writes result (written before) (written after) text
-  pub counted : OnErr result (faults after ≤ faults before → last ≡ Some (faults after))
-  pub never_falls : faults before ≤ faults after
+-- by what a sink tells of itself: its octets, its count of faults, and the last value of that count
+module _ {S : Type 0} (written : S → Option (List ℕ)) (faults : S → ℕ) (last : Option ℕ) where
+  -- what a writer does to a sink: the text was written, or a front of it; a write failed only where the count
+  -- of faults rose, or stands at its last value; that count never falls
+  pub record Appended (result : Result (Unit {0}) Failed) (before after : S) (text : List ℕ) : Type 0 where
+    pub writes : Writes result (written before) (written after) text
+    pub counted : OnErr result (faults after ≤ faults before → last ≡ Some (faults after))
+    pub never_falls : faults before ≤ faults after
 
-unfoldable pub Appends : {S : Type 0} → (S → Option (List ℕ)) → (S → ℕ) → Option ℕ → Result (Unit {0}) Failed → S → S → List ℕ → Type 0
-Appends written faults last result before after text = Appended written faults last result before after text
+  -- the same in a word that a search takes whole
+  unfoldable pub Appends : Result (Unit {0}) Failed → S → S → List ℕ → Type 0
+  Appends result before after text = Appended result before after text

@@ -1,6 +1,6 @@
 //! Ciphers, MACs and keys that are asked for, each in a line with its name.
 
-ghost use Rattle.std.specs.Prelude.{◌≡◌, ◌≤◌, Some, OnErr, length, ◌++◌, codes};
+ghost use Rattle.std.specs.Prelude.{◌≤◌, length};
 ghost use Rattle.eax_mode.specs.Eax.{eax_sealed};
 ghost use Rattle.trace_text.specs.Writes.{Appends};
 ghost use Rattle.scenario_text.specs.Keys.{HasSizes};

@@ -1,6 +1,5 @@
 //! Lines that every command writes.
 
-ghost use Rattle.std.specs.Prelude.{◌≡◌, ◌≤◌, Some, OnErr};
 ghost use Rattle.trace_text.specs.Writes.{Appends};
 ghost use Rattle.trace_text.specs.Lines.{line_text, refused_text};
 

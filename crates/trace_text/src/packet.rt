@@ -1,9 +1,7 @@
 //! A packet in one line.
 
-ghost use Rattle.std.specs.Prelude.{◌≡◌, ◌≤◌, ◌-◌, Some, None, OnErr, length, [], ◌∷◌, ◌++◌, codes, decimal};
+ghost use Rattle.std.specs.Prelude.{◌≡◌, ◌≤◌, ◌-◌, None, length, [], ◌∷◌, ◌++◌, decimal};
 ghost use Rattle.std.specs.List.{concat};
-ghost use Rattle.eap_packet.specs.Words.{cause_word};
-ghost use Rattle.eap_packet.specs.Fault.{length_of, packet_of};
 ghost use Rattle.psk_messages.specs.Message as psk;
 ghost use Rattle.psk_messages.specs.Reading as psk_reading;
 ghost use Rattle.gpsk_messages.specs.Message as gpsk;

@@ -1,6 +1,6 @@
 //! Octets to a sink, whole.
 
-ghost use Rattle.std.specs.Prelude.{◌≡◌, ◌≤◌, List, ℕ, Some, OnErr, map};
+ghost use Rattle.std.specs.Prelude.{◌≡◌, List, ℕ, map};
 ghost use Rattle.std.specs.List.{concat};
 ghost use Rattle.trace_text.specs.Writes.{Appends};
 

@@ -1,7 +1,7 @@
 //! The trace of a run: lines of words, each ended by LF. States have their names of RFC 4137, packets the
 //! fields of RFC 3748 section 4.
 
-ghost use Rattle.std.specs.Prelude.{◌≡◌, ◌≤◌, Some, OnErr, length, slice_index, [], ◌∷◌, ◌++◌, codes, decimal};
+ghost use Rattle.std.specs.Prelude.{◌≡◌, Some, length, slice_index, [], ◌∷◌, codes, decimal};
 ghost use Rattle.std.specs.List.{concat};
 ghost use Rattle.trace_text.specs.Writes.{Appends};
 ghost use Rattle.trace_text.specs.Run.{state_text, party_word, port_word, skip_word, code_word, states_text, path_text, party_text};

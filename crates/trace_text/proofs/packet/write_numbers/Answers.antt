@@ -13,7 +13,8 @@ loop-octet-preserved g c =
 
 pub returns-in_err-write_number : goal.returns-in_err-write_number
 returns-in_err-write_number g c =
-    appending_cut _ _ _ _ _ _ _ _ _ _ _ _ c.from_residual.ensures.0 (numbers_text-drop _ _ _ c.loop-octet-test.true) c.loop-octet.invariant c.in_err-write_number.ensures
+    appending_cut _ _ _ _ _ _ _ _ _ _ _ _ c.from_residual.ensures.0 (numbers_text-drop _ _ _ c.loop-octet-test.true)
+    c.loop-octet.invariant c.in_err-write_number.ensures
 
 pub returns : goal.returns
 returns g c =

@@ -5,4 +5,5 @@ use Rattle.trace_text.proofs.packet.write_numbers.Given as goal
 
 abbrev pub invariant-loop-octet : goal.invariant-loop-octet
 invariant-loop-octet g l =
-    Appending g.W.Sink.written g.W.Sink.write_faults g.W.Sink.last_write_fault l.initial.sink l.sink (numbers_text l.octets) (numbers_text (drop l.octet-index l.octets))
+    Appending g.W.Sink.written g.W.Sink.write_faults g.W.Sink.last_write_fault l.initial.sink l.sink
+    (numbers_text l.octets) (numbers_text (drop l.octet-index l.octets))

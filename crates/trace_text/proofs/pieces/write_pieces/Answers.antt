@@ -10,4 +10,5 @@ loop-piece-preserved g c =
 
 pub returns-in_err-write_whole : goal.returns-in_err-write_whole
 returns-in_err-write_whole g c text e =
-    rw e (appending_cut _ _ _ _ _ _ _ _ _ _ _ _ c.from_residual.ensures.0 (joined-drop _ _ _ c.loop-piece-test.true) c.loop-piece.invariant c.in_err-write_whole.ensures)
+    rw e (appending_cut _ _ _ _ _ _ _ _ _ _ _ _ c.from_residual.ensures.0 (joined-drop _ _ _ c.loop-piece-test.true)
+    c.loop-piece.invariant c.in_err-write_whole.ensures)

@@ -13,7 +13,8 @@ loop-state-preserved g c =
 
 pub returns-in_err-write_state : goal.returns-in_err-write_state
 returns-in_err-write_state g c =
-    appending_cut _ _ _ _ _ _ _ _ _ _ _ _ c.from_residual.ensures.0 (states_text-drop _ _ _ c.loop-state-test.true) c.loop-state.invariant c.in_err-write_state.ensures
+    appending_cut _ _ _ _ _ _ _ _ _ _ _ _ c.from_residual.ensures.0 (states_text-drop _ _ _ c.loop-state-test.true)
+    c.loop-state.invariant c.in_err-write_state.ensures
 
 pub returns : goal.returns
 returns g c =
