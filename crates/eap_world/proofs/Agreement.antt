@@ -6,9 +6,8 @@ use Rattle.eap_base.specs.declared.setup.PeerSetup.{PeerSetup}
 use Rattle.eap_base.specs.declared.setup.ServerSetup.{ServerSetup}
 use Rattle.eap_base.specs.declared.setup.Setup.{Setup}
 use Rattle.eap_method.specs.declared.tags.TagRecord.{TagRecord}
-use Rattle.eap_method.specs.Steps.{is_end}
-use Rattle.peer_machine.specs.PeerTable.{PeerNow, peer_reports, peer_deliver, peer_idle, peer_alt_accept, peer_alt_reject}
-use Rattle.server_machine.specs.ServerTable.{ServerNow, server_start, server_reports, server_deliver, server_timeout}
+use Rattle.peer_machine.specs.PeerTable.{PeerNow, peer_reports}
+use Rattle.server_machine.specs.ServerTable.{ServerNow, server_start, server_reports}
 use Rattle.eap_world.specs.Book.{first_broken, verdict_on, tags_verdict}
 use Rattle.eap_world.specs.declared.book.TagsVerdict.TheVariants.{Honest}
 use Rattle.eap_world.specs.Verdict.{verdict_of, is_success, judged}
@@ -22,7 +21,7 @@ use Rattle.eap_world.specs.ServerStands as server
 use Rattle.eap_world.specs.ServerStands.{ServerStands}
 use Rattle.eap_world.specs.Records.{AreIn, tags_by}
 use Rattle.eap_world.proofs.Booked.{honest_tags}
-use Rattle.eap_world.proofs.Running.{BothStand, run_stands, PeerKeeps, ServerKeeps}
+use Rattle.eap_world.proofs.Running.{BothStand, run_stands}
 use Rattle.eap_world.proofs.PeerKeeps as peer_calls
 use Rattle.eap_world.proofs.ServerKeeps as server_calls
 use Rattle.eap_world.proofs.Agreeing.{ends_agree}
@@ -76,24 +75,6 @@ module _
 
 -- ---- every run
 
-peer_answers : (peer : PeerNow) (octets : List ℕ) → PeerKeeps peer (peer_deliver peer octets)
-peer_answers peer octets = record { keeps = λ setup accepted made stands. peer_calls.keeps_deliver setup peer accepted made octets stands }
-
-peer_idles : (peer : PeerNow) → is_end peer.vars.state ≡ false → PeerKeeps peer (peer_idle peer)
-peer_idles peer goes = record { keeps = λ setup accepted made stands. peer_calls.keeps_idle setup peer accepted made stands }
-
-peer_accepts : (peer : PeerNow) → is_end peer.vars.state ≡ false → PeerKeeps peer (peer_alt_accept peer)
-peer_accepts peer goes = record { keeps = λ setup accepted made stands. peer_calls.keeps_alt_accept setup peer accepted made stands }
-
-peer_rejects : (peer : PeerNow) → is_end peer.vars.state ≡ false → PeerKeeps peer (peer_alt_reject peer)
-peer_rejects peer goes = record { keeps = λ setup accepted made stands. peer_calls.keeps_alt_reject setup peer accepted made stands }
-
-server_answers : (server : ServerNow) (octets : List ℕ) → ServerKeeps server (server_deliver server octets)
-server_answers server octets = record { keeps = λ setup accepted made stands. server_calls.keeps_deliver setup server accepted made octets stands }
-
-server_times : (server : ServerNow) → is_end server.vars.state ≡ false → ServerKeeps server (server_timeout server)
-server_times server goes = record { keeps = λ setup accepted made stands. server_calls.keeps_timeout setup server accepted made stands }
-
 -- the start makes no tag
 start_stands : (setup : Setup) → (let w = (world_start (world_made setup)).after in BothStand setup w.peer w.server w.book)
 unfolding world_start server_start tags_by
@@ -105,7 +86,7 @@ start_stands setup = record {
 pub every_run_stands : (setup : Setup) (events : List Event)
     → (let w = run_of setup events in BothStand setup w.peer w.server w.book)
 every_run_stands setup events =
-    run_stands peer_answers peer_idles peer_accepts peer_rejects server_answers server_times setup (world_start (world_made setup)).after events (start_stands setup)
+    run_stands setup (world_start (world_made setup)).after events (start_stands setup)
 
 -- ---- the verdict
 

@@ -9,8 +9,12 @@ use Rattle.eap_base.specs.declared.setup.Port.TheVariants as port
 use Rattle.eap_base.specs.declared.setup.Setup.{Setup}
 use Rattle.eap_method.specs.declared.tags.Tags.{Tags}
 use Rattle.eap_method.specs.declared.values.Report.{Report}
+use Rattle.peer_machine.specs.Inputs.{peer_takes}
 use Rattle.peer_machine.specs.PeerTable.{PeerNow, peer_reports}
+use Rattle.peer_machine.proofs.Discards as peer_discards
+use Rattle.server_machine.specs.Inputs.{server_takes}
 use Rattle.server_machine.specs.ServerTable.{ServerNow, server_start, server_reports}
+use Rattle.server_machine.proofs.Discards as server_discards
 use Rattle.eap_world.specs.Book.{booked}
 use Rattle.eap_world.specs.Laws.{HasToldReports, DiscardsKeep, RunsTellReports}
 use Rattle.eap_world.specs.World.{Acted, WorldNow, act, booked_by, first_report, held_after, named_by, run_after, sent_by, sent_to, told_of, world_made, world_start, world_step}
@@ -44,9 +48,9 @@ record ActKeeps (peer : PeerNow) (server : ServerNow) (out : Acted) : Type 0 whe
 
 acts-keep : (peer : PeerNow) (server : ServerNow) (out : Acted) → Acts peer server out → ActKeeps peer server out
 acts-keep peer server _ (nobody skip) = record { keeps = λ event number named is_discard. cc is_discard }
-acts-keep peer server _ (the_peer is_delivery out kept) = record {
+acts-keep peer server _ (the_peer is_delivery input) = record {
   keeps = λ event number named is_discard.
-      let same = kept.keeps is_discard in
+      let same = peer_discards.discards_keep peer input is_discard in
       record {
         same_peer = same.all;
         same_server = refl;
@@ -56,9 +60,9 @@ acts-keep peer server _ (the_peer is_delivery out kept) = record {
             (tells_once held.peer party.Peer (peer_reports peer) told.peer_told);
       };
 }
-acts-keep peer server _ (the_server is_delivery out kept) = record {
+acts-keep peer server _ (the_server is_delivery input later) = record {
   keeps = λ event number named is_discard.
-      let same = kept.keeps is_discard in
+      let same = server_discards.discards_keep server input is_discard in
       record {
         same_peer = refl;
         same_server = same.all;
@@ -110,13 +114,13 @@ server_names_alone false other (Some report) = refl
 acts-tell : (held : Held) (peer : PeerNow) (server : ServerNow) (out : Acted) → Acts peer server out → AreTold held peer server
     → AreTold (held_after held (named_by held out out.action)) out.peer out.server
 acts-tell held peer server _ (nobody skip) told = told
-acts-tell held peer server _ (the_peer is_delivery out kept) told = record {
-  peer_told = peer_names held.peer held.server (peer_reports out.after);
-  server_told = λ is. peer_names_alone held.peer held.server (peer_reports out.after) ∙ told.server_told is;
+acts-tell held peer server _ (the_peer is_delivery input) told = record {
+  peer_told = peer_names held.peer held.server (peer_reports (peer_takes peer input).after);
+  server_told = λ is. peer_names_alone held.peer held.server (peer_reports (peer_takes peer input).after) ∙ told.server_told is;
 }
-acts-tell held peer server _ (the_server is_delivery out kept) told = record {
-  peer_told = λ is. server_names_alone held.server held.peer (server_reports out.after) ∙ told.peer_told is;
-  server_told = server_names held.server held.peer (server_reports out.after);
+acts-tell held peer server _ (the_server is_delivery input later) told = record {
+  peer_told = λ is. server_names_alone held.server held.peer (server_reports (server_takes server input).after) ∙ told.peer_told is;
+  server_told = server_names held.server held.peer (server_reports (server_takes server input).after);
 }
 
 step-tells : (w : WorldNow) (e : Event) → HasToldReports w → HasToldReports (world_step w e).after

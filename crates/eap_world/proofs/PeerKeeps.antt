@@ -1,15 +1,11 @@
--- Each call of the peer keeps what stands of it.
-use Rattle.std.proofs.Common.{◌≡◌, ℕ, ◌≤◌, length, List, [], ◌∷◌, ◌++◌, Bool, true, false, if◌then◌else◌, Option, Some, None, Result, Ok, Err, refl, sym, ap, ◌∙◌, subst, arith, append-nil}
-use Rattle.std.specs.Prelude.{◌==◌}
+-- Every input of the peer keeps what stands of it.
+use Rattle.std.proofs.Common.{◌≡◌, ℕ, ◌≤◌, length, List, [], ◌∷◌, ◌++◌, Bool, true, false, if◌then◌else◌, Some, None, Ok, refl, sym, ap, ◌∙◌, subst, arith, append-nil}
+use Rattle.std.specs.Prelude.{◌==◌, ◌&&◌}
 use Rattle.std.proofs.lemmas.Bool.{cond_both, eqb-true}
 use Rattle.eap_base.specs.declared.setup.PeerSetup.{PeerSetup}
 use Rattle.eap_base.specs.declared.setup.Suite.{Suite}
 use Rattle.eap_base.specs.Setup.{psk_kind, gpsk_kind, is_among}
-use Rattle.eap_packet.specs.Fault.{packet_of}
-use Rattle.eap_packet.specs.Packet.{PacketValue, request, response, success, failure, spelled}
-use Rattle.eap_packet.specs.declared.cause.Cause.{Cause}
 use Rattle.eap_packet.specs.declared.state.State.{State}
-use Rattle.eap_packet.specs.declared.state.State.TheVariants as state
 use Rattle.gpsk_messages.specs.Message.{Message, gpsk1}
 use Rattle.gpsk_messages.specs.Reading as gpsk_reading
 use Rattle.psk_messages.specs.Message.{psk1}
@@ -17,6 +13,7 @@ use Rattle.psk_messages.specs.Reading as psk_reading
 use Rattle.login_policy.specs.Policy.{picked_suite}
 use Rattle.eap_method.specs.declared.tags.TagRecord.{TagRecord}
 use Rattle.eap_method.specs.declared.tags.Tags.{Tags}
+use Rattle.eap_method.specs.declared.turn.PeerTurn.{PeerTurn}
 use Rattle.eap_method.specs.declared.turn.PeerTurn.TheVariants.{Reply}
 use Rattle.eap_method.specs.declared.values.Credential.{Credential}
 use Rattle.eap_method.specs.declared.values.Decision.{Decision}
@@ -28,13 +25,17 @@ use Rattle.eap_method.specs.Names.{accepts_name}
 use Rattle.eap_method.specs.Peer.{PeerViews, credential_for, views_begun, peer_turn}
 use Rattle.eap_method.specs.PskPeer as psk
 use Rattle.eap_method.specs.PskTags.{header_of}
-use Rattle.eap_method.specs.Steps.{no_tags, is_end}
+use Rattle.eap_method.specs.Steps.{no_tags}
 use Rattle.eap_method.specs.Turns.{PeerOutcome, id_of, body_of}
 use Rattle.method_laws.specs.GpskPeerRows as gpsk_row
 use Rattle.method_laws.specs.PskPeerRows as psk_row
 use Rattle.method_laws.proofs.GpskPeerCases.{gpsk_peer_steps_are_rows}
 use Rattle.method_laws.proofs.PskPeerCases.{psk_peer_steps_are_rows}
-use Rattle.peer_machine.specs.PeerTable.{PeerNow, PeerAnswer, answer, with_vars, peer_made, is_cont, is_done, is_fail, is_last_id, is_uncond, method_answers, peer_method, get_method, new_request, peer_success, peer_failure, peer_row, peer_deliver, peer_idle, peer_alt_accept, peer_alt_reject}
+use Rattle.peer_machine.specs.Inputs.{PeerInput, peer_takes}
+use Rattle.peer_machine.specs.PeerTable.{PeerNow, PeerAnswer, with_vars, peer_made, is_done, is_fail, method_answers, peer_respond, peer_ends}
+use Rattle.peer_machine.specs.Rows as rows
+use Rattle.peer_machine.specs.Rows.{Calls, first, again}
+use Rattle.peer_machine.proofs.PeerRows.{peer_answers_are_rows}
 use Rattle.peer_machine.specs.declared.variables.PeerVariables.{PeerVariables}
 use Rattle.eap_world.specs.Verdict.{is_success}
 use Rattle.eap_world.specs.Records.{AreFew}
@@ -75,22 +76,18 @@ stays setup now accepted made vars same_setup same_selected same_decision sure (
 stays setup now accepted made vars same_setup same_selected same_decision sure (gpsk_succeeds login list message own is_selected in_view facts decided) =
     gpsk_succeeds login list message (same_setup ∙ own) (same_selected ∙ is_selected) in_view facts (same_decision ∙ decided)
 
--- the method of this Type is called: none is selected, or it is
-data Calls (now : PeerNow) (kind : ℕ) : Type 0 where
-  first : now.vars.selected ≡ None → Calls now kind
-  again : now.vars.selected ≡ Some kind → Calls now kind
-
-called : (now : PeerNow) (kind other : ℕ) → Calls now kind → now.vars.selected ≡ Some other → kind ≡ other
-called now kind other (first none) is_selected = cc
-called now kind other (again it) is_selected = cc
+-- the method that is called is the one that was selected
+called : {selects : Bool} (now : PeerNow) (kind other : ℕ) → Calls now kind selects → now.vars.selected ≡ Some other → kind ≡ other
+called now kind other (first none allowed) is_selected = cc
+called now kind other (again it undone) is_selected = cc
 
 apart : psk_kind ≡ gpsk_kind → ⊥
 apart same = omega arith
 
-psk_alone : (now : PeerNow) → Calls now psk_kind → now.vars.selected ≡ Some gpsk_kind → ⊥
+psk_alone : {selects : Bool} (now : PeerNow) → Calls now psk_kind selects → now.vars.selected ≡ Some gpsk_kind → ⊥
 psk_alone now calls is_selected = apart (called now psk_kind gpsk_kind calls is_selected)
 
-gpsk_alone : (now : PeerNow) → Calls now gpsk_kind → now.vars.selected ≡ Some psk_kind → ⊥
+gpsk_alone : {selects : Bool} (now : PeerNow) → Calls now gpsk_kind selects → now.vars.selected ≡ Some psk_kind → ⊥
 gpsk_alone now calls is_selected = apart (sym (called now gpsk_kind psk_kind calls is_selected))
 
 -- what a view that has begun is
@@ -165,7 +162,7 @@ module _ (setup : PeerSetup) (selects : Bool) (now : PeerNow) (id : ℕ) (octets
       Keeps setup accepted made (method_answers selects now gpsk_kind id (record now.views { gpsk = out.after }) out.turn)
 
   module _ (cred : Credential) (nonce rand_s id_s packet : List ℕ) where
-    psk_answers : (accepted made : List TagRecord) → Calls now psk_kind → PeerStands setup now accepted made
+    psk_answers : (accepted made : List TagRecord) → Calls now psk_kind selects → PeerStands setup now accepted made
         → now.views.psk ≡ psk.fresh cred nonce → psk_reading.read_of (body_of octets) ≡ Ok (psk1 rand_s id_s)
         → accepts_name cred.accepts id_s ≡ true
         → (let login = psk_row.login_from cred nonce id_s rand_s in
@@ -193,7 +190,7 @@ module _ (setup : PeerSetup) (selects : Bool) (now : PeerNow) (id : ℕ) (octets
     psk_answers accepted made calls (gpsk_succeeds _ _ _ own is_selected in_view facts decided) seen is_read is_accepted = absurd (psk_alone now calls is_selected)
 
   module _ (login : psk.Login) (packet : List ℕ) where
-    psk_confirms : (header mac tag : List ℕ) (sealed number : ℕ) (accepted made : List TagRecord) → Calls now psk_kind
+    psk_confirms : (header mac tag : List ℕ) (sealed number : ℕ) (accepted made : List TagRecord) → Calls now psk_kind selects
         → PeerStands setup now accepted made → now.views.psk ≡ psk.wait login
         → after_psk accepted made
         (record {
@@ -217,7 +214,7 @@ module _ (setup : PeerSetup) (selects : Bool) (now : PeerNow) (id : ℕ) (octets
     psk_confirms header mac tag sealed number accepted made calls (gpsk_fails _ _ _ own is_selected in_view fails unsure few) seen = absurd (psk_alone now calls is_selected)
     psk_confirms header mac tag sealed number accepted made calls (gpsk_succeeds _ _ _ own is_selected in_view facts decided) seen = absurd (psk_alone now calls is_selected)
 
-    psk_refuses : (tags : Tags) → length tags.accepted ≤ 2 → length tags.made ≤ 1 → (accepted made : List TagRecord) → Calls now psk_kind
+    psk_refuses : (tags : Tags) → length tags.accepted ≤ 2 → length tags.made ≤ 1 → (accepted made : List TagRecord) → Calls now psk_kind selects
         → PeerStands setup now accepted made → now.views.psk ≡ psk.wait login
         → after_psk accepted made (record { turn = Reply packet MayCont Fail tags; after = psk.over login false })
     psk_refuses tags two one accepted made calls (begins own none begun fails unsure) seen = absurd (psk_begun_waits setup now.views begun login seen)
@@ -230,7 +227,7 @@ module _ (setup : PeerSetup) (selects : Bool) (now : PeerNow) (id : ℕ) (octets
     psk_refuses tags two one accepted made calls (gpsk_succeeds _ _ _ own is_selected in_view facts decided) seen = absurd (psk_alone now calls is_selected)
 
   module _ (cred : Credential) (nonce id_s rand_s list : List ℕ) (suite : Suite) (packet : List ℕ) where
-    gpsk_answers : (accepted made : List TagRecord) → Calls now gpsk_kind → PeerStands setup now accepted made
+    gpsk_answers : (accepted made : List TagRecord) → Calls now gpsk_kind selects → PeerStands setup now accepted made
         → now.views.gpsk ≡ gpsk.fresh cred nonce → gpsk_reading.read_of None (body_of octets) ≡ Ok (gpsk1 id_s rand_s list)
         → accepts_name cred.accepts id_s ≡ true → picked_suite cred.suites list ≡ Some suite
         → (let login = gpsk_row.login_from cred nonce id_s rand_s suite in
@@ -260,7 +257,7 @@ module _ (setup : PeerSetup) (selects : Bool) (now : PeerNow) (id : ℕ) (octets
     gpsk_answers accepted made calls (gpsk_succeeds _ _ _ own is_selected in_view facts decided) seen is_read is_accepted is_picked = cc
 
   module _ (login : gpsk.Login) (packet : List ℕ) where
-    gpsk_confirms : (message : Message) (accepted made : List TagRecord) → Calls now gpsk_kind
+    gpsk_confirms : (message : Message) (accepted made : List TagRecord) → Calls now gpsk_kind selects
         → PeerStands setup now accepted made → now.views.gpsk ≡ gpsk.wait login
         → after_gpsk accepted made
         (record {
@@ -284,7 +281,7 @@ module _ (setup : PeerSetup) (selects : Bool) (now : PeerNow) (id : ℕ) (octets
     gpsk_confirms message accepted made calls (gpsk_fails _ _ _ own is_selected in_view fails unsure few) seen = cc
     gpsk_confirms message accepted made calls (gpsk_succeeds _ _ _ own is_selected in_view facts decided) seen = cc
 
-    gpsk_refuses : (tags : Tags) → length tags.accepted ≤ 2 → length tags.made ≤ 1 → (accepted made : List TagRecord) → Calls now gpsk_kind
+    gpsk_refuses : (tags : Tags) → length tags.accepted ≤ 2 → length tags.made ≤ 1 → (accepted made : List TagRecord) → Calls now gpsk_kind selects
         → PeerStands setup now accepted made → now.views.gpsk ≡ gpsk.wait login
         → after_gpsk accepted made (record { turn = Reply packet MayCont Fail tags; after = gpsk.over login false })
     gpsk_refuses tags two one accepted made calls (begins own none begun fails unsure) seen = absurd (gpsk_begun_waits setup now.views begun login seen)
@@ -297,7 +294,7 @@ module _ (setup : PeerSetup) (selects : Bool) (now : PeerNow) (id : ℕ) (octets
     gpsk_refuses tags two one accepted made calls (gpsk_succeeds _ _ _ own is_selected in_view facts decided) seen = cc
 
   module _ (accepted made : List TagRecord) (stands : PeerStands setup now accepted made) where
-    psk_keeps : (out : PeerOutcome psk.View) → Calls now psk_kind → psk_row.PskPeerRow now.views.psk octets out → after_psk accepted made out
+    psk_keeps : (out : PeerOutcome psk.View) → Calls now psk_kind selects → psk_row.PskPeerRow now.views.psk octets out → after_psk accepted made out
     psk_keeps out calls (psk_row.drops c) = quiet setup accepted made _ refl stands
     psk_keeps out calls (psk_row.answers cred nonce rand_s id_s in_view is_read is_accepted) =
         psk_answers cred nonce rand_s id_s _ accepted made calls stands in_view is_read is_accepted
@@ -306,7 +303,7 @@ module _ (setup : PeerSetup) (selects : Bool) (now : PeerNow) (id : ℕ) (octets
     psk_keeps out calls (psk_row.confirms_failure login rand_s mac nonce tag sealed in_view _ _ _ _ _ _ _ _ _ _ _) =
         psk_refuses login _ _ (omega arith) (omega arith) accepted made calls stands in_view
 
-    gpsk_keeps : (out : PeerOutcome gpsk.View) → Calls now gpsk_kind → gpsk_row.GpskPeerRow now.views.gpsk octets out → after_gpsk accepted made out
+    gpsk_keeps : (out : PeerOutcome gpsk.View) → Calls now gpsk_kind selects → gpsk_row.GpskPeerRow now.views.gpsk octets out → after_gpsk accepted made out
     gpsk_keeps out calls (gpsk_row.drops c) = quiet setup accepted made _ refl stands
     gpsk_keeps out calls (gpsk_row.answers cred nonce id_s rand_s list suite in_view is_read is_accepted picked) =
         gpsk_answers cred nonce id_s rand_s list suite _ accepted made calls stands in_view is_read is_accepted picked
@@ -319,133 +316,71 @@ not_fail : (decision : Decision) → decision ≡ Fail → is_fail decision ≡ 
 not_fail decision fails sure =
     let told : is_fail decision ≡ true = ap (λ (d : Decision). is_fail d) fails in cc
 
+-- what holds of a test's outcome holds where the test is replaced by its value
+settled_by : {A : Type 0} (P : A → Type 0) (test value : Bool) (x y : A) → test ≡ value → P (if test then x else y) → P (if value then x else y)
+settled_by P test value x y is holds = subst (λ (b : Bool). P (if b then x else y)) is holds
+
 module _ (setup : PeerSetup) (now : PeerNow) (accepted made : List TagRecord) (stands : PeerStands setup now accepted made) where
-  -- what stands of the machine after this call
-  abbrev after_call : PeerAnswer → Type 0
-  after_call out = Keeps setup accepted made out
-
-  discards_keep : (path : List State) (c : Cause) → after_call (answer (record { path = path; cause = Some c; sent = None; tags = no_tags }) now)
-  discards_keep path c = quiet setup accepted made _ refl stands
-
-  -- a Response that is no method's, and the last one again
-  responds_keep : (path : List State) (sent : Option (List ℕ)) (last : Option ℕ) (octets : List ℕ)
-      → after_call (answer (record { path = path; cause = None; sent = sent; tags = no_tags }) (with_vars now (record now.vars { last_id = last; last_response = octets })))
-  responds_keep path sent last octets =
+  -- a Response that is no method's
+  responds_keep : (entered : State) (id : ℕ) (octets : List ℕ) → Keeps setup accepted made (peer_respond now entered id octets)
+  responds_keep entered id octets =
       quiet setup accepted made _ refl
-      (stays setup now accepted made (record now.vars { last_id = last; last_response = octets }) refl refl refl (λ fails unsure. unsure) stands)
-
-  waits_keep : (path : List State) (sent : Option (List ℕ)) → after_call (answer (record { path = path; cause = None; sent = sent; tags = no_tags }) now)
-  waits_keep path sent = quiet setup accepted made _ refl stands
+      (stays setup now accepted made (record now.vars { last_id = Some id; last_response = octets }) refl refl refl (λ fails unsure. unsure) stands)
 
   -- an end: SUCCESS only after a decision other than FAIL
-  ends_keep : (path : List State) (s : State) → (now.vars.decision ≡ Fail → is_success s ≡ false)
-      → after_call (answer (record { path = path; cause = None; sent = None; tags = no_tags }) (with_vars now (record now.vars { state = s })))
-  ends_keep path s sure =
+  ends_keep : (entered : List State) (s : State) → (now.vars.decision ≡ Fail → is_success s ≡ false) → Keeps setup accepted made (peer_ends now entered s)
+  ends_keep entered s sure =
       quiet setup accepted made _ refl
       (stays setup now accepted made (record now.vars { state = s }) refl refl refl (λ fails unsure. sure fails) stands)
 
-  peer_method_keeps : (selects : Bool) (kind id : ℕ) (octets : List ℕ) → Calls now kind → after_call (peer_method selects now kind id octets)
-  unfolding peer_method peer_turn
-  peer_method_keeps selects kind id octets calls =
-      cond_both (kind == psk_kind) _ _ (λ (out : PeerOutcome PeerViews). after_call (method_answers selects now kind id out.after out.turn))
+  -- the turn of the method that is called
+  method_keeps : (selects : Bool) (kind id : ℕ) (octets : List ℕ) → Calls now kind selects
+      → (let out = peer_turn kind now.views octets in Keeps setup accepted made (method_answers selects now kind id out.after out.turn))
+  unfolding peer_turn
+  method_keeps selects kind id octets calls =
+      cond_both (kind == psk_kind) _ _ (λ (out : PeerOutcome PeerViews). Keeps setup accepted made (method_answers selects now kind id out.after out.turn))
       (λ is_psk.
       let same : kind ≡ psk_kind = eqb-true _ _ is_psk in
       let step = psk.step now.views.psk octets in
-      subst (λ (known : ℕ). after_call (method_answers selects now known id (record now.views { psk = step.after }) step.turn)) (sym same)
-      (psk_keeps setup selects now id octets accepted made stands step (subst (λ (known : ℕ). Calls now known) same calls)
+      subst (λ (known : ℕ). Keeps setup accepted made (method_answers selects now known id (record now.views { psk = step.after }) step.turn)) (sym same)
+      (psk_keeps setup selects now id octets accepted made stands step (subst (λ (known : ℕ). Calls now known selects) same calls)
       (psk_peer_steps_are_rows now.views.psk octets)))
-      (λ _. cond_both (kind == gpsk_kind) _ _ (λ (out : PeerOutcome PeerViews). after_call (method_answers selects now kind id out.after out.turn))
+      (λ _. cond_both (kind == gpsk_kind) _ _ (λ (out : PeerOutcome PeerViews). Keeps setup accepted made (method_answers selects now kind id out.after out.turn))
       (λ is_gpsk.
       let same : kind ≡ gpsk_kind = eqb-true _ _ is_gpsk in
       let step = gpsk.step now.views.gpsk octets in
-      subst (λ (known : ℕ). after_call (method_answers selects now known id (record now.views { gpsk = step.after }) step.turn)) (sym same)
-      (gpsk_keeps setup selects now id octets accepted made stands step (subst (λ (known : ℕ). Calls now known) same calls)
+      subst (λ (known : ℕ). Keeps setup accepted made (method_answers selects now known id (record now.views { gpsk = step.after }) step.turn)) (sym same)
+      (gpsk_keeps setup selects now id octets accepted made stands step (subst (λ (known : ℕ). Calls now known selects) same calls)
       (gpsk_peer_steps_are_rows now.views.gpsk octets)))
-      (λ _. discards_keep _ _))
+      (λ _. quiet setup accepted made _ refl stands))
 
-  get_method_keeps : (id kind : ℕ) (octets : List ℕ) → now.vars.selected ≡ None → after_call (get_method now id kind octets)
-  get_method_keeps id kind octets none =
-      cond_both (is_among now.vars.setup.methods kind) _ _ after_call
-      (λ _. peer_method_keeps true kind id octets (first none))
-      (λ _. responds_keep _ _ _ _)
+  turn_keeps : (selects : Bool) (kind id : ℕ) (octets : List ℕ) (turn : PeerTurn) (views : PeerViews) → Calls now kind selects
+      → peer_turn kind now.views octets ≡ record { turn = turn; after = views } → Keeps setup accepted made (method_answers selects now kind id views turn)
+  turn_keeps selects kind id octets turn views calls turned =
+      subst (λ (out : PeerOutcome PeerViews). Keeps setup accepted made (method_answers selects now kind id out.after out.turn)) turned
+      (method_keeps selects kind id octets calls)
 
-  new_request_keeps : (id kind : ℕ) (octets : List ℕ) (selected : Option ℕ) → now.vars.selected ≡ selected
-      → after_call (new_request now id kind octets selected)
-  new_request_keeps id kind octets None is_selected =
-      cond_both (kind == 1) _ _ after_call (λ _. responds_keep _ _ _ _)
-      (λ _. cond_both (kind == 2) _ _ after_call (λ _. responds_keep _ _ _ _)
-      (λ _. get_method_keeps id kind octets is_selected))
-  new_request_keeps id kind octets (Some selected) is_selected =
-      cond_both (kind == 2) _ _ after_call (λ _. discards_keep _ _)
-      (λ _. cond_both (kind == selected) _ _ after_call
-      (λ is_kind. cond_both (is_done now.vars.method_state) _ _ after_call (λ _. discards_keep _ _)
-      (λ _. peer_method_keeps false kind id octets (again (is_selected ∙ sym (ap (λ (known : ℕ). Some known) (eqb-true kind selected is_kind))))))
-      (λ _. discards_keep _ _))
+  row_keeps : (input : PeerInput) (out : PeerAnswer) → rows.PeerRow now input out → Keeps setup accepted made out
+  row_keeps _ _ (rows.ended bytes over) = quiet setup accepted made _ refl stands
+  row_keeps _ _ (rows.rests report over) = quiet setup accepted made _ refl stands
+  row_keeps _ _ (rows.drops bytes path c going) = quiet setup accepted made _ refl stands
+  row_keeps _ _ (rows.waits going fails goes_on) = quiet setup accepted made _ refl stands
+  row_keeps _ _ (rows.identifies bytes id kind body heard unselected is_identity) = responds_keep _ id _
+  row_keeps _ _ (rows.notifies bytes id kind body heard unselected is_notification) = responds_keep _ id _
+  row_keeps _ _ (rows.naks bytes id kind body heard unselected no_identity no_notification barred) = responds_keep _ id _
+  row_keeps _ _ (rows.resends bytes id kind body heard) = quiet setup accepted made _ refl stands
+  row_keeps _ _ (rows.ends_well input entered going sure why) = ends_keep entered _ (λ fails. absurd (not_fail now.vars.decision fails sure))
+  row_keeps _ _ (rows.ends_badly input entered going why) = ends_keep entered _ (λ _. refl)
+  row_keeps _ _ (rows.method_replies bytes selects id kind body packet m d tags views heard calls turned goes_on) =
+      settled_by (Keeps setup accepted made) (is_done m && is_fail d) false _ _ goes_on (turn_keeps selects kind id _ (Reply packet m d tags) views calls turned)
+  row_keeps _ _ (rows.method_fails bytes selects id kind body packet m d tags views heard calls turned has_failed) =
+      settled_by (Keeps setup accepted made) (is_done m && is_fail d) true _ _ has_failed (turn_keeps selects kind id _ (Reply packet m d tags) views calls turned)
 
-  success_keeps : after_call (peer_success now)
-  success_keeps =
-      cond_both (is_fail now.vars.decision) _ _ after_call
-      (λ _. cond_both (is_cont now.vars.method_state) _ _ after_call (λ _. discards_keep _ _) (λ _. ends_keep _ _ (λ _. refl)))
-      (λ sure. ends_keep _ _ (λ fails. absurd (not_fail now.vars.decision fails sure)))
-
-  failure_keeps : after_call (peer_failure now)
-  failure_keeps =
-      cond_both (is_uncond now.vars.decision) _ _ after_call (λ _. discards_keep _ _)
-      (λ _. cond_both (is_cont now.vars.method_state) _ _ after_call (λ _. discards_keep _ _) (λ _. ends_keep _ _ (λ _. refl)))
-
-  row_keeps : (packet : Result PacketValue Cause) → after_call (peer_row now packet)
-  row_keeps (Err c) = discards_keep _ _
-  row_keeps (Ok (request id kind body)) =
-      cond_both (is_last_id now.vars.last_id id) _ _ after_call (λ _. waits_keep _ _)
-      (λ _. new_request_keeps id kind (spelled (request id kind body)) now.vars.selected refl)
-  row_keeps (Ok (response id kind body)) = discards_keep _ _
-  row_keeps (Ok (success id)) =
-      cond_both (is_last_id now.vars.last_id id) _ _ after_call (λ _. success_keeps) (λ _. discards_keep _ _)
-  row_keeps (Ok (failure id)) =
-      cond_both (is_last_id now.vars.last_id id) _ _ after_call (λ _. failure_keeps) (λ _. discards_keep _ _)
-
-  deliver_keeps : (octets : List ℕ) → after_call (peer_deliver now octets)
-  unfolding peer_deliver
-  deliver_keeps octets =
-      cond_both (is_end now.vars.state) _ _ after_call (λ _. discards_keep _ _) (λ _. row_keeps (packet_of octets))
-
-  idle_keeps : after_call (peer_idle now)
-  unfolding peer_idle
-  idle_keeps =
-      ends_keep _ _ (λ fails. ap (λ (decision : Decision). is_success (if is_uncond decision then state.Success else state.Failure)) fails)
-
-  alt_accept_keeps : after_call (peer_alt_accept now)
-  unfolding peer_alt_accept
-  alt_accept_keeps =
-      cond_both (is_fail now.vars.decision) _ _ after_call
-      (λ _. cond_both (is_cont now.vars.method_state) _ _ after_call (λ _. waits_keep _ _) (λ _. ends_keep _ _ (λ _. refl)))
-      (λ sure. ends_keep _ _ (λ fails. absurd (not_fail now.vars.decision fails sure)))
-
-  alt_reject_keeps : after_call (peer_alt_reject now)
-  unfolding peer_alt_reject
-  alt_reject_keeps = ends_keep _ _ (λ _. refl)
-
--- a delivery keeps what stands
-pub keeps_deliver : (setup : PeerSetup) (now : PeerNow) (accepted made : List TagRecord) (octets : List ℕ) → PeerStands setup now accepted made
-    → (let out = peer_deliver now octets in
+-- every input keeps what stands
+pub peer_keeps : (setup : PeerSetup) (now : PeerNow) (accepted made : List TagRecord) (input : PeerInput) → PeerStands setup now accepted made
+    → (let out = peer_takes now input in
     PeerStands setup out.after (accepted ++ out.step.tags.accepted) (made ++ out.step.tags.made))
-keeps_deliver setup now accepted made octets stands = (deliver_keeps setup now accepted made stands octets).stands
-
--- so does each report of the lower layer
-pub keeps_idle : (setup : PeerSetup) (now : PeerNow) (accepted made : List TagRecord) → PeerStands setup now accepted made
-    → (let out = peer_idle now in
-    PeerStands setup out.after (accepted ++ out.step.tags.accepted) (made ++ out.step.tags.made))
-keeps_idle setup now accepted made stands = (idle_keeps setup now accepted made stands).stands
-
-pub keeps_alt_accept : (setup : PeerSetup) (now : PeerNow) (accepted made : List TagRecord) → PeerStands setup now accepted made
-    → (let out = peer_alt_accept now in
-    PeerStands setup out.after (accepted ++ out.step.tags.accepted) (made ++ out.step.tags.made))
-keeps_alt_accept setup now accepted made stands = (alt_accept_keeps setup now accepted made stands).stands
-
-pub keeps_alt_reject : (setup : PeerSetup) (now : PeerNow) (accepted made : List TagRecord) → PeerStands setup now accepted made
-    → (let out = peer_alt_reject now in
-    PeerStands setup out.after (accepted ++ out.step.tags.accepted) (made ++ out.step.tags.made))
-keeps_alt_reject setup now accepted made stands = (alt_reject_keeps setup now accepted made stands).stands
+peer_keeps setup now accepted made input stands = (row_keeps setup now accepted made stands input _ (peer_answers_are_rows now input)).stands
 
 -- a peer has accepted at most two tags and made at most two
 pub peer_few : (setup : PeerSetup) (now : PeerNow) (accepted made : List TagRecord) → PeerStands setup now accepted made → AreFew accepted made

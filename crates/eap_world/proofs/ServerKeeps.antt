@@ -1,7 +1,7 @@
--- Each call of the server keeps what holds of it at every moment.
-use Rattle.std.proofs.Common.{◌≡◌, ℕ, ◌≤◌, length, List, [], ◌∷◌, ◌++◌, true, false, Option, Some, None, Result, Ok, Err, refl, ap, sym, ◌∙◌, arith}
-use Rattle.std.specs.Prelude.{◌==◌, ◌&&◌, ◌+◌, nat_le}
-use Rattle.std.proofs.lemmas.Bool.{cond_both, and_parts, eqb-true}
+-- Every input of the server after its start keeps what holds of it at every moment.
+use Rattle.std.proofs.Common.{◌≡◌, ℕ, ◌≤◌, length, List, [], ◌∷◌, ◌++◌, true, false, Option, Some, None, Ok, refl, ap, sym, subst, ◌∙◌, arith}
+use Rattle.std.specs.Prelude.{◌==◌, ◌+◌}
+use Rattle.std.proofs.lemmas.Bool.{cond_both, eqb-true}
 use Rattle.std.proofs.lemmas.List.{append-nil}
 use Rattle.eap_base.specs.declared.setup.ServerSetup.{ServerSetup}
 use Rattle.eap_base.specs.declared.setup.Suite.{Suite}
@@ -9,18 +9,16 @@ use Rattle.eap_base.specs.declared.users.User.{User}
 use Rattle.eap_base.specs.Setup.{psk_kind, gpsk_kind, is_among}
 use Rattle.eap_base.specs.Suite.{suite_number}
 use Rattle.eap_base.specs.Users.{user_of}
-use Rattle.eap_packet.specs.Fault.{packet_of}
-use Rattle.eap_packet.specs.Packet.{PacketValue, request, response, success, failure, spelled}
 use Rattle.eap_packet.specs.declared.cause.Cause.{Cause}
 use Rattle.eap_packet.specs.declared.state.State.{State}
 use Rattle.gpsk_messages.specs.Message.{Message, gpsk2}
 use Rattle.gpsk_messages.specs.Reading as gpsk_reading
 use Rattle.psk_messages.specs.Message.{psk2}
 use Rattle.psk_messages.specs.Reading as psk_reading
-use Rattle.login_policy.specs.Policy.{next_kind}
 use Rattle.login_policy.proofs.Choices.{next_is_ordered}
 use Rattle.eap_method.specs.declared.tags.TagRecord.{TagRecord}
 use Rattle.eap_method.specs.declared.tags.Tags.{Tags}
+use Rattle.eap_method.specs.declared.turn.ServerTurn.{ServerTurn}
 use Rattle.eap_method.specs.declared.turn.ServerTurn.TheVariants as turn
 use Rattle.eap_method.specs.declared.values.ServerSide.{ServerSide}
 use Rattle.eap_method.specs.GpskServer as gpsk
@@ -34,12 +32,15 @@ use Rattle.method_laws.specs.GpskServerRows as gpsk_rows
 use Rattle.method_laws.specs.PskServerRows as psk_rows
 use Rattle.method_laws.proofs.GpskServerCases.{gpsk_server_steps_are_rows}
 use Rattle.method_laws.proofs.PskServerCases.{psk_server_steps_are_rows}
-use Rattle.server_machine.specs.ServerTable.{ServerNow, ServerAnswer, answer, server_made, identity, nak, next_id, before_proposal, ends_badly, offers, proposes, select_action, method_answers, server_method, is_awaited, is_proposed, hears_identity, current_response, server_row, server_start, server_deliver, server_timeout}
-use Rattle.server_machine.specs.declared.variables.Progress.TheVariants as progress
+use Rattle.server_machine.specs.Inputs.{ServerInput, start, server_takes}
+use Rattle.server_machine.specs.Rows as rows
+use Rattle.server_machine.specs.Rows.{Selects, after_identity, after_nak}
+use Rattle.server_machine.specs.ServerTable.{ServerNow, ServerAnswer, answer, server_made, next_id, ends_badly, offers, method_answers, server_start}
+use Rattle.server_machine.proofs.ServerRows.{server_answers_are_rows}
 use Rattle.server_machine.specs.declared.variables.ServerVariables.{ServerVariables}
 use Rattle.eap_world.specs.Verdict.{is_success}
 use Rattle.eap_world.specs.ServerStands.{PskChecked, GpskChecked, gpsk2_taken, HasNoTags, before, asks_identity, asks_psk, asks_gpsk, refuses_gpsk, ended, ServerStands, begins, psk_checks, psk_succeeds, gpsk_checks, gpsk_bars, gpsk_succeeds, fails}
-use Rattle.eap_world.proofs.ServerViews.{own_of, server_few, GpskIsAsked, GpskIsChecked, IsFresh, PskIsAsked, PskIsChecked, few_grow, few_stay, going_one, gpsk-asked, gpsk-checked, identity-fresh, is_awaited_is, proposed-fresh, psk-asked, psk-checked, recast, side-suites}
+use Rattle.eap_world.proofs.ServerViews.{own_of, server_few, GpskIsAsked, GpskIsChecked, IsFresh, PskIsAsked, PskIsChecked, few_grow, few_stay, going_one, gpsk-asked, gpsk-checked, identity-fresh, proposed-fresh, psk-asked, psk-checked, recast, side-suites}
 
 -- after a call the invariant stands, with the tags of its step
 pub record Keeps (setup : ServerSetup) (accepted made : List TagRecord) (out : ServerAnswer) : Type 0 where
@@ -48,11 +49,6 @@ pub record Keeps (setup : ServerSetup) (accepted made : List TagRecord) (out : S
 -- the world's server before and after its start
 pub server_begins : (setup : ServerSetup) (first_id max_retrans : ℕ) → ServerStands setup (server_made setup first_id max_retrans) [] []
 server_begins setup first_id max_retrans = begins refl refl (before refl)
-
-pub keeps_start : (setup : ServerSetup) (now : ServerNow) → now.vars.setup ≡ setup
-    → (let out = server_start now in ServerStands setup out.after ([] ++ out.step.tags.accepted) ([] ++ out.step.tags.made))
-unfolding server_start
-keeps_start setup now own = begins own refl (asks_identity refl)
 
 pub started_stands : (setup : ServerSetup) (first_id max_retrans : ℕ)
     → (let out = server_start (server_made setup first_id max_retrans) in ServerStands setup out.after [] [])
@@ -92,19 +88,7 @@ untagged : (setup : ServerSetup) (now : ServerNow) (accepted made : List TagReco
 untagged setup now accepted made stands =
     recast setup now accepted made (accepted ++ []) (made ++ []) (sym (append-nil accepted)) (sym (append-nil made)) stands
 
-timeout-keeps : (setup : ServerSetup) (now : ServerNow) (accepted made : List TagRecord) → ServerStands setup now accepted made
-    → Keeps setup accepted made (server_timeout now)
-unfolding server_timeout
-timeout-keeps setup now accepted made stands =
-    cond_both (nat_le (now.vars.retrans_count + 1) now.vars.max_retrans) _ _ (Keeps setup accepted made)
-    (λ _. record { stands = untagged setup (counted now (now.vars.retrans_count + 1)) accepted made (stays setup now (now.vars.retrans_count + 1) accepted made stands) })
-    (λ _. record { stands = fails (accepted ++ []) (made ++ []) (own_of setup now accepted made stands) refl refl (few_stay accepted made (server_few setup now accepted made stands)) })
-
-pub keeps_timeout : (setup : ServerSetup) (now : ServerNow) (accepted made : List TagRecord) → ServerStands setup now accepted made
-    → (let out = server_timeout now in ServerStands setup out.after (accepted ++ out.step.tags.accepted) (made ++ out.step.tags.made))
-keeps_timeout setup now accepted made stands = (timeout-keeps setup now accepted made stands).stands
-
--- what a call of a server in this state, which has not ended, keeps
+-- what a server in this state keeps
 module _ (setup : ServerSetup) (now : ServerNow) (accepted made : List TagRecord) (stands : ServerStands setup now accepted made) where
   own-setup : now.vars.setup ≡ setup
   own-setup = own_of setup now accepted made stands
@@ -121,8 +105,8 @@ module _ (setup : ServerSetup) (now : ServerNow) (accepted made : List TagRecord
   }
 
   -- a proposal by a server without tags
-  module _ (fresh : IsFresh setup now accepted made) (entered : List State) (vars : ServerVariables) (own : vars.setup ≡ setup)
-      (unsure : is_success vars.state ≡ false) (id kind : ℕ) (ordered : is_among vars.setup.methods kind ≡ true) where
+  module _ (entered : List State) (vars : ServerVariables) (fresh : IsFresh setup (record { vars = vars; views = now.views }) accepted made)
+      (id kind : ℕ) (ordered : is_among vars.setup.methods kind ≡ true) where
     begun-keeps : (after : ServerNow) → after.vars.setup ≡ setup → is_success after.vars.state ≡ false → HasNoTags setup after
         → ServerStands setup after (accepted ++ []) (made ++ [])
     begun-keeps after its_own its_unsure no_tags =
@@ -132,23 +116,23 @@ module _ (setup : ServerSetup) (now : ServerNow) (accepted made : List TagRecord
     psk_offer-keeps : kind ≡ psk_kind → (view : Option psk.View)
         → (let offer = psk_offer (side_of vars.setup) vars.setup.nonce (next_id vars) now.views view in
         Keeps setup accepted made (offers entered vars offer.after id kind offer.packet))
-    psk_offer-keeps by_psk None = badly-keeps entered vars _ id own
+    psk_offer-keeps by_psk None = badly-keeps entered vars _ id fresh.own
     psk_offer-keeps by_psk (Some view) = record {
-      stands = begun-keeps _ own unsure (asks_psk
-          (ap (λ (s : ServerSetup). is_among s.methods psk_kind) (sym own) ∙ (ap (λ (k : ℕ). is_among vars.setup.methods k) (sym by_psk) ∙ ordered))
+      stands = begun-keeps _ fresh.own fresh.unsure (asks_psk
+          (ap (λ (s : ServerSetup). is_among s.methods psk_kind) (sym fresh.own) ∙ (ap (λ (k : ℕ). is_among vars.setup.methods k) (sym by_psk) ∙ ordered))
           (ap (λ (k : ℕ). Some k) by_psk)
-          (ap (λ (s : ServerSetup). Some (psk.asked (side_of s) s.nonce)) own));
+          (ap (λ (s : ServerSetup). Some (psk.asked (side_of s) s.nonce)) fresh.own));
     }
 
     gpsk_offer-keeps : kind ≡ gpsk_kind → (view : Option gpsk.View)
         → (let offer = gpsk_offer (side_of vars.setup) vars.setup.nonce (next_id vars) now.views view in
         Keeps setup accepted made (offers entered vars offer.after id kind offer.packet))
-    gpsk_offer-keeps by_gpsk None = badly-keeps entered vars _ id own
+    gpsk_offer-keeps by_gpsk None = badly-keeps entered vars _ id fresh.own
     gpsk_offer-keeps by_gpsk (Some view) = record {
-      stands = begun-keeps _ own unsure (asks_gpsk
-          (ap (λ (s : ServerSetup). is_among s.methods gpsk_kind) (sym own) ∙ (ap (λ (k : ℕ). is_among vars.setup.methods k) (sym by_gpsk) ∙ ordered))
+      stands = begun-keeps _ fresh.own fresh.unsure (asks_gpsk
+          (ap (λ (s : ServerSetup). is_among s.methods gpsk_kind) (sym fresh.own) ∙ (ap (λ (k : ℕ). is_among vars.setup.methods k) (sym by_gpsk) ∙ ordered))
           (ap (λ (k : ℕ). Some k) by_gpsk)
-          (ap (λ (s : ServerSetup). Some (gpsk.asked (side_of s) s.nonce)) own));
+          (ap (λ (s : ServerSetup). Some (gpsk.asked (side_of s) s.nonce)) fresh.own));
     }
 
     offer-keeps : (let offer = server_offer (side_of vars.setup) vars.setup.nonce kind (next_id vars) now.views in
@@ -159,20 +143,15 @@ module _ (setup : ServerSetup) (now : ServerNow) (accepted made : List TagRecord
         (λ by_psk. psk_offer-keeps (eqb-true kind psk_kind by_psk) now.views.psk)
         (λ _. cond_both (kind == gpsk_kind) _ _ (λ (offer : Offer). Keeps setup accepted made (offers entered vars offer.after id kind offer.packet))
         (λ by_gpsk. gpsk_offer-keeps (eqb-true kind gpsk_kind by_gpsk) now.views.gpsk)
-        (λ _. badly-keeps entered vars _ id own))
+        (λ _. badly-keeps entered vars _ id fresh.own))
 
-  proposes-keeps : IsFresh setup now accepted made → (entered : List State) (vars : ServerVariables) → vars.setup ≡ setup → is_success vars.state ≡ false
-      → (id : ℕ) (desired : Option (List ℕ)) (next : Option ℕ) → next_kind vars.setup.methods vars.proposed desired ≡ next
-      → Keeps setup accepted made (proposes entered vars now.views id next)
-  proposes-keeps fresh entered vars own unsure id desired None is_next = badly-keeps entered vars _ id own
-  proposes-keeps fresh entered vars own unsure id desired (Some kind) is_next =
-      offer-keeps fresh entered vars own unsure id kind (next_is_ordered vars.setup.methods vars.proposed desired kind is_next)
-
-  select_action-keeps : IsFresh setup now accepted made → (entered : List State) (vars : ServerVariables) → vars.setup ≡ setup → is_success vars.state ≡ false
-      → (id : ℕ) (desired : Option (List ℕ)) → Keeps setup accepted made (select_action entered vars now.views id desired)
-  unfolding select_action
-  select_action-keeps fresh entered vars own unsure id desired =
-      proposes-keeps fresh entered vars own unsure id desired (next_kind vars.setup.methods vars.proposed desired) refl
+  -- a server that selects a method has no tags
+  selects-fresh : is_end now.vars.state ≡ false → (kind : ℕ) (body : List ℕ) (entered : List State) (vars : ServerVariables) (desired : Option (List ℕ))
+      → Selects now kind body entered vars desired → IsFresh setup (record { vars = vars; views = now.views }) accepted made
+  selects-fresh going kind body _ _ _ (after_identity is_identity is_current) =
+      let fresh : IsFresh setup now accepted made = identity-fresh setup now accepted made going is_current stands in
+      record { own = fresh.own; unsure = fresh.unsure; none_accepted = fresh.none_accepted; none_made = fresh.none_made }
+  selects-fresh going kind body _ _ _ (after_nak is_nak waits) = proposed-fresh setup now accepted made going waits stands
 
   module _ (going : is_end now.vars.state ≡ false) (id : ℕ) (octets : List ℕ) where
     -- a method that ends without success
@@ -352,52 +331,44 @@ module _ (setup : ServerSetup) (now : ServerNow) (accepted made : List TagRecord
     gpsk_hears-keeps by_gpsk (Some view) at_view =
         gpsk_row-keeps by_gpsk view at_view _ (gpsk_server_steps_are_rows now.vars.setup.users (next_id now.vars) view octets)
 
-    server_method-keeps : (kind : ℕ) → now.vars.current ≡ Some kind → Keeps setup accepted made (server_method now id kind octets)
-    unfolding server_method server_turn
-    server_method-keeps kind is_current =
-        cond_both (kind == psk_kind) _ _ (λ (out : ServerOutcome ServerViews). Keeps setup accepted made (method_answers now id out.after out.turn))
+    turn-keeps : (kind : ℕ) → now.vars.current ≡ Some kind → (answered : ServerTurn) (views : ServerViews)
+        → server_turn now.vars.setup.users (next_id now.vars) kind now.views octets ≡ record { turn = answered; after = views }
+        → Keeps setup accepted made (method_answers now id views answered)
+    unfolding server_turn
+    turn-keeps kind is_current answered views turned =
+        subst (λ (out : ServerOutcome ServerViews). Keeps setup accepted made (method_answers now id out.after out.turn)) turned
+        (cond_both (kind == psk_kind) _ _ (λ (out : ServerOutcome ServerViews). Keeps setup accepted made (method_answers now id out.after out.turn))
         (λ by_psk. psk_hears-keeps (is_current ∙ ap (λ (k : ℕ). Some k) (eqb-true kind psk_kind by_psk)) now.views.psk refl)
         (λ _. cond_both (kind == gpsk_kind) _ _ (λ (out : ServerOutcome ServerViews). Keeps setup accepted made (method_answers now id out.after out.turn))
         (λ by_gpsk. gpsk_hears-keeps (is_current ∙ ap (λ (k : ℕ). Some k) (eqb-true kind gpsk_kind by_gpsk)) now.views.gpsk refl)
-        (λ _. discard-keeps _ _))
+        (λ _. discard-keeps _ _)))
 
-  module _ (going : is_end now.vars.state ≡ false) where
-    hears_identity-keeps : (id kind : ℕ) → now.vars.current ≡ Some kind → (kind == identity) ≡ true
-        → Keeps setup accepted made (hears_identity now id)
-    hears_identity-keeps id kind is_current is_identity =
-        let fresh : IsFresh setup now accepted made =
-        identity-fresh setup now accepted made going (is_current ∙ ap (λ (k : ℕ). Some k) (eqb-true kind identity is_identity)) stands in
-        select_action-keeps fresh (before_proposal false) (record now.vars { progress = progress.End }) own-setup fresh.unsure id None
+  row-keeps : (input : ServerInput) (out : ServerAnswer) → (input ≡ start → ⊥) → rows.ServerRow now input out → Keeps setup accepted made out
+  row-keeps _ _ later (rows.ended bytes over) = discard-keeps _ _
+  row-keeps _ _ later (rows.rests over) = record { stands = untagged setup now accepted made stands }
+  row-keeps _ _ later (rows.goes_on is_begun) = absurd (later refl)
+  row-keeps _ _ later (rows.drops bytes path c going) = discard-keeps path c
+  row-keeps _ _ later (rows.starts unstarted) = absurd (later refl)
+  row-keeps _ _ later (rows.resends going in_time) = record { stands = untagged setup _ accepted made (stays setup now (now.vars.retrans_count + 1) accepted made stands) }
+  row-keeps _ _ later (rows.times_out going late) = record {
+    stands = fails (accepted ++ []) (made ++ []) own-setup refl refl (few_stay accepted made (server_few setup now accepted made stands));
+  }
+  row-keeps _ _ later (rows.proposes bytes id kind body entered vars desired next packet views heard selects next_is) =
+      let fresh = selects-fresh heard.going kind body entered vars desired selects in
+      subst (λ (offer : Offer). Keeps setup accepted made (offers entered vars offer.after id next offer.packet)) next_is.is_offer
+      (offer-keeps entered vars fresh id next (next_is_ordered vars.setup.methods vars.proposed desired next next_is.is_next))
+  row-keeps _ _ later (rows.proposes_without bytes id kind body entered vars desired next views heard selects next_is) =
+      badly-keeps entered vars views id (selects-fresh heard.going kind body entered vars desired selects).own
+  row-keeps _ _ later (rows.proposes_none bytes id kind body entered vars desired heard selects none) =
+      badly-keeps entered vars now.views id (selects-fresh heard.going kind body entered vars desired selects).own
+  row-keeps _ _ later (rows.requests bytes id kind body packet tags views heard turned) =
+      turn-keeps heard.going id _ kind turned.is_current _ views turned.is_turn
+  row-keeps _ _ later (rows.succeeds bytes id kind body tags views heard turned) = turn-keeps heard.going id _ kind turned.is_current _ views turned.is_turn
+  row-keeps _ _ later (rows.method_fails bytes id kind body tags views heard turned) = turn-keeps heard.going id _ kind turned.is_current _ views turned.is_turn
 
-    nak-keeps : (id : ℕ) (body : List ℕ) → is_proposed now.vars.progress ≡ true
-        → Keeps setup accepted made (select_action (before_proposal true) now.vars now.views id (Some body))
-    nak-keeps id body waits =
-        let fresh : IsFresh setup now accepted made = proposed-fresh setup now accepted made going waits stands in
-        select_action-keeps fresh (before_proposal true) now.vars own-setup fresh.unsure id (Some body)
-
-    current_response-keeps : (id kind : ℕ) (body : List ℕ) → Keeps setup accepted made (current_response now id kind body)
-    current_response-keeps id kind body =
-        cond_both ((kind == nak) && is_proposed now.vars.progress) _ _ (Keeps setup accepted made)
-        (λ is_nak. nak-keeps id body (and_parts (kind == nak) (is_proposed now.vars.progress) is_nak).1)
-        (λ _. cond_both (is_awaited now.vars.current kind) _ _ (Keeps setup accepted made)
-        (λ awaited. cond_both (kind == identity) _ _ (Keeps setup accepted made)
-        (λ is_identity. hears_identity-keeps id kind (is_awaited_is now.vars.current kind awaited) is_identity)
-        (λ _. server_method-keeps going id (spelled (response id kind body)) kind (is_awaited_is now.vars.current kind awaited)))
-        (λ _. discard-keeps _ _))
-
-    server_row-keeps : (packet : Result PacketValue Cause) → Keeps setup accepted made (server_row now packet)
-    server_row-keeps (Err cause) = discard-keeps _ _
-    server_row-keeps (Ok (request id kind body)) = discard-keeps _ _
-    server_row-keeps (Ok (response id kind body)) =
-        cond_both (is_awaited now.vars.current_id id) _ _ (Keeps setup accepted made) (λ _. current_response-keeps id kind body) (λ _. discard-keeps _ _)
-    server_row-keeps (Ok (success id)) = discard-keeps _ _
-    server_row-keeps (Ok (failure id)) = discard-keeps _ _
-
-  deliver-keeps : (octets : List ℕ) → Keeps setup accepted made (server_deliver now octets)
-  unfolding server_deliver
-  deliver-keeps octets =
-      cond_both (is_end now.vars.state) _ _ (Keeps setup accepted made) (λ _. discard-keeps _ _) (λ going. server_row-keeps going (packet_of octets))
-
-pub keeps_deliver : (setup : ServerSetup) (now : ServerNow) (accepted made : List TagRecord) (octets : List ℕ) → ServerStands setup now accepted made
-    → (let out = server_deliver now octets in ServerStands setup out.after (accepted ++ out.step.tags.accepted) (made ++ out.step.tags.made))
-keeps_deliver setup now accepted made octets stands = (deliver-keeps setup now accepted made stands octets).stands
+-- every input after the start keeps what stands
+pub server_keeps : (setup : ServerSetup) (now : ServerNow) (accepted made : List TagRecord) (input : ServerInput) → (input ≡ start → ⊥)
+    → ServerStands setup now accepted made
+    → (let out = server_takes now input in ServerStands setup out.after (accepted ++ out.step.tags.accepted) (made ++ out.step.tags.made))
+server_keeps setup now accepted made input later stands =
+    (row-keeps setup now accepted made stands input _ later (server_answers_are_rows now input)).stands

@@ -1,7 +1,7 @@
 -- What stands of a server, told by the view of its method.
-use Rattle.std.proofs.Common.{◌≡◌, ℕ, ◌≤◌, length, List, [], ◌∷◌, ◌++◌, Bool, true, false, Option, Some, None, refl, ap, sym, subst, ◌∙◌, arith, length-append}
-use Rattle.std.specs.Prelude.{◌==◌, ◌+◌}
-use Rattle.std.proofs.lemmas.Bool.{false≢true, eqb-true, eq-eqb}
+use Rattle.std.proofs.Common.{◌≡◌, ℕ, ◌≤◌, length, List, [], ◌∷◌, ◌++◌, Bool, true, false, Option, Some, refl, sym, subst, ◌∙◌, arith, length-append}
+use Rattle.std.specs.Prelude.{◌==◌}
+use Rattle.std.proofs.lemmas.Bool.{false≢true, eq-eqb}
 use Rattle.std.proofs.lemmas.List.{append-nil}
 use Rattle.eap_base.specs.declared.setup.ServerSetup.{ServerSetup}
 use Rattle.eap_base.specs.Setup.{psk_kind, gpsk_kind, is_among}
@@ -13,7 +13,7 @@ use Rattle.eap_method.specs.GpskTags.{sk_record}
 use Rattle.eap_method.specs.PskServer as psk
 use Rattle.eap_method.specs.Server.{side_of}
 use Rattle.eap_method.specs.Steps.{is_end}
-use Rattle.server_machine.specs.ServerTable.{ServerNow, identity, is_awaited, is_proposed}
+use Rattle.server_machine.specs.ServerTable.{ServerNow, identity, is_proposed}
 use Rattle.eap_world.specs.Verdict.{is_success}
 use Rattle.eap_world.specs.Records.{AreFew}
 use Rattle.eap_world.specs.ServerStands.{PskChecked, GpskChecked, psk2_record, gpsk2_taken, HasNoTags, before, asks_identity, asks_psk, asks_gpsk, refuses_gpsk, ended, ServerStands, begins, psk_checks, psk_succeeds, gpsk_checks, gpsk_bars, gpsk_succeeds, fails}
@@ -29,10 +29,6 @@ some_same one other same = cc
 apart : (A : Type 0) (current : Option ℕ) (one other : ℕ) → (one == other) ≡ false → current ≡ Some one → current ≡ Some other → A
 apart A current one other differ is_one is_other =
     clash A (one == other) (eq-eqb one other (some_same one other (sym is_one ∙ is_other))) differ
-
-pub is_awaited_is : (current : Option ℕ) (kind : ℕ) → is_awaited current kind ≡ true → current ≡ Some kind
-is_awaited_is None kind awaited = absurd (false≢true awaited)
-is_awaited_is (Some number) kind awaited = ap (λ (n : ℕ). Some n) (eqb-true number kind awaited)
 
 -- equal lists of tags
 pub recast : (setup : ServerSetup) (now : ServerNow) (a b c d : List TagRecord) → a ≡ c → b ≡ d → ServerStands setup now a b → ServerStands setup now c d

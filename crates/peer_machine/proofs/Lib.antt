@@ -1,3 +1,4 @@
 pub mod Requests
 pub mod Settling
+pub mod PeerRows
 pub mod Discards

@@ -89,6 +89,16 @@ peer_respond now entered id octets =
     answer (sends (state.Received ∷ entered ∷ state.SendResponse ∷ state.Idle ∷ []) octets no_tags)
     (with_vars now (record now.vars { last_id = Some id; last_response = octets }))
 
+-- the Responses that the peer makes itself: Identity, Notification, and a Nak of the allowed Types
+abbrev pub identity_response : ℕ → List ℕ → List ℕ
+identity_response id name = spelled (response id 1 name)
+
+abbrev pub notification_response : ℕ → List ℕ
+notification_response id = spelled (response id 2 [])
+
+abbrev pub nak_response : ℕ → List ℕ → List ℕ
+nak_response id methods = spelled (response id 3 (nak_of methods))
+
 -- RETRANSMIT sends lastRespData unchanged
 abbrev pub peer_retransmit : PeerNow → PeerAnswer
 peer_retransmit now =
@@ -126,13 +136,13 @@ abbrev pub get_method : PeerNow → ℕ → ℕ → List ℕ → PeerAnswer
 get_method now id kind octets =
     if is_among now.vars.setup.methods kind
     then peer_method true now kind id octets
-    else peer_respond now state.GetMethod id (spelled (response id 3 (nak_of now.vars.setup.methods)))
+    else peer_respond now state.GetMethod id (nak_response id now.vars.setup.methods)
 
 -- a Request with a new Identifier
 abbrev pub new_request : PeerNow → ℕ → ℕ → List ℕ → Option ℕ → PeerAnswer
 new_request now id kind octets None =
-    if kind == 1 then peer_respond now state.Identity id (spelled (response id 1 now.vars.setup.name))
-    else if kind == 2 then peer_respond now state.Notification id (spelled (response id 2 []))
+    if kind == 1 then peer_respond now state.Identity id (identity_response id now.vars.setup.name)
+    else if kind == 2 then peer_respond now state.Notification id (notification_response id)
     else get_method now id kind octets
 new_request now id kind octets (Some selected) =
     if kind == 2 then peer_discard now cause.NotAllowed

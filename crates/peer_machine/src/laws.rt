@@ -1,10 +1,17 @@
 //! Laws of the peer (RFC 4137 section 4). Each is the contract of a function that does nothing.
 
 ghost use Rattle.peer_machine.specs.Laws.{DiscardsKeep};
+ghost use Rattle.peer_machine.specs.Rows.{PeerAnswersAreRows};
 
-/// A delivery that is discarded changes no variable and no method's view, sends nothing and makes no
+/// An input that is discarded changes no variable and no method's view, sends nothing and makes no
 /// record.
 #[tactic(auto, using(crate::proofs::Discards::discards_keep))]
 pub fn discards_keep()
     ensures { DiscardsKeep }
+{}
+
+/// What the peer makes of every input is one row of its table, with all that is then known.
+#[tactic(auto, using(crate::proofs::PeerRows::peer_answers_are_rows))]
+pub fn answers_are_rows()
+    ensures { PeerAnswersAreRows }
 {}

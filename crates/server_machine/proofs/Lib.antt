@@ -1,3 +1,4 @@
+pub mod ServerRows
 pub mod Discards
 pub mod Proposed
 pub mod Responses

@@ -1,7 +1,8 @@
 -- Laws of the server (RFC 4137 section 5), over its table alone.
-use Rattle.std.specs.Prelude.{◌≡◌, ℕ, List, None, IsSome}
+use Rattle.std.specs.Prelude.{◌≡◌, None, IsSome}
 use Rattle.eap_method.specs.Steps.{no_tags}
-use Rattle.server_machine.specs.ServerTable.{ServerNow, ServerAnswer, server_deliver}
+use Rattle.server_machine.specs.Inputs.{ServerInput, server_takes}
+use Rattle.server_machine.specs.ServerTable.{ServerNow, ServerAnswer}
 
 -- no variable and no view of a method changed, nothing was sent, and no tag was accepted or made
 pub record KeepsTheServer (before : ServerNow) (out : ServerAnswer) : Type 0 where
@@ -12,4 +13,4 @@ pub record KeepsTheServer (before : ServerNow) (out : ServerAnswer) : Type 0 whe
 -- a discard changes nothing
 abbrev pub DiscardsKeep : Type 0
 DiscardsKeep =
-    (now : ServerNow) (octets : List ℕ) → IsSome (server_deliver now octets).step.cause → KeepsTheServer now (server_deliver now octets)
+    (now : ServerNow) (input : ServerInput) → IsSome (server_takes now input).step.cause → KeepsTheServer now (server_takes now input)

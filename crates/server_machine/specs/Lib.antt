@@ -1,2 +1,4 @@
 pub mod ServerTable
+pub mod Inputs
+pub mod Rows
 pub mod Laws

@@ -81,10 +81,20 @@ next_id vars = next_id_after vars.first_id vars.current_id
 abbrev pub with_request : ServerVariables → List ℕ → ServerVariables
 with_request vars octets = record vars { current_id = Some (next_id vars); retrans_count = 0; last_request = octets }
 
+-- the packets that the server makes itself: the Identity Request, Success and Failure
+abbrev pub identity_request : ℕ → List ℕ
+identity_request id = spelled (request id identity [])
+
+abbrev pub success_packet : ℕ → List ℕ
+success_packet id = spelled (success id)
+
+abbrev pub failure_packet : ℕ → List ℕ
+failure_packet id = spelled (failure id)
+
 -- INITIALIZE, then Identity is proposed and its Request sent
 unfoldable pub server_start : ServerNow → ServerAnswer
 server_start now =
-    let octets = spelled (request now.vars.first_id identity []) in
+    let octets = identity_request now.vars.first_id in
     answer
     (sends (state.Initialize ∷ state.SelectAction ∷ state.ProposeMethod ∷ state.MethodRequest ∷ state.SendRequest ∷ state.Idle ∷ []) octets no_tags)
     (record {
@@ -107,11 +117,11 @@ server_discard now c = answer (discards (state.Received ∷ state.Discard ∷ st
 -- SUCCESS and FAILURE send a Success or a Failure with currentId
 abbrev pub ends_well : List State → ServerVariables → ServerViews → ℕ → Tags → ServerAnswer
 ends_well entered vars views id tags =
-    answer (sends (entered ++ state.Success ∷ []) (spelled (success id)) tags) (record { vars = record vars { state = state.Success }; views = views })
+    answer (sends (entered ++ state.Success ∷ []) (success_packet id) tags) (record { vars = record vars { state = state.Success }; views = views })
 
 abbrev pub ends_badly : List State → ServerVariables → ServerViews → ℕ → Tags → ServerAnswer
 ends_badly entered vars views id tags =
-    answer (sends (entered ++ state.Failure ∷ []) (spelled (failure id)) tags) (record { vars = record vars { state = state.Failure }; views = views })
+    answer (sends (entered ++ state.Failure ∷ []) (failure_packet id) tags) (record { vars = record vars { state = state.Failure }; views = views })
 
 -- PROPOSE_METHOD, METHOD_REQUEST and SEND_REQUEST of a method; without an object of it, FAILURE
 abbrev pub offers : List State → ServerVariables → ServerViews → ℕ → ℕ → Option (List ℕ) → ServerAnswer

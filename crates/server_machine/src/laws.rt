@@ -1,10 +1,17 @@
 //! Laws of the server (RFC 4137 section 5). Each is the contract of a function that does nothing.
 
 ghost use Rattle.server_machine.specs.Laws.{DiscardsKeep};
+ghost use Rattle.server_machine.specs.Rows.{ServerAnswersAreRows};
 
-/// A delivery that is discarded changes no variable and no method's view, sends nothing and makes no
+/// An input that is discarded changes no variable and no method's view, sends nothing and makes no
 /// record.
 #[tactic(auto, using(crate::proofs::Discards::discards_keep))]
 pub fn discards_keep()
     ensures { DiscardsKeep }
+{}
+
+/// What the server makes of every input is one row of its table, with all that is then known.
+#[tactic(auto, using(crate::proofs::ServerRows::server_answers_are_rows))]
+pub fn answers_are_rows()
+    ensures { ServerAnswersAreRows }
 {}

@@ -5,7 +5,7 @@ mod laws;
 mod machine;
 mod variables;
 
-pub use laws::discards_keep;
+pub use laws::{answers_are_rows, discards_keep};
 pub use machine::ServerMachine;
 pub use variables::{Progress, ServerVariables};
 

@@ -1,0 +1,116 @@
+-- What the peer makes of an input is one of the rows of its table.
+use Rattle.std.proofs.Common.{◌≡◌, ℕ, List, [], Bool, true, false, ◌&&◌, Option, Some, None, Result, Ok, Err, refl, sym, ap, ◌∙◌}
+use Rattle.std.specs.Prelude.{◌==◌}
+use Rattle.std.proofs.lemmas.Bool.{cond_both, eqb-true}
+use Rattle.eap_base.specs.Setup.{is_among}
+use Rattle.eap_packet.specs.Fault.{packet_of}
+use Rattle.eap_packet.specs.Packet.{PacketValue, request, response, success, failure, spelled}
+use Rattle.eap_packet.specs.declared.cause.Cause.{Cause}
+use Rattle.eap_method.specs.declared.turn.PeerTurn.{PeerTurn}
+use Rattle.eap_method.specs.declared.turn.PeerTurn.TheVariants.{Discard, Reply}
+use Rattle.eap_method.specs.declared.values.Decision.{Decision}
+use Rattle.eap_method.specs.declared.values.Decision.TheVariants as decision
+use Rattle.eap_method.specs.Peer.{PeerViews, peer_turn}
+use Rattle.eap_method.specs.Steps.{is_end}
+use Rattle.peer_machine.specs.Inputs.{PeerInput, octets, idle, alt_accept, alt_reject, unless_ended}
+use Rattle.peer_machine.specs.PeerTable.{PeerNow, PeerAnswer, is_cont, is_done, is_fail, is_last_id, is_uncond, method_answers, peer_method, new_request, peer_success, peer_failure, peer_row, peer_deliver, peer_idle, peer_alt_accept, peer_alt_reject, peer_ends}
+use Rattle.peer_machine.specs.Rows.{Hears, Calls, first, again, by_success, by_idle, by_accept, late_success, by_failure, by_idle_unsure, late_accept, by_reject, PeerRow, ended, rests, drops, waits, identifies, notifies, naks, resends, ends_well, ends_badly, method_replies, method_fails, PeerAnswersAreRows}
+
+uncond_is_sure : (d : Decision) → is_uncond d ≡ true → is_fail d ≡ false
+uncond_is_sure decision.Fail sure = cc
+uncond_is_sure decision.CondSucc sure = refl
+uncond_is_sure decision.UncondSucc sure = refl
+
+module _ (now : PeerNow) where
+  module _ (bytes : List ℕ) (going : is_end now.vars.state ≡ false) where
+    -- what comes of these octets is a row
+    abbrev IsRow : PeerAnswer → Type 0
+    IsRow out = PeerRow now (octets bytes) out
+
+    module _ (id kind : ℕ) (body : List ℕ) (heard : Hears now bytes id (request id kind body) false) where
+      answers-row : (selects : Bool) → Calls now kind selects → (turn : PeerTurn) (views : PeerViews)
+          → peer_turn kind now.views (spelled (request id kind body)) ≡ record { turn = turn; after = views }
+          → IsRow (method_answers selects now kind id views turn)
+      answers-row selects calls (Discard c) views turned = drops bytes _ c going
+      answers-row selects calls (Reply packet m d tags) views turned =
+          cond_both (is_done m && is_fail d) _ _ IsRow
+          (λ failed. method_fails bytes selects id kind body packet m d tags views heard calls turned failed)
+          (λ goes_on. method_replies bytes selects id kind body packet m d tags views heard calls turned goes_on)
+
+      method-row : (selects : Bool) → Calls now kind selects → IsRow (peer_method selects now kind id (spelled (request id kind body)))
+      unfolding peer_method
+      method-row selects calls = answers-row selects calls _ _ refl
+
+      new-row : (selected : Option ℕ) → now.vars.selected ≡ selected → IsRow (new_request now id kind (spelled (request id kind body)) selected)
+      new-row None none =
+          cond_both (kind == 1) _ _ IsRow (λ is. identifies bytes id kind body heard none is)
+          (λ no_identity. cond_both (kind == 2) _ _ IsRow (λ is. notifies bytes id kind body heard none is)
+          (λ no_notification. cond_both (is_among now.vars.setup.methods kind) _ _ IsRow (λ allowed. method-row true (first none allowed))
+          (λ barred. naks bytes id kind body heard none no_identity no_notification barred)))
+      new-row (Some selected) is =
+          cond_both (kind == 2) _ _ IsRow (λ _. drops bytes _ _ going)
+          (λ _. cond_both (kind == selected) _ _ IsRow
+          (λ same. cond_both (is_done now.vars.method_state) _ _ IsRow (λ _. drops bytes _ _ going)
+          (λ undone. method-row false (again (is ∙ sym (ap (λ (k : ℕ). Some k) (eqb-true kind selected same))) undone)))
+          (λ _. drops bytes _ _ going))
+
+    success-row : (id : ℕ) → Hears now bytes id (success id) true → IsRow (peer_success now)
+    success-row id heard =
+        cond_both (is_fail now.vars.decision) _ _ IsRow
+        (λ fails. cond_both (is_cont now.vars.method_state) _ _ IsRow (λ _. drops bytes _ _ going)
+        (λ over. ends_badly _ _ going (late_success bytes id heard fails over)))
+        (λ sure. ends_well _ _ going sure (by_success bytes id heard))
+
+    failure-row : (id : ℕ) → Hears now bytes id (failure id) true → IsRow (peer_failure now)
+    failure-row id heard =
+        cond_both (is_uncond now.vars.decision) _ _ IsRow (λ _. drops bytes _ _ going)
+        (λ unsure. cond_both (is_cont now.vars.method_state) _ _ IsRow (λ _. drops bytes _ _ going)
+        (λ over. ends_badly _ _ going (by_failure bytes id heard unsure over)))
+
+    packet-row : (packet : Result PacketValue Cause) → packet_of bytes ≡ packet → IsRow (peer_row now packet)
+    packet-row (Err c) is = drops bytes _ c going
+    packet-row (Ok (request id kind body)) is =
+        cond_both (is_last_id now.vars.last_id id) _ _ IsRow
+        (λ last. resends bytes id kind body (record { going = going; is_packet = is; last = last }))
+        (λ new. new-row id kind body (record { going = going; is_packet = is; last = new }) now.vars.selected refl)
+    packet-row (Ok (response id kind body)) is = drops bytes _ _ going
+    packet-row (Ok (success id)) is =
+        cond_both (is_last_id now.vars.last_id id) _ _ IsRow
+        (λ last. success-row id (record { going = going; is_packet = is; last = last })) (λ _. drops bytes _ _ going)
+    packet-row (Ok (failure id)) is =
+        cond_both (is_last_id now.vars.last_id id) _ _ IsRow
+        (λ last. failure-row id (record { going = going; is_packet = is; last = last })) (λ _. drops bytes _ _ going)
+
+  octets-row : (bytes : List ℕ) → PeerRow now (octets bytes) (peer_deliver now bytes)
+  unfolding peer_deliver
+  octets-row bytes =
+      cond_both (is_end now.vars.state) _ _ (PeerRow now (octets bytes)) (λ over. ended bytes over)
+      (λ going. packet-row bytes going (packet_of bytes) refl)
+
+  report-row : (report : PeerInput) (out : PeerAnswer) → (is_end now.vars.state ≡ false → PeerRow now report out) → PeerRow now report (unless_ended now out)
+  report-row report out row = cond_both (is_end now.vars.state) _ _ (PeerRow now report) (λ over. rests report over) row
+
+  idle-row : is_end now.vars.state ≡ false → PeerRow now idle (peer_idle now)
+  unfolding peer_idle
+  idle-row going =
+      cond_both (is_uncond now.vars.decision) _ _ (λ s. PeerRow now idle (peer_ends now [] s))
+      (λ sure. ends_well _ _ going (uncond_is_sure now.vars.decision sure) (by_idle sure))
+      (λ unsure. ends_badly _ _ going (by_idle_unsure unsure))
+
+  accept-row : is_end now.vars.state ≡ false → PeerRow now alt_accept (peer_alt_accept now)
+  unfolding peer_alt_accept
+  accept-row going =
+      cond_both (is_fail now.vars.decision) _ _ (PeerRow now alt_accept)
+      (λ fails. cond_both (is_cont now.vars.method_state) _ _ (PeerRow now alt_accept) (λ goes_on. waits going fails goes_on)
+      (λ over. ends_badly _ _ going (late_accept fails over)))
+      (λ sure. ends_well _ _ going sure by_accept)
+
+  reject-row : is_end now.vars.state ≡ false → PeerRow now alt_reject (peer_alt_reject now)
+  unfolding peer_alt_reject
+  reject-row going = ends_badly _ _ going by_reject
+
+pub peer_answers_are_rows : PeerAnswersAreRows
+peer_answers_are_rows now (octets bytes) = octets-row now bytes
+peer_answers_are_rows now idle = report-row now idle _ (idle-row now)
+peer_answers_are_rows now alt_accept = report-row now alt_accept _ (accept-row now)
+peer_answers_are_rows now alt_reject = report-row now alt_reject _ (reject-row now)

@@ -1,0 +1,21 @@
+-- What comes to the peer, and what it makes of it (RFC 4137 section 4).
+use Rattle.std.specs.Prelude.{ℕ, List, [], if◌then◌else◌}
+use Rattle.eap_method.specs.Steps.{no_tags, enters, is_end}
+use Rattle.peer_machine.specs.PeerTable.{PeerNow, PeerAnswer, answer, peer_deliver, peer_idle, peer_alt_accept, peer_alt_reject}
+
+-- octets from the server, or a report of the lower layer (section 4.1.1)
+pub data PeerInput : Type 0 where
+  octets : List ℕ → PeerInput
+  idle : PeerInput
+  alt_accept : PeerInput
+  alt_reject : PeerInput
+
+-- a report of the lower layer; after the end it does nothing
+abbrev pub unless_ended : PeerNow → PeerAnswer → PeerAnswer
+unless_ended now out = if is_end now.vars.state then answer (enters [] no_tags) now else out
+
+abbrev pub peer_takes : PeerNow → PeerInput → PeerAnswer
+peer_takes now (octets bytes) = peer_deliver now bytes
+peer_takes now idle = unless_ended now (peer_idle now)
+peer_takes now alt_accept = unless_ended now (peer_alt_accept now)
+peer_takes now alt_reject = unless_ended now (peer_alt_reject now)

@@ -1,0 +1,97 @@
+-- What the server makes of an input is one of the rows of its table.
+use Rattle.std.proofs.Common.{◌≡◌, ℕ, ◌+◌, List, true, false, ◌&&◌, Option, Some, None, Result, Ok, Err, refl, ap, ◌∙◌}
+use Rattle.std.specs.Prelude.{◌==◌, nat_le}
+use Rattle.std.proofs.lemmas.Bool.{cond_both, and_parts, eqb-true}
+use Rattle.eap_packet.specs.Fault.{packet_of}
+use Rattle.eap_packet.specs.Packet.{PacketValue, request, response, success, failure, spelled}
+use Rattle.eap_packet.specs.declared.cause.Cause.{Cause}
+use Rattle.eap_packet.specs.declared.state.State.{State}
+use Rattle.login_policy.specs.Policy.{next_kind}
+use Rattle.eap_method.specs.declared.turn.ServerTurn.{ServerTurn}
+use Rattle.eap_method.specs.declared.turn.ServerTurn.TheVariants as turn
+use Rattle.eap_method.specs.Server.{ServerViews}
+use Rattle.eap_method.specs.Steps.{is_end}
+use Rattle.server_machine.specs.Inputs.{start, timeout, octets}
+use Rattle.server_machine.specs.Rows.{Hears, Selects, after_identity, after_nak, Proposes, Turns, ServerRow, ended, rests, goes_on, drops, starts, resends, times_out, proposes, proposes_without, proposes_none, requests, succeeds, method_fails, ServerAnswersAreRows}
+use Rattle.server_machine.specs.ServerTable as table
+use Rattle.server_machine.specs.ServerTable.{ServerNow, ServerAnswer, identity, nak, next_id, before_proposal, offers, select_action, method_answers, server_method, is_awaited, is_proposed, is_started, current_response, server_row, server_deliver, server_timeout}
+use Rattle.server_machine.specs.declared.variables.ServerVariables.{ServerVariables}
+
+awaited : (held : Option ℕ) (number : ℕ) → is_awaited held number ≡ true → held ≡ Some number
+awaited None number is = cc
+awaited (Some other) number is = ap (λ (n : ℕ). Some n) (eqb-true other number is)
+
+module _ (now : ServerNow) where
+  module _ (bytes : List ℕ) where
+    -- what comes of these octets is a row
+    abbrev IsRow : ServerAnswer → Type 0
+    IsRow out = ServerRow now (octets bytes) out
+
+    module _ (id kind : ℕ) (body : List ℕ) (heard : Hears now bytes id kind body) where
+      module _ (entered : List State) (vars : ServerVariables) (desired : Option (List ℕ)) (selects : Selects now kind body entered vars desired) where
+        offers-row : (next : ℕ) (packet : Option (List ℕ)) (views : ServerViews) → Proposes now vars desired next (record { packet = packet; after = views })
+            → IsRow (offers entered vars views id next packet)
+        offers-row next None views next_is = proposes_without bytes id kind body entered vars desired next views heard selects next_is
+        offers-row next (Some packet) views next_is = proposes bytes id kind body entered vars desired next packet views heard selects next_is
+
+        proposes-row : (next : Option ℕ) → next_kind vars.setup.methods vars.proposed desired ≡ next → IsRow (table.proposes entered vars now.views id next)
+        proposes-row None none = proposes_none bytes id kind body entered vars desired heard selects none
+        proposes-row (Some next) is_next = offers-row next _ _ (record { is_next = is_next; is_offer = refl })
+
+        select-row : IsRow (select_action entered vars now.views id desired)
+        unfolding select_action
+        select-row = proposes-row (next_kind vars.setup.methods vars.proposed desired) refl
+
+      answers-row : (turn : ServerTurn) (views : ServerViews) → Turns now id kind body turn views → IsRow (method_answers now id views turn)
+      answers-row (turn.Discard c) views turned = drops bytes _ c heard.going
+      answers-row (turn.Request packet tags) views turned = requests bytes id kind body packet tags views heard turned
+      answers-row (turn.Done true tags) views turned = succeeds bytes id kind body tags views heard turned
+      answers-row (turn.Done false tags) views turned = method_fails bytes id kind body tags views heard turned
+
+      method-row : now.vars.current ≡ Some kind → (kind == identity) ≡ false → ((kind == nak) && is_proposed now.vars.progress) ≡ false
+          → IsRow (server_method now id kind (spelled (response id kind body)))
+      unfolding server_method
+      method-row is_current no_identity no_nak =
+          answers-row _ _ (record { is_current = is_current; no_identity = no_identity; no_nak = no_nak; is_turn = refl })
+
+      current-row : IsRow (current_response now id kind body)
+      current-row =
+          cond_both ((kind == nak) && is_proposed now.vars.progress) _ _ IsRow
+          (λ is.
+          let parts = and_parts (kind == nak) (is_proposed now.vars.progress) is in
+          select-row _ _ _ (after_nak (eqb-true kind nak parts.0) parts.1))
+          (λ no_nak. cond_both (is_awaited now.vars.current kind) _ _ IsRow
+          (λ is_current. cond_both (kind == identity) _ _ IsRow
+          (λ is.
+          let same = eqb-true kind identity is in
+          select-row _ _ _ (after_identity same (awaited now.vars.current kind is_current ∙ ap (λ (k : ℕ). Some k) same)))
+          (λ no_identity. method-row (awaited now.vars.current kind is_current) no_identity no_nak))
+          (λ _. drops bytes _ _ heard.going))
+
+    packet-row : is_end now.vars.state ≡ false → (packet : Result PacketValue Cause) → packet_of bytes ≡ packet → IsRow (server_row now packet)
+    packet-row going (Err c) is = drops bytes _ c going
+    packet-row going (Ok (request id kind body)) is = drops bytes _ _ going
+    packet-row going (Ok (response id kind body)) is =
+        cond_both (is_awaited now.vars.current_id id) _ _ IsRow
+        (λ current. current-row id kind body (record { going = going; is_packet = is; is_current = awaited now.vars.current_id id current }))
+        (λ _. drops bytes _ _ going)
+    packet-row going (Ok (success id)) is = drops bytes _ _ going
+    packet-row going (Ok (failure id)) is = drops bytes _ _ going
+
+    octets-row : IsRow (server_deliver now bytes)
+    unfolding server_deliver
+    octets-row =
+        cond_both (is_end now.vars.state) _ _ IsRow (λ over. ended bytes over) (λ going. packet-row going (packet_of bytes) refl)
+
+  timeout-row : is_end now.vars.state ≡ false → ServerRow now timeout (server_timeout now)
+  unfolding server_timeout
+  timeout-row going =
+      cond_both (nat_le (now.vars.retrans_count + 1) now.vars.max_retrans) _ _ (ServerRow now timeout)
+      (λ in_time. resends going in_time) (λ late. times_out going late)
+
+pub server_answers_are_rows : ServerAnswersAreRows
+server_answers_are_rows now start =
+    cond_both (is_started now.vars) _ _ (ServerRow now start) (λ is_begun. goes_on is_begun) (λ unstarted. starts unstarted)
+server_answers_are_rows now timeout =
+    cond_both (is_end now.vars.state) _ _ (ServerRow now timeout) (λ over. rests over) (λ going. timeout-row now going)
+server_answers_are_rows now (octets bytes) = octets-row now bytes

@@ -1,0 +1,19 @@
+-- What comes to the server, and what it makes of it (RFC 4137 section 5).
+use Rattle.std.specs.Prelude.{ℕ, List, [], if◌then◌else◌}
+use Rattle.eap_method.specs.Steps.{no_tags, enters, is_end}
+use Rattle.server_machine.specs.ServerTable.{ServerNow, ServerAnswer, answer, is_started, server_start, server_deliver, server_timeout}
+
+-- the start, the end of the retransmission timer, or octets from the peer
+pub data ServerInput : Type 0 where
+  start : ServerInput
+  timeout : ServerInput
+  octets : List ℕ → ServerInput
+
+abbrev pub server_rests : ServerNow → ServerAnswer
+server_rests now = answer (enters [] no_tags) now
+
+-- a second start, and a timer that ends after the end, do nothing
+abbrev pub server_takes : ServerNow → ServerInput → ServerAnswer
+server_takes now start = if is_started now.vars then server_rests now else server_start now
+server_takes now timeout = if is_end now.vars.state then server_rests now else server_timeout now
+server_takes now (octets bytes) = server_deliver now bytes

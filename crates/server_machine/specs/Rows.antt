@@ -1,0 +1,94 @@
+-- The rows of the server's table (RFC 4137 section 5), each with all that is then known.
+use Rattle.std.specs.Prelude.{◌≡◌, ℕ, ◌+◌, List, [], ◌∷◌, true, false, ◌==◌, ◌&&◌, nat_le, Option, Some, None, Ok}
+use Rattle.eap_packet.specs.Fault.{packet_of}
+use Rattle.eap_packet.specs.Packet.{response, spelled}
+use Rattle.eap_packet.specs.declared.cause.Cause.{Cause}
+use Rattle.eap_packet.specs.declared.cause.Cause.TheVariants as cause
+use Rattle.eap_packet.specs.declared.state.State.{State}
+use Rattle.eap_packet.specs.declared.state.State.TheVariants as state
+use Rattle.login_policy.specs.Policy.{next_kind}
+use Rattle.eap_method.specs.declared.tags.Tags.{Tags}
+use Rattle.eap_method.specs.declared.turn.ServerTurn.{ServerTurn}
+use Rattle.eap_method.specs.declared.turn.ServerTurn.TheVariants as turn
+use Rattle.eap_method.specs.Server.{ServerViews, Offer, side_of, server_offer, server_turn}
+use Rattle.eap_method.specs.Steps.{no_tags, sends, enters, discards, is_end}
+use Rattle.server_machine.specs.Inputs.{ServerInput, start, timeout, octets, server_rests, server_takes}
+use Rattle.server_machine.specs.ServerTable.{ServerNow, ServerAnswer, answer, identity, nak, next_id, before_proposal, ends_badly, offers, method_answers, is_proposed, is_started, server_start}
+use Rattle.server_machine.specs.declared.variables.Progress.TheVariants as progress
+use Rattle.server_machine.specs.declared.variables.ServerVariables.{ServerVariables}
+
+-- this Response with currentId has come to a server that has not ended
+pub record Hears (now : ServerNow) (bytes : List ℕ) (id kind : ℕ) (body : List ℕ) : Type 0 where
+  pub going : is_end now.vars.state ≡ false
+  pub is_packet : packet_of bytes ≡ Ok (response id kind body)
+  pub is_current : now.vars.current_id ≡ Some id
+
+-- a method is to be proposed, after the Identity round or a Nak: the states before it, the variables
+-- then, and what the Nak desires
+pub data Selects (now : ServerNow) (kind : ℕ) (body : List ℕ) : List State → ServerVariables → Option (List ℕ) → Type 0 where
+  after_identity : (is_identity : kind ≡ identity) (is_current : now.vars.current ≡ Some identity)
+      → Selects now kind body (before_proposal false) (record now.vars { progress = progress.End }) None
+  after_nak : (is_nak : kind ≡ nak) (waits : is_proposed now.vars.progress ≡ true)
+      → Selects now kind body (before_proposal true) now.vars (Some body)
+
+-- the method that is proposed next, and its offer
+pub record Proposes (now : ServerNow) (vars : ServerVariables) (desired : Option (List ℕ)) (next : ℕ) (offer : Offer) : Type 0 where
+  pub is_next : next_kind vars.setup.methods vars.proposed desired ≡ Some next
+  pub is_offer : server_offer (side_of vars.setup) vars.setup.nonce next (next_id vars) now.views ≡ offer
+
+-- the current method has this turn, and both views are these after it
+pub record Turns (now : ServerNow) (id kind : ℕ) (body : List ℕ) (turn : ServerTurn) (views : ServerViews) : Type 0 where
+  pub is_current : now.vars.current ≡ Some kind
+  pub no_identity : (kind == identity) ≡ false
+  pub no_nak : ((kind == nak) && is_proposed now.vars.progress) ≡ false
+  pub is_turn : server_turn now.vars.setup.users (next_id now.vars) kind now.views (spelled (response id kind body)) ≡ record { turn = turn; after = views }
+
+-- what the server makes of an input
+pub data ServerRow (now : ServerNow) : ServerInput → ServerAnswer → Type 0 where
+  -- after the end octets are discarded, and the timer does nothing; a second start does nothing
+  ended : (bytes : List ℕ) (over : is_end now.vars.state ≡ true) → ServerRow now (octets bytes) (answer (discards [] cause.Ended) now)
+  rests : (over : is_end now.vars.state ≡ true) → ServerRow now timeout (server_rests now)
+  goes_on : (is_begun : is_started now.vars ≡ true) → ServerRow now start (server_rests now)
+  -- octets that are no packet or out of place, and what the method discards
+  drops : (bytes : List ℕ) (path : List State) (c : Cause) (going : is_end now.vars.state ≡ false)
+      → ServerRow now (octets bytes) (answer (discards path c) now)
+  -- the Identity Request
+  starts : (unstarted : is_started now.vars ≡ false) → ServerRow now start (server_start now)
+  -- RETRANSMIT, at most MaxRetrans times, and TIMEOUT_FAILURE
+  resends : (going : is_end now.vars.state ≡ false) (in_time : nat_le (now.vars.retrans_count + 1) now.vars.max_retrans ≡ true)
+      → ServerRow now timeout
+      (answer (sends (state.Retransmit ∷ state.Idle ∷ []) now.vars.last_request no_tags)
+      (record { vars = record now.vars { retrans_count = now.vars.retrans_count + 1 }; views = now.views }))
+  times_out : (going : is_end now.vars.state ≡ false) (late : nat_le (now.vars.retrans_count + 1) now.vars.max_retrans ≡ false)
+      → ServerRow now timeout
+      (answer (enters (state.Retransmit ∷ state.TimeoutFailure ∷ []) no_tags)
+      (record { vars = record now.vars { retrans_count = now.vars.retrans_count + 1; state = state.TimeoutFailure }; views = now.views }))
+  -- SELECT_ACTION with a method that is offered, with one that can't be, and with none
+  proposes : (bytes : List ℕ) (id kind : ℕ) (body : List ℕ) (entered : List State) (vars : ServerVariables) (desired : Option (List ℕ))
+      (next : ℕ) (packet : List ℕ) (views : ServerViews)
+      (heard : Hears now bytes id kind body) (selects : Selects now kind body entered vars desired)
+      (next_is : Proposes now vars desired next (record { packet = Some packet; after = views }))
+      → ServerRow now (octets bytes) (offers entered vars views id next (Some packet))
+  proposes_without : (bytes : List ℕ) (id kind : ℕ) (body : List ℕ) (entered : List State) (vars : ServerVariables) (desired : Option (List ℕ))
+      (next : ℕ) (views : ServerViews)
+      (heard : Hears now bytes id kind body) (selects : Selects now kind body entered vars desired)
+      (next_is : Proposes now vars desired next (record { packet = None; after = views }))
+      → ServerRow now (octets bytes) (ends_badly entered vars views id no_tags)
+  proposes_none : (bytes : List ℕ) (id kind : ℕ) (body : List ℕ) (entered : List State) (vars : ServerVariables) (desired : Option (List ℕ))
+      (heard : Hears now bytes id kind body) (selects : Selects now kind body entered vars desired)
+      (none : next_kind vars.setup.methods vars.proposed desired ≡ None)
+      → ServerRow now (octets bytes) (ends_badly entered vars now.views id no_tags)
+  -- METHOD_REQUEST after the method's turn; SUCCESS and FAILURE where it is over
+  requests : (bytes : List ℕ) (id kind : ℕ) (body packet : List ℕ) (tags : Tags) (views : ServerViews)
+      (heard : Hears now bytes id kind body) (turned : Turns now id kind body (turn.Request packet tags) views)
+      → ServerRow now (octets bytes) (method_answers now id views (turn.Request packet tags))
+  succeeds : (bytes : List ℕ) (id kind : ℕ) (body : List ℕ) (tags : Tags) (views : ServerViews)
+      (heard : Hears now bytes id kind body) (turned : Turns now id kind body (turn.Done true tags) views)
+      → ServerRow now (octets bytes) (method_answers now id views (turn.Done true tags))
+  method_fails : (bytes : List ℕ) (id kind : ℕ) (body : List ℕ) (tags : Tags) (views : ServerViews)
+      (heard : Hears now bytes id kind body) (turned : Turns now id kind body (turn.Done false tags) views)
+      → ServerRow now (octets bytes) (method_answers now id views (turn.Done false tags))
+
+-- what comes of every input is one of the rows
+abbrev pub ServerAnswersAreRows : Type 0
+ServerAnswersAreRows = (now : ServerNow) (input : ServerInput) → ServerRow now input (server_takes now input)
