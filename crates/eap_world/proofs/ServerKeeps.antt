@@ -40,7 +40,7 @@ use Rattle.server_machine.proofs.ServerRows.{server_answers_are_rows}
 use Rattle.server_machine.specs.declared.variables.ServerVariables.{ServerVariables}
 use Rattle.eap_world.specs.Verdict.{is_success}
 use Rattle.eap_world.specs.ServerStands.{PskChecked, GpskChecked, gpsk2_taken, HasNoTags, before, asks_identity, asks_psk, asks_gpsk, refuses_gpsk, ended, ServerStands, begins, psk_checks, psk_succeeds, gpsk_checks, gpsk_bars, gpsk_succeeds, fails}
-use Rattle.eap_world.proofs.ServerViews.{own_of, server_few, GpskIsAsked, GpskIsChecked, IsFresh, PskIsAsked, PskIsChecked, few_grow, few_stay, going_one, gpsk-asked, gpsk-checked, identity-fresh, proposed-fresh, psk-asked, psk-checked, recast, side-suites}
+use Rattle.eap_world.proofs.ServerViews.{own_of, server_few, GpskIsChecked, IsAsked, IsFresh, PskIsChecked, few_grow, few_stay, going_one, gpsk-asked, gpsk-checked, gpsk-tells, identity-fresh, proposed-fresh, psk-asked, psk-checked, psk-tells, recast, side-suites}
 
 -- after a call the invariant stands, with the tags of its step
 pub record Keeps (setup : ServerSetup) (accepted made : List TagRecord) (out : ServerAnswer) : Type 0 where
@@ -172,8 +172,8 @@ module _ (setup : ServerSetup) (now : ServerNow) (accepted made : List TagRecord
           (turn.Request packet (record { accepted = ak_record user.psk (psk.mac_p_covers login) mac ∷ []; made = psk.psk3_records login (next_id now.vars) }))))
       psk_answer-keeps own nonce rand_s rand_p mac id_p user in_view is_read own_nonce known packet =
           let login : psk.Login = psk_rows.login_from own nonce id_p user rand_p in
-          let asked : PskIsAsked setup now accepted made own nonce =
-          psk-asked setup now own nonce going by_psk (at_view ∙ ap (λ (v : psk.View). Some v) in_view) accepted made stands in
+          let asked : IsAsked setup psk_kind now accepted made own nonce =
+          psk-asked setup now own nonce view accepted made (psk-tells setup now going by_psk view at_view accepted made stands) in_view in
           let facts : PskChecked setup login = record {
             ordered = asked.ordered;
             own = asked.own_side;
@@ -198,7 +198,7 @@ module _ (setup : ServerSetup) (now : ServerNow) (accepted made : List TagRecord
           (turn.Done true (record { accepted = tek_record login.psk 1 header sealed tag ∷ []; made = [] })))
       psk_success-keeps login header tag sealed in_view r_sent =
           let held : PskIsChecked setup accepted made login =
-          psk-checked setup now login going by_psk (at_view ∙ ap (λ (v : psk.View). Some v) in_view) accepted made stands in
+          psk-checked setup now login view accepted made (psk-tells setup now going by_psk view at_view accepted made stands) in_view in
           record {
             stands = recast setup _ _ _ _ _
                 (ap (λ (tags : List TagRecord). tags ++ (tek_record login.psk 1 header sealed tag ∷ [])) held.one_accepted)
@@ -224,8 +224,8 @@ module _ (setup : ServerSetup) (now : ServerNow) (accepted made : List TagRecord
           → Keeps setup accepted made (method_answers now id (record now.views { gpsk = Some (gpsk.refusing own nonce) })
           (turn.Request packet (record { accepted = []; made = [] })))
       gpsk_refuse-keeps own nonce in_view packet =
-          let asked : GpskIsAsked setup now accepted made own nonce =
-          gpsk-asked setup now own nonce going by_gpsk (at_view ∙ ap (λ (v : gpsk.View). Some v) in_view) accepted made stands in
+          let asked : IsAsked setup gpsk_kind now accepted made own nonce =
+          gpsk-asked setup now own nonce view accepted made (gpsk-tells setup now going by_gpsk view at_view accepted made stands) in_view in
           let same : Some (gpsk.refusing own nonce) ≡ Some (gpsk.refusing (side_of setup) setup.nonce) =
           ap (λ (s : ServerSide). Some (gpsk.refusing s nonce)) asked.own_side
           ∙ ap (λ (n : List ℕ). Some (gpsk.refusing (side_of setup) n)) asked.own_nonce in
@@ -240,8 +240,8 @@ module _ (setup : ServerSetup) (now : ServerNow) (accepted made : List TagRecord
           → Keeps setup accepted made (method_answers now id (record now.views { gpsk = Some (gpsk.barring login) })
           (turn.Request packet (record { accepted = taken ∷ []; made = sent ∷ [] })))
       gpsk_bar-keeps own nonce login in_view packet taken sent =
-          let asked : GpskIsAsked setup now accepted made own nonce =
-          gpsk-asked setup now own nonce going by_gpsk (at_view ∙ ap (λ (v : gpsk.View). Some v) in_view) accepted made stands in
+          let asked : IsAsked setup gpsk_kind now accepted made own nonce =
+          gpsk-asked setup now own nonce view accepted made (gpsk-tells setup now going by_gpsk view at_view accepted made stands) in_view in
           record {
             stands = recast setup _ _ _ _ _
                 (ap (λ (tags : List TagRecord). tags ++ (taken ∷ [])) asked.none_accepted)
@@ -263,8 +263,8 @@ module _ (setup : ServerSetup) (now : ServerNow) (accepted made : List TagRecord
           }))))
       gpsk_check-keeps own nonce id_p id_s rand_p rand_s list suite pd mac user in_view is_read own_name own_nonce own_list offered known not_barred packet =
           let login : gpsk.Login = gpsk_rows.login_from own nonce id_p user rand_p suite in
-          let asked : GpskIsAsked setup now accepted made own nonce =
-          gpsk-asked setup now own nonce going by_gpsk (at_view ∙ ap (λ (v : gpsk.View). Some v) in_view) accepted made stands in
+          let asked : IsAsked setup gpsk_kind now accepted made own nonce =
+          gpsk-asked setup now own nonce view accepted made (gpsk-tells setup now going by_gpsk view at_view accepted made stands) in_view in
           let same : gpsk2 id_p id_s rand_p rand_s list suite pd mac ≡ gpsk2_taken login pd mac =
           ap (λ (x : List ℕ). gpsk2 id_p x rand_p rand_s list suite pd mac) own_name
           ∙ (ap (λ (x : List ℕ). gpsk2 id_p own.id_s rand_p x list suite pd mac) own_nonce
@@ -295,7 +295,7 @@ module _ (setup : ServerSetup) (now : ServerNow) (accepted made : List TagRecord
           (turn.Done true (record { accepted = sk_record login.psk last ∷ []; made = [] })))
       gpsk_success-keeps login last in_view =
           let held : GpskIsChecked setup accepted made login =
-          gpsk-checked setup now login going by_gpsk (at_view ∙ ap (λ (v : gpsk.View). Some v) in_view) accepted made stands in
+          gpsk-checked setup now login view accepted made (gpsk-tells setup now going by_gpsk view at_view accepted made stands) in_view in
           record {
             stands = recast setup _ _ _ _ _
                 (ap (λ (tags : List TagRecord). tags ++ (sk_record login.psk last ∷ [])) held.one_accepted)

@@ -1,7 +1,7 @@
 -- What stands of a server, told by the view of its method.
-use Rattle.std.proofs.Common.{◌≡◌, ℕ, ◌≤◌, length, List, [], ◌∷◌, ◌++◌, Bool, true, false, Option, Some, refl, sym, subst, ◌∙◌, arith, length-append}
-use Rattle.std.specs.Prelude.{◌==◌}
-use Rattle.std.proofs.lemmas.Bool.{false≢true, eq-eqb}
+use Rattle.std.proofs.Common.{◌≡◌, ℕ, ◌≤◌, length, List, [], ◌∷◌, ◌++◌, Bool, true, false, Option, Some, None, refl, ap, sym, subst, ◌∙◌, arith, length-append}
+use Rattle.std.specs.Prelude.{◌==◌, ◌+◌}
+use Rattle.std.proofs.lemmas.Bool.{false≢true, eqb-true, eq-eqb}
 use Rattle.std.proofs.lemmas.List.{append-nil}
 use Rattle.eap_base.specs.declared.setup.ServerSetup.{ServerSetup}
 use Rattle.eap_base.specs.Setup.{psk_kind, gpsk_kind, is_among}
@@ -112,58 +112,14 @@ identity-fresh setup now accepted made going asks (gpsk_bars login taken sent ow
 identity-fresh setup now accepted made going asks (gpsk_succeeds login pd mac last own is_current over in_view facts) = clash _ _ over going
 identity-fresh setup now accepted made going asks (fails some others own over unsure few) = clash _ _ over going
 
--- a server that has asked by EAP-PSK
-pub record PskIsAsked (setup : ServerSetup) (now : ServerNow) (accepted made : List TagRecord) (own : ServerSide) (nonce : List ℕ) : Type 0 where
-  pub ordered : is_among setup.methods psk_kind ≡ true
+-- a server that has asked by this method
+pub record IsAsked (setup : ServerSetup) (kind : ℕ) (now : ServerNow) (accepted made : List TagRecord) (own : ServerSide) (nonce : List ℕ) : Type 0 where
+  pub ordered : is_among setup.methods kind ≡ true
   pub own_side : own ≡ side_of setup
   pub own_nonce : nonce ≡ setup.nonce
   pub unsure : is_success now.vars.state ≡ false
   pub none_accepted : [] ≡ accepted
   pub none_made : [] ≡ made
-
-same_psk_side : (own side : ServerSide) (nonce other : List ℕ) (held : Option psk.View) → held ≡ Some (psk.asked own nonce) → held ≡ Some (psk.asked side other)
-    → own ≡ side
-same_psk_side own side nonce other held is_one is_other = cc
-
-same_psk_nonce : (own side : ServerSide) (nonce other : List ℕ) (held : Option psk.View) → held ≡ Some (psk.asked own nonce) → held ≡ Some (psk.asked side other)
-    → nonce ≡ other
-same_psk_nonce own side nonce other held is_one is_other = cc
-
-psk-asked-not-checked : (A : Type 0) (own : ServerSide) (nonce : List ℕ) (login : psk.Login) (held : Option psk.View) → held ≡ Some (psk.asked own nonce)
-    → held ≡ Some (psk.checked login) → A
-psk-asked-not-checked A own nonce login held is_asked is_checked = absurd cc
-
-no_tags-psk : (setup : ServerSetup) (now : ServerNow) (own : ServerSide) (nonce : List ℕ) → is_end now.vars.state ≡ false
-    → now.vars.current ≡ Some psk_kind → now.views.psk ≡ Some (psk.asked own nonce) → is_success now.vars.state ≡ false
-    → HasNoTags setup now → PskIsAsked setup now [] [] own nonce
-no_tags-psk setup now own nonce going by_psk at_view unsure (before none) = absurd cc
-no_tags-psk setup now own nonce going by_psk at_view unsure (asks_identity is_identity) = apart _ _ identity psk_kind refl is_identity by_psk
-no_tags-psk setup now own nonce going by_psk at_view unsure (asks_psk ordered is_current in_view) = record {
-  ordered = ordered;
-  own_side = same_psk_side _ _ _ _ _ at_view in_view;
-  own_nonce = same_psk_nonce _ _ _ _ _ at_view in_view;
-  unsure = unsure;
-  none_accepted = refl;
-  none_made = refl;
-}
-no_tags-psk setup now own nonce going by_psk at_view unsure (asks_gpsk ordered is_current in_view) = apart _ _ psk_kind gpsk_kind refl by_psk is_current
-no_tags-psk setup now own nonce going by_psk at_view unsure (refuses_gpsk is_current gone_on in_view) = apart _ _ psk_kind gpsk_kind refl by_psk is_current
-no_tags-psk setup now own nonce going by_psk at_view unsure (ended over) = clash _ _ over going
-
-pub psk-asked : (setup : ServerSetup) (now : ServerNow) (own : ServerSide) (nonce : List ℕ) → is_end now.vars.state ≡ false
-    → now.vars.current ≡ Some psk_kind → now.views.psk ≡ Some (psk.asked own nonce)
-    → (accepted made : List TagRecord) → ServerStands setup now accepted made → PskIsAsked setup now accepted made own nonce
-psk-asked setup now own nonce going by_psk at_view accepted made (begins owned unsure no_tags) =
-    no_tags-psk setup now own nonce going by_psk at_view unsure no_tags
-psk-asked setup now own nonce going by_psk at_view accepted made (psk_checks login id owned is_current gone_on in_view facts unsure) =
-    psk-asked-not-checked _ own nonce login _ at_view in_view
-psk-asked setup now own nonce going by_psk at_view accepted made (psk_succeeds login header tag sealed id owned is_current over in_view facts r_sent) = clash _ _ over going
-psk-asked setup now own nonce going by_psk at_view accepted made (gpsk_checks login pd mac owned is_current gone_on in_view facts unsure) =
-    apart _ _ psk_kind gpsk_kind refl by_psk is_current
-psk-asked setup now own nonce going by_psk at_view accepted made (gpsk_bars login taken sent owned is_current gone_on in_view unsure) =
-    apart _ _ psk_kind gpsk_kind refl by_psk is_current
-psk-asked setup now own nonce going by_psk at_view accepted made (gpsk_succeeds login pd mac last owned is_current over in_view facts) = clash _ _ over going
-psk-asked setup now own nonce going by_psk at_view accepted made (fails some others owned over unsure few) = clash _ _ over going
 
 -- a server that has sent PSK-3
 pub record PskIsChecked (setup : ServerSetup) (accepted made : List TagRecord) (login : psk.Login) : Type 0 where
@@ -171,105 +127,6 @@ pub record PskIsChecked (setup : ServerSetup) (accepted made : List TagRecord) (
   pub facts : PskChecked setup login
   pub one_accepted : psk2_record login facts.mac ∷ [] ≡ accepted
   pub some_made : psk.psk3_records login id ≡ made
-
-same_psk_login : (login other : psk.Login) (held : Option psk.View) → held ≡ Some (psk.checked login) → held ≡ Some (psk.checked other) → other ≡ login
-same_psk_login login other held is_one is_other = cc
-
-no_tags-not-checked-psk : (A : Type 0) (setup : ServerSetup) (now : ServerNow) (login : psk.Login) → is_end now.vars.state ≡ false
-    → now.vars.current ≡ Some psk_kind → now.views.psk ≡ Some (psk.checked login) → HasNoTags setup now → A
-no_tags-not-checked-psk A setup now login going by_psk at_view (before none) = absurd cc
-no_tags-not-checked-psk A setup now login going by_psk at_view (asks_identity is_identity) = apart _ _ identity psk_kind refl is_identity by_psk
-no_tags-not-checked-psk A setup now login going by_psk at_view (asks_psk ordered is_current in_view) = psk-asked-not-checked _ _ _ login _ in_view at_view
-no_tags-not-checked-psk A setup now login going by_psk at_view (asks_gpsk ordered is_current in_view) = apart _ _ psk_kind gpsk_kind refl by_psk is_current
-no_tags-not-checked-psk A setup now login going by_psk at_view (refuses_gpsk is_current gone_on in_view) = apart _ _ psk_kind gpsk_kind refl by_psk is_current
-no_tags-not-checked-psk A setup now login going by_psk at_view (ended over) = clash _ _ over going
-
-pub psk-checked : (setup : ServerSetup) (now : ServerNow) (login : psk.Login) → is_end now.vars.state ≡ false
-    → now.vars.current ≡ Some psk_kind → now.views.psk ≡ Some (psk.checked login)
-    → (accepted made : List TagRecord) → ServerStands setup now accepted made → PskIsChecked setup accepted made login
-psk-checked setup now login going by_psk at_view accepted made (begins owned unsure no_tags) =
-    no_tags-not-checked-psk _ setup now login going by_psk at_view no_tags
-psk-checked setup now login going by_psk at_view accepted made (psk_checks other id owned is_current gone_on in_view facts unsure) =
-    subst (λ (l : psk.Login). PskIsChecked setup (psk2_record other facts.mac ∷ []) (psk.psk3_records other id) l)
-    (same_psk_login login other _ at_view in_view)
-    (record { id = id; facts = facts; one_accepted = refl; some_made = refl })
-psk-checked setup now login going by_psk at_view accepted made (psk_succeeds other header tag sealed id owned is_current over in_view facts r_sent) = clash _ _ over going
-psk-checked setup now login going by_psk at_view accepted made (gpsk_checks other pd mac owned is_current gone_on in_view facts unsure) =
-    apart _ _ psk_kind gpsk_kind refl by_psk is_current
-psk-checked setup now login going by_psk at_view accepted made (gpsk_bars other taken sent owned is_current gone_on in_view unsure) =
-    apart _ _ psk_kind gpsk_kind refl by_psk is_current
-psk-checked setup now login going by_psk at_view accepted made (gpsk_succeeds other pd mac last owned is_current over in_view facts) = clash _ _ over going
-psk-checked setup now login going by_psk at_view accepted made (fails some others owned over unsure few) = clash _ _ over going
-
--- a server that has asked by EAP-GPSK
-pub record GpskIsAsked (setup : ServerSetup) (now : ServerNow) (accepted made : List TagRecord) (own : ServerSide) (nonce : List ℕ) : Type 0 where
-  pub ordered : is_among setup.methods gpsk_kind ≡ true
-  pub own_side : own ≡ side_of setup
-  pub own_nonce : nonce ≡ setup.nonce
-  pub unsure : is_success now.vars.state ≡ false
-  pub none_accepted : [] ≡ accepted
-  pub none_made : [] ≡ made
-
-same_gpsk_side : (own side : ServerSide) (nonce other : List ℕ) (held : Option gpsk.View) → held ≡ Some (gpsk.asked own nonce) → held ≡ Some (gpsk.asked side other)
-    → own ≡ side
-same_gpsk_side own side nonce other held is_one is_other = cc
-
-same_gpsk_nonce : (own side : ServerSide) (nonce other : List ℕ) (held : Option gpsk.View) → held ≡ Some (gpsk.asked own nonce) → held ≡ Some (gpsk.asked side other)
-    → nonce ≡ other
-same_gpsk_nonce own side nonce other held is_one is_other = cc
-
-gpsk-asked-not-checked : (A : Type 0) (own : ServerSide) (nonce : List ℕ) (login : gpsk.Login) (held : Option gpsk.View) → held ≡ Some (gpsk.asked own nonce)
-    → held ≡ Some (gpsk.checked login) → A
-gpsk-asked-not-checked A own nonce login held is_asked is_checked = absurd cc
-
-gpsk-asked-not-barring : (A : Type 0) (own : ServerSide) (nonce : List ℕ) (login : gpsk.Login) (held : Option gpsk.View) → held ≡ Some (gpsk.asked own nonce)
-    → held ≡ Some (gpsk.barring login) → A
-gpsk-asked-not-barring A own nonce login held is_asked is_barring = absurd cc
-
-gpsk-asked-not-refusing : (A : Type 0) (own side : ServerSide) (nonce other : List ℕ) (held : Option gpsk.View) → held ≡ Some (gpsk.asked own nonce)
-    → held ≡ Some (gpsk.refusing side other) → A
-gpsk-asked-not-refusing A own side nonce other held is_asked is_refusing = absurd cc
-
-gpsk-checked-not-barring : (A : Type 0) (login other : gpsk.Login) (held : Option gpsk.View) → held ≡ Some (gpsk.checked login)
-    → held ≡ Some (gpsk.barring other) → A
-gpsk-checked-not-barring A login other held is_checked is_barring = absurd cc
-
-gpsk-checked-not-refusing : (A : Type 0) (login : gpsk.Login) (side : ServerSide) (other : List ℕ) (held : Option gpsk.View) → held ≡ Some (gpsk.checked login)
-    → held ≡ Some (gpsk.refusing side other) → A
-gpsk-checked-not-refusing A login side other held is_checked is_refusing = absurd cc
-
-no_tags-gpsk : (setup : ServerSetup) (now : ServerNow) (own : ServerSide) (nonce : List ℕ) → is_end now.vars.state ≡ false
-    → now.vars.current ≡ Some gpsk_kind → now.views.gpsk ≡ Some (gpsk.asked own nonce) → is_success now.vars.state ≡ false
-    → HasNoTags setup now → GpskIsAsked setup now [] [] own nonce
-no_tags-gpsk setup now own nonce going by_gpsk at_view unsure (before none) = absurd cc
-no_tags-gpsk setup now own nonce going by_gpsk at_view unsure (asks_identity is_identity) = apart _ _ identity gpsk_kind refl is_identity by_gpsk
-no_tags-gpsk setup now own nonce going by_gpsk at_view unsure (asks_psk ordered is_current in_view) = apart _ _ gpsk_kind psk_kind refl by_gpsk is_current
-no_tags-gpsk setup now own nonce going by_gpsk at_view unsure (asks_gpsk ordered is_current in_view) = record {
-  ordered = ordered;
-  own_side = same_gpsk_side _ _ _ _ _ at_view in_view;
-  own_nonce = same_gpsk_nonce _ _ _ _ _ at_view in_view;
-  unsure = unsure;
-  none_accepted = refl;
-  none_made = refl;
-}
-no_tags-gpsk setup now own nonce going by_gpsk at_view unsure (refuses_gpsk is_current gone_on in_view) =
-    gpsk-asked-not-refusing _ _ _ _ _ _ at_view in_view
-no_tags-gpsk setup now own nonce going by_gpsk at_view unsure (ended over) = clash _ _ over going
-
-pub gpsk-asked : (setup : ServerSetup) (now : ServerNow) (own : ServerSide) (nonce : List ℕ) → is_end now.vars.state ≡ false
-    → now.vars.current ≡ Some gpsk_kind → now.views.gpsk ≡ Some (gpsk.asked own nonce)
-    → (accepted made : List TagRecord) → ServerStands setup now accepted made → GpskIsAsked setup now accepted made own nonce
-gpsk-asked setup now own nonce going by_gpsk at_view accepted made (begins owned unsure no_tags) =
-    no_tags-gpsk setup now own nonce going by_gpsk at_view unsure no_tags
-gpsk-asked setup now own nonce going by_gpsk at_view accepted made (psk_checks login id owned is_current gone_on in_view facts unsure) =
-    apart _ _ gpsk_kind psk_kind refl by_gpsk is_current
-gpsk-asked setup now own nonce going by_gpsk at_view accepted made (psk_succeeds login header tag sealed id owned is_current over in_view facts r_sent) = clash _ _ over going
-gpsk-asked setup now own nonce going by_gpsk at_view accepted made (gpsk_checks login pd mac owned is_current gone_on in_view facts unsure) =
-    gpsk-asked-not-checked _ own nonce login _ at_view in_view
-gpsk-asked setup now own nonce going by_gpsk at_view accepted made (gpsk_bars login taken sent owned is_current gone_on in_view unsure) =
-    gpsk-asked-not-barring _ own nonce login _ at_view in_view
-gpsk-asked setup now own nonce going by_gpsk at_view accepted made (gpsk_succeeds login pd mac last owned is_current over in_view facts) = clash _ _ over going
-gpsk-asked setup now own nonce going by_gpsk at_view accepted made (fails some others owned over unsure few) = clash _ _ over going
 
 -- a server that has sent GPSK-3
 pub record GpskIsChecked (setup : ServerSetup) (accepted made : List TagRecord) (login : gpsk.Login) : Type 0 where
@@ -279,36 +136,98 @@ pub record GpskIsChecked (setup : ServerSetup) (accepted made : List TagRecord) 
   pub one_accepted : sk_record login.psk (gpsk2_taken login pd mac) ∷ [] ≡ accepted
   pub one_made : sk_record login.psk (gpsk.gpsk3_of login) ∷ [] ≡ made
 
-same_gpsk_login : (login other : gpsk.Login) (held : Option gpsk.View) → held ≡ Some (gpsk.checked login) → held ≡ Some (gpsk.checked other) → other ≡ login
-same_gpsk_login login other held is_one is_other = cc
+-- what the view of the current method tells of the tags, before the end
+pub data PskTells (setup : ServerSetup) (now : ServerNow) : psk.View → List TagRecord → List TagRecord → Type 0 where
+  psk_asked : (ordered : is_among setup.methods psk_kind ≡ true) (unsure : is_success now.vars.state ≡ false)
+      → PskTells setup now (psk.asked (side_of setup) setup.nonce) [] []
+  psk_checked : (login : psk.Login) (id : ℕ) (facts : PskChecked setup login)
+      → PskTells setup now (psk.checked login) (psk2_record login facts.mac ∷ []) (psk.psk3_records login id)
 
-no_tags-not-checked-gpsk : (A : Type 0) (setup : ServerSetup) (now : ServerNow) (login : gpsk.Login) → is_end now.vars.state ≡ false
-    → now.vars.current ≡ Some gpsk_kind → now.views.gpsk ≡ Some (gpsk.checked login) → HasNoTags setup now → A
-no_tags-not-checked-gpsk A setup now login going by_gpsk at_view (before none) = absurd cc
-no_tags-not-checked-gpsk A setup now login going by_gpsk at_view (asks_identity is_identity) = apart _ _ identity gpsk_kind refl is_identity by_gpsk
-no_tags-not-checked-gpsk A setup now login going by_gpsk at_view (asks_psk ordered is_current in_view) = apart _ _ gpsk_kind psk_kind refl by_gpsk is_current
-no_tags-not-checked-gpsk A setup now login going by_gpsk at_view (asks_gpsk ordered is_current in_view) =
-    gpsk-asked-not-checked _ _ _ login _ in_view at_view
-no_tags-not-checked-gpsk A setup now login going by_gpsk at_view (refuses_gpsk is_current gone_on in_view) =
-    gpsk-checked-not-refusing _ login _ _ _ at_view in_view
-no_tags-not-checked-gpsk A setup now login going by_gpsk at_view (ended over) = clash _ _ over going
+pub data GpskTells (setup : ServerSetup) (now : ServerNow) : gpsk.View → List TagRecord → List TagRecord → Type 0 where
+  gpsk_asked : (ordered : is_among setup.methods gpsk_kind ≡ true) (unsure : is_success now.vars.state ≡ false)
+      → GpskTells setup now (gpsk.asked (side_of setup) setup.nonce) [] []
+  gpsk_refusing : GpskTells setup now (gpsk.refusing (side_of setup) setup.nonce) [] []
+  gpsk_checked : (login : gpsk.Login) (pd mac : List ℕ) (facts : GpskChecked setup login pd mac)
+      → GpskTells setup now (gpsk.checked login) (sk_record login.psk (gpsk2_taken login pd mac) ∷ []) (sk_record login.psk (gpsk.gpsk3_of login) ∷ [])
+  gpsk_barring : (login : gpsk.Login) (accepted made : List TagRecord) → GpskTells setup now (gpsk.barring login) accepted made
 
-pub gpsk-checked : (setup : ServerSetup) (now : ServerNow) (login : gpsk.Login) → is_end now.vars.state ≡ false
-    → now.vars.current ≡ Some gpsk_kind → now.views.gpsk ≡ Some (gpsk.checked login)
-    → (accepted made : List TagRecord) → ServerStands setup now accepted made → GpskIsChecked setup accepted made login
-gpsk-checked setup now login going by_gpsk at_view accepted made (begins owned unsure no_tags) =
-    no_tags-not-checked-gpsk _ setup now login going by_gpsk at_view no_tags
-gpsk-checked setup now login going by_gpsk at_view accepted made (psk_checks other id owned is_current gone_on in_view facts unsure) =
-    apart _ _ gpsk_kind psk_kind refl by_gpsk is_current
-gpsk-checked setup now login going by_gpsk at_view accepted made (psk_succeeds other header tag sealed id owned is_current over in_view facts r_sent) = clash _ _ over going
-gpsk-checked setup now login going by_gpsk at_view accepted made (gpsk_checks other pd mac owned is_current gone_on in_view facts unsure) =
-    subst (λ (l : gpsk.Login). GpskIsChecked setup (sk_record other.psk (gpsk2_taken other pd mac) ∷ []) (sk_record other.psk (gpsk.gpsk3_of other) ∷ []) l)
-    (same_gpsk_login login other _ at_view in_view)
-    (record { pd = pd; mac = mac; facts = facts; one_accepted = refl; one_made = refl })
-gpsk-checked setup now login going by_gpsk at_view accepted made (gpsk_bars other taken sent owned is_current gone_on in_view unsure) =
-    gpsk-checked-not-barring _ login other _ at_view in_view
-gpsk-checked setup now login going by_gpsk at_view accepted made (gpsk_succeeds other pd mac last owned is_current over in_view facts) = clash _ _ over going
-gpsk-checked setup now login going by_gpsk at_view accepted made (fails some others owned over unsure few) = clash _ _ over going
+one_view : {V : Type 0} (held : Option V) (one other : V) → held ≡ Some one → held ≡ Some other → other ≡ one
+one_view held one other is_one is_other = cc
+
+module _ (setup : ServerSetup) (now : ServerNow) (going : is_end now.vars.state ≡ false) where
+  module _ (by_psk : now.vars.current ≡ Some psk_kind) (view : psk.View) (at_view : now.views.psk ≡ Some view) where
+    psk-quiet : is_success now.vars.state ≡ false → HasNoTags setup now → PskTells setup now view [] []
+    psk-quiet unsure (before none) = absurd cc
+    psk-quiet unsure (asks_identity is_identity) = apart _ _ identity psk_kind refl is_identity by_psk
+    psk-quiet unsure (asks_psk ordered is_current in_view) =
+        subst (λ (v : psk.View). PskTells setup now v [] []) (one_view _ view _ at_view in_view) (psk_asked ordered unsure)
+    psk-quiet unsure (asks_gpsk ordered is_current in_view) = apart _ _ psk_kind gpsk_kind refl by_psk is_current
+    psk-quiet unsure (refuses_gpsk is_current gone_on in_view) = apart _ _ psk_kind gpsk_kind refl by_psk is_current
+    psk-quiet unsure (ended over) = clash _ _ over going
+
+    pub psk-tells : (accepted made : List TagRecord) → ServerStands setup now accepted made → PskTells setup now view accepted made
+    psk-tells _ _ (begins owned unsure no_tags) = psk-quiet unsure no_tags
+    psk-tells _ _ (psk_checks login id owned is_current gone_on in_view facts unsure) =
+        subst (λ (v : psk.View). PskTells setup now v (psk2_record login facts.mac ∷ []) (psk.psk3_records login id)) (one_view _ view _ at_view in_view)
+        (psk_checked login id facts)
+    psk-tells _ _ (psk_succeeds login header tag sealed id owned is_current over in_view facts r_sent) = clash _ _ over going
+    psk-tells _ _ (gpsk_checks login pd mac owned is_current gone_on in_view facts unsure) = apart _ _ psk_kind gpsk_kind refl by_psk is_current
+    psk-tells _ _ (gpsk_bars login taken sent owned is_current gone_on in_view unsure) = apart _ _ psk_kind gpsk_kind refl by_psk is_current
+    psk-tells _ _ (gpsk_succeeds login pd mac last owned is_current over in_view facts) = clash _ _ over going
+    psk-tells _ _ (fails some others owned over unsure few) = clash _ _ over going
+
+  module _ (by_gpsk : now.vars.current ≡ Some gpsk_kind) (view : gpsk.View) (at_view : now.views.gpsk ≡ Some view) where
+    gpsk-quiet : is_success now.vars.state ≡ false → HasNoTags setup now → GpskTells setup now view [] []
+    gpsk-quiet unsure (before none) = absurd cc
+    gpsk-quiet unsure (asks_identity is_identity) = apart _ _ identity gpsk_kind refl is_identity by_gpsk
+    gpsk-quiet unsure (asks_psk ordered is_current in_view) = apart _ _ gpsk_kind psk_kind refl by_gpsk is_current
+    gpsk-quiet unsure (asks_gpsk ordered is_current in_view) =
+        subst (λ (v : gpsk.View). GpskTells setup now v [] []) (one_view _ view _ at_view in_view) (gpsk_asked ordered unsure)
+    gpsk-quiet unsure (refuses_gpsk is_current gone_on in_view) =
+        subst (λ (v : gpsk.View). GpskTells setup now v [] []) (one_view _ view _ at_view in_view) gpsk_refusing
+    gpsk-quiet unsure (ended over) = clash _ _ over going
+
+    pub gpsk-tells : (accepted made : List TagRecord) → ServerStands setup now accepted made → GpskTells setup now view accepted made
+    gpsk-tells _ _ (begins owned unsure no_tags) = gpsk-quiet unsure no_tags
+    gpsk-tells _ _ (psk_checks login id owned is_current gone_on in_view facts unsure) = apart _ _ gpsk_kind psk_kind refl by_gpsk is_current
+    gpsk-tells _ _ (psk_succeeds login header tag sealed id owned is_current over in_view facts r_sent) = clash _ _ over going
+    gpsk-tells accepted made (gpsk_checks login pd mac owned is_current gone_on in_view facts unsure) =
+        subst (λ (v : gpsk.View). GpskTells setup now v accepted made) (one_view _ view _ at_view in_view) (gpsk_checked login pd mac facts)
+    gpsk-tells accepted made (gpsk_bars login taken sent owned is_current gone_on in_view unsure) =
+        subst (λ (v : gpsk.View). GpskTells setup now v accepted made) (one_view _ view _ at_view in_view) (gpsk_barring login _ _)
+    gpsk-tells _ _ (gpsk_succeeds login pd mac last owned is_current over in_view facts) = clash _ _ over going
+    gpsk-tells _ _ (fails some others owned over unsure few) = clash _ _ over going
+
+module _ (setup : ServerSetup) (now : ServerNow) where
+  pub psk-asked : (own : ServerSide) (nonce : List ℕ) (view : psk.View) (accepted made : List TagRecord) → PskTells setup now view accepted made
+      → view ≡ psk.asked own nonce → IsAsked setup psk_kind now accepted made own nonce
+  psk-asked own nonce _ _ _ (psk_asked ordered unsure) seen =
+      record { ordered = ordered; own_side = cc; own_nonce = cc; unsure = unsure; none_accepted = refl; none_made = refl }
+  psk-asked own nonce _ _ _ (psk_checked login id facts) seen = cc
+
+  pub psk-checked : (login : psk.Login) (view : psk.View) (accepted made : List TagRecord) → PskTells setup now view accepted made
+      → view ≡ psk.checked login → PskIsChecked setup accepted made login
+  psk-checked login _ _ _ (psk_asked ordered unsure) seen = cc
+  psk-checked login _ accepted made (psk_checked other id facts) seen =
+      subst (λ (l : psk.Login). PskIsChecked setup accepted made l) (let same : other ≡ login = cc in same)
+      (record { id = id; facts = facts; one_accepted = refl; some_made = refl })
+
+  pub gpsk-asked : (own : ServerSide) (nonce : List ℕ) (view : gpsk.View) (accepted made : List TagRecord) → GpskTells setup now view accepted made
+      → view ≡ gpsk.asked own nonce → IsAsked setup gpsk_kind now accepted made own nonce
+  gpsk-asked own nonce _ _ _ (gpsk_asked ordered unsure) seen =
+      record { ordered = ordered; own_side = cc; own_nonce = cc; unsure = unsure; none_accepted = refl; none_made = refl }
+  gpsk-asked own nonce _ _ _ gpsk_refusing seen = cc
+  gpsk-asked own nonce _ _ _ (gpsk_checked login pd mac facts) seen = cc
+  gpsk-asked own nonce _ _ _ (gpsk_barring login accepted made) seen = cc
+
+  pub gpsk-checked : (login : gpsk.Login) (view : gpsk.View) (accepted made : List TagRecord) → GpskTells setup now view accepted made
+      → view ≡ gpsk.checked login → GpskIsChecked setup accepted made login
+  gpsk-checked login _ _ _ (gpsk_asked ordered unsure) seen = cc
+  gpsk-checked login _ _ _ gpsk_refusing seen = cc
+  gpsk-checked login _ accepted made (gpsk_checked other pd mac facts) seen =
+      subst (λ (l : gpsk.Login). GpskIsChecked setup accepted made l) (let same : other ≡ login = cc in same)
+      (record { pd = pd; mac = mac; facts = facts; one_accepted = refl; one_made = refl })
+  gpsk-checked login _ _ _ (gpsk_barring other accepted made) seen = cc
 
 pub side-suites : (setup : ServerSetup) → (side_of setup).suites ≡ setup.suites
 unfolding side_of
