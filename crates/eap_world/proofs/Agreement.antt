@@ -17,13 +17,13 @@ use Rattle.eap_world.specs.World.{WorldNow, world_made, world_start}
 use Rattle.eap_world.specs.declared.book.End.TheVariants as end
 use Rattle.eap_world.specs.Agreement.{IsWhole, IsOfRun, AgreesWhereHonest, HonestEndsAgree, run_of}
 use Rattle.eap_world.specs.PeerStands.{PeerStands, begins, psk_waits, psk_fails, psk_succeeds, gpsk_waits, gpsk_fails, gpsk_succeeds}
-use Rattle.eap_world.specs.ServerStands as server
 use Rattle.eap_world.specs.ServerStands.{ServerStands}
 use Rattle.eap_world.specs.Records.{AreIn, tags_by}
 use Rattle.eap_world.proofs.Booked.{honest_tags}
 use Rattle.eap_world.proofs.Running.{BothStand, run_stands}
 use Rattle.eap_world.proofs.PeerKeeps as peer_calls
 use Rattle.eap_world.proofs.ServerKeeps as server_calls
+use Rattle.eap_world.proofs.ServerViews.{own_of}
 use Rattle.eap_world.proofs.Agreeing.{ends_agree}
 
 pub none_if_honest : (o : Option ℕ) → verdict_on o ≡ Honest → o ≡ None
@@ -34,7 +34,7 @@ agree_if : (one other same : Bool) → one ≡ true → other ≡ true → same 
     → (let verdict : Verdict = if one && other then (if same then Agree else Apart) else Unfinished in verdict) ≡ Agree
 agree_if one other same a b c = rw (a, b, c) refl
 
--- each end keeps its settings
+-- the peer keeps its settings
 pub peer_own : (setup : PeerSetup) (now : PeerNow) (accepted made : List TagRecord) → PeerStands setup now accepted made → now.vars.setup ≡ setup
 peer_own setup now _ _ (begins own none begun fails unsure) = own
 peer_own setup now _ _ (psk_waits login own is_selected in_view facts fails unsure) = own
@@ -43,15 +43,6 @@ peer_own setup now _ _ (psk_succeeds login header mac tag sealed id own is_selec
 peer_own setup now _ _ (gpsk_waits login list own is_selected in_view facts fails unsure) = own
 peer_own setup now _ _ (gpsk_fails login accepted made own is_selected in_view fails unsure few) = own
 peer_own setup now _ _ (gpsk_succeeds login list message own is_selected in_view facts decided) = own
-
-pub server_own : (setup : ServerSetup) (now : ServerNow) (accepted made : List TagRecord) → ServerStands setup now accepted made → now.vars.setup ≡ setup
-server_own setup now _ _ (server.begins own unsure no_tags) = own
-server_own setup now _ _ (server.psk_checks login id own is_current gone_on in_view facts unsure) = own
-server_own setup now _ _ (server.psk_succeeds login header tag sealed id own is_current over in_view facts r_sent) = own
-server_own setup now _ _ (server.gpsk_checks login pd mac own is_current gone_on in_view facts unsure) = own
-server_own setup now _ _ (server.gpsk_bars login taken sent own is_current gone_on in_view unsure) = own
-server_own setup now _ _ (server.gpsk_succeeds login pd mac last own is_current over in_view facts) = own
-server_own setup now _ _ (server.fails accepted made own over unsure few) = own
 
 module _
     (agree : (peer_setup : PeerSetup) (server_setup : ServerSetup) (p : PeerNow) (s : ServerNow) (peer_accepted peer_made_tags server_accepted server_made_tags : List TagRecord)
@@ -70,7 +61,7 @@ module _
         let same = agree setup.peer setup.server w.peer w.server _ _ _ _ whole.peer_nonce whole.server_nonce both.peer_stands both.server_stands
         (honest_tags end.Peer w.book none) (honest_tags end.Server w.book none) p_in s_in in
         let p_own = peer_own setup.peer w.peer _ _ both.peer_stands in
-        let s_own = server_own setup.server w.server _ _ both.server_stands in
+        let s_own = own_of setup.server w.server _ _ both.server_stands in
         agree_if (is_success w.peer.vars.state) (is_success w.server.vars.state) _ p_in s_in (rw (p_own, s_own) same)
 
 -- ---- every run

@@ -40,7 +40,7 @@ use Rattle.server_machine.proofs.ServerRows.{server_answers_are_rows}
 use Rattle.server_machine.specs.declared.variables.ServerVariables.{ServerVariables}
 use Rattle.eap_world.specs.Verdict.{is_success}
 use Rattle.eap_world.specs.ServerStands.{PskChecked, GpskChecked, gpsk2_taken, HasNoTags, before, asks_identity, asks_psk, asks_gpsk, refuses_gpsk, ended, ServerStands, begins, psk_checks, psk_succeeds, gpsk_checks, gpsk_bars, gpsk_succeeds, fails}
-use Rattle.eap_world.proofs.ServerViews.{own_of, server_few, GpskIsChecked, IsAsked, IsFresh, PskIsChecked, few_grow, few_stay, going_one, gpsk-asked, gpsk-checked, gpsk-tells, identity-fresh, proposed-fresh, psk-asked, psk-checked, psk-tells, recast, side-suites}
+use Rattle.eap_world.proofs.ServerViews.{own_of, server_few, GpskTells, gpsk_asked, gpsk_barring, gpsk_checked, gpsk_refusing, IsFresh, PskTells, psk_asked, psk_checked, few_grow, few_stay, going_one, gpsk-tells, identity-fresh, proposed-fresh, psk-tells, recast, side-suites}
 
 -- after a call the invariant stands, with the tags of its step
 pub record Keeps (setup : ServerSetup) (accepted made : List TagRecord) (out : ServerAnswer) : Type 0 where
@@ -87,6 +87,122 @@ untagged : (setup : ServerSetup) (now : ServerNow) (accepted made : List TagReco
     → ServerStands setup now (accepted ++ []) (made ++ [])
 untagged setup now accepted made stands =
     recast setup now accepted made (accepted ++ []) (made ++ []) (sym (append-nil accepted)) (sym (append-nil made)) stands
+
+-- the turns of a method, in a view that tells the tags
+module _ (setup : ServerSetup) (now : ServerNow) (own-setup : now.vars.setup ≡ setup) (id : ℕ) (octets : List ℕ) where
+  module _ (by_psk : now.vars.current ≡ Some psk_kind) where
+    psk_answer-keeps : (view : psk.View) (accepted made : List TagRecord) → PskTells setup now view accepted made
+        → (own : ServerSide) (nonce rand_s rand_p mac id_p : List ℕ) (user : User) → view ≡ psk.asked own nonce
+        → psk_reading.read_of (body_of octets) ≡ Ok (psk2 rand_s rand_p mac id_p) → rand_s ≡ rand_of nonce
+        → user_of now.vars.setup.users id_p psk_kind ≡ Some user → (packet : List ℕ)
+        → (let login = psk_rows.login_from own nonce id_p user rand_p in
+        Keeps setup accepted made (method_answers now id (record now.views { psk = Some (psk.checked login) })
+        (turn.Request packet (record { accepted = ak_record user.psk (psk.mac_p_covers login) mac ∷ []; made = psk.psk3_records login (next_id now.vars) }))))
+    psk_answer-keeps _ _ _ (psk_checked login id facts) own nonce rand_s rand_p mac id_p user in_view is_read own_nonce known packet = cc
+    psk_answer-keeps _ _ _ (psk_asked ordered unsure) own nonce rand_s rand_p mac id_p user in_view is_read own_nonce known packet = record {
+      stands = psk_checks (psk_rows.login_from own nonce id_p user rand_p) (next_id now.vars) own-setup by_psk refl refl
+          (record {
+            ordered = ordered;
+            own = cc;
+            nonce = cc;
+            user = user;
+            known = ap (λ (s : ServerSetup). user_of s.users id_p psk_kind) (sym own-setup) ∙ known;
+            key = refl;
+            r = refl;
+            body = body_of octets;
+            mac = mac;
+            is_read = is_read ∙ ap (λ (r : List ℕ). Ok (psk2 r rand_p mac id_p)) own_nonce;
+          })
+          unsure;
+    }
+
+    psk_success-keeps : (view : psk.View) (accepted made : List TagRecord) → PskTells setup now view accepted made
+        → (login : psk.Login) (header tag : List ℕ) (sealed : ℕ) → view ≡ psk.checked login → login.r ≡ 2
+        → Keeps setup accepted made (method_answers now id (record now.views { psk = Some (psk.over login true) })
+        (turn.Done true (record { accepted = tek_record login.psk 1 header sealed tag ∷ []; made = [] })))
+    psk_success-keeps _ _ _ (psk_asked ordered unsure) login header tag sealed in_view r_sent = cc
+    psk_success-keeps _ accepted made (psk_checked kept number facts) login header tag sealed in_view r_sent =
+        let same : kept ≡ login = cc in
+        subst
+        (λ (known : psk.Login). Keeps setup accepted made (method_answers now id (record now.views { psk = Some (psk.over known true) })
+        (turn.Done true (record { accepted = tek_record known.psk 1 header sealed tag ∷ []; made = [] }))))
+        same
+        (record { stands = psk_succeeds kept header tag sealed number own-setup by_psk refl refl facts (ap (λ (known : psk.Login). known.r) same ∙ r_sent) })
+
+  module _ (by_gpsk : now.vars.current ≡ Some gpsk_kind) where
+    gpsk_refuse-keeps : (view : gpsk.View) (accepted made : List TagRecord) → GpskTells setup now view accepted made
+        → (own : ServerSide) (nonce : List ℕ) → view ≡ gpsk.asked own nonce → (packet : List ℕ)
+        → Keeps setup accepted made (method_answers now id (record now.views { gpsk = Some (gpsk.refusing own nonce) })
+        (turn.Request packet (record { accepted = []; made = [] })))
+    gpsk_refuse-keeps _ _ _ (gpsk_asked ordered unsure) own nonce in_view packet = record { stands = begins own-setup unsure (refuses_gpsk by_gpsk refl cc) }
+    gpsk_refuse-keeps _ _ _ gpsk_refusing own nonce in_view packet = cc
+    gpsk_refuse-keeps _ _ _ (gpsk_checked login pd mac facts) own nonce in_view packet = cc
+    gpsk_refuse-keeps _ _ _ (gpsk_barring login accepted made) own nonce in_view packet = cc
+
+    gpsk_bar-keeps : (view : gpsk.View) (accepted made : List TagRecord) → GpskTells setup now view accepted made
+        → (own : ServerSide) (nonce : List ℕ) (login : gpsk.Login) → view ≡ gpsk.asked own nonce → (packet : List ℕ) (taken sent : TagRecord)
+        → Keeps setup accepted made (method_answers now id (record now.views { gpsk = Some (gpsk.barring login) })
+        (turn.Request packet (record { accepted = taken ∷ []; made = sent ∷ [] })))
+    gpsk_bar-keeps _ _ _ (gpsk_asked ordered unsure) own nonce login in_view packet taken sent =
+        record { stands = gpsk_bars login taken sent own-setup by_gpsk refl refl unsure }
+    gpsk_bar-keeps _ _ _ gpsk_refusing own nonce login in_view packet taken sent = cc
+    gpsk_bar-keeps _ _ _ (gpsk_checked other pd mac facts) own nonce login in_view packet taken sent = cc
+    gpsk_bar-keeps _ _ _ (gpsk_barring other accepted made) own nonce login in_view packet taken sent = cc
+
+    gpsk_check-keeps : (view : gpsk.View) (accepted made : List TagRecord) → GpskTells setup now view accepted made
+        → (own : ServerSide) (nonce id_p id_s rand_p rand_s list : List ℕ) (suite : Suite) (pd mac : List ℕ) (user : User)
+        → view ≡ gpsk.asked own nonce
+        → gpsk_reading.read_of None (body_of octets) ≡ Ok (gpsk2 id_p id_s rand_p rand_s list suite pd mac)
+        → id_s ≡ own.id_s → rand_s ≡ nonce → list ≡ suite_list own.suites
+        → is_among own.suites (suite_number suite) ≡ true
+        → user_of now.vars.setup.users id_p gpsk_kind ≡ Some user → user.barred ≡ false → (packet : List ℕ)
+        → (let login = gpsk_rows.login_from own nonce id_p user rand_p suite in
+        Keeps setup accepted made (method_answers now id (record now.views { gpsk = Some (gpsk.checked login) })
+        (turn.Request packet (record {
+          accepted = sk_record user.psk (gpsk2 id_p id_s rand_p rand_s list suite pd mac) ∷ [];
+          made = sk_record user.psk (gpsk.gpsk3_of login) ∷ [];
+        }))))
+    gpsk_check-keeps _ _ _ (gpsk_asked ordered unsure) own nonce id_p id_s rand_p rand_s list suite pd mac user in_view is_read own_name own_nonce own_list offered known not_barred packet =
+        let login : gpsk.Login = gpsk_rows.login_from own nonce id_p user rand_p suite in
+        let own_side : own ≡ side_of setup = cc in
+        let same : gpsk2 id_p id_s rand_p rand_s list suite pd mac ≡ gpsk2_taken login pd mac =
+        ap (λ (x : List ℕ). gpsk2 id_p x rand_p rand_s list suite pd mac) own_name
+        ∙ (ap (λ (x : List ℕ). gpsk2 id_p own.id_s rand_p x list suite pd mac) own_nonce
+        ∙ ap (λ (x : List ℕ). gpsk2 id_p own.id_s rand_p nonce x suite pd mac) own_list) in
+        let facts : GpskChecked setup login pd mac = record {
+          ordered = ordered;
+          own = own_side;
+          nonce = cc;
+          user = user;
+          known = ap (λ (s : ServerSetup). user_of s.users id_p gpsk_kind) (sym own-setup) ∙ known;
+          key = refl;
+          welcome = not_barred;
+          offered = ap (λ (suites : List ℕ). is_among suites (suite_number suite)) (sym (ap (λ (s : ServerSide). s.suites) own_side ∙ side-suites setup)) ∙ offered;
+          body = body_of octets;
+          is_read = is_read ∙ ap (λ (m : Message). Ok m) same;
+        } in
+        record {
+          stands = recast setup _ _ _ _ _ (ap (λ (m : Message). sk_record user.psk m ∷ []) (sym same)) refl
+              (gpsk_checks login pd mac own-setup by_gpsk refl refl facts unsure);
+        }
+    gpsk_check-keeps _ _ _ gpsk_refusing own nonce id_p id_s rand_p rand_s list suite pd mac user in_view is_read own_name own_nonce own_list offered known not_barred packet = cc
+    gpsk_check-keeps _ _ _ (gpsk_checked login _ _ facts) own nonce id_p id_s rand_p rand_s list suite pd mac user in_view is_read own_name own_nonce own_list offered known not_barred packet = cc
+    gpsk_check-keeps _ _ _ (gpsk_barring login accepted made) own nonce id_p id_s rand_p rand_s list suite pd mac user in_view is_read own_name own_nonce own_list offered known not_barred packet = cc
+
+    gpsk_success-keeps : (view : gpsk.View) (accepted made : List TagRecord) → GpskTells setup now view accepted made
+        → (login : gpsk.Login) (last : Message) → view ≡ gpsk.checked login
+        → Keeps setup accepted made (method_answers now id (record now.views { gpsk = Some (gpsk.over login true) })
+        (turn.Done true (record { accepted = sk_record login.psk last ∷ []; made = [] })))
+    gpsk_success-keeps _ _ _ (gpsk_asked ordered unsure) login last in_view = cc
+    gpsk_success-keeps _ _ _ gpsk_refusing login last in_view = cc
+    gpsk_success-keeps _ accepted made (gpsk_checked kept pd mac facts) login last in_view =
+        let same : kept ≡ login = cc in
+        subst
+        (λ (known : gpsk.Login). Keeps setup accepted made (method_answers now id (record now.views { gpsk = Some (gpsk.over known true) })
+        (turn.Done true (record { accepted = sk_record known.psk last ∷ []; made = [] }))))
+        same
+        (record { stands = gpsk_succeeds kept pd mac last own-setup by_gpsk refl refl facts })
+    gpsk_success-keeps _ _ _ (gpsk_barring other accepted made) login last in_view = cc
 
 -- what a server in this state keeps
 module _ (setup : ServerSetup) (now : ServerNow) (accepted made : List TagRecord) (stands : ServerStands setup now accepted made) where
@@ -164,47 +280,8 @@ module _ (setup : ServerSetup) (now : ServerNow) (accepted made : List TagRecord
 
     -- a turn of EAP-PSK
     module _ (by_psk : now.vars.current ≡ Some psk_kind) (view : psk.View) (at_view : now.views.psk ≡ Some view) where
-      psk_answer-keeps : (own : ServerSide) (nonce rand_s rand_p mac id_p : List ℕ) (user : User) → view ≡ psk.asked own nonce
-          → psk_reading.read_of (body_of octets) ≡ Ok (psk2 rand_s rand_p mac id_p) → rand_s ≡ rand_of nonce
-          → user_of now.vars.setup.users id_p psk_kind ≡ Some user → (packet : List ℕ)
-          → (let login = psk_rows.login_from own nonce id_p user rand_p in
-          Keeps setup accepted made (method_answers now id (record now.views { psk = Some (psk.checked login) })
-          (turn.Request packet (record { accepted = ak_record user.psk (psk.mac_p_covers login) mac ∷ []; made = psk.psk3_records login (next_id now.vars) }))))
-      psk_answer-keeps own nonce rand_s rand_p mac id_p user in_view is_read own_nonce known packet =
-          let login : psk.Login = psk_rows.login_from own nonce id_p user rand_p in
-          let asked : IsAsked setup psk_kind now accepted made own nonce =
-          psk-asked setup now own nonce view accepted made (psk-tells setup now going by_psk view at_view accepted made stands) in_view in
-          let facts : PskChecked setup login = record {
-            ordered = asked.ordered;
-            own = asked.own_side;
-            nonce = asked.own_nonce;
-            user = user;
-            known = ap (λ (s : ServerSetup). user_of s.users id_p psk_kind) (sym own-setup) ∙ known;
-            key = refl;
-            r = refl;
-            body = body_of octets;
-            mac = mac;
-            is_read = is_read ∙ ap (λ (r : List ℕ). Ok (psk2 r rand_p mac id_p)) own_nonce;
-          } in
-          record {
-            stands = recast setup _ _ _ _ _
-                (ap (λ (tags : List TagRecord). tags ++ (ak_record user.psk (psk.mac_p_covers login) mac ∷ [])) asked.none_accepted)
-                (ap (λ (tags : List TagRecord). tags ++ psk.psk3_records login (next_id now.vars)) asked.none_made)
-                (psk_checks login (next_id now.vars) own-setup by_psk refl refl facts asked.unsure);
-          }
-
-      psk_success-keeps : (login : psk.Login) (header tag : List ℕ) (sealed : ℕ) → view ≡ psk.checked login → login.r ≡ 2
-          → Keeps setup accepted made (method_answers now id (record now.views { psk = Some (psk.over login true) })
-          (turn.Done true (record { accepted = tek_record login.psk 1 header sealed tag ∷ []; made = [] })))
-      psk_success-keeps login header tag sealed in_view r_sent =
-          let held : PskIsChecked setup accepted made login =
-          psk-checked setup now login view accepted made (psk-tells setup now going by_psk view at_view accepted made stands) in_view in
-          record {
-            stands = recast setup _ _ _ _ _
-                (ap (λ (tags : List TagRecord). tags ++ (tek_record login.psk 1 header sealed tag ∷ [])) held.one_accepted)
-                (held.some_made ∙ sym (append-nil made))
-                (psk_succeeds login header tag sealed held.id own-setup by_psk refl refl held.facts r_sent);
-          }
+      psk_told : PskTells setup now view accepted made
+      psk_told = psk-tells setup now going by_psk view at_view accepted made stands
 
       psk_row-keeps : (out : ServerOutcome psk.View) → psk_rows.PskServerRow now.vars.setup.users (next_id now.vars) view octets out
           → Keeps setup accepted made (method_answers now id (psk_turn now.views out).after (psk_turn now.views out).turn)
@@ -212,109 +289,29 @@ module _ (setup : ServerSetup) (now : ServerNow) (accepted made : List TagRecord
       psk_row-keeps out (psk_rows.refuses own nonce rand_s rand_p mac id_p in_view is_read own_nonce unknown) =
           method_fails-keeps _ _ (omega arith) (omega arith)
       psk_row-keeps out (psk_rows.answers own nonce rand_s rand_p mac id_p user in_view is_read own_nonce known has_mac) =
-          psk_answer-keeps own nonce rand_s rand_p mac id_p user in_view is_read own_nonce known _
+          psk_answer-keeps setup now own-setup id octets by_psk view accepted made psk_told own nonce rand_s rand_p mac id_p user in_view is_read own_nonce known _
       psk_row-keeps out (psk_rows.ends_success login rand_s nonce tag sealed in_view is_read own_nonce is_second has_seal has_tag is_plain both own_success their_success) =
-          psk_success-keeps login (header_of octets) tag sealed in_view own_success
+          psk_success-keeps setup now own-setup id octets by_psk view accepted made psk_told login (header_of octets) tag sealed in_view own_success
       psk_row-keeps out (psk_rows.ends_failure login rand_s nonce tag sealed in_view is_read own_nonce is_second has_seal has_tag is_plain has_result not_both is_failure) =
           method_fails-keeps _ _ (omega arith) (omega arith)
 
     -- a turn of EAP-GPSK
     module _ (by_gpsk : now.vars.current ≡ Some gpsk_kind) (view : gpsk.View) (at_view : now.views.gpsk ≡ Some view) where
-      gpsk_refuse-keeps : (own : ServerSide) (nonce : List ℕ) → view ≡ gpsk.asked own nonce → (packet : List ℕ)
-          → Keeps setup accepted made (method_answers now id (record now.views { gpsk = Some (gpsk.refusing own nonce) })
-          (turn.Request packet (record { accepted = []; made = [] })))
-      gpsk_refuse-keeps own nonce in_view packet =
-          let asked : IsAsked setup gpsk_kind now accepted made own nonce =
-          gpsk-asked setup now own nonce view accepted made (gpsk-tells setup now going by_gpsk view at_view accepted made stands) in_view in
-          let same : Some (gpsk.refusing own nonce) ≡ Some (gpsk.refusing (side_of setup) setup.nonce) =
-          ap (λ (s : ServerSide). Some (gpsk.refusing s nonce)) asked.own_side
-          ∙ ap (λ (n : List ℕ). Some (gpsk.refusing (side_of setup) n)) asked.own_nonce in
-          record {
-            stands = recast setup _ _ _ _ _
-                (asked.none_accepted ∙ sym (append-nil accepted))
-                (asked.none_made ∙ sym (append-nil made))
-                (begins own-setup asked.unsure (refuses_gpsk by_gpsk refl same));
-          }
-
-      gpsk_bar-keeps : (own : ServerSide) (nonce : List ℕ) (login : gpsk.Login) → view ≡ gpsk.asked own nonce → (packet : List ℕ) (taken sent : TagRecord)
-          → Keeps setup accepted made (method_answers now id (record now.views { gpsk = Some (gpsk.barring login) })
-          (turn.Request packet (record { accepted = taken ∷ []; made = sent ∷ [] })))
-      gpsk_bar-keeps own nonce login in_view packet taken sent =
-          let asked : IsAsked setup gpsk_kind now accepted made own nonce =
-          gpsk-asked setup now own nonce view accepted made (gpsk-tells setup now going by_gpsk view at_view accepted made stands) in_view in
-          record {
-            stands = recast setup _ _ _ _ _
-                (ap (λ (tags : List TagRecord). tags ++ (taken ∷ [])) asked.none_accepted)
-                (ap (λ (tags : List TagRecord). tags ++ (sent ∷ [])) asked.none_made)
-                (gpsk_bars login taken sent own-setup by_gpsk refl refl asked.unsure);
-          }
-
-      gpsk_check-keeps : (own : ServerSide) (nonce id_p id_s rand_p rand_s list : List ℕ) (suite : Suite) (pd mac : List ℕ) (user : User)
-          → view ≡ gpsk.asked own nonce
-          → gpsk_reading.read_of None (body_of octets) ≡ Ok (gpsk2 id_p id_s rand_p rand_s list suite pd mac)
-          → id_s ≡ own.id_s → rand_s ≡ nonce → list ≡ suite_list own.suites
-          → is_among own.suites (suite_number suite) ≡ true
-          → user_of now.vars.setup.users id_p gpsk_kind ≡ Some user → user.barred ≡ false → (packet : List ℕ)
-          → (let login = gpsk_rows.login_from own nonce id_p user rand_p suite in
-          Keeps setup accepted made (method_answers now id (record now.views { gpsk = Some (gpsk.checked login) })
-          (turn.Request packet (record {
-            accepted = sk_record user.psk (gpsk2 id_p id_s rand_p rand_s list suite pd mac) ∷ [];
-            made = sk_record user.psk (gpsk.gpsk3_of login) ∷ [];
-          }))))
-      gpsk_check-keeps own nonce id_p id_s rand_p rand_s list suite pd mac user in_view is_read own_name own_nonce own_list offered known not_barred packet =
-          let login : gpsk.Login = gpsk_rows.login_from own nonce id_p user rand_p suite in
-          let asked : IsAsked setup gpsk_kind now accepted made own nonce =
-          gpsk-asked setup now own nonce view accepted made (gpsk-tells setup now going by_gpsk view at_view accepted made stands) in_view in
-          let same : gpsk2 id_p id_s rand_p rand_s list suite pd mac ≡ gpsk2_taken login pd mac =
-          ap (λ (x : List ℕ). gpsk2 id_p x rand_p rand_s list suite pd mac) own_name
-          ∙ (ap (λ (x : List ℕ). gpsk2 id_p own.id_s rand_p x list suite pd mac) own_nonce
-          ∙ ap (λ (x : List ℕ). gpsk2 id_p own.id_s rand_p nonce x suite pd mac) own_list) in
-          let facts : GpskChecked setup login pd mac = record {
-            ordered = asked.ordered;
-            own = asked.own_side;
-            nonce = asked.own_nonce;
-            user = user;
-            known = ap (λ (s : ServerSetup). user_of s.users id_p gpsk_kind) (sym own-setup) ∙ known;
-            key = refl;
-            welcome = not_barred;
-            offered = ap (λ (suites : List ℕ). is_among suites (suite_number suite))
-                (sym (ap (λ (s : ServerSide). s.suites) asked.own_side ∙ side-suites setup)) ∙ offered;
-            body = body_of octets;
-            is_read = is_read ∙ ap (λ (m : Message). Ok m) same;
-          } in
-          record {
-            stands = recast setup _ _ _ _ _
-                (ap (λ (m : Message). [] ++ (sk_record user.psk m ∷ [])) (sym same)
-                ∙ ap (λ (tags : List TagRecord). tags ++ (sk_record user.psk (gpsk2 id_p id_s rand_p rand_s list suite pd mac) ∷ [])) asked.none_accepted)
-                (ap (λ (tags : List TagRecord). tags ++ (sk_record user.psk (gpsk.gpsk3_of login) ∷ [])) asked.none_made)
-                (gpsk_checks login pd mac own-setup by_gpsk refl refl facts asked.unsure);
-          }
-
-      gpsk_success-keeps : (login : gpsk.Login) (last : Message) → view ≡ gpsk.checked login
-          → Keeps setup accepted made (method_answers now id (record now.views { gpsk = Some (gpsk.over login true) })
-          (turn.Done true (record { accepted = sk_record login.psk last ∷ []; made = [] })))
-      gpsk_success-keeps login last in_view =
-          let held : GpskIsChecked setup accepted made login =
-          gpsk-checked setup now login view accepted made (gpsk-tells setup now going by_gpsk view at_view accepted made stands) in_view in
-          record {
-            stands = recast setup _ _ _ _ _
-                (ap (λ (tags : List TagRecord). tags ++ (sk_record login.psk last ∷ [])) held.one_accepted)
-                (held.one_made ∙ sym (append-nil made))
-                (gpsk_succeeds login held.pd held.mac last own-setup by_gpsk refl refl held.facts);
-          }
+      gpsk_told : GpskTells setup now view accepted made
+      gpsk_told = gpsk-tells setup now going by_gpsk view at_view accepted made stands
 
       gpsk_row-keeps : (out : ServerOutcome gpsk.View) → gpsk_rows.GpskServerRow now.vars.setup.users (next_id now.vars) view octets out
           → Keeps setup accepted made (method_answers now id (gpsk_turn now.views out).after (gpsk_turn now.views out).turn)
       gpsk_row-keeps out (gpsk_rows.drops cause) = discard-keeps _ cause
       gpsk_row-keeps out (gpsk_rows.refuses own nonce id_p id_s rand_p rand_s list suite pd mac in_view is_read repeated own_name own_nonce own_list offered unknown) =
-          gpsk_refuse-keeps own nonce in_view _
+          gpsk_refuse-keeps setup now own-setup id octets by_gpsk view accepted made gpsk_told own nonce in_view _
       gpsk_row-keeps out (gpsk_rows.bars own nonce id_p id_s rand_p rand_s list suite pd mac user in_view is_read repeated own_name own_nonce own_list offered known is_barred is_tagged has_mac) =
-          gpsk_bar-keeps own nonce (gpsk_rows.login_from own nonce id_p user rand_p suite) in_view _ _ _
+          gpsk_bar-keeps setup now own-setup id octets by_gpsk view accepted made gpsk_told own nonce (gpsk_rows.login_from own nonce id_p user rand_p suite) in_view _ _ _
       gpsk_row-keeps out (gpsk_rows.checks own nonce id_p id_s rand_p rand_s list suite pd mac user in_view is_read repeated own_name own_nonce own_list offered known not_barred is_tagged has_mac) =
-          gpsk_check-keeps own nonce id_p id_s rand_p rand_s list suite pd mac user in_view is_read own_name own_nonce own_list offered known not_barred _
+          gpsk_check-keeps setup now own-setup id octets by_gpsk view accepted made gpsk_told own nonce id_p id_s rand_p rand_s list suite pd mac user in_view is_read own_name own_nonce own_list offered known not_barred _
       gpsk_row-keeps out (gpsk_rows.ends_refusing own nonce code in_view is_read own_code) = method_fails-keeps _ _ (omega arith) (omega arith)
       gpsk_row-keeps out (gpsk_rows.ends_barring login code mac in_view is_read own_code is_tagged has_mac) = method_fails-keeps _ _ (omega arith) (omega arith)
-      gpsk_row-keeps out (gpsk_rows.ends_checked login pd mac in_view is_read is_tagged has_mac) = gpsk_success-keeps login _ in_view
+      gpsk_row-keeps out (gpsk_rows.ends_checked login pd mac in_view is_read is_tagged has_mac) = gpsk_success-keeps setup now own-setup id octets by_gpsk view accepted made gpsk_told login _ in_view
 
     -- a turn of the current method
     psk_hears-keeps : now.vars.current ≡ Some psk_kind → (view : Option psk.View) → now.views.psk ≡ view

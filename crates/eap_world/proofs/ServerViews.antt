@@ -112,30 +112,6 @@ identity-fresh setup now accepted made going asks (gpsk_bars login taken sent ow
 identity-fresh setup now accepted made going asks (gpsk_succeeds login pd mac last own is_current over in_view facts) = clash _ _ over going
 identity-fresh setup now accepted made going asks (fails some others own over unsure few) = clash _ _ over going
 
--- a server that has asked by this method
-pub record IsAsked (setup : ServerSetup) (kind : ℕ) (now : ServerNow) (accepted made : List TagRecord) (own : ServerSide) (nonce : List ℕ) : Type 0 where
-  pub ordered : is_among setup.methods kind ≡ true
-  pub own_side : own ≡ side_of setup
-  pub own_nonce : nonce ≡ setup.nonce
-  pub unsure : is_success now.vars.state ≡ false
-  pub none_accepted : [] ≡ accepted
-  pub none_made : [] ≡ made
-
--- a server that has sent PSK-3
-pub record PskIsChecked (setup : ServerSetup) (accepted made : List TagRecord) (login : psk.Login) : Type 0 where
-  pub id : ℕ
-  pub facts : PskChecked setup login
-  pub one_accepted : psk2_record login facts.mac ∷ [] ≡ accepted
-  pub some_made : psk.psk3_records login id ≡ made
-
--- a server that has sent GPSK-3
-pub record GpskIsChecked (setup : ServerSetup) (accepted made : List TagRecord) (login : gpsk.Login) : Type 0 where
-  pub pd : List ℕ
-  pub mac : List ℕ
-  pub facts : GpskChecked setup login pd mac
-  pub one_accepted : sk_record login.psk (gpsk2_taken login pd mac) ∷ [] ≡ accepted
-  pub one_made : sk_record login.psk (gpsk.gpsk3_of login) ∷ [] ≡ made
-
 -- what the view of the current method tells of the tags, before the end
 pub data PskTells (setup : ServerSetup) (now : ServerNow) : psk.View → List TagRecord → List TagRecord → Type 0 where
   psk_asked : (ordered : is_among setup.methods psk_kind ≡ true) (unsure : is_success now.vars.state ≡ false)
@@ -197,37 +173,6 @@ module _ (setup : ServerSetup) (now : ServerNow) (going : is_end now.vars.state 
         subst (λ (v : gpsk.View). GpskTells setup now v accepted made) (one_view _ view _ at_view in_view) (gpsk_barring login _ _)
     gpsk-tells _ _ (gpsk_succeeds login pd mac last owned is_current over in_view facts) = clash _ _ over going
     gpsk-tells _ _ (fails some others owned over unsure few) = clash _ _ over going
-
-module _ (setup : ServerSetup) (now : ServerNow) where
-  pub psk-asked : (own : ServerSide) (nonce : List ℕ) (view : psk.View) (accepted made : List TagRecord) → PskTells setup now view accepted made
-      → view ≡ psk.asked own nonce → IsAsked setup psk_kind now accepted made own nonce
-  psk-asked own nonce _ _ _ (psk_asked ordered unsure) seen =
-      record { ordered = ordered; own_side = cc; own_nonce = cc; unsure = unsure; none_accepted = refl; none_made = refl }
-  psk-asked own nonce _ _ _ (psk_checked login id facts) seen = cc
-
-  pub psk-checked : (login : psk.Login) (view : psk.View) (accepted made : List TagRecord) → PskTells setup now view accepted made
-      → view ≡ psk.checked login → PskIsChecked setup accepted made login
-  psk-checked login _ _ _ (psk_asked ordered unsure) seen = cc
-  psk-checked login _ accepted made (psk_checked other id facts) seen =
-      subst (λ (l : psk.Login). PskIsChecked setup accepted made l) (let same : other ≡ login = cc in same)
-      (record { id = id; facts = facts; one_accepted = refl; some_made = refl })
-
-  pub gpsk-asked : (own : ServerSide) (nonce : List ℕ) (view : gpsk.View) (accepted made : List TagRecord) → GpskTells setup now view accepted made
-      → view ≡ gpsk.asked own nonce → IsAsked setup gpsk_kind now accepted made own nonce
-  gpsk-asked own nonce _ _ _ (gpsk_asked ordered unsure) seen =
-      record { ordered = ordered; own_side = cc; own_nonce = cc; unsure = unsure; none_accepted = refl; none_made = refl }
-  gpsk-asked own nonce _ _ _ gpsk_refusing seen = cc
-  gpsk-asked own nonce _ _ _ (gpsk_checked login pd mac facts) seen = cc
-  gpsk-asked own nonce _ _ _ (gpsk_barring login accepted made) seen = cc
-
-  pub gpsk-checked : (login : gpsk.Login) (view : gpsk.View) (accepted made : List TagRecord) → GpskTells setup now view accepted made
-      → view ≡ gpsk.checked login → GpskIsChecked setup accepted made login
-  gpsk-checked login _ _ _ (gpsk_asked ordered unsure) seen = cc
-  gpsk-checked login _ _ _ gpsk_refusing seen = cc
-  gpsk-checked login _ accepted made (gpsk_checked other pd mac facts) seen =
-      subst (λ (l : gpsk.Login). GpskIsChecked setup accepted made l) (let same : other ≡ login = cc in same)
-      (record { pd = pd; mac = mac; facts = facts; one_accepted = refl; one_made = refl })
-  gpsk-checked login _ _ _ (gpsk_barring other accepted made) seen = cc
 
 pub side-suites : (setup : ServerSetup) → (side_of setup).suites ≡ setup.suites
 unfolding side_of
