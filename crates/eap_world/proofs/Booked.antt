@@ -53,24 +53,42 @@ tags_by-booked end other how event tags =
     tags_append end how (map (entry event other Accepted) tags.accepted) (map (entry event other Made) tags.made)
     ∙ (rw (tags_by-map end other how Accepted event tags.accepted, tags_by-map end other how Made event tags.made) refl)
 
--- the lists of an end grow by its own event's tags, and stay at the other's
-pub peer_accepted : (book : List Entry) (event : ℕ) (tags : Tags) → tags_by Peer Accepted (book ++ booked event Peer tags) ≡ tags_by Peer Accepted book ++ tags.accepted
-peer_accepted book event tags = tags_append Peer Accepted book _ ∙ ap (λ xs. tags_by Peer Accepted book ++ xs) (tags_by-booked Peer Peer Accepted event tags ∙ append-nil tags.accepted)
+-- the other end
+abbrev pub other_end : End → End
+other_end Peer = Server
+other_end Server = Peer
 
-pub peer_made : (book : List Entry) (event : ℕ) (tags : Tags) → tags_by Peer Made (book ++ booked event Peer tags) ≡ tags_by Peer Made book ++ tags.made
-peer_made book event tags = tags_append Peer Made book _ ∙ ap (λ xs. tags_by Peer Made book ++ xs) (tags_by-booked Peer Peer Made event tags)
+of_own : (own : End) (how : Use) (tags : Tags)
+    → (if same_end own own && same_use Accepted how then tags.accepted else []) ++ (if same_end own own && same_use Made how then tags.made else [])
+    ≡ (elim how [ Accepted ↦ tags.accepted | Made ↦ tags.made ])
+of_own Peer Accepted tags = append-nil tags.accepted
+of_own Peer Made tags = refl
+of_own Server Accepted tags = append-nil tags.accepted
+of_own Server Made tags = refl
 
-pub peer_stays : (how : Use) (book : List Entry) (event : ℕ) (tags : Tags) → tags_by Peer how (book ++ booked event Server tags) ≡ tags_by Peer how book
-peer_stays how book event tags = tags_append Peer how book _ ∙ (ap (λ xs. tags_by Peer how book ++ xs) (tags_by-booked Peer Server how event tags) ∙ append-nil (tags_by Peer how book))
+of_other : (own : End) (how : Use) (tags : Tags)
+    → (let other = other_end own in
+    (if same_end other own && same_use Accepted how then tags.accepted else []) ++ (if same_end other own && same_use Made how then tags.made else [])) ≡ []
+of_other Peer how tags = refl
+of_other Server how tags = refl
 
-pub server_accepted : (book : List Entry) (event : ℕ) (tags : Tags) → tags_by Server Accepted (book ++ booked event Server tags) ≡ tags_by Server Accepted book ++ tags.accepted
-server_accepted book event tags = tags_append Server Accepted book _ ∙ ap (λ xs. tags_by Server Accepted book ++ xs) (tags_by-booked Server Server Accepted event tags ∙ append-nil tags.accepted)
+-- what holds of the lists of an end holds of them with its own event's tags, and stays at the other's event
+module _ (own : End) (P : List TagRecord → List TagRecord → Type 0) (book : List Entry) (event : ℕ) (tags : Tags) where
+  grown : (how : Use) → tags_by own how (book ++ booked event own tags) ≡ tags_by own how book ++ (elim how [ Accepted ↦ tags.accepted | Made ↦ tags.made ])
+  grown how = tags_append own how book _ ∙ ap (λ xs. tags_by own how book ++ xs) (tags_by-booked own own how event tags ∙ of_own own how tags)
 
-pub server_made : (book : List Entry) (event : ℕ) (tags : Tags) → tags_by Server Made (book ++ booked event Server tags) ≡ tags_by Server Made book ++ tags.made
-server_made book event tags = tags_append Server Made book _ ∙ ap (λ xs. tags_by Server Made book ++ xs) (tags_by-booked Server Server Made event tags)
+  stayed : (how : Use) → tags_by own how (book ++ booked event (other_end own) tags) ≡ tags_by own how book
+  stayed how =
+      tags_append own how book _
+      ∙ (ap (λ xs. tags_by own how book ++ xs) (tags_by-booked own (other_end own) how event tags ∙ of_other own how tags) ∙ append-nil (tags_by own how book))
 
-pub server_stays : (how : Use) (book : List Entry) (event : ℕ) (tags : Tags) → tags_by Server how (book ++ booked event Peer tags) ≡ tags_by Server how book
-server_stays how book event tags = tags_append Server how book _ ∙ (ap (λ xs. tags_by Server how book ++ xs) (tags_by-booked Server Peer how event tags) ∙ append-nil (tags_by Server how book))
+  pub grows : P (tags_by own Accepted book ++ tags.accepted) (tags_by own Made book ++ tags.made)
+      → P (tags_by own Accepted (book ++ booked event own tags)) (tags_by own Made (book ++ booked event own tags))
+  grows stands = rw (grown Accepted, grown Made) stands
+
+  pub rests : P (tags_by own Accepted book) (tags_by own Made book)
+      → P (tags_by own Accepted (book ++ booked event (other_end own) tags)) (tags_by own Made (book ++ booked event (other_end own) tags))
+  rests stands = rw (stayed Accepted, stayed Made) stands
 
 -- ---- honesty
 
@@ -108,11 +126,6 @@ tags_equal one other e =
 is_in_front : (tag : TagRecord) (xs ys : List TagRecord) → IsIn tag xs → IsIn tag (xs ++ ys)
 is_in_front tag _ ys (here rest) = here (rest ++ ys)
 is_in_front tag _ ys (later other rest is) = later other (rest ++ ys) (is_in_front tag rest ys is)
-
--- the other end
-abbrev pub other_end : End → End
-other_end Peer = Server
-other_end Server = Peer
 
 in_if : (b : Bool) (t : TagRecord) (xs : List TagRecord) → b ≡ true → IsIn t (if b then t ∷ xs else xs)
 in_if true t xs e = here xs

@@ -18,7 +18,7 @@ use Rattle.eap_world.specs.PeerStands.{PeerStands}
 use Rattle.eap_world.specs.ServerStands.{ServerStands}
 use Rattle.eap_world.specs.Records.{tags_by}
 use Rattle.eap_world.proofs.Acting.{Acts, nobody, the_peer, the_server, act-acts}
-use Rattle.eap_world.proofs.Booked as book
+use Rattle.eap_world.proofs.Booked.{grows, rests}
 use Rattle.eap_world.proofs.PeerKeeps.{peer_keeps}
 use Rattle.eap_world.proofs.ServerKeeps.{server_keeps}
 
@@ -27,36 +27,16 @@ pub record BothStand (setup : Setup) (peer : PeerNow) (server : ServerNow) (entr
   pub peer_stands : PeerStands setup.peer peer (tags_by end.Peer Accepted entries) (tags_by end.Peer Made entries)
   pub server_stands : ServerStands setup.server server (tags_by end.Server Accepted entries) (tags_by end.Server Made entries)
 
-peer_grows : (setup : PeerSetup) (now : PeerNow) (entries : List Entry) (event : ℕ) (tags : Tags)
-    → PeerStands setup now (tags_by end.Peer Accepted entries ++ tags.accepted) (tags_by end.Peer Made entries ++ tags.made)
-    → PeerStands setup now (tags_by end.Peer Accepted (entries ++ booked event end.Peer tags)) (tags_by end.Peer Made (entries ++ booked event end.Peer tags))
-peer_grows setup now entries event tags stands = rw (book.peer_accepted entries event tags, book.peer_made entries event tags) stands
-
-peer_rests : (setup : PeerSetup) (now : PeerNow) (entries : List Entry) (event : ℕ) (tags : Tags)
-    → PeerStands setup now (tags_by end.Peer Accepted entries) (tags_by end.Peer Made entries)
-    → PeerStands setup now (tags_by end.Peer Accepted (entries ++ booked event end.Server tags)) (tags_by end.Peer Made (entries ++ booked event end.Server tags))
-peer_rests setup now entries event tags stands = rw (book.peer_stays Accepted entries event tags, book.peer_stays Made entries event tags) stands
-
-server_grows : (setup : ServerSetup) (now : ServerNow) (entries : List Entry) (event : ℕ) (tags : Tags)
-    → ServerStands setup now (tags_by end.Server Accepted entries ++ tags.accepted) (tags_by end.Server Made entries ++ tags.made)
-    → ServerStands setup now (tags_by end.Server Accepted (entries ++ booked event end.Server tags)) (tags_by end.Server Made (entries ++ booked event end.Server tags))
-server_grows setup now entries event tags stands = rw (book.server_accepted entries event tags, book.server_made entries event tags) stands
-
-server_rests : (setup : ServerSetup) (now : ServerNow) (entries : List Entry) (event : ℕ) (tags : Tags)
-    → ServerStands setup now (tags_by end.Server Accepted entries) (tags_by end.Server Made entries)
-    → ServerStands setup now (tags_by end.Server Accepted (entries ++ booked event end.Peer tags)) (tags_by end.Server Made (entries ++ booked event end.Peer tags))
-server_rests setup now entries event tags stands = rw (book.server_stays Accepted entries event tags, book.server_stays Made entries event tags) stands
-
 acts-stand : (setup : Setup) (peer : PeerNow) (server : ServerNow) (entries : List Entry) (event : ℕ) (out : Acted) → Acts peer server out
     → BothStand setup peer server entries → BothStand setup out.peer out.server (entries ++ booked_by event out.action)
 acts-stand setup peer server entries event _ (nobody skip) both = subst (BothStand setup peer server) (sym (append-nil entries)) both
 acts-stand setup peer server entries event _ (the_peer is_delivery input) both = let out = peer_takes peer input in record {
-  peer_stands = peer_grows setup.peer out.after entries event out.step.tags (peer_keeps setup.peer peer _ _ input both.peer_stands);
-  server_stands = server_rests setup.server server entries event out.step.tags both.server_stands;
+  peer_stands = grows end.Peer (PeerStands setup.peer out.after) entries event out.step.tags (peer_keeps setup.peer peer _ _ input both.peer_stands);
+  server_stands = rests end.Server (ServerStands setup.server server) entries event out.step.tags both.server_stands;
 }
 acts-stand setup peer server entries event _ (the_server is_delivery input later) both = let out = server_takes server input in record {
-  peer_stands = peer_rests setup.peer peer entries event out.step.tags both.peer_stands;
-  server_stands = server_grows setup.server out.after entries event out.step.tags (server_keeps setup.server server _ _ input later both.server_stands);
+  peer_stands = rests end.Peer (PeerStands setup.peer peer) entries event out.step.tags both.peer_stands;
+  server_stands = grows end.Server (ServerStands setup.server out.after) entries event out.step.tags (server_keeps setup.server server _ _ input later both.server_stands);
 }
 
 step-stands : (setup : Setup) (w : WorldNow) (e : Event) → BothStand setup w.peer w.server w.book
