@@ -16,7 +16,7 @@ use Rattle.eap_world.specs.declared.verdict.Verdict.TheVariants.{Agree, Apart, U
 use Rattle.eap_world.specs.World.{WorldNow, world_made, world_start}
 use Rattle.eap_world.specs.declared.book.End.TheVariants as end
 use Rattle.eap_world.specs.Agreement.{IsWhole, IsOfRun, AgreesWhereHonest, HonestEndsAgree, run_of}
-use Rattle.eap_world.specs.PeerStands.{PeerStands, begins, psk_waits, psk_fails, psk_succeeds, gpsk_waits, gpsk_fails, gpsk_succeeds}
+use Rattle.eap_world.specs.PeerStands.{PeerStands}
 use Rattle.eap_world.specs.ServerStands.{ServerStands}
 use Rattle.eap_world.specs.Records.{AreIn, tags_by}
 use Rattle.eap_world.proofs.Booked.{honest_tags}
@@ -34,16 +34,6 @@ agree_if : (one other same : Bool) → one ≡ true → other ≡ true → same 
     → (let verdict : Verdict = if one && other then (if same then Agree else Apart) else Unfinished in verdict) ≡ Agree
 agree_if one other same a b c = rw (a, b, c) refl
 
--- the peer keeps its settings
-pub peer_own : (setup : PeerSetup) (now : PeerNow) (accepted made : List TagRecord) → PeerStands setup now accepted made → now.vars.setup ≡ setup
-peer_own setup now _ _ (begins own none begun fails unsure) = own
-peer_own setup now _ _ (psk_waits login own is_selected in_view facts fails unsure) = own
-peer_own setup now _ _ (psk_fails login accepted made own is_selected in_view fails unsure few) = own
-peer_own setup now _ _ (psk_succeeds login header mac tag sealed id own is_selected in_view facts decided) = own
-peer_own setup now _ _ (gpsk_waits login list own is_selected in_view facts fails unsure) = own
-peer_own setup now _ _ (gpsk_fails login accepted made own is_selected in_view fails unsure few) = own
-peer_own setup now _ _ (gpsk_succeeds login list message own is_selected in_view facts decided) = own
-
 module _
     (agree : (peer_setup : PeerSetup) (server_setup : ServerSetup) (p : PeerNow) (s : ServerNow) (peer_accepted peer_made_tags server_accepted server_made_tags : List TagRecord)
     → length peer_setup.nonce ≡ 32 → length server_setup.nonce ≡ 32
@@ -60,7 +50,7 @@ module _
         let none = none_if_honest (first_broken [] w.book) honest in
         let same = agree setup.peer setup.server w.peer w.server _ _ _ _ whole.peer_nonce whole.server_nonce both.peer_stands both.server_stands
         (honest_tags end.Peer w.book none) (honest_tags end.Server w.book none) p_in s_in in
-        let p_own = peer_own setup.peer w.peer _ _ both.peer_stands in
+        let p_own = peer_calls.peer_own setup.peer w.peer _ _ both.peer_stands in
         let s_own = own_of setup.server w.server _ _ both.server_stands in
         agree_if (is_success w.peer.vars.state) (is_success w.server.vars.state) _ p_in s_in (rw (p_own, s_own) same)
 

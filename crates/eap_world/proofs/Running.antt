@@ -1,15 +1,11 @@
 -- In every run both ends stand as their views tell.
 use Rattle.std.proofs.Common.{ℕ, List, [], ◌∷◌, ◌++◌, sym, subst, append-nil}
 use Rattle.eap_base.specs.declared.event.Event.{Event}
-use Rattle.eap_base.specs.declared.setup.PeerSetup.{PeerSetup}
-use Rattle.eap_base.specs.declared.setup.ServerSetup.{ServerSetup}
 use Rattle.eap_base.specs.declared.setup.Setup.{Setup}
-use Rattle.eap_method.specs.declared.tags.Tags.{Tags}
 use Rattle.peer_machine.specs.Inputs.{peer_takes}
 use Rattle.peer_machine.specs.PeerTable.{PeerNow}
 use Rattle.server_machine.specs.Inputs.{server_takes}
 use Rattle.server_machine.specs.ServerTable.{ServerNow}
-use Rattle.eap_world.specs.Book.{booked}
 use Rattle.eap_world.specs.World.{WorldNow, Acted, act, booked_by, run_after, world_step}
 use Rattle.eap_world.specs.declared.book.End.TheVariants as end
 use Rattle.eap_world.specs.declared.book.Entry.{Entry}
@@ -36,7 +32,8 @@ acts-stand setup peer server entries event _ (the_peer is_delivery input) both =
 }
 acts-stand setup peer server entries event _ (the_server is_delivery input later) both = let out = server_takes server input in record {
   peer_stands = rests end.Peer (PeerStands setup.peer peer) entries event out.step.tags both.peer_stands;
-  server_stands = grows end.Server (ServerStands setup.server out.after) entries event out.step.tags (server_keeps setup.server server _ _ input later both.server_stands);
+  server_stands = grows end.Server (ServerStands setup.server out.after) entries event out.step.tags
+      (server_keeps setup.server server _ _ input later both.server_stands);
 }
 
 step-stands : (setup : Setup) (w : WorldNow) (e : Event) → BothStand setup w.peer w.server w.book

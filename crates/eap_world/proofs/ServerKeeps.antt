@@ -39,7 +39,7 @@ use Rattle.server_machine.specs.ServerTable.{ServerNow, ServerAnswer, answer, se
 use Rattle.server_machine.proofs.ServerRows.{server_answers_are_rows}
 use Rattle.server_machine.specs.declared.variables.ServerVariables.{ServerVariables}
 use Rattle.eap_world.specs.Verdict.{is_success}
-use Rattle.eap_world.specs.ServerStands.{PskChecked, GpskChecked, gpsk2_taken, HasNoTags, before, asks_identity, asks_psk, asks_gpsk, refuses_gpsk, ended, ServerStands, begins, psk_checks, psk_succeeds, gpsk_checks, gpsk_bars, gpsk_succeeds, fails}
+use Rattle.eap_world.specs.ServerStands.{GpskChecked, gpsk2_taken, HasNoTags, before, asks_identity, asks_psk, asks_gpsk, refuses_gpsk, ended, ServerStands, begins, psk_checks, psk_succeeds, gpsk_checks, gpsk_bars, gpsk_succeeds, fails}
 use Rattle.eap_world.proofs.ServerViews.{own_of, server_few, GpskTells, gpsk_asked, gpsk_barring, gpsk_checked, gpsk_refusing, IsFresh, PskTells, psk_asked, psk_checked, few_grow, few_stay, going_one, gpsk-tells, identity-fresh, proposed-fresh, psk-tells, recast, side-suites}
 
 -- after a call the invariant stands, with the tags of its step
@@ -98,7 +98,7 @@ module _ (setup : ServerSetup) (now : ServerNow) (own-setup : now.vars.setup ≡
         → (let login = psk_rows.login_from own nonce id_p user rand_p in
         Keeps setup accepted made (method_answers now id (record now.views { psk = Some (psk.checked login) })
         (turn.Request packet (record { accepted = ak_record user.psk (psk.mac_p_covers login) mac ∷ []; made = psk.psk3_records login (next_id now.vars) }))))
-    psk_answer-keeps _ _ _ (psk_checked login id facts) own nonce rand_s rand_p mac id_p user in_view is_read own_nonce known packet = cc
+    psk_answer-keeps _ _ _ (psk_checked login id facts) _ _ _ _ _ _ _ in_view _ _ _ _ = cc
     psk_answer-keeps _ _ _ (psk_asked ordered unsure) own nonce rand_s rand_p mac id_p user in_view is_read own_nonce known packet = record {
       stands = psk_checks (psk_rows.login_from own nonce id_p user rand_p) (next_id now.vars) own-setup by_psk refl refl
           (record {
@@ -177,7 +177,8 @@ module _ (setup : ServerSetup) (now : ServerNow) (own-setup : now.vars.setup ≡
           known = ap (λ (s : ServerSetup). user_of s.users id_p gpsk_kind) (sym own-setup) ∙ known;
           key = refl;
           welcome = not_barred;
-          offered = ap (λ (suites : List ℕ). is_among suites (suite_number suite)) (sym (ap (λ (s : ServerSide). s.suites) own_side ∙ side-suites setup)) ∙ offered;
+          offered = ap (λ (suites : List ℕ). is_among suites (suite_number suite))
+              (sym (ap (λ (s : ServerSide). s.suites) own_side ∙ side-suites setup)) ∙ offered;
           body = body_of octets;
           is_read = is_read ∙ ap (λ (m : Message). Ok m) same;
         } in
@@ -185,9 +186,9 @@ module _ (setup : ServerSetup) (now : ServerNow) (own-setup : now.vars.setup ≡
           stands = recast setup _ _ _ _ _ (ap (λ (m : Message). sk_record user.psk m ∷ []) (sym same)) refl
               (gpsk_checks login pd mac own-setup by_gpsk refl refl facts unsure);
         }
-    gpsk_check-keeps _ _ _ gpsk_refusing own nonce id_p id_s rand_p rand_s list suite pd mac user in_view is_read own_name own_nonce own_list offered known not_barred packet = cc
-    gpsk_check-keeps _ _ _ (gpsk_checked login _ _ facts) own nonce id_p id_s rand_p rand_s list suite pd mac user in_view is_read own_name own_nonce own_list offered known not_barred packet = cc
-    gpsk_check-keeps _ _ _ (gpsk_barring login accepted made) own nonce id_p id_s rand_p rand_s list suite pd mac user in_view is_read own_name own_nonce own_list offered known not_barred packet = cc
+    gpsk_check-keeps _ _ _ gpsk_refusing _ _ _ _ _ _ _ _ _ _ _ in_view _ _ _ _ _ _ _ _ = cc
+    gpsk_check-keeps _ _ _ (gpsk_checked login _ _ facts) _ _ _ _ _ _ _ _ _ _ _ in_view _ _ _ _ _ _ _ _ = cc
+    gpsk_check-keeps _ _ _ (gpsk_barring login accepted made) _ _ _ _ _ _ _ _ _ _ _ in_view _ _ _ _ _ _ _ _ = cc
 
     gpsk_success-keeps : (view : gpsk.View) (accepted made : List TagRecord) → GpskTells setup now view accepted made
         → (login : gpsk.Login) (last : Message) → view ≡ gpsk.checked login
@@ -286,13 +287,14 @@ module _ (setup : ServerSetup) (now : ServerNow) (accepted made : List TagRecord
       psk_row-keeps : (out : ServerOutcome psk.View) → psk_rows.PskServerRow now.vars.setup.users (next_id now.vars) view octets out
           → Keeps setup accepted made (method_answers now id (psk_turn now.views out).after (psk_turn now.views out).turn)
       psk_row-keeps out (psk_rows.drops cause) = discard-keeps _ cause
-      psk_row-keeps out (psk_rows.refuses own nonce rand_s rand_p mac id_p in_view is_read own_nonce unknown) =
+      psk_row-keeps out (psk_rows.refuses _ _ _ _ _ _ _ _ _ _) =
           method_fails-keeps _ _ (omega arith) (omega arith)
-      psk_row-keeps out (psk_rows.answers own nonce rand_s rand_p mac id_p user in_view is_read own_nonce known has_mac) =
-          psk_answer-keeps setup now own-setup id octets by_psk view accepted made psk_told own nonce rand_s rand_p mac id_p user in_view is_read own_nonce known _
-      psk_row-keeps out (psk_rows.ends_success login rand_s nonce tag sealed in_view is_read own_nonce is_second has_seal has_tag is_plain both own_success their_success) =
+      psk_row-keeps out (psk_rows.answers own nonce rand_s rand_p mac id_p user in_view is_read own_nonce known _) =
+          psk_answer-keeps setup now own-setup id octets by_psk view accepted made psk_told
+          own nonce rand_s rand_p mac id_p user in_view is_read own_nonce known _
+      psk_row-keeps out (psk_rows.ends_success login _ _ tag sealed in_view _ _ _ _ _ _ _ own_success _) =
           psk_success-keeps setup now own-setup id octets by_psk view accepted made psk_told login (header_of octets) tag sealed in_view own_success
-      psk_row-keeps out (psk_rows.ends_failure login rand_s nonce tag sealed in_view is_read own_nonce is_second has_seal has_tag is_plain has_result not_both is_failure) =
+      psk_row-keeps out (psk_rows.ends_failure _ _ _ _ _ _ _ _ _ _ _ _ _ _ _) =
           method_fails-keeps _ _ (omega arith) (omega arith)
 
     -- a turn of EAP-GPSK
@@ -303,15 +305,18 @@ module _ (setup : ServerSetup) (now : ServerNow) (accepted made : List TagRecord
       gpsk_row-keeps : (out : ServerOutcome gpsk.View) → gpsk_rows.GpskServerRow now.vars.setup.users (next_id now.vars) view octets out
           → Keeps setup accepted made (method_answers now id (gpsk_turn now.views out).after (gpsk_turn now.views out).turn)
       gpsk_row-keeps out (gpsk_rows.drops cause) = discard-keeps _ cause
-      gpsk_row-keeps out (gpsk_rows.refuses own nonce id_p id_s rand_p rand_s list suite pd mac in_view is_read repeated own_name own_nonce own_list offered unknown) =
+      gpsk_row-keeps out (gpsk_rows.refuses own nonce _ _ _ _ _ _ _ _ in_view _ _ _ _ _ _ _) =
           gpsk_refuse-keeps setup now own-setup id octets by_gpsk view accepted made gpsk_told own nonce in_view _
-      gpsk_row-keeps out (gpsk_rows.bars own nonce id_p id_s rand_p rand_s list suite pd mac user in_view is_read repeated own_name own_nonce own_list offered known is_barred is_tagged has_mac) =
-          gpsk_bar-keeps setup now own-setup id octets by_gpsk view accepted made gpsk_told own nonce (gpsk_rows.login_from own nonce id_p user rand_p suite) in_view _ _ _
-      gpsk_row-keeps out (gpsk_rows.checks own nonce id_p id_s rand_p rand_s list suite pd mac user in_view is_read repeated own_name own_nonce own_list offered known not_barred is_tagged has_mac) =
-          gpsk_check-keeps setup now own-setup id octets by_gpsk view accepted made gpsk_told own nonce id_p id_s rand_p rand_s list suite pd mac user in_view is_read own_name own_nonce own_list offered known not_barred _
-      gpsk_row-keeps out (gpsk_rows.ends_refusing own nonce code in_view is_read own_code) = method_fails-keeps _ _ (omega arith) (omega arith)
-      gpsk_row-keeps out (gpsk_rows.ends_barring login code mac in_view is_read own_code is_tagged has_mac) = method_fails-keeps _ _ (omega arith) (omega arith)
-      gpsk_row-keeps out (gpsk_rows.ends_checked login pd mac in_view is_read is_tagged has_mac) = gpsk_success-keeps setup now own-setup id octets by_gpsk view accepted made gpsk_told login _ in_view
+      gpsk_row-keeps out (gpsk_rows.bars own nonce id_p _ rand_p _ _ suite _ _ user in_view _ _ _ _ _ _ _ _ _ _) =
+          gpsk_bar-keeps setup now own-setup id octets by_gpsk view accepted made gpsk_told
+          own nonce (gpsk_rows.login_from own nonce id_p user rand_p suite) in_view _ _ _
+      gpsk_row-keeps out (gpsk_rows.checks own nonce id_p id_s rand_p rand_s list suite pd mac user in_view is_read _ own_name own_nonce own_list offered known not_barred _ _) =
+          gpsk_check-keeps setup now own-setup id octets by_gpsk view accepted made gpsk_told
+          own nonce id_p id_s rand_p rand_s list suite pd mac user in_view is_read own_name own_nonce own_list offered known not_barred _
+      gpsk_row-keeps out (gpsk_rows.ends_refusing _ _ _ _ _ _) = method_fails-keeps _ _ (omega arith) (omega arith)
+      gpsk_row-keeps out (gpsk_rows.ends_barring _ _ _ _ _ _ _ _) = method_fails-keeps _ _ (omega arith) (omega arith)
+      gpsk_row-keeps out (gpsk_rows.ends_checked login _ _ in_view _ _ _) =
+          gpsk_success-keeps setup now own-setup id octets by_gpsk view accepted made gpsk_told login _ in_view
 
     -- a turn of the current method
     psk_hears-keeps : now.vars.current ≡ Some psk_kind → (view : Option psk.View) → now.views.psk ≡ view
@@ -346,7 +351,8 @@ module _ (setup : ServerSetup) (now : ServerNow) (accepted made : List TagRecord
   row-keeps _ _ later (rows.goes_on is_begun) = absurd (later refl)
   row-keeps _ _ later (rows.drops bytes path c going) = discard-keeps path c
   row-keeps _ _ later (rows.starts unstarted) = absurd (later refl)
-  row-keeps _ _ later (rows.resends going in_time) = record { stands = untagged setup _ accepted made (stays setup now (now.vars.retrans_count + 1) accepted made stands) }
+  row-keeps _ _ later (rows.resends going in_time) =
+      record { stands = untagged setup _ accepted made (stays setup now (now.vars.retrans_count + 1) accepted made stands) }
   row-keeps _ _ later (rows.times_out going late) = record {
     stands = fails (accepted ++ []) (made ++ []) own-setup refl refl (few_stay accepted made (server_few setup now accepted made stands));
   }

@@ -43,8 +43,8 @@ module _ (now : PeerNow) where
 
       new-row : (selected : Option ℕ) → now.vars.selected ≡ selected → IsRow (new_request now id kind (spelled (request id kind body)) selected)
       new-row None none =
-          cond_both (kind == 1) _ _ IsRow (λ is. identifies bytes id kind body heard none is)
-          (λ no_identity. cond_both (kind == 2) _ _ IsRow (λ is. notifies bytes id kind body heard none is)
+          cond_both (kind == 1) _ _ IsRow (λ is. identifies bytes id kind body heard none (eqb-true kind 1 is))
+          (λ no_identity. cond_both (kind == 2) _ _ IsRow (λ is. notifies bytes id kind body heard none (eqb-true kind 2 is))
           (λ no_notification. cond_both (is_among now.vars.setup.methods kind) _ _ IsRow (λ allowed. method-row true (first none allowed))
           (λ barred. naks bytes id kind body heard none no_identity no_notification barred)))
       new-row (Some selected) is =

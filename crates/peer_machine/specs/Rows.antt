@@ -56,10 +56,10 @@ pub data PeerRow (now : PeerNow) : PeerInput → PeerAnswer → Type 0 where
       → PeerRow now alt_accept (answer (enters [] no_tags) now)
   -- IDENTITY, NOTIFICATION, and GET_METHOD with a Nak, while no method is selected
   identifies : (bytes : List ℕ) (id kind : ℕ) (body : List ℕ) (heard : Hears now bytes id (request id kind body) false)
-      (unselected : now.vars.selected ≡ None) (is_identity : (kind == 1) ≡ true)
+      (unselected : now.vars.selected ≡ None) (is_identity : kind ≡ 1)
       → PeerRow now (octets bytes) (peer_respond now state.Identity id (identity_response id now.vars.setup.name))
   notifies : (bytes : List ℕ) (id kind : ℕ) (body : List ℕ) (heard : Hears now bytes id (request id kind body) false)
-      (unselected : now.vars.selected ≡ None) (is_notification : (kind == 2) ≡ true)
+      (unselected : now.vars.selected ≡ None) (is_notification : kind ≡ 2)
       → PeerRow now (octets bytes) (peer_respond now state.Notification id (notification_response id))
   naks : (bytes : List ℕ) (id kind : ℕ) (body : List ℕ) (heard : Hears now bytes id (request id kind body) false)
       (unselected : now.vars.selected ≡ None) (no_identity : (kind == 1) ≡ false) (no_notification : (kind == 2) ≡ false)
