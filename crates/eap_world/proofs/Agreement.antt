@@ -1,13 +1,9 @@
 -- Two ends that both succeed over an honest book agree.
-use Rattle.std.proofs.Common.{◌≡◌, ℕ, List, [], Bool, true, false, Option, Some, None, refl, sym, subst, length}
+use Rattle.std.proofs.Common.{◌≡◌, ℕ, List, [], Bool, true, false, Option, Some, None, refl, sym, subst}
 use Rattle.std.specs.Prelude.{if◌then◌else◌, ◌&&◌}
 use Rattle.eap_base.specs.declared.event.Event.{Event}
-use Rattle.eap_base.specs.declared.setup.PeerSetup.{PeerSetup}
-use Rattle.eap_base.specs.declared.setup.ServerSetup.{ServerSetup}
 use Rattle.eap_base.specs.declared.setup.Setup.{Setup}
-use Rattle.eap_method.specs.declared.tags.TagRecord.{TagRecord}
-use Rattle.peer_machine.specs.PeerTable.{PeerNow, peer_reports}
-use Rattle.server_machine.specs.ServerTable.{ServerNow, server_start, server_reports}
+use Rattle.server_machine.specs.ServerTable.{server_start}
 use Rattle.eap_world.specs.Book.{first_broken, verdict_on, tags_verdict}
 use Rattle.eap_world.specs.declared.book.TagsVerdict.TheVariants.{Honest}
 use Rattle.eap_world.specs.Verdict.{verdict_of, is_success, judged}
@@ -16,9 +12,7 @@ use Rattle.eap_world.specs.declared.verdict.Verdict.TheVariants.{Agree, Apart, U
 use Rattle.eap_world.specs.World.{WorldNow, world_made, world_start}
 use Rattle.eap_world.specs.declared.book.End.TheVariants as end
 use Rattle.eap_world.specs.Agreement.{IsWhole, IsOfRun, AgreesWhereHonest, HonestEndsAgree, run_of}
-use Rattle.eap_world.specs.PeerStands.{PeerStands}
-use Rattle.eap_world.specs.ServerStands.{ServerStands}
-use Rattle.eap_world.specs.Records.{AreIn, tags_by}
+use Rattle.eap_world.specs.Records.{tags_by}
 use Rattle.eap_world.proofs.Booked.{honest_tags}
 use Rattle.eap_world.proofs.Running.{BothStand, run_stands}
 use Rattle.eap_world.proofs.PeerKeeps as peer_calls
@@ -34,25 +28,17 @@ agree_if : (one other same : Bool) → one ≡ true → other ≡ true → same 
     → (let verdict : Verdict = if one && other then (if same then Agree else Apart) else Unfinished in verdict) ≡ Agree
 agree_if one other same a b c = rw (a, b, c) refl
 
-module _
-    (agree : (peer_setup : PeerSetup) (server_setup : ServerSetup) (p : PeerNow) (s : ServerNow) (peer_accepted peer_made_tags server_accepted server_made_tags : List TagRecord)
-    → length peer_setup.nonce ≡ 32 → length server_setup.nonce ≡ 32
-    → PeerStands peer_setup p peer_accepted peer_made_tags → ServerStands server_setup s server_accepted server_made_tags
-    → AreIn peer_accepted server_made_tags → AreIn server_accepted peer_made_tags
-    → is_success p.vars.state ≡ true → is_success s.vars.state ≡ true
-    → judged peer_setup server_setup (peer_reports p) (server_reports s) ≡ true)
-  where
-    -- a world whose ends stand so, whose book is honest and whose ends both succeed, agrees
-    pub stand_agree : (setup : Setup) → IsWhole setup → (w : WorldNow) → BothStand setup w.peer w.server w.book
-        → tags_verdict w.book ≡ Honest → is_success w.peer.vars.state ≡ true → is_success w.server.vars.state ≡ true → verdict_of w ≡ Agree
-    unfolding verdict_of
-    stand_agree setup whole w both honest p_in s_in =
-        let none = none_if_honest (first_broken [] w.book) honest in
-        let same = agree setup.peer setup.server w.peer w.server _ _ _ _ whole.peer_nonce whole.server_nonce both.peer_stands both.server_stands
-        (honest_tags end.Peer w.book none) (honest_tags end.Server w.book none) p_in s_in in
-        let p_own = peer_calls.peer_own setup.peer w.peer _ _ both.peer_stands in
-        let s_own = own_of setup.server w.server _ _ both.server_stands in
-        agree_if (is_success w.peer.vars.state) (is_success w.server.vars.state) _ p_in s_in (rw (p_own, s_own) same)
+-- a world whose ends stand so, whose book is honest and whose ends both succeed, agrees
+pub stand_agree : (setup : Setup) → IsWhole setup → (w : WorldNow) → BothStand setup w.peer w.server w.book
+    → tags_verdict w.book ≡ Honest → is_success w.peer.vars.state ≡ true → is_success w.server.vars.state ≡ true → verdict_of w ≡ Agree
+unfolding verdict_of
+stand_agree setup whole w both honest p_in s_in =
+    let none = none_if_honest (first_broken [] w.book) honest in
+    let same = ends_agree setup.peer setup.server w.peer w.server _ _ _ _ whole.peer_nonce whole.server_nonce both.peer_stands both.server_stands
+    (honest_tags end.Peer w.book none) (honest_tags end.Server w.book none) p_in s_in in
+    let p_own = peer_calls.peer_own setup.peer w.peer _ _ both.peer_stands in
+    let s_own = own_of setup.server w.server _ _ both.server_stands in
+    agree_if (is_success w.peer.vars.state) (is_success w.server.vars.state) _ p_in s_in (rw (p_own, s_own) same)
 
 -- ---- every run
 
@@ -75,23 +61,19 @@ pub record BothIn (one other : Bool) : Type 0 where
   pub one_in : one ≡ true
   pub other_in : other ≡ true
 
-apart_only : (one other same : Bool) → (let verdict : Verdict = if one && other then (if same then Agree else Apart) else Unfinished in verdict) ≡ Apart → BothIn one other
-apart_only true true same e = record { one_in = refl; other_in = refl }
-apart_only true false same e = cc
-apart_only false other same e = cc
+both_only : (one other same : Bool) (verdict : Verdict) → (if one && other then (if same then Agree else Apart) else Unfinished) ≡ verdict
+    → (verdict ≡ Unfinished → ⊥) → BothIn one other
+both_only true true same verdict e judged = record { one_in = refl; other_in = refl }
+both_only true false same verdict e judged = absurd (judged (sym e))
+both_only false other same verdict e judged = absurd (judged (sym e))
 
-apart_in : (w : WorldNow) → verdict_of w ≡ Apart → BothIn (is_success w.peer.vars.state) (is_success w.server.vars.state)
+both_in : (w : WorldNow) (verdict : Verdict) → verdict_of w ≡ verdict → (verdict ≡ Unfinished → ⊥)
+    → BothIn (is_success w.peer.vars.state) (is_success w.server.vars.state)
 unfolding verdict_of
-apart_in w e = apart_only (is_success w.peer.vars.state) (is_success w.server.vars.state) _ e
-
-agree_only : (one other same : Bool) → (let verdict : Verdict = if one && other then (if same then Agree else Apart) else Unfinished in verdict) ≡ Agree → BothIn one other
-agree_only true true same e = record { one_in = refl; other_in = refl }
-agree_only true false same e = cc
-agree_only false other same e = cc
+both_in w verdict e judged = both_only (is_success w.peer.vars.state) (is_success w.server.vars.state) _ verdict e judged
 
 pub agree_in : (w : WorldNow) → verdict_of w ≡ Agree → BothIn (is_success w.peer.vars.state) (is_success w.server.vars.state)
-unfolding verdict_of
-agree_in w e = agree_only (is_success w.peer.vars.state) (is_success w.server.vars.state) _ e
+agree_in w agrees = both_in w Agree agrees (λ e. cc e)
 
 not_both : (verdict : Verdict) → verdict ≡ Agree → verdict ≡ Apart → ⊥
 not_both verdict agrees apart = cc
@@ -99,10 +81,10 @@ not_both verdict agrees apart = cc
 pub honest_ends_agree : HonestEndsAgree
 honest_ends_agree setup events whole =
     let w = run_of setup events in
-    let agree = stand_agree ends_agree setup whole w (every_run_stands setup events) in
+    let agree = stand_agree setup whole w (every_run_stands setup events) in
     record {
       agrees = agree;
-      never_apart = λ honest apart. (let both = apart_in w apart in not_both (verdict_of w) (agree honest both.one_in both.other_in) apart);
+      never_apart = λ honest apart. (let both = both_in w Apart apart (λ e. cc e) in not_both (verdict_of w) (agree honest both.one_in both.other_in) apart);
     }
 
 world_agrees : (w : WorldNow) → IsOfRun w → AgreesWhereHonest w
