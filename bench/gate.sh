@@ -9,7 +9,8 @@ git clone -q "$here" "$work/repository"
 
 # rt ci runs the checker once for each crate, once for its tests and, in a folder of its own each time, for each
 # must-fail edit. A checker forks further processes, and a parent's count takes in the children that have ended.
-python3 - "$work/repository" <<'END'
+log=$work/log
+python3 - "$work/repository" "$log" <<'END'
 import collections, os, re, resource, subprocess, sys, time
 
 TICK = os.sysconf("SC_CLK_TCK")
@@ -65,15 +66,12 @@ def free():
 
 begun, before, least = time.time(), free(), free()
 used = {}
-run = subprocess.Popen(["rt", "ci", "--anew"], cwd=sys.argv[1], stdin=subprocess.DEVNULL, stdout=subprocess.PIPE, stderr=subprocess.STDOUT, text=True)
-os.set_blocking(run.stdout.fileno(), False)
-said = ""
-while run.poll() is None:
-    sample(used, run.pid)
-    least = min(least, free())
-    said += run.stdout.read() or ""
-    time.sleep(0.25)
-said += run.stdout.read() or ""
+with open(sys.argv[2], "w", encoding="utf-8") as log:
+    run = subprocess.Popen(["rt", "ci", "--anew"], cwd=sys.argv[1], stdin=subprocess.DEVNULL, stdout=log, stderr=subprocess.STDOUT)
+    while run.poll() is None:
+        sample(used, run.pid)
+        least = min(least, free())
+        time.sleep(0.25)
 mine = resource.getrusage(resource.RUSAGE_CHILDREN)
 
 rows = collections.defaultdict(collections.Counter)
@@ -87,6 +85,8 @@ print(f"{'all':16}" + "".join(f"{it:10.0f}" for it in sums.values()) + f"{sum(su
 print(f"processor minutes {(mine.ru_utime + mine.ru_stime) / 60:.1f}")
 print(f"minutes by the clock {(time.time() - begun) / 60:.1f}, on {os.cpu_count()} processors")
 print(f"memory: the largest process {mine.ru_maxrss / 1e6:.1f} GB, all together {(before - least) / 1e6:.1f} GB")
-print(said.strip().splitlines()[-1])
+with open(sys.argv[2], encoding="utf-8", errors="replace") as log:
+    said = log.read().strip().splitlines()
+print("\n".join(said if run.returncode else said[-1:]))
 sys.exit(run.returncode)
 END
