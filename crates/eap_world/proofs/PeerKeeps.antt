@@ -365,8 +365,8 @@ module _ (setup : PeerSetup) (now : PeerNow) (accepted made : List TagRecord) (s
 
   row_keeps : (input : PeerInput) (out : PeerAnswer) → rows.PeerRow now input out → Keeps setup accepted made out
   row_keeps _ _ (rows.ended bytes over) = quiet setup accepted made _ refl stands
-  row_keeps _ _ (rows.rests report over) = quiet setup accepted made _ refl stands
-  row_keeps _ _ (rows.drops bytes path c going) = quiet setup accepted made _ refl stands
+  row_keeps _ _ (rows.rests report no_octets over) = quiet setup accepted made _ refl stands
+  row_keeps _ _ (rows.drops bytes path c going why) = quiet setup accepted made _ refl stands
   row_keeps _ _ (rows.waits going fails goes_on) = quiet setup accepted made _ refl stands
   row_keeps _ _ (rows.identifies bytes id kind body heard unselected is_identity) = responds_keep _ id _
   row_keeps _ _ (rows.notifies bytes id kind body heard unselected is_notification) = responds_keep _ id _

@@ -349,7 +349,7 @@ module _ (setup : ServerSetup) (now : ServerNow) (accepted made : List TagRecord
   row-keeps _ _ later (rows.ended bytes over) = discard-keeps _ _
   row-keeps _ _ later (rows.rests over) = record { stands = untagged setup now accepted made stands }
   row-keeps _ _ later (rows.goes_on is_begun) = absurd (later refl)
-  row-keeps _ _ later (rows.drops bytes path c going) = discard-keeps path c
+  row-keeps _ _ later (rows.drops bytes path c going why) = discard-keeps path c
   row-keeps _ _ later (rows.starts unstarted) = absurd (later refl)
   row-keeps _ _ later (rows.resends going in_time) =
       record { stands = untagged setup _ accepted made (stays setup now (now.vars.retrans_count + 1) accepted made stands) }

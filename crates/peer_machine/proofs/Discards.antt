@@ -9,8 +9,8 @@ use Rattle.peer_machine.proofs.PeerRows.{peer_answers_are_rows}
 
 row-keeps : (now : PeerNow) (input : PeerInput) (out : PeerAnswer) → PeerRow now input out → IsSome out.step.cause → KeepsThePeer now out
 row-keeps now _ _ (ended bytes over) is_discard = record { all = refl; sent = refl; tags = refl }
-row-keeps now _ _ (drops bytes path c going) is_discard = record { all = refl; sent = refl; tags = refl }
-row-keeps now _ _ (rests report over) is_discard = cc is_discard
+row-keeps now _ _ (drops bytes path c going why) is_discard = record { all = refl; sent = refl; tags = refl }
+row-keeps now _ _ (rests report no_octets over) is_discard = cc is_discard
 row-keeps now _ _ (waits going fails goes_on) is_discard = cc is_discard
 row-keeps now _ _ (identifies bytes id kind body heard unselected is_identity) is_discard = cc is_discard
 row-keeps now _ _ (notifies bytes id kind body heard unselected is_notification) is_discard = cc is_discard

@@ -14,7 +14,7 @@ use Rattle.eap_method.specs.Peer.{PeerViews, peer_turn}
 use Rattle.eap_method.specs.Steps.{is_end}
 use Rattle.peer_machine.specs.Inputs.{PeerInput, octets, idle, alt_accept, alt_reject, unless_ended}
 use Rattle.peer_machine.specs.PeerTable.{PeerNow, PeerAnswer, is_cont, is_done, is_fail, is_last_id, is_uncond, method_answers, peer_method, new_request, peer_success, peer_failure, peer_row, peer_deliver, peer_idle, peer_alt_accept, peer_alt_reject, peer_ends}
-use Rattle.peer_machine.specs.Rows.{Hears, Calls, first, again, by_success, by_idle, by_accept, late_success, by_failure, by_idle_unsure, late_accept, by_reject, PeerRow, ended, rests, drops, waits, identifies, notifies, naks, resends, ends_well, ends_badly, method_replies, method_fails, PeerAnswersAreRows}
+use Rattle.peer_machine.specs.Rows.{no_packet, no_request, other_success, other_failure, early_success, late_failure, early_failure, late_notification, other_method, done_method, by_method, Hears, Calls, first, again, by_success, by_idle, by_accept, late_success, by_failure, by_idle_unsure, late_accept, by_reject, PeerRow, ended, rests, drops, waits, identifies, notifies, naks, resends, ends_well, ends_badly, method_replies, method_fails, PeerAnswersAreRows}
 
 uncond_is_sure : (d : Decision) → is_uncond d ≡ true → is_fail d ≡ false
 uncond_is_sure decision.Fail sure = cc
@@ -31,7 +31,7 @@ module _ (now : PeerNow) where
       answers-row : (selects : Bool) → Calls now kind selects → (turn : PeerTurn) (views : PeerViews)
           → peer_turn kind now.views (spelled (request id kind body)) ≡ record { turn = turn; after = views }
           → IsRow (method_answers selects now kind id views turn)
-      answers-row selects calls (Discard c) views turned = drops bytes _ c going
+      answers-row selects calls (Discard c) views turned = drops bytes _ c going (by_method selects id kind body c views heard calls turned)
       answers-row selects calls (Reply packet m d tags) views turned =
           cond_both (is_done m && is_fail d) _ _ IsRow
           (λ failed. method_fails bytes selects id kind body packet m d tags views heard calls turned failed)
@@ -48,38 +48,42 @@ module _ (now : PeerNow) where
           (λ no_notification. cond_both (is_among now.vars.setup.methods kind) _ _ IsRow (λ allowed. method-row true (first none allowed))
           (λ barred. naks bytes id kind body heard none no_identity no_notification barred)))
       new-row (Some selected) is =
-          cond_both (kind == 2) _ _ IsRow (λ _. drops bytes _ _ going)
+          cond_both (kind == 2) _ _ IsRow (λ two. drops bytes _ _ going (late_notification id kind selected body heard is (eqb-true kind 2 two)))
           (λ _. cond_both (kind == selected) _ _ IsRow
-          (λ same. cond_both (is_done now.vars.method_state) _ _ IsRow (λ _. drops bytes _ _ going)
-          (λ undone. method-row false (again (is ∙ sym (ap (λ (k : ℕ). Some k) (eqb-true kind selected same))) undone)))
-          (λ _. drops bytes _ _ going))
+          (λ equal.
+          let same : now.vars.selected ≡ Some kind = is ∙ sym (ap (λ (k : ℕ). Some k) (eqb-true kind selected equal)) in
+          cond_both (is_done now.vars.method_state) _ _ IsRow (λ over. drops bytes _ _ going (done_method id kind body heard same over))
+          (λ undone. method-row false (again same undone)))
+          (λ other. drops bytes _ _ going (other_method id kind selected body heard is other)))
 
     success-row : (id : ℕ) → Hears now bytes id (success id) true → IsRow (peer_success now)
     success-row id heard =
         cond_both (is_fail now.vars.decision) _ _ IsRow
-        (λ fails. cond_both (is_cont now.vars.method_state) _ _ IsRow (λ _. drops bytes _ _ going)
+        (λ fails. cond_both (is_cont now.vars.method_state) _ _ IsRow (λ goes_on. drops bytes _ _ going (early_success id heard fails goes_on))
         (λ over. ends_badly _ _ going (late_success bytes id heard fails over)))
         (λ sure. ends_well _ _ going sure (by_success bytes id heard))
 
     failure-row : (id : ℕ) → Hears now bytes id (failure id) true → IsRow (peer_failure now)
     failure-row id heard =
-        cond_both (is_uncond now.vars.decision) _ _ IsRow (λ _. drops bytes _ _ going)
-        (λ unsure. cond_both (is_cont now.vars.method_state) _ _ IsRow (λ _. drops bytes _ _ going)
+        cond_both (is_uncond now.vars.decision) _ _ IsRow (λ sure. drops bytes _ _ going (late_failure id heard sure))
+        (λ unsure. cond_both (is_cont now.vars.method_state) _ _ IsRow (λ goes_on. drops bytes _ _ going (early_failure id heard unsure goes_on))
         (λ over. ends_badly _ _ going (by_failure bytes id heard unsure over)))
 
     packet-row : (packet : Result PacketValue Cause) → packet_of bytes ≡ packet → IsRow (peer_row now packet)
-    packet-row (Err c) is = drops bytes _ c going
+    packet-row (Err c) is = drops bytes _ c going (no_packet c is)
     packet-row (Ok (request id kind body)) is =
         cond_both (is_last_id now.vars.last_id id) _ _ IsRow
         (λ last. resends bytes id kind body (record { going = going; is_packet = is; last = last }))
         (λ new. new-row id kind body (record { going = going; is_packet = is; last = new }) now.vars.selected refl)
-    packet-row (Ok (response id kind body)) is = drops bytes _ _ going
+    packet-row (Ok (response id kind body)) is = drops bytes _ _ going (no_request id kind body is)
     packet-row (Ok (success id)) is =
         cond_both (is_last_id now.vars.last_id id) _ _ IsRow
-        (λ last. success-row id (record { going = going; is_packet = is; last = last })) (λ _. drops bytes _ _ going)
+        (λ last. success-row id (record { going = going; is_packet = is; last = last }))
+        (λ new. drops bytes _ _ going (other_success id (record { going = going; is_packet = is; last = new })))
     packet-row (Ok (failure id)) is =
         cond_both (is_last_id now.vars.last_id id) _ _ IsRow
-        (λ last. failure-row id (record { going = going; is_packet = is; last = last })) (λ _. drops bytes _ _ going)
+        (λ last. failure-row id (record { going = going; is_packet = is; last = last }))
+        (λ new. drops bytes _ _ going (other_failure id (record { going = going; is_packet = is; last = new })))
 
   octets-row : (bytes : List ℕ) → PeerRow now (octets bytes) (peer_deliver now bytes)
   unfolding peer_deliver
@@ -87,8 +91,9 @@ module _ (now : PeerNow) where
       cond_both (is_end now.vars.state) _ _ (PeerRow now (octets bytes)) (λ over. ended bytes over)
       (λ going. packet-row bytes going (packet_of bytes) refl)
 
-  report-row : (report : PeerInput) (out : PeerAnswer) → (is_end now.vars.state ≡ false → PeerRow now report out) → PeerRow now report (unless_ended now out)
-  report-row report out row = cond_both (is_end now.vars.state) _ _ (PeerRow now report) (λ over. rests report over) row
+  report-row : (report : PeerInput) (out : PeerAnswer) → ((bytes : List ℕ) → report ≡ octets bytes → ⊥)
+      → (is_end now.vars.state ≡ false → PeerRow now report out) → PeerRow now report (unless_ended now out)
+  report-row report out no_octets row = cond_both (is_end now.vars.state) _ _ (PeerRow now report) (λ over. rests report no_octets over) row
 
   idle-row : is_end now.vars.state ≡ false → PeerRow now idle (peer_idle now)
   unfolding peer_idle
@@ -111,6 +116,6 @@ module _ (now : PeerNow) where
 
 pub peer_answers_are_rows : PeerAnswersAreRows
 peer_answers_are_rows now (octets bytes) = octets-row now bytes
-peer_answers_are_rows now idle = report-row now idle _ (idle-row now)
-peer_answers_are_rows now alt_accept = report-row now alt_accept _ (accept-row now)
-peer_answers_are_rows now alt_reject = report-row now alt_reject _ (reject-row now)
+peer_answers_are_rows now idle = report-row now idle _ (λ bytes e. cc e) (idle-row now)
+peer_answers_are_rows now alt_accept = report-row now alt_accept _ (λ bytes e. cc e) (accept-row now)
+peer_answers_are_rows now alt_reject = report-row now alt_reject _ (λ bytes e. cc e) (reject-row now)

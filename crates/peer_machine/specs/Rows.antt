@@ -1,14 +1,14 @@
 -- The rows of the peer's table (RFC 4137 section 4), each with all that is then known.
-use Rattle.std.specs.Prelude.{◌≡◌, ℕ, List, [], ◌∷◌, ◌++◌, Bool, true, false, ◌==◌, ◌&&◌, Some, None, Ok}
+use Rattle.std.specs.Prelude.{◌≡◌, ℕ, List, [], ◌∷◌, ◌++◌, Bool, true, false, ◌==◌, ◌&&◌, Some, None, Ok, Err}
 use Rattle.eap_base.specs.Setup.{is_among}
 use Rattle.eap_packet.specs.Fault.{packet_of}
-use Rattle.eap_packet.specs.Packet.{PacketValue, request, success, failure, spelled}
+use Rattle.eap_packet.specs.Packet.{PacketValue, request, response, success, failure, spelled}
 use Rattle.eap_packet.specs.declared.cause.Cause.{Cause}
 use Rattle.eap_packet.specs.declared.cause.Cause.TheVariants as cause
 use Rattle.eap_packet.specs.declared.state.State.{State}
 use Rattle.eap_packet.specs.declared.state.State.TheVariants as state
 use Rattle.eap_method.specs.declared.tags.Tags.{Tags}
-use Rattle.eap_method.specs.declared.turn.PeerTurn.TheVariants.{Reply}
+use Rattle.eap_method.specs.declared.turn.PeerTurn.TheVariants.{Discard, Reply}
 use Rattle.eap_method.specs.declared.values.Decision.{Decision}
 use Rattle.eap_method.specs.declared.values.MethodState.{MethodState}
 use Rattle.eap_method.specs.Peer.{PeerViews, peer_turn}
@@ -26,6 +26,27 @@ pub record Hears (now : PeerNow) (bytes : List ℕ) (id : ℕ) (packet : PacketV
 pub data Calls (now : PeerNow) (kind : ℕ) : Bool → Type 0 where
   first : (unselected : now.vars.selected ≡ None) (allowed : is_among now.vars.setup.methods kind ≡ true) → Calls now kind true
   again : (is_selected : now.vars.selected ≡ Some kind) (undone : is_done now.vars.method_state ≡ false) → Calls now kind false
+
+-- why octets are discarded before the end, with this cause
+pub data Drops (now : PeerNow) (bytes : List ℕ) : Cause → Type 0 where
+  no_packet : (c : Cause) (is_fault : packet_of bytes ≡ Err c) → Drops now bytes c
+  no_request : (id kind : ℕ) (body : List ℕ) (is_packet : packet_of bytes ≡ Ok (response id kind body)) → Drops now bytes cause.WrongRole
+  other_success : (id : ℕ) (heard : Hears now bytes id (success id) false) → Drops now bytes cause.IdMismatch
+  other_failure : (id : ℕ) (heard : Hears now bytes id (failure id) false) → Drops now bytes cause.IdMismatch
+  early_success : (id : ℕ) (heard : Hears now bytes id (success id) true) (fails : is_fail now.vars.decision ≡ true)
+      (goes_on : is_cont now.vars.method_state ≡ true) → Drops now bytes cause.EarlySuccess
+  late_failure : (id : ℕ) (heard : Hears now bytes id (failure id) true) (sure : is_uncond now.vars.decision ≡ true) → Drops now bytes cause.LateFailure
+  early_failure : (id : ℕ) (heard : Hears now bytes id (failure id) true) (unsure : is_uncond now.vars.decision ≡ false)
+      (goes_on : is_cont now.vars.method_state ≡ true) → Drops now bytes cause.EarlyFailure
+  late_notification : (id kind selected : ℕ) (body : List ℕ) (heard : Hears now bytes id (request id kind body) false)
+      (is_selected : now.vars.selected ≡ Some selected) (is_notification : kind ≡ 2) → Drops now bytes cause.NotAllowed
+  other_method : (id kind selected : ℕ) (body : List ℕ) (heard : Hears now bytes id (request id kind body) false)
+      (is_selected : now.vars.selected ≡ Some selected) (other : (kind == selected) ≡ false) → Drops now bytes cause.OtherMethod
+  done_method : (id kind : ℕ) (body : List ℕ) (heard : Hears now bytes id (request id kind body) false)
+      (is_selected : now.vars.selected ≡ Some kind) (is_over : is_done now.vars.method_state ≡ true) → Drops now bytes cause.MethodDone
+  by_method : (selects : Bool) (id kind : ℕ) (body : List ℕ) (c : Cause) (views : PeerViews) (heard : Hears now bytes id (request id kind body) false)
+      (calls : Calls now kind selects) (turn : peer_turn kind now.views (spelled (request id kind body)) ≡ record { turn = Discard c; after = views })
+      → Drops now bytes c
 
 -- the peer may end in SUCCESS
 pub data EndsWell (now : PeerNow) : PeerInput → List State → Type 0 where
@@ -47,9 +68,10 @@ pub data EndsBadly (now : PeerNow) : PeerInput → List State → Type 0 where
 pub data PeerRow (now : PeerNow) : PeerInput → PeerAnswer → Type 0 where
   -- after the end octets are discarded, and a report does nothing
   ended : (bytes : List ℕ) (over : is_end now.vars.state ≡ true) → PeerRow now (octets bytes) (answer (discards [] cause.Ended) now)
-  rests : (report : PeerInput) (over : is_end now.vars.state ≡ true) → PeerRow now report (answer (enters [] no_tags) now)
+  rests : (report : PeerInput) (no_octets : (bytes : List ℕ) → report ≡ octets bytes → ⊥) (over : is_end now.vars.state ≡ true)
+      → PeerRow now report (answer (enters [] no_tags) now)
   -- octets that are no packet or out of place, and what the method discards
-  drops : (bytes : List ℕ) (path : List State) (c : Cause) (going : is_end now.vars.state ≡ false)
+  drops : (bytes : List ℕ) (path : List State) (c : Cause) (going : is_end now.vars.state ≡ false) (why : Drops now bytes c)
       → PeerRow now (octets bytes) (answer (discards path c) now)
   -- a method that goes on isn't ended by a report of success
   waits : (going : is_end now.vars.state ≡ false) (fails : is_fail now.vars.decision ≡ true) (goes_on : is_cont now.vars.method_state ≡ true)

@@ -10,7 +10,7 @@ use Rattle.server_machine.proofs.ServerRows.{server_answers_are_rows}
 row-keeps : (now : ServerNow) (input : ServerInput) (out : ServerAnswer) → ServerRow now input out → IsSome out.step.cause → KeepsTheServer now out
 unfolding server_start
 row-keeps now _ _ (ended bytes over) is_discard = record { all = refl; sent = refl; tags = refl }
-row-keeps now _ _ (drops bytes path c going) is_discard = record { all = refl; sent = refl; tags = refl }
+row-keeps now _ _ (drops bytes path c going why) is_discard = record { all = refl; sent = refl; tags = refl }
 row-keeps now _ _ (rests over) is_discard = cc is_discard
 row-keeps now _ _ (goes_on is_begun) is_discard = cc is_discard
 row-keeps now _ _ (starts unstarted) is_discard = cc is_discard

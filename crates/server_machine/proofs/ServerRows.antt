@@ -12,7 +12,7 @@ use Rattle.eap_method.specs.declared.turn.ServerTurn.TheVariants as turn
 use Rattle.eap_method.specs.Server.{ServerViews}
 use Rattle.eap_method.specs.Steps.{is_end}
 use Rattle.server_machine.specs.Inputs.{start, timeout, octets}
-use Rattle.server_machine.specs.Rows.{Hears, Selects, after_identity, after_nak, Proposes, Turns, ServerRow, ended, rests, goes_on, drops, starts, resends, times_out, proposes, proposes_without, proposes_none, requests, succeeds, method_fails, ServerAnswersAreRows}
+use Rattle.server_machine.specs.Rows.{no_packet, no_response, other_id, other_method, by_method, Hears, Selects, after_identity, after_nak, Proposes, Turns, no_packet, no_response, other_id, other_method, by_method, ServerRow, ended, rests, goes_on, drops, starts, resends, times_out, proposes, proposes_without, proposes_none, requests, succeeds, method_fails, ServerAnswersAreRows}
 use Rattle.server_machine.specs.ServerTable as table
 use Rattle.server_machine.specs.ServerTable.{ServerNow, ServerAnswer, identity, nak, next_id, before_proposal, offers, select_action, method_answers, server_method, is_awaited, is_proposed, is_started, current_response, server_row, server_deliver, server_timeout}
 use Rattle.server_machine.specs.declared.variables.ServerVariables.{ServerVariables}
@@ -43,7 +43,7 @@ module _ (now : ServerNow) where
         select-row = proposes-row (next_kind vars.setup.methods vars.proposed desired) refl
 
       answers-row : (turn : ServerTurn) (views : ServerViews) → Turns now id kind body turn views → IsRow (method_answers now id views turn)
-      answers-row (turn.Discard c) views turned = drops bytes _ c heard.going
+      answers-row (turn.Discard c) views turned = drops bytes _ c heard.going (by_method id kind body c views heard turned)
       answers-row (turn.Request packet tags) views turned = requests bytes id kind body packet tags views heard turned
       answers-row (turn.Done true tags) views turned = succeeds bytes id kind body tags views heard turned
       answers-row (turn.Done false tags) views turned = method_fails bytes id kind body tags views heard turned
@@ -66,17 +66,17 @@ module _ (now : ServerNow) where
           let same = eqb-true kind identity is in
           select-row _ _ _ (after_identity same (awaited now.vars.current kind is_current ∙ ap (λ (k : ℕ). Some k) same)))
           (λ no_identity. method-row (awaited now.vars.current kind is_current) no_identity no_nak))
-          (λ _. drops bytes _ _ heard.going))
+          (λ other. drops bytes _ _ heard.going (other_method id kind body heard other no_nak)))
 
     packet-row : is_end now.vars.state ≡ false → (packet : Result PacketValue Cause) → packet_of bytes ≡ packet → IsRow (server_row now packet)
-    packet-row going (Err c) is = drops bytes _ c going
-    packet-row going (Ok (request id kind body)) is = drops bytes _ _ going
+    packet-row going (Err c) is = drops bytes _ c going (no_packet c is)
+    packet-row going (Ok (request id kind body)) is = drops bytes _ _ going (no_response _ is (λ id kind body e. cc e))
     packet-row going (Ok (response id kind body)) is =
         cond_both (is_awaited now.vars.current_id id) _ _ IsRow
         (λ current. current-row id kind body (record { going = going; is_packet = is; is_current = awaited now.vars.current_id id current }))
-        (λ _. drops bytes _ _ going)
-    packet-row going (Ok (success id)) is = drops bytes _ _ going
-    packet-row going (Ok (failure id)) is = drops bytes _ _ going
+        (λ other. drops bytes _ _ going (other_id id kind body is other))
+    packet-row going (Ok (success id)) is = drops bytes _ _ going (no_response _ is (λ id kind body e. cc e))
+    packet-row going (Ok (failure id)) is = drops bytes _ _ going (no_response _ is (λ id kind body e. cc e))
 
     octets-row : IsRow (server_deliver now bytes)
     unfolding server_deliver

@@ -1,7 +1,7 @@
 -- The rows of the server's table (RFC 4137 section 5), each with all that is then known.
-use Rattle.std.specs.Prelude.{◌≡◌, ℕ, ◌+◌, List, [], ◌∷◌, true, false, ◌==◌, ◌&&◌, nat_le, Option, Some, None, Ok}
+use Rattle.std.specs.Prelude.{◌≡◌, ℕ, ◌+◌, List, [], ◌∷◌, true, false, ◌==◌, ◌&&◌, nat_le, Option, Some, None, Ok, Err}
 use Rattle.eap_packet.specs.Fault.{packet_of}
-use Rattle.eap_packet.specs.Packet.{response, spelled}
+use Rattle.eap_packet.specs.Packet.{PacketValue, response, spelled}
 use Rattle.eap_packet.specs.declared.cause.Cause.{Cause}
 use Rattle.eap_packet.specs.declared.cause.Cause.TheVariants as cause
 use Rattle.eap_packet.specs.declared.state.State.{State}
@@ -13,7 +13,7 @@ use Rattle.eap_method.specs.declared.turn.ServerTurn.TheVariants as turn
 use Rattle.eap_method.specs.Server.{ServerViews, Offer, side_of, server_offer, server_turn}
 use Rattle.eap_method.specs.Steps.{no_tags, sends, enters, discards, is_end}
 use Rattle.server_machine.specs.Inputs.{ServerInput, start, timeout, octets, server_rests, server_takes}
-use Rattle.server_machine.specs.ServerTable.{ServerNow, ServerAnswer, answer, identity, nak, next_id, before_proposal, ends_badly, offers, method_answers, is_proposed, is_started, server_start}
+use Rattle.server_machine.specs.ServerTable.{ServerNow, ServerAnswer, answer, identity, nak, next_id, before_proposal, ends_badly, offers, method_answers, is_awaited, is_proposed, is_started, server_start}
 use Rattle.server_machine.specs.declared.variables.Progress.TheVariants as progress
 use Rattle.server_machine.specs.declared.variables.ServerVariables.{ServerVariables}
 
@@ -43,6 +43,18 @@ pub record Turns (now : ServerNow) (id kind : ℕ) (body : List ℕ) (turn : Ser
   pub no_nak : ((kind == nak) && is_proposed now.vars.progress) ≡ false
   pub is_turn : server_turn now.vars.setup.users (next_id now.vars) kind now.views (spelled (response id kind body)) ≡ record { turn = turn; after = views }
 
+-- why octets are discarded before the end, with this cause
+pub data Drops (now : ServerNow) (bytes : List ℕ) : Cause → Type 0 where
+  no_packet : (c : Cause) (is_fault : packet_of bytes ≡ Err c) → Drops now bytes c
+  no_response : (packet : PacketValue) (is_packet : packet_of bytes ≡ Ok packet) (other : (id kind : ℕ) (body : List ℕ) → packet ≡ response id kind body → ⊥)
+      → Drops now bytes cause.WrongRole
+  other_id : (id kind : ℕ) (body : List ℕ) (is_packet : packet_of bytes ≡ Ok (response id kind body)) (other : is_awaited now.vars.current_id id ≡ false)
+      → Drops now bytes cause.IdMismatch
+  other_method : (id kind : ℕ) (body : List ℕ) (heard : Hears now bytes id kind body) (other : is_awaited now.vars.current kind ≡ false)
+      (no_nak : ((kind == nak) && is_proposed now.vars.progress) ≡ false) → Drops now bytes cause.WrongMethod
+  by_method : (id kind : ℕ) (body : List ℕ) (c : Cause) (views : ServerViews) (heard : Hears now bytes id kind body)
+      (turned : Turns now id kind body (turn.Discard c) views) → Drops now bytes c
+
 -- what the server makes of an input
 pub data ServerRow (now : ServerNow) : ServerInput → ServerAnswer → Type 0 where
   -- after the end octets are discarded, and the timer does nothing; a second start does nothing
@@ -50,7 +62,7 @@ pub data ServerRow (now : ServerNow) : ServerInput → ServerAnswer → Type 0 w
   rests : (over : is_end now.vars.state ≡ true) → ServerRow now timeout (server_rests now)
   goes_on : (is_begun : is_started now.vars ≡ true) → ServerRow now start (server_rests now)
   -- octets that are no packet or out of place, and what the method discards
-  drops : (bytes : List ℕ) (path : List State) (c : Cause) (going : is_end now.vars.state ≡ false)
+  drops : (bytes : List ℕ) (path : List State) (c : Cause) (going : is_end now.vars.state ≡ false) (why : Drops now bytes c)
       → ServerRow now (octets bytes) (answer (discards path c) now)
   -- the Identity Request
   starts : (unstarted : is_started now.vars ≡ false) → ServerRow now start (server_start now)
