@@ -1,80 +1,62 @@
--- Who acts on an event: nobody, or one end, on an input.
-use Rattle.std.proofs.Common.{◌≡◌, ℕ, List, Bool, true, false, if◌then◌else◌, Option, Some, None, refl, subst, ◌∙◌}
-use Rattle.std.specs.Prelude.{length, nat_le, nat_lt}
-use Rattle.std.proofs.lemmas.Bool.{cond_both}
+-- An event is skipped, or is a call of one party.
+use Rattle.std.proofs.Common.{◌≡◌, ℕ, ◌+◌, true, List, [], ◌∷◌, length, Option, Some, None, ap, append-nil}
 use Rattle.eap_base.specs.declared.event.Event.{Event}
 use Rattle.eap_base.specs.declared.event.Event.TheVariants as event
-use Rattle.eap_base.specs.declared.setup.Party.{Party}
-use Rattle.eap_base.specs.declared.setup.Party.TheVariants as party
 use Rattle.eap_base.specs.declared.setup.Port.{Port}
 use Rattle.eap_base.specs.declared.setup.Port.TheVariants as port
-use Rattle.eap_method.specs.Steps.{is_end}
-use Rattle.peer_machine.specs.Inputs as peers
-use Rattle.peer_machine.specs.Inputs.{PeerInput, peer_takes, unless_ended}
-use Rattle.peer_machine.specs.PeerTable.{PeerNow, PeerAnswer, peer_idle, peer_alt_accept, peer_alt_reject}
-use Rattle.server_machine.specs.Inputs as servers
-use Rattle.server_machine.specs.Inputs.{ServerInput, server_rests, server_takes}
-use Rattle.server_machine.specs.ServerTable.{ServerNow, ServerAnswer, server_timeout}
-use Rattle.eap_world.specs.World.{Acted, act, alter_sent, cut_sent, deliver_sent, handed, lower_layer, none_acts, packet_numbered, peer_acts, server_acts, timer_ends}
+use Rattle.server_machine.specs.Inputs.{start}
+use Rattle.eap_world.specs.World.{Acted, Call, WorldNow, WorldOutcome, act, call_at, call_of, call_with, called, called_unless, counted, first_skip, packet_numbered, run_after, skip_table, skipped, to_server, told_of, world_acted, world_outcome, world_step}
+use Rattle.eap_world.specs.declared.act.Action.TheVariants.{Skipped}
 use Rattle.eap_world.specs.declared.act.Sent.{Sent}
 use Rattle.eap_world.specs.declared.told.Skip.{Skip}
 
--- who acts, and on what; the server has started before
-pub data Acts (peer : PeerNow) (server : ServerNow) : Acted → Type 0 where
-  nobody : (skip : Skip) → Acts peer server (none_acts peer server skip)
-  the_peer : (is_delivery : Bool) (input : PeerInput) → Acts peer server (peer_acts is_delivery (peer_takes peer input) server)
-  the_server : (is_delivery : Bool) (input : ServerInput) (later : input ≡ servers.start → ⊥)
-      → Acts peer server (server_acts is_delivery peer (server_takes server input))
+-- what comes of an event: nothing but the count of events changes, or a party is called; none starts the server
+abbrev pub counted_acted : WorldNow → Acted → WorldOutcome
+counted_acted w out = world_acted w (w.counts.events + 1) (counted w.counts out.action) out
 
-unless : {A : Type 0} (test : Bool) (x y : A) → test ≡ false → (if test then x else y) ≡ y
-unless true x y is = cc
-unless false x y is = refl
+pub data Steps (w : WorldNow) : WorldOutcome → Type 0 where
+  skips : (skip : Skip) → Steps w (world_outcome (told_of (w.counts.events + 1) (length w.sent + 1) None (Skipped skip))
+      (record w { counts = record w.counts { events = w.counts.events + 1 }; started = true }))
+  calls : (call : Call) (later : call ≡ to_server start → ⊥) → Steps w (counted_acted w (called w.parties call))
 
-handed-acts : (peer : PeerNow) (server : ServerNow) (to : Port) (octets : List ℕ) → Acts peer server (handed peer server to octets)
-handed-acts peer server port.Peer octets = the_peer true (peers.octets octets)
-handed-acts peer server port.Server octets = the_server true (servers.octets octets) (λ e. cc e)
-handed-acts peer server port.PassPeer octets = nobody _
-handed-acts peer server port.PassServer octets = nobody _
+at_later : (to : Port) (octets : List ℕ) → call_at to octets ≡ Some (to_server start) → ⊥
+at_later port.Peer octets e = cc e
+at_later port.Server octets e = cc e
+at_later port.PassPeer octets e = cc e
+at_later port.PassServer octets e = cc e
 
-deliver_sent-acts : (peer : PeerNow) (server : ServerNow) (packet : Option Sent) → Acts peer server (deliver_sent peer server packet)
-deliver_sent-acts peer server None = nobody _
-deliver_sent-acts peer server (Some packet) = handed-acts peer server packet.port packet.octets
+with_later : (packet : Option Sent) (octets : List ℕ) → call_with packet octets ≡ Some (to_server start) → ⊥
+with_later None octets e = cc e
+with_later (Some packet) octets e = at_later packet.port octets e
 
-alter_sent-acts : (peer : PeerNow) (server : ServerNow) (place mask : ℕ) (packet : Option Sent)
-    → Acts peer server (alter_sent peer server place mask packet)
-alter_sent-acts peer server place mask None = nobody _
-alter_sent-acts peer server place mask (Some packet) =
-    cond_both (nat_lt place (length packet.octets)) _ _ (Acts peer server) (λ _. handed-acts peer server packet.port _) (λ _. nobody _)
+of_later : (sent : List Sent) (e : Event) → call_of sent e ≡ Some (to_server start) → ⊥
+of_later sent (event.Deliver n) is = with_later (packet_numbered sent n) _ is
+of_later sent (event.Alter n place mask) is = with_later (packet_numbered sent n) _ is
+of_later sent (event.Cut n keep) is = with_later (packet_numbered sent n) _ is
+of_later sent (event.Inject to octets) is = at_later to octets is
+of_later sent (event.Timeout of) is = cc is
+of_later sent event.AaaTimeout is = cc is
+of_later sent event.AaaNoReq is = cc is
+of_later sent event.Idle is = cc is
+of_later sent event.AltAccept is = cc is
+of_later sent event.AltReject is = cc is
 
-cut_sent-acts : (peer : PeerNow) (server : ServerNow) (keep : ℕ) (packet : Option Sent) → Acts peer server (cut_sent peer server keep packet)
-cut_sent-acts peer server keep None = nobody _
-cut_sent-acts peer server keep (Some packet) =
-    cond_both (nat_le keep (length packet.octets)) _ _ (Acts peer server) (λ _. handed-acts peer server packet.port _) (λ _. nobody _)
+skip_steps : (w : WorldNow) (skip : Skip) → Steps w (counted_acted w (skipped w.parties skip))
+skip_steps w skip = rw (append-nil w.sent, append-nil w.book) (skips skip)
 
-timer_ends-acts : (peer : PeerNow) (server : ServerNow) (of : Party) → Acts peer server (timer_ends peer server of)
-timer_ends-acts peer server party.Peer = cond_both (is_end peer.vars.state) _ _ (Acts peer server) (λ _. nobody _) (λ _. nobody _)
-timer_ends-acts peer server party.Pass = nobody _
-timer_ends-acts peer server party.Server =
-    cond_both (is_end server.vars.state) _ _ (Acts peer server) (λ _. nobody _)
-    (λ going. subst (λ (out : ServerAnswer). Acts peer server (server_acts false peer out))
-    (unless (is_end server.vars.state) (server_rests server) (server_timeout server) going) (the_server false servers.timeout (λ e. cc e)))
+unless_steps : (w : WorldNow) (skip : Option Skip) (call : Option Call) → (call ≡ Some (to_server start) → ⊥)
+    → Steps w (counted_acted w (called_unless w.parties skip call))
+unless_steps w (Some skip) call later = skip_steps w skip
+unless_steps w None None later = skip_steps w _
+unless_steps w None (Some call) later = calls call (λ e. later (ap Some e))
 
-lower_layer-acts : (peer : PeerNow) (server : ServerNow) (report : PeerInput) (out : PeerAnswer) → peer_takes peer report ≡ unless_ended peer out
-    → Acts peer server (lower_layer peer server out)
-lower_layer-acts peer server report out same =
-    cond_both (is_end peer.vars.state) _ _ (Acts peer server) (λ _. nobody _)
-    (λ going. subst (λ (out : PeerAnswer). Acts peer server (peer_acts false out server))
-    (same ∙ unless (is_end peer.vars.state) _ out going) (the_peer false report))
+pub step_steps : (w : WorldNow) (e : Event) → Steps w (world_step w e)
+unfolding act world_step
+step_steps w e = unless_steps w (first_skip (skip_table w.parties w.sent e)) (call_of w.sent e) (of_later w.sent e)
 
-pub act-acts : (peer : PeerNow) (server : ServerNow) (sent : List Sent) (e : Event) → Acts peer server (act peer server sent e)
-unfolding act
-act-acts peer server sent (event.Deliver n) = deliver_sent-acts peer server (packet_numbered sent n)
-act-acts peer server sent (event.Alter n place mask) = alter_sent-acts peer server place mask (packet_numbered sent n)
-act-acts peer server sent (event.Cut n keep) = cut_sent-acts peer server keep (packet_numbered sent n)
-act-acts peer server sent (event.Inject to octets) = handed-acts peer server to octets
-act-acts peer server sent (event.Timeout of) = timer_ends-acts peer server of
-act-acts peer server sent event.AaaTimeout = nobody _
-act-acts peer server sent event.AaaNoReq = nobody _
-act-acts peer server sent event.Idle = lower_layer-acts peer server peers.idle (peer_idle peer) refl
-act-acts peer server sent event.AltAccept = lower_layer-acts peer server peers.alt_accept (peer_alt_accept peer) refl
-act-acts peer server sent event.AltReject = lower_layer-acts peer server peers.alt_reject (peer_alt_reject peer) refl
+-- what each step keeps holds after every run
+module _ (P : WorldNow → Type 0) (each : (w : WorldNow) (out : WorldOutcome) → Steps w out → P w → P out.after) where
+  pub run_keeps : (w : WorldNow) (events : List Event) → P w → P (run_after w events)
+  unfolding run_after
+  run_keeps w [] holds = holds
+  run_keeps w (e ∷ rest) holds = run_keeps (world_step w e).after rest (each w (world_step w e) (step_steps w e) holds)

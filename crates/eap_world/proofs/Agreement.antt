@@ -29,21 +29,21 @@ agree_if : (one other same : Bool) → one ≡ true → other ≡ true → same 
 agree_if one other same a b c = rw (a, b, c) refl
 
 -- a world whose ends stand so, whose book is honest and whose ends both succeed, agrees
-pub stand_agree : (setup : Setup) → IsWhole setup → (w : WorldNow) → BothStand setup w.peer w.server w.book
-    → tags_verdict w.book ≡ Honest → is_success w.peer.vars.state ≡ true → is_success w.server.vars.state ≡ true → verdict_of w ≡ Agree
+pub stand_agree : (setup : Setup) → IsWhole setup → (w : WorldNow) → BothStand setup w.parties w.book
+    → tags_verdict w.book ≡ Honest → is_success w.parties.peer.vars.state ≡ true → is_success w.parties.server.vars.state ≡ true → verdict_of w ≡ Agree
 unfolding verdict_of
 stand_agree setup whole w both honest p_in s_in =
     let none = none_if_honest (first_broken [] w.book) honest in
-    let same = ends_agree setup.peer setup.server w.peer w.server _ _ _ _ whole.peer_nonce whole.server_nonce both.peer_stands both.server_stands
+    let same = ends_agree setup.peer setup.server w.parties.peer w.parties.server _ _ _ _ whole.peer_nonce whole.server_nonce both.peer_stands both.server_stands
     (honest_tags end.Peer w.book none) (honest_tags end.Server w.book none) p_in s_in in
-    let p_own = peer_calls.peer_own setup.peer w.peer _ _ both.peer_stands in
-    let s_own = own_of setup.server w.server _ _ both.server_stands in
-    agree_if (is_success w.peer.vars.state) (is_success w.server.vars.state) _ p_in s_in (rw (p_own, s_own) same)
+    let p_own = peer_calls.peer_own setup.peer w.parties.peer _ _ both.peer_stands in
+    let s_own = own_of setup.server w.parties.server _ _ both.server_stands in
+    agree_if (is_success w.parties.peer.vars.state) (is_success w.parties.server.vars.state) _ p_in s_in (rw (p_own, s_own) same)
 
 -- ---- every run
 
 -- the start makes no tag
-start_stands : (setup : Setup) → (let w = (world_start (world_made setup)).after in BothStand setup w.peer w.server w.book)
+start_stands : (setup : Setup) → (let w = (world_start (world_made setup)).after in BothStand setup w.parties w.book)
 unfolding world_start server_start tags_by
 start_stands setup = record {
   peer_stands = peer_calls.peer_begins setup.peer;
@@ -51,7 +51,7 @@ start_stands setup = record {
 }
 
 pub every_run_stands : (setup : Setup) (events : List Event)
-    → (let w = run_of setup events in BothStand setup w.peer w.server w.book)
+    → (let w = run_of setup events in BothStand setup w.parties w.book)
 every_run_stands setup events =
     run_stands setup (world_start (world_made setup)).after events (start_stands setup)
 
@@ -68,11 +68,11 @@ both_only true false same verdict e judged = absurd (judged (sym e))
 both_only false other same verdict e judged = absurd (judged (sym e))
 
 both_in : (w : WorldNow) (verdict : Verdict) → verdict_of w ≡ verdict → (verdict ≡ Unfinished → ⊥)
-    → BothIn (is_success w.peer.vars.state) (is_success w.server.vars.state)
+    → BothIn (is_success w.parties.peer.vars.state) (is_success w.parties.server.vars.state)
 unfolding verdict_of
-both_in w verdict e judged = both_only (is_success w.peer.vars.state) (is_success w.server.vars.state) _ verdict e judged
+both_in w verdict e judged = both_only (is_success w.parties.peer.vars.state) (is_success w.parties.server.vars.state) _ verdict e judged
 
-pub agree_in : (w : WorldNow) → verdict_of w ≡ Agree → BothIn (is_success w.peer.vars.state) (is_success w.server.vars.state)
+pub agree_in : (w : WorldNow) → verdict_of w ≡ Agree → BothIn (is_success w.parties.peer.vars.state) (is_success w.parties.server.vars.state)
 agree_in w agrees = both_in w Agree agrees (λ e. cc e)
 
 not_both : (verdict : Verdict) → verdict ≡ Agree → verdict ≡ Apart → ⊥

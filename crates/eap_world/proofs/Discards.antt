@@ -1,28 +1,24 @@
 -- An event that is discarded changes nothing but the counts, and each report that an end holds was told
 -- of.
-use Rattle.std.proofs.Common.{◌≡◌, ℕ, List, [], ◌∷◌, ◌++◌, Bool, true, false, Option, Some, None, refl, ap, subst, sym, ◌∙◌, append-nil}
+use Rattle.std.proofs.Common.{◌≡◌, ℕ, [], ◌++◌, Bool, true, false, Option, Some, None, refl, ap, subst, sym, ◌∙◌, append-nil}
 use Rattle.std.specs.Prelude.{IsSome}
-use Rattle.eap_base.specs.declared.event.Event.{Event}
 use Rattle.eap_base.specs.declared.setup.Party.{Party}
 use Rattle.eap_base.specs.declared.setup.Party.TheVariants as party
-use Rattle.eap_base.specs.declared.setup.Port.TheVariants as port
 use Rattle.eap_base.specs.declared.setup.Setup.{Setup}
-use Rattle.eap_method.specs.declared.tags.Tags.{Tags}
+use Rattle.eap_method.specs.Steps.{no_tags}
 use Rattle.eap_method.specs.declared.values.Report.{Report}
 use Rattle.peer_machine.specs.Inputs.{peer_takes}
-use Rattle.peer_machine.specs.PeerTable.{PeerNow, peer_reports}
 use Rattle.peer_machine.proofs.Discards as peer_discards
 use Rattle.server_machine.specs.Inputs.{server_takes}
-use Rattle.server_machine.specs.ServerTable.{ServerNow, server_start, server_reports}
 use Rattle.server_machine.proofs.Discards as server_discards
-use Rattle.eap_world.specs.Book.{booked}
-use Rattle.eap_world.specs.Laws.{HasToldReports, DiscardsKeep, RunsTellReports}
-use Rattle.eap_world.specs.World.{Acted, WorldNow, act, booked_by, first_report, held_after, named_by, run_after, sent_by, sent_to, told_of, world_made, world_start, world_step}
-use Rattle.eap_world.specs.declared.book.Entry.{Entry}
-use Rattle.eap_world.specs.declared.book.End.TheVariants as end
-use Rattle.eap_world.specs.declared.told.Named.{Named}
+use Rattle.eap_world.specs.Laws.{HasToldReports, KeepsBothEnds, DiscardsKeep, RunsTellReports}
+use Rattle.eap_world.specs.World.{Call, Parties, WorldNow, WorldOutcome, acted, booked_of, called, did_by, end_of, first_report, has_held, held_after, held_by, is_delivery, named_by, report_of, sent_to, to_peer, to_server, world_made, world_start, world_step}
+use Rattle.eap_world.specs.declared.act.Action.TheVariants.{Called}
+use Rattle.eap_world.specs.declared.act.Did.{Did}
+use Rattle.eap_world.specs.declared.book.End.{End}
 use Rattle.eap_world.specs.declared.world.Held.{Held}
-use Rattle.eap_world.proofs.Acting.{Acts, nobody, the_peer, the_server, act-acts}
+use Rattle.server_machine.specs.Inputs.{start}
+use Rattle.eap_world.proofs.Acting.{Steps, skips, calls, counted_acted, run_keeps, step_steps}
 
 -- a report that was told of isn't told of again
 tells_once : (was : Bool) (of : Party) (report : Option Report) → (IsSome report → was ≡ true) → first_report was of report ≡ None
@@ -30,121 +26,89 @@ tells_once true of report told = refl
 tells_once false of None told = refl
 tells_once false of (Some report) told = let contrary = told refl in cc contrary
 
--- both ends hold no report but what was told of
-pub record AreTold (held : Held) (peer : PeerNow) (server : ServerNow) : Type 0 where
-  pub peer_told : IsSome (peer_reports peer) → held.peer ≡ true
-  pub server_told : IsSome (server_reports server) → held.server ≡ true
+none_booked : (event : ℕ) (end : Option End) → booked_of event end no_tags ≡ []
+none_booked event None = refl
+none_booked event (Some end) = refl
 
--- where a cause is told of, both ends are as they were, and there is nothing to send, to book or to tell
-record Kept (peer : PeerNow) (server : ServerNow) (out : Acted) : Type 0 where
-  pub same_peer : out.peer ≡ peer
-  pub same_server : out.server ≡ server
-  pub unsent : sent_by out.action ≡ []
-  pub unbooked : (event : ℕ) → booked_by event out.action ≡ []
-  pub untold : (held : Held) → AreTold held peer server → named_by held out out.action ≡ None
-
-record ActKeeps (peer : PeerNow) (server : ServerNow) (out : Acted) : Type 0 where
-  pub keeps : (event number : ℕ) (named : Option Named) → IsSome (told_of event number named out.action).cause → Kept peer server out
-
-acts-keep : (peer : PeerNow) (server : ServerNow) (out : Acted) → Acts peer server out → ActKeeps peer server out
-acts-keep peer server _ (nobody skip) = record { keeps = λ event number named is_discard. cc is_discard }
-acts-keep peer server _ (the_peer is_delivery input) = record {
-  keeps = λ event number named is_discard.
-      let same = peer_discards.discards_keep peer input is_discard in
-      record {
-        same_peer = same.all;
-        same_server = refl;
-        unsent = ap (sent_to port.Server) same.sent;
-        unbooked = λ event. ap (λ (tags : Tags). booked event end.Peer tags) same.tags;
-        untold = λ held told. subst (λ (now : PeerNow). first_report held.peer party.Peer (peer_reports now) ≡ None) (sym same.all)
-            (tells_once held.peer party.Peer (peer_reports peer) told.peer_told);
-      };
+-- a call that leaves the parties as they were, with nothing to send and no tag
+call_keeps : (w : WorldNow) (did : Did) (after : Parties) → after ≡ w.parties → did.step.sent ≡ None → did.step.tags ≡ no_tags
+    → KeepsBothEnds w (counted_acted w (acted (Called did) after)).after
+call_keeps w did after same unsent untagged = record {
+  parties = same;
+  sent = ap (λ sent. w.sent ++ sent_to did.port sent) unsent ∙ append-nil w.sent;
+  book = ap (λ entries. w.book ++ entries) (ap (booked_of _ (end_of did.party)) untagged ∙ none_booked _ (end_of did.party)) ∙ append-nil w.book;
+  held = λ told. ap (held_after w.held)
+      (subst (λ (now : Parties). first_report (has_held w.held did.party) did.party (report_of now did.party) ≡ None) (sym same)
+      (tells_once (has_held w.held did.party) did.party (report_of w.parties did.party) (told.each did.party)));
 }
-acts-keep peer server _ (the_server is_delivery input later) = record {
-  keeps = λ event number named is_discard.
-      let same = server_discards.discards_keep server input is_discard in
-      record {
-        same_peer = refl;
-        same_server = same.all;
-        unsent = ap (sent_to port.Peer) same.sent;
-        unbooked = λ event. ap (λ (tags : Tags). booked event end.Server tags) same.tags;
-        untold = λ held told. subst (λ (now : ServerNow). first_report held.server party.Server (server_reports now) ≡ None) (sym same.all)
-            (tells_once held.server party.Server (server_reports server) told.server_told);
-      };
+
+record Keeps (w : WorldNow) (out : WorldOutcome) : Type 0 where
+  pub keeps : IsSome out.told.cause → KeepsBothEnds w out.after
+
+steps_keep : (w : WorldNow) (out : WorldOutcome) → Steps w out → Keeps w out
+steps_keep w _ (skips skip) = record { keeps = λ is_discard. cc is_discard }
+steps_keep w _ (calls (to_peer input) later) = record {
+  keeps = λ is_discard.
+      let out = peer_takes w.parties.peer input in
+      let same = peer_discards.discards_keep w.parties.peer input is_discard in
+      call_keeps w (did_by party.Peer (is_delivery (to_peer input)) out.step) _ (ap (λ peer. record w.parties { peer = peer }) same.all) same.sent same.tags;
+}
+steps_keep w _ (calls (to_server input) later) = record {
+  keeps = λ is_discard.
+      let out = server_takes w.parties.server input in
+      let same = server_discards.discards_keep w.parties.server input is_discard in
+      call_keeps w (did_by party.Server (is_delivery (to_server input)) out.step) _ (ap (λ server. record w.parties { server = server }) same.all) same.sent same.tags;
 }
 
 pub discards_keep : DiscardsKeep
-unfolding world_step
-discards_keep w e is_discard =
-    let kept = (acts-keep w.peer w.server (act w.peer w.server w.sent e) (act-acts w.peer w.server w.sent e)).keeps _ _ _ is_discard in
-    record {
-      peer = kept.same_peer;
-      server = kept.same_server;
-      sent = ap (λ sent. w.sent ++ sent) kept.unsent ∙ append-nil w.sent;
-      book = ap (λ (entries : List Entry). w.book ++ entries) (kept.unbooked _) ∙ append-nil w.book;
-      held = λ told. ap (held_after w.held) (kept.untold w.held (record { peer_told = told.peer; server_told = told.server }));
-    }
+discards_keep w e = (steps_keep w (world_step w e) (step_steps w e)).keeps
 
--- what an end is seen to hold was told of, and what the other holds still was
-peer_names : (one other : Bool) (report : Option Report)
-    → (let held : Held = record { peer = one; server = other } in IsSome report → (held_after held (first_report one party.Peer report)).peer ≡ true)
-peer_names true other report is = refl
-peer_names false other None is = cc is
-peer_names false other (Some report) is = refl
+-- what a party was seen to hold it still was
+still_held : (held : Held) (of other : Party) → has_held held other ≡ true → has_held (held_by held of) other ≡ true
+still_held held party.Peer party.Peer was = refl
+still_held held party.Peer party.Pass was = was
+still_held held party.Peer party.Server was = was
+still_held held party.Pass other was = was
+still_held held party.Server party.Peer was = was
+still_held held party.Server party.Pass was = was
+still_held held party.Server party.Server was = refl
 
-peer_names_alone : (one other : Bool) (report : Option Report)
-    → (let held : Held = record { peer = one; server = other } in (held_after held (first_report one party.Peer report)).server ≡ other)
-peer_names_alone true other report = refl
-peer_names_alone false other None = refl
-peer_names_alone false other (Some report) = refl
+stays : (held : Held) (was : Bool) (of other : Party) (report : Option Report) → has_held held other ≡ true
+    → has_held (held_after held (first_report was of report)) other ≡ true
+stays held true of other report held_it = held_it
+stays held false of other None held_it = held_it
+stays held false of other (Some report) held_it = still_held held of other held_it
 
-server_names : (one other : Bool) (report : Option Report)
-    → (let held : Held = record { peer = other; server = one } in IsSome report → (held_after held (first_report one party.Server report)).server ≡ true)
-server_names true other report is = refl
-server_names false other None is = cc is
-server_names false other (Some report) is = refl
+-- what an end is seen to hold was told of
+names : (held : Held) (was : Bool) (of : Party) (report : Option Report) → has_held held of ≡ was → has_held (held_by held of) of ≡ true → IsSome report
+    → has_held (held_after held (first_report was of report)) of ≡ true
+names held true of report same own is = same
+names held false of None same own is = cc is
+names held false of (Some report) same own is = own
 
-server_names_alone : (one other : Bool) (report : Option Report)
-    → (let held : Held = record { peer = other; server = one } in (held_after held (first_report one party.Server report)).peer ≡ other)
-server_names_alone true other report = refl
-server_names_alone false other None = refl
-server_names_alone false other (Some report) = refl
+each_told : (held : Held) (parties : Parties) (call : Call) → HasToldReports held parties → (of : Party)
+    → (let out = called parties call in IsSome (report_of out.after of) → has_held (held_after held (named_by held out.after out.action)) of ≡ true)
+each_told held parties (to_peer input) told party.Peer is = names held _ party.Peer _ refl refl is
+each_told held parties (to_peer input) told party.Pass is = cc is
+each_told held parties (to_peer input) told party.Server is = stays held _ party.Peer party.Server _ (told.each party.Server is)
+each_told held parties (to_server input) told party.Peer is = stays held _ party.Server party.Peer _ (told.each party.Peer is)
+each_told held parties (to_server input) told party.Pass is = cc is
+each_told held parties (to_server input) told party.Server is = names held _ party.Server _ refl refl is
 
 -- the held reports of both ends stay told of
-acts-tell : (held : Held) (peer : PeerNow) (server : ServerNow) (out : Acted) → Acts peer server out → AreTold held peer server
-    → AreTold (held_after held (named_by held out out.action)) out.peer out.server
-acts-tell held peer server _ (nobody skip) told = told
-acts-tell held peer server _ (the_peer is_delivery input) told = record {
-  peer_told = peer_names held.peer held.server (peer_reports (peer_takes peer input).after);
-  server_told = λ is. peer_names_alone held.peer held.server (peer_reports (peer_takes peer input).after) ∙ told.server_told is;
-}
-acts-tell held peer server _ (the_server is_delivery input later) told = record {
-  peer_told = λ is. server_names_alone held.server held.peer (server_reports (server_takes server input).after) ∙ told.peer_told is;
-  server_told = server_names held.server held.peer (server_reports (server_takes server input).after);
-}
+steps_tell : (w : WorldNow) (out : WorldOutcome) → Steps w out → HasToldReports w.held w.parties → HasToldReports out.after.held out.after.parties
+steps_tell w _ (skips skip) told = told
+steps_tell w _ (calls call later) told = record { each = each_told w.held w.parties call told }
 
-step-tells : (w : WorldNow) (e : Event) → HasToldReports w → HasToldReports (world_step w e).after
-unfolding world_step
-step-tells w e told =
-    let after = acts-tell w.held w.peer w.server (act w.peer w.server w.sent e) (act-acts w.peer w.server w.sent e)
-    (record { peer_told = told.peer; server_told = told.server }) in
-    record { peer = after.peer_told; server = after.server_told }
-
-run-tells : (w : WorldNow) (events : List Event) → HasToldReports w → HasToldReports (run_after w events)
-unfolding run_after
-run-tells w [] told = told
-run-tells w (e ∷ rest) told = run-tells (world_step w e).after rest (step-tells w e told)
-
--- before the start no end holds a report, and the start is an action of the server
-start-tells : (setup : Setup) → HasToldReports (world_start (world_made setup)).after
-unfolding world_start
-start-tells setup =
-    let w = world_made setup in
-    let out = server_start w.server in
-    record {
-      peer = λ is. cc is;
-      server = server_names false false (server_reports out.after);
-    }
+-- before the start no end holds a report
+none_made : (setup : Setup) (of : Party) → (let w = world_made setup in IsSome (report_of w.parties of) → has_held w.held of ≡ true)
+none_made setup party.Peer is = cc is
+none_made setup party.Pass is = cc is
+none_made setup party.Server is = cc is
 
 pub runs_tell_reports : RunsTellReports
-runs_tell_reports setup events = run-tells (world_start (world_made setup)).after events (start-tells setup)
+unfolding world_start
+runs_tell_reports setup events =
+    let w = world_made setup in
+    run_keeps (λ (w : WorldNow). HasToldReports w.held w.parties) steps_tell (world_start w).after events
+    (record { each = each_told w.held w.parties (to_server start) (record { each = none_made setup }) })

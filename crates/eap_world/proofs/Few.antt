@@ -3,8 +3,6 @@ use Rattle.std.proofs.Common.{◌≡◌, ℕ, ◌+◌, ◌≤◌, List, [], ◌�
 use Rattle.std.specs.Prelude.{if◌then◌else◌, ◌&&◌}
 use Rattle.eap_base.specs.declared.setup.Setup.{Setup}
 use Rattle.eap_method.specs.declared.tags.TagRecord.{TagRecord}
-use Rattle.peer_machine.specs.PeerTable.{PeerNow}
-use Rattle.server_machine.specs.ServerTable.{ServerNow}
 use Rattle.eap_world.specs.Book.{same_end}
 use Rattle.eap_world.specs.declared.book.End.{End}
 use Rattle.eap_world.specs.declared.book.End.TheVariants.{Peer, Server}
@@ -12,6 +10,7 @@ use Rattle.eap_world.specs.declared.book.Entry.{Entry}
 use Rattle.eap_world.specs.declared.book.Use.{Use}
 use Rattle.eap_world.specs.declared.book.Use.TheVariants.{Accepted, Made}
 use Rattle.eap_world.specs.Agreement.{HasFewTags, FewTags}
+use Rattle.eap_world.specs.World.{Parties}
 use Rattle.eap_world.specs.Records.{AreFew, same_use, tags_by}
 use Rattle.eap_world.proofs.Agreement.{every_run_stands}
 use Rattle.eap_world.proofs.PeerKeeps.{peer_few}
@@ -55,9 +54,9 @@ all_few book peer server = record {
   all = omega (arith, four_lists book, peer.few_accepted, peer.few_made, server.few_accepted, server.few_made);
 }
 
-both_few : (setup : Setup) (peer : PeerNow) (server : ServerNow) (book : List Entry) → BothStand setup peer server book → HasFewTags book
-both_few setup peer server book both =
-    all_few book (peer_few setup.peer peer _ _ both.peer_stands) (server_few setup.server server _ _ both.server_stands)
+both_few : (setup : Setup) (parties : Parties) (book : List Entry) → BothStand setup parties book → HasFewTags book
+both_few setup parties book both =
+    all_few book (peer_few setup.peer parties.peer _ _ both.peer_stands) (server_few setup.server parties.server _ _ both.server_stands)
 
 pub few_tags : FewTags
-few_tags setup events = both_few setup _ _ _ (every_run_stands setup events)
+few_tags setup events = both_few setup _ _ (every_run_stands setup events)

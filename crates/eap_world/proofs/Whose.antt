@@ -46,15 +46,15 @@ module _ (setup : Setup) (w : WorldNow) (login : psk_peer.Login) (facts : PskBeg
   unfolding side_of
   psk_server_name = same.id_s ∙ ap (λ own. own.id_s) checked.own
 
-  psk_theirs : w.peer.vars.selected ≡ Some psk_kind → w.peer.views.psk ≡ psk_peer.over login true
-      → w.server.vars.current ≡ Some psk_kind → w.server.views.psk ≡ Some (psk_server.over other true) → other.r ≡ 2 → AreTheirs setup w
+  psk_theirs : w.parties.peer.vars.selected ≡ Some psk_kind → w.parties.peer.views.psk ≡ psk_peer.over login true
+      → w.parties.server.vars.current ≡ Some psk_kind → w.parties.server.views.psk ≡ Some (psk_server.over other true) → other.r ≡ 2 → AreTheirs setup w
   unfolding psk_peer.report_of
   psk_theirs is_selected in_view is_current in_other r_sent =
       let name : login.cred.id_p ≡ setup.peer.name = own_name setup.peer psk_kind login.cred facts.cred in
       record {
         report = psk_peer.report_of login;
-        holds = psk.peer_reported setup.peer login facts w.peer is_selected in_view;
-        same = psk.server_reported setup.server other checked r_sent w.server is_current in_other ∙ ap Some (sym (psk.same_reports login other same));
+        holds = psk.peer_reported setup.peer login facts w.parties.peer is_selected in_view;
+        same = psk.server_reported setup.server other checked r_sent w.parties.server is_current in_other ∙ ap Some (sym (psk.same_reports login other same));
         id_p = name;
         id_s = psk_server_name;
         user = checked.user;
@@ -84,15 +84,15 @@ module _ (setup : Setup) (w : WorldNow) (login : gpsk_peer.Login) (list : List �
     is_suite = refl;
   }
 
-  gpsk_theirs : w.peer.vars.selected ≡ Some gpsk_kind → w.peer.views.gpsk ≡ gpsk_peer.over login true
-      → w.server.vars.current ≡ Some gpsk_kind → w.server.views.gpsk ≡ Some (gpsk_server.over other true) → AreTheirs setup w
+  gpsk_theirs : w.parties.peer.vars.selected ≡ Some gpsk_kind → w.parties.peer.views.gpsk ≡ gpsk_peer.over login true
+      → w.parties.server.vars.current ≡ Some gpsk_kind → w.parties.server.views.gpsk ≡ Some (gpsk_server.over other true) → AreTheirs setup w
   unfolding gpsk_peer.report_of
   gpsk_theirs is_selected in_view is_current in_other =
       let name : login.cred.id_p ≡ setup.peer.name = own_name setup.peer gpsk_kind login.cred facts.cred in
       record {
         report = gpsk_peer.report_of login;
-        holds = gpsk.peer_reported setup.peer login list facts w.peer is_selected in_view;
-        same = gpsk.server_reported setup.server other pd mac checked w.server is_current in_other ∙ ap Some (sym (gpsk.same_reports login list other same));
+        holds = gpsk.peer_reported setup.peer login list facts w.parties.peer is_selected in_view;
+        same = gpsk.server_reported setup.server other pd mac checked w.parties.server is_current in_other ∙ ap Some (sym (gpsk.same_reports login list other same));
         id_p = name;
         id_s = gpsk_server_name;
         user = checked.user;
@@ -102,7 +102,7 @@ module _ (setup : Setup) (w : WorldNow) (login : gpsk_peer.Login) (list : List �
         first_suite = λ e. gpsk_suite;
       }
 
-both_theirs : (setup : Setup) (w : WorldNow) → BothSucceed setup.peer setup.server w.peer w.server → AreTheirs setup w
+both_theirs : (setup : Setup) (w : WorldNow) → BothSucceed setup.peer setup.server w.parties.peer w.parties.server → AreTheirs setup w
 both_theirs setup w (by_psk login facts other checked is_selected in_view is_current in_other r_sent same) =
     psk_theirs setup w login facts other checked same is_selected in_view is_current in_other r_sent
 both_theirs setup w (by_gpsk login list facts other pd mac checked is_selected in_view is_current in_other same) =
@@ -114,7 +114,7 @@ honest_names_are_theirs setup events whole honest p_in s_in =
     let both = every_run_stands setup events in
     let none = none_if_honest (first_broken [] w.book) honest in
     both_theirs setup w
-    (ends_succeed setup.peer setup.server w.peer w.server _ _ _ _ whole.peer_nonce whole.server_nonce both.peer_stands both.server_stands
+    (ends_succeed setup.peer setup.server w.parties.peer w.parties.server _ _ _ _ whole.peer_nonce whole.server_nonce both.peer_stands both.server_stands
     (honest_tags end.Peer w.book none) (honest_tags end.Server w.book none) p_in s_in)
 
 agreed_theirs : (setup : Setup) (w : WorldNow) → TheirsWhereHonest setup w → tags_verdict w.book ≡ Honest → verdict_of w ≡ Agree → AreTheirs setup w

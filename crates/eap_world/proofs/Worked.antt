@@ -39,32 +39,34 @@ three = Deliver 1 ∷ Deliver 2 ∷ Deliver 3 ∷ []
 -- the server asks, the peer answers, the server ends in a Failure
 identity_round : run_after (world_start (world_made example_setup)).after three
     ≡ record {
-      peer = record {
-        vars = record {
-          setup = example_setup.peer;
-          state = state.Failure;
-          selected = None;
-          method_state = NotSet;
-          decision = Fail;
-          last_id = Some 0;
-          last_response = 2 ∷ 0 ∷ 0 ∷ 10 ∷ 1 ∷ codes "alice";
+      parties = record {
+        peer = record {
+          vars = record {
+            setup = example_setup.peer;
+            state = state.Failure;
+            selected = None;
+            method_state = NotSet;
+            decision = Fail;
+            last_id = Some 0;
+            last_response = 2 ∷ 0 ∷ 0 ∷ 10 ∷ 1 ∷ codes "alice";
+          };
+          views = record { psk = psk_peer.unset; gpsk = gpsk_peer.unset };
         };
-        views = record { psk = psk_peer.unset; gpsk = gpsk_peer.unset };
-      };
-      server = record {
-        vars = record {
-          setup = example_setup.server;
-          first_id = 0;
-          max_retrans = 4;
-          state = state.Failure;
-          current_id = Some 0;
-          current = Some 1;
-          progress = End;
-          retrans_count = 0;
-          last_request = 1 ∷ 0 ∷ 0 ∷ 5 ∷ 1 ∷ [];
-          proposed = [];
+        server = record {
+          vars = record {
+            setup = example_setup.server;
+            first_id = 0;
+            max_retrans = 4;
+            state = state.Failure;
+            current_id = Some 0;
+            current = Some 1;
+            progress = End;
+            retrans_count = 0;
+            last_request = 1 ∷ 0 ∷ 0 ∷ 5 ∷ 1 ∷ [];
+            proposed = [];
+          };
+          views = record { psk = None; gpsk = None };
         };
-        views = record { psk = None; gpsk = None };
       };
       sent = record { port = port.Peer; octets = 1 ∷ 0 ∷ 0 ∷ 5 ∷ 1 ∷ [] }
           ∷ record { port = port.Server; octets = 2 ∷ 0 ∷ 0 ∷ 10 ∷ 1 ∷ codes "alice" }

@@ -44,7 +44,7 @@ pub record IsOfRun (w : WorldNow) : Type 0 where
 
 -- over an honest book two ends that both stand in SUCCESS agree, and the verdict is never that they don't
 pub record AgreesWhereHonest (w : WorldNow) : Type 0 where
-  pub agrees : tags_verdict w.book ≡ Honest → is_success w.peer.vars.state ≡ true → is_success w.server.vars.state ≡ true → verdict_of w ≡ Agree
+  pub agrees : tags_verdict w.book ≡ Honest → is_success w.parties.peer.vars.state ≡ true → is_success w.parties.server.vars.state ≡ true → verdict_of w ≡ Agree
   pub never_apart : tags_verdict w.book ≡ Honest → verdict_of w ≡ Apart → ⊥
 
 -- whatever is delivered, lost, repeated, reordered, altered or injected: where each accepted tag was made
@@ -63,8 +63,8 @@ pub record TakesFirstSuite (setup : Setup) (report : Report) : Type 0 where
 -- the peer's own key, and lets it in; by EAP-GPSK the suite is the one picked of the server's own list
 pub record AreTheirs (setup : Setup) (w : WorldNow) : Type 0 where
   pub report : Report
-  pub holds : peer_reports w.peer ≡ Some report
-  pub same : server_reports w.server ≡ Some report
+  pub holds : peer_reports w.parties.peer ≡ Some report
+  pub same : server_reports w.parties.server ≡ Some report
   pub id_p : report.id_p ≡ setup.peer.name
   pub id_s : report.id_s ≡ setup.server.name
   pub user : User
@@ -76,7 +76,7 @@ pub record AreTheirs (setup : Setup) (w : WorldNow) : Type 0 where
 -- over an honest book what two ends that both stand in SUCCESS report is their own
 abbrev pub TheirsWhereHonest : Setup → WorldNow → Type 0
 TheirsWhereHonest setup w =
-    tags_verdict w.book ≡ Honest → is_success w.peer.vars.state ≡ true → is_success w.server.vars.state ≡ true → AreTheirs setup w
+    tags_verdict w.book ≡ Honest → is_success w.parties.peer.vars.state ≡ true → is_success w.parties.server.vars.state ≡ true → AreTheirs setup w
 
 -- under the premises of agreement, what both ends report is their own: names, key and suite
 abbrev pub HonestNamesAreTheirs : Type 0

@@ -1,24 +1,22 @@
 -- Laws of both ends over events.
 use Rattle.std.specs.Prelude.{◌≡◌, List, true, IsSome}
 use Rattle.eap_base.specs.declared.event.Event.{Event}
+use Rattle.eap_base.specs.declared.setup.Party.{Party}
 use Rattle.eap_base.specs.declared.setup.Setup.{Setup}
-use Rattle.peer_machine.specs.PeerTable.{peer_reports}
-use Rattle.server_machine.specs.ServerTable.{server_reports}
-use Rattle.eap_world.specs.World.{WorldNow, world_made, world_start, world_step, run_after}
+use Rattle.eap_world.specs.declared.world.Held.{Held}
+use Rattle.eap_world.specs.World.{WorldNow, Parties, has_held, report_of, world_made, world_start, world_step, run_after}
 
 -- a report that an end holds was told of
-pub record HasToldReports (w : WorldNow) : Type 0 where
-  pub peer : IsSome (peer_reports w.peer) → w.held.peer ≡ true
-  pub server : IsSome (server_reports w.server) → w.held.server ≡ true
+pub record HasToldReports (held : Held) (parties : Parties) : Type 0 where
+  pub each : (party : Party) → IsSome (report_of parties party) → has_held held party ≡ true
 
 -- no variable and no view of a method changed at either end, nothing was sent, and nothing was written
 -- into the book; where each report that an end holds was told of, none is told of now
 pub record KeepsBothEnds (before after : WorldNow) : Type 0 where
-  pub peer : after.peer ≡ before.peer
-  pub server : after.server ≡ before.server
+  pub parties : after.parties ≡ before.parties
   pub sent : after.sent ≡ before.sent
   pub book : after.book ≡ before.book
-  pub held : HasToldReports before → after.held ≡ before.held
+  pub held : HasToldReports before.held before.parties → after.held ≡ before.held
 
 -- an event that is discarded changes nothing but the counts
 abbrev pub DiscardsKeep : Type 0
@@ -26,4 +24,5 @@ DiscardsKeep = (w : WorldNow) (e : Event) → IsSome (world_step w e).told.cause
 
 -- in every run each report that an end holds was told of
 abbrev pub RunsTellReports : Type 0
-RunsTellReports = (setup : Setup) (events : List Event) → HasToldReports (run_after (world_start (world_made setup)).after events)
+RunsTellReports =
+    (setup : Setup) (events : List Event) → (let last = run_after (world_start (world_made setup)).after events in HasToldReports last.held last.parties)

@@ -58,6 +58,6 @@ is_success s = elim s [ state.Success ↦ true | _ ↦ false ]
 -- unfinished until both ends stand in SUCCESS
 unfoldable pub verdict_of : WorldNow → Verdict
 verdict_of w =
-    if is_success w.peer.vars.state && is_success w.server.vars.state
-    then (if judged w.peer.vars.setup w.server.vars.setup (peer_reports w.peer) (server_reports w.server) then Agree else Apart)
+    if is_success w.parties.peer.vars.state && is_success w.parties.server.vars.state
+    then (if judged w.parties.peer.vars.setup w.parties.server.vars.setup (peer_reports w.parties.peer) (server_reports w.parties.server) then Agree else Apart)
     else Unfinished

@@ -1,5 +1,5 @@
 -- Both ends over events: what was sent, the book of tags, what each event does, and the run.
-use Rattle.std.specs.Prelude.{◌≡◌, ◌≤◌, ℕ, ◌+◌, ◌-◌, ◌*◌, List, [], ◌∷◌, ◌++◌, length, take, drop, Bool, true, false, ◌==◌, nat_lt, nat_le, if◌then◌else◌, Option, Some, None, slice_get, slice_index, bit_xor, is_some, map, option_map}
+use Rattle.std.specs.Prelude.{◌≡◌, ◌≤◌, ℕ, ◌+◌, ◌-◌, ◌*◌, List, [], ◌∷◌, ◌++◌, length, take, drop, Bool, true, false, ◌==◌, nat_lt, nat_le, if◌then◌else◌, Option, Some, None, slice_get, slice_index, bit_xor, is_some, is_none, map, option_map}
 use Rattle.eap_base.specs.declared.setup.Setup.{Setup}
 use Rattle.eap_base.specs.declared.setup.Port.{Port}
 use Rattle.eap_base.specs.declared.setup.Port.TheVariants as port
@@ -12,17 +12,25 @@ use Rattle.eap_method.specs.Peer.{PeerShown, peer_kinds}
 use Rattle.eap_method.specs.Server.{ServerShown, server_kinds}
 use Rattle.eap_method.specs.Steps.{is_end}
 use Rattle.eap_method.specs.declared.step.Step.{Step}
+use Rattle.eap_method.specs.declared.tags.Tags.{Tags}
 use Rattle.eap_method.specs.declared.values.Report.{Report}
+use Rattle.peer_machine.specs.Inputs as peer_inputs
+use Rattle.peer_machine.specs.Inputs.{PeerInput, peer_takes}
 use Rattle.peer_machine.specs.PeerTable as peers
-use Rattle.peer_machine.specs.PeerTable.{PeerValue, PeerNow, PeerAnswer, peer_made, peer_deliver, peer_idle, peer_alt_accept, peer_alt_reject, peer_reports}
+use Rattle.peer_machine.specs.PeerTable.{PeerValue, PeerNow, peer_made, peer_reports}
+use Rattle.server_machine.specs.Inputs as server_inputs
+use Rattle.server_machine.specs.Inputs.{ServerInput, server_takes}
 use Rattle.server_machine.specs.ServerTable as servers
-use Rattle.server_machine.specs.ServerTable.{ServerValue, ServerNow, ServerAnswer, server_made, server_start, server_deliver, server_timeout, server_reports, is_started}
+use Rattle.server_machine.specs.ServerTable.{ServerValue, ServerNow, server_made, server_reports, is_started}
 use Rattle.server_machine.specs.declared.variables.ServerVariables.{ServerVariables}
 use Rattle.eap_world.specs.Book.{booked}
 use Rattle.eap_world.specs.declared.act.Action.{Action}
-use Rattle.eap_world.specs.declared.act.Action.TheVariants.{Skipped, Peer, Server}
+use Rattle.eap_world.specs.declared.act.Action.TheVariants.{Skipped, Called}
+use Rattle.eap_world.specs.declared.act.Did.{Did}
+use Rattle.eap_world.specs.declared.act.Machines.{Machines}
 use Rattle.eap_world.specs.declared.act.Sent.{Sent}
 use Rattle.eap_world.specs.declared.book.Entry.{Entry}
+use Rattle.eap_world.specs.declared.book.End.{End}
 use Rattle.eap_world.specs.declared.book.End.TheVariants as end
 use Rattle.eap_world.specs.declared.told.Counts.{Counts}
 use Rattle.eap_world.specs.declared.told.Named.{Named}
@@ -43,21 +51,27 @@ pub record WorldValue (P S : Type 0) : Type 0 where
   pub held : Held
   pub started : Bool
 
--- the same with what the objects show
-pub record WorldNow : Type 0 where
+-- what the parties are, where the objects show their methods and views
+pub record Parties : Type 0 where
   pub peer : PeerNow
   pub server : ServerNow
+
+-- the same of a whole world
+pub record WorldNow : Type 0 where
+  pub parties : Parties
   pub sent : List Sent
   pub book : List Entry
   pub counts : Counts
   pub held : Held
   pub started : Bool
 
+abbrev pub parties_of : {P S : Type 0} → (P → PeerShown) → (S → ServerShown) → Machines P S → Parties
+parties_of peer_shown server_shown m = record { peer = peers.now_of peer_shown m.peer; server = servers.now_of server_shown m.server }
+
 -- what a world is, where the objects show their methods and views
 abbrev pub now_of : {P S : Type 0} → (P → PeerShown) → (S → ServerShown) → WorldValue P S → WorldNow
 now_of peer_shown server_shown w = record {
-  peer = peers.now_of peer_shown w.peer;
-  server = servers.now_of server_shown w.server;
+  parties = parties_of peer_shown server_shown (record { peer = w.peer; server = w.server });
   sent = w.sent;
   book = w.book;
   counts = w.counts;
@@ -77,8 +91,7 @@ kinds_of peer_shown server_shown peer server =
 -- the world before its start
 abbrev pub world_made : Setup → WorldNow
 world_made setup = record {
-  peer = peer_made setup.peer;
-  server = server_made setup.server setup.first_id setup.max_retrans;
+  parties = record { peer = peer_made setup.peer; server = server_made setup.server setup.first_id setup.max_retrans };
   sent = [];
   book = [];
   counts = record { events = 0; deliveries = 0; discards = 0 };
@@ -86,134 +99,191 @@ world_made setup = record {
   started = false;
 }
 
--- what a start or an event makes of the machines: who acted and how, and both after it
-pub record Acted : Type 0 where
-  pub action : Action
-  pub peer : PeerNow
-  pub server : ServerNow
+-- where a party stands, and what it reports; no pass-through is there
+abbrev pub state_of : Parties → Party → Option State
+state_of parties party.Peer = Some parties.peer.vars.state
+state_of parties party.Pass = None
+state_of parties party.Server = Some parties.server.vars.state
 
-abbrev pub acted : Action → PeerNow → ServerNow → Acted
-acted action peer server = record { action = action; peer = peer; server = server }
+abbrev pub report_of : Parties → Party → Option Report
+report_of parties party.Peer = peer_reports parties.peer
+report_of parties party.Pass = None
+report_of parties party.Server = server_reports parties.server
 
-abbrev pub peer_acts : Bool → PeerAnswer → ServerNow → Acted
-peer_acts is_delivery out server = acted (Peer is_delivery out.step) out.after server
+-- where a party's packets go; the pass-through isn't there
+abbrev pub goes_to : Party → Port
+goes_to party.Peer = port.Server
+goes_to party.Pass = port.Peer
+goes_to party.Server = port.Peer
 
-abbrev pub server_acts : Bool → PeerNow → ServerAnswer → Acted
-server_acts is_delivery peer out = acted (Server is_delivery out.step) peer out.after
+-- ---- an event is skipped, or is a call of one party
 
-abbrev pub none_acts : PeerNow → ServerNow → Skip → Acted
-none_acts peer server skip = acted (Skipped skip) peer server
+-- a call of one party, with what comes to it
+pub data Call : Type 0 where
+  to_peer : PeerInput → Call
+  to_server : ServerInput → Call
 
--- octets come to a port; the pass-through isn't there
-abbrev pub handed : PeerNow → ServerNow → Port → List ℕ → Acted
-handed peer server port.Peer octets = peer_acts true (peer_deliver peer octets) server
-handed peer server port.Server octets = server_acts true peer (server_deliver server octets)
-handed peer server port.PassPeer octets = none_acts peer server NoParty
-handed peer server port.PassServer octets = none_acts peer server NoParty
+abbrev pub is_delivery : Call → Bool
+is_delivery (to_peer (peer_inputs.octets octets)) = true
+is_delivery (to_server (server_inputs.octets octets)) = true
+is_delivery _ = false
 
 -- the packet of a number, from 1; none ever has the number 0
 abbrev pub packet_numbered : List Sent → ℕ → Option Sent
 packet_numbered sent n = if n == 0 then None else slice_get sent (n - 1)
 
+abbrev pub octets_of : Option Sent → List ℕ
+octets_of None = []
+octets_of (Some packet) = packet.octets
+
 -- the octets with the one at a place combined with a mask by exclusive or
 abbrev pub altered : List ℕ → ℕ → ℕ → List ℕ
 altered octets place mask = take place octets ++ bit_xor (slice_index octets place) mask ∷ drop (place + 1) octets
 
-abbrev pub deliver_sent : PeerNow → ServerNow → Option Sent → Acted
-deliver_sent peer server None = none_acts peer server Unsent
-deliver_sent peer server (Some packet) = handed peer server packet.port packet.octets
+-- nobody stands at a port, or at that of a packet
+abbrev pub is_absent : Port → Bool
+is_absent port.Peer = false
+is_absent port.Server = false
+is_absent _ = true
 
-abbrev pub alter_sent : PeerNow → ServerNow → ℕ → ℕ → Option Sent → Acted
-alter_sent peer server place mask None = none_acts peer server Unsent
-alter_sent peer server place mask (Some packet) =
-    if nat_lt place (length packet.octets)
-    then handed peer server packet.port (altered packet.octets place mask)
-    else none_acts peer server Place
+abbrev pub goes_nowhere : Option Sent → Bool
+goes_nowhere None = false
+goes_nowhere (Some packet) = is_absent packet.port
 
-abbrev pub cut_sent : PeerNow → ServerNow → ℕ → Option Sent → Acted
-cut_sent peer server keep None = none_acts peer server Unsent
-cut_sent peer server keep (Some packet) =
-    if nat_le keep (length packet.octets)
-    then handed peer server packet.port (take keep packet.octets)
-    else none_acts peer server Place
+-- the skips that an event may come to, in their order, each with its condition
+abbrev pub packet_skips : Option Sent → Bool → List (Bool × Skip)
+packet_skips packet is_misplaced = (goes_nowhere packet, NoParty) ∷ (is_none packet, Unsent) ∷ (is_misplaced, Place) ∷ []
 
--- the retransmission timer of a party ends
-abbrev pub timer_ends : PeerNow → ServerNow → Party → Acted
-timer_ends peer server party.Peer = if is_end peer.vars.state then none_acts peer server Ended else none_acts peer server NoTimer
-timer_ends peer server party.Pass = none_acts peer server NoParty
-timer_ends peer server party.Server =
-    if is_end server.vars.state then none_acts peer server Ended else server_acts false peer (server_timeout server)
+abbrev pub timer_skips : Parties → Party → List (Bool × Skip)
+timer_skips parties party.Peer = (is_end parties.peer.vars.state, Ended) ∷ (true, NoTimer) ∷ []
+timer_skips parties party.Pass = (true, NoParty) ∷ []
+timer_skips parties party.Server = (is_end parties.server.vars.state, Ended) ∷ []
 
--- the peer's lower layer is idle, or reports success or failure
-abbrev pub lower_layer : PeerNow → ServerNow → PeerAnswer → Acted
-lower_layer peer server out =
-    if is_end peer.vars.state then none_acts peer server Ended else peer_acts false out server
+abbrev pub skip_table : Parties → List Sent → Event → List (Bool × Skip)
+skip_table parties sent (event.Deliver n) = packet_skips (packet_numbered sent n) false
+skip_table parties sent (event.Alter n place mask) =
+    let packet = packet_numbered sent n in packet_skips packet (nat_le (length (octets_of packet)) place)
+skip_table parties sent (event.Cut n keep) =
+    let packet = packet_numbered sent n in packet_skips packet (nat_lt (length (octets_of packet)) keep)
+skip_table parties sent (event.Inject port octets) = (is_absent port, NoParty) ∷ []
+skip_table parties sent (event.Timeout party) = timer_skips parties party
+skip_table parties sent event.AaaTimeout = (true, NoParty) ∷ []
+skip_table parties sent event.AaaNoReq = (true, NoParty) ∷ []
+skip_table parties sent _ = (is_end parties.peer.vars.state, Ended) ∷ []
 
--- what an event makes of the machines, where these packets were sent before it
-unfoldable pub act : PeerNow → ServerNow → List Sent → Event → Acted
-act peer server sent (event.Deliver n) = deliver_sent peer server (packet_numbered sent n)
-act peer server sent (event.Alter n place mask) = alter_sent peer server place mask (packet_numbered sent n)
-act peer server sent (event.Cut n keep) = cut_sent peer server keep (packet_numbered sent n)
-act peer server sent (event.Inject port octets) = handed peer server port octets
-act peer server sent (event.Timeout party) = timer_ends peer server party
-act peer server sent event.AaaTimeout = none_acts peer server NoParty
-act peer server sent event.AaaNoReq = none_acts peer server NoParty
-act peer server sent event.Idle = lower_layer peer server (peer_idle peer)
-act peer server sent event.AltAccept = lower_layer peer server (peer_alt_accept peer)
-act peer server sent event.AltReject = lower_layer peer server (peer_alt_reject peer)
+-- the first skip whose condition holds
+abbrev pub first_skip : List (Bool × Skip) → Option Skip
+first_skip [] = None
+first_skip ((test, skip) ∷ rest) = if test then Some skip else first_skip rest
 
--- what an action sends: the peer to the server, the server to the peer
+-- the call that an event is where none of them holds; None where nobody is to be called
+abbrev pub call_at : Port → List ℕ → Option Call
+call_at port.Peer octets = Some (to_peer (peer_inputs.octets octets))
+call_at port.Server octets = Some (to_server (server_inputs.octets octets))
+call_at _ octets = None
+
+abbrev pub call_with : Option Sent → List ℕ → Option Call
+call_with None octets = None
+call_with (Some packet) octets = call_at packet.port octets
+
+abbrev pub reported : Event → Option Call
+reported event.Idle = Some (to_peer peer_inputs.idle)
+reported event.AltAccept = Some (to_peer peer_inputs.alt_accept)
+reported event.AltReject = Some (to_peer peer_inputs.alt_reject)
+reported _ = None
+
+abbrev pub call_of : List Sent → Event → Option Call
+call_of sent (event.Deliver n) = let packet = packet_numbered sent n in call_with packet (octets_of packet)
+call_of sent (event.Alter n place mask) = let packet = packet_numbered sent n in call_with packet (altered (octets_of packet) place mask)
+call_of sent (event.Cut n keep) = let packet = packet_numbered sent n in call_with packet (take keep (octets_of packet))
+call_of sent (event.Inject port octets) = call_at port octets
+call_of sent (event.Timeout party) = Some (to_server server_inputs.timeout)
+call_of sent e = reported e
+
+-- what a start or an event makes of the parties: what was done, and the parties after it
+pub record Acted : Type 0 where
+  pub action : Action
+  pub after : Parties
+
+abbrev pub acted : Action → Parties → Acted
+acted action after = record { action = action; after = after }
+
+abbrev pub skipped : Parties → Skip → Acted
+skipped parties skip = acted (Skipped skip) parties
+
+abbrev pub did_by : Party → Bool → Step → Did
+did_by party is_delivery step = record { party = party; is_delivery = is_delivery; port = goes_to party; step = step }
+
+abbrev pub called : Parties → Call → Acted
+called parties (to_peer input) =
+    let out = peer_takes parties.peer input in
+    acted (Called (did_by party.Peer (is_delivery (to_peer input)) out.step)) (record parties { peer = out.after })
+called parties (to_server input) =
+    let out = server_takes parties.server input in
+    acted (Called (did_by party.Server (is_delivery (to_server input)) out.step)) (record parties { server = out.after })
+
+abbrev pub called_unless : Parties → Option Skip → Option Call → Acted
+called_unless parties (Some skip) call = skipped parties skip
+called_unless parties None None = skipped parties NoParty
+called_unless parties None (Some call) = called parties call
+
+-- what an event makes of the parties, where these packets were sent before it
+unfoldable pub act : Parties → List Sent → Event → Acted
+act parties sent e = called_unless parties (first_skip (skip_table parties sent e)) (call_of sent e)
+
+-- ---- what is read off an action
+
+-- what it sends
 abbrev pub sent_to : Port → Option (List ℕ) → List Sent
 sent_to port None = []
 sent_to port (Some octets) = record { port = port; octets = octets } ∷ []
 
 abbrev pub sent_by : Action → List Sent
 sent_by (Skipped skip) = []
-sent_by (Peer is_delivery step) = sent_to port.Server step.sent
-sent_by (Server is_delivery step) = sent_to port.Peer step.sent
+sent_by (Called did) = sent_to did.port did.step.sent
 
--- what an action writes into the book
+-- what it writes into the book; only the ends make and accept tags
+abbrev pub end_of : Party → Option End
+end_of party.Peer = Some end.Peer
+end_of party.Pass = None
+end_of party.Server = Some end.Server
+
+abbrev pub booked_of : ℕ → Option End → Tags → List Entry
+booked_of event None tags = []
+booked_of event (Some end) tags = booked event end tags
+
 abbrev pub booked_by : ℕ → Action → List Entry
 booked_by event (Skipped skip) = []
-booked_by event (Peer is_delivery step) = booked event end.Peer step.tags
-booked_by event (Server is_delivery step) = booked event end.Server step.tags
+booked_by event (Called did) = booked_of event (end_of did.party) did.step.tags
 
 -- the counts with one more event, which is a delivery or not, and discarded or not
 abbrev pub one_if : Bool → ℕ
 one_if b = if b then 1 else 0
 
-abbrev pub counted_step : Counts → Bool → Step → Counts
-counted_step c is_delivery step = record {
+abbrev pub counted : Counts → Action → Counts
+counted c (Skipped skip) = record c { events = c.events + 1 }
+counted c (Called did) = record {
   events = c.events + 1;
-  deliveries = c.deliveries + one_if is_delivery;
-  discards = c.discards + one_if (is_some step.cause);
+  deliveries = c.deliveries + one_if did.is_delivery;
+  discards = c.discards + one_if (is_some did.step.cause);
 }
 
-abbrev pub counted : Counts → Action → Counts
-counted c (Skipped skip) = record { events = c.events + 1; deliveries = c.deliveries; discards = c.discards }
-counted c (Peer is_delivery step) = counted_step c is_delivery step
-counted c (Server is_delivery step) = counted_step c is_delivery step
-
--- a report that an end has not held before
+-- the report that the end which acted is the first time seen to hold, and which ends have then held one
 abbrev pub named_as : Party → Report → Named
 named_as party report = record { party = party; report = report }
 
 abbrev pub first_report : Bool → Party → Option Report → Option Named
 first_report was party report = if was then None else option_map (named_as party) report
 
--- the report that the end which acted is the first time seen to hold
-abbrev pub named_by : Held → Acted → Action → Option Named
-named_by held out (Skipped skip) = None
-named_by held out (Peer is_delivery step) = first_report held.peer party.Peer (peer_reports out.peer)
-named_by held out (Server is_delivery step) = first_report held.server party.Server (server_reports out.server)
+abbrev pub has_held : Held → Party → Bool
+has_held held party.Peer = held.peer
+has_held held party.Pass = false
+has_held held party.Server = held.server
 
--- where a party stands; no pass-through is there
-abbrev pub state_of : WorldNow → Party → Option State
-state_of w party.Peer = Some w.peer.vars.state
-state_of w party.Pass = None
-state_of w party.Server = Some w.server.vars.state
+abbrev pub named_by : Held → Parties → Action → Option Named
+named_by held after (Skipped skip) = None
+named_by held after (Called did) = first_report (has_held held did.party) did.party (report_of after did.party)
 
--- which ends have held a report
 abbrev pub held_by : Held → Party → Held
 held_by held party.Peer = record held { peer = true }
 held_by held party.Pass = held
@@ -223,28 +293,23 @@ abbrev pub held_after : Held → Option Named → Held
 held_after held None = held
 held_after held (Some named) = held_by held named.party
 
--- a packet that is sent gets a number
+-- what is told of it: the number of its event, that of the packet it sends, and a first report
 abbrev pub numbered : ℕ → Port → Option (List ℕ) → Option SentPacket
 numbered number port None = None
 numbered number port (Some octets) = Some (record { number = number; port = port; packet = octets })
 
--- what is told of an action: the number of its event, that of the packet it sends, and a first report
-abbrev pub told_step : ℕ → ℕ → Party → Port → Option Named → Step → Told
-told_step event number party port named step = record {
-  event = event;
-  party = Some party;
-  path = step.path;
-  cause = step.cause;
-  skip = None;
-  sent = numbered number port step.sent;
-  named = named;
-}
-
 abbrev pub told_of : ℕ → ℕ → Option Named → Action → Told
 told_of event number named (Skipped skip) =
     record { event = event; party = None; path = []; cause = None; skip = Some skip; sent = None; named = None }
-told_of event number named (Peer is_delivery step) = told_step event number party.Peer port.Server named step
-told_of event number named (Server is_delivery step) = told_step event number party.Server port.Peer named step
+told_of event number named (Called did) = record {
+  event = event;
+  party = Some did.party;
+  path = did.step.path;
+  cause = did.step.cause;
+  skip = None;
+  sent = numbered number did.port did.step.sent;
+  named = named;
+}
 
 -- what came of a start or an event, and the world after it
 pub record WorldOutcome : Type 0 where
@@ -254,14 +319,13 @@ pub record WorldOutcome : Type 0 where
 abbrev pub world_outcome : Told → WorldNow → WorldOutcome
 world_outcome told after = record { told = told; after = after }
 
--- the world after the machines have acted as event number so-and-so, with these counts; it has started
+-- the world after the parties have acted as event number so-and-so, with these counts; it has started
 abbrev pub world_acted : WorldNow → ℕ → Counts → Acted → WorldOutcome
 world_acted w event counts out =
-    let named = named_by w.held out out.action in
+    let named = named_by w.held out.after out.action in
     world_outcome (told_of event (length w.sent + 1) named out.action)
     (record {
-      peer = out.peer;
-      server = out.server;
+      parties = out.after;
       sent = w.sent ++ sent_by out.action;
       book = w.book ++ booked_by event out.action;
       counts = counts;
@@ -271,12 +335,12 @@ world_acted w event counts out =
 
 -- the start: the server asks for the identity; it is event 0
 unfoldable pub world_start : WorldNow → WorldOutcome
-world_start w = world_acted w 0 w.counts (server_acts false w.peer (server_start w.server))
+world_start w = world_acted w 0 w.counts (called w.parties (to_server server_inputs.start))
 
 -- the next event
 unfoldable pub world_step : WorldNow → Event → WorldOutcome
 world_step w e =
-    let out = act w.peer w.server w.sent e in
+    let out = act w.parties w.sent e in
     world_acted w (w.counts.events + 1) (counted w.counts out.action) out
 
 -- the run: the start, and then the events in order

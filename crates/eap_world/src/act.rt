@@ -1,10 +1,11 @@
-//! What an event makes of the machines.
+//! What an event makes of the parties: it is skipped, or is a call of one of them.
 
-ghost use Rattle.std.specs.Prelude.{◌≡◌, ◌≤◌, ◌<◌, length, option_copied, false};
-ghost use Rattle.peer_machine.specs.PeerTable as peers;
-ghost use Rattle.peer_machine.specs.PeerTable.{peer_idle, peer_alt_accept, peer_alt_reject};
-ghost use Rattle.server_machine.specs.ServerTable as servers;
-ghost use Rattle.eap_world.specs.World.{Acted, kinds_of, act, acted, handed, altered, packet_numbered, deliver_sent, alter_sent, cut_sent, timer_ends, lower_layer};
+ghost use Rattle.std.specs.Prelude.{◌≡◌, ◌≤◌, ◌<◌, ◌∷◌, [], Some, false, if◌then◌else◌, length, nat_le, nat_lt, option_copied, take};
+ghost use Rattle.server_machine.specs.Inputs as server_inputs;
+ghost use Rattle.eap_method.specs.Steps.{is_end};
+ghost use Rattle.eap_world.specs.World.{Acted, parties_of, kinds_of, act, acted, altered, call_at, call_with, called_unless, did_by, first_skip, goes_to, is_absent, octets_of, packet_numbered, packet_skips, reported, timer_skips, to_server};
+ghost use Rattle.eap_world.specs.declared.act.Action.TheVariants.{Skipped, Called};
+ghost use Rattle.eap_world.specs.declared.told.Skip.TheVariants.{Ended, NoParty, Place};
 
 use crate::told::Skip;
 use eap_base::{Event, Packet, Party, Port};
@@ -19,41 +20,57 @@ pub struct Sent {
     pub octets: Packet,
 }
 
-/// Who acted on an event, and how. The flag says whether the event is a delivery.
+/// What a call of a party did.
+#[derive(Drop)]
+pub struct Did {
+    pub party: Party,
+    /// Whether octets were handed to it.
+    pub is_delivery: bool,
+    /// Where what it sends goes.
+    pub port: Port,
+    pub step: Step,
+}
+
+/// What came of an event.
 #[derive(Drop)]
 pub enum Action {
     Skipped(Skip),
-    Peer(bool, Step),
-    Server(bool, Step),
+    Called(Did),
+}
+
+/// The machines of a run: the peer (RFC 4137 section 4) and the stand-alone server (section 5).
+#[derive(Drop)]
+pub struct Machines<P, S> {
+    pub peer: PeerMachine<P>,
+    pub server: ServerMachine<S>,
 }
 
 /// An event comes to the machines, where these packets were sent before it. A skipped event changes
 /// no variable.
 #[tactic(auto, unfolding(crate::specs::World::act))]
 pub fn act<P: PeerMethod, S: ServerMethod>(
-    peer: &mut PeerMachine<P>,
-    server: &mut ServerMachine<S>,
+    machines: &mut Machines<P, S>,
     sent: &[Sent],
     event: &Event,
 ) -> Action
-    ensures acts { act (peers.now_of P.peer_shown peer.old) (servers.now_of S.server_shown server.old) sent.now event.now ≡ acted result (peers.now_of P.peer_shown peer.new) (servers.now_of S.server_shown server.new) }
-    ensures kinds { kinds_of P.peer_shown S.server_shown peer.new.methods server.new.methods ≡ kinds_of P.peer_shown S.server_shown peer.old.methods server.old.methods }
+    ensures acts { act (parties_of P.peer_shown S.server_shown machines.old) sent.now event.now ≡ acted result (parties_of P.peer_shown S.server_shown machines.new) }
+    ensures kinds { kinds_of P.peer_shown S.server_shown machines.new.peer.methods machines.new.server.methods ≡ kinds_of P.peer_shown S.server_shown machines.old.peer.methods machines.old.server.methods }
 {
     match event {
-        Event::Deliver { number } => deliver(peer, server, packet(sent, *number)),
+        Event::Deliver { number } => deliver(machines, packet(sent, *number)),
         Event::Alter {
             number,
             place,
             mask,
-        } => alter(peer, server, *place, *mask, packet(sent, *number)),
-        Event::Cut { number, keep } => cut(peer, server, *keep, packet(sent, *number)),
-        Event::Inject { port, octets } => hand(peer, server, *port, octets.as_slice()),
-        Event::Timeout { party } => end_timer(peer, server, *party),
+        } => alter(machines, *place, *mask, packet(sent, *number)),
+        Event::Cut { number, keep } => cut(machines, *keep, packet(sent, *number)),
+        Event::Inject { port, octets } => hand(machines, *port, octets.as_slice()),
+        Event::Timeout { party } => end_timer(machines, *party),
         Event::AaaTimeout => Action::Skipped(Skip::NoParty),
         Event::AaaNoReq => Action::Skipped(Skip::NoParty),
-        Event::Idle => idle(peer, server),
-        Event::AltAccept => accept(peer, server),
-        Event::AltReject => reject(peer, server),
+        Event::Idle => report(machines, event),
+        Event::AltAccept => report(machines, event),
+        Event::AltReject => report(machines, event),
     }
 }
 
@@ -67,19 +84,41 @@ fn packet(sent: &[Sent], number: u32) -> Option<&Sent>
     sent.get(number as usize - 1)
 }
 
+/// What a party's call did.
+pub fn does(party: Party, is_delivery: bool, step: Step) -> Action
+    ensures { result ≡ Called (did_by party is_delivery step) }
+{
+    Action::Called(Did {
+        party,
+        is_delivery,
+        port: goes_to(party),
+        step,
+    })
+}
+
+/// Where a party's packets go.
+fn goes_to(party: Party) -> Port
+    ensures { result ≡ goes_to party }
+{
+    match party {
+        Party::Peer => Port::Server,
+        Party::Pass => Port::Peer,
+        Party::Server => Port::Peer,
+    }
+}
+
 /// Octets come to a port. The pass-through authenticator (RFC 4137 section 7) isn't there.
 fn hand<P: PeerMethod, S: ServerMethod>(
-    peer: &mut PeerMachine<P>,
-    server: &mut ServerMachine<S>,
+    machines: &mut Machines<P, S>,
     port: Port,
     octets: &[u8],
 ) -> Action
-    ensures acts { handed (peers.now_of P.peer_shown peer.old) (servers.now_of S.server_shown server.old) port octets.now ≡ acted result (peers.now_of P.peer_shown peer.new) (servers.now_of S.server_shown server.new) }
-    ensures kinds { kinds_of P.peer_shown S.server_shown peer.new.methods server.new.methods ≡ kinds_of P.peer_shown S.server_shown peer.old.methods server.old.methods }
+    ensures acts { called_unless (parties_of P.peer_shown S.server_shown machines.old) (first_skip ((is_absent port, NoParty) ∷ [])) (call_at port octets.now) ≡ acted result (parties_of P.peer_shown S.server_shown machines.new) }
+    ensures kinds { kinds_of P.peer_shown S.server_shown machines.new.peer.methods machines.new.server.methods ≡ kinds_of P.peer_shown S.server_shown machines.old.peer.methods machines.old.server.methods }
 {
     match port {
-        Port::Peer => Action::Peer(true, peer.deliver(octets)),
-        Port::Server => Action::Server(true, server.deliver(octets)),
+        Port::Peer => does(Party::Peer, true, machines.peer.deliver(octets)),
+        Port::Server => does(Party::Server, true, machines.server.deliver(octets)),
         Port::PassPeer => Action::Skipped(Skip::NoParty),
         Port::PassServer => Action::Skipped(Skip::NoParty),
     }
@@ -87,40 +126,38 @@ fn hand<P: PeerMethod, S: ServerMethod>(
 
 /// A packet comes to its port.
 fn deliver<P: PeerMethod, S: ServerMethod>(
-    peer: &mut PeerMachine<P>,
-    server: &mut ServerMachine<S>,
+    machines: &mut Machines<P, S>,
     packet: Option<&Sent>,
 ) -> Action
-    ensures acts { deliver_sent (peers.now_of P.peer_shown peer.old) (servers.now_of S.server_shown server.old) (option_copied packet.entry) ≡ acted result (peers.now_of P.peer_shown peer.new) (servers.now_of S.server_shown server.new) }
-    ensures kinds { kinds_of P.peer_shown S.server_shown peer.new.methods server.new.methods ≡ kinds_of P.peer_shown S.server_shown peer.old.methods server.old.methods }
+    ensures acts { called_unless (parties_of P.peer_shown S.server_shown machines.old) (first_skip (packet_skips (option_copied packet.entry) false)) (call_with (option_copied packet.entry) (octets_of (option_copied packet.entry))) ≡ acted result (parties_of P.peer_shown S.server_shown machines.new) }
+    ensures kinds { kinds_of P.peer_shown S.server_shown machines.new.peer.methods machines.new.server.methods ≡ kinds_of P.peer_shown S.server_shown machines.old.peer.methods machines.old.server.methods }
 {
     match packet {
         None => Action::Skipped(Skip::Unsent),
-        Some(sent) => hand(peer, server, sent.port, sent.octets.as_slice()),
+        Some(sent) => hand(machines, sent.port, sent.octets.as_slice()),
     }
 }
 
 /// A packet comes to its port with its octet at `place` combined with `mask` by exclusive or.
 fn alter<P: PeerMethod, S: ServerMethod>(
-    peer: &mut PeerMachine<P>,
-    server: &mut ServerMachine<S>,
+    machines: &mut Machines<P, S>,
     place: u16,
     mask: u8,
     packet: Option<&Sent>,
 ) -> Action
-    ensures acts { alter_sent (peers.now_of P.peer_shown peer.old) (servers.now_of S.server_shown server.old) place mask (option_copied packet.entry) ≡ acted result (peers.now_of P.peer_shown peer.new) (servers.now_of S.server_shown server.new) }
-    ensures kinds { kinds_of P.peer_shown S.server_shown peer.new.methods server.new.methods ≡ kinds_of P.peer_shown S.server_shown peer.old.methods server.old.methods }
+    ensures acts { called_unless (parties_of P.peer_shown S.server_shown machines.old) (first_skip (packet_skips (option_copied packet.entry) (nat_le (length (octets_of (option_copied packet.entry))) place))) (call_with (option_copied packet.entry) (altered (octets_of (option_copied packet.entry)) place mask)) ≡ acted result (parties_of P.peer_shown S.server_shown machines.new) }
+    ensures kinds { kinds_of P.peer_shown S.server_shown machines.new.peer.methods machines.new.server.methods ≡ kinds_of P.peer_shown S.server_shown machines.old.peer.methods machines.old.server.methods }
 {
     match packet {
         None => Action::Skipped(Skip::Unsent),
         Some(sent) => {
             let octets = sent.octets.as_slice();
             let place = usize::from(place);
-            if place < octets.len() {
-                let changed = altered_copy(octets, place, mask);
-                hand(peer, server, sent.port, changed.as_slice())
+            if octets.len() <= place {
+                misplaced(sent.port)
             } else {
-                Action::Skipped(Skip::Place)
+                let changed = altered_copy(octets, place, mask);
+                hand(machines, sent.port, changed.as_slice())
             }
         }
     }
@@ -141,97 +178,73 @@ fn altered_copy(octets: &[u8], place: usize, mask: u8) -> Packet
 
 /// The first `keep` octets of a packet come to its port.
 fn cut<P: PeerMethod, S: ServerMethod>(
-    peer: &mut PeerMachine<P>,
-    server: &mut ServerMachine<S>,
+    machines: &mut Machines<P, S>,
     keep: u16,
     packet: Option<&Sent>,
 ) -> Action
-    ensures acts { cut_sent (peers.now_of P.peer_shown peer.old) (servers.now_of S.server_shown server.old) keep (option_copied packet.entry) ≡ acted result (peers.now_of P.peer_shown peer.new) (servers.now_of S.server_shown server.new) }
-    ensures kinds { kinds_of P.peer_shown S.server_shown peer.new.methods server.new.methods ≡ kinds_of P.peer_shown S.server_shown peer.old.methods server.old.methods }
+    ensures acts { called_unless (parties_of P.peer_shown S.server_shown machines.old) (first_skip (packet_skips (option_copied packet.entry) (nat_lt (length (octets_of (option_copied packet.entry))) keep))) (call_with (option_copied packet.entry) (take keep (octets_of (option_copied packet.entry)))) ≡ acted result (parties_of P.peer_shown S.server_shown machines.new) }
+    ensures kinds { kinds_of P.peer_shown S.server_shown machines.new.peer.methods machines.new.server.methods ≡ kinds_of P.peer_shown S.server_shown machines.old.peer.methods machines.old.server.methods }
 {
     match packet {
         None => Action::Skipped(Skip::Unsent),
         Some(sent) => {
             let octets = sent.octets.as_slice();
             let keep = usize::from(keep);
-            if keep <= octets.len() {
-                hand(peer, server, sent.port, &octets[..keep])
+            if octets.len() < keep {
+                misplaced(sent.port)
             } else {
-                Action::Skipped(Skip::Place)
+                hand(machines, sent.port, &octets[..keep])
             }
         }
+    }
+}
+
+/// Why a packet on its way to a port is skipped of which more octets are named than it has.
+fn misplaced(port: Port) -> Action
+    ensures { result ≡ Skipped (if is_absent port then NoParty else Place) }
+{
+    match port {
+        Port::Peer => Action::Skipped(Skip::Place),
+        Port::Server => Action::Skipped(Skip::Place),
+        _ => Action::Skipped(Skip::NoParty),
     }
 }
 
 /// The retransmission timer of a party ends; only the server has one.
-fn end_timer<P: PeerMethod, S: ServerMethod>(
-    peer: &mut PeerMachine<P>,
-    server: &mut ServerMachine<S>,
-    party: Party,
-) -> Action
-    ensures acts { timer_ends (peers.now_of P.peer_shown peer.old) (servers.now_of S.server_shown server.old) party ≡ acted result (peers.now_of P.peer_shown peer.new) (servers.now_of S.server_shown server.new) }
-    ensures kinds { kinds_of P.peer_shown S.server_shown peer.new.methods server.new.methods ≡ kinds_of P.peer_shown S.server_shown peer.old.methods server.old.methods }
+fn end_timer<P: PeerMethod, S: ServerMethod>(machines: &mut Machines<P, S>, party: Party) -> Action
+    ensures acts { called_unless (parties_of P.peer_shown S.server_shown machines.old) (first_skip (timer_skips (parties_of P.peer_shown S.server_shown machines.old) party)) (Some (to_server server_inputs.timeout)) ≡ acted result (parties_of P.peer_shown S.server_shown machines.new) }
+    ensures kinds { kinds_of P.peer_shown S.server_shown machines.new.peer.methods machines.new.server.methods ≡ kinds_of P.peer_shown S.server_shown machines.old.peer.methods machines.old.server.methods }
 {
     match party {
-        Party::Peer => {
-            if peer.ended() {
-                Action::Skipped(Skip::Ended)
-            } else {
-                Action::Skipped(Skip::NoTimer)
-            }
-        }
+        Party::Peer => Action::Skipped(if machines.peer.ended() {
+            Skip::Ended
+        } else {
+            Skip::NoTimer
+        }),
         Party::Pass => Action::Skipped(Skip::NoParty),
         Party::Server => {
-            if server.ended() {
+            if machines.server.ended() {
                 Action::Skipped(Skip::Ended)
             } else {
-                Action::Server(false, server.timeout())
+                does(Party::Server, false, machines.server.timeout())
             }
         }
     }
 }
 
-/// The peer's lower layer is idle.
-fn idle<P: PeerMethod, S: ServerMethod>(
-    peer: &mut PeerMachine<P>,
-    server: &mut ServerMachine<S>,
-) -> Action
-    ensures acts { lower_layer (peers.now_of P.peer_shown peer.old) (servers.now_of S.server_shown server.old) (peer_idle (peers.now_of P.peer_shown peer.old)) ≡ acted result (peers.now_of P.peer_shown peer.new) (servers.now_of S.server_shown server.new) }
-    ensures kinds { kinds_of P.peer_shown S.server_shown peer.new.methods server.new.methods ≡ kinds_of P.peer_shown S.server_shown peer.old.methods server.old.methods }
+/// The peer's lower layer is idle, or reports success or failure.
+fn report<P: PeerMethod, S: ServerMethod>(machines: &mut Machines<P, S>, event: &Event) -> Action
+    ensures acts { called_unless (parties_of P.peer_shown S.server_shown machines.old) (first_skip ((is_end machines.old.peer.vars.state, Ended) ∷ [])) (reported event.now) ≡ acted result (parties_of P.peer_shown S.server_shown machines.new) }
+    ensures kinds { kinds_of P.peer_shown S.server_shown machines.new.peer.methods machines.new.server.methods ≡ kinds_of P.peer_shown S.server_shown machines.old.peer.methods machines.old.server.methods }
 {
-    if peer.ended() {
+    if machines.peer.ended() {
         Action::Skipped(Skip::Ended)
     } else {
-        Action::Peer(false, peer.idle())
-    }
-}
-
-/// The peer's lower layer reports success.
-fn accept<P: PeerMethod, S: ServerMethod>(
-    peer: &mut PeerMachine<P>,
-    server: &mut ServerMachine<S>,
-) -> Action
-    ensures acts { lower_layer (peers.now_of P.peer_shown peer.old) (servers.now_of S.server_shown server.old) (peer_alt_accept (peers.now_of P.peer_shown peer.old)) ≡ acted result (peers.now_of P.peer_shown peer.new) (servers.now_of S.server_shown server.new) }
-    ensures kinds { kinds_of P.peer_shown S.server_shown peer.new.methods server.new.methods ≡ kinds_of P.peer_shown S.server_shown peer.old.methods server.old.methods }
-{
-    if peer.ended() {
-        Action::Skipped(Skip::Ended)
-    } else {
-        Action::Peer(false, peer.alt_accept())
-    }
-}
-
-/// The peer's lower layer reports failure.
-fn reject<P: PeerMethod, S: ServerMethod>(
-    peer: &mut PeerMachine<P>,
-    server: &mut ServerMachine<S>,
-) -> Action
-    ensures acts { lower_layer (peers.now_of P.peer_shown peer.old) (servers.now_of S.server_shown server.old) (peer_alt_reject (peers.now_of P.peer_shown peer.old)) ≡ acted result (peers.now_of P.peer_shown peer.new) (servers.now_of S.server_shown server.new) }
-    ensures kinds { kinds_of P.peer_shown S.server_shown peer.new.methods server.new.methods ≡ kinds_of P.peer_shown S.server_shown peer.old.methods server.old.methods }
-{
-    if peer.ended() {
-        Action::Skipped(Skip::Ended)
-    } else {
-        Action::Peer(false, peer.alt_reject())
+        match event {
+            Event::Idle => does(Party::Peer, false, machines.peer.idle()),
+            Event::AltAccept => does(Party::Peer, false, machines.peer.alt_accept()),
+            Event::AltReject => does(Party::Peer, false, machines.peer.alt_reject()),
+            _ => Action::Skipped(Skip::NoParty),
+        }
     }
 }

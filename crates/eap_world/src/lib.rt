@@ -9,7 +9,7 @@ mod told;
 mod verdict;
 mod world;
 
-pub use act::{Action, Sent};
+pub use act::{Action, Did, Machines, Sent};
 pub use book::{End, Entry, TagsVerdict, Use};
 pub use laws::{
     discards_keep, few_tags, honest_ends_agree, honest_names_are_theirs, runs_tell_reports,

@@ -3,19 +3,14 @@
 ghost use Rattle.std.specs.Prelude.{◌≡◌, ◌≤◌, ◌<◌, ◌+◌, ◌-◌, ◌*◌, ◌^◌, ◌++◌, ◌∷◌, List, [], true, false, map, length, MatchResult, IfOk, option_to_list, vec_len, vec_capacity};
 ghost use Rattle.eap_base.specs.Setup.{IsSoundPeer, IsSoundServer, HasKeys};
 ghost use Rattle.eap_base.specs.declared.setup.Mode.TheVariants.{Alone};
-ghost use Rattle.eap_base.specs.declared.setup.Party.TheVariants.{Peer, Server};
-ghost use Rattle.peer_machine.specs.PeerTable as peers;
-ghost use Rattle.peer_machine.specs.PeerTable.{peer_reports};
-ghost use Rattle.server_machine.specs.ServerTable as servers;
-ghost use Rattle.server_machine.specs.ServerTable.{server_reports};
-ghost use Rattle.eap_world.specs.World.{sent_by, sent_to, booked_by, counted, counted_step, acted, named_by, first_report, held_by, held_after, told_of, told_step};
+ghost use Rattle.eap_world.specs.World.{parties_of, sent_by, sent_to, booked_by, counted, end_of, has_held, named_by, first_report, held_by, held_after, numbered, report_of, told_of};
 
-use crate::act::{Action, Sent, act};
+use crate::act::{Action, Did, Machines, Sent, act, does};
 use crate::book::{End, Entry, TagsVerdict, book_tags, judge_tags};
 use crate::told::{Counts, Named, SentPacket, Told};
 use crate::verdict::{Verdict, judge_reports};
 use eap_base::{Event, Mode, Packet, Party, Port, Setup};
-use eap_method::{PeerMethod, ServerMethod, Step};
+use eap_method::{PeerMethod, Report, ServerMethod};
 use eap_packet::{Path, State};
 use peer_machine::PeerMachine;
 use server_machine::ServerMachine;
@@ -53,8 +48,7 @@ pub struct Held {
 /// shows is its ghost member.
 #[derive(Drop)]
 pub struct World<P, S> {
-    peer: PeerMachine<P>,
-    server: ServerMachine<S>,
+    machines: Machines<P, S>,
     sent: Vec<Sent>,
     book: Vec<Entry>,
     counts: Counts,
@@ -67,9 +61,9 @@ impl<P, S> Model for World<P, S> {
 
     ghost Value = { WorldValue P S };
 
-    ghost view = { λ w. record { peer = w.peer; server = w.server; sent = w.sent.items; book = w.book.items; counts = w.counts; held = w.held; started = w.started } };
+    ghost view = { λ w. record { peer = w.machines.peer; server = w.machines.server; sent = w.sent.items; book = w.book.items; counts = w.counts; held = w.held; started = w.started } };
 
-    ghost invariant = { λ w. IsInRange w.server.vars w.sent.items w.book.items w.counts w.started };
+    ghost invariant = { λ w. IsInRange w.machines.server.vars w.sent.items w.book.items w.counts w.started };
 }
 
 impl<P: PeerMethod, S: ServerMethod> World<P, S> {
@@ -96,13 +90,15 @@ impl<P: PeerMethod, S: ServerMethod> World<P, S> {
         ensures kinds { kinds_of P.peer_shown S.server_shown result.peer.methods result.server.methods ≡ kinds_of P.peer_shown S.server_shown methods.peer.items methods.server.items }
     {
         World {
-            peer: PeerMachine::new(setup.peer, methods.peer),
-            server: ServerMachine::new(
-                setup.server,
-                setup.first_id,
-                setup.max_retrans,
-                methods.server,
-            ),
+            machines: Machines {
+                peer: PeerMachine::new(setup.peer, methods.peer),
+                server: ServerMachine::new(
+                    setup.server,
+                    setup.first_id,
+                    setup.max_retrans,
+                    methods.server,
+                ),
+            },
             sent: Vec::new(alloc),
             book: Vec::new(alloc),
             counts: Counts {
@@ -155,11 +151,10 @@ impl<P: PeerMethod, S: ServerMethod> World<P, S> {
         if !make_room(&mut self.sent, &mut self.book) {
             return Err(Memory);
         }
-        let action = Action::Server(false, self.server.start());
+        let action = does(Party::Server, false, self.machines.server.start());
         self.started = true;
         Ok(keep(
-            &self.peer,
-            &self.server,
+            &self.machines,
             &mut self.sent,
             &mut self.book,
             &mut self.held,
@@ -179,16 +174,10 @@ impl<P: PeerMethod, S: ServerMethod> World<P, S> {
         if !make_room(&mut self.sent, &mut self.book) {
             return Err(Memory);
         }
-        let action = act(
-            &mut self.peer,
-            &mut self.server,
-            self.sent.as_slice(),
-            event,
-        );
+        let action = act(&mut self.machines, self.sent.as_slice(), event);
         self.counts = count(self.counts, &action);
         Ok(keep(
-            &self.peer,
-            &self.server,
+            &self.machines,
             &mut self.sent,
             &mut self.book,
             &mut self.held,
@@ -213,7 +202,7 @@ impl<P: PeerMethod, S: ServerMethod> World<P, S> {
 
     /// The state of a party (RFC 4137 sections 4.5 and 5.5); None for the pass-through, which isn't there.
     pub fn state(&self, party: Party) -> Option<State>
-        ensures { result ≡ state_of (now_of P.peer_shown S.server_shown self.now) party }
+        ensures { result ≡ state_of (now_of P.peer_shown S.server_shown self.now).parties party }
     {
         match party {
             Party::Peer => Some(self.peer_state()),
@@ -226,14 +215,14 @@ impl<P: PeerMethod, S: ServerMethod> World<P, S> {
     pub fn peer_state(&self) -> State
         ensures { result ≡ self.now.peer.vars.state }
     {
-        self.peer.state()
+        self.machines.peer.state()
     }
 
     /// The state of the server (RFC 4137 section 5.5).
     pub fn server_state(&self) -> State
         ensures { result ≡ self.now.server.vars.state }
     {
-        self.server.state()
+        self.machines.server.state()
     }
 
     /// How many events, deliveries and discards there were.
@@ -269,10 +258,17 @@ impl<P: PeerMethod, S: ServerMethod> World<P, S> {
     fn verdict(&self) -> Verdict
         ensures { result ≡ verdict_of (now_of P.peer_shown S.server_shown self.now) }
     {
-        if self.peer.state() == State::Success && self.server.state() == State::Success {
-            let one = self.peer.report();
-            let other = self.server.report();
-            if judge_reports(self.peer.setup(), self.server.setup(), &one, &other) {
+        if self.machines.peer.state() == State::Success
+            && self.machines.server.state() == State::Success
+        {
+            let one = self.machines.peer.report();
+            let other = self.machines.server.report();
+            if judge_reports(
+                self.machines.peer.setup(),
+                self.machines.server.setup(),
+                &one,
+                &other,
+            ) {
                 Verdict::Agree
             } else {
                 Verdict::Apart
@@ -288,8 +284,8 @@ impl<P: PeerMethod, S: ServerMethod> World<P, S> {
         ensures server { result.server.items ≡ self.server.methods }
     {
         Methods {
-            peer: self.peer.into_methods(),
-            server: self.server.into_methods(),
+            peer: self.machines.peer.into_methods(),
+            server: self.machines.server.into_methods(),
         }
     }
 }
@@ -308,8 +304,7 @@ fn make_room(sent: &mut Vec<Sent>, book: &mut Vec<Entry>) -> bool
 
 /// Keeps what an action sends and what it writes into the book, for which there is room, and tells of it.
 fn keep<P: PeerMethod, S: ServerMethod>(
-    peer: &PeerMachine<P>,
-    server: &ServerMachine<S>,
+    machines: &Machines<P, S>,
     sent: &mut Vec<Sent>,
     book: &mut Vec<Entry>,
     held: &mut Held,
@@ -319,66 +314,74 @@ fn keep<P: PeerMethod, S: ServerMethod>(
     requires sent_room { vec_len sent.old < vec_capacity sent.old }
     requires book_room { vec_len book.old + 4 ≤ vec_capacity book.old }
     requires few { vec_len sent.old < 2 ^ 32 - 1 }
-    ensures told { result ≡ told_of event (length sent.old.items + 1) (named_by held.old (acted action (peers.now_of P.peer_shown peer.now) (servers.now_of S.server_shown server.now)) action) action }
+    ensures told { result ≡ told_of event (length sent.old.items + 1) (named_by held.old (parties_of P.peer_shown S.server_shown machines.now) action) action }
     ensures sent { sent.new.items ≡ sent.old.items ++ sent_by action }
     ensures book { book.new.items ≡ book.old.items ++ booked_by event action }
-    ensures held { held.new ≡ held_after held.old (named_by held.old (acted action (peers.now_of P.peer_shown peer.now) (servers.now_of S.server_shown server.now)) action) }
+    ensures held { held.new ≡ held_after held.old (named_by held.old (parties_of P.peer_shown S.server_shown machines.now) action) }
     ensures few_sent { vec_len sent.new ≤ vec_len sent.old + 1 }
     ensures few_booked { vec_len book.new ≤ vec_len book.old + 4 }
 {
     let number = next_number(sent.len());
     keep_sent(sent, &action);
     keep_tags(book, event, &action);
-    let named = first_report(peer, server, *held, &action);
+    let named = name(machines, *held, &action);
     *held = with_named(*held, &named);
     tell(event, number, named, action)
 }
 
-/// The report that the end which acted is the first time seen to hold.
-fn first_report<P: PeerMethod, S: ServerMethod>(
-    peer: &PeerMachine<P>,
-    server: &ServerMachine<S>,
+/// The report that the party which acted is the first time seen to hold.
+fn name<P: PeerMethod, S: ServerMethod>(
+    machines: &Machines<P, S>,
     held: Held,
     action: &Action,
 ) -> Option<Named>
-    ensures { result ≡ named_by held (acted action.now (peers.now_of P.peer_shown peer.now) (servers.now_of S.server_shown server.now)) action.now }
+    ensures { result ≡ named_by held (parties_of P.peer_shown S.server_shown machines.now) action.now }
 {
     match action {
         Action::Skipped(_) => None,
-        Action::Peer(_, _) => first_of_peer(peer, held.peer),
-        Action::Server(_, _) => first_of_server(server, held.server),
+        Action::Called(did) => first_report(machines, has_held(held, did.party), did.party),
     }
 }
 
-/// The peer's report, where it held none before.
-fn first_of_peer<P: PeerMethod>(peer: &PeerMachine<P>, was: bool) -> Option<Named>
-    ensures { result ≡ first_report was Peer (peer_reports (peers.now_of P.peer_shown peer.now)) }
+/// The report of a party that held none before.
+fn first_report<P: PeerMethod, S: ServerMethod>(
+    machines: &Machines<P, S>,
+    was: bool,
+    party: Party,
+) -> Option<Named>
+    ensures { result ≡ first_report was party (report_of (parties_of P.peer_shown S.server_shown machines.now) party) }
 {
     if was {
         return None;
     }
-    match peer.report() {
+    match report_of(machines, party) {
         None => None,
-        Some(report) => Some(Named {
-            party: Party::Peer,
-            report,
-        }),
+        Some(report) => Some(Named { party, report }),
     }
 }
 
-/// The server's report, where it held none before.
-fn first_of_server<S: ServerMethod>(server: &ServerMachine<S>, was: bool) -> Option<Named>
-    ensures { result ≡ first_report was Server (server_reports (servers.now_of S.server_shown server.now)) }
+/// What a party reports; the pass-through isn't there.
+fn report_of<P: PeerMethod, S: ServerMethod>(
+    machines: &Machines<P, S>,
+    party: Party,
+) -> Option<Report>
+    ensures { result ≡ report_of (parties_of P.peer_shown S.server_shown machines.now) party }
 {
-    if was {
-        return None;
+    match party {
+        Party::Peer => machines.peer.report(),
+        Party::Pass => None,
+        Party::Server => machines.server.report(),
     }
-    match server.report() {
-        None => None,
-        Some(report) => Some(Named {
-            party: Party::Server,
-            report,
-        }),
+}
+
+/// Whether a party has held a report.
+fn has_held(held: Held, party: Party) -> bool
+    ensures { result ≡ has_held held party }
+{
+    match party {
+        Party::Peer => held.peer,
+        Party::Pass => false,
+        Party::Server => held.server,
     }
 }
 
@@ -397,14 +400,11 @@ fn with_party(held: Held, party: Party) -> Held
     ensures { result ≡ held_by held party }
 {
     match party {
-        Party::Peer => Held {
-            peer: true,
-            server: held.server,
-        },
+        Party::Peer => Held { peer: true, ..held },
         Party::Pass => held,
         Party::Server => Held {
-            peer: held.peer,
             server: true,
+            ..held
         },
     }
 }
@@ -415,10 +415,21 @@ fn keep_tags(book: &mut Vec<Entry>, event: u32, action: &Action)
     ensures kept { book.new.items ≡ book.old.items ++ booked_by event action.now }
     ensures few { vec_len book.new ≤ vec_len book.old + 4 }
 {
-    match action {
-        Action::Skipped(_) => {}
-        Action::Peer(_, step) => book_tags(book, event, End::Peer, &step.tags),
-        Action::Server(_, step) => book_tags(book, event, End::Server, &step.tags),
+    if let Action::Called(did) = action {
+        if let Some(end) = end_of(did.party) {
+            book_tags(book, event, end, &did.step.tags);
+        }
+    }
+}
+
+/// The end that a party is; the pass-through makes and accepts no tag.
+fn end_of(party: Party) -> Option<End>
+    ensures { result ≡ end_of party }
+{
+    match party {
+        Party::Peer => Some(End::Peer),
+        Party::Pass => None,
+        Party::Server => Some(End::Server),
     }
 }
 
@@ -441,14 +452,13 @@ fn keep_sent(sent: &mut Vec<Sent>, action: &Action)
     }
 }
 
-/// What an action sends: the peer to the server, the server to the peer.
+/// What an action sends.
 fn sent_by(action: &Action) -> Option<Sent>
     ensures { option_to_list result ≡ sent_by action.now }
 {
     match action {
         Action::Skipped(_) => None,
-        Action::Peer(_, step) => sent_to(Port::Server, &step.sent),
-        Action::Server(_, step) => sent_to(Port::Peer, &step.sent),
+        Action::Called(did) => sent_to(did.port, &did.step.sent),
     }
 }
 
@@ -478,26 +488,13 @@ fn count(counts: Counts, action: &Action) -> Counts
     match action {
         Action::Skipped(_) => Counts {
             events: counts.events + 1,
-            deliveries: counts.deliveries,
-            discards: counts.discards,
+            ..counts
         },
-        Action::Peer(is_delivery, step) => count_step(counts, *is_delivery, step),
-        Action::Server(is_delivery, step) => count_step(counts, *is_delivery, step),
-    }
-}
-
-fn count_step(counts: Counts, is_delivery: bool, step: &Step) -> Counts
-    requires room { counts.events < 2 ^ 31 }
-    requires deliveries { counts.deliveries ≤ counts.events }
-    requires discards { counts.discards ≤ counts.events }
-    ensures value { result ≡ counted_step counts is_delivery step.now }
-    ensures few_deliveries { result.deliveries ≤ counts.deliveries + 1 }
-    ensures few_discards { result.discards ≤ counts.discards + 1 }
-{
-    Counts {
-        events: counts.events + 1,
-        deliveries: counts.deliveries + u32::from(is_delivery),
-        discards: counts.discards + u32::from(step.cause.is_some()),
+        Action::Called(did) => Counts {
+            events: counts.events + 1,
+            deliveries: counts.deliveries + u32::from(did.is_delivery),
+            discards: counts.discards + u32::from(did.step.cause.is_some()),
+        },
     }
 }
 
@@ -515,35 +512,28 @@ fn tell(event: u32, number: u32, named: Option<Named>, action: Action) -> Told
             sent: None,
             named: None,
         },
-        Action::Peer(_, step) => tell_step(event, number, Party::Peer, Port::Server, named, step),
-        Action::Server(_, step) => tell_step(event, number, Party::Server, Port::Peer, named, step),
-    }
-}
-
-fn tell_step(
-    event: u32,
-    number: u32,
-    party: Party,
-    port: Port,
-    named: Option<Named>,
-    step: Step,
-) -> Told
-    ensures { result ≡ told_step event number party port named step }
-{
-    Told {
-        event,
-        party: Some(party),
-        path: step.path,
-        cause: step.cause,
-        skip: None,
-        sent: match step.sent {
-            None => None,
-            Some(packet) => Some(SentPacket {
-                number,
+        Action::Called(
+            Did {
+                party,
                 port,
-                packet,
-            }),
+                step,
+                ..
+            },
+        ) => Told {
+            event,
+            party: Some(party),
+            path: step.path,
+            cause: step.cause,
+            skip: None,
+            sent: match step.sent {
+                None => None,
+                Some(packet) => Some(SentPacket {
+                    number,
+                    port,
+                    packet,
+                }),
+            },
+            named,
         },
-        named,
     }
 }

@@ -156,4 +156,4 @@ end_text_of peer server counts tags verdict =
     ends_text peer server ++ (counts_text counts ++ (tags_text tags ++ result_text verdict))
 
 abbrev pub end_text : WorldNow → List ℕ
-end_text w = end_text_of w.peer.vars.state w.server.vars.state w.counts (tags_verdict w.book) (verdict_of w)
+end_text w = end_text_of w.parties.peer.vars.state w.parties.server.vars.state w.counts (tags_verdict w.book) (verdict_of w)
