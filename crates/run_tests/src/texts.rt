@@ -1,5 +1,7 @@
 //! The texts of short runs, answers to requests for keys, and writes that fail.
 
+ghost use Rattle.scenario_text.specs.Keys.{HasSizes};
+
 use eap_base::{Identity, MemSink, Octets, Packet, Party, Port};
 use eap_method::Report;
 use eap_packet::{Cause, Path, State};
@@ -143,7 +145,9 @@ fn field(octets: &[u8]) -> Octets<2000> {
 }
 
 /// True where this line answers the request.
-fn is_answer(alloc: Global, asked: &KeyLine, want: &[u8]) -> Result<bool, AllocError> {
+fn is_answer(alloc: Global, asked: &KeyLine, want: &[u8]) -> Result<bool, AllocError>
+    requires { HasSizes asked.now }
+{
     let mut sink = MemSink::new(alloc, 200, 100, &[])?;
     let wrote = write_key_line(&mut sink, asked).is_ok();
     Ok(wrote && sink.written() == want)

@@ -1,5 +1,7 @@
 //! Runs stepped by hand.
 
+ghost use Rattle.std.specs.Prelude.{◌≡◌, ◌∷◌, []};
+
 use eap_base::{
     Accepts, Event, Identity, Kinds, Mode, Party, PeerSetup, ServerSetup, Setup, Suites, Users,
 };
@@ -19,7 +21,9 @@ fn name(octets: &[u8]) -> Identity {
     list
 }
 
-fn one_suite() -> Suites {
+fn one_suite() -> Suites
+    ensures { result ≡ 1 ∷ [] }
+{
     let mut suites = Suites::new();
     suites.push(1);
     suites
@@ -121,9 +125,9 @@ fn identity_round(rt: HostRuntime) -> Result<(), Fail> {
     let mut world = alice_at_srv(rt.alloc());
     let begun = start(&rt, &mut world)?;
     assert!(rt; sent_octets(&begun.sent) == b"\x01\x00\x00\x05\x01".as_slice());
-    let mut number = 0;
+    let mut number: u32 = 0;
     for path in ROUND.split("\n").take(3) {
-        number = (number + 1) % 4;
+        number = number.wrapping_add(1);
         let told = step(&rt, &mut world, &Event::Deliver { number })?;
         let goes = is_path(&told, path) && sent_octets(&told.sent) == sent_after(number);
         assert!(rt; goes, "{number}");
