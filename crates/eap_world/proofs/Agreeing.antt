@@ -1,16 +1,16 @@
 -- Two ends in SUCCESS agree, where each accepted tag is one that the other end made.
-use Rattle.std.proofs.Common.{◌≡◌, ℕ, true, false, List, [], ◌∷◌, length, Some, sym, ap, ◌∙◌, arith, inl, inr}
-use Rattle.std.proofs.lemmas.Bool.{true≢false}
+use Rattle.std.proofs.Common.{◌≡◌, ℕ, true, false, List, [], ◌∷◌, length, Some, refl, sym, ap, subst, arith, inl, inr}
 use Rattle.eap_base.specs.declared.setup.PeerSetup.{PeerSetup}
 use Rattle.eap_base.specs.declared.setup.ServerSetup.{ServerSetup}
 use Rattle.eap_base.specs.Setup.{psk_kind, gpsk_kind}
-use Rattle.eap_packet.specs.declared.state.State.{State}
+use Rattle.gpsk_messages.specs.Message.{gpsk4}
 use Rattle.eap_method.specs.declared.tags.TagRecord.{TagRecord}
 use Rattle.eap_method.specs.PskPeer as psk_peer
 use Rattle.eap_method.specs.PskServer as psk_server
 use Rattle.eap_method.specs.GpskPeer as gpsk_peer
 use Rattle.eap_method.specs.GpskServer as gpsk_server
 use Rattle.eap_method.specs.GpskTags.{sk_record}
+use Rattle.eap_method.specs.PskTags.{tek_record}
 use Rattle.peer_machine.specs.PeerTable.{PeerNow, peer_reports}
 use Rattle.server_machine.specs.ServerTable.{ServerNow, server_reports}
 use Rattle.eap_world.specs.Verdict.{judged, is_success}
@@ -21,11 +21,10 @@ use Rattle.eap_world.specs.ServerStands as servers
 use Rattle.eap_world.specs.ServerStands.{ServerStands}
 use Rattle.eap_world.proofs.Among.{among_two}
 use Rattle.eap_world.proofs.GpskAgrees as gpsk
+use Rattle.eap_world.proofs.OneMethod.{apart as one_method}
+use Rattle.eap_world.proofs.PeerKeeps as peer_calls
+use Rattle.eap_world.proofs.ServerKeeps as server_calls
 use Rattle.eap_world.proofs.PskAgrees as psk
-
--- an end that hasn't succeeded doesn't stand in SUCCESS
-unsure_stops : (state : State) → is_success state ≡ false → is_success state ≡ true → ⊥
-unsure_stops state unsure sure = true≢false (sym sure ∙ unsure)
 
 -- a record of a method isn't among two of the other
 apart : psk_kind ≡ gpsk_kind → ⊥
@@ -45,65 +44,84 @@ pub data BothSucceed (peer_setup : PeerSetup) (server_setup : ServerSetup) (p : 
       (is_current : s.vars.current ≡ Some psk_kind) (in_other : s.views.psk ≡ Some (psk_server.over other true)) (r_sent : other.r ≡ 2)
       (same : psk.IsSame login other) → BothSucceed peer_setup server_setup p s
   by_gpsk : (login : gpsk_peer.Login) (list : List ℕ) (facts : peers.GpskBegun peer_setup login list)
-      (other : gpsk_server.Login) (pd mac : List ℕ) (checked : servers.GpskChecked server_setup other pd mac)
+      (other : gpsk_server.Login) (pd mac : List ℕ) (checked : servers.GpskChecked server_setup other false pd mac)
       (is_selected : p.vars.selected ≡ Some gpsk_kind) (in_view : p.views.gpsk ≡ gpsk_peer.over login true)
       (is_current : s.vars.current ≡ Some gpsk_kind) (in_other : s.views.gpsk ≡ Some (gpsk_server.over other true))
       (same : gpsk.IsSame login list other) → BothSucceed peer_setup server_setup p s
 
+-- a peer, or a server, that has succeeded, with its tags
+data PeerSucceeds (setup : PeerSetup) (now : PeerNow) : List TagRecord → List TagRecord → Type 0 where
+  with_psk : (login : psk_peer.Login) (header mac tag : List ℕ) (sealed id : ℕ)
+      (is_selected : now.vars.selected ≡ Some psk_kind) (in_view : now.views.psk ≡ psk_peer.over login true) (facts : peers.PskBegun setup login)
+      → PeerSucceeds setup now (psk_peer.psk3_records login header mac tag sealed) (peers.psk2_record login ∷ psk_peer.psk4_record login id 2)
+  with_gpsk : (login : gpsk_peer.Login) (list pd mac : List ℕ)
+      (is_selected : now.vars.selected ≡ Some gpsk_kind) (in_view : now.views.gpsk ≡ gpsk_peer.over login true) (facts : peers.GpskBegun setup login list)
+      → PeerSucceeds setup now (sk_record login.cred.psk (peers.gpsk3_taken login pd mac) ∷ [])
+      (peers.gpsk2_record login list ∷ sk_record login.cred.psk (gpsk_peer.gpsk4_of login) ∷ [])
+
+data ServerSucceeds (setup : ServerSetup) (now : ServerNow) : List TagRecord → List TagRecord → Type 0 where
+  of_psk : (login : psk_server.Login) (header tag : List ℕ) (sealed id : ℕ) (is_current : now.vars.current ≡ Some psk_kind)
+      (in_view : now.views.psk ≡ Some (psk_server.over login true)) (facts : servers.PskChecked setup login) (r_sent : login.r ≡ 2)
+      → ServerSucceeds setup now (servers.psk2_record login facts.mac ∷ tek_record login.psk 1 header sealed tag ∷ []) (psk_server.psk3_records login id)
+  of_gpsk : (login : gpsk_server.Login) (pd mac last_pd last_mac : List ℕ) (is_current : now.vars.current ≡ Some gpsk_kind)
+      (in_view : now.views.gpsk ≡ Some (gpsk_server.over login true)) (facts : servers.GpskChecked setup login false pd mac)
+      → ServerSucceeds setup now (sk_record login.psk (servers.gpsk2_taken login pd mac) ∷ sk_record login.psk (gpsk4 last_pd last_mac) ∷ [])
+      (sk_record login.psk (gpsk_server.gpsk3_of login) ∷ [])
+
+module _ (setup : PeerSetup) (now : PeerNow) where
+  peer_psk : (login : psk_peer.Login) → now.vars.selected ≡ Some psk_kind → now.views.psk ≡ psk_peer.over login true
+      → (accepted made : List TagRecord) → peers.PskPeerTags setup (psk_peer.over login true) accepted made → PeerSucceeds setup now accepted made
+  peer_psk login is_selected in_view _ _ (peers.psk_over _ _ header mac tag sealed id facts) = with_psk login header mac tag sealed id is_selected in_view facts
+
+  peer_gpsk : (login : gpsk_peer.Login) → now.vars.selected ≡ Some gpsk_kind → now.views.gpsk ≡ gpsk_peer.over login true
+      → (accepted made : List TagRecord) → peers.GpskPeerTags setup (gpsk_peer.over login true) accepted made → PeerSucceeds setup now accepted made
+  peer_gpsk login is_selected in_view _ _ (peers.gpsk_confirmed _ list pd mac facts) = with_gpsk login list pd mac is_selected in_view facts
+
+  peer_succeeds : (accepted made : List TagRecord) → peers.PeerTags setup now.vars.selected now.views accepted made
+      → peers.HasSucceeded now.vars.selected now.views → PeerSucceeds setup now accepted made
+  peer_succeeds accepted made tags (peers.psk_succeeded login is_selected in_view) =
+      peer_psk login is_selected in_view accepted made
+      (subst (λ (v : psk_peer.View). peers.PskPeerTags setup v accepted made) in_view
+      (peer_calls.told_by_psk setup now.vars.selected now.views accepted made (one_method now.vars.selected psk_kind gpsk_kind refl is_selected) tags))
+  peer_succeeds accepted made tags (peers.gpsk_succeeded login is_selected in_view) =
+      peer_gpsk login is_selected in_view accepted made
+      (subst (λ (v : gpsk_peer.View). peers.GpskPeerTags setup v accepted made) in_view
+      (peer_calls.told_by_gpsk setup now.vars.selected now.views accepted made (one_method now.vars.selected gpsk_kind psk_kind refl is_selected) tags))
+
+module _ (setup : ServerSetup) (now : ServerNow) where
+  server_psk : (login : psk_server.Login) → now.vars.current ≡ Some psk_kind → now.views.psk ≡ Some (psk_server.over login true)
+      → (accepted made : List TagRecord) → servers.PskServerTags setup (psk_server.over login true) accepted made → ServerSucceeds setup now accepted made
+  server_psk login is_current in_view _ _ (servers.psk_over _ _ header tag sealed id facts r_sent) =
+      of_psk login header tag sealed id is_current in_view facts (r_sent refl)
+
+  server_gpsk : (login : gpsk_server.Login) → now.vars.current ≡ Some gpsk_kind → now.views.gpsk ≡ Some (gpsk_server.over login true)
+      → (accepted made : List TagRecord) → servers.GpskServerTags setup (gpsk_server.over login true) accepted made → ServerSucceeds setup now accepted made
+  server_gpsk login is_current in_view _ _ (servers.gpsk_confirmed _ pd mac last_pd last_mac facts) =
+      of_gpsk login pd mac last_pd last_mac is_current in_view facts
+
+  server_succeeds : (accepted made : List TagRecord) → servers.ServerTags setup now.vars.current now.views accepted made
+      → servers.HasSucceeded now.vars.current now.views → ServerSucceeds setup now accepted made
+  server_succeeds accepted made tags (servers.psk_succeeded login is_current in_view) =
+      server_psk login is_current in_view accepted made (server_calls.told_by_psk setup now.vars.current now.views _ accepted made is_current in_view tags)
+  server_succeeds accepted made tags (servers.gpsk_succeeded login is_current in_view) =
+      server_gpsk login is_current in_view accepted made (server_calls.told_by_gpsk setup now.vars.current now.views _ accepted made is_current in_view tags)
+
 module _ (peer_setup : PeerSetup) (server_setup : ServerSetup) (p : PeerNow) (s : ServerNow)
     (peer_nonce : length peer_setup.nonce ≡ 32) (server_nonce : length server_setup.nonce ≡ 32) where
-  abbrev Succeed : Type 0
-  Succeed = BothSucceed peer_setup server_setup p s
-
-  -- a peer that has succeeded by EAP-GPSK
-  module _ (login : gpsk_peer.Login) (list : List ℕ) (is_selected : p.vars.selected ≡ Some gpsk_kind) (in_view : p.views.gpsk ≡ gpsk_peer.over login true)
-      (facts : peers.GpskBegun peer_setup login list) where
-    with_gpsk : (server_accepted server_made : List TagRecord) → ServerStands server_setup s server_accepted server_made
-        → AreIn server_accepted (peers.gpsk2_record login list ∷ sk_record login.cred.psk (gpsk_peer.gpsk4_of login) ∷ [])
-        → is_success s.vars.state ≡ true → Succeed
-    with_gpsk _ _ (servers.begins own unsure no_tags) among sure = absurd (unsure_stops s.vars.state unsure sure)
-    with_gpsk _ _ (servers.psk_checks other id own is_current gone_on in_other checked unsure) among sure = absurd (unsure_stops s.vars.state unsure sure)
-    with_gpsk _ _ (servers.psk_succeeds other header tag sealed id own is_current over in_other checked r_sent) among sure =
-        absurd (other_method _ _ _ (among.each _ (here _)) apart apart)
-    with_gpsk _ _ (servers.gpsk_checks other pd mac own is_current gone_on in_other checked unsure) among sure = absurd (unsure_stops s.vars.state unsure sure)
-    with_gpsk _ _ (servers.gpsk_bars other taken sent own is_current gone_on in_other unsure) among sure = absurd (unsure_stops s.vars.state unsure sure)
-    with_gpsk _ _ (servers.gpsk_succeeds other pd mac last own is_current over in_other checked) among sure =
-        by_gpsk login list facts other pd mac checked is_selected in_view is_current in_other
-        (gpsk.same_login peer_setup server_setup login list facts other pd mac checked peer_nonce server_nonce (among.each _ (here _)))
-    with_gpsk _ _ (servers.fails accepted made own over unsure few) among sure = absurd (unsure_stops s.vars.state unsure sure)
-
-  -- a peer that has succeeded by EAP-PSK
-  module _ (login : psk_peer.Login) (header mac tag : List ℕ) (sealed id : ℕ) (is_selected : p.vars.selected ≡ Some psk_kind) (in_view : p.views.psk ≡ psk_peer.over login true)
-      (facts : peers.PskBegun peer_setup login) where
-    with_psk : (server_accepted server_made : List TagRecord) → ServerStands server_setup s server_accepted server_made
-        → AreIn (psk_peer.psk3_records login header mac tag sealed) server_made
-        → AreIn server_accepted (peers.psk2_record login ∷ psk_peer.psk4_record login id 2)
-        → is_success s.vars.state ≡ true → Succeed
-    with_psk _ _ (servers.begins own unsure no_tags) in_server in_peer sure = absurd (unsure_stops s.vars.state unsure sure)
-    with_psk _ _ (servers.psk_checks other server_id own is_current gone_on in_other checked unsure) in_server in_peer sure = absurd (unsure_stops s.vars.state unsure sure)
-    with_psk _ _ (servers.psk_succeeds other their_header their_tag their_sealed server_id own is_current over in_other checked r_sent) in_server in_peer sure =
-        by_psk login facts other checked is_selected in_view is_current in_other r_sent
-        (psk.same_login peer_setup server_setup login facts other checked peer_nonce server_nonce mac id server_id
-        (in_peer.each _ (here _)) (in_server.each _ (here _)))
-    with_psk _ _ (servers.gpsk_checks other pd their_mac own is_current gone_on in_other checked unsure) in_server in_peer sure = absurd (unsure_stops s.vars.state unsure sure)
-    with_psk _ _ (servers.gpsk_bars other taken sent own is_current gone_on in_other unsure) in_server in_peer sure = absurd (unsure_stops s.vars.state unsure sure)
-    with_psk _ _ (servers.gpsk_succeeds other pd their_mac last own is_current over in_other checked) in_server in_peer sure =
-        absurd (other_method _ _ _ (in_peer.each _ (here _)) (λ e. apart (sym e)) (λ e. apart (sym e)))
-    with_psk _ _ (servers.fails accepted made own over unsure few) in_server in_peer sure = absurd (unsure_stops s.vars.state unsure sure)
-
-  by_rows : (peer_accepted peer_made server_accepted server_made : List TagRecord)
-      → PeerStands peer_setup p peer_accepted peer_made → ServerStands server_setup s server_accepted server_made
-      → AreIn peer_accepted server_made → AreIn server_accepted peer_made
-      → is_success p.vars.state ≡ true → is_success s.vars.state ≡ true → Succeed
-  by_rows _ _ _ _ (peers.begins own none begun fails unsure) server in_server in_peer sure other_sure = absurd (unsure_stops p.vars.state unsure sure)
-  by_rows _ _ _ _ (peers.psk_waits login own is_selected in_view facts fails unsure) server in_server in_peer sure other_sure = absurd (unsure_stops p.vars.state unsure sure)
-  by_rows _ _ _ _ (peers.psk_fails login accepted made own is_selected in_view fails unsure few) server in_server in_peer sure other_sure = absurd (unsure_stops p.vars.state unsure sure)
-  by_rows _ _ accepted made (peers.psk_succeeds login header mac tag sealed id own is_selected in_view facts decided) server in_server in_peer sure other_sure =
-      with_psk login header mac tag sealed id is_selected in_view facts accepted made server in_server in_peer other_sure
-  by_rows _ _ _ _ (peers.gpsk_waits login list own is_selected in_view facts fails unsure) server in_server in_peer sure other_sure = absurd (unsure_stops p.vars.state unsure sure)
-  by_rows _ _ _ _ (peers.gpsk_fails login accepted made own is_selected in_view fails unsure few) server in_server in_peer sure other_sure = absurd (unsure_stops p.vars.state unsure sure)
-  by_rows _ _ accepted made (peers.gpsk_succeeds login list message own is_selected in_view facts decided) server in_server in_peer sure other_sure =
-      with_gpsk login list is_selected in_view facts accepted made server in_peer other_sure
+  both_succeed : (peer_accepted peer_made server_accepted server_made : List TagRecord)
+      → PeerSucceeds peer_setup p peer_accepted peer_made → ServerSucceeds server_setup s server_accepted server_made
+      → AreIn peer_accepted server_made → AreIn server_accepted peer_made → BothSucceed peer_setup server_setup p s
+  both_succeed _ _ _ _ (with_psk login header mac tag sealed id is_selected in_view facts) (of_psk other _ _ _ server_id is_current in_other checked r_sent) in_server in_peer =
+      by_psk login facts other checked is_selected in_view is_current in_other r_sent
+      (psk.same_login peer_setup server_setup login facts other checked peer_nonce server_nonce mac id server_id
+      (in_peer.each _ (here _)) (in_server.each _ (here _)))
+  both_succeed _ _ _ _ (with_psk login header mac tag sealed id is_selected in_view facts) (of_gpsk other pd _ _ _ is_current in_other checked) in_server in_peer =
+      absurd (other_method _ _ _ (in_peer.each _ (here _)) (λ e. apart (sym e)) (λ e. apart (sym e)))
+  both_succeed _ _ _ _ (with_gpsk login list pd mac is_selected in_view facts) (of_psk other _ _ _ _ is_current in_other checked r_sent) in_server in_peer =
+      absurd (other_method _ _ _ (in_peer.each _ (here _)) apart apart)
+  both_succeed _ _ _ _ (with_gpsk login list _ _ is_selected in_view facts) (of_gpsk other pd mac _ _ is_current in_other checked) in_server in_peer =
+      by_gpsk login list facts other pd mac checked is_selected in_view is_current in_other
+      (gpsk.same_login peer_setup server_setup login list facts other pd mac checked peer_nonce server_nonce (in_peer.each _ (here _)))
 
 pub ends_succeed : (peer_setup : PeerSetup) (server_setup : ServerSetup) (p : PeerNow) (s : ServerNow) (peer_accepted peer_made server_accepted server_made : List TagRecord)
     → length peer_setup.nonce ≡ 32 → length server_setup.nonce ≡ 32
@@ -111,8 +129,10 @@ pub ends_succeed : (peer_setup : PeerSetup) (server_setup : ServerSetup) (p : Pe
     → AreIn peer_accepted server_made → AreIn server_accepted peer_made
     → is_success p.vars.state ≡ true → is_success s.vars.state ≡ true
     → BothSucceed peer_setup server_setup p s
-ends_succeed peer_setup server_setup p s peer_accepted peer_made server_accepted server_made peer_nonce server_nonce =
-    by_rows peer_setup server_setup p s peer_nonce server_nonce peer_accepted peer_made server_accepted server_made
+ends_succeed peer_setup server_setup p s _ _ _ _ peer_nonce server_nonce p_in s_in in_server in_peer sure other_sure =
+    both_succeed peer_setup server_setup p s peer_nonce server_nonce _ _ _ _
+    (peer_succeeds peer_setup p _ _ p_in.tags (p_in.decided (p_in.sure sure))) (server_succeeds server_setup s _ _ s_in.tags (s_in.sure other_sure))
+    in_server in_peer
 
 -- what both ends report is judged to agree
 both_agree : (peer_setup : PeerSetup) (server_setup : ServerSetup) (p : PeerNow) (s : ServerNow)

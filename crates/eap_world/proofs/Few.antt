@@ -15,7 +15,7 @@ use Rattle.eap_world.specs.Records.{AreFew, same_use, tags_by}
 use Rattle.eap_world.proofs.Agreement.{every_run_stands}
 use Rattle.eap_world.proofs.PeerKeeps.{peer_few}
 use Rattle.eap_world.proofs.Running.{BothStand}
-use Rattle.eap_world.proofs.ServerViews.{server_few}
+use Rattle.eap_world.proofs.ServerKeeps.{server_few}
 
 -- one more entry is in one of the four lists
 one_longer : (end : End) (how : Use) (tag : TagRecord) (a b c d : List TagRecord) (whole : ℕ)

@@ -1,5 +1,5 @@
 -- Two ends that have succeeded by EAP-GPSK agree.
-use Rattle.std.proofs.Common.{◌≡◌, ℕ, true, List, [], ◌∷◌, ◌++◌, length, Some, None, refl, sym, ap, subst, ◌∙◌, length-append, arith, inl, inr}
+use Rattle.std.proofs.Common.{◌≡◌, ℕ, true, false, List, [], ◌∷◌, ◌++◌, length, Some, None, refl, sym, ap, subst, ◌∙◌, length-append, arith, inl, inr}
 use Rattle.std.proofs.lemmas.Bool.{and_from, not_from_false}
 use Rattle.eap_base.specs.declared.setup.PeerSetup.{PeerSetup}
 use Rattle.eap_base.specs.declared.setup.ServerSetup.{ServerSetup}
@@ -71,17 +71,17 @@ module _ (setup : PeerSetup) (login : peer.Login) (list : List ℕ) (facts : Gps
   unfolding peer_report_of
   peer_reported now is_selected in_view = ap (selected_report now.views) is_selected ∙ ap peer.report in_view
 
-module _ (setup : ServerSetup) (login : server.Login) (pd mac : List ℕ) (facts : GpskChecked setup login pd mac) where
+module _ (setup : ServerSetup) (login : server.Login) (pd mac : List ℕ) (facts : GpskChecked setup login false pd mac) where
   by_server : server_agrees setup (server.report_of login) ≡ true
   unfolding server.report_of
-  by_server = and_from _ _ facts.ordered (and_from _ _ facts.offered (ap is_welcome facts.known ∙ not_from_false _ facts.welcome))
+  by_server = and_from _ _ facts.ordered (and_from _ _ facts.offered (ap is_welcome facts.known ∙ not_from_false _ facts.standing))
 
   pub server_reported : (now : ServerNow) → now.vars.current ≡ Some gpsk_kind → now.views.gpsk ≡ Some (server.over login true) → server_reports now ≡ Some (server.report_of login)
   unfolding server_report_of
   server_reported now is_current in_view = ap (current_report now.views) is_current ∙ ap gpsk_report in_view
 
 module _ (peer_setup : PeerSetup) (server_setup : ServerSetup) (p : peer.Login) (list : List ℕ) (begun : GpskBegun peer_setup p list)
-    (s : server.Login) (pd mac : List ℕ) (checked : GpskChecked server_setup s pd mac)
+    (s : server.Login) (pd mac : List ℕ) (checked : GpskChecked server_setup s false pd mac)
     (peer_nonce : length peer_setup.nonce ≡ 32) (server_nonce : length server_setup.nonce ≡ 32) where
   -- the GPSK-2 that the server accepted is one that the peer made
   pub same_login : IsIn (sk_record s.psk (gpsk2_taken s pd mac)) (gpsk2_record p list ∷ sk_record p.cred.psk (peer.gpsk4_of p) ∷ []) → IsSame p list s

@@ -9,12 +9,12 @@ pub mod Booked
 pub mod Fields
 pub mod Few
 pub mod GpskAgrees
+pub mod OneMethod
 pub mod PeerKeeps
 pub mod PskAgrees
 pub mod PskFields
 pub mod Running
 pub mod Runs
 pub mod ServerKeeps
-pub mod ServerViews
 pub mod Whose
 mod Worked

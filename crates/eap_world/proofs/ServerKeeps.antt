@@ -1,8 +1,7 @@
--- Every input of the server after its start keeps what holds of it at every moment.
-use Rattle.std.proofs.Common.{◌≡◌, ℕ, ◌≤◌, length, List, [], ◌∷◌, ◌++◌, true, false, Option, Some, None, Ok, refl, ap, sym, subst, ◌∙◌, arith}
+-- Every input of the server after its start keeps what stands of it.
+use Rattle.std.proofs.Common.{◌≡◌, ℕ, ◌≤◌, length, List, [], ◌∷◌, ◌++◌, Bool, true, false, Option, Some, None, Ok, refl, ap, sym, subst, ◌∙◌, arith, append-nil}
 use Rattle.std.specs.Prelude.{◌==◌, ◌+◌}
-use Rattle.std.proofs.lemmas.Bool.{cond_both, eqb-true}
-use Rattle.std.proofs.lemmas.List.{append-nil}
+use Rattle.std.proofs.lemmas.Bool.{cond_both, eqb-true, true≢false, false≢true}
 use Rattle.eap_base.specs.declared.setup.ServerSetup.{ServerSetup}
 use Rattle.eap_base.specs.declared.setup.Suite.{Suite}
 use Rattle.eap_base.specs.declared.users.User.{User}
@@ -11,7 +10,8 @@ use Rattle.eap_base.specs.Suite.{suite_number}
 use Rattle.eap_base.specs.Users.{user_of}
 use Rattle.eap_packet.specs.declared.cause.Cause.{Cause}
 use Rattle.eap_packet.specs.declared.state.State.{State}
-use Rattle.gpsk_messages.specs.Message.{Message, gpsk2}
+use Rattle.eap_packet.specs.declared.state.State.TheVariants as state
+use Rattle.gpsk_messages.specs.Message.{Message, gpsk2, gpsk4, protected_fail}
 use Rattle.gpsk_messages.specs.Reading as gpsk_reading
 use Rattle.psk_messages.specs.Message.{psk2}
 use Rattle.psk_messages.specs.Reading as psk_reading
@@ -24,354 +24,439 @@ use Rattle.eap_method.specs.declared.values.ServerSide.{ServerSide}
 use Rattle.eap_method.specs.GpskServer as gpsk
 use Rattle.eap_method.specs.GpskTags.{sk_record, suite_list}
 use Rattle.eap_method.specs.PskServer as psk
-use Rattle.eap_method.specs.PskTags.{ak_record, tek_record, rand_of, header_of}
-use Rattle.eap_method.specs.Server.{ServerViews, side_of, server_offer, Offer, server_turn, psk_hears, gpsk_hears, psk_turn, gpsk_turn, psk_offer, gpsk_offer}
-use Rattle.eap_method.specs.Steps.{discards, is_end}
-use Rattle.eap_method.specs.Turns.{ServerOutcome, body_of}
-use Rattle.method_laws.specs.GpskServerRows as gpsk_rows
-use Rattle.method_laws.specs.PskServerRows as psk_rows
+use Rattle.eap_method.specs.PskTags.{ak_record, tek_record, rand_of}
+use Rattle.eap_method.specs.Server.{ServerViews, side_of, server_offer, Offer, server_turn, psk_hears, gpsk_hears, psk_offer, gpsk_offer}
+use Rattle.eap_method.specs.Steps.{no_tags}
+use Rattle.eap_method.specs.Turns.{ServerOutcome, body_of, dropped}
+use Rattle.method_laws.specs.GpskServerRows as gpsk_row
+use Rattle.method_laws.specs.PskServerRows as psk_row
 use Rattle.method_laws.proofs.GpskServerCases.{gpsk_server_steps_are_rows}
 use Rattle.method_laws.proofs.PskServerCases.{psk_server_steps_are_rows}
 use Rattle.server_machine.specs.Inputs.{ServerInput, start, server_takes}
 use Rattle.server_machine.specs.Rows as rows
 use Rattle.server_machine.specs.Rows.{Selects, after_identity, after_nak}
-use Rattle.server_machine.specs.ServerTable.{ServerNow, ServerAnswer, answer, server_made, next_id, ends_badly, offers, method_answers, server_start}
+use Rattle.server_machine.specs.ServerTable.{ServerNow, ServerAnswer, identity, server_made, next_id, with_request, offers, is_proposed, server_start}
 use Rattle.server_machine.proofs.ServerRows.{server_answers_are_rows}
+use Rattle.server_machine.specs.declared.variables.Progress.{Progress}
+use Rattle.server_machine.specs.declared.variables.Progress.TheVariants as progress
 use Rattle.server_machine.specs.declared.variables.ServerVariables.{ServerVariables}
 use Rattle.eap_world.specs.Verdict.{is_success}
-use Rattle.eap_world.specs.ServerStands.{GpskChecked, gpsk2_taken, HasNoTags, before, asks_identity, asks_psk, asks_gpsk, refuses_gpsk, ended, ServerStands, begins, psk_checks, psk_succeeds, gpsk_checks, gpsk_bars, gpsk_succeeds, fails}
-use Rattle.eap_world.proofs.ServerViews.{own_of, server_few, GpskTells, gpsk_asked, gpsk_barring, gpsk_checked, gpsk_refusing, IsFresh, PskTells, psk_asked, psk_checked, few_grow, few_stay, going_one, gpsk-tells, identity-fresh, proposed-fresh, psk-tells, recast, side-suites}
+use Rattle.eap_world.specs.Records.{AreFew, AreNone, untagged}
+use Rattle.eap_world.specs.ServerStands.{psk2_record, GpskChecked, gpsk2_taken, PskServerTags, psk_asked, psk_checked, psk_refused, psk_over, GpskServerTags, gpsk_asked, gpsk_refusing, gpsk_refused, gpsk_barring, gpsk_checked, gpsk_barred, gpsk_confirmed, ServerTags, none_current, identity_current, psk_current, gpsk_current, HasSucceeded, psk_succeeded, gpsk_succeeded, ServerStands}
+use Rattle.eap_world.proofs.OneMethod.{apart, goes_on}
 
--- after a call the invariant stands, with the tags of its step
-pub record Keeps (setup : ServerSetup) (accepted made : List TagRecord) (out : ServerAnswer) : Type 0 where
-  pub stands : ServerStands setup out.after (accepted ++ out.step.tags.accepted) (made ++ out.step.tags.made)
+-- ---- the begin
 
--- the world's server before and after its start
 pub server_begins : (setup : ServerSetup) (first_id max_retrans : ℕ) → ServerStands setup (server_made setup first_id max_retrans) [] []
-server_begins setup first_id max_retrans = begins refl refl (before refl)
+server_begins setup first_id max_retrans =
+    record { own = refl; tags = none_current refl; proposed = λ _. untagged; sure = λ e. absurd (false≢true e) }
 
 pub started_stands : (setup : ServerSetup) (first_id max_retrans : ℕ)
     → (let out = server_start (server_made setup first_id max_retrans) in ServerStands setup out.after [] [])
 unfolding server_start
-started_stands setup first_id max_retrans = begins refl refl (asks_identity refl)
+started_stands setup first_id max_retrans =
+    record { own = refl; tags = identity_current refl; proposed = λ _. untagged; sure = λ e. absurd (false≢true e) }
 
--- the count of retransmissions says nothing of the tags
-abbrev counted : ServerNow → ℕ → ServerNow
-counted now count = record { vars = record now.vars { retrans_count = count }; views = now.views }
+-- ---- the turns of the methods
 
-no_tags-stay : (setup : ServerSetup) (now : ServerNow) (count : ℕ) → HasNoTags setup now → HasNoTags setup (counted now count)
-no_tags-stay setup now count (before none) = before none
-no_tags-stay setup now count (asks_identity is_identity) = asks_identity is_identity
-no_tags-stay setup now count (asks_psk ordered is_current in_view) = asks_psk ordered is_current in_view
-no_tags-stay setup now count (asks_gpsk ordered is_current in_view) = asks_gpsk ordered is_current in_view
-no_tags-stay setup now count (refuses_gpsk is_current gone_on in_view) = refuses_gpsk is_current gone_on in_view
-no_tags-stay setup now count (ended over) = ended over
+-- a discard, or a turn whose tags are told by the view after it, which is a success where the turn says so
+data Turned (V : Type 0) (Tells : V → List TagRecord → List TagRecord → Type 0) (Succeeds : V → Type 0) (accepted made : List TagRecord) : ServerOutcome V → Type 0 where
+  drops : (view : V) (c : Cause) → Turned V Tells Succeeds accepted made (dropped view c)
+  requests : (packet : List ℕ) (tags : Tags) (view : V) (told : Tells view (accepted ++ tags.accepted) (made ++ tags.made))
+      → Turned V Tells Succeeds accepted made (record { turn = turn.Request packet tags; after = view })
+  ends : (good : Bool) (tags : Tags) (view : V) (told : Tells view (accepted ++ tags.accepted) (made ++ tags.made)) (well : good ≡ true → Succeeds view)
+      → Turned V Tells Succeeds accepted made (record { turn = turn.Done good tags; after = view })
 
-stays : (setup : ServerSetup) (now : ServerNow) (count : ℕ) (accepted made : List TagRecord)
-    → ServerStands setup now accepted made → ServerStands setup (counted now count) accepted made
-stays setup now count accepted made (begins own unsure no_tags) = begins own unsure (no_tags-stay setup now count no_tags)
-stays setup now count accepted made (psk_checks login id own is_current gone_on in_view facts unsure) =
-    psk_checks login id own is_current gone_on in_view facts unsure
-stays setup now count accepted made (psk_succeeds login header tag sealed id own is_current over in_view facts r_sent) =
-    psk_succeeds login header tag sealed id own is_current over in_view facts r_sent
-stays setup now count accepted made (gpsk_checks login pd mac own is_current gone_on in_view facts unsure) =
-    gpsk_checks login pd mac own is_current gone_on in_view facts unsure
-stays setup now count accepted made (gpsk_bars login taken sent own is_current gone_on in_view unsure) =
-    gpsk_bars login taken sent own is_current gone_on in_view unsure
-stays setup now count accepted made (gpsk_succeeds login pd mac last own is_current over in_view facts) =
-    gpsk_succeeds login pd mac last own is_current over in_view facts
-stays setup now count accepted made (fails some others own over unsure few) = fails some others own over unsure few
+module _ (setup : ServerSetup) (users : List User) (own_users : users ≡ setup.users) where
+  abbrev knows : List ℕ → ℕ → User → Type 0
+  knows id_p kind user = user_of users id_p kind ≡ Some user
 
--- a step without tags
-untagged : (setup : ServerSetup) (now : ServerNow) (accepted made : List TagRecord) → ServerStands setup now accepted made
-    → ServerStands setup now (accepted ++ []) (made ++ [])
-untagged setup now accepted made stands =
-    recast setup now accepted made (accepted ++ []) (made ++ []) (sym (append-nil accepted)) (sym (append-nil made)) stands
+  own_user : (id_p : List ℕ) (kind : ℕ) (user : User) → knows id_p kind user → user_of setup.users id_p kind ≡ Some user
+  own_user id_p kind user known = ap (λ (u : List User). user_of u id_p kind) (sym own_users) ∙ known
 
--- the turns of a method, in a view that tells the tags
-module _ (setup : ServerSetup) (now : ServerNow) (own-setup : now.vars.setup ≡ setup) (id : ℕ) (octets : List ℕ) where
-  module _ (by_psk : now.vars.current ≡ Some psk_kind) where
-    psk_answer-keeps : (view : psk.View) (accepted made : List TagRecord) → PskTells setup now view accepted made
-        → (own : ServerSide) (nonce rand_s rand_p mac id_p : List ℕ) (user : User) → view ≡ psk.asked own nonce
-        → psk_reading.read_of (body_of octets) ≡ Ok (psk2 rand_s rand_p mac id_p) → rand_s ≡ rand_of nonce
-        → user_of now.vars.setup.users id_p psk_kind ≡ Some user → (packet : List ℕ)
-        → (let login = psk_rows.login_from own nonce id_p user rand_p in
-        Keeps setup accepted made (method_answers now id (record now.views { psk = Some (psk.checked login) })
-        (turn.Request packet (record { accepted = ak_record user.psk (psk.mac_p_covers login) mac ∷ []; made = psk.psk3_records login (next_id now.vars) }))))
-    psk_answer-keeps _ _ _ (psk_checked login id facts) _ _ _ _ _ _ _ in_view _ _ _ _ = cc
-    psk_answer-keeps _ _ _ (psk_asked ordered unsure) own nonce rand_s rand_p mac id_p user in_view is_read own_nonce known packet = record {
-      stands = psk_checks (psk_rows.login_from own nonce id_p user rand_p) (next_id now.vars) own-setup by_psk refl refl
-          (record {
-            ordered = ordered;
-            own = cc;
-            nonce = cc;
-            user = user;
-            known = ap (λ (s : ServerSetup). user_of s.users id_p psk_kind) (sym own-setup) ∙ known;
-            key = refl;
-            r = refl;
-            body = body_of octets;
-            mac = mac;
-            is_read = is_read ∙ ap (λ (r : List ℕ). Ok (psk2 r rand_p mac id_p)) own_nonce;
-          })
-          unsure;
+  psk_refuses : (own : ServerSide) (nonce : List ℕ) (accepted made : List TagRecord) → PskServerTags setup (psk.asked own nonce) accepted made
+      → PskServerTags setup (psk.refused own nonce) (accepted ++ []) (made ++ [])
+  psk_refuses _ _ _ _ (psk_asked ordered) = psk_refused
+
+  psk_answers : (own : ServerSide) (nonce rand_s rand_p mac id_p body : List ℕ) (user : User) (next_id : ℕ) (accepted made : List TagRecord)
+      → PskServerTags setup (psk.asked own nonce) accepted made
+      → psk_reading.read_of body ≡ Ok (psk2 rand_s rand_p mac id_p) → rand_s ≡ rand_of nonce → knows id_p psk_kind user
+      → (let login = psk_row.login_from own nonce id_p user rand_p in
+      PskServerTags setup (psk.checked login) (accepted ++ ak_record user.psk (psk.mac_p_covers login) mac ∷ []) (made ++ psk.psk3_records login next_id))
+  psk_answers _ _ rand_s rand_p mac id_p body user next_id _ _ (psk_asked ordered) is_read own_nonce known =
+      psk_checked _ next_id
+      (record {
+        ordered = ordered;
+        own = refl;
+        nonce = refl;
+        user = user;
+        known = own_user id_p psk_kind user known;
+        key = refl;
+        r = refl;
+        body = body;
+        mac = mac;
+        is_read = is_read ∙ ap (λ (r : List ℕ). Ok (psk2 r rand_p mac id_p)) own_nonce;
+      })
+
+  psk_ends : (login : psk.Login) (good : Bool) (header tag : List ℕ) (sealed : ℕ) → (good ≡ true → login.r ≡ 2) → (accepted made : List TagRecord)
+      → PskServerTags setup (psk.checked login) accepted made
+      → PskServerTags setup (psk.over login good) (accepted ++ tek_record login.psk 1 header sealed tag ∷ []) (made ++ [])
+  psk_ends login good header tag sealed r_sent _ _ (psk_checked _ id facts) = psk_over login good header tag sealed id facts r_sent
+
+  gpsk_refuses : (own : ServerSide) (nonce : List ℕ) (accepted made : List TagRecord) → GpskServerTags setup (gpsk.asked own nonce) accepted made
+      → GpskServerTags setup (gpsk.refusing own nonce) (accepted ++ []) (made ++ [])
+  gpsk_refuses _ _ _ _ (gpsk_asked ordered) = gpsk_refusing
+
+  gpsk_gives_up : (own : ServerSide) (nonce : List ℕ) (accepted made : List TagRecord) → GpskServerTags setup (gpsk.refusing own nonce) accepted made
+      → GpskServerTags setup (gpsk.refused own nonce) (accepted ++ []) (made ++ [])
+  gpsk_gives_up _ _ _ _ gpsk_refusing = gpsk_refused
+
+  module _ (id_p rand_p pd mac body : List ℕ) (suite : Suite) (user : User) (known : knows id_p gpsk_kind user) (message : Message) where
+    abbrev login_of : ServerSide → List ℕ → gpsk.Login
+    login_of own nonce = gpsk_row.login_from own nonce id_p user rand_p suite
+
+    -- a GPSK-2 that repeats what was sent
+    record Repeats (own : ServerSide) (nonce : List ℕ) : Type 0 where
+      pub same : gpsk2_taken (login_of own nonce) pd mac ≡ message
+      pub is_read : gpsk_reading.read_of None body ≡ Ok message
+      pub offered : is_among own.suites (suite_number suite) ≡ true
+
+    facts_of : (barred : Bool) → is_among setup.methods gpsk_kind ≡ true → Repeats (side_of setup) setup.nonce → user.barred ≡ barred
+        → GpskChecked setup (login_of (side_of setup) setup.nonce) barred pd mac
+    unfolding side_of
+    facts_of barred ordered repeats standing = record {
+      ordered = ordered;
+      own = refl;
+      nonce = refl;
+      user = user;
+      known = own_user id_p gpsk_kind user known;
+      key = refl;
+      standing = standing;
+      offered = repeats.offered;
+      body = body;
+      is_read = repeats.is_read ∙ ap (λ (m : Message). Ok m) (sym repeats.same);
     }
 
-    psk_success-keeps : (view : psk.View) (accepted made : List TagRecord) → PskTells setup now view accepted made
-        → (login : psk.Login) (header tag : List ℕ) (sealed : ℕ) → view ≡ psk.checked login → login.r ≡ 2
-        → Keeps setup accepted made (method_answers now id (record now.views { psk = Some (psk.over login true) })
-        (turn.Done true (record { accepted = tek_record login.psk 1 header sealed tag ∷ []; made = [] })))
-    psk_success-keeps _ _ _ (psk_asked ordered unsure) login header tag sealed in_view r_sent = cc
-    psk_success-keeps _ accepted made (psk_checked kept number facts) login header tag sealed in_view r_sent =
-        let same : kept ≡ login = cc in
+    gpsk_bars : (own : ServerSide) (nonce : List ℕ) (accepted made : List TagRecord) → GpskServerTags setup (gpsk.asked own nonce) accepted made
+        → Repeats own nonce → user.barred ≡ true
+        → (let login = login_of own nonce in
+        GpskServerTags setup (gpsk.barring login) (accepted ++ sk_record user.psk message ∷ []) (made ++ sk_record user.psk (gpsk.bars_with login) ∷ []))
+    gpsk_bars _ _ _ _ (gpsk_asked ordered) repeats standing =
+        (let login = login_of (side_of setup) setup.nonce in
+        subst (λ (m : Message). GpskServerTags setup (gpsk.barring login) (sk_record user.psk m ∷ []) (sk_record user.psk (gpsk.bars_with login) ∷ []))
+        repeats.same (gpsk_barring login pd mac (facts_of true ordered repeats standing)))
+
+    gpsk_checks : (own : ServerSide) (nonce : List ℕ) (accepted made : List TagRecord) → GpskServerTags setup (gpsk.asked own nonce) accepted made
+        → Repeats own nonce → user.barred ≡ false
+        → (let login = login_of own nonce in
+        GpskServerTags setup (gpsk.checked login) (accepted ++ sk_record user.psk message ∷ []) (made ++ sk_record user.psk (gpsk.gpsk3_of login) ∷ []))
+    gpsk_checks _ _ _ _ (gpsk_asked ordered) repeats standing =
+        (let login = login_of (side_of setup) setup.nonce in
+        subst (λ (m : Message). GpskServerTags setup (gpsk.checked login) (sk_record user.psk m ∷ []) (sk_record user.psk (gpsk.gpsk3_of login) ∷ []))
+        repeats.same (gpsk_checked login pd mac (facts_of false ordered repeats standing)))
+
+  module _ (login : gpsk.Login) where
+    gpsk_ends_barring : (code : ℕ) (mac : List ℕ) (accepted made : List TagRecord) → GpskServerTags setup (gpsk.barring login) accepted made
+        → code ≡ gpsk.authorization_failure
+        → GpskServerTags setup (gpsk.over login false) (accepted ++ sk_record login.psk (protected_fail code mac) ∷ []) (made ++ [])
+    gpsk_ends_barring code mac _ _ (gpsk_barring _ pd sent facts) same =
         subst
-        (λ (known : psk.Login). Keeps setup accepted made (method_answers now id (record now.views { psk = Some (psk.over known true) })
-        (turn.Done true (record { accepted = tek_record known.psk 1 header sealed tag ∷ []; made = [] }))))
-        same
-        (record { stands = psk_succeeds kept header tag sealed number own-setup by_psk refl refl facts (ap (λ (known : psk.Login). known.r) same ∙ r_sent) })
+        (λ (c : ℕ). GpskServerTags setup (gpsk.over login false)
+        (sk_record login.psk (gpsk2_taken login pd sent) ∷ sk_record login.psk (protected_fail c mac) ∷ []) (sk_record login.psk (gpsk.bars_with login) ∷ []))
+        (sym same) (gpsk_barred login pd sent mac facts)
 
-  module _ (by_gpsk : now.vars.current ≡ Some gpsk_kind) where
-    gpsk_refuse-keeps : (view : gpsk.View) (accepted made : List TagRecord) → GpskTells setup now view accepted made
-        → (own : ServerSide) (nonce : List ℕ) → view ≡ gpsk.asked own nonce → (packet : List ℕ)
-        → Keeps setup accepted made (method_answers now id (record now.views { gpsk = Some (gpsk.refusing own nonce) })
-        (turn.Request packet (record { accepted = []; made = [] })))
-    gpsk_refuse-keeps _ _ _ (gpsk_asked ordered unsure) own nonce in_view packet = record { stands = begins own-setup unsure (refuses_gpsk by_gpsk refl cc) }
-    gpsk_refuse-keeps _ _ _ gpsk_refusing own nonce in_view packet = cc
-    gpsk_refuse-keeps _ _ _ (gpsk_checked login pd mac facts) own nonce in_view packet = cc
-    gpsk_refuse-keeps _ _ _ (gpsk_barring login accepted made) own nonce in_view packet = cc
+    gpsk_ends_well : (last_pd last_mac : List ℕ) (accepted made : List TagRecord) → GpskServerTags setup (gpsk.checked login) accepted made
+        → GpskServerTags setup (gpsk.over login true) (accepted ++ sk_record login.psk (gpsk4 last_pd last_mac) ∷ []) (made ++ [])
+    gpsk_ends_well last_pd last_mac _ _ (gpsk_checked _ pd mac facts) = gpsk_confirmed login pd mac last_pd last_mac facts
 
-    gpsk_bar-keeps : (view : gpsk.View) (accepted made : List TagRecord) → GpskTells setup now view accepted made
-        → (own : ServerSide) (nonce : List ℕ) (login : gpsk.Login) → view ≡ gpsk.asked own nonce → (packet : List ℕ) (taken sent : TagRecord)
-        → Keeps setup accepted made (method_answers now id (record now.views { gpsk = Some (gpsk.barring login) })
-        (turn.Request packet (record { accepted = taken ∷ []; made = sent ∷ [] })))
-    gpsk_bar-keeps _ _ _ (gpsk_asked ordered unsure) own nonce login in_view packet taken sent =
-        record { stands = gpsk_bars login taken sent own-setup by_gpsk refl refl unsure }
-    gpsk_bar-keeps _ _ _ gpsk_refusing own nonce login in_view packet taken sent = cc
-    gpsk_bar-keeps _ _ _ (gpsk_checked other pd mac facts) own nonce login in_view packet taken sent = cc
-    gpsk_bar-keeps _ _ _ (gpsk_barring other accepted made) own nonce login in_view packet taken sent = cc
+  module _ (next_id : ℕ) (octets : List ℕ) (accepted made : List TagRecord) where
+    abbrev PskTurned : ServerOutcome psk.View → Type 0
+    PskTurned out = Turned psk.View (PskServerTags setup) (λ view. (login : psk.Login) × (view ≡ psk.over login true)) accepted made out
 
-    gpsk_check-keeps : (view : gpsk.View) (accepted made : List TagRecord) → GpskTells setup now view accepted made
-        → (own : ServerSide) (nonce id_p id_s rand_p rand_s list : List ℕ) (suite : Suite) (pd mac : List ℕ) (user : User)
-        → view ≡ gpsk.asked own nonce
-        → gpsk_reading.read_of None (body_of octets) ≡ Ok (gpsk2 id_p id_s rand_p rand_s list suite pd mac)
-        → id_s ≡ own.id_s → rand_s ≡ nonce → list ≡ suite_list own.suites
-        → is_among own.suites (suite_number suite) ≡ true
-        → user_of now.vars.setup.users id_p gpsk_kind ≡ Some user → user.barred ≡ false → (packet : List ℕ)
-        → (let login = gpsk_rows.login_from own nonce id_p user rand_p suite in
-        Keeps setup accepted made (method_answers now id (record now.views { gpsk = Some (gpsk.checked login) })
-        (turn.Request packet (record {
-          accepted = sk_record user.psk (gpsk2 id_p id_s rand_p rand_s list suite pd mac) ∷ [];
-          made = sk_record user.psk (gpsk.gpsk3_of login) ∷ [];
-        }))))
-    gpsk_check-keeps _ _ _ (gpsk_asked ordered unsure) own nonce id_p id_s rand_p rand_s list suite pd mac user in_view is_read own_name own_nonce own_list offered known not_barred packet =
-        let login : gpsk.Login = gpsk_rows.login_from own nonce id_p user rand_p suite in
-        let own_side : own ≡ side_of setup = cc in
-        let same : gpsk2 id_p id_s rand_p rand_s list suite pd mac ≡ gpsk2_taken login pd mac =
-        ap (λ (x : List ℕ). gpsk2 id_p x rand_p rand_s list suite pd mac) own_name
-        ∙ (ap (λ (x : List ℕ). gpsk2 id_p own.id_s rand_p x list suite pd mac) own_nonce
-        ∙ ap (λ (x : List ℕ). gpsk2 id_p own.id_s rand_p nonce x suite pd mac) own_list) in
-        let facts : GpskChecked setup login pd mac = record {
-          ordered = ordered;
-          own = own_side;
-          nonce = cc;
-          user = user;
-          known = ap (λ (s : ServerSetup). user_of s.users id_p gpsk_kind) (sym own-setup) ∙ known;
-          key = refl;
-          welcome = not_barred;
-          offered = ap (λ (suites : List ℕ). is_among suites (suite_number suite))
-              (sym (ap (λ (s : ServerSide). s.suites) own_side ∙ side-suites setup)) ∙ offered;
-          body = body_of octets;
-          is_read = is_read ∙ ap (λ (m : Message). Ok m) same;
-        } in
-        record {
-          stands = recast setup _ _ _ _ _ (ap (λ (m : Message). sk_record user.psk m ∷ []) (sym same)) refl
-              (gpsk_checks login pd mac own-setup by_gpsk refl refl facts unsure);
-        }
-    gpsk_check-keeps _ _ _ gpsk_refusing _ _ _ _ _ _ _ _ _ _ _ in_view _ _ _ _ _ _ _ _ = cc
-    gpsk_check-keeps _ _ _ (gpsk_checked login _ _ facts) _ _ _ _ _ _ _ _ _ _ _ in_view _ _ _ _ _ _ _ _ = cc
-    gpsk_check-keeps _ _ _ (gpsk_barring login accepted made) _ _ _ _ _ _ _ _ _ _ _ in_view _ _ _ _ _ _ _ _ = cc
+    psk_turned : (view : psk.View) (out : ServerOutcome psk.View) → PskServerTags setup view accepted made
+        → psk_row.PskServerRow users next_id view octets out → PskTurned out
+    psk_turned view _ told (psk_row.drops c) = drops view c
+    psk_turned view _ told (psk_row.refuses own nonce _ _ _ _ in_view _ _ _) =
+        ends false _ _ (psk_refuses own nonce accepted made (subst (λ (v : psk.View). PskServerTags setup v accepted made) in_view told))
+        (λ e. absurd (false≢true e))
+    psk_turned view _ told (psk_row.answers own nonce rand_s rand_p mac id_p user in_view is_read own_nonce known _) =
+        requests _ _ _
+        (psk_answers own nonce rand_s rand_p mac id_p _ user next_id accepted made (subst (λ (v : psk.View). PskServerTags setup v accepted made) in_view told)
+        is_read own_nonce known)
+    psk_turned view _ told (psk_row.ends_success login _ _ tag sealed in_view _ _ _ _ _ _ _ own_success _) =
+        ends true _ _
+        (psk_ends login true _ tag sealed (λ _. own_success) accepted made (subst (λ (v : psk.View). PskServerTags setup v accepted made) in_view told))
+        (λ _. (login, refl))
+    psk_turned view _ told (psk_row.ends_failure login _ _ tag sealed in_view _ _ _ _ _ _ _ _ _) =
+        ends false _ _
+        (psk_ends login false _ tag sealed (λ e. absurd (false≢true e)) accepted made (subst (λ (v : psk.View). PskServerTags setup v accepted made) in_view told))
+        (λ e. absurd (false≢true e))
 
-    gpsk_success-keeps : (view : gpsk.View) (accepted made : List TagRecord) → GpskTells setup now view accepted made
-        → (login : gpsk.Login) (last : Message) → view ≡ gpsk.checked login
-        → Keeps setup accepted made (method_answers now id (record now.views { gpsk = Some (gpsk.over login true) })
-        (turn.Done true (record { accepted = sk_record login.psk last ∷ []; made = [] })))
-    gpsk_success-keeps _ _ _ (gpsk_asked ordered unsure) login last in_view = cc
-    gpsk_success-keeps _ _ _ gpsk_refusing login last in_view = cc
-    gpsk_success-keeps _ accepted made (gpsk_checked kept pd mac facts) login last in_view =
-        let same : kept ≡ login = cc in
-        subst
-        (λ (known : gpsk.Login). Keeps setup accepted made (method_answers now id (record now.views { gpsk = Some (gpsk.over known true) })
-        (turn.Done true (record { accepted = sk_record known.psk last ∷ []; made = [] }))))
-        same
-        (record { stands = gpsk_succeeds kept pd mac last own-setup by_gpsk refl refl facts })
-    gpsk_success-keeps _ _ _ (gpsk_barring other accepted made) login last in_view = cc
+    abbrev GpskTurned : ServerOutcome gpsk.View → Type 0
+    GpskTurned out = Turned gpsk.View (GpskServerTags setup) (λ view. (login : gpsk.Login) × (view ≡ gpsk.over login true)) accepted made out
 
--- what a server in this state keeps
+    gpsk_turned : (view : gpsk.View) (out : ServerOutcome gpsk.View) → GpskServerTags setup view accepted made
+        → gpsk_row.GpskServerRow users next_id view octets out → GpskTurned out
+    gpsk_turned view _ told (gpsk_row.drops c) = drops view c
+    gpsk_turned view _ told (gpsk_row.refuses own nonce _ _ _ _ _ _ _ _ in_view _ _ _ _ _ _ _) =
+        requests _ _ _ (gpsk_refuses own nonce accepted made (subst (λ (v : gpsk.View). GpskServerTags setup v accepted made) in_view told))
+    gpsk_turned view _ told (gpsk_row.bars own nonce id_p _ rand_p _ _ suite pd mac user in_view is_read _ own_name own_nonce own_list offered known barred _ _) =
+        requests _ _ _
+        (gpsk_bars id_p rand_p pd mac _ suite user known _ own nonce accepted made (subst (λ (v : gpsk.View). GpskServerTags setup v accepted made) in_view told)
+        (record { same = cc; is_read = is_read; offered = offered }) barred)
+    gpsk_turned view _ told (gpsk_row.checks own nonce id_p _ rand_p _ _ suite pd mac user in_view is_read _ own_name own_nonce own_list offered known welcome _ _) =
+        requests _ _ _
+        (gpsk_checks id_p rand_p pd mac _ suite user known _ own nonce accepted made (subst (λ (v : gpsk.View). GpskServerTags setup v accepted made) in_view told)
+        (record { same = cc; is_read = is_read; offered = offered }) welcome)
+    gpsk_turned view _ told (gpsk_row.ends_refusing own nonce _ in_view _ _) =
+        ends false _ _ (gpsk_gives_up own nonce accepted made (subst (λ (v : gpsk.View). GpskServerTags setup v accepted made) in_view told))
+        (λ e. absurd (false≢true e))
+    gpsk_turned view _ told (gpsk_row.ends_barring login code mac in_view _ own_code _ _) =
+        ends false _ _ (gpsk_ends_barring login code mac accepted made (subst (λ (v : gpsk.View). GpskServerTags setup v accepted made) in_view told) own_code)
+        (λ e. absurd (false≢true e))
+    gpsk_turned view _ told (gpsk_row.ends_checked login pd mac in_view _ _ _) =
+        ends true _ _ (gpsk_ends_well login pd mac accepted made (subst (λ (v : gpsk.View). GpskServerTags setup v accepted made) in_view told))
+        (λ _. (login, refl))
+
+-- ---- the calls
+
+one_view : {V : Type 0} (held : Option V) (one other : V) → held ≡ Some one → held ≡ Some other → other ≡ one
+one_view held one other is_one is_other = cc
+
+-- what the current method tells
+module _ (setup : ServerSetup) (current : Option ℕ) (views : ServerViews) where
+  pub told_by_psk : (view : psk.View) (accepted made : List TagRecord) → current ≡ Some psk_kind → views.psk ≡ Some view
+      → ServerTags setup current views accepted made → PskServerTags setup view accepted made
+  told_by_psk view _ _ is_psk at_view (none_current none) = absurd cc
+  told_by_psk view _ _ is_psk at_view (identity_current is_current) = apart current identity psk_kind refl is_current is_psk
+  told_by_psk view _ _ is_psk at_view (psk_current other accepted made is_current in_view told) =
+      subst (λ (v : psk.View). PskServerTags setup v accepted made) (one_view views.psk view other at_view in_view) told
+  told_by_psk view _ _ is_psk at_view (gpsk_current other accepted made is_current in_view told) = apart current gpsk_kind psk_kind refl is_current is_psk
+
+  pub told_by_gpsk : (view : gpsk.View) (accepted made : List TagRecord) → current ≡ Some gpsk_kind → views.gpsk ≡ Some view
+      → ServerTags setup current views accepted made → GpskServerTags setup view accepted made
+  told_by_gpsk view _ _ is_gpsk at_view (none_current none) = absurd cc
+  told_by_gpsk view _ _ is_gpsk at_view (identity_current is_current) = apart current identity gpsk_kind refl is_current is_gpsk
+  told_by_gpsk view _ _ is_gpsk at_view (psk_current other accepted made is_current in_view told) = apart current psk_kind gpsk_kind refl is_current is_gpsk
+  told_by_gpsk view _ _ is_gpsk at_view (gpsk_current other accepted made is_current in_view told) =
+      subst (λ (v : gpsk.View). GpskServerTags setup v accepted made) (one_view views.gpsk view other at_view in_view) told
+
+  -- the Identity round has no tags
+  in_identity : (accepted made : List TagRecord) → current ≡ Some identity → ServerTags setup current views accepted made → AreNone accepted made
+  in_identity _ _ asks (none_current none) = untagged
+  in_identity _ _ asks (identity_current is_current) = untagged
+  in_identity _ _ asks (psk_current view accepted made is_current in_view told) = apart current psk_kind identity refl is_current asks
+  in_identity _ _ asks (gpsk_current view accepted made is_current in_view told) = apart current gpsk_kind identity refl is_current asks
+
+-- the offer of a method: its view then says that it has asked; without an object of it all views stay
+data Offers (setup : ServerSetup) (kind : ℕ) (views : ServerViews) : Offer → Type 0 where
+  asks : (packet : List ℕ) (after : ServerViews) (tags : ServerTags setup (Some kind) after [] [])
+      → Offers setup kind views (record { packet = Some packet; after = after })
+  lacks : Offers setup kind views (record { packet = None; after = views })
+
+module _ (setup : ServerSetup) (kind id : ℕ) (views : ServerViews) (ordered : is_among setup.methods kind ≡ true) where
+  offers_psk : (view : Option psk.View) → kind ≡ psk_kind → Offers setup kind views (psk_offer (side_of setup) setup.nonce id views view)
+  offers_psk None same = lacks
+  offers_psk (Some view) same =
+      asks _ _ (psk_current _ _ _ (ap (λ (k : ℕ). Some k) same) refl (psk_asked (subst (λ (k : ℕ). is_among setup.methods k ≡ true) same ordered)))
+
+  offers_gpsk : (view : Option gpsk.View) → kind ≡ gpsk_kind → Offers setup kind views (gpsk_offer (side_of setup) setup.nonce id views view)
+  offers_gpsk None same = lacks
+  offers_gpsk (Some view) same =
+      asks _ _ (gpsk_current _ _ _ (ap (λ (k : ℕ). Some k) same) refl (gpsk_asked (subst (λ (k : ℕ). is_among setup.methods k ≡ true) same ordered)))
+
+  offers_so : Offers setup kind views (server_offer (side_of setup) setup.nonce kind id views)
+  unfolding server_offer
+  offers_so =
+      cond_both (kind == psk_kind) _ _ (Offers setup kind views) (λ is_psk. offers_psk views.psk (eqb-true _ _ is_psk))
+      (λ _. cond_both (kind == gpsk_kind) _ _ (Offers setup kind views) (λ is_gpsk. offers_gpsk views.gpsk (eqb-true _ _ is_gpsk)) (λ _. lacks))
+
+-- what stands after a call, with the tags of its step
+record Keeps (setup : ServerSetup) (accepted made : List TagRecord) (out : ServerAnswer) : Type 0 where
+  pub stands : ServerStands setup out.after (accepted ++ out.step.tags.accepted) (made ++ out.step.tags.made)
+
+-- a call without tags
+quiet : (setup : ServerSetup) (accepted made : List TagRecord) (out : ServerAnswer) → out.step.tags ≡ no_tags
+    → ServerStands setup out.after accepted made → Keeps setup accepted made out
+quiet setup accepted made out is_quiet stands = record {
+  stands = subst (λ (tags : Tags). ServerStands setup out.after (accepted ++ tags.accepted) (made ++ tags.made)) (sym is_quiet)
+      (rw (append-nil accepted, append-nil made) stands);
+}
+
 module _ (setup : ServerSetup) (now : ServerNow) (accepted made : List TagRecord) (stands : ServerStands setup now accepted made) where
-  own-setup : now.vars.setup ≡ setup
-  own-setup = own_of setup now accepted made stands
+  -- another state, progress and count of retransmissions
+  remains : (s : State) (p : Progress) (count : ℕ) → (is_proposed p ≡ true → AreNone accepted made)
+      → (is_success s ≡ true → HasSucceeded now.vars.current now.views)
+      → ServerStands setup (record { vars = record now.vars { state = s; progress = p; retrans_count = count }; views = now.views }) accepted made
+  remains s p count proposed sure = record { own = stands.own; tags = stands.tags; proposed = proposed; sure = sure }
 
-  -- a discard changes nothing
-  discard-keeps : (path : List State) (cause : Cause) → Keeps setup accepted made (answer (discards path cause) now)
-  discard-keeps path cause = record { stands = untagged setup now accepted made stands }
+  -- the current method has its turn
+  abbrev MethodTurned : ServerOutcome ServerViews → Type 0
+  MethodTurned out = Turned ServerViews (ServerTags setup now.vars.current) (HasSucceeded now.vars.current) accepted made out
 
-  -- a failure
-  badly-keeps : (entered : List State) (vars : ServerVariables) (views : ServerViews) (id : ℕ) → vars.setup ≡ setup
-      → Keeps setup accepted made (ends_badly entered vars views id (record { accepted = []; made = [] }))
-  badly-keeps entered vars views id own = record {
-    stands = fails (accepted ++ []) (made ++ []) own refl refl (few_stay accepted made (server_few setup now accepted made stands));
-  }
+  own_users : now.vars.setup.users ≡ setup.users
+  own_users = ap (λ (s : ServerSetup). s.users) stands.own
 
-  -- a proposal by a server without tags
-  module _ (entered : List State) (vars : ServerVariables) (fresh : IsFresh setup (record { vars = vars; views = now.views }) accepted made)
-      (id kind : ℕ) (ordered : is_among vars.setup.methods kind ≡ true) where
-    begun-keeps : (after : ServerNow) → after.vars.setup ≡ setup → is_success after.vars.state ≡ false → HasNoTags setup after
-        → ServerStands setup after (accepted ++ []) (made ++ [])
-    begun-keeps after its_own its_unsure no_tags =
-        recast setup after [] [] (accepted ++ []) (made ++ []) (fresh.none_accepted ∙ sym (append-nil accepted)) (fresh.none_made ∙ sym (append-nil made))
-        (begins its_own its_unsure no_tags)
+  module _ (octets : List ℕ) where
+    with_psk : now.vars.current ≡ Some psk_kind → (out : ServerOutcome psk.View) → PskTurned setup now.vars.setup.users own_users (next_id now.vars) octets accepted made out
+        → MethodTurned (record { turn = out.turn; after = record now.views { psk = Some out.after } })
+    with_psk is_psk _ (drops view c) = drops _ c
+    with_psk is_psk _ (requests packet tags view told) = requests packet tags _ (psk_current view _ _ is_psk refl told)
+    with_psk is_psk _ (ends good tags view told well) =
+        ends good tags _ (psk_current view _ _ is_psk refl told) (λ e. psk_succeeded (well e).0 is_psk (ap (λ (v : psk.View). Some v) (well e).1))
 
-    psk_offer-keeps : kind ≡ psk_kind → (view : Option psk.View)
-        → (let offer = psk_offer (side_of vars.setup) vars.setup.nonce (next_id vars) now.views view in
-        Keeps setup accepted made (offers entered vars offer.after id kind offer.packet))
-    psk_offer-keeps by_psk None = badly-keeps entered vars _ id fresh.own
-    psk_offer-keeps by_psk (Some view) = record {
-      stands = begun-keeps _ fresh.own fresh.unsure (asks_psk
-          (ap (λ (s : ServerSetup). is_among s.methods psk_kind) (sym fresh.own) ∙ (ap (λ (k : ℕ). is_among vars.setup.methods k) (sym by_psk) ∙ ordered))
-          (ap (λ (k : ℕ). Some k) by_psk)
-          (ap (λ (s : ServerSetup). Some (psk.asked (side_of s) s.nonce)) fresh.own));
-    }
+    psk_has : now.vars.current ≡ Some psk_kind → (view : Option psk.View) → now.views.psk ≡ view
+        → MethodTurned (psk_hears now.vars.setup.users (next_id now.vars) now.views octets view)
+    psk_has is_psk None at_view = drops now.views _
+    psk_has is_psk (Some view) at_view =
+        with_psk is_psk _
+        (psk_turned setup now.vars.setup.users own_users (next_id now.vars) octets accepted made view _
+        (told_by_psk setup now.vars.current now.views view accepted made is_psk at_view stands.tags)
+        (psk_server_steps_are_rows now.vars.setup.users (next_id now.vars) view octets))
 
-    gpsk_offer-keeps : kind ≡ gpsk_kind → (view : Option gpsk.View)
-        → (let offer = gpsk_offer (side_of vars.setup) vars.setup.nonce (next_id vars) now.views view in
-        Keeps setup accepted made (offers entered vars offer.after id kind offer.packet))
-    gpsk_offer-keeps by_gpsk None = badly-keeps entered vars _ id fresh.own
-    gpsk_offer-keeps by_gpsk (Some view) = record {
-      stands = begun-keeps _ fresh.own fresh.unsure (asks_gpsk
-          (ap (λ (s : ServerSetup). is_among s.methods gpsk_kind) (sym fresh.own) ∙ (ap (λ (k : ℕ). is_among vars.setup.methods k) (sym by_gpsk) ∙ ordered))
-          (ap (λ (k : ℕ). Some k) by_gpsk)
-          (ap (λ (s : ServerSetup). Some (gpsk.asked (side_of s) s.nonce)) fresh.own));
-    }
+    with_gpsk : now.vars.current ≡ Some gpsk_kind → (out : ServerOutcome gpsk.View) → GpskTurned setup now.vars.setup.users own_users (next_id now.vars) octets accepted made out
+        → MethodTurned (record { turn = out.turn; after = record now.views { gpsk = Some out.after } })
+    with_gpsk is_gpsk _ (drops view c) = drops _ c
+    with_gpsk is_gpsk _ (requests packet tags view told) = requests packet tags _ (gpsk_current view _ _ is_gpsk refl told)
+    with_gpsk is_gpsk _ (ends good tags view told well) =
+        ends good tags _ (gpsk_current view _ _ is_gpsk refl told) (λ e. gpsk_succeeded (well e).0 is_gpsk (ap (λ (v : gpsk.View). Some v) (well e).1))
 
-    offer-keeps : (let offer = server_offer (side_of vars.setup) vars.setup.nonce kind (next_id vars) now.views in
-        Keeps setup accepted made (offers entered vars offer.after id kind offer.packet))
-    unfolding server_offer
-    offer-keeps =
-        cond_both (kind == psk_kind) _ _ (λ (offer : Offer). Keeps setup accepted made (offers entered vars offer.after id kind offer.packet))
-        (λ by_psk. psk_offer-keeps (eqb-true kind psk_kind by_psk) now.views.psk)
-        (λ _. cond_both (kind == gpsk_kind) _ _ (λ (offer : Offer). Keeps setup accepted made (offers entered vars offer.after id kind offer.packet))
-        (λ by_gpsk. gpsk_offer-keeps (eqb-true kind gpsk_kind by_gpsk) now.views.gpsk)
-        (λ _. badly-keeps entered vars _ id fresh.own))
+    gpsk_has : now.vars.current ≡ Some gpsk_kind → (view : Option gpsk.View) → now.views.gpsk ≡ view
+        → MethodTurned (gpsk_hears now.vars.setup.users (next_id now.vars) now.views octets view)
+    gpsk_has is_gpsk None at_view = drops now.views _
+    gpsk_has is_gpsk (Some view) at_view =
+        with_gpsk is_gpsk _
+        (gpsk_turned setup now.vars.setup.users own_users (next_id now.vars) octets accepted made view _
+        (told_by_gpsk setup now.vars.current now.views view accepted made is_gpsk at_view stands.tags)
+        (gpsk_server_steps_are_rows now.vars.setup.users (next_id now.vars) view octets))
 
-  -- a server that selects a method has no tags
-  selects-fresh : is_end now.vars.state ≡ false → (kind : ℕ) (body : List ℕ) (entered : List State) (vars : ServerVariables) (desired : Option (List ℕ))
-      → Selects now kind body entered vars desired → IsFresh setup (record { vars = vars; views = now.views }) accepted made
-  selects-fresh going kind body _ _ _ (after_identity is_identity is_current) =
-      let fresh : IsFresh setup now accepted made = identity-fresh setup now accepted made going is_current stands in
-      record { own = fresh.own; unsure = fresh.unsure; none_accepted = fresh.none_accepted; none_made = fresh.none_made }
-  selects-fresh going kind body _ _ _ (after_nak is_nak waits) = proposed-fresh setup now accepted made going waits stands
-
-  module _ (going : is_end now.vars.state ≡ false) (id : ℕ) (octets : List ℕ) where
-    -- a method that ends without success
-    method_fails-keeps : (views : ServerViews) (tags : Tags) → length tags.accepted ≤ 1 → length tags.made ≤ 0
-        → Keeps setup accepted made (method_answers now id views (turn.Done false tags))
-    method_fails-keeps views tags one none = record {
-      stands = fails (accepted ++ tags.accepted) (made ++ tags.made) own-setup refl refl
-          (few_grow accepted made tags (server_few setup now accepted made stands) (going_one setup now accepted made going stands) one none);
-    }
-
-    -- a turn of EAP-PSK
-    module _ (by_psk : now.vars.current ≡ Some psk_kind) (view : psk.View) (at_view : now.views.psk ≡ Some view) where
-      psk_told : PskTells setup now view accepted made
-      psk_told = psk-tells setup now going by_psk view at_view accepted made stands
-
-      psk_row-keeps : (out : ServerOutcome psk.View) → psk_rows.PskServerRow now.vars.setup.users (next_id now.vars) view octets out
-          → Keeps setup accepted made (method_answers now id (psk_turn now.views out).after (psk_turn now.views out).turn)
-      psk_row-keeps out (psk_rows.drops cause) = discard-keeps _ cause
-      psk_row-keeps out (psk_rows.refuses _ _ _ _ _ _ _ _ _ _) =
-          method_fails-keeps _ _ (omega arith) (omega arith)
-      psk_row-keeps out (psk_rows.answers own nonce rand_s rand_p mac id_p user in_view is_read own_nonce known _) =
-          psk_answer-keeps setup now own-setup id octets by_psk view accepted made psk_told
-          own nonce rand_s rand_p mac id_p user in_view is_read own_nonce known _
-      psk_row-keeps out (psk_rows.ends_success login _ _ tag sealed in_view _ _ _ _ _ _ _ own_success _) =
-          psk_success-keeps setup now own-setup id octets by_psk view accepted made psk_told login (header_of octets) tag sealed in_view own_success
-      psk_row-keeps out (psk_rows.ends_failure _ _ _ _ _ _ _ _ _ _ _ _ _ _ _) =
-          method_fails-keeps _ _ (omega arith) (omega arith)
-
-    -- a turn of EAP-GPSK
-    module _ (by_gpsk : now.vars.current ≡ Some gpsk_kind) (view : gpsk.View) (at_view : now.views.gpsk ≡ Some view) where
-      gpsk_told : GpskTells setup now view accepted made
-      gpsk_told = gpsk-tells setup now going by_gpsk view at_view accepted made stands
-
-      gpsk_row-keeps : (out : ServerOutcome gpsk.View) → gpsk_rows.GpskServerRow now.vars.setup.users (next_id now.vars) view octets out
-          → Keeps setup accepted made (method_answers now id (gpsk_turn now.views out).after (gpsk_turn now.views out).turn)
-      gpsk_row-keeps out (gpsk_rows.drops cause) = discard-keeps _ cause
-      gpsk_row-keeps out (gpsk_rows.refuses own nonce _ _ _ _ _ _ _ _ in_view _ _ _ _ _ _ _) =
-          gpsk_refuse-keeps setup now own-setup id octets by_gpsk view accepted made gpsk_told own nonce in_view _
-      gpsk_row-keeps out (gpsk_rows.bars own nonce id_p _ rand_p _ _ suite _ _ user in_view _ _ _ _ _ _ _ _ _ _) =
-          gpsk_bar-keeps setup now own-setup id octets by_gpsk view accepted made gpsk_told
-          own nonce (gpsk_rows.login_from own nonce id_p user rand_p suite) in_view _ _ _
-      gpsk_row-keeps out (gpsk_rows.checks own nonce id_p id_s rand_p rand_s list suite pd mac user in_view is_read _ own_name own_nonce own_list offered known not_barred _ _) =
-          gpsk_check-keeps setup now own-setup id octets by_gpsk view accepted made gpsk_told
-          own nonce id_p id_s rand_p rand_s list suite pd mac user in_view is_read own_name own_nonce own_list offered known not_barred _
-      gpsk_row-keeps out (gpsk_rows.ends_refusing _ _ _ _ _ _) = method_fails-keeps _ _ (omega arith) (omega arith)
-      gpsk_row-keeps out (gpsk_rows.ends_barring _ _ _ _ _ _ _ _) = method_fails-keeps _ _ (omega arith) (omega arith)
-      gpsk_row-keeps out (gpsk_rows.ends_checked login _ _ in_view _ _ _) =
-          gpsk_success-keeps setup now own-setup id octets by_gpsk view accepted made gpsk_told login _ in_view
-
-    -- a turn of the current method
-    psk_hears-keeps : now.vars.current ≡ Some psk_kind → (view : Option psk.View) → now.views.psk ≡ view
-        → (let out = psk_hears now.vars.setup.users (next_id now.vars) now.views octets view in
-        Keeps setup accepted made (method_answers now id out.after out.turn))
-    psk_hears-keeps by_psk None at_view = discard-keeps _ _
-    psk_hears-keeps by_psk (Some view) at_view =
-        psk_row-keeps by_psk view at_view _ (psk_server_steps_are_rows now.vars.setup.users (next_id now.vars) view octets)
-
-    gpsk_hears-keeps : now.vars.current ≡ Some gpsk_kind → (view : Option gpsk.View) → now.views.gpsk ≡ view
-        → (let out = gpsk_hears now.vars.setup.users (next_id now.vars) now.views octets view in
-        Keeps setup accepted made (method_answers now id out.after out.turn))
-    gpsk_hears-keeps by_gpsk None at_view = discard-keeps _ _
-    gpsk_hears-keeps by_gpsk (Some view) at_view =
-        gpsk_row-keeps by_gpsk view at_view _ (gpsk_server_steps_are_rows now.vars.setup.users (next_id now.vars) view octets)
-
-    turn-keeps : (kind : ℕ) → now.vars.current ≡ Some kind → (answered : ServerTurn) (views : ServerViews)
-        → server_turn now.vars.setup.users (next_id now.vars) kind now.views octets ≡ record { turn = answered; after = views }
-        → Keeps setup accepted made (method_answers now id views answered)
+    method_turned : (kind : ℕ) → now.vars.current ≡ Some kind → MethodTurned (server_turn now.vars.setup.users (next_id now.vars) kind now.views octets)
     unfolding server_turn
-    turn-keeps kind is_current answered views turned =
-        subst (λ (out : ServerOutcome ServerViews). Keeps setup accepted made (method_answers now id out.after out.turn)) turned
-        (cond_both (kind == psk_kind) _ _ (λ (out : ServerOutcome ServerViews). Keeps setup accepted made (method_answers now id out.after out.turn))
-        (λ by_psk. psk_hears-keeps (is_current ∙ ap (λ (k : ℕ). Some k) (eqb-true kind psk_kind by_psk)) now.views.psk refl)
-        (λ _. cond_both (kind == gpsk_kind) _ _ (λ (out : ServerOutcome ServerViews). Keeps setup accepted made (method_answers now id out.after out.turn))
-        (λ by_gpsk. gpsk_hears-keeps (is_current ∙ ap (λ (k : ℕ). Some k) (eqb-true kind gpsk_kind by_gpsk)) now.views.gpsk refl)
-        (λ _. discard-keeps _ _)))
+    method_turned kind is_current =
+        cond_both (kind == psk_kind) _ _ MethodTurned
+        (λ is_psk. psk_has (is_current ∙ ap (λ (k : ℕ). Some k) (eqb-true kind psk_kind is_psk)) now.views.psk refl)
+        (λ _. cond_both (kind == gpsk_kind) _ _ MethodTurned
+        (λ is_gpsk. gpsk_has (is_current ∙ ap (λ (k : ℕ). Some k) (eqb-true kind gpsk_kind is_gpsk)) now.views.gpsk refl)
+        (λ _. drops now.views _))
 
-  row-keeps : (input : ServerInput) (out : ServerAnswer) → (input ≡ start → ⊥) → rows.ServerRow now input out → Keeps setup accepted made out
-  row-keeps _ _ later (rows.ended bytes over) = discard-keeps _ _
-  row-keeps _ _ later (rows.rests over) = record { stands = untagged setup now accepted made stands }
-  row-keeps _ _ later (rows.goes_on is_begun) = absurd (later refl)
-  row-keeps _ _ later (rows.drops bytes path c going why) = discard-keeps path c
-  row-keeps _ _ later (rows.starts unstarted) = absurd (later refl)
-  row-keeps _ _ later (rows.resends going in_time) =
-      record { stands = untagged setup _ accepted made (stays setup now (now.vars.retrans_count + 1) accepted made stands) }
-  row-keeps _ _ later (rows.times_out going late) = record {
-    stands = fails (accepted ++ []) (made ++ []) own-setup refl refl (few_stay accepted made (server_few setup now accepted made stands));
+  after_request : (packet : List ℕ) (tags : Tags) (views : ServerViews) → MethodTurned (record { turn = turn.Request packet tags; after = views })
+      → (is_success now.vars.state ≡ true → ⊥)
+      → ServerStands setup (record { vars = record (with_request now.vars packet) { progress = progress.Continue }; views = views })
+      (accepted ++ tags.accepted) (made ++ tags.made)
+  after_request _ _ _ (requests _ _ _ told) unsure =
+      record { own = stands.own; tags = told; proposed = λ e. absurd (false≢true e); sure = λ e. absurd (unsure e) }
+
+  after_end : (good : Bool) (tags : Tags) (views : ServerViews) → MethodTurned (record { turn = turn.Done good tags; after = views })
+      → (s : State) → (is_success s ≡ true → good ≡ true)
+      → ServerStands setup (record { vars = record now.vars { progress = progress.End; state = s }; views = views }) (accepted ++ tags.accepted) (made ++ tags.made)
+  after_end _ _ _ (ends _ _ _ told well) s sure =
+      record { own = stands.own; tags = told; proposed = λ e. absurd (false≢true e); sure = λ e. well (sure e) }
+
+  -- a server that is to propose a method
+  record Proposing (vars : ServerVariables) : Type 0 where
+    pub own : vars.setup ≡ setup
+    pub none : AreNone accepted made
+    pub unsure : is_success vars.state ≡ true → ⊥
+    pub gives_up : ServerStands setup (record { vars = record vars { state = state.Failure }; views = now.views }) accepted made
+
+  proposing : (is_success now.vars.state ≡ true → ⊥) → (kind : ℕ) (body : List ℕ) (entered : List State) (vars : ServerVariables) (desired : Option (List ℕ))
+      → Selects now kind body entered vars desired → Proposing vars
+  proposing unsure kind body _ _ _ (after_identity is_identity is_current) = record {
+    own = stands.own;
+    none = in_identity setup now.vars.current now.views accepted made is_current stands.tags;
+    unsure = unsure;
+    gives_up = remains _ _ _ (λ e. absurd (false≢true e)) (λ e. absurd (false≢true e));
   }
-  row-keeps _ _ later (rows.proposes bytes id kind body entered vars desired next packet views heard selects next_is) =
-      let fresh = selects-fresh heard.going kind body entered vars desired selects in
-      subst (λ (offer : Offer). Keeps setup accepted made (offers entered vars offer.after id next offer.packet)) next_is.is_offer
-      (offer-keeps entered vars fresh id next (next_is_ordered vars.setup.methods vars.proposed desired next next_is.is_next))
-  row-keeps _ _ later (rows.proposes_without bytes id kind body entered vars desired next views heard selects next_is) =
-      badly-keeps entered vars views id (selects-fresh heard.going kind body entered vars desired selects).own
-  row-keeps _ _ later (rows.proposes_none bytes id kind body entered vars desired heard selects none) =
-      badly-keeps entered vars now.views id (selects-fresh heard.going kind body entered vars desired selects).own
-  row-keeps _ _ later (rows.requests bytes id kind body packet tags views heard turned) =
-      turn-keeps heard.going id _ kind turned.is_current _ views turned.is_turn
-  row-keeps _ _ later (rows.succeeds bytes id kind body tags views heard turned) = turn-keeps heard.going id _ kind turned.is_current _ views turned.is_turn
-  row-keeps _ _ later (rows.method_fails bytes id kind body tags views heard turned) = turn-keeps heard.going id _ kind turned.is_current _ views turned.is_turn
+  proposing unsure kind body _ _ _ (after_nak is_nak waits) = record {
+    own = stands.own;
+    none = stands.proposed waits;
+    unsure = unsure;
+    gives_up = remains _ _ _ stands.proposed (λ e. absurd (false≢true e));
+  }
+
+-- a server without tags offers a method, or has no object of it
+proposes_stands : (setup : ServerSetup) (vars : ServerVariables) (views : ServerViews) (kind : ℕ) (packet : List ℕ) (after : ServerViews) (accepted made : List TagRecord)
+    → vars.setup ≡ setup → AreNone accepted made → (is_success vars.state ≡ true → ⊥)
+    → Offers setup kind views (record { packet = Some packet; after = after })
+    → ServerStands setup
+    (record { vars = record (with_request vars packet) { current = Some kind; progress = progress.Proposed; proposed = vars.proposed ++ kind ∷ [] }; views = after })
+    accepted made
+proposes_stands setup vars views kind _ _ _ _ own untagged unsure (asks _ _ tags) =
+    record { own = own; tags = tags; proposed = λ _. untagged; sure = λ e. absurd (unsure e) }
+
+lacking_stays : (setup : ServerSetup) (vars : ServerVariables) (views : ServerViews) (kind : ℕ) (after : ServerViews) (accepted made : List TagRecord)
+    → Offers setup kind views (record { packet = None; after = after })
+    → ServerStands setup (record { vars = vars; views = views }) accepted made → ServerStands setup (record { vars = vars; views = after }) accepted made
+lacking_stays setup vars views kind _ accepted made lacks stands = stands
+
+-- the offer by a server with the setup's settings
+own_offer : (setup : ServerSetup) (vars : ServerVariables) (views : ServerViews) (kind : ℕ) → vars.setup ≡ setup → is_among vars.setup.methods kind ≡ true
+    → Offers setup kind views (server_offer (side_of vars.setup) vars.setup.nonce kind (next_id vars) views)
+own_offer setup vars views kind own ordered =
+    subst (λ (s : ServerSetup). Offers setup kind views (server_offer (side_of s) s.nonce kind (next_id vars) views)) (sym own)
+    (offers_so setup kind (next_id vars) views (subst (λ (s : ServerSetup). is_among s.methods kind ≡ true) own ordered))
+
+module _ (setup : ServerSetup) (now : ServerNow) (accepted made : List TagRecord) (stands : ServerStands setup now accepted made) where
+  row_keeps : (input : ServerInput) (out : ServerAnswer) → (input ≡ start → ⊥) → rows.ServerRow now input out → Keeps setup accepted made out
+  row_keeps _ _ later (rows.ended bytes over) = quiet setup accepted made _ refl stands
+  row_keeps _ _ later (rows.rests over) = quiet setup accepted made _ refl stands
+  row_keeps _ _ later (rows.goes_on is_begun) = absurd (later refl)
+  row_keeps _ _ later (rows.drops bytes path c going why) = quiet setup accepted made _ refl stands
+  row_keeps _ _ later (rows.starts unstarted) = absurd (later refl)
+  row_keeps _ _ later (rows.resends going in_time) = quiet setup accepted made _ refl (remains setup now accepted made stands _ _ _ stands.proposed stands.sure)
+  row_keeps _ _ later (rows.times_out going late) =
+      quiet setup accepted made _ refl (remains setup now accepted made stands _ _ _ stands.proposed (λ e. absurd (false≢true e)))
+  row_keeps _ _ later (rows.proposes bytes id kind body entered vars desired next packet views heard selects next_is) =
+      (let at = proposing setup now accepted made stands (goes_on now.vars.state heard.going) kind body entered vars desired selects in
+      quiet setup accepted made _ refl
+      (proposes_stands setup vars now.views next packet views accepted made at.own at.none at.unsure
+      (subst (Offers setup next now.views) next_is.is_offer
+      (own_offer setup vars now.views next at.own (next_is_ordered vars.setup.methods vars.proposed desired next next_is.is_next)))))
+  row_keeps _ _ later (rows.proposes_without bytes id kind body entered vars desired next views heard selects next_is) =
+      (let at = proposing setup now accepted made stands (goes_on now.vars.state heard.going) kind body entered vars desired selects in
+      quiet setup accepted made _ refl
+      (lacking_stays setup _ now.views next views accepted made
+      (subst (Offers setup next now.views) next_is.is_offer
+      (own_offer setup vars now.views next at.own (next_is_ordered vars.setup.methods vars.proposed desired next next_is.is_next)))
+      at.gives_up))
+  row_keeps _ _ later (rows.proposes_none bytes id kind body entered vars desired heard selects none) =
+      quiet setup accepted made _ refl
+      (proposing setup now accepted made stands (goes_on now.vars.state heard.going) kind body entered vars desired selects).gives_up
+  row_keeps _ _ later (rows.requests bytes id kind body packet tags views heard turned) = record {
+    stands = after_request setup now accepted made stands packet tags views
+        (subst (MethodTurned setup now accepted made stands) turned.is_turn (method_turned setup now accepted made stands _ kind turned.is_current))
+        (goes_on now.vars.state heard.going);
+  }
+  row_keeps _ _ later (rows.succeeds bytes id kind body tags views heard turned) = record {
+    stands = after_end setup now accepted made stands true tags views
+        (subst (MethodTurned setup now accepted made stands) turned.is_turn (method_turned setup now accepted made stands _ kind turned.is_current)) _ (λ _. refl);
+  }
+  row_keeps _ _ later (rows.method_fails bytes id kind body tags views heard turned) = record {
+    stands = after_end setup now accepted made stands false tags views
+        (subst (MethodTurned setup now accepted made stands) turned.is_turn (method_turned setup now accepted made stands _ kind turned.is_current)) _ (λ e. e);
+  }
 
 -- every input after the start keeps what stands
 pub server_keeps : (setup : ServerSetup) (now : ServerNow) (accepted made : List TagRecord) (input : ServerInput) → (input ≡ start → ⊥)
     → ServerStands setup now accepted made
     → (let out = server_takes now input in ServerStands setup out.after (accepted ++ out.step.tags.accepted) (made ++ out.step.tags.made))
 server_keeps setup now accepted made input later stands =
-    (row-keeps setup now accepted made stands input _ later (server_answers_are_rows now input)).stands
+    (row_keeps setup now accepted made stands input _ later (server_answers_are_rows now input)).stands
+
+-- a server has accepted at most two tags and made at most two
+psk_few : (setup : ServerSetup) (view : psk.View) (accepted made : List TagRecord) → PskServerTags setup view accepted made → AreFew accepted made
+psk_few setup _ _ _ psk_refused = record { few_accepted = omega arith; few_made = omega arith }
+psk_few setup _ _ _ told = record { few_accepted = omega arith; few_made = omega arith }
+
+gpsk_few : (setup : ServerSetup) (view : gpsk.View) (accepted made : List TagRecord) → GpskServerTags setup view accepted made → AreFew accepted made
+gpsk_few setup _ _ _ gpsk_refused = record { few_accepted = omega arith; few_made = omega arith }
+gpsk_few setup _ _ _ told = record { few_accepted = omega arith; few_made = omega arith }
+
+tags_few : (setup : ServerSetup) (current : Option ℕ) (views : ServerViews) (accepted made : List TagRecord) → ServerTags setup current views accepted made → AreFew accepted made
+tags_few setup current views _ _ (none_current none) = record { few_accepted = omega arith; few_made = omega arith }
+tags_few setup current views _ _ (identity_current is_current) = record { few_accepted = omega arith; few_made = omega arith }
+tags_few setup current views _ _ (psk_current view accepted made is_current in_view told) = psk_few setup view accepted made told
+tags_few setup current views _ _ (gpsk_current view accepted made is_current in_view told) = gpsk_few setup view accepted made told
+
+pub server_few : (setup : ServerSetup) (now : ServerNow) (accepted made : List TagRecord) → ServerStands setup now accepted made → AreFew accepted made
+server_few setup now accepted made stands = tags_few setup now.vars.current now.views accepted made stands.tags

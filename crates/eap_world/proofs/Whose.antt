@@ -1,5 +1,5 @@
 -- What two ends in SUCCESS report over an honest book is their own: names, key and suite.
-use Rattle.std.proofs.Common.{◌≡◌, ℕ, List, [], true, Some, refl, sym, ap, subst, ◌∙◌, arith}
+use Rattle.std.proofs.Common.{◌≡◌, ℕ, List, [], true, false, Some, refl, sym, ap, subst, ◌∙◌, arith}
 use Rattle.eap_base.specs.declared.setup.PeerSetup.{PeerSetup}
 use Rattle.eap_base.specs.declared.setup.Setup.{Setup}
 use Rattle.eap_base.specs.declared.event.Event.{Event}
@@ -66,7 +66,7 @@ module _ (setup : Setup) (w : WorldNow) (login : psk_peer.Login) (facts : PskBeg
 
 -- by EAP-GPSK
 module _ (setup : Setup) (w : WorldNow) (login : gpsk_peer.Login) (list : List ℕ) (facts : GpskBegun setup.peer login list)
-    (other : gpsk_server.Login) (pd mac : List ℕ) (checked : GpskChecked setup.server other pd mac) (same : gpsk.IsSame login list other) where
+    (other : gpsk_server.Login) (pd mac : List ℕ) (checked : GpskChecked setup.server other false pd mac) (same : gpsk.IsSame login list other) where
   gpsk_server_name : login.id_s ≡ setup.server.name
   unfolding side_of
   gpsk_server_name = same.id_s ∙ ap (λ own. own.id_s) checked.own
@@ -98,7 +98,7 @@ module _ (setup : Setup) (w : WorldNow) (login : gpsk_peer.Login) (list : List �
         user = checked.user;
         known = ap (λ (id : List ℕ). user_of setup.server.users id gpsk_kind) (sym name ∙ same.id_p) ∙ checked.known;
         key = sym checked.key ∙ (sym same.psk ∙ own_key setup.peer gpsk_kind login.cred facts.cred);
-        welcome = checked.welcome;
+        welcome = checked.standing;
         first_suite = λ e. gpsk_suite;
       }
 

@@ -1,24 +1,22 @@
--- What holds of the peer at every moment of a run, with the tags that it has accepted and made: the tags
--- are told exactly by its view.
-use Rattle.std.specs.Prelude.{◌≡◌, ℕ, List, [], ◌∷◌, true, false, None, Some, Ok}
+-- What holds of the peer at every moment of a run, with the tags that it has accepted and made: the view of
+-- its method tells them exactly, also where the login has failed.
+use Rattle.std.specs.Prelude.{◌≡◌, ℕ, List, [], ◌∷◌, Bool, true, false, if◌then◌else◌, Option, None, Some, Ok}
 use Rattle.eap_base.specs.declared.setup.PeerSetup.{PeerSetup}
 use Rattle.eap_base.specs.Setup.{psk_kind, gpsk_kind, is_among}
-use Rattle.gpsk_messages.specs.Message.{Message, gpsk1}
+use Rattle.gpsk_messages.specs.Message.{Message, gpsk1, gpsk3, protected_fail}
 use Rattle.gpsk_messages.specs.Reading as gpsk_reading
 use Rattle.psk_messages.specs.Message.{psk1}
 use Rattle.psk_messages.specs.Reading as psk_reading
 use Rattle.login_policy.specs.Policy.{picked_suite}
 use Rattle.eap_method.specs.declared.tags.TagRecord.{TagRecord}
-use Rattle.eap_method.specs.declared.values.Decision.TheVariants.{Fail, CondSucc, UncondSucc}
 use Rattle.eap_method.specs.GpskPeer as gpsk
 use Rattle.eap_method.specs.GpskTags.{sk_record}
 use Rattle.eap_method.specs.Names.{accepts_name}
-use Rattle.eap_method.specs.Peer.{credential_for, views_begun}
+use Rattle.eap_method.specs.Peer.{PeerViews, credential_for}
 use Rattle.eap_method.specs.PskPeer as psk
-use Rattle.eap_method.specs.PskTags.{ak_record}
-use Rattle.peer_machine.specs.PeerTable.{PeerNow}
+use Rattle.eap_method.specs.PskTags.{ak_record, done_success, done_failure}
+use Rattle.peer_machine.specs.PeerTable.{PeerNow, is_fail}
 use Rattle.eap_world.specs.Verdict.{is_success}
-use Rattle.eap_world.specs.Records.{AreFew}
 
 -- a login by EAP-PSK that the peer has begun: what it keeps is its setup's, or was read of a PSK-1
 pub record PskBegun (setup : PeerSetup) (login : psk.Login) : Type 0 where
@@ -32,6 +30,22 @@ pub record PskBegun (setup : PeerSetup) (login : psk.Login) : Type 0 where
 -- the record of its PSK-2
 abbrev pub psk2_record : psk.Login → TagRecord
 psk2_record login = ak_record login.cred.psk (psk.mac_p_covers login) (psk.mac_p_of login)
+
+-- R that answers a PSK-3 in PSK-4
+abbrev pub result_for : Bool → ℕ
+result_for good = if good then done_success else done_failure
+
+-- which tags a view of EAP-PSK tells
+pub data PskPeerTags (setup : PeerSetup) : psk.View → List TagRecord → List TagRecord → Type 0 where
+  psk_unset : PskPeerTags setup psk.unset [] []
+  psk_fresh : (allowed : is_among setup.methods psk_kind ≡ true)
+      → PskPeerTags setup (psk.fresh (credential_for setup psk_kind) setup.nonce) [] []
+  -- PSK-2 is sent
+  psk_waits : (login : psk.Login) (facts : PskBegun setup login) → PskPeerTags setup (psk.wait login) [] (psk2_record login ∷ [])
+  -- PSK-3 is accepted, and answered by PSK-4 with the same result
+  psk_over : (login : psk.Login) (good : Bool) (header mac tag : List ℕ) (sealed id : ℕ) (facts : PskBegun setup login)
+      → PskPeerTags setup (psk.over login good) (psk.psk3_records login header mac tag sealed)
+      (psk2_record login ∷ psk.psk4_record login id (result_for good))
 
 -- a login by EAP-GPSK that the peer has begun: what it keeps is its setup's, or was read of a GPSK-1
 pub record GpskBegun (setup : PeerSetup) (login : gpsk.Login) (list : List ℕ) : Type 0 where
@@ -47,39 +61,49 @@ pub record GpskBegun (setup : PeerSetup) (login : gpsk.Login) (list : List ℕ) 
 abbrev pub gpsk2_record : gpsk.Login → List ℕ → TagRecord
 gpsk2_record login list = sk_record login.cred.psk (gpsk.gpsk2_of login list)
 
-pub data PeerStands (setup : PeerSetup) (now : PeerNow) : List TagRecord → List TagRecord → Type 0 where
-  -- no method is selected
-  begins : (own : now.vars.setup ≡ setup) (none : now.vars.selected ≡ None) (begun : now.views ≡ views_begun setup)
-      (fails : now.vars.decision ≡ Fail) (unsure : is_success now.vars.state ≡ false)
-      → PeerStands setup now [] []
-  -- it has sent PSK-2
-  psk_waits : (login : psk.Login) (own : now.vars.setup ≡ setup) (is_selected : now.vars.selected ≡ Some psk_kind)
-      (in_view : now.views.psk ≡ psk.wait login) (facts : PskBegun setup login)
-      (fails : now.vars.decision ≡ Fail) (unsure : is_success now.vars.state ≡ false)
-      → PeerStands setup now [] (psk2_record login ∷ [])
-  -- EAP-PSK has failed
-  psk_fails : (login : psk.Login) (accepted made : List TagRecord) (own : now.vars.setup ≡ setup)
-      (is_selected : now.vars.selected ≡ Some psk_kind) (in_view : now.views.psk ≡ psk.over login false)
-      (fails : now.vars.decision ≡ Fail) (unsure : is_success now.vars.state ≡ false) (few : AreFew accepted made)
-      → PeerStands setup now accepted made
-  -- EAP-PSK has succeeded: both tags of a PSK-3 were accepted
-  psk_succeeds : (login : psk.Login) (header mac tag : List ℕ) (sealed id : ℕ) (own : now.vars.setup ≡ setup)
-      (is_selected : now.vars.selected ≡ Some psk_kind) (in_view : now.views.psk ≡ psk.over login true)
-      (facts : PskBegun setup login) (decided : now.vars.decision ≡ UncondSucc)
-      → PeerStands setup now (psk.psk3_records login header mac tag sealed) (psk2_record login ∷ psk.psk4_record login id 2)
-  -- it has sent GPSK-2
-  gpsk_waits : (login : gpsk.Login) (list : List ℕ) (own : now.vars.setup ≡ setup) (is_selected : now.vars.selected ≡ Some gpsk_kind)
-      (in_view : now.views.gpsk ≡ gpsk.wait login) (facts : GpskBegun setup login list)
-      (fails : now.vars.decision ≡ Fail) (unsure : is_success now.vars.state ≡ false)
-      → PeerStands setup now [] (gpsk2_record login list ∷ [])
-  -- EAP-GPSK has failed
-  gpsk_fails : (login : gpsk.Login) (accepted made : List TagRecord) (own : now.vars.setup ≡ setup)
-      (is_selected : now.vars.selected ≡ Some gpsk_kind) (in_view : now.views.gpsk ≡ gpsk.over login false)
-      (fails : now.vars.decision ≡ Fail) (unsure : is_success now.vars.state ≡ false) (few : AreFew accepted made)
-      → PeerStands setup now accepted made
-  -- EAP-GPSK has succeeded: the MAC of a GPSK-3 was accepted
-  gpsk_succeeds : (login : gpsk.Login) (list : List ℕ) (message : Message) (own : now.vars.setup ≡ setup)
-      (is_selected : now.vars.selected ≡ Some gpsk_kind) (in_view : now.views.gpsk ≡ gpsk.over login true)
-      (facts : GpskBegun setup login list) (decided : now.vars.decision ≡ CondSucc)
-      → PeerStands setup now (sk_record login.cred.psk message ∷ [])
+-- the GPSK-3 that it accepted
+abbrev pub gpsk3_taken : gpsk.Login → List ℕ → List ℕ → Message
+gpsk3_taken login pd mac = gpsk3 login.nonce login.rand_s login.id_s login.suite pd mac
+
+-- which tags a view of EAP-GPSK tells; a login that has failed had a GPSK-Fail or a GPSK-Protected-Fail
+pub data GpskPeerTags (setup : PeerSetup) : gpsk.View → List TagRecord → List TagRecord → Type 0 where
+  gpsk_unset : GpskPeerTags setup gpsk.unset [] []
+  gpsk_fresh : (allowed : is_among setup.methods gpsk_kind ≡ true)
+      → GpskPeerTags setup (gpsk.fresh (credential_for setup gpsk_kind) setup.nonce) [] []
+  -- GPSK-2 is sent
+  gpsk_waits : (login : gpsk.Login) (list : List ℕ) (facts : GpskBegun setup login list)
+      → GpskPeerTags setup (gpsk.wait login) [] (gpsk2_record login list ∷ [])
+  -- GPSK-3 is accepted, and answered by GPSK-4
+  gpsk_confirmed : (login : gpsk.Login) (list pd mac : List ℕ) (facts : GpskBegun setup login list)
+      → GpskPeerTags setup (gpsk.over login true) (sk_record login.cred.psk (gpsk3_taken login pd mac) ∷ [])
       (gpsk2_record login list ∷ sk_record login.cred.psk (gpsk.gpsk4_of login) ∷ [])
+  -- GPSK-Fail has no tag
+  gpsk_failed : (login : gpsk.Login) (list : List ℕ) (facts : GpskBegun setup login list)
+      → GpskPeerTags setup (gpsk.over login false) [] (gpsk2_record login list ∷ [])
+  -- GPSK-Protected-Fail is accepted, and answered by one with the same code
+  gpsk_barred : (login : gpsk.Login) (list : List ℕ) (code : ℕ) (mac : List ℕ) (facts : GpskBegun setup login list)
+      → GpskPeerTags setup (gpsk.over login false) (sk_record login.cred.psk (protected_fail code mac) ∷ [])
+      (gpsk2_record login list ∷ sk_record login.cred.psk (gpsk.protected_fail_of login code) ∷ [])
+
+-- the tags of a peer are those of its selected method; there are none before it selects one
+pub data PeerTags (setup : PeerSetup) (selected : Option ℕ) (views : PeerViews) : List TagRecord → List TagRecord → Type 0 where
+  none_selected : (unselected : selected ≡ None) (psk_told : PskPeerTags setup views.psk [] []) (gpsk_told : GpskPeerTags setup views.gpsk [] [])
+      → PeerTags setup selected views [] []
+  psk_selected : (accepted made : List TagRecord) (is_selected : selected ≡ Some psk_kind) (told : PskPeerTags setup views.psk accepted made)
+      → PeerTags setup selected views accepted made
+  gpsk_selected : (accepted made : List TagRecord) (is_selected : selected ≡ Some gpsk_kind) (told : GpskPeerTags setup views.gpsk accepted made)
+      → PeerTags setup selected views accepted made
+
+-- the selected method has succeeded
+pub data HasSucceeded (selected : Option ℕ) (views : PeerViews) : Type 0 where
+  psk_succeeded : (login : psk.Login) (is_selected : selected ≡ Some psk_kind) (in_view : views.psk ≡ psk.over login true)
+      → HasSucceeded selected views
+  gpsk_succeeded : (login : gpsk.Login) (is_selected : selected ≡ Some gpsk_kind) (in_view : views.gpsk ≡ gpsk.over login true)
+      → HasSucceeded selected views
+
+pub record PeerStands (setup : PeerSetup) (now : PeerNow) (accepted made : List TagRecord) : Type 0 where
+  pub own : now.vars.setup ≡ setup
+  pub tags : PeerTags setup now.vars.selected now.views accepted made
+  -- a decision other than FAIL comes of a success, and SUCCESS of such a decision
+  pub decided : is_fail now.vars.decision ≡ false → HasSucceeded now.vars.selected now.views
+  pub sure : is_success now.vars.state ≡ true → is_fail now.vars.decision ≡ false

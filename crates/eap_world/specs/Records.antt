@@ -31,3 +31,7 @@ pub record AreIn (some all : List TagRecord) : Type 0 where
 pub record AreFew (accepted made : List TagRecord) : Type 0 where
   pub few_accepted : length accepted ≤ 2
   pub few_made : length made ≤ 2
+
+-- no tag at all
+pub data AreNone : List TagRecord → List TagRecord → Type 0 where
+  untagged : AreNone [] []

@@ -1,12 +1,12 @@
--- What holds of the server at every moment of a run, with the tags that it has accepted and made: the
--- tags are told exactly by the view of its current method.
-use Rattle.std.specs.Prelude.{◌≡◌, ℕ, List, [], ◌∷◌, true, false, None, Some, Ok}
+-- What holds of the server at every moment of a run, with the tags that it has accepted and made: the view
+-- of its current method tells them exactly, also where the login has failed.
+use Rattle.std.specs.Prelude.{◌≡◌, ℕ, List, [], ◌∷◌, Bool, true, false, Option, None, Some, Ok}
 use Rattle.eap_base.specs.declared.setup.ServerSetup.{ServerSetup}
 use Rattle.eap_base.specs.declared.users.User.{User}
 use Rattle.eap_base.specs.Setup.{psk_kind, gpsk_kind, is_among}
 use Rattle.eap_base.specs.Suite.{suite_number}
 use Rattle.eap_base.specs.Users.{user_of}
-use Rattle.gpsk_messages.specs.Message.{Message, gpsk2}
+use Rattle.gpsk_messages.specs.Message.{Message, gpsk2, gpsk4, protected_fail}
 use Rattle.gpsk_messages.specs.Reading as gpsk_reading
 use Rattle.psk_messages.specs.Message.{psk2}
 use Rattle.psk_messages.specs.Reading as psk_reading
@@ -15,11 +15,10 @@ use Rattle.eap_method.specs.GpskServer as gpsk
 use Rattle.eap_method.specs.GpskTags.{sk_record, suite_list}
 use Rattle.eap_method.specs.PskServer as psk
 use Rattle.eap_method.specs.PskTags.{ak_record, tek_record}
-use Rattle.eap_method.specs.Server.{side_of}
-use Rattle.eap_method.specs.Steps.{is_end}
+use Rattle.eap_method.specs.Server.{ServerViews, side_of}
 use Rattle.server_machine.specs.ServerTable.{ServerNow, identity, is_proposed}
 use Rattle.eap_world.specs.Verdict.{is_success}
-use Rattle.eap_world.specs.Records.{AreFew}
+use Rattle.eap_world.specs.Records.{AreNone}
 
 -- a login by EAP-PSK of a user: what the server keeps is its setup's, or was read of a PSK-2
 pub record PskChecked (setup : ServerSetup) (login : psk.Login) : Type 0 where
@@ -38,15 +37,27 @@ pub record PskChecked (setup : ServerSetup) (login : psk.Login) : Type 0 where
 abbrev pub psk2_record : psk.Login → List ℕ → TagRecord
 psk2_record login mac = ak_record login.psk (psk.mac_p_covers login) mac
 
--- a login by EAP-GPSK of a user: what the server keeps is its setup's, or was read of a GPSK-2
-pub record GpskChecked (setup : ServerSetup) (login : gpsk.Login) (pd mac : List ℕ) : Type 0 where
+-- which tags a view of EAP-PSK tells
+pub data PskServerTags (setup : ServerSetup) : psk.View → List TagRecord → List TagRecord → Type 0 where
+  psk_asked : (ordered : is_among setup.methods psk_kind ≡ true) → PskServerTags setup (psk.asked (side_of setup) setup.nonce) [] []
+  -- PSK-2 is accepted, and answered by PSK-3
+  psk_checked : (login : psk.Login) (id : ℕ) (facts : PskChecked setup login)
+      → PskServerTags setup (psk.checked login) (psk2_record login facts.mac ∷ []) (psk.psk3_records login id)
+  -- the user is unknown
+  psk_refused : PskServerTags setup (psk.refused (side_of setup) setup.nonce) [] []
+  -- PSK-4 is accepted too
+  psk_over : (login : psk.Login) (good : Bool) (header tag : List ℕ) (sealed id : ℕ) (facts : PskChecked setup login) (r_sent : good ≡ true → login.r ≡ 2)
+      → PskServerTags setup (psk.over login good) (psk2_record login facts.mac ∷ tek_record login.psk 1 header sealed tag ∷ []) (psk.psk3_records login id)
+
+-- a login by EAP-GPSK of a user, barred or not: what the server keeps is its setup's, or was read of a GPSK-2
+pub record GpskChecked (setup : ServerSetup) (login : gpsk.Login) (barred : Bool) (pd mac : List ℕ) : Type 0 where
   pub ordered : is_among setup.methods gpsk_kind ≡ true
   pub own : login.own ≡ side_of setup
   pub nonce : login.nonce ≡ setup.nonce
   pub user : User
   pub known : user_of setup.users login.id_p gpsk_kind ≡ Some user
   pub key : login.psk ≡ user.psk
-  pub welcome : user.barred ≡ false
+  pub standing : user.barred ≡ barred
   pub offered : is_among setup.suites (suite_number login.suite) ≡ true
   pub body : List ℕ
   pub is_read : gpsk_reading.read_of None body
@@ -56,47 +67,49 @@ pub record GpskChecked (setup : ServerSetup) (login : gpsk.Login) (pd mac : List
 abbrev pub gpsk2_taken : gpsk.Login → List ℕ → List ℕ → Message
 gpsk2_taken login pd mac = gpsk2 login.id_p login.own.id_s login.rand_p login.nonce (suite_list login.own.suites) login.suite pd mac
 
--- the current method has neither accepted nor made a tag
-pub data HasNoTags (setup : ServerSetup) (now : ServerNow) : Type 0 where
-  before : (none : now.vars.current ≡ None) → HasNoTags setup now
-  asks_identity : (is_identity : now.vars.current ≡ Some identity) → HasNoTags setup now
-  asks_psk : (ordered : is_among setup.methods psk_kind ≡ true) (is_current : now.vars.current ≡ Some psk_kind)
-      (in_view : now.views.psk ≡ Some (psk.asked (side_of setup) setup.nonce)) → HasNoTags setup now
-  asks_gpsk : (ordered : is_among setup.methods gpsk_kind ≡ true) (is_current : now.vars.current ≡ Some gpsk_kind)
-      (in_view : now.views.gpsk ≡ Some (gpsk.asked (side_of setup) setup.nonce)) → HasNoTags setup now
-  refuses_gpsk : (is_current : now.vars.current ≡ Some gpsk_kind) (gone_on : is_proposed now.vars.progress ≡ false)
-      (in_view : now.views.gpsk ≡ Some (gpsk.refusing (side_of setup) setup.nonce)) → HasNoTags setup now
-  ended : (over : is_end now.vars.state ≡ true) → HasNoTags setup now
+-- which tags a view of EAP-GPSK tells
+pub data GpskServerTags (setup : ServerSetup) : gpsk.View → List TagRecord → List TagRecord → Type 0 where
+  gpsk_asked : (ordered : is_among setup.methods gpsk_kind ≡ true) → GpskServerTags setup (gpsk.asked (side_of setup) setup.nonce) [] []
+  -- the user is unknown: GPSK-Fail, both ways, has no tag
+  gpsk_refusing : GpskServerTags setup (gpsk.refusing (side_of setup) setup.nonce) [] []
+  gpsk_refused : GpskServerTags setup (gpsk.refused (side_of setup) setup.nonce) [] []
+  -- GPSK-2 of a barred user is accepted, and answered by GPSK-Protected-Fail
+  gpsk_barring : (login : gpsk.Login) (pd mac : List ℕ) (facts : GpskChecked setup login true pd mac)
+      → GpskServerTags setup (gpsk.barring login) (sk_record login.psk (gpsk2_taken login pd mac) ∷ []) (sk_record login.psk (gpsk.bars_with login) ∷ [])
+  -- GPSK-2 of any other user is accepted, and answered by GPSK-3
+  gpsk_checked : (login : gpsk.Login) (pd mac : List ℕ) (facts : GpskChecked setup login false pd mac)
+      → GpskServerTags setup (gpsk.checked login) (sk_record login.psk (gpsk2_taken login pd mac) ∷ []) (sk_record login.psk (gpsk.gpsk3_of login) ∷ [])
+  -- the GPSK-Protected-Fail that comes back is accepted too
+  gpsk_barred : (login : gpsk.Login) (pd mac last : List ℕ) (facts : GpskChecked setup login true pd mac)
+      → GpskServerTags setup (gpsk.over login false)
+      (sk_record login.psk (gpsk2_taken login pd mac) ∷ sk_record login.psk (protected_fail gpsk.authorization_failure last) ∷ [])
+      (sk_record login.psk (gpsk.bars_with login) ∷ [])
+  -- GPSK-4 is accepted too
+  gpsk_confirmed : (login : gpsk.Login) (pd mac last_pd last_mac : List ℕ) (facts : GpskChecked setup login false pd mac)
+      → GpskServerTags setup (gpsk.over login true)
+      (sk_record login.psk (gpsk2_taken login pd mac) ∷ sk_record login.psk (gpsk4 last_pd last_mac) ∷ [])
+      (sk_record login.psk (gpsk.gpsk3_of login) ∷ [])
 
-pub data ServerStands (setup : ServerSetup) (now : ServerNow) : List TagRecord → List TagRecord → Type 0 where
-  -- no tag yet
-  begins : (own : now.vars.setup ≡ setup) (unsure : is_success now.vars.state ≡ false) (no_tags : HasNoTags setup now)
-      → ServerStands setup now [] []
-  -- it has sent PSK-3
-  psk_checks : (login : psk.Login) (id : ℕ) (own : now.vars.setup ≡ setup) (is_current : now.vars.current ≡ Some psk_kind)
-      (gone_on : is_proposed now.vars.progress ≡ false) (in_view : now.views.psk ≡ Some (psk.checked login))
-      (facts : PskChecked setup login) (unsure : is_success now.vars.state ≡ false)
-      → ServerStands setup now (psk2_record login facts.mac ∷ []) (psk.psk3_records login id)
-  -- EAP-PSK has succeeded on both sides
-  psk_succeeds : (login : psk.Login) (header tag : List ℕ) (sealed id : ℕ) (own : now.vars.setup ≡ setup)
-      (is_current : now.vars.current ≡ Some psk_kind) (over : is_end now.vars.state ≡ true)
-      (in_view : now.views.psk ≡ Some (psk.over login true)) (facts : PskChecked setup login) (r_sent : login.r ≡ 2)
-      → ServerStands setup now (psk2_record login facts.mac ∷ tek_record login.psk 1 header sealed tag ∷ []) (psk.psk3_records login id)
-  -- it has sent GPSK-3
-  gpsk_checks : (login : gpsk.Login) (pd mac : List ℕ) (own : now.vars.setup ≡ setup) (is_current : now.vars.current ≡ Some gpsk_kind)
-      (gone_on : is_proposed now.vars.progress ≡ false) (in_view : now.views.gpsk ≡ Some (gpsk.checked login))
-      (facts : GpskChecked setup login pd mac) (unsure : is_success now.vars.state ≡ false)
-      → ServerStands setup now (sk_record login.psk (gpsk2_taken login pd mac) ∷ []) (sk_record login.psk (gpsk.gpsk3_of login) ∷ [])
-  -- it has sent GPSK-Protected-Fail
-  gpsk_bars : (login : gpsk.Login) (taken sent : TagRecord) (own : now.vars.setup ≡ setup) (is_current : now.vars.current ≡ Some gpsk_kind)
-      (gone_on : is_proposed now.vars.progress ≡ false) (in_view : now.views.gpsk ≡ Some (gpsk.barring login))
-      (unsure : is_success now.vars.state ≡ false)
-      → ServerStands setup now (taken ∷ []) (sent ∷ [])
-  -- EAP-GPSK has succeeded
-  gpsk_succeeds : (login : gpsk.Login) (pd mac : List ℕ) (last : Message) (own : now.vars.setup ≡ setup) (is_current : now.vars.current ≡ Some gpsk_kind)
-      (over : is_end now.vars.state ≡ true) (in_view : now.views.gpsk ≡ Some (gpsk.over login true)) (facts : GpskChecked setup login pd mac)
-      → ServerStands setup now (sk_record login.psk (gpsk2_taken login pd mac) ∷ sk_record login.psk last ∷ []) (sk_record login.psk (gpsk.gpsk3_of login) ∷ [])
-  -- it has ended without success
-  fails : (accepted made : List TagRecord) (own : now.vars.setup ≡ setup) (over : is_end now.vars.state ≡ true)
-      (unsure : is_success now.vars.state ≡ false) (few : AreFew accepted made)
-      → ServerStands setup now accepted made
+-- the tags of a server are those of its current method; there are none before its first proposal
+pub data ServerTags (setup : ServerSetup) (current : Option ℕ) (views : ServerViews) : List TagRecord → List TagRecord → Type 0 where
+  none_current : (none : current ≡ None) → ServerTags setup current views [] []
+  identity_current : (is_current : current ≡ Some identity) → ServerTags setup current views [] []
+  psk_current : (view : psk.View) (accepted made : List TagRecord) (is_current : current ≡ Some psk_kind) (in_view : views.psk ≡ Some view)
+      (told : PskServerTags setup view accepted made) → ServerTags setup current views accepted made
+  gpsk_current : (view : gpsk.View) (accepted made : List TagRecord) (is_current : current ≡ Some gpsk_kind) (in_view : views.gpsk ≡ Some view)
+      (told : GpskServerTags setup view accepted made) → ServerTags setup current views accepted made
+
+-- the current method has succeeded
+pub data HasSucceeded (current : Option ℕ) (views : ServerViews) : Type 0 where
+  psk_succeeded : (login : psk.Login) (is_current : current ≡ Some psk_kind) (in_view : views.psk ≡ Some (psk.over login true))
+      → HasSucceeded current views
+  gpsk_succeeded : (login : gpsk.Login) (is_current : current ≡ Some gpsk_kind) (in_view : views.gpsk ≡ Some (gpsk.over login true))
+      → HasSucceeded current views
+
+pub record ServerStands (setup : ServerSetup) (now : ServerNow) (accepted made : List TagRecord) : Type 0 where
+  pub own : now.vars.setup ≡ setup
+  pub tags : ServerTags setup now.vars.current now.views accepted made
+  -- a method that is only proposed has none
+  pub proposed : is_proposed now.vars.progress ≡ true → AreNone accepted made
+  -- SUCCESS comes of a success
+  pub sure : is_success now.vars.state ≡ true → HasSucceeded now.vars.current now.views
