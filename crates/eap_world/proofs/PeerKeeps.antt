@@ -111,6 +111,9 @@ module _ (setup : PeerSetup) where
     gpsk_bars code mac _ _ (gpsk_waits _ list facts) = gpsk_barred login list code mac facts
 
   module _ (octets : List ℕ) (accepted made : List TagRecord) where
+    at_psk : (view seen : psk.View) → view ≡ seen → PskPeerTags setup view accepted made → PskPeerTags setup seen accepted made
+    at_psk view seen in_view told = subst (λ (v : psk.View). PskPeerTags setup v accepted made) in_view told
+
     abbrev PskTurned : PeerOutcome psk.View → Type 0
     PskTurned out = Turned psk.View (PskPeerTags setup) (λ view. (login : psk.Login) × (view ≡ psk.over login true)) accepted made out
 
@@ -118,16 +121,19 @@ module _ (setup : PeerSetup) where
     psk_turned view _ told (psk_row.drops c) = drops view c
     psk_turned view _ told (psk_row.answers cred nonce rand_s id_s in_view is_read is_accepted) =
         replies _ _ _ _ _
-        (psk_answers cred nonce rand_s id_s _ accepted made (subst (λ (v : psk.View). PskPeerTags setup v accepted made) in_view told) is_read is_accepted)
+        (psk_answers cred nonce rand_s id_s _ accepted made (at_psk view _ in_view told) is_read is_accepted)
         (λ e. absurd (true≢false e))
     psk_turned view _ told (psk_row.confirms_success login _ mac _ tag sealed in_view _ _ _ _ _ _ _ _ _) =
         replies _ _ _ _ _
-        (psk_confirms login true _ mac tag sealed _ accepted made (subst (λ (v : psk.View). PskPeerTags setup v accepted made) in_view told))
+        (psk_confirms login true _ mac tag sealed _ accepted made (at_psk view _ in_view told))
         (λ _. (login, refl))
     psk_turned view _ told (psk_row.confirms_failure login _ mac _ tag sealed in_view _ _ _ _ _ _ _ _ _ _ _) =
         replies _ _ _ _ _
-        (psk_confirms login false _ mac tag sealed _ accepted made (subst (λ (v : psk.View). PskPeerTags setup v accepted made) in_view told))
+        (psk_confirms login false _ mac tag sealed _ accepted made (at_psk view _ in_view told))
         (λ e. absurd (true≢false e))
+
+    at_gpsk : (view seen : gpsk.View) → view ≡ seen → GpskPeerTags setup view accepted made → GpskPeerTags setup seen accepted made
+    at_gpsk view seen in_view told = subst (λ (v : gpsk.View). GpskPeerTags setup v accepted made) in_view told
 
     abbrev GpskTurned : PeerOutcome gpsk.View → Type 0
     GpskTurned out = Turned gpsk.View (GpskPeerTags setup) (λ view. (login : gpsk.Login) × (view ≡ gpsk.over login true)) accepted made out
@@ -136,18 +142,18 @@ module _ (setup : PeerSetup) where
     gpsk_turned view _ told (gpsk_row.drops c) = drops view c
     gpsk_turned view _ told (gpsk_row.answers cred nonce id_s rand_s list suite in_view is_read is_accepted picked) =
         replies _ _ _ _ _
-        (gpsk_answers cred nonce id_s rand_s list _ suite accepted made (subst (λ (v : gpsk.View). GpskPeerTags setup v accepted made) in_view told)
+        (gpsk_answers cred nonce id_s rand_s list _ suite accepted made (at_gpsk view _ in_view told)
         is_read is_accepted picked)
         (λ e. absurd (true≢false e))
     gpsk_turned view _ told (gpsk_row.confirms login rand_p rand_s id_s suite pd mac in_view _ _ own_nonce their_nonce their_name one_suite _ _) =
         replies _ _ _ _ _
-        (gpsk_confirms login pd mac _ accepted made (subst (λ (v : gpsk.View). GpskPeerTags setup v accepted made) in_view told) cc)
+        (gpsk_confirms login pd mac _ accepted made (at_gpsk view _ in_view told) cc)
         (λ _. (login, refl))
     gpsk_turned view _ told (gpsk_row.repeats_fail login code in_view _) =
-        replies _ _ _ _ _ (gpsk_fails login accepted made (subst (λ (v : gpsk.View). GpskPeerTags setup v accepted made) in_view told))
+        replies _ _ _ _ _ (gpsk_fails login accepted made (at_gpsk view _ in_view told))
         (λ e. absurd (true≢false e))
     gpsk_turned view _ told (gpsk_row.repeats_protected login code mac in_view _ _ _) =
-        replies _ _ _ _ _ (gpsk_bars login code mac accepted made (subst (λ (v : gpsk.View). GpskPeerTags setup v accepted made) in_view told))
+        replies _ _ _ _ _ (gpsk_bars login code mac accepted made (at_gpsk view _ in_view told))
         (λ e. absurd (true≢false e))
 
 -- ---- the calls

@@ -170,6 +170,9 @@ module _ (setup : ServerSetup) (users : List User) (own_users : users ≡ setup.
     gpsk_ends_well last_pd last_mac _ _ (gpsk_checked _ pd mac facts) = gpsk_confirmed login pd mac last_pd last_mac facts
 
   module _ (next_id : ℕ) (octets : List ℕ) (accepted made : List TagRecord) where
+    at_psk : (view seen : psk.View) → view ≡ seen → PskServerTags setup view accepted made → PskServerTags setup seen accepted made
+    at_psk view seen in_view told = subst (λ (v : psk.View). PskServerTags setup v accepted made) in_view told
+
     abbrev PskTurned : ServerOutcome psk.View → Type 0
     PskTurned out = Turned psk.View (PskServerTags setup) (λ view. (login : psk.Login) × (view ≡ psk.over login true)) accepted made out
 
@@ -177,20 +180,23 @@ module _ (setup : ServerSetup) (users : List User) (own_users : users ≡ setup.
         → psk_row.PskServerRow users next_id view octets out → PskTurned out
     psk_turned view _ told (psk_row.drops c) = drops view c
     psk_turned view _ told (psk_row.refuses own nonce _ _ _ _ in_view _ _ _) =
-        ends false _ _ (psk_refuses own nonce accepted made (subst (λ (v : psk.View). PskServerTags setup v accepted made) in_view told))
+        ends false _ _ (psk_refuses own nonce accepted made (at_psk view _ in_view told))
         (λ e. absurd (false≢true e))
     psk_turned view _ told (psk_row.answers own nonce rand_s rand_p mac id_p user in_view is_read own_nonce known _) =
         requests _ _ _
-        (psk_answers own nonce rand_s rand_p mac id_p _ user next_id accepted made (subst (λ (v : psk.View). PskServerTags setup v accepted made) in_view told)
+        (psk_answers own nonce rand_s rand_p mac id_p _ user next_id accepted made (at_psk view _ in_view told)
         is_read own_nonce known)
     psk_turned view _ told (psk_row.ends_success login _ _ tag sealed in_view _ _ _ _ _ _ _ own_success _) =
         ends true _ _
-        (psk_ends login true _ tag sealed (λ _. own_success) accepted made (subst (λ (v : psk.View). PskServerTags setup v accepted made) in_view told))
+        (psk_ends login true _ tag sealed (λ _. own_success) accepted made (at_psk view _ in_view told))
         (λ _. (login, refl))
     psk_turned view _ told (psk_row.ends_failure login _ _ tag sealed in_view _ _ _ _ _ _ _ _ _) =
         ends false _ _
-        (psk_ends login false _ tag sealed (λ e. absurd (false≢true e)) accepted made (subst (λ (v : psk.View). PskServerTags setup v accepted made) in_view told))
+        (psk_ends login false _ tag sealed (λ e. absurd (false≢true e)) accepted made (at_psk view _ in_view told))
         (λ e. absurd (false≢true e))
+
+    at_gpsk : (view seen : gpsk.View) → view ≡ seen → GpskServerTags setup view accepted made → GpskServerTags setup seen accepted made
+    at_gpsk view seen in_view told = subst (λ (v : gpsk.View). GpskServerTags setup v accepted made) in_view told
 
     abbrev GpskTurned : ServerOutcome gpsk.View → Type 0
     GpskTurned out = Turned gpsk.View (GpskServerTags setup) (λ view. (login : gpsk.Login) × (view ≡ gpsk.over login true)) accepted made out
@@ -199,23 +205,23 @@ module _ (setup : ServerSetup) (users : List User) (own_users : users ≡ setup.
         → gpsk_row.GpskServerRow users next_id view octets out → GpskTurned out
     gpsk_turned view _ told (gpsk_row.drops c) = drops view c
     gpsk_turned view _ told (gpsk_row.refuses own nonce _ _ _ _ _ _ _ _ in_view _ _ _ _ _ _ _) =
-        requests _ _ _ (gpsk_refuses own nonce accepted made (subst (λ (v : gpsk.View). GpskServerTags setup v accepted made) in_view told))
+        requests _ _ _ (gpsk_refuses own nonce accepted made (at_gpsk view _ in_view told))
     gpsk_turned view _ told (gpsk_row.bars own nonce id_p _ rand_p _ _ suite pd mac user in_view is_read _ own_name own_nonce own_list offered known barred _ _) =
         requests _ _ _
-        (gpsk_bars id_p rand_p pd mac _ suite user known _ own nonce accepted made (subst (λ (v : gpsk.View). GpskServerTags setup v accepted made) in_view told)
+        (gpsk_bars id_p rand_p pd mac _ suite user known _ own nonce accepted made (at_gpsk view _ in_view told)
         (record { same = cc; is_read = is_read; offered = offered }) barred)
     gpsk_turned view _ told (gpsk_row.checks own nonce id_p _ rand_p _ _ suite pd mac user in_view is_read _ own_name own_nonce own_list offered known welcome _ _) =
         requests _ _ _
-        (gpsk_checks id_p rand_p pd mac _ suite user known _ own nonce accepted made (subst (λ (v : gpsk.View). GpskServerTags setup v accepted made) in_view told)
+        (gpsk_checks id_p rand_p pd mac _ suite user known _ own nonce accepted made (at_gpsk view _ in_view told)
         (record { same = cc; is_read = is_read; offered = offered }) welcome)
     gpsk_turned view _ told (gpsk_row.ends_refusing own nonce _ in_view _ _) =
-        ends false _ _ (gpsk_gives_up own nonce accepted made (subst (λ (v : gpsk.View). GpskServerTags setup v accepted made) in_view told))
+        ends false _ _ (gpsk_gives_up own nonce accepted made (at_gpsk view _ in_view told))
         (λ e. absurd (false≢true e))
     gpsk_turned view _ told (gpsk_row.ends_barring login code mac in_view _ own_code _ _) =
-        ends false _ _ (gpsk_ends_barring login code mac accepted made (subst (λ (v : gpsk.View). GpskServerTags setup v accepted made) in_view told) own_code)
+        ends false _ _ (gpsk_ends_barring login code mac accepted made (at_gpsk view _ in_view told) own_code)
         (λ e. absurd (false≢true e))
     gpsk_turned view _ told (gpsk_row.ends_checked login pd mac in_view _ _ _) =
-        ends true _ _ (gpsk_ends_well login pd mac accepted made (subst (λ (v : gpsk.View). GpskServerTags setup v accepted made) in_view told))
+        ends true _ _ (gpsk_ends_well login pd mac accepted made (at_gpsk view _ in_view told))
         (λ _. (login, refl))
 
 -- ---- the calls
@@ -270,6 +276,16 @@ module _ (setup : ServerSetup) (kind id : ℕ) (views : ServerViews) (ordered : 
   offers_so =
       cond_both (kind == psk_kind) _ _ (Offers setup kind views) (λ is_psk. offers_psk views.psk (eqb-true _ _ is_psk))
       (λ _. cond_both (kind == gpsk_kind) _ _ (Offers setup kind views) (λ is_gpsk. offers_gpsk views.gpsk (eqb-true _ _ is_gpsk)) (λ _. lacks))
+
+offers_own : (setup held : ServerSetup) (kind id : ℕ) (views : ServerViews) → held ≡ setup → is_among held.methods kind ≡ true
+    → Offers setup kind views (server_offer (side_of held) held.nonce kind id views)
+offers_own setup held kind id views own ordered =
+    subst (λ (s : ServerSetup). Offers setup kind views (server_offer (side_of s) s.nonce kind id views)) (sym own)
+    (offers_so setup kind id views (subst (λ (s : ServerSetup). is_among s.methods kind ≡ true) own ordered))
+
+none_told : {setup : ServerSetup} {current : Option ℕ} {views : ServerViews} {accepted made : List TagRecord} → AreNone accepted made
+    → ServerTags setup current views [] [] → ServerTags setup current views accepted made
+none_told untagged tags = tags
 
 -- what stands after a call, with the tags of its step
 record Keeps (setup : ServerSetup) (accepted made : List TagRecord) (out : ServerAnswer) : Type 0 where
@@ -374,67 +390,47 @@ module _ (setup : ServerSetup) (now : ServerNow) (accepted made : List TagRecord
     gives_up = remains _ _ _ stands.proposed (λ e. absurd (false≢true e));
   }
 
--- a server without tags offers a method, or has no object of it
-proposes_stands : (setup : ServerSetup) (vars : ServerVariables) (views : ServerViews) (kind : ℕ) (packet : List ℕ) (after : ServerViews) (accepted made : List TagRecord)
-    → vars.setup ≡ setup → AreNone accepted made → (is_success vars.state ≡ true → ⊥)
-    → Offers setup kind views (record { packet = Some packet; after = after })
-    → ServerStands setup
-    (record { vars = record (with_request vars packet) { current = Some kind; progress = progress.Proposed; proposed = vars.proposed ++ kind ∷ [] }; views = after })
-    accepted made
-proposes_stands setup vars views kind _ _ _ _ own untagged unsure (asks _ _ tags) =
-    record { own = own; tags = tags; proposed = λ _. untagged; sure = λ e. absurd (unsure e) }
+  -- a method is offered, or there is no object of it
+  offered : (entered : List State) (vars : ServerVariables) (id kind : ℕ) → Proposing vars → (offer : Offer) → Offers setup kind now.views offer
+      → Keeps setup accepted made (offers entered vars offer.after id kind offer.packet)
+  offered entered vars id kind at _ (asks packet after tags) = quiet setup accepted made _ refl (record {
+    own = at.own;
+    tags = none_told at.none tags;
+    proposed = λ _. at.none;
+    sure = λ e. absurd (at.unsure e);
+  })
+  offered entered vars id kind at _ lacks = quiet setup accepted made _ refl at.gives_up
 
-lacking_stays : (setup : ServerSetup) (vars : ServerVariables) (views : ServerViews) (kind : ℕ) (after : ServerViews) (accepted made : List TagRecord)
-    → Offers setup kind views (record { packet = None; after = after })
-    → ServerStands setup (record { vars = vars; views = views }) accepted made → ServerStands setup (record { vars = vars; views = after }) accepted made
-lacking_stays setup vars views kind _ accepted made lacks stands = stands
+  offer_keeps : (entered : List State) (vars : ServerVariables) (desired : Option (List ℕ)) (id kind : ℕ) (offer : Offer) → Proposing vars
+      → rows.Proposes now vars desired kind offer → Keeps setup accepted made (offers entered vars offer.after id kind offer.packet)
+  offer_keeps entered vars desired id kind offer at next = offered entered vars id kind at offer
+      (subst (Offers setup kind now.views) next.is_offer
+      (offers_own setup vars.setup kind (next_id vars) now.views at.own (next_is_ordered vars.setup.methods vars.proposed desired kind next.is_next)))
 
--- the offer by a server with the setup's settings
-own_offer : (setup : ServerSetup) (vars : ServerVariables) (views : ServerViews) (kind : ℕ) → vars.setup ≡ setup → is_among vars.setup.methods kind ≡ true
-    → Offers setup kind views (server_offer (side_of vars.setup) vars.setup.nonce kind (next_id vars) views)
-own_offer setup vars views kind own ordered =
-    subst (λ (s : ServerSetup). Offers setup kind views (server_offer (side_of s) s.nonce kind (next_id vars) views)) (sym own)
-    (offers_so setup kind (next_id vars) views (subst (λ (s : ServerSetup). is_among s.methods kind ≡ true) own ordered))
+  turned_to : (id kind : ℕ) (body : List ℕ) (answered : ServerTurn) (views : ServerViews) → rows.Turns now id kind body answered views
+      → MethodTurned (record { turn = answered; after = views })
+  turned_to id kind body answered views turned = subst MethodTurned turned.is_turn (method_turned _ kind turned.is_current)
 
-module _ (setup : ServerSetup) (now : ServerNow) (accepted made : List TagRecord) (stands : ServerStands setup now accepted made) where
   row_keeps : (input : ServerInput) (out : ServerAnswer) → (input ≡ start → ⊥) → rows.ServerRow now input out → Keeps setup accepted made out
   row_keeps _ _ later (rows.ended bytes over) = quiet setup accepted made _ refl stands
   row_keeps _ _ later (rows.rests over) = quiet setup accepted made _ refl stands
   row_keeps _ _ later (rows.goes_on is_begun) = absurd (later refl)
   row_keeps _ _ later (rows.drops bytes path c going why) = quiet setup accepted made _ refl stands
   row_keeps _ _ later (rows.starts unstarted) = absurd (later refl)
-  row_keeps _ _ later (rows.resends going in_time) = quiet setup accepted made _ refl (remains setup now accepted made stands _ _ _ stands.proposed stands.sure)
-  row_keeps _ _ later (rows.times_out going late) =
-      quiet setup accepted made _ refl (remains setup now accepted made stands _ _ _ stands.proposed (λ e. absurd (false≢true e)))
+  row_keeps _ _ later (rows.resends going in_time) = quiet setup accepted made _ refl (remains _ _ _ stands.proposed stands.sure)
+  row_keeps _ _ later (rows.times_out going late) = quiet setup accepted made _ refl (remains _ _ _ stands.proposed (λ e. absurd (false≢true e)))
   row_keeps _ _ later (rows.proposes bytes id kind body entered vars desired next packet views heard selects next_is) =
-      (let at = proposing setup now accepted made stands (goes_on now.vars.state heard.going) kind body entered vars desired selects in
-      quiet setup accepted made _ refl
-      (proposes_stands setup vars now.views next packet views accepted made at.own at.none at.unsure
-      (subst (Offers setup next now.views) next_is.is_offer
-      (own_offer setup vars now.views next at.own (next_is_ordered vars.setup.methods vars.proposed desired next next_is.is_next)))))
+      offer_keeps entered vars desired id next _ (proposing (goes_on now.vars.state heard.going) kind body entered vars desired selects) next_is
   row_keeps _ _ later (rows.proposes_without bytes id kind body entered vars desired next views heard selects next_is) =
-      (let at = proposing setup now accepted made stands (goes_on now.vars.state heard.going) kind body entered vars desired selects in
-      quiet setup accepted made _ refl
-      (lacking_stays setup _ now.views next views accepted made
-      (subst (Offers setup next now.views) next_is.is_offer
-      (own_offer setup vars now.views next at.own (next_is_ordered vars.setup.methods vars.proposed desired next next_is.is_next)))
-      at.gives_up))
+      offer_keeps entered vars desired id next _ (proposing (goes_on now.vars.state heard.going) kind body entered vars desired selects) next_is
   row_keeps _ _ later (rows.proposes_none bytes id kind body entered vars desired heard selects none) =
-      quiet setup accepted made _ refl
-      (proposing setup now accepted made stands (goes_on now.vars.state heard.going) kind body entered vars desired selects).gives_up
-  row_keeps _ _ later (rows.requests bytes id kind body packet tags views heard turned) = record {
-    stands = after_request setup now accepted made stands packet tags views
-        (subst (MethodTurned setup now accepted made stands) turned.is_turn (method_turned setup now accepted made stands _ kind turned.is_current))
-        (goes_on now.vars.state heard.going);
-  }
-  row_keeps _ _ later (rows.succeeds bytes id kind body tags views heard turned) = record {
-    stands = after_end setup now accepted made stands true tags views
-        (subst (MethodTurned setup now accepted made stands) turned.is_turn (method_turned setup now accepted made stands _ kind turned.is_current)) _ (λ _. refl);
-  }
-  row_keeps _ _ later (rows.method_fails bytes id kind body tags views heard turned) = record {
-    stands = after_end setup now accepted made stands false tags views
-        (subst (MethodTurned setup now accepted made stands) turned.is_turn (method_turned setup now accepted made stands _ kind turned.is_current)) _ (λ e. e);
-  }
+      quiet setup accepted made _ refl (proposing (goes_on now.vars.state heard.going) kind body entered vars desired selects).gives_up
+  row_keeps _ _ later (rows.requests bytes id kind body packet tags views heard turned) =
+      record { stands = after_request packet tags views (turned_to id kind body _ views turned) (goes_on now.vars.state heard.going) }
+  row_keeps _ _ later (rows.succeeds bytes id kind body tags views heard turned) =
+      record { stands = after_end true tags views (turned_to id kind body _ views turned) _ (λ _. refl) }
+  row_keeps _ _ later (rows.method_fails bytes id kind body tags views heard turned) =
+      record { stands = after_end false tags views (turned_to id kind body _ views turned) _ (λ e. e) }
 
 -- every input after the start keeps what stands
 pub server_keeps : (setup : ServerSetup) (now : ServerNow) (accepted made : List TagRecord) (input : ServerInput) → (input ≡ start → ⊥)
