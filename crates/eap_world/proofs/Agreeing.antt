@@ -3,14 +3,12 @@ use Rattle.std.proofs.Common.{◌≡◌, ℕ, true, false, List, [], ◌∷◌, 
 use Rattle.eap_base.specs.declared.setup.PeerSetup.{PeerSetup}
 use Rattle.eap_base.specs.declared.setup.ServerSetup.{ServerSetup}
 use Rattle.eap_base.specs.Setup.{psk_kind, gpsk_kind}
-use Rattle.gpsk_messages.specs.Message.{gpsk4}
 use Rattle.eap_method.specs.declared.tags.TagRecord.{TagRecord}
 use Rattle.eap_method.specs.PskPeer as psk_peer
 use Rattle.eap_method.specs.PskServer as psk_server
 use Rattle.eap_method.specs.GpskPeer as gpsk_peer
 use Rattle.eap_method.specs.GpskServer as gpsk_server
 use Rattle.eap_method.specs.GpskTags.{sk_record}
-use Rattle.eap_method.specs.PskTags.{tek_record}
 use Rattle.peer_machine.specs.PeerTable.{PeerNow, peer_reports}
 use Rattle.server_machine.specs.ServerTable.{ServerNow, server_reports}
 use Rattle.eap_world.specs.Verdict.{judged, is_success}
@@ -44,38 +42,38 @@ pub data BothSucceed (peer_setup : PeerSetup) (server_setup : ServerSetup) (p : 
       (is_current : s.vars.current ≡ Some psk_kind) (in_other : s.views.psk ≡ Some (psk_server.over other true)) (r_sent : other.r ≡ 2)
       (same : psk.IsSame login other) → BothSucceed peer_setup server_setup p s
   by_gpsk : (login : gpsk_peer.Login) (list : List ℕ) (facts : peers.GpskBegun peer_setup login list)
-      (other : gpsk_server.Login) (pd mac : List ℕ) (checked : servers.GpskChecked server_setup other false pd mac)
+      (other : gpsk_server.Login) (pd : List ℕ) (checked : servers.GpskChecked server_setup other false pd)
       (is_selected : p.vars.selected ≡ Some gpsk_kind) (in_view : p.views.gpsk ≡ gpsk_peer.over login true)
       (is_current : s.vars.current ≡ Some gpsk_kind) (in_other : s.views.gpsk ≡ Some (gpsk_server.over other true))
       (same : gpsk.IsSame login list other) → BothSucceed peer_setup server_setup p s
 
 -- a peer, or a server, that has succeeded, with its tags
 data PeerSucceeds (setup : PeerSetup) (now : PeerNow) : List TagRecord → List TagRecord → Type 0 where
-  with_psk : (login : psk_peer.Login) (header mac tag : List ℕ) (sealed id : ℕ)
+  with_psk : (login : psk_peer.Login) (header : List ℕ) (sealed id : ℕ)
       (is_selected : now.vars.selected ≡ Some psk_kind) (in_view : now.views.psk ≡ psk_peer.over login true) (facts : peers.PskBegun setup login)
-      → PeerSucceeds setup now (psk_peer.psk3_records login header mac tag sealed) (peers.psk2_record login ∷ psk_peer.psk4_record login id 2)
-  with_gpsk : (login : gpsk_peer.Login) (list pd mac : List ℕ)
+      → PeerSucceeds setup now (peers.psk3_taken login header sealed) (peers.psk2_record login ∷ psk_peer.psk4_record login id 2)
+  with_gpsk : (login : gpsk_peer.Login) (list pd : List ℕ)
       (is_selected : now.vars.selected ≡ Some gpsk_kind) (in_view : now.views.gpsk ≡ gpsk_peer.over login true) (facts : peers.GpskBegun setup login list)
-      → PeerSucceeds setup now (sk_record login.cred.psk (peers.gpsk3_taken login pd mac) ∷ [])
+      → PeerSucceeds setup now (sk_record login.cred.psk (peers.gpsk3_taken login pd) ∷ [])
       (peers.gpsk2_record login list ∷ sk_record login.cred.psk (gpsk_peer.gpsk4_of login) ∷ [])
 
 data ServerSucceeds (setup : ServerSetup) (now : ServerNow) : List TagRecord → List TagRecord → Type 0 where
-  of_psk : (login : psk_server.Login) (header tag : List ℕ) (sealed id : ℕ) (is_current : now.vars.current ≡ Some psk_kind)
+  of_psk : (login : psk_server.Login) (header : List ℕ) (sealed id : ℕ) (is_current : now.vars.current ≡ Some psk_kind)
       (in_view : now.views.psk ≡ Some (psk_server.over login true)) (facts : servers.PskChecked setup login) (r_sent : login.r ≡ 2)
-      → ServerSucceeds setup now (servers.psk2_record login facts.mac ∷ tek_record login.psk 1 header sealed tag ∷ []) (psk_server.psk3_records login id)
-  of_gpsk : (login : gpsk_server.Login) (pd mac last_pd last_mac : List ℕ) (is_current : now.vars.current ≡ Some gpsk_kind)
-      (in_view : now.views.gpsk ≡ Some (gpsk_server.over login true)) (facts : servers.GpskChecked setup login false pd mac)
-      → ServerSucceeds setup now (sk_record login.psk (servers.gpsk2_taken login pd mac) ∷ sk_record login.psk (gpsk4 last_pd last_mac) ∷ [])
+      → ServerSucceeds setup now (servers.psk2_record login ∷ servers.psk4_taken login header sealed ∷ []) (psk_server.psk3_records login id)
+  of_gpsk : (login : gpsk_server.Login) (pd last_pd : List ℕ) (is_current : now.vars.current ≡ Some gpsk_kind)
+      (in_view : now.views.gpsk ≡ Some (gpsk_server.over login true)) (facts : servers.GpskChecked setup login false pd)
+      → ServerSucceeds setup now (sk_record login.psk (servers.gpsk2_taken login pd) ∷ sk_record login.psk (servers.gpsk4_taken login last_pd) ∷ [])
       (sk_record login.psk (gpsk_server.gpsk3_of login) ∷ [])
 
 module _ (setup : PeerSetup) (now : PeerNow) where
   peer_psk : (login : psk_peer.Login) → now.vars.selected ≡ Some psk_kind → now.views.psk ≡ psk_peer.over login true
       → (accepted made : List TagRecord) → peers.PskPeerTags setup (psk_peer.over login true) accepted made → PeerSucceeds setup now accepted made
-  peer_psk login is_selected in_view _ _ (peers.psk_over _ _ header mac tag sealed id facts) = with_psk login header mac tag sealed id is_selected in_view facts
+  peer_psk login is_selected in_view _ _ (peers.psk_over _ _ header sealed id facts) = with_psk login header sealed id is_selected in_view facts
 
   peer_gpsk : (login : gpsk_peer.Login) → now.vars.selected ≡ Some gpsk_kind → now.views.gpsk ≡ gpsk_peer.over login true
       → (accepted made : List TagRecord) → peers.GpskPeerTags setup (gpsk_peer.over login true) accepted made → PeerSucceeds setup now accepted made
-  peer_gpsk login is_selected in_view _ _ (peers.gpsk_confirmed _ list pd mac facts) = with_gpsk login list pd mac is_selected in_view facts
+  peer_gpsk login is_selected in_view _ _ (peers.gpsk_confirmed _ list pd facts) = with_gpsk login list pd is_selected in_view facts
 
   peer_succeeds : (accepted made : List TagRecord) → peers.PeerTags setup now.vars.selected now.views accepted made
       → peers.HasSucceeded now.vars.selected now.views → PeerSucceeds setup now accepted made
@@ -91,13 +89,13 @@ module _ (setup : PeerSetup) (now : PeerNow) where
 module _ (setup : ServerSetup) (now : ServerNow) where
   server_psk : (login : psk_server.Login) → now.vars.current ≡ Some psk_kind → now.views.psk ≡ Some (psk_server.over login true)
       → (accepted made : List TagRecord) → servers.PskServerTags setup (psk_server.over login true) accepted made → ServerSucceeds setup now accepted made
-  server_psk login is_current in_view _ _ (servers.psk_over _ _ header tag sealed id facts r_sent) =
-      of_psk login header tag sealed id is_current in_view facts (r_sent refl)
+  server_psk login is_current in_view _ _ (servers.psk_over _ _ header sealed id facts r_sent) =
+      of_psk login header sealed id is_current in_view facts (r_sent refl)
 
   server_gpsk : (login : gpsk_server.Login) → now.vars.current ≡ Some gpsk_kind → now.views.gpsk ≡ Some (gpsk_server.over login true)
       → (accepted made : List TagRecord) → servers.GpskServerTags setup (gpsk_server.over login true) accepted made → ServerSucceeds setup now accepted made
-  server_gpsk login is_current in_view _ _ (servers.gpsk_confirmed _ pd mac last_pd last_mac facts) =
-      of_gpsk login pd mac last_pd last_mac is_current in_view facts
+  server_gpsk login is_current in_view _ _ (servers.gpsk_confirmed _ pd last_pd facts) =
+      of_gpsk login pd last_pd is_current in_view facts
 
   server_succeeds : (accepted made : List TagRecord) → servers.ServerTags setup now.vars.current now.views accepted made
       → servers.HasSucceeded now.vars.current now.views → ServerSucceeds setup now accepted made
@@ -111,17 +109,17 @@ module _ (peer_setup : PeerSetup) (server_setup : ServerSetup) (p : PeerNow) (s 
   both_succeed : (peer_accepted peer_made server_accepted server_made : List TagRecord)
       → PeerSucceeds peer_setup p peer_accepted peer_made → ServerSucceeds server_setup s server_accepted server_made
       → AreIn peer_accepted server_made → AreIn server_accepted peer_made → BothSucceed peer_setup server_setup p s
-  both_succeed _ _ _ _ (with_psk login header mac tag sealed id is_selected in_view facts) (of_psk other _ _ _ server_id is_current in_other checked r_sent) in_server in_peer =
+  both_succeed _ _ _ _ (with_psk login header sealed id is_selected in_view facts) (of_psk other _ _ server_id is_current in_other checked r_sent) in_server in_peer =
       by_psk login facts other checked is_selected in_view is_current in_other r_sent
-      (psk.same_login peer_setup server_setup login facts other checked peer_nonce server_nonce mac id server_id
+      (psk.same_login peer_setup server_setup login facts other checked peer_nonce server_nonce id server_id
       (in_peer.each _ (here _)) (in_server.each _ (here _)))
-  both_succeed _ _ _ _ (with_psk login header mac tag sealed id is_selected in_view facts) (of_gpsk other pd _ _ _ is_current in_other checked) in_server in_peer =
+  both_succeed _ _ _ _ (with_psk login header sealed id is_selected in_view facts) (of_gpsk other pd _ is_current in_other checked) in_server in_peer =
       absurd (other_method _ _ _ (in_peer.each _ (here _)) (λ e. apart (sym e)) (λ e. apart (sym e)))
-  both_succeed _ _ _ _ (with_gpsk login list pd mac is_selected in_view facts) (of_psk other _ _ _ _ is_current in_other checked r_sent) in_server in_peer =
+  both_succeed _ _ _ _ (with_gpsk login list pd is_selected in_view facts) (of_psk other _ _ _ is_current in_other checked r_sent) in_server in_peer =
       absurd (other_method _ _ _ (in_peer.each _ (here _)) apart apart)
-  both_succeed _ _ _ _ (with_gpsk login list _ _ is_selected in_view facts) (of_gpsk other pd mac _ _ is_current in_other checked) in_server in_peer =
-      by_gpsk login list facts other pd mac checked is_selected in_view is_current in_other
-      (gpsk.same_login peer_setup server_setup login list facts other pd mac checked peer_nonce server_nonce (in_peer.each _ (here _)))
+  both_succeed _ _ _ _ (with_gpsk login list _ is_selected in_view facts) (of_gpsk other pd _ is_current in_other checked) in_server in_peer =
+      by_gpsk login list facts other pd checked is_selected in_view is_current in_other
+      (gpsk.same_login peer_setup server_setup login list facts other pd checked peer_nonce server_nonce (in_peer.each _ (here _)))
 
 pub ends_succeed : (peer_setup : PeerSetup) (server_setup : ServerSetup) (p : PeerNow) (s : ServerNow) (peer_accepted peer_made server_accepted server_made : List TagRecord)
     → length peer_setup.nonce ≡ 32 → length server_setup.nonce ≡ 32
@@ -140,8 +138,8 @@ both_agree : (peer_setup : PeerSetup) (server_setup : ServerSetup) (p : PeerNow)
     → judged peer_setup server_setup (peer_reports p) (server_reports s) ≡ true
 both_agree peer_setup server_setup p s peer_nonce server_nonce (by_psk login facts other checked is_selected in_view is_current in_other r_sent same) =
     psk.psk_agree peer_setup server_setup login facts other checked peer_nonce server_nonce p s is_selected in_view is_current in_other r_sent same
-both_agree peer_setup server_setup p s peer_nonce server_nonce (by_gpsk login list facts other pd mac checked is_selected in_view is_current in_other same) =
-    gpsk.gpsk_agree peer_setup server_setup login list facts other pd mac checked peer_nonce server_nonce p s is_selected in_view is_current in_other same
+both_agree peer_setup server_setup p s peer_nonce server_nonce (by_gpsk login list facts other pd checked is_selected in_view is_current in_other same) =
+    gpsk.gpsk_agree peer_setup server_setup login list facts other pd checked peer_nonce server_nonce p s is_selected in_view is_current in_other same
 
 pub ends_agree : (peer_setup : PeerSetup) (server_setup : ServerSetup) (p : PeerNow) (s : ServerNow) (peer_accepted peer_made server_accepted server_made : List TagRecord)
     → length peer_setup.nonce ≡ 32 → length server_setup.nonce ≡ 32

@@ -35,10 +35,10 @@ pub record IsSame (p : peer.Login) (list : List ℕ) (s : server.Login) : Type 0
   pub offered : list ≡ suite_list s.own.suites
 
 -- equal octets before the MACs of two GPSK-2
-covers_same : (p : peer.Login) (s : server.Login) (list pd mac : List ℕ) → length p.nonce ≡ 32 → length s.rand_p ≡ 32 → length p.rand_s ≡ 32 → length s.nonce ≡ 32
-    → p.cred.psk ≡ s.psk → covered_of (gpsk2_taken s pd mac) ≡ covered_of (peer.gpsk2_of p list) → IsSame p list s
+covers_same : (p : peer.Login) (s : server.Login) (list pd : List ℕ) → length p.nonce ≡ 32 → length s.rand_p ≡ 32 → length p.rand_s ≡ 32 → length s.nonce ≡ 32
+    → p.cred.psk ≡ s.psk → covered_of (gpsk2_taken s pd) ≡ covered_of (peer.gpsk2_of p list) → IsSame p list s
 unfolding covered_of
-covers_same p s list pd mac size_1 size_2 size_3 size_4 psk e =
+covers_same p s list pd size_1 size_2 size_3 size_4 psk e =
     let t0 = sized_fronts p.cred.id_p _ s.id_p _ (sym e) in
     let t1 = sized_fronts p.id_s _ s.own.id_s _ t0.1 in
     let t2 = fronts 32 p.nonce _ s.rand_p _ size_1 size_2 t1.1 in
@@ -52,9 +52,9 @@ longer first second rest e =
     let sizes : length {A = ℕ} [] ≡ length (first ++ (sized second ++ rest)) = ap length e in
     absurd (omega (arith, length-append first (sized second ++ rest)))
 
-not_gpsk4 : (p : peer.Login) (s : server.Login) (pd mac : List ℕ) → covered_of (gpsk2_taken s pd mac) ≡ covered_of (peer.gpsk4_of p) → ⊥
+not_gpsk4 : (p : peer.Login) (s : server.Login) (pd : List ℕ) → covered_of (gpsk2_taken s pd) ≡ covered_of (peer.gpsk4_of p) → ⊥
 unfolding covered_of
-not_gpsk4 p s pd mac e =
+not_gpsk4 p s pd e =
     let rest : s.id_p ++ (sized s.own.id_s ++ (s.rand_p ++ (s.nonce ++ (sized (suite_list s.own.suites) ++ (suite_octets s.suite ++ sized pd))))) ≡ [] = cc in
     longer s.id_p s.own.id_s _ (sym rest)
 
@@ -71,7 +71,7 @@ module _ (setup : PeerSetup) (login : peer.Login) (list : List ℕ) (facts : Gps
   unfolding peer_report_of
   peer_reported now is_selected in_view = ap (selected_report now.views) is_selected ∙ ap peer.report in_view
 
-module _ (setup : ServerSetup) (login : server.Login) (pd mac : List ℕ) (facts : GpskChecked setup login false pd mac) where
+module _ (setup : ServerSetup) (login : server.Login) (pd : List ℕ) (facts : GpskChecked setup login false pd) where
   by_server : server_agrees setup (server.report_of login) ≡ true
   unfolding server.report_of
   by_server = and_from _ _ facts.ordered (and_from _ _ facts.offered (ap is_welcome facts.known ∙ not_from_false _ facts.standing))
@@ -81,17 +81,17 @@ module _ (setup : ServerSetup) (login : server.Login) (pd mac : List ℕ) (facts
   server_reported now is_current in_view = ap (current_report now.views) is_current ∙ ap gpsk_report in_view
 
 module _ (peer_setup : PeerSetup) (server_setup : ServerSetup) (p : peer.Login) (list : List ℕ) (begun : GpskBegun peer_setup p list)
-    (s : server.Login) (pd mac : List ℕ) (checked : GpskChecked server_setup s false pd mac)
+    (s : server.Login) (pd : List ℕ) (checked : GpskChecked server_setup s false pd)
     (peer_nonce : length peer_setup.nonce ≡ 32) (server_nonce : length server_setup.nonce ≡ 32) where
   -- the GPSK-2 that the server accepted is one that the peer made
-  pub same_login : IsIn (sk_record s.psk (gpsk2_taken s pd mac)) (gpsk2_record p list ∷ sk_record p.cred.psk (peer.gpsk4_of p) ∷ []) → IsSame p list s
+  pub same_login : IsIn (sk_record s.psk (gpsk2_taken s pd)) (gpsk2_record p list ∷ sk_record p.cred.psk (peer.gpsk4_of p) ∷ []) → IsSame p list s
   same_login is_in =
       elim (among_two _ _ _ is_in) [
-        | inl first ↦ covers_same p s list pd mac
+        | inl first ↦ covers_same p s list pd
             (ap length begun.nonce ∙ peer_nonce) (read_rands None checked.body _ checked.is_read).0
             (read_rands None begun.body _ begun.is_read) (ap length checked.nonce ∙ server_nonce)
             (sym (ap (λ (tag : TagRecord). tag.psk) first)) (ap (λ (tag : TagRecord). tag.octets) first)
-        | inr second ↦ absurd (not_gpsk4 p s pd mac (ap (λ (tag : TagRecord). tag.octets) second))
+        | inr second ↦ absurd (not_gpsk4 p s pd (ap (λ (tag : TagRecord). tag.octets) second))
       ]
 
   pub gpsk_agree : (now : PeerNow) (other : ServerNow) → now.vars.selected ≡ Some gpsk_kind → now.views.gpsk ≡ peer.over p true
@@ -101,5 +101,5 @@ module _ (peer_setup : PeerSetup) (server_setup : ServerSetup) (p : peer.Login) 
       let reports : peer.report_of p ≡ server.report_of s = same_reports p list s same in
       let agreed = reports_agree peer_setup server_setup (peer.report_of p) (server.report_of s) reports
       (by_peer peer_setup p list begun)
-      (subst (λ (report : Report). server_agrees server_setup report ≡ true) (sym reports) (by_server server_setup s pd mac checked)) in
-      rw (peer_reported peer_setup p list begun now is_selected in_view, server_reported server_setup s pd mac checked other is_current in_other) agreed
+      (subst (λ (report : Report). server_agrees server_setup report ≡ true) (sym reports) (by_server server_setup s pd checked)) in
+      rw (peer_reported peer_setup p list begun now is_selected in_view, server_reported server_setup s pd checked other is_current in_other) agreed

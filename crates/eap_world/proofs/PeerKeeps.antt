@@ -7,10 +7,12 @@ use Rattle.eap_base.specs.declared.setup.Suite.{Suite}
 use Rattle.eap_base.specs.Setup.{psk_kind, gpsk_kind, is_among}
 use Rattle.eap_packet.specs.declared.cause.Cause.{Cause}
 use Rattle.eap_packet.specs.declared.state.State.{State}
-use Rattle.gpsk_messages.specs.Message.{Message, gpsk1, protected_fail}
+use Rattle.gpsk_messages.specs.Message.{Message, gpsk1, gpsk3, protected_fail, covered_of}
 use Rattle.gpsk_messages.specs.Reading as gpsk_reading
 use Rattle.psk_messages.specs.Message.{psk1}
 use Rattle.psk_messages.specs.Reading as psk_reading
+use Rattle.eax_mode.specs.Eax.{eax_tag}
+use Rattle.login_keys.specs.Gkdf.{gpsk_tag_of}
 use Rattle.login_policy.specs.Policy.{picked_suite}
 use Rattle.eap_method.specs.declared.tags.TagRecord.{TagRecord}
 use Rattle.eap_method.specs.declared.tags.Tags.{Tags}
@@ -24,6 +26,7 @@ use Rattle.eap_method.specs.GpskTags.{sk_record}
 use Rattle.eap_method.specs.Names.{accepts_name}
 use Rattle.eap_method.specs.Peer.{PeerViews, credential_for, views_begun, psk_turn, gpsk_turn, peer_turn}
 use Rattle.eap_method.specs.PskPeer as psk
+use Rattle.eap_method.specs.PskTags.{channel_nonce}
 use Rattle.eap_method.specs.Steps.{no_tags}
 use Rattle.eap_method.specs.Turns.{PeerOutcome, body_of, discarded}
 use Rattle.method_laws.specs.GpskPeerRows as gpsk_row
@@ -37,7 +40,7 @@ use Rattle.peer_machine.specs.Rows.{Calls, first, again}
 use Rattle.peer_machine.proofs.PeerRows.{peer_answers_are_rows}
 use Rattle.eap_world.specs.Verdict.{is_success}
 use Rattle.eap_world.specs.Records.{AreFew}
-use Rattle.eap_world.specs.PeerStands.{psk2_record, gpsk2_record, gpsk3_taken, result_for, PskPeerTags, psk_unset, psk_fresh, psk_waits, psk_over, GpskPeerTags, gpsk_unset, gpsk_fresh, gpsk_waits, gpsk_confirmed, gpsk_failed, gpsk_barred, PeerTags, none_selected, psk_selected, gpsk_selected, HasSucceeded, psk_succeeded, gpsk_succeeded, PeerStands}
+use Rattle.eap_world.specs.PeerStands.{psk2_record, psk3_taken, gpsk2_record, gpsk3_taken, result_for, PskPeerTags, psk_unset, psk_fresh, psk_waits, psk_over, GpskPeerTags, gpsk_unset, gpsk_fresh, gpsk_waits, gpsk_confirmed, gpsk_failed, gpsk_barred, PeerTags, none_selected, psk_selected, gpsk_selected, HasSucceeded, psk_succeeded, gpsk_succeeded, PeerStands}
 use Rattle.eap_world.proofs.OneMethod.{apart, goes_on}
 
 -- ---- the begin
@@ -81,8 +84,12 @@ module _ (setup : PeerSetup) where
 
   psk_confirms : (login : psk.Login) (good : Bool) (header mac tag : List ℕ) (sealed id : ℕ) (accepted made : List TagRecord)
       → PskPeerTags setup (psk.wait login) accepted made
+      → psk.mac_s_of login ≡ mac → eax_tag (psk.keys_of login).tek (channel_nonce 0) header (sealed ∷ []) ≡ tag
       → PskPeerTags setup (psk.over login good) (accepted ++ psk.psk3_records login header mac tag sealed) (made ++ psk.psk4_record login id (result_for good))
-  psk_confirms login good header mac tag sealed id _ _ (psk_waits _ facts) = psk_over login good header mac tag sealed id facts
+  psk_confirms login good header mac tag sealed id _ _ (psk_waits _ facts) has_mac has_tag =
+      (let same : psk3_taken login header sealed ≡ psk.psk3_records login header mac tag sealed = rw (has_mac, has_tag) refl in
+      subst (λ (taken : List TagRecord). PskPeerTags setup (psk.over login good) taken (psk2_record login ∷ psk.psk4_record login id (result_for good)))
+      same (psk_over login good header sealed id facts))
 
   gpsk_answers : (cred : Credential) (nonce id_s rand_s list body : List ℕ) (suite : Suite) (accepted made : List TagRecord)
       → GpskPeerTags setup (gpsk.fresh cred nonce) accepted made → gpsk_reading.read_of None body ≡ Ok (gpsk1 id_s rand_s list)
@@ -95,20 +102,28 @@ module _ (setup : PeerSetup) where
 
   module _ (login : gpsk.Login) where
     gpsk_confirms : (pd mac : List ℕ) (message : Message) (accepted made : List TagRecord) → GpskPeerTags setup (gpsk.wait login) accepted made
-        → gpsk3_taken login pd mac ≡ message
+        → gpsk_tag_of login.suite (gpsk.keys_of login).sk (covered_of message) ≡ mac → gpsk3 login.nonce login.rand_s login.id_s login.suite pd mac ≡ message
         → GpskPeerTags setup (gpsk.over login true) (accepted ++ sk_record login.cred.psk message ∷ []) (made ++ sk_record login.cred.psk (gpsk.gpsk4_of login) ∷ [])
-    gpsk_confirms pd mac message _ _ (gpsk_waits _ list facts) same =
-        subst (λ (taken : Message). GpskPeerTags setup (gpsk.over login true) (sk_record login.cred.psk taken ∷ []) (gpsk2_record login list ∷ sk_record login.cred.psk (gpsk.gpsk4_of login) ∷ []))
-        same (gpsk_confirmed login list pd mac facts)
+    unfolding covered_of
+    gpsk_confirms pd mac message _ _ (gpsk_waits _ list facts) has_mac same =
+        (let right = ap (λ (m : Message). gpsk_tag_of login.suite (gpsk.keys_of login).sk (covered_of m)) same ∙ has_mac in
+        let taken : gpsk3_taken login pd ≡ message = ap (λ (t : List ℕ). gpsk3 login.nonce login.rand_s login.id_s login.suite pd t) right ∙ same in
+        subst (λ (m : Message). GpskPeerTags setup (gpsk.over login true) (sk_record login.cred.psk m ∷ []) (gpsk2_record login list ∷ sk_record login.cred.psk (gpsk.gpsk4_of login) ∷ []))
+        taken (gpsk_confirmed login list pd facts))
 
     gpsk_fails : (accepted made : List TagRecord) → GpskPeerTags setup (gpsk.wait login) accepted made
         → GpskPeerTags setup (gpsk.over login false) (accepted ++ []) (made ++ [])
     gpsk_fails _ _ (gpsk_waits _ list facts) = gpsk_failed login list facts
 
     gpsk_bars : (code : ℕ) (mac : List ℕ) (accepted made : List TagRecord) → GpskPeerTags setup (gpsk.wait login) accepted made
+        → gpsk_tag_of login.suite (gpsk.keys_of login).sk (covered_of (protected_fail code mac)) ≡ mac
         → GpskPeerTags setup (gpsk.over login false) (accepted ++ sk_record login.cred.psk (protected_fail code mac) ∷ [])
         (made ++ sk_record login.cred.psk (gpsk.protected_fail_of login code) ∷ [])
-    gpsk_bars code mac _ _ (gpsk_waits _ list facts) = gpsk_barred login list code mac facts
+    unfolding covered_of
+    gpsk_bars code mac _ _ (gpsk_waits _ list facts) has_mac =
+        subst (λ (t : List ℕ). GpskPeerTags setup (gpsk.over login false) (sk_record login.cred.psk (protected_fail code t) ∷ [])
+        (gpsk2_record login list ∷ sk_record login.cred.psk (gpsk.protected_fail_of login code) ∷ []))
+        has_mac (gpsk_barred login list code facts)
 
   module _ (octets : List ℕ) (accepted made : List TagRecord) where
     at_psk : (view seen : psk.View) → view ≡ seen → PskPeerTags setup view accepted made → PskPeerTags setup seen accepted made
@@ -123,13 +138,13 @@ module _ (setup : PeerSetup) where
         replies _ _ _ _ _
         (psk_answers cred nonce rand_s id_s _ accepted made (at_psk view _ in_view told) is_read is_accepted)
         (λ e. absurd (true≢false e))
-    psk_turned view _ told (psk_row.confirms_success login _ mac _ tag sealed in_view _ _ _ _ _ _ _ _ _) =
+    psk_turned view _ told (psk_row.confirms_success login _ mac _ tag sealed in_view _ _ _ _ has_mac _ has_tag _ _) =
         replies _ _ _ _ _
-        (psk_confirms login true _ mac tag sealed _ accepted made (at_psk view _ in_view told))
+        (psk_confirms login true _ mac tag sealed _ accepted made (at_psk view _ in_view told) has_mac has_tag)
         (λ _. (login, refl))
-    psk_turned view _ told (psk_row.confirms_failure login _ mac _ tag sealed in_view _ _ _ _ _ _ _ _ _ _ _) =
+    psk_turned view _ told (psk_row.confirms_failure login _ mac _ tag sealed in_view _ _ _ _ has_mac _ has_tag _ _ _ _) =
         replies _ _ _ _ _
-        (psk_confirms login false _ mac tag sealed _ accepted made (at_psk view _ in_view told))
+        (psk_confirms login false _ mac tag sealed _ accepted made (at_psk view _ in_view told) has_mac has_tag)
         (λ e. absurd (true≢false e))
 
     at_gpsk : (view seen : gpsk.View) → view ≡ seen → GpskPeerTags setup view accepted made → GpskPeerTags setup seen accepted made
@@ -145,15 +160,15 @@ module _ (setup : PeerSetup) where
         (gpsk_answers cred nonce id_s rand_s list _ suite accepted made (at_gpsk view _ in_view told)
         is_read is_accepted picked)
         (λ e. absurd (true≢false e))
-    gpsk_turned view _ told (gpsk_row.confirms login rand_p rand_s id_s suite pd mac in_view _ _ own_nonce their_nonce their_name one_suite _ _) =
+    gpsk_turned view _ told (gpsk_row.confirms login rand_p rand_s id_s suite pd mac in_view _ _ own_nonce their_nonce their_name one_suite _ has_mac) =
         replies _ _ _ _ _
-        (gpsk_confirms login pd mac _ accepted made (at_gpsk view _ in_view told) cc)
+        (gpsk_confirms login pd mac (gpsk3 rand_p rand_s id_s suite pd mac) accepted made (at_gpsk view _ in_view told) has_mac cc)
         (λ _. (login, refl))
     gpsk_turned view _ told (gpsk_row.repeats_fail login code in_view _) =
         replies _ _ _ _ _ (gpsk_fails login accepted made (at_gpsk view _ in_view told))
         (λ e. absurd (true≢false e))
-    gpsk_turned view _ told (gpsk_row.repeats_protected login code mac in_view _ _ _) =
-        replies _ _ _ _ _ (gpsk_bars login code mac accepted made (at_gpsk view _ in_view told))
+    gpsk_turned view _ told (gpsk_row.repeats_protected login code mac in_view _ _ has_mac) =
+        replies _ _ _ _ _ (gpsk_bars login code mac accepted made (at_gpsk view _ in_view told) has_mac)
         (λ e. absurd (true≢false e))
 
 -- ---- the calls

@@ -81,10 +81,10 @@ module _ (peer_setup : PeerSetup) (server_setup : ServerSetup) (p : peer.Login) 
     (peer_nonce : length peer_setup.nonce ≡ 32) (server_nonce : length server_setup.nonce ≡ 32) where
   -- the MAC_P that the server accepted is one that the peer made, the MAC_S that the peer accepted one
   -- that the server made
-  pub same_login : (mac : List ℕ) (peer_id server_id : ℕ)
-      → IsIn (server_stands.psk2_record s checked.mac) (peer_stands.psk2_record p ∷ peer.psk4_record p peer_id 2)
-      → IsIn (ak_record p.cred.psk (peer.mac_s_covers p) mac) (server.psk3_records s server_id) → IsSame p s
-  same_login mac peer_id server_id first second =
+  pub same_login : (peer_id server_id : ℕ)
+      → IsIn (server_stands.psk2_record s) (peer_stands.psk2_record p ∷ peer.psk4_record p peer_id 2)
+      → IsIn (ak_record p.cred.psk (peer.mac_s_covers p) (peer.mac_s_of p)) (server.psk3_records s server_id) → IsSame p s
+  same_login peer_id server_id first second =
       elim (among_two _ _ _ first) [
         | inl one ↦ elim (among_two _ _ _ second) [
           | inl other ↦ covers_same p s

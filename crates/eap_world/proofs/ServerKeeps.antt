@@ -11,10 +11,12 @@ use Rattle.eap_base.specs.Users.{user_of}
 use Rattle.eap_packet.specs.declared.cause.Cause.{Cause}
 use Rattle.eap_packet.specs.declared.state.State.{State}
 use Rattle.eap_packet.specs.declared.state.State.TheVariants as state
-use Rattle.gpsk_messages.specs.Message.{Message, gpsk2, gpsk4, protected_fail}
+use Rattle.gpsk_messages.specs.Message.{Message, gpsk2, gpsk4, protected_fail, covered_of}
 use Rattle.gpsk_messages.specs.Reading as gpsk_reading
 use Rattle.psk_messages.specs.Message.{psk2}
 use Rattle.psk_messages.specs.Reading as psk_reading
+use Rattle.eax_mode.specs.Eax.{eax_tag}
+use Rattle.login_keys.specs.Gkdf.{gpsk_tag_of}
 use Rattle.login_policy.proofs.Choices.{next_is_ordered}
 use Rattle.eap_method.specs.declared.tags.TagRecord.{TagRecord}
 use Rattle.eap_method.specs.declared.tags.Tags.{Tags}
@@ -24,7 +26,7 @@ use Rattle.eap_method.specs.declared.values.ServerSide.{ServerSide}
 use Rattle.eap_method.specs.GpskServer as gpsk
 use Rattle.eap_method.specs.GpskTags.{sk_record, suite_list}
 use Rattle.eap_method.specs.PskServer as psk
-use Rattle.eap_method.specs.PskTags.{ak_record, tek_record, rand_of}
+use Rattle.eap_method.specs.PskTags.{ak_record, tek_record, channel_nonce, rand_of}
 use Rattle.eap_method.specs.Server.{ServerViews, side_of, server_offer, Offer, server_turn, psk_hears, gpsk_hears, psk_offer, gpsk_offer}
 use Rattle.eap_method.specs.Steps.{no_tags}
 use Rattle.eap_method.specs.Turns.{ServerOutcome, body_of, dropped}
@@ -82,9 +84,13 @@ module _ (setup : ServerSetup) (users : List User) (own_users : users ≡ setup.
       → PskServerTags setup (psk.asked own nonce) accepted made
       → psk_reading.read_of body ≡ Ok (psk2 rand_s rand_p mac id_p) → rand_s ≡ rand_of nonce → knows id_p psk_kind user
       → (let login = psk_row.login_from own nonce id_p user rand_p in
-      PskServerTags setup (psk.checked login) (accepted ++ ak_record user.psk (psk.mac_p_covers login) mac ∷ []) (made ++ psk.psk3_records login next_id))
-  psk_answers _ _ rand_s rand_p mac id_p body user next_id _ _ (psk_asked ordered) is_read own_nonce known =
-      psk_checked _ next_id
+      psk.mac_p_of login ≡ mac
+      → PskServerTags setup (psk.checked login) (accepted ++ ak_record user.psk (psk.mac_p_covers login) mac ∷ []) (made ++ psk.psk3_records login next_id))
+  psk_answers _ _ rand_s rand_p mac id_p body user next_id _ _ (psk_asked ordered) is_read own_nonce known has_mac =
+      (let login = psk_row.login_from (side_of setup) setup.nonce id_p user rand_p in
+      subst (λ (m : List ℕ). PskServerTags setup (psk.checked login) (ak_record user.psk (psk.mac_p_covers login) m ∷ []) (psk.psk3_records login next_id))
+      has_mac
+      (psk_checked login next_id
       (record {
         ordered = ordered;
         own = refl;
@@ -94,14 +100,16 @@ module _ (setup : ServerSetup) (users : List User) (own_users : users ≡ setup.
         key = refl;
         r = refl;
         body = body;
-        mac = mac;
-        is_read = is_read ∙ ap (λ (r : List ℕ). Ok (psk2 r rand_p mac id_p)) own_nonce;
-      })
+        is_read = is_read
+            ∙ (ap (λ (r : List ℕ). Ok (psk2 r rand_p mac id_p)) own_nonce ∙ ap (λ (m : List ℕ). Ok (psk2 (psk.rand_s_of login) rand_p m id_p)) (sym has_mac));
+      })))
 
   psk_ends : (login : psk.Login) (good : Bool) (header tag : List ℕ) (sealed : ℕ) → (good ≡ true → login.r ≡ 2) → (accepted made : List TagRecord)
-      → PskServerTags setup (psk.checked login) accepted made
+      → PskServerTags setup (psk.checked login) accepted made → eax_tag (psk.keys_of login).tek (channel_nonce 1) header (sealed ∷ []) ≡ tag
       → PskServerTags setup (psk.over login good) (accepted ++ tek_record login.psk 1 header sealed tag ∷ []) (made ++ [])
-  psk_ends login good header tag sealed r_sent _ _ (psk_checked _ id facts) = psk_over login good header tag sealed id facts r_sent
+  psk_ends login good header tag sealed r_sent _ _ (psk_checked _ id facts) has_tag =
+      subst (λ (t : List ℕ). PskServerTags setup (psk.over login good) (psk2_record login ∷ tek_record login.psk 1 header sealed t ∷ []) (psk.psk3_records login id))
+      has_tag (psk_over login good header sealed id facts r_sent)
 
   gpsk_refuses : (own : ServerSide) (nonce : List ℕ) (accepted made : List TagRecord) → GpskServerTags setup (gpsk.asked own nonce) accepted made
       → GpskServerTags setup (gpsk.refusing own nonce) (accepted ++ []) (made ++ [])
@@ -111,18 +119,18 @@ module _ (setup : ServerSetup) (users : List User) (own_users : users ≡ setup.
       → GpskServerTags setup (gpsk.refused own nonce) (accepted ++ []) (made ++ [])
   gpsk_gives_up _ _ _ _ gpsk_refusing = gpsk_refused
 
-  module _ (id_p rand_p pd mac body : List ℕ) (suite : Suite) (user : User) (known : knows id_p gpsk_kind user) (message : Message) where
+  module _ (id_p rand_p pd body : List ℕ) (suite : Suite) (user : User) (known : knows id_p gpsk_kind user) (message : Message) where
     abbrev login_of : ServerSide → List ℕ → gpsk.Login
     login_of own nonce = gpsk_row.login_from own nonce id_p user rand_p suite
 
     -- a GPSK-2 that repeats what was sent
     record Repeats (own : ServerSide) (nonce : List ℕ) : Type 0 where
-      pub same : gpsk2_taken (login_of own nonce) pd mac ≡ message
+      pub same : gpsk2_taken (login_of own nonce) pd ≡ message
       pub is_read : gpsk_reading.read_of None body ≡ Ok message
       pub offered : is_among own.suites (suite_number suite) ≡ true
 
     facts_of : (barred : Bool) → is_among setup.methods gpsk_kind ≡ true → Repeats (side_of setup) setup.nonce → user.barred ≡ barred
-        → GpskChecked setup (login_of (side_of setup) setup.nonce) barred pd mac
+        → GpskChecked setup (login_of (side_of setup) setup.nonce) barred pd
     unfolding side_of
     facts_of barred ordered repeats standing = record {
       ordered = ordered;
@@ -144,7 +152,7 @@ module _ (setup : ServerSetup) (users : List User) (own_users : users ≡ setup.
     gpsk_bars _ _ _ _ (gpsk_asked ordered) repeats standing =
         (let login = login_of (side_of setup) setup.nonce in
         subst (λ (m : Message). GpskServerTags setup (gpsk.barring login) (sk_record user.psk m ∷ []) (sk_record user.psk (gpsk.bars_with login) ∷ []))
-        repeats.same (gpsk_barring login pd mac (facts_of true ordered repeats standing)))
+        repeats.same (gpsk_barring login pd (facts_of true ordered repeats standing)))
 
     gpsk_checks : (own : ServerSide) (nonce : List ℕ) (accepted made : List TagRecord) → GpskServerTags setup (gpsk.asked own nonce) accepted made
         → Repeats own nonce → user.barred ≡ false
@@ -153,21 +161,38 @@ module _ (setup : ServerSetup) (users : List User) (own_users : users ≡ setup.
     gpsk_checks _ _ _ _ (gpsk_asked ordered) repeats standing =
         (let login = login_of (side_of setup) setup.nonce in
         subst (λ (m : Message). GpskServerTags setup (gpsk.checked login) (sk_record user.psk m ∷ []) (sk_record user.psk (gpsk.gpsk3_of login) ∷ []))
-        repeats.same (gpsk_checked login pd mac (facts_of false ordered repeats standing)))
+        repeats.same (gpsk_checked login pd (facts_of false ordered repeats standing)))
 
   module _ (login : gpsk.Login) where
-    gpsk_ends_barring : (code : ℕ) (mac : List ℕ) (accepted made : List TagRecord) → GpskServerTags setup (gpsk.barring login) accepted made
-        → code ≡ gpsk.authorization_failure
-        → GpskServerTags setup (gpsk.over login false) (accepted ++ sk_record login.psk (protected_fail code mac) ∷ []) (made ++ [])
-    gpsk_ends_barring code mac _ _ (gpsk_barring _ pd sent facts) same =
-        subst
-        (λ (c : ℕ). GpskServerTags setup (gpsk.over login false)
-        (sk_record login.psk (gpsk2_taken login pd sent) ∷ sk_record login.psk (protected_fail c mac) ∷ []) (sk_record login.psk (gpsk.bars_with login) ∷ []))
-        (sym same) (gpsk_barred login pd sent mac facts)
+    -- a message with the MAC of its covered octets
+    gpsk2_same : (pd mac : List ℕ) (message : Message)
+        → gpsk_tag_of login.suite (gpsk.keys_of login).sk (covered_of message) ≡ mac
+        → gpsk2 login.id_p login.own.id_s login.rand_p login.nonce (suite_list login.own.suites) login.suite pd mac ≡ message → gpsk2_taken login pd ≡ message
+    unfolding covered_of
+    gpsk2_same pd mac message has_mac same =
+        ap (λ (t : List ℕ). gpsk2 login.id_p login.own.id_s login.rand_p login.nonce (suite_list login.own.suites) login.suite pd t)
+        (ap (λ (m : Message). gpsk_tag_of login.suite (gpsk.keys_of login).sk (covered_of m)) same ∙ has_mac) ∙ same
 
-    gpsk_ends_well : (last_pd last_mac : List ℕ) (accepted made : List TagRecord) → GpskServerTags setup (gpsk.checked login) accepted made
-        → GpskServerTags setup (gpsk.over login true) (accepted ++ sk_record login.psk (gpsk4 last_pd last_mac) ∷ []) (made ++ [])
-    gpsk_ends_well last_pd last_mac _ _ (gpsk_checked _ pd mac facts) = gpsk_confirmed login pd mac last_pd last_mac facts
+    gpsk_ends_barring : (code : ℕ) (mac : List ℕ) (accepted made : List TagRecord) → GpskServerTags setup (gpsk.barring login) accepted made
+        → code ≡ gpsk.authorization_failure → gpsk_tag_of login.suite (gpsk.keys_of login).sk (covered_of (protected_fail code mac)) ≡ mac
+        → GpskServerTags setup (gpsk.over login false) (accepted ++ sk_record login.psk (protected_fail code mac) ∷ []) (made ++ [])
+    unfolding covered_of
+    gpsk_ends_barring code mac _ _ (gpsk_barring _ pd facts) own_code has_mac =
+        (let same : protected_fail gpsk.authorization_failure mac ≡ protected_fail code mac = ap (λ (c : ℕ). protected_fail c mac) (sym own_code) in
+        let right = ap (λ (m : Message). gpsk_tag_of login.suite (gpsk.keys_of login).sk (covered_of m)) same ∙ has_mac in
+        let taken : gpsk.bars_with login ≡ protected_fail code mac = ap (λ (t : List ℕ). protected_fail gpsk.authorization_failure t) right ∙ same in
+        subst (λ (m : Message). GpskServerTags setup (gpsk.over login false)
+        (sk_record login.psk (gpsk2_taken login pd) ∷ sk_record login.psk m ∷ []) (sk_record login.psk (gpsk.bars_with login) ∷ []))
+        taken (gpsk_barred login pd facts))
+
+    gpsk_ends_well : (last_pd mac : List ℕ) (accepted made : List TagRecord) → GpskServerTags setup (gpsk.checked login) accepted made
+        → gpsk_tag_of login.suite (gpsk.keys_of login).sk (covered_of (gpsk4 last_pd mac)) ≡ mac
+        → GpskServerTags setup (gpsk.over login true) (accepted ++ sk_record login.psk (gpsk4 last_pd mac) ∷ []) (made ++ [])
+    unfolding covered_of
+    gpsk_ends_well last_pd mac _ _ (gpsk_checked _ pd facts) has_mac =
+        subst (λ (t : List ℕ). GpskServerTags setup (gpsk.over login true)
+        (sk_record login.psk (gpsk2_taken login pd) ∷ sk_record login.psk (gpsk4 last_pd t) ∷ []) (sk_record login.psk (gpsk.gpsk3_of login) ∷ []))
+        has_mac (gpsk_confirmed login pd last_pd facts)
 
   module _ (next_id : ℕ) (octets : List ℕ) (accepted made : List TagRecord) where
     at_psk : (view seen : psk.View) → view ≡ seen → PskServerTags setup view accepted made → PskServerTags setup seen accepted made
@@ -182,17 +207,17 @@ module _ (setup : ServerSetup) (users : List User) (own_users : users ≡ setup.
     psk_turned view _ told (psk_row.refuses own nonce _ _ _ _ in_view _ _ _) =
         ends false _ _ (psk_refuses own nonce accepted made (at_psk view _ in_view told))
         (λ e. absurd (false≢true e))
-    psk_turned view _ told (psk_row.answers own nonce rand_s rand_p mac id_p user in_view is_read own_nonce known _) =
+    psk_turned view _ told (psk_row.answers own nonce rand_s rand_p mac id_p user in_view is_read own_nonce known has_mac) =
         requests _ _ _
         (psk_answers own nonce rand_s rand_p mac id_p _ user next_id accepted made (at_psk view _ in_view told)
-        is_read own_nonce known)
-    psk_turned view _ told (psk_row.ends_success login _ _ tag sealed in_view _ _ _ _ _ _ _ own_success _) =
+        is_read own_nonce known has_mac)
+    psk_turned view _ told (psk_row.ends_success login _ _ tag sealed in_view _ _ _ _ has_tag _ _ own_success _) =
         ends true _ _
-        (psk_ends login true _ tag sealed (λ _. own_success) accepted made (at_psk view _ in_view told))
+        (psk_ends login true _ tag sealed (λ _. own_success) accepted made (at_psk view _ in_view told) has_tag)
         (λ _. (login, refl))
-    psk_turned view _ told (psk_row.ends_failure login _ _ tag sealed in_view _ _ _ _ _ _ _ _ _) =
+    psk_turned view _ told (psk_row.ends_failure login _ _ tag sealed in_view _ _ _ _ has_tag _ _ _ _) =
         ends false _ _
-        (psk_ends login false _ tag sealed (λ e. absurd (false≢true e)) accepted made (at_psk view _ in_view told))
+        (psk_ends login false _ tag sealed (λ e. absurd (false≢true e)) accepted made (at_psk view _ in_view told) has_tag)
         (λ e. absurd (false≢true e))
 
     at_gpsk : (view seen : gpsk.View) → view ≡ seen → GpskServerTags setup view accepted made → GpskServerTags setup seen accepted made
@@ -206,22 +231,22 @@ module _ (setup : ServerSetup) (users : List User) (own_users : users ≡ setup.
     gpsk_turned view _ told (gpsk_row.drops c) = drops view c
     gpsk_turned view _ told (gpsk_row.refuses own nonce _ _ _ _ _ _ _ _ in_view _ _ _ _ _ _ _) =
         requests _ _ _ (gpsk_refuses own nonce accepted made (at_gpsk view _ in_view told))
-    gpsk_turned view _ told (gpsk_row.bars own nonce id_p _ rand_p _ _ suite pd mac user in_view is_read _ own_name own_nonce own_list offered known barred _ _) =
+    gpsk_turned view _ told (gpsk_row.bars own nonce id_p id_s rand_p rand_s list suite pd mac user in_view is_read _ own_name own_nonce own_list offered known barred _ has_mac) =
         requests _ _ _
-        (gpsk_bars id_p rand_p pd mac _ suite user known _ own nonce accepted made (at_gpsk view _ in_view told)
-        (record { same = cc; is_read = is_read; offered = offered }) barred)
-    gpsk_turned view _ told (gpsk_row.checks own nonce id_p _ rand_p _ _ suite pd mac user in_view is_read _ own_name own_nonce own_list offered known welcome _ _) =
+        (gpsk_bars id_p rand_p pd _ suite user known _ own nonce accepted made (at_gpsk view _ in_view told)
+        (record { same = gpsk2_same (gpsk_row.login_from own nonce id_p user rand_p suite) pd mac (gpsk2 id_p id_s rand_p rand_s list suite pd mac) has_mac cc; is_read = is_read; offered = offered }) barred)
+    gpsk_turned view _ told (gpsk_row.checks own nonce id_p id_s rand_p rand_s list suite pd mac user in_view is_read _ own_name own_nonce own_list offered known welcome _ has_mac) =
         requests _ _ _
-        (gpsk_checks id_p rand_p pd mac _ suite user known _ own nonce accepted made (at_gpsk view _ in_view told)
-        (record { same = cc; is_read = is_read; offered = offered }) welcome)
+        (gpsk_checks id_p rand_p pd _ suite user known _ own nonce accepted made (at_gpsk view _ in_view told)
+        (record { same = gpsk2_same (gpsk_row.login_from own nonce id_p user rand_p suite) pd mac (gpsk2 id_p id_s rand_p rand_s list suite pd mac) has_mac cc; is_read = is_read; offered = offered }) welcome)
     gpsk_turned view _ told (gpsk_row.ends_refusing own nonce _ in_view _ _) =
         ends false _ _ (gpsk_gives_up own nonce accepted made (at_gpsk view _ in_view told))
         (λ e. absurd (false≢true e))
-    gpsk_turned view _ told (gpsk_row.ends_barring login code mac in_view _ own_code _ _) =
-        ends false _ _ (gpsk_ends_barring login code mac accepted made (at_gpsk view _ in_view told) own_code)
+    gpsk_turned view _ told (gpsk_row.ends_barring login code mac in_view _ own_code _ has_mac) =
+        ends false _ _ (gpsk_ends_barring login code mac accepted made (at_gpsk view _ in_view told) own_code has_mac)
         (λ e. absurd (false≢true e))
-    gpsk_turned view _ told (gpsk_row.ends_checked login pd mac in_view _ _ _) =
-        ends true _ _ (gpsk_ends_well login pd mac accepted made (at_gpsk view _ in_view told))
+    gpsk_turned view _ told (gpsk_row.ends_checked login pd mac in_view _ _ has_mac) =
+        ends true _ _ (gpsk_ends_well login pd mac accepted made (at_gpsk view _ in_view told) has_mac)
         (λ _. (login, refl))
 
 -- ---- the calls

@@ -66,7 +66,7 @@ module _ (setup : Setup) (w : WorldNow) (login : psk_peer.Login) (facts : PskBeg
 
 -- by EAP-GPSK
 module _ (setup : Setup) (w : WorldNow) (login : gpsk_peer.Login) (list : List ℕ) (facts : GpskBegun setup.peer login list)
-    (other : gpsk_server.Login) (pd mac : List ℕ) (checked : GpskChecked setup.server other false pd mac) (same : gpsk.IsSame login list other) where
+    (other : gpsk_server.Login) (pd : List ℕ) (checked : GpskChecked setup.server other false pd) (same : gpsk.IsSame login list other) where
   gpsk_server_name : login.id_s ≡ setup.server.name
   unfolding side_of
   gpsk_server_name = same.id_s ∙ ap (λ own. own.id_s) checked.own
@@ -92,7 +92,7 @@ module _ (setup : Setup) (w : WorldNow) (login : gpsk_peer.Login) (list : List �
       record {
         report = gpsk_peer.report_of login;
         holds = gpsk.peer_reported setup.peer login list facts w.parties.peer is_selected in_view;
-        same = gpsk.server_reported setup.server other pd mac checked w.parties.server is_current in_other ∙ ap Some (sym (gpsk.same_reports login list other same));
+        same = gpsk.server_reported setup.server other pd checked w.parties.server is_current in_other ∙ ap Some (sym (gpsk.same_reports login list other same));
         id_p = name;
         id_s = gpsk_server_name;
         user = checked.user;
@@ -105,8 +105,8 @@ module _ (setup : Setup) (w : WorldNow) (login : gpsk_peer.Login) (list : List �
 both_theirs : (setup : Setup) (w : WorldNow) → BothSucceed setup.peer setup.server w.parties.peer w.parties.server → AreTheirs setup w
 both_theirs setup w (by_psk login facts other checked is_selected in_view is_current in_other r_sent same) =
     psk_theirs setup w login facts other checked same is_selected in_view is_current in_other r_sent
-both_theirs setup w (by_gpsk login list facts other pd mac checked is_selected in_view is_current in_other same) =
-    gpsk_theirs setup w login list facts other pd mac checked same is_selected in_view is_current in_other
+both_theirs setup w (by_gpsk login list facts other pd checked is_selected in_view is_current in_other same) =
+    gpsk_theirs setup w login list facts other pd checked same is_selected in_view is_current in_other
 
 pub honest_names_are_theirs : HonestNamesAreTheirs
 honest_names_are_theirs setup events whole honest p_in s_in =

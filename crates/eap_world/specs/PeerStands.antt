@@ -3,18 +3,19 @@
 use Rattle.std.specs.Prelude.{◌≡◌, ℕ, List, [], ◌∷◌, Bool, true, false, if◌then◌else◌, Option, None, Some, Ok}
 use Rattle.eap_base.specs.declared.setup.PeerSetup.{PeerSetup}
 use Rattle.eap_base.specs.Setup.{psk_kind, gpsk_kind, is_among}
-use Rattle.gpsk_messages.specs.Message.{Message, gpsk1, gpsk3, protected_fail}
+use Rattle.gpsk_messages.specs.Message.{Message, gpsk1, gpsk3}
 use Rattle.gpsk_messages.specs.Reading as gpsk_reading
 use Rattle.psk_messages.specs.Message.{psk1}
 use Rattle.psk_messages.specs.Reading as psk_reading
+use Rattle.eax_mode.specs.Eax.{eax_tag}
 use Rattle.login_policy.specs.Policy.{picked_suite}
 use Rattle.eap_method.specs.declared.tags.TagRecord.{TagRecord}
 use Rattle.eap_method.specs.GpskPeer as gpsk
-use Rattle.eap_method.specs.GpskTags.{sk_record}
+use Rattle.eap_method.specs.GpskTags.{sk_record, tagged}
 use Rattle.eap_method.specs.Names.{accepts_name}
 use Rattle.eap_method.specs.Peer.{PeerViews, credential_for}
 use Rattle.eap_method.specs.PskPeer as psk
-use Rattle.eap_method.specs.PskTags.{ak_record, done_success, done_failure}
+use Rattle.eap_method.specs.PskTags.{ak_record, channel_nonce, done_success, done_failure}
 use Rattle.peer_machine.specs.PeerTable.{PeerNow, is_fail}
 use Rattle.eap_world.specs.Verdict.{is_success}
 
@@ -31,6 +32,11 @@ pub record PskBegun (setup : PeerSetup) (login : psk.Login) : Type 0 where
 abbrev pub psk2_record : psk.Login → TagRecord
 psk2_record login = ak_record login.cred.psk (psk.mac_p_covers login) (psk.mac_p_of login)
 
+-- the records of a PSK-3 whose tags are right
+abbrev pub psk3_taken : psk.Login → List ℕ → ℕ → List TagRecord
+psk3_taken login header sealed =
+    psk.psk3_records login header (psk.mac_s_of login) (eax_tag (psk.keys_of login).tek (channel_nonce 0) header (sealed ∷ [])) sealed
+
 -- R that answers a PSK-3 in PSK-4
 abbrev pub result_for : Bool → ℕ
 result_for good = if good then done_success else done_failure
@@ -43,8 +49,8 @@ pub data PskPeerTags (setup : PeerSetup) : psk.View → List TagRecord → List 
   -- PSK-2 is sent
   psk_waits : (login : psk.Login) (facts : PskBegun setup login) → PskPeerTags setup (psk.wait login) [] (psk2_record login ∷ [])
   -- PSK-3 is accepted, and answered by PSK-4 with the same result
-  psk_over : (login : psk.Login) (good : Bool) (header mac tag : List ℕ) (sealed id : ℕ) (facts : PskBegun setup login)
-      → PskPeerTags setup (psk.over login good) (psk.psk3_records login header mac tag sealed)
+  psk_over : (login : psk.Login) (good : Bool) (header : List ℕ) (sealed id : ℕ) (facts : PskBegun setup login)
+      → PskPeerTags setup (psk.over login good) (psk3_taken login header sealed)
       (psk2_record login ∷ psk.psk4_record login id (result_for good))
 
 -- a login by EAP-GPSK that the peer has begun: what it keeps is its setup's, or was read of a GPSK-1
@@ -61,9 +67,9 @@ pub record GpskBegun (setup : PeerSetup) (login : gpsk.Login) (list : List ℕ) 
 abbrev pub gpsk2_record : gpsk.Login → List ℕ → TagRecord
 gpsk2_record login list = sk_record login.cred.psk (gpsk.gpsk2_of login list)
 
--- the GPSK-3 that it accepted
-abbrev pub gpsk3_taken : gpsk.Login → List ℕ → List ℕ → Message
-gpsk3_taken login pd mac = gpsk3 login.nonce login.rand_s login.id_s login.suite pd mac
+-- the GPSK-3 that it accepts
+abbrev pub gpsk3_taken : gpsk.Login → List ℕ → Message
+gpsk3_taken login pd = tagged login.suite (gpsk.keys_of login).sk (gpsk3 login.nonce login.rand_s login.id_s login.suite pd [])
 
 -- which tags a view of EAP-GPSK tells; a login that has failed had a GPSK-Fail or a GPSK-Protected-Fail
 pub data GpskPeerTags (setup : PeerSetup) : gpsk.View → List TagRecord → List TagRecord → Type 0 where
@@ -74,15 +80,15 @@ pub data GpskPeerTags (setup : PeerSetup) : gpsk.View → List TagRecord → Lis
   gpsk_waits : (login : gpsk.Login) (list : List ℕ) (facts : GpskBegun setup login list)
       → GpskPeerTags setup (gpsk.wait login) [] (gpsk2_record login list ∷ [])
   -- GPSK-3 is accepted, and answered by GPSK-4
-  gpsk_confirmed : (login : gpsk.Login) (list pd mac : List ℕ) (facts : GpskBegun setup login list)
-      → GpskPeerTags setup (gpsk.over login true) (sk_record login.cred.psk (gpsk3_taken login pd mac) ∷ [])
+  gpsk_confirmed : (login : gpsk.Login) (list pd : List ℕ) (facts : GpskBegun setup login list)
+      → GpskPeerTags setup (gpsk.over login true) (sk_record login.cred.psk (gpsk3_taken login pd) ∷ [])
       (gpsk2_record login list ∷ sk_record login.cred.psk (gpsk.gpsk4_of login) ∷ [])
   -- GPSK-Fail has no tag
   gpsk_failed : (login : gpsk.Login) (list : List ℕ) (facts : GpskBegun setup login list)
       → GpskPeerTags setup (gpsk.over login false) [] (gpsk2_record login list ∷ [])
-  -- GPSK-Protected-Fail is accepted, and answered by one with the same code
-  gpsk_barred : (login : gpsk.Login) (list : List ℕ) (code : ℕ) (mac : List ℕ) (facts : GpskBegun setup login list)
-      → GpskPeerTags setup (gpsk.over login false) (sk_record login.cred.psk (protected_fail code mac) ∷ [])
+  -- GPSK-Protected-Fail is accepted, and answered by the same
+  gpsk_barred : (login : gpsk.Login) (list : List ℕ) (code : ℕ) (facts : GpskBegun setup login list)
+      → GpskPeerTags setup (gpsk.over login false) (sk_record login.cred.psk (gpsk.protected_fail_of login code) ∷ [])
       (gpsk2_record login list ∷ sk_record login.cred.psk (gpsk.protected_fail_of login code) ∷ [])
 
 -- the tags of a peer are those of its selected method; there are none before it selects one

@@ -6,15 +6,16 @@ use Rattle.eap_base.specs.declared.users.User.{User}
 use Rattle.eap_base.specs.Setup.{psk_kind, gpsk_kind, is_among}
 use Rattle.eap_base.specs.Suite.{suite_number}
 use Rattle.eap_base.specs.Users.{user_of}
-use Rattle.gpsk_messages.specs.Message.{Message, gpsk2, gpsk4, protected_fail}
+use Rattle.gpsk_messages.specs.Message.{Message, gpsk2, gpsk4}
 use Rattle.gpsk_messages.specs.Reading as gpsk_reading
 use Rattle.psk_messages.specs.Message.{psk2}
 use Rattle.psk_messages.specs.Reading as psk_reading
+use Rattle.eax_mode.specs.Eax.{eax_tag}
 use Rattle.eap_method.specs.declared.tags.TagRecord.{TagRecord}
 use Rattle.eap_method.specs.GpskServer as gpsk
-use Rattle.eap_method.specs.GpskTags.{sk_record, suite_list}
+use Rattle.eap_method.specs.GpskTags.{sk_record, suite_list, tagged}
 use Rattle.eap_method.specs.PskServer as psk
-use Rattle.eap_method.specs.PskTags.{ak_record, tek_record}
+use Rattle.eap_method.specs.PskTags.{ak_record, tek_record, channel_nonce}
 use Rattle.eap_method.specs.Server.{ServerViews, side_of}
 use Rattle.server_machine.specs.ServerTable.{ServerNow, identity, is_proposed}
 use Rattle.eap_world.specs.Verdict.{is_success}
@@ -30,27 +31,38 @@ pub record PskChecked (setup : ServerSetup) (login : psk.Login) : Type 0 where
   pub key : login.psk ≡ user.psk
   pub r : login.r ≡ psk.r_for user.barred
   pub body : List ℕ
-  pub mac : List ℕ
-  pub is_read : psk_reading.read_of body ≡ Ok (psk2 (psk.rand_s_of login) login.rand_p mac login.id_p)
+  pub is_read : psk_reading.read_of body ≡ Ok (psk2 (psk.rand_s_of login) login.rand_p (psk.mac_p_of login) login.id_p)
 
--- the record of the PSK-2 that it accepted
-abbrev pub psk2_record : psk.Login → List ℕ → TagRecord
-psk2_record login mac = ak_record login.psk (psk.mac_p_covers login) mac
+-- the records of the PSK-2 and the PSK-4 that it accepts
+abbrev pub psk2_record : psk.Login → TagRecord
+psk2_record login = ak_record login.psk (psk.mac_p_covers login) (psk.mac_p_of login)
+
+abbrev pub psk4_taken : psk.Login → List ℕ → ℕ → TagRecord
+psk4_taken login header sealed = tek_record login.psk 1 header sealed (eax_tag (psk.keys_of login).tek (channel_nonce 1) header (sealed ∷ []))
 
 -- which tags a view of EAP-PSK tells
 pub data PskServerTags (setup : ServerSetup) : psk.View → List TagRecord → List TagRecord → Type 0 where
   psk_asked : (ordered : is_among setup.methods psk_kind ≡ true) → PskServerTags setup (psk.asked (side_of setup) setup.nonce) [] []
   -- PSK-2 is accepted, and answered by PSK-3
   psk_checked : (login : psk.Login) (id : ℕ) (facts : PskChecked setup login)
-      → PskServerTags setup (psk.checked login) (psk2_record login facts.mac ∷ []) (psk.psk3_records login id)
+      → PskServerTags setup (psk.checked login) (psk2_record login ∷ []) (psk.psk3_records login id)
   -- the user is unknown
   psk_refused : PskServerTags setup (psk.refused (side_of setup) setup.nonce) [] []
   -- PSK-4 is accepted too
-  psk_over : (login : psk.Login) (good : Bool) (header tag : List ℕ) (sealed id : ℕ) (facts : PskChecked setup login) (r_sent : good ≡ true → login.r ≡ 2)
-      → PskServerTags setup (psk.over login good) (psk2_record login facts.mac ∷ tek_record login.psk 1 header sealed tag ∷ []) (psk.psk3_records login id)
+  psk_over : (login : psk.Login) (good : Bool) (header : List ℕ) (sealed id : ℕ) (facts : PskChecked setup login) (r_sent : good ≡ true → login.r ≡ 2)
+      → PskServerTags setup (psk.over login good) (psk2_record login ∷ psk4_taken login header sealed ∷ []) (psk.psk3_records login id)
+
+-- the GPSK-2 and the GPSK-4 that it accepts
+abbrev pub gpsk2_taken : gpsk.Login → List ℕ → Message
+gpsk2_taken login pd =
+    tagged login.suite (gpsk.keys_of login).sk
+    (gpsk2 login.id_p login.own.id_s login.rand_p login.nonce (suite_list login.own.suites) login.suite pd [])
+
+abbrev pub gpsk4_taken : gpsk.Login → List ℕ → Message
+gpsk4_taken login pd = tagged login.suite (gpsk.keys_of login).sk (gpsk4 pd [])
 
 -- a login by EAP-GPSK of a user, barred or not: what the server keeps is its setup's, or was read of a GPSK-2
-pub record GpskChecked (setup : ServerSetup) (login : gpsk.Login) (barred : Bool) (pd mac : List ℕ) : Type 0 where
+pub record GpskChecked (setup : ServerSetup) (login : gpsk.Login) (barred : Bool) (pd : List ℕ) : Type 0 where
   pub ordered : is_among setup.methods gpsk_kind ≡ true
   pub own : login.own ≡ side_of setup
   pub nonce : login.nonce ≡ setup.nonce
@@ -60,12 +72,7 @@ pub record GpskChecked (setup : ServerSetup) (login : gpsk.Login) (barred : Bool
   pub standing : user.barred ≡ barred
   pub offered : is_among setup.suites (suite_number login.suite) ≡ true
   pub body : List ℕ
-  pub is_read : gpsk_reading.read_of None body
-      ≡ Ok (gpsk2 login.id_p login.own.id_s login.rand_p login.nonce (suite_list login.own.suites) login.suite pd mac)
-
--- the GPSK-2 that it accepted
-abbrev pub gpsk2_taken : gpsk.Login → List ℕ → List ℕ → Message
-gpsk2_taken login pd mac = gpsk2 login.id_p login.own.id_s login.rand_p login.nonce (suite_list login.own.suites) login.suite pd mac
+  pub is_read : gpsk_reading.read_of None body ≡ Ok (gpsk2_taken login pd)
 
 -- which tags a view of EAP-GPSK tells
 pub data GpskServerTags (setup : ServerSetup) : gpsk.View → List TagRecord → List TagRecord → Type 0 where
@@ -74,20 +81,20 @@ pub data GpskServerTags (setup : ServerSetup) : gpsk.View → List TagRecord →
   gpsk_refusing : GpskServerTags setup (gpsk.refusing (side_of setup) setup.nonce) [] []
   gpsk_refused : GpskServerTags setup (gpsk.refused (side_of setup) setup.nonce) [] []
   -- GPSK-2 of a barred user is accepted, and answered by GPSK-Protected-Fail
-  gpsk_barring : (login : gpsk.Login) (pd mac : List ℕ) (facts : GpskChecked setup login true pd mac)
-      → GpskServerTags setup (gpsk.barring login) (sk_record login.psk (gpsk2_taken login pd mac) ∷ []) (sk_record login.psk (gpsk.bars_with login) ∷ [])
+  gpsk_barring : (login : gpsk.Login) (pd : List ℕ) (facts : GpskChecked setup login true pd)
+      → GpskServerTags setup (gpsk.barring login) (sk_record login.psk (gpsk2_taken login pd) ∷ []) (sk_record login.psk (gpsk.bars_with login) ∷ [])
   -- GPSK-2 of any other user is accepted, and answered by GPSK-3
-  gpsk_checked : (login : gpsk.Login) (pd mac : List ℕ) (facts : GpskChecked setup login false pd mac)
-      → GpskServerTags setup (gpsk.checked login) (sk_record login.psk (gpsk2_taken login pd mac) ∷ []) (sk_record login.psk (gpsk.gpsk3_of login) ∷ [])
-  -- the GPSK-Protected-Fail that comes back is accepted too
-  gpsk_barred : (login : gpsk.Login) (pd mac last : List ℕ) (facts : GpskChecked setup login true pd mac)
+  gpsk_checked : (login : gpsk.Login) (pd : List ℕ) (facts : GpskChecked setup login false pd)
+      → GpskServerTags setup (gpsk.checked login) (sk_record login.psk (gpsk2_taken login pd) ∷ []) (sk_record login.psk (gpsk.gpsk3_of login) ∷ [])
+  -- the same GPSK-Protected-Fail comes back and is accepted too
+  gpsk_barred : (login : gpsk.Login) (pd : List ℕ) (facts : GpskChecked setup login true pd)
       → GpskServerTags setup (gpsk.over login false)
-      (sk_record login.psk (gpsk2_taken login pd mac) ∷ sk_record login.psk (protected_fail gpsk.authorization_failure last) ∷ [])
+      (sk_record login.psk (gpsk2_taken login pd) ∷ sk_record login.psk (gpsk.bars_with login) ∷ [])
       (sk_record login.psk (gpsk.bars_with login) ∷ [])
   -- GPSK-4 is accepted too
-  gpsk_confirmed : (login : gpsk.Login) (pd mac last_pd last_mac : List ℕ) (facts : GpskChecked setup login false pd mac)
+  gpsk_confirmed : (login : gpsk.Login) (pd last_pd : List ℕ) (facts : GpskChecked setup login false pd)
       → GpskServerTags setup (gpsk.over login true)
-      (sk_record login.psk (gpsk2_taken login pd mac) ∷ sk_record login.psk (gpsk4 last_pd last_mac) ∷ [])
+      (sk_record login.psk (gpsk2_taken login pd) ∷ sk_record login.psk (gpsk4_taken login last_pd) ∷ [])
       (sk_record login.psk (gpsk.gpsk3_of login) ∷ [])
 
 -- the tags of a server are those of its current method; there are none before its first proposal
