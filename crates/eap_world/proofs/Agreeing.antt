@@ -109,9 +109,10 @@ module _ (peer_setup : PeerSetup) (server_setup : ServerSetup) (p : PeerNow) (s 
   both_succeed : (peer_accepted peer_made server_accepted server_made : List TagRecord)
       → PeerSucceeds peer_setup p peer_accepted peer_made → ServerSucceeds server_setup s server_accepted server_made
       → AreIn peer_accepted server_made → AreIn server_accepted peer_made → BothSucceed peer_setup server_setup p s
-  both_succeed _ _ _ _ (with_psk login header sealed id is_selected in_view facts) (of_psk other _ _ server_id is_current in_other checked r_sent) in_server in_peer =
+  both_succeed _ _ _ _ (with_psk login header sealed id is_selected in_view facts) (of_psk other _ _ other_id is_current in_other checked r_sent)
+      in_server in_peer =
       by_psk login facts other checked is_selected in_view is_current in_other r_sent
-      (psk.same_login peer_setup server_setup login facts other checked peer_nonce server_nonce id server_id
+      (psk.same_login peer_setup server_setup login facts other checked peer_nonce server_nonce id other_id
       (in_peer.each _ (here _)) (in_server.each _ (here _)))
   both_succeed _ _ _ _ (with_psk login header sealed id is_selected in_view facts) (of_gpsk other pd _ is_current in_other checked) in_server in_peer =
       absurd (other_method _ _ _ (in_peer.each _ (here _)) (λ e. apart (sym e)) (λ e. apart (sym e)))
@@ -121,7 +122,8 @@ module _ (peer_setup : PeerSetup) (server_setup : ServerSetup) (p : PeerNow) (s 
       by_gpsk login list facts other pd checked is_selected in_view is_current in_other
       (gpsk.same_login peer_setup server_setup login list facts other pd checked peer_nonce server_nonce (in_peer.each _ (here _)))
 
-pub ends_succeed : (peer_setup : PeerSetup) (server_setup : ServerSetup) (p : PeerNow) (s : ServerNow) (peer_accepted peer_made server_accepted server_made : List TagRecord)
+pub ends_succeed : (peer_setup : PeerSetup) (server_setup : ServerSetup) (p : PeerNow) (s : ServerNow)
+    (peer_accepted peer_made server_accepted server_made : List TagRecord)
     → length peer_setup.nonce ≡ 32 → length server_setup.nonce ≡ 32
     → PeerStands peer_setup p peer_accepted peer_made → ServerStands server_setup s server_accepted server_made
     → AreIn peer_accepted server_made → AreIn server_accepted peer_made
@@ -133,20 +135,10 @@ ends_succeed peer_setup server_setup p s _ _ _ _ peer_nonce server_nonce p_in s_
     in_server in_peer
 
 -- what both ends report is judged to agree
-both_agree : (peer_setup : PeerSetup) (server_setup : ServerSetup) (p : PeerNow) (s : ServerNow)
+pub both_agree : (peer_setup : PeerSetup) (server_setup : ServerSetup) (p : PeerNow) (s : ServerNow)
     → length peer_setup.nonce ≡ 32 → length server_setup.nonce ≡ 32 → BothSucceed peer_setup server_setup p s
     → judged peer_setup server_setup (peer_reports p) (server_reports s) ≡ true
 both_agree peer_setup server_setup p s peer_nonce server_nonce (by_psk login facts other checked is_selected in_view is_current in_other r_sent same) =
     psk.psk_agree peer_setup server_setup login facts other checked peer_nonce server_nonce p s is_selected in_view is_current in_other r_sent same
 both_agree peer_setup server_setup p s peer_nonce server_nonce (by_gpsk login list facts other pd checked is_selected in_view is_current in_other same) =
     gpsk.gpsk_agree peer_setup server_setup login list facts other pd checked peer_nonce server_nonce p s is_selected in_view is_current in_other same
-
-pub ends_agree : (peer_setup : PeerSetup) (server_setup : ServerSetup) (p : PeerNow) (s : ServerNow) (peer_accepted peer_made server_accepted server_made : List TagRecord)
-    → length peer_setup.nonce ≡ 32 → length server_setup.nonce ≡ 32
-    → PeerStands peer_setup p peer_accepted peer_made → ServerStands server_setup s server_accepted server_made
-    → AreIn peer_accepted server_made → AreIn server_accepted peer_made
-    → is_success p.vars.state ≡ true → is_success s.vars.state ≡ true
-    → judged peer_setup server_setup (peer_reports p) (server_reports s) ≡ true
-ends_agree peer_setup server_setup p s peer_accepted peer_made server_accepted server_made peer_nonce server_nonce p_in s_in in_server in_peer sure other_sure =
-    both_agree peer_setup server_setup p s peer_nonce server_nonce
-    (ends_succeed peer_setup server_setup p s peer_accepted peer_made server_accepted server_made peer_nonce server_nonce p_in s_in in_server in_peer sure other_sure)

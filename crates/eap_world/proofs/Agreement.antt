@@ -17,7 +17,7 @@ use Rattle.eap_world.proofs.Booked.{honest_tags}
 use Rattle.eap_world.proofs.Running.{BothStand, run_stands}
 use Rattle.eap_world.proofs.PeerKeeps as peer_calls
 use Rattle.eap_world.proofs.ServerKeeps as server_calls
-use Rattle.eap_world.proofs.Agreeing.{ends_agree}
+use Rattle.eap_world.proofs.Agreeing.{both_agree, ends_succeed}
 
 pub none_if_honest : (o : Option ℕ) → verdict_on o ≡ Honest → o ≡ None
 none_if_honest None e = refl
@@ -33,8 +33,9 @@ pub stand_agree : (setup : Setup) → IsWhole setup → (w : WorldNow) → BothS
 unfolding verdict_of
 stand_agree setup whole w both honest p_in s_in =
     let none = none_if_honest (first_broken [] w.book) honest in
-    let same = ends_agree setup.peer setup.server w.parties.peer w.parties.server _ _ _ _ whole.peer_nonce whole.server_nonce both.peer_stands both.server_stands
+    let succeed = ends_succeed setup.peer setup.server w.parties.peer w.parties.server _ _ _ _ whole.peer_nonce whole.server_nonce both.peer_stands both.server_stands
     (honest_tags end.Peer w.book none) (honest_tags end.Server w.book none) p_in s_in in
+    let same = both_agree setup.peer setup.server w.parties.peer w.parties.server whole.peer_nonce whole.server_nonce succeed in
     agree_if (is_success w.parties.peer.vars.state) (is_success w.parties.server.vars.state) _ p_in s_in (rw (both.peer_stands.own, both.server_stands.own) same)
 
 -- ---- every run

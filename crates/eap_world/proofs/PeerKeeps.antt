@@ -1,5 +1,5 @@
 -- Every input of the peer keeps what stands of it.
-use Rattle.std.proofs.Common.{◌≡◌, ℕ, ◌≤◌, length, List, [], ◌∷◌, ◌++◌, Bool, true, false, if◌then◌else◌, Option, Some, None, Ok, refl, sym, ap, ◌∙◌, subst, arith, append-nil}
+use Rattle.std.proofs.Common.{◌≡◌, ℕ, List, [], ◌∷◌, ◌++◌, Bool, true, false, if◌then◌else◌, Option, Some, None, Ok, refl, sym, ap, ◌∙◌, subst, arith, append-nil}
 use Rattle.std.specs.Prelude.{◌==◌}
 use Rattle.std.proofs.lemmas.Bool.{cond_both, eqb-true, true≢false, false≢true}
 use Rattle.eap_base.specs.declared.setup.PeerSetup.{PeerSetup}
@@ -19,7 +19,6 @@ use Rattle.eap_method.specs.declared.tags.Tags.{Tags}
 use Rattle.eap_method.specs.declared.turn.PeerTurn.TheVariants.{Reply}
 use Rattle.eap_method.specs.declared.values.Credential.{Credential}
 use Rattle.eap_method.specs.declared.values.Decision.{Decision}
-use Rattle.eap_method.specs.declared.values.Decision.TheVariants.{Fail}
 use Rattle.eap_method.specs.declared.values.MethodState.{MethodState}
 use Rattle.eap_method.specs.GpskPeer as gpsk
 use Rattle.eap_method.specs.GpskTags.{sk_record}
@@ -28,7 +27,7 @@ use Rattle.eap_method.specs.Peer.{PeerViews, credential_for, views_begun, psk_tu
 use Rattle.eap_method.specs.PskPeer as psk
 use Rattle.eap_method.specs.PskTags.{channel_nonce}
 use Rattle.eap_method.specs.Steps.{no_tags}
-use Rattle.eap_method.specs.Turns.{PeerOutcome, body_of, discarded}
+use Rattle.eap_method.specs.Turns.{PeerOutcome, discarded}
 use Rattle.method_laws.specs.GpskPeerRows as gpsk_row
 use Rattle.method_laws.specs.PskPeerRows as psk_row
 use Rattle.method_laws.proofs.GpskPeerCases.{gpsk_peer_steps_are_rows}
@@ -68,11 +67,25 @@ peer_begins setup = record {
 
 -- a discard, or a Response, whose tags are told by the view after it, which is a success where the
 -- decision isn't FAIL
-data Turned (V : Type 0) (Tells : V → List TagRecord → List TagRecord → Type 0) (Succeeds : V → Type 0) (accepted made : List TagRecord) : PeerOutcome V → Type 0 where
+data Turned (V : Type 0) (Tells : V → List TagRecord → List TagRecord → Type 0) (Succeeds : V → Type 0) (accepted made : List TagRecord)
+    : PeerOutcome V → Type 0 where
   drops : (view : V) (c : Cause) → Turned V Tells Succeeds accepted made (discarded view c)
   replies : (packet : List ℕ) (m : MethodState) (d : Decision) (tags : Tags) (view : V)
       (told : Tells view (accepted ++ tags.accepted) (made ++ tags.made)) (decided : is_fail d ≡ false → Succeeds view)
       → Turned V Tells Succeeds accepted made (record { turn = Reply packet m d tags; after = view })
+
+module _ (setup : PeerSetup) (accepted made : List TagRecord) where
+  abbrev PskTurned : PeerOutcome psk.View → Type 0
+  PskTurned out = Turned psk.View (PskPeerTags setup) (λ view. (login : psk.Login) × (view ≡ psk.over login true)) accepted made out
+
+  at_psk : (view seen : psk.View) → view ≡ seen → PskPeerTags setup view accepted made → PskPeerTags setup seen accepted made
+  at_psk view seen in_view told = subst (λ (v : psk.View). PskPeerTags setup v accepted made) in_view told
+
+  abbrev GpskTurned : PeerOutcome gpsk.View → Type 0
+  GpskTurned out = Turned gpsk.View (GpskPeerTags setup) (λ view. (login : gpsk.Login) × (view ≡ gpsk.over login true)) accepted made out
+
+  at_gpsk : (view seen : gpsk.View) → view ≡ seen → GpskPeerTags setup view accepted made → GpskPeerTags setup seen accepted made
+  at_gpsk view seen in_view told = subst (λ (v : gpsk.View). GpskPeerTags setup v accepted made) in_view told
 
 module _ (setup : PeerSetup) where
   psk_answers : (cred : Credential) (nonce rand_s id_s body : List ℕ) (accepted made : List TagRecord) → PskPeerTags setup (psk.fresh cred nonce) accepted made
@@ -94,7 +107,8 @@ module _ (setup : PeerSetup) where
   gpsk_answers : (cred : Credential) (nonce id_s rand_s list body : List ℕ) (suite : Suite) (accepted made : List TagRecord)
       → GpskPeerTags setup (gpsk.fresh cred nonce) accepted made → gpsk_reading.read_of None body ≡ Ok (gpsk1 id_s rand_s list)
       → accepts_name cred.accepts id_s ≡ true → picked_suite cred.suites list ≡ Some suite
-      → (let login = gpsk_row.login_from cred nonce id_s rand_s suite in GpskPeerTags setup (gpsk.wait login) (accepted ++ []) (made ++ gpsk2_record login list ∷ []))
+      → (let login = gpsk_row.login_from cred nonce id_s rand_s suite in
+      GpskPeerTags setup (gpsk.wait login) (accepted ++ []) (made ++ gpsk2_record login list ∷ []))
   unfolding credential_for
   gpsk_answers _ _ id_s rand_s list body suite _ _ (gpsk_fresh allowed) is_read is_accepted is_picked =
       gpsk_waits _ list
@@ -103,12 +117,14 @@ module _ (setup : PeerSetup) where
   module _ (login : gpsk.Login) where
     gpsk_confirms : (pd mac : List ℕ) (message : Message) (accepted made : List TagRecord) → GpskPeerTags setup (gpsk.wait login) accepted made
         → gpsk_tag_of login.suite (gpsk.keys_of login).sk (covered_of message) ≡ mac → gpsk3 login.nonce login.rand_s login.id_s login.suite pd mac ≡ message
-        → GpskPeerTags setup (gpsk.over login true) (accepted ++ sk_record login.cred.psk message ∷ []) (made ++ sk_record login.cred.psk (gpsk.gpsk4_of login) ∷ [])
+        → GpskPeerTags setup (gpsk.over login true) (accepted ++ sk_record login.cred.psk message ∷ [])
+        (made ++ sk_record login.cred.psk (gpsk.gpsk4_of login) ∷ [])
     unfolding covered_of
     gpsk_confirms pd mac message _ _ (gpsk_waits _ list facts) has_mac same =
         (let right = ap (λ (m : Message). gpsk_tag_of login.suite (gpsk.keys_of login).sk (covered_of m)) same ∙ has_mac in
         let taken : gpsk3_taken login pd ≡ message = ap (λ (t : List ℕ). gpsk3 login.nonce login.rand_s login.id_s login.suite pd t) right ∙ same in
-        subst (λ (m : Message). GpskPeerTags setup (gpsk.over login true) (sk_record login.cred.psk m ∷ []) (gpsk2_record login list ∷ sk_record login.cred.psk (gpsk.gpsk4_of login) ∷ []))
+        subst (λ (m : Message). GpskPeerTags setup (gpsk.over login true) (sk_record login.cred.psk m ∷ [])
+        (gpsk2_record login list ∷ sk_record login.cred.psk (gpsk.gpsk4_of login) ∷ []))
         taken (gpsk_confirmed login list pd facts))
 
     gpsk_fails : (accepted made : List TagRecord) → GpskPeerTags setup (gpsk.wait login) accepted made
@@ -126,49 +142,39 @@ module _ (setup : PeerSetup) where
         has_mac (gpsk_barred login list code facts)
 
   module _ (octets : List ℕ) (accepted made : List TagRecord) where
-    at_psk : (view seen : psk.View) → view ≡ seen → PskPeerTags setup view accepted made → PskPeerTags setup seen accepted made
-    at_psk view seen in_view told = subst (λ (v : psk.View). PskPeerTags setup v accepted made) in_view told
-
-    abbrev PskTurned : PeerOutcome psk.View → Type 0
-    PskTurned out = Turned psk.View (PskPeerTags setup) (λ view. (login : psk.Login) × (view ≡ psk.over login true)) accepted made out
-
-    psk_turned : (view : psk.View) (out : PeerOutcome psk.View) → PskPeerTags setup view accepted made → psk_row.PskPeerRow view octets out → PskTurned out
+    psk_turned : (view : psk.View) (out : PeerOutcome psk.View) → PskPeerTags setup view accepted made → psk_row.PskPeerRow view octets out
+        → PskTurned setup accepted made out
     psk_turned view _ told (psk_row.drops c) = drops view c
     psk_turned view _ told (psk_row.answers cred nonce rand_s id_s in_view is_read is_accepted) =
         replies _ _ _ _ _
-        (psk_answers cred nonce rand_s id_s _ accepted made (at_psk view _ in_view told) is_read is_accepted)
+        (psk_answers cred nonce rand_s id_s _ accepted made (at_psk setup accepted made view _ in_view told) is_read is_accepted)
         (λ e. absurd (true≢false e))
     psk_turned view _ told (psk_row.confirms_success login _ mac _ tag sealed in_view _ _ _ _ has_mac _ has_tag _ _) =
         replies _ _ _ _ _
-        (psk_confirms login true _ mac tag sealed _ accepted made (at_psk view _ in_view told) has_mac has_tag)
+        (psk_confirms login true _ mac tag sealed _ accepted made (at_psk setup accepted made view _ in_view told) has_mac has_tag)
         (λ _. (login, refl))
     psk_turned view _ told (psk_row.confirms_failure login _ mac _ tag sealed in_view _ _ _ _ has_mac _ has_tag _ _ _ _) =
         replies _ _ _ _ _
-        (psk_confirms login false _ mac tag sealed _ accepted made (at_psk view _ in_view told) has_mac has_tag)
+        (psk_confirms login false _ mac tag sealed _ accepted made (at_psk setup accepted made view _ in_view told) has_mac has_tag)
         (λ e. absurd (true≢false e))
 
-    at_gpsk : (view seen : gpsk.View) → view ≡ seen → GpskPeerTags setup view accepted made → GpskPeerTags setup seen accepted made
-    at_gpsk view seen in_view told = subst (λ (v : gpsk.View). GpskPeerTags setup v accepted made) in_view told
-
-    abbrev GpskTurned : PeerOutcome gpsk.View → Type 0
-    GpskTurned out = Turned gpsk.View (GpskPeerTags setup) (λ view. (login : gpsk.Login) × (view ≡ gpsk.over login true)) accepted made out
-
-    gpsk_turned : (view : gpsk.View) (out : PeerOutcome gpsk.View) → GpskPeerTags setup view accepted made → gpsk_row.GpskPeerRow view octets out → GpskTurned out
+    gpsk_turned : (view : gpsk.View) (out : PeerOutcome gpsk.View) → GpskPeerTags setup view accepted made → gpsk_row.GpskPeerRow view octets out
+        → GpskTurned setup accepted made out
     gpsk_turned view _ told (gpsk_row.drops c) = drops view c
     gpsk_turned view _ told (gpsk_row.answers cred nonce id_s rand_s list suite in_view is_read is_accepted picked) =
         replies _ _ _ _ _
-        (gpsk_answers cred nonce id_s rand_s list _ suite accepted made (at_gpsk view _ in_view told)
+        (gpsk_answers cred nonce id_s rand_s list _ suite accepted made (at_gpsk setup accepted made view _ in_view told)
         is_read is_accepted picked)
         (λ e. absurd (true≢false e))
     gpsk_turned view _ told (gpsk_row.confirms login rand_p rand_s id_s suite pd mac in_view _ _ own_nonce their_nonce their_name one_suite _ has_mac) =
         replies _ _ _ _ _
-        (gpsk_confirms login pd mac (gpsk3 rand_p rand_s id_s suite pd mac) accepted made (at_gpsk view _ in_view told) has_mac cc)
+        (gpsk_confirms login pd mac (gpsk3 rand_p rand_s id_s suite pd mac) accepted made (at_gpsk setup accepted made view _ in_view told) has_mac cc)
         (λ _. (login, refl))
     gpsk_turned view _ told (gpsk_row.repeats_fail login code in_view _) =
-        replies _ _ _ _ _ (gpsk_fails login accepted made (at_gpsk view _ in_view told))
+        replies _ _ _ _ _ (gpsk_fails login accepted made (at_gpsk setup accepted made view _ in_view told))
         (λ e. absurd (true≢false e))
     gpsk_turned view _ told (gpsk_row.repeats_protected login code mac in_view _ _ has_mac) =
-        replies _ _ _ _ _ (gpsk_bars login code mac accepted made (at_gpsk view _ in_view told) has_mac)
+        replies _ _ _ _ _ (gpsk_bars login code mac accepted made (at_gpsk setup accepted made view _ in_view told) has_mac)
         (λ e. absurd (true≢false e))
 
 -- ---- the calls
@@ -215,17 +221,17 @@ module _ (setup : PeerSetup) (now : PeerNow) (accepted made : List TagRecord) (s
   abbrev MethodTurned : ℕ → PeerOutcome PeerViews → Type 0
   MethodTurned kind out = Turned PeerViews (PeerTags setup (Some kind)) (HasSucceeded (Some kind)) accepted made out
 
-  with_psk : (kind : ℕ) → kind ≡ psk_kind → (octets : List ℕ) (out : PeerOutcome psk.View) → PskTurned setup octets accepted made out
+  with_psk : (kind : ℕ) → kind ≡ psk_kind → (out : PeerOutcome psk.View) → PskTurned setup accepted made out
       → MethodTurned kind (psk_turn now.views out)
-  with_psk kind same octets _ (drops view c) = drops _ c
-  with_psk kind same octets _ (replies packet m d tags view told decided) =
+  with_psk kind same _ (drops view c) = drops _ c
+  with_psk kind same _ (replies packet m d tags view told decided) =
       replies packet m d tags _ (psk_selected _ _ (ap (λ (k : ℕ). Some k) same) told)
       (λ e. (let well = decided e in psk_succeeded well.0 (ap (λ (k : ℕ). Some k) same) well.1))
 
-  with_gpsk : (kind : ℕ) → kind ≡ gpsk_kind → (octets : List ℕ) (out : PeerOutcome gpsk.View) → GpskTurned setup octets accepted made out
+  with_gpsk : (kind : ℕ) → kind ≡ gpsk_kind → (out : PeerOutcome gpsk.View) → GpskTurned setup accepted made out
       → MethodTurned kind (gpsk_turn now.views out)
-  with_gpsk kind same octets _ (drops view c) = drops _ c
-  with_gpsk kind same octets _ (replies packet m d tags view told decided) =
+  with_gpsk kind same _ (drops view c) = drops _ c
+  with_gpsk kind same _ (replies packet m d tags view told decided) =
       replies packet m d tags _ (gpsk_selected _ _ (ap (λ (k : ℕ). Some k) same) told)
       (λ e. (let well = decided e in gpsk_succeeded well.0 (ap (λ (k : ℕ). Some k) same) well.1))
 
@@ -234,13 +240,13 @@ module _ (setup : PeerSetup) (now : PeerNow) (accepted made : List TagRecord) (s
   method_turned selects kind octets calls =
       cond_both (kind == psk_kind) _ _ (MethodTurned kind)
       (λ is_psk. (let same : kind ≡ psk_kind = eqb-true _ _ is_psk in
-      with_psk kind same octets _
+      with_psk kind same _
       (psk_turned setup octets accepted made now.views.psk _
       (told_by_psk setup now.vars.selected now.views accepted made (alone now kind psk_kind gpsk_kind calls same refl) stands.tags)
       (psk_peer_steps_are_rows now.views.psk octets))))
       (λ _. cond_both (kind == gpsk_kind) _ _ (MethodTurned kind)
       (λ is_gpsk. (let same : kind ≡ gpsk_kind = eqb-true _ _ is_gpsk in
-      with_gpsk kind same octets _
+      with_gpsk kind same _
       (gpsk_turned setup octets accepted made now.views.gpsk _
       (told_by_gpsk setup now.vars.selected now.views accepted made (alone now kind gpsk_kind psk_kind calls same refl) stands.tags)
       (gpsk_peer_steps_are_rows now.views.gpsk octets))))
@@ -256,15 +262,9 @@ module _ (setup : PeerSetup) (now : PeerNow) (accepted made : List TagRecord) (s
   after_turn kind _ _ _ _ _ (replies _ _ _ _ _ told decided) s last_id last_response unsure =
       record { own = stands.own; tags = told; decided = decided; sure = λ e. absurd (unsure e) }
 
-  turn_keeps : (selects : Bool) (kind : ℕ) (octets packet : List ℕ) (m : MethodState) (d : Decision) (tags : Tags) (views : PeerViews)
-      → Calls now kind selects → peer_turn kind now.views octets ≡ record { turn = Reply packet m d tags; after = views }
-      → (s : State) (last_id : Option ℕ) (last_response : List ℕ) → (is_success s ≡ true → ⊥)
-      → PeerStands setup (record {
-        vars = record now.vars { state = s; selected = Some kind; method_state = m; decision = d; last_id = last_id; last_response = last_response };
-        views = views;
-      }) (accepted ++ tags.accepted) (made ++ tags.made)
-  turn_keeps selects kind octets packet m d tags views calls turned =
-      after_turn kind packet m d tags views (subst (MethodTurned kind) turned (method_turned selects kind octets calls))
+  turned_to : (selects : Bool) (kind : ℕ) (octets : List ℕ) (out : PeerOutcome PeerViews) → Calls now kind selects → peer_turn kind now.views octets ≡ out
+      → MethodTurned kind out
+  turned_to selects kind octets out calls turned = subst (MethodTurned kind) turned (method_turned selects kind octets calls)
 
   row_keeps : (input : PeerInput) (out : PeerAnswer) → rows.PeerRow now input out → Keeps setup accepted made out
   row_keeps _ _ (rows.ended bytes over) = quiet setup accepted made _ refl stands
@@ -273,14 +273,15 @@ module _ (setup : PeerSetup) (now : PeerNow) (accepted made : List TagRecord) (s
   row_keeps _ _ (rows.waits going fails goes_on) = quiet setup accepted made _ refl stands
   row_keeps _ _ (rows.identifies bytes id kind body heard unselected is_identity) = quiet setup accepted made _ refl (remains _ _ _ stands.sure)
   row_keeps _ _ (rows.notifies bytes id kind body heard unselected is_notification) = quiet setup accepted made _ refl (remains _ _ _ stands.sure)
-  row_keeps _ _ (rows.naks bytes id kind body heard unselected no_identity no_notification barred) = quiet setup accepted made _ refl (remains _ _ _ stands.sure)
+  row_keeps _ _ (rows.naks bytes id kind body heard unselected no_identity no_notification barred) =
+      quiet setup accepted made _ refl (remains _ _ _ stands.sure)
   row_keeps _ _ (rows.resends bytes id kind body heard) = quiet setup accepted made _ refl stands
   row_keeps _ _ (rows.ends_well input entered going sure why) = quiet setup accepted made _ refl (remains _ _ _ (λ _. sure))
   row_keeps _ _ (rows.ends_badly input entered going why) = quiet setup accepted made _ refl (remains _ _ _ (λ e. absurd (false≢true e)))
   row_keeps _ _ (rows.method_replies bytes selects id kind body packet m d tags views heard calls turned _) =
-      record { stands = turn_keeps selects kind _ packet m d tags views calls turned _ _ _ (goes_on now.vars.state heard.going) }
+      record { stands = after_turn kind packet m d tags views (turned_to selects kind _ _ calls turned) _ _ _ (goes_on now.vars.state heard.going) }
   row_keeps _ _ (rows.method_fails bytes selects id kind body packet m d tags views heard calls turned _) =
-      record { stands = turn_keeps selects kind _ packet m d tags views calls turned _ _ _ false≢true }
+      record { stands = after_turn kind packet m d tags views (turned_to selects kind _ _ calls turned) _ _ _ false≢true }
 
 -- every input keeps what stands
 pub peer_keeps : (setup : PeerSetup) (now : PeerNow) (accepted made : List TagRecord) (input : PeerInput) → PeerStands setup now accepted made
@@ -297,7 +298,8 @@ gpsk_few : (setup : PeerSetup) (view : gpsk.View) (accepted made : List TagRecor
 gpsk_few setup _ _ _ gpsk_unset = record { few_accepted = omega arith; few_made = omega arith }
 gpsk_few setup _ _ _ told = record { few_accepted = omega arith; few_made = omega arith }
 
-tags_few : (setup : PeerSetup) (selected : Option ℕ) (views : PeerViews) (accepted made : List TagRecord) → PeerTags setup selected views accepted made → AreFew accepted made
+tags_few : (setup : PeerSetup) (selected : Option ℕ) (views : PeerViews) (accepted made : List TagRecord)
+    → PeerTags setup selected views accepted made → AreFew accepted made
 tags_few setup selected views _ _ (none_selected unselected psk_told gpsk_told) = record { few_accepted = omega arith; few_made = omega arith }
 tags_few setup selected views _ _ (psk_selected accepted made is_selected told) = psk_few setup _ accepted made told
 tags_few setup selected views _ _ (gpsk_selected accepted made is_selected told) = gpsk_few setup _ accepted made told

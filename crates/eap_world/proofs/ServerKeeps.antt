@@ -1,7 +1,7 @@
 -- Every input of the server after its start keeps what stands of it.
-use Rattle.std.proofs.Common.{◌≡◌, ℕ, ◌≤◌, length, List, [], ◌∷◌, ◌++◌, Bool, true, false, Option, Some, None, Ok, refl, ap, sym, subst, ◌∙◌, arith, append-nil}
-use Rattle.std.specs.Prelude.{◌==◌, ◌+◌}
-use Rattle.std.proofs.lemmas.Bool.{cond_both, eqb-true, true≢false, false≢true}
+use Rattle.std.proofs.Common.{◌≡◌, ℕ, List, [], ◌∷◌, ◌++◌, Bool, true, false, Option, Some, None, Ok, refl, ap, sym, subst, ◌∙◌, arith, append-nil}
+use Rattle.std.specs.Prelude.{◌==◌}
+use Rattle.std.proofs.lemmas.Bool.{cond_both, eqb-true, false≢true}
 use Rattle.eap_base.specs.declared.setup.ServerSetup.{ServerSetup}
 use Rattle.eap_base.specs.declared.setup.Suite.{Suite}
 use Rattle.eap_base.specs.declared.users.User.{User}
@@ -29,7 +29,7 @@ use Rattle.eap_method.specs.PskServer as psk
 use Rattle.eap_method.specs.PskTags.{ak_record, tek_record, channel_nonce, rand_of}
 use Rattle.eap_method.specs.Server.{ServerViews, side_of, server_offer, Offer, server_turn, psk_hears, gpsk_hears, psk_offer, gpsk_offer}
 use Rattle.eap_method.specs.Steps.{no_tags}
-use Rattle.eap_method.specs.Turns.{ServerOutcome, body_of, dropped}
+use Rattle.eap_method.specs.Turns.{ServerOutcome, dropped}
 use Rattle.method_laws.specs.GpskServerRows as gpsk_row
 use Rattle.method_laws.specs.PskServerRows as psk_row
 use Rattle.method_laws.proofs.GpskServerCases.{gpsk_server_steps_are_rows}
@@ -62,12 +62,26 @@ started_stands setup first_id max_retrans =
 -- ---- the turns of the methods
 
 -- a discard, or a turn whose tags are told by the view after it, which is a success where the turn says so
-data Turned (V : Type 0) (Tells : V → List TagRecord → List TagRecord → Type 0) (Succeeds : V → Type 0) (accepted made : List TagRecord) : ServerOutcome V → Type 0 where
+data Turned (V : Type 0) (Tells : V → List TagRecord → List TagRecord → Type 0) (Succeeds : V → Type 0) (accepted made : List TagRecord)
+    : ServerOutcome V → Type 0 where
   drops : (view : V) (c : Cause) → Turned V Tells Succeeds accepted made (dropped view c)
   requests : (packet : List ℕ) (tags : Tags) (view : V) (told : Tells view (accepted ++ tags.accepted) (made ++ tags.made))
       → Turned V Tells Succeeds accepted made (record { turn = turn.Request packet tags; after = view })
   ends : (good : Bool) (tags : Tags) (view : V) (told : Tells view (accepted ++ tags.accepted) (made ++ tags.made)) (well : good ≡ true → Succeeds view)
       → Turned V Tells Succeeds accepted made (record { turn = turn.Done good tags; after = view })
+
+module _ (setup : ServerSetup) (accepted made : List TagRecord) where
+  abbrev PskTurned : ServerOutcome psk.View → Type 0
+  PskTurned out = Turned psk.View (PskServerTags setup) (λ view. (login : psk.Login) × (view ≡ psk.over login true)) accepted made out
+
+  at_psk : (view seen : psk.View) → view ≡ seen → PskServerTags setup view accepted made → PskServerTags setup seen accepted made
+  at_psk view seen in_view told = subst (λ (v : psk.View). PskServerTags setup v accepted made) in_view told
+
+  abbrev GpskTurned : ServerOutcome gpsk.View → Type 0
+  GpskTurned out = Turned gpsk.View (GpskServerTags setup) (λ view. (login : gpsk.Login) × (view ≡ gpsk.over login true)) accepted made out
+
+  at_gpsk : (view seen : gpsk.View) → view ≡ seen → GpskServerTags setup view accepted made → GpskServerTags setup seen accepted made
+  at_gpsk view seen in_view told = subst (λ (v : gpsk.View). GpskServerTags setup v accepted made) in_view told
 
 module _ (setup : ServerSetup) (users : List User) (own_users : users ≡ setup.users) where
   abbrev knows : List ℕ → ℕ → User → Type 0
@@ -108,7 +122,8 @@ module _ (setup : ServerSetup) (users : List User) (own_users : users ≡ setup.
       → PskServerTags setup (psk.checked login) accepted made → eax_tag (psk.keys_of login).tek (channel_nonce 1) header (sealed ∷ []) ≡ tag
       → PskServerTags setup (psk.over login good) (accepted ++ tek_record login.psk 1 header sealed tag ∷ []) (made ++ [])
   psk_ends login good header tag sealed r_sent _ _ (psk_checked _ id facts) has_tag =
-      subst (λ (t : List ℕ). PskServerTags setup (psk.over login good) (psk2_record login ∷ tek_record login.psk 1 header sealed t ∷ []) (psk.psk3_records login id))
+      subst
+      (λ (t : List ℕ). PskServerTags setup (psk.over login good) (psk2_record login ∷ tek_record login.psk 1 header sealed t ∷ []) (psk.psk3_records login id))
       has_tag (psk_over login good header sealed id facts r_sent)
 
   gpsk_refuses : (own : ServerSide) (nonce : List ℕ) (accepted made : List TagRecord) → GpskServerTags setup (gpsk.asked own nonce) accepted made
@@ -119,20 +134,30 @@ module _ (setup : ServerSetup) (users : List User) (own_users : users ≡ setup.
       → GpskServerTags setup (gpsk.refused own nonce) (accepted ++ []) (made ++ [])
   gpsk_gives_up _ _ _ _ gpsk_refusing = gpsk_refused
 
-  module _ (id_p rand_p pd body : List ℕ) (suite : Suite) (user : User) (known : knows id_p gpsk_kind user) (message : Message) where
+  -- a message with the MAC of its covered octets
+  gpsk2_same : (login : gpsk.Login) (pd mac : List ℕ) (message : Message)
+      → gpsk2 login.id_p login.own.id_s login.rand_p login.nonce (suite_list login.own.suites) login.suite pd mac ≡ message
+      → gpsk_tag_of login.suite (gpsk.keys_of login).sk (covered_of message) ≡ mac → gpsk2_taken login pd ≡ message
+  unfolding covered_of
+  gpsk2_same login pd mac message same has_mac =
+      ap (λ (t : List ℕ). gpsk2 login.id_p login.own.id_s login.rand_p login.nonce (suite_list login.own.suites) login.suite pd t)
+      (ap (λ (m : Message). gpsk_tag_of login.suite (gpsk.keys_of login).sk (covered_of m)) same ∙ has_mac) ∙ same
+
+  module _ (id_p rand_p pd mac body : List ℕ) (suite : Suite) (user : User) (known : knows id_p gpsk_kind user) (message : Message) where
     abbrev login_of : ServerSide → List ℕ → gpsk.Login
     login_of own nonce = gpsk_row.login_from own nonce id_p user rand_p suite
 
-    -- a GPSK-2 that repeats what was sent
-    record Repeats (own : ServerSide) (nonce : List ℕ) : Type 0 where
-      pub same : gpsk2_taken (login_of own nonce) pd ≡ message
+    -- this is a GPSK-2 with the right MAC, which repeats what was sent
+    record IsGpsk2 (own : ServerSide) (nonce : List ℕ) : Type 0 where
+      pub same : gpsk2 id_p own.id_s rand_p nonce (suite_list own.suites) suite pd mac ≡ message
+      pub has_mac : gpsk_tag_of suite (gpsk.keys_of (login_of own nonce)).sk (covered_of message) ≡ mac
       pub is_read : gpsk_reading.read_of None body ≡ Ok message
       pub offered : is_among own.suites (suite_number suite) ≡ true
 
-    facts_of : (barred : Bool) → is_among setup.methods gpsk_kind ≡ true → Repeats (side_of setup) setup.nonce → user.barred ≡ barred
+    facts_of : (barred : Bool) → is_among setup.methods gpsk_kind ≡ true → IsGpsk2 (side_of setup) setup.nonce → user.barred ≡ barred
         → GpskChecked setup (login_of (side_of setup) setup.nonce) barred pd
     unfolding side_of
-    facts_of barred ordered repeats standing = record {
+    facts_of barred ordered heard standing = record {
       ordered = ordered;
       own = refl;
       nonce = refl;
@@ -140,39 +165,30 @@ module _ (setup : ServerSetup) (users : List User) (own_users : users ≡ setup.
       known = own_user id_p gpsk_kind user known;
       key = refl;
       standing = standing;
-      offered = repeats.offered;
+      offered = heard.offered;
       body = body;
-      is_read = repeats.is_read ∙ ap (λ (m : Message). Ok m) (sym repeats.same);
+      is_read = heard.is_read ∙ ap (λ (m : Message). Ok m) (sym (gpsk2_same (login_of (side_of setup) setup.nonce) pd mac message heard.same heard.has_mac));
     }
 
     gpsk_bars : (own : ServerSide) (nonce : List ℕ) (accepted made : List TagRecord) → GpskServerTags setup (gpsk.asked own nonce) accepted made
-        → Repeats own nonce → user.barred ≡ true
+        → IsGpsk2 own nonce → user.barred ≡ true
         → (let login = login_of own nonce in
         GpskServerTags setup (gpsk.barring login) (accepted ++ sk_record user.psk message ∷ []) (made ++ sk_record user.psk (gpsk.bars_with login) ∷ []))
-    gpsk_bars _ _ _ _ (gpsk_asked ordered) repeats standing =
+    gpsk_bars _ _ _ _ (gpsk_asked ordered) heard standing =
         (let login = login_of (side_of setup) setup.nonce in
         subst (λ (m : Message). GpskServerTags setup (gpsk.barring login) (sk_record user.psk m ∷ []) (sk_record user.psk (gpsk.bars_with login) ∷ []))
-        repeats.same (gpsk_barring login pd (facts_of true ordered repeats standing)))
+        (gpsk2_same login pd mac message heard.same heard.has_mac) (gpsk_barring login pd (facts_of true ordered heard standing)))
 
     gpsk_checks : (own : ServerSide) (nonce : List ℕ) (accepted made : List TagRecord) → GpskServerTags setup (gpsk.asked own nonce) accepted made
-        → Repeats own nonce → user.barred ≡ false
+        → IsGpsk2 own nonce → user.barred ≡ false
         → (let login = login_of own nonce in
         GpskServerTags setup (gpsk.checked login) (accepted ++ sk_record user.psk message ∷ []) (made ++ sk_record user.psk (gpsk.gpsk3_of login) ∷ []))
-    gpsk_checks _ _ _ _ (gpsk_asked ordered) repeats standing =
+    gpsk_checks _ _ _ _ (gpsk_asked ordered) heard standing =
         (let login = login_of (side_of setup) setup.nonce in
         subst (λ (m : Message). GpskServerTags setup (gpsk.checked login) (sk_record user.psk m ∷ []) (sk_record user.psk (gpsk.gpsk3_of login) ∷ []))
-        repeats.same (gpsk_checked login pd (facts_of false ordered repeats standing)))
+        (gpsk2_same login pd mac message heard.same heard.has_mac) (gpsk_checked login pd (facts_of false ordered heard standing)))
 
   module _ (login : gpsk.Login) where
-    -- a message with the MAC of its covered octets
-    gpsk2_same : (pd mac : List ℕ) (message : Message)
-        → gpsk_tag_of login.suite (gpsk.keys_of login).sk (covered_of message) ≡ mac
-        → gpsk2 login.id_p login.own.id_s login.rand_p login.nonce (suite_list login.own.suites) login.suite pd mac ≡ message → gpsk2_taken login pd ≡ message
-    unfolding covered_of
-    gpsk2_same pd mac message has_mac same =
-        ap (λ (t : List ℕ). gpsk2 login.id_p login.own.id_s login.rand_p login.nonce (suite_list login.own.suites) login.suite pd t)
-        (ap (λ (m : Message). gpsk_tag_of login.suite (gpsk.keys_of login).sk (covered_of m)) same ∙ has_mac) ∙ same
-
     gpsk_ends_barring : (code : ℕ) (mac : List ℕ) (accepted made : List TagRecord) → GpskServerTags setup (gpsk.barring login) accepted made
         → code ≡ gpsk.authorization_failure → gpsk_tag_of login.suite (gpsk.keys_of login).sk (covered_of (protected_fail code mac)) ≡ mac
         → GpskServerTags setup (gpsk.over login false) (accepted ++ sk_record login.psk (protected_fail code mac) ∷ []) (made ++ [])
@@ -195,58 +211,46 @@ module _ (setup : ServerSetup) (users : List User) (own_users : users ≡ setup.
         has_mac (gpsk_confirmed login pd last_pd facts)
 
   module _ (next_id : ℕ) (octets : List ℕ) (accepted made : List TagRecord) where
-    at_psk : (view seen : psk.View) → view ≡ seen → PskServerTags setup view accepted made → PskServerTags setup seen accepted made
-    at_psk view seen in_view told = subst (λ (v : psk.View). PskServerTags setup v accepted made) in_view told
-
-    abbrev PskTurned : ServerOutcome psk.View → Type 0
-    PskTurned out = Turned psk.View (PskServerTags setup) (λ view. (login : psk.Login) × (view ≡ psk.over login true)) accepted made out
-
     psk_turned : (view : psk.View) (out : ServerOutcome psk.View) → PskServerTags setup view accepted made
-        → psk_row.PskServerRow users next_id view octets out → PskTurned out
+        → psk_row.PskServerRow users next_id view octets out → PskTurned setup accepted made out
     psk_turned view _ told (psk_row.drops c) = drops view c
     psk_turned view _ told (psk_row.refuses own nonce _ _ _ _ in_view _ _ _) =
-        ends false _ _ (psk_refuses own nonce accepted made (at_psk view _ in_view told))
+        ends false _ _ (psk_refuses own nonce accepted made (at_psk setup accepted made view _ in_view told))
         (λ e. absurd (false≢true e))
     psk_turned view _ told (psk_row.answers own nonce rand_s rand_p mac id_p user in_view is_read own_nonce known has_mac) =
         requests _ _ _
-        (psk_answers own nonce rand_s rand_p mac id_p _ user next_id accepted made (at_psk view _ in_view told)
+        (psk_answers own nonce rand_s rand_p mac id_p _ user next_id accepted made (at_psk setup accepted made view _ in_view told)
         is_read own_nonce known has_mac)
     psk_turned view _ told (psk_row.ends_success login _ _ tag sealed in_view _ _ _ _ has_tag _ _ own_success _) =
         ends true _ _
-        (psk_ends login true _ tag sealed (λ _. own_success) accepted made (at_psk view _ in_view told) has_tag)
+        (psk_ends login true _ tag sealed (λ _. own_success) accepted made (at_psk setup accepted made view _ in_view told) has_tag)
         (λ _. (login, refl))
     psk_turned view _ told (psk_row.ends_failure login _ _ tag sealed in_view _ _ _ _ has_tag _ _ _ _) =
         ends false _ _
-        (psk_ends login false _ tag sealed (λ e. absurd (false≢true e)) accepted made (at_psk view _ in_view told) has_tag)
+        (psk_ends login false _ tag sealed (λ e. absurd (false≢true e)) accepted made (at_psk setup accepted made view _ in_view told) has_tag)
         (λ e. absurd (false≢true e))
-
-    at_gpsk : (view seen : gpsk.View) → view ≡ seen → GpskServerTags setup view accepted made → GpskServerTags setup seen accepted made
-    at_gpsk view seen in_view told = subst (λ (v : gpsk.View). GpskServerTags setup v accepted made) in_view told
-
-    abbrev GpskTurned : ServerOutcome gpsk.View → Type 0
-    GpskTurned out = Turned gpsk.View (GpskServerTags setup) (λ view. (login : gpsk.Login) × (view ≡ gpsk.over login true)) accepted made out
 
     gpsk_turned : (view : gpsk.View) (out : ServerOutcome gpsk.View) → GpskServerTags setup view accepted made
-        → gpsk_row.GpskServerRow users next_id view octets out → GpskTurned out
+        → gpsk_row.GpskServerRow users next_id view octets out → GpskTurned setup accepted made out
     gpsk_turned view _ told (gpsk_row.drops c) = drops view c
     gpsk_turned view _ told (gpsk_row.refuses own nonce _ _ _ _ _ _ _ _ in_view _ _ _ _ _ _ _) =
-        requests _ _ _ (gpsk_refuses own nonce accepted made (at_gpsk view _ in_view told))
-    gpsk_turned view _ told (gpsk_row.bars own nonce id_p id_s rand_p rand_s list suite pd mac user in_view is_read _ own_name own_nonce own_list offered known barred _ has_mac) =
+        requests _ _ _ (gpsk_refuses own nonce accepted made (at_gpsk setup accepted made view _ in_view told))
+    gpsk_turned view _ told (gpsk_row.bars own nonce id_p _ rand_p _ _ suite pd mac user in_view is_read _ own_name own_nonce own_list offered known barred _ has_mac) =
         requests _ _ _
-        (gpsk_bars id_p rand_p pd _ suite user known _ own nonce accepted made (at_gpsk view _ in_view told)
-        (record { same = gpsk2_same (gpsk_row.login_from own nonce id_p user rand_p suite) pd mac (gpsk2 id_p id_s rand_p rand_s list suite pd mac) has_mac cc; is_read = is_read; offered = offered }) barred)
-    gpsk_turned view _ told (gpsk_row.checks own nonce id_p id_s rand_p rand_s list suite pd mac user in_view is_read _ own_name own_nonce own_list offered known welcome _ has_mac) =
+        (gpsk_bars id_p rand_p pd mac _ suite user known _ own nonce accepted made (at_gpsk setup accepted made view _ in_view told)
+        (record { same = cc; has_mac = has_mac; is_read = is_read; offered = offered }) barred)
+    gpsk_turned view _ told (gpsk_row.checks own nonce id_p _ rand_p _ _ suite pd mac user in_view is_read _ own_name own_nonce own_list offered known welcome _ has_mac) =
         requests _ _ _
-        (gpsk_checks id_p rand_p pd _ suite user known _ own nonce accepted made (at_gpsk view _ in_view told)
-        (record { same = gpsk2_same (gpsk_row.login_from own nonce id_p user rand_p suite) pd mac (gpsk2 id_p id_s rand_p rand_s list suite pd mac) has_mac cc; is_read = is_read; offered = offered }) welcome)
+        (gpsk_checks id_p rand_p pd mac _ suite user known _ own nonce accepted made (at_gpsk setup accepted made view _ in_view told)
+        (record { same = cc; has_mac = has_mac; is_read = is_read; offered = offered }) welcome)
     gpsk_turned view _ told (gpsk_row.ends_refusing own nonce _ in_view _ _) =
-        ends false _ _ (gpsk_gives_up own nonce accepted made (at_gpsk view _ in_view told))
+        ends false _ _ (gpsk_gives_up own nonce accepted made (at_gpsk setup accepted made view _ in_view told))
         (λ e. absurd (false≢true e))
     gpsk_turned view _ told (gpsk_row.ends_barring login code mac in_view _ own_code _ has_mac) =
-        ends false _ _ (gpsk_ends_barring login code mac accepted made (at_gpsk view _ in_view told) own_code has_mac)
+        ends false _ _ (gpsk_ends_barring login code mac accepted made (at_gpsk setup accepted made view _ in_view told) own_code has_mac)
         (λ e. absurd (false≢true e))
     gpsk_turned view _ told (gpsk_row.ends_checked login pd mac in_view _ _ has_mac) =
-        ends true _ _ (gpsk_ends_well login pd mac accepted made (at_gpsk view _ in_view told) has_mac)
+        ends true _ _ (gpsk_ends_well login pd mac accepted made (at_gpsk setup accepted made view _ in_view told) has_mac)
         (λ _. (login, refl))
 
 -- ---- the calls
@@ -339,7 +343,7 @@ module _ (setup : ServerSetup) (now : ServerNow) (accepted made : List TagRecord
   own_users = ap (λ (s : ServerSetup). s.users) stands.own
 
   module _ (octets : List ℕ) where
-    with_psk : now.vars.current ≡ Some psk_kind → (out : ServerOutcome psk.View) → PskTurned setup now.vars.setup.users own_users (next_id now.vars) octets accepted made out
+    with_psk : now.vars.current ≡ Some psk_kind → (out : ServerOutcome psk.View) → PskTurned setup accepted made out
         → MethodTurned (record { turn = out.turn; after = record now.views { psk = Some out.after } })
     with_psk is_psk _ (drops view c) = drops _ c
     with_psk is_psk _ (requests packet tags view told) = requests packet tags _ (psk_current view _ _ is_psk refl told)
@@ -355,7 +359,7 @@ module _ (setup : ServerSetup) (now : ServerNow) (accepted made : List TagRecord
         (told_by_psk setup now.vars.current now.views view accepted made is_psk at_view stands.tags)
         (psk_server_steps_are_rows now.vars.setup.users (next_id now.vars) view octets))
 
-    with_gpsk : now.vars.current ≡ Some gpsk_kind → (out : ServerOutcome gpsk.View) → GpskTurned setup now.vars.setup.users own_users (next_id now.vars) octets accepted made out
+    with_gpsk : now.vars.current ≡ Some gpsk_kind → (out : ServerOutcome gpsk.View) → GpskTurned setup accepted made out
         → MethodTurned (record { turn = out.turn; after = record now.views { gpsk = Some out.after } })
     with_gpsk is_gpsk _ (drops view c) = drops _ c
     with_gpsk is_gpsk _ (requests packet tags view told) = requests packet tags _ (gpsk_current view _ _ is_gpsk refl told)
@@ -389,7 +393,8 @@ module _ (setup : ServerSetup) (now : ServerNow) (accepted made : List TagRecord
 
   after_end : (good : Bool) (tags : Tags) (views : ServerViews) → MethodTurned (record { turn = turn.Done good tags; after = views })
       → (s : State) → (is_success s ≡ true → good ≡ true)
-      → ServerStands setup (record { vars = record now.vars { progress = progress.End; state = s }; views = views }) (accepted ++ tags.accepted) (made ++ tags.made)
+      → ServerStands setup (record { vars = record now.vars { progress = progress.End; state = s }; views = views })
+      (accepted ++ tags.accepted) (made ++ tags.made)
   after_end _ _ _ (ends _ _ _ told well) s sure =
       record { own = stands.own; tags = told; proposed = λ e. absurd (false≢true e); sure = λ e. well (sure e) }
 
@@ -473,7 +478,8 @@ gpsk_few : (setup : ServerSetup) (view : gpsk.View) (accepted made : List TagRec
 gpsk_few setup _ _ _ gpsk_refused = record { few_accepted = omega arith; few_made = omega arith }
 gpsk_few setup _ _ _ told = record { few_accepted = omega arith; few_made = omega arith }
 
-tags_few : (setup : ServerSetup) (current : Option ℕ) (views : ServerViews) (accepted made : List TagRecord) → ServerTags setup current views accepted made → AreFew accepted made
+tags_few : (setup : ServerSetup) (current : Option ℕ) (views : ServerViews) (accepted made : List TagRecord)
+    → ServerTags setup current views accepted made → AreFew accepted made
 tags_few setup current views _ _ (none_current none) = record { few_accepted = omega arith; few_made = omega arith }
 tags_few setup current views _ _ (identity_current is_current) = record { few_accepted = omega arith; few_made = omega arith }
 tags_few setup current views _ _ (psk_current view accepted made is_current in_view told) = psk_few setup view accepted made told
