@@ -235,11 +235,13 @@ module _ (setup : ServerSetup) (users : List User) (own_users : users ≡ setup.
     gpsk_turned view _ told (gpsk_row.drops c) = drops view c
     gpsk_turned view _ told (gpsk_row.refuses own nonce _ _ _ _ _ _ _ _ in_view _ _ _ _ _ _ _) =
         requests _ _ _ (gpsk_refuses own nonce accepted made (at_gpsk setup accepted made view _ in_view told))
-    gpsk_turned view _ told (gpsk_row.bars own nonce id_p _ rand_p _ _ suite pd mac user in_view is_read _ own_name own_nonce own_list offered known barred _ has_mac) =
+    gpsk_turned view _ told (gpsk_row.bars own nonce id_p _ rand_p _ _ suite pd mac user in_view is_read _
+        own_name own_nonce own_list offered known barred _ has_mac) =
         requests _ _ _
         (gpsk_bars id_p rand_p pd mac _ suite user known _ own nonce accepted made (at_gpsk setup accepted made view _ in_view told)
         (record { same = cc; has_mac = has_mac; is_read = is_read; offered = offered }) barred)
-    gpsk_turned view _ told (gpsk_row.checks own nonce id_p _ rand_p _ _ suite pd mac user in_view is_read _ own_name own_nonce own_list offered known welcome _ has_mac) =
+    gpsk_turned view _ told (gpsk_row.checks own nonce id_p _ rand_p _ _ suite pd mac user in_view is_read _
+        own_name own_nonce own_list offered known welcome _ has_mac) =
         requests _ _ _
         (gpsk_checks id_p rand_p pd mac _ suite user known _ own nonce accepted made (at_gpsk setup accepted made view _ in_view told)
         (record { same = cc; has_mac = has_mac; is_read = is_read; offered = offered }) welcome)

@@ -107,6 +107,7 @@ pub data HasSucceeded (selected : Option ℕ) (views : PeerViews) : Type 0 where
   gpsk_succeeded : (login : gpsk.Login) (is_selected : selected ≡ Some gpsk_kind) (in_view : views.gpsk ≡ gpsk.over login true)
       → HasSucceeded selected views
 
+-- what holds of a peer with the tags that it has accepted and made
 pub record PeerStands (setup : PeerSetup) (now : PeerNow) (accepted made : List TagRecord) : Type 0 where
   pub own : now.vars.setup ≡ setup
   pub tags : PeerTags setup now.vars.selected now.views accepted made

@@ -15,7 +15,7 @@ use Rattle.eap_method.specs.declared.tags.TagRecord.{TagRecord}
 use Rattle.eap_method.specs.GpskServer as gpsk
 use Rattle.eap_method.specs.GpskTags.{sk_record, suite_list, tagged}
 use Rattle.eap_method.specs.PskServer as psk
-use Rattle.eap_method.specs.PskTags.{ak_record, tek_record, channel_nonce}
+use Rattle.eap_method.specs.PskTags.{ak_record, tek_record, channel_nonce, done_success}
 use Rattle.eap_method.specs.Server.{ServerViews, side_of}
 use Rattle.server_machine.specs.ServerTable.{ServerNow, identity, is_proposed}
 use Rattle.eap_world.specs.Verdict.{is_success}
@@ -49,7 +49,8 @@ pub data PskServerTags (setup : ServerSetup) : psk.View → List TagRecord → L
   -- the user is unknown
   psk_refused : PskServerTags setup (psk.refused (side_of setup) setup.nonce) [] []
   -- PSK-4 is accepted too
-  psk_over : (login : psk.Login) (good : Bool) (header : List ℕ) (sealed id : ℕ) (facts : PskChecked setup login) (r_sent : good ≡ true → login.r ≡ 2)
+  psk_over : (login : psk.Login) (good : Bool) (header : List ℕ) (sealed id : ℕ) (facts : PskChecked setup login)
+      (r_sent : good ≡ true → login.r ≡ done_success)
       → PskServerTags setup (psk.over login good) (psk2_record login ∷ psk4_taken login header sealed ∷ []) (psk.psk3_records login id)
 
 -- the GPSK-2 and the GPSK-4 that it accepts
@@ -113,6 +114,7 @@ pub data HasSucceeded (current : Option ℕ) (views : ServerViews) : Type 0 wher
   gpsk_succeeded : (login : gpsk.Login) (is_current : current ≡ Some gpsk_kind) (in_view : views.gpsk ≡ Some (gpsk.over login true))
       → HasSucceeded current views
 
+-- what holds of a server with the tags that it has accepted and made
 pub record ServerStands (setup : ServerSetup) (now : ServerNow) (accepted made : List TagRecord) : Type 0 where
   pub own : now.vars.setup ≡ setup
   pub tags : ServerTags setup now.vars.current now.views accepted made
