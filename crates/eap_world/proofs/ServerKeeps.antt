@@ -83,20 +83,14 @@ module _ (setup : ServerSetup) (accepted made : List TagRecord) where
   at_gpsk : (view seen : gpsk.View) → view ≡ seen → GpskServerTags setup view accepted made → GpskServerTags setup seen accepted made
   at_gpsk view seen in_view told = subst (λ (v : gpsk.View). GpskServerTags setup v accepted made) in_view told
 
-module _ (setup : ServerSetup) (users : List User) (own_users : users ≡ setup.users) where
-  abbrev knows : List ℕ → ℕ → User → Type 0
-  knows id_p kind user = user_of users id_p kind ≡ Some user
-
-  own_user : (id_p : List ℕ) (kind : ℕ) (user : User) → knows id_p kind user → user_of setup.users id_p kind ≡ Some user
-  own_user id_p kind user known = ap (λ (u : List User). user_of u id_p kind) (sym own_users) ∙ known
-
+module _ (setup : ServerSetup) where
   psk_refuses : (own : ServerSide) (nonce : List ℕ) (accepted made : List TagRecord) → PskServerTags setup (psk.asked own nonce) accepted made
       → PskServerTags setup (psk.refused own nonce) (accepted ++ []) (made ++ [])
   psk_refuses _ _ _ _ (psk_asked ordered) = psk_refused
 
   psk_answers : (own : ServerSide) (nonce rand_s rand_p mac id_p body : List ℕ) (user : User) (next_id : ℕ) (accepted made : List TagRecord)
       → PskServerTags setup (psk.asked own nonce) accepted made
-      → psk_reading.read_of body ≡ Ok (psk2 rand_s rand_p mac id_p) → rand_s ≡ rand_of nonce → knows id_p psk_kind user
+      → psk_reading.read_of body ≡ Ok (psk2 rand_s rand_p mac id_p) → rand_s ≡ rand_of nonce → user_of setup.users id_p psk_kind ≡ Some user
       → (let login = psk_row.login_from own nonce id_p user rand_p in
       psk.mac_p_of login ≡ mac
       → PskServerTags setup (psk.checked login) (accepted ++ ak_record user.psk (psk.mac_p_covers login) mac ∷ []) (made ++ psk.psk3_records login next_id))
@@ -110,7 +104,7 @@ module _ (setup : ServerSetup) (users : List User) (own_users : users ≡ setup.
         own = refl;
         nonce = refl;
         user = user;
-        known = own_user id_p psk_kind user known;
+        known = known;
         key = refl;
         r = refl;
         body = body;
@@ -143,7 +137,8 @@ module _ (setup : ServerSetup) (users : List User) (own_users : users ≡ setup.
       ap (λ (t : List ℕ). gpsk2 login.id_p login.own.id_s login.rand_p login.nonce (suite_list login.own.suites) login.suite pd t)
       (ap (λ (m : Message). gpsk_tag_of login.suite (gpsk.keys_of login).sk (covered_of m)) same ∙ has_mac) ∙ same
 
-  module _ (id_p rand_p pd mac body : List ℕ) (suite : Suite) (user : User) (known : knows id_p gpsk_kind user) (message : Message) where
+  module _ (id_p rand_p pd mac body : List ℕ) (suite : Suite) (user : User)
+      (known : user_of setup.users id_p gpsk_kind ≡ Some user) (message : Message) where
     abbrev login_of : ServerSide → List ℕ → gpsk.Login
     login_of own nonce = gpsk_row.login_from own nonce id_p user rand_p suite
 
@@ -162,7 +157,7 @@ module _ (setup : ServerSetup) (users : List User) (own_users : users ≡ setup.
       own = refl;
       nonce = refl;
       user = user;
-      known = own_user id_p gpsk_kind user known;
+      known = known;
       key = refl;
       standing = standing;
       offered = heard.offered;
@@ -212,7 +207,7 @@ module _ (setup : ServerSetup) (users : List User) (own_users : users ≡ setup.
 
   module _ (next_id : ℕ) (octets : List ℕ) (accepted made : List TagRecord) where
     psk_turned : (view : psk.View) (out : ServerOutcome psk.View) → PskServerTags setup view accepted made
-        → psk_row.PskServerRow users next_id view octets out → PskTurned setup accepted made out
+        → psk_row.PskServerRow setup.users next_id view octets out → PskTurned setup accepted made out
     psk_turned view _ told (psk_row.drops c) = drops view c
     psk_turned view _ told (psk_row.refuses own nonce _ _ _ _ in_view _ _ _) =
         ends false _ _ (psk_refuses own nonce accepted made (at_psk setup accepted made view _ in_view told))
@@ -231,7 +226,7 @@ module _ (setup : ServerSetup) (users : List User) (own_users : users ≡ setup.
         (λ e. absurd (false≢true e))
 
     gpsk_turned : (view : gpsk.View) (out : ServerOutcome gpsk.View) → GpskServerTags setup view accepted made
-        → gpsk_row.GpskServerRow users next_id view octets out → GpskTurned setup accepted made out
+        → gpsk_row.GpskServerRow setup.users next_id view octets out → GpskTurned setup accepted made out
     gpsk_turned view _ told (gpsk_row.drops c) = drops view c
     gpsk_turned view _ told (gpsk_row.refuses own nonce _ _ _ _ _ _ _ _ in_view _ _ _ _ _ _ _) =
         requests _ _ _ (gpsk_refuses own nonce accepted made (at_gpsk setup accepted made view _ in_view told))
@@ -357,9 +352,10 @@ module _ (setup : ServerSetup) (now : ServerNow) (accepted made : List TagRecord
     psk_has is_psk None at_view = drops now.views _
     psk_has is_psk (Some view) at_view =
         with_psk is_psk _
-        (psk_turned setup now.vars.setup.users own_users (next_id now.vars) octets accepted made view _
+        (subst (λ (users : List User). PskTurned setup accepted made (psk.step users (next_id now.vars) view octets)) (sym own_users)
+        (psk_turned setup (next_id now.vars) octets accepted made view _
         (told_by_psk setup now.vars.current now.views view accepted made is_psk at_view stands.tags)
-        (psk_server_steps_are_rows now.vars.setup.users (next_id now.vars) view octets))
+        (psk_server_steps_are_rows setup.users (next_id now.vars) view octets)))
 
     with_gpsk : now.vars.current ≡ Some gpsk_kind → (out : ServerOutcome gpsk.View) → GpskTurned setup accepted made out
         → MethodTurned (record { turn = out.turn; after = record now.views { gpsk = Some out.after } })
@@ -373,9 +369,10 @@ module _ (setup : ServerSetup) (now : ServerNow) (accepted made : List TagRecord
     gpsk_has is_gpsk None at_view = drops now.views _
     gpsk_has is_gpsk (Some view) at_view =
         with_gpsk is_gpsk _
-        (gpsk_turned setup now.vars.setup.users own_users (next_id now.vars) octets accepted made view _
+        (subst (λ (users : List User). GpskTurned setup accepted made (gpsk.step users (next_id now.vars) view octets)) (sym own_users)
+        (gpsk_turned setup (next_id now.vars) octets accepted made view _
         (told_by_gpsk setup now.vars.current now.views view accepted made is_gpsk at_view stands.tags)
-        (gpsk_server_steps_are_rows now.vars.setup.users (next_id now.vars) view octets))
+        (gpsk_server_steps_are_rows setup.users (next_id now.vars) view octets)))
 
     method_turned : (kind : ℕ) → now.vars.current ≡ Some kind → MethodTurned (server_turn now.vars.setup.users (next_id now.vars) kind now.views octets)
     unfolding server_turn
