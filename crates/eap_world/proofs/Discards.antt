@@ -42,26 +42,20 @@ call_keeps w did after same unsent untagged = record {
       (tells_once (has_held w.held did.party) did.party (report_of w.parties did.party) (told.each did.party)));
 }
 
-record Keeps (w : WorldNow) (out : WorldOutcome) : Type 0 where
-  pub keeps : IsSome out.told.cause → KeepsBothEnds w out.after
-
-steps_keep : (w : WorldNow) (out : WorldOutcome) → Steps w out → Keeps w out
-steps_keep w _ (skips skip) = record { keeps = λ is_discard. cc is_discard }
-steps_keep w _ (calls (to_peer input) later) = record {
-  keeps = λ is_discard.
-      let out = peer_takes w.parties.peer input in
-      let same = peer_discards.discards_keep w.parties.peer input is_discard in
-      call_keeps w (did_by party.Peer (is_delivery (to_peer input)) out.step) _ (ap (λ peer. record w.parties { peer = peer }) same.all) same.sent same.tags;
-}
-steps_keep w _ (calls (to_server input) later) = record {
-  keeps = λ is_discard.
-      let out = server_takes w.parties.server input in
-      let same = server_discards.discards_keep w.parties.server input is_discard in
-      call_keeps w (did_by party.Server (is_delivery (to_server input)) out.step) _ (ap (λ server. record w.parties { server = server }) same.all) same.sent same.tags;
-}
+steps_keep : (w : WorldNow) (out : WorldOutcome) → Steps w out → IsSome out.told.cause → KeepsBothEnds w out.after
+steps_keep w _ (skips skip) is_discard = cc is_discard
+steps_keep w _ (calls (to_peer input) later) is_discard =
+    let out = peer_takes w.parties.peer input in
+    let same = peer_discards.discards_keep w.parties.peer input is_discard in
+    call_keeps w (did_by party.Peer (is_delivery (to_peer input)) out.step) _ (ap (λ peer. record w.parties { peer = peer }) same.all) same.sent same.tags
+steps_keep w _ (calls (to_server input) later) is_discard =
+    let out = server_takes w.parties.server input in
+    let same = server_discards.discards_keep w.parties.server input is_discard in
+    call_keeps w (did_by party.Server (is_delivery (to_server input)) out.step) _
+    (ap (λ server. record w.parties { server = server }) same.all) same.sent same.tags
 
 pub discards_keep : DiscardsKeep
-discards_keep w e = (steps_keep w (world_step w e) (step_steps w e)).keeps
+discards_keep w e = steps_keep w (world_step w e) (step_steps w e)
 
 -- what a party was seen to hold it still was
 still_held : (held : Held) (of other : Party) → has_held held other ≡ true → has_held (held_by held of) other ≡ true
