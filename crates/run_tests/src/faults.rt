@@ -1,5 +1,7 @@
 //! Cuttings of the input and the output, reads and writes that fail, and the limit of a line.
 
+ghost use Rattle.std.specs.Prelude.{◌<◌};
+
 use crate::blocks::{answered, answered_to, scenario};
 use eap_base::{MemSink, MemSource};
 use login_call::Status;
@@ -29,7 +31,10 @@ fn whole(alloc: Global, block: &str) -> io::Result<MemSink> {
 }
 
 /// True where these cuttings of reads and writes give the same.
-fn is_the_same(alloc: Global, read: usize, write: usize) -> io::Result<bool> {
+fn is_the_same(alloc: Global, read: usize, write: usize) -> io::Result<bool>
+    requires reads { 0 < read }
+    requires writes { 0 < write }
+{
     let input = scenario(alloc, LOGIN)?;
     let source = MemSource::new(alloc, input.as_bytes(), read, &[])?;
     let sink = MemSink::new(alloc, 10_000, write, &[])?;
