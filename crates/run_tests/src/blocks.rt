@@ -2,7 +2,8 @@
 //!
 //! - `set FRONT|LINE` puts LINE in place of the setting that begins so, and leaves it out where LINE is empty;
 //! - `run EVENT;EVENT` are the events of the scenario, a line each;
-//! - `< LINE` is a line of the input in place of a scenario, and `<<LINE` one that ends without its LF;
+//! - `< LINE` is a line of the input in place of a scenario;
+//! - `<<LINE` is the last line, of either, which ends without its LF;
 //! - `= N` is the number of the status;
 //! - `sent LENGTH LENGTH` are the lengths of all packets sent;
 //! - `> LINE` are the lines of the whole output;
@@ -91,17 +92,24 @@ pub(crate) fn scenario(alloc: Global, block: &str) -> Result<String, AllocError>
             text.push_str("\n")?;
         }
     }
+    push_unended(&mut text, block)?;
     Ok(text)
 }
 
-/// The lines that a block gives as its input, the last of them perhaps without LF.
-fn input(alloc: Global, block: &str) -> Result<String, AllocError> {
-    let mut text = rests(alloc, block, "< ")?;
+/// Adds the block's line that ends without its LF, where it has one.
+fn push_unended(text: &mut String, block: &str) -> Result<(), AllocError> {
     for line in block.split("\n") {
         if let Some(rest) = line.strip_prefix("<<") {
             text.push_str(rest)?;
         }
     }
+    Ok(())
+}
+
+/// The lines that a block gives as its input, the last of them perhaps without LF.
+fn input(alloc: Global, block: &str) -> Result<String, AllocError> {
+    let mut text = rests(alloc, block, "< ")?;
+    push_unended(&mut text, block)?;
     Ok(text)
 }
 

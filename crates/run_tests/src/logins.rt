@@ -61,8 +61,9 @@ run deliver 1;deliver 2;alter 3 50 1;deliver 4;end
 > tags honest
 > result open
 > end
-case a peer that never answers: the server sends again four times at most
-run timeout server;timeout server;timeout server;timeout server;timeout server;timeout server;end
+case a peer that never answers: the server sends again four times at most; the last line lacks its LF
+run timeout server;timeout server;timeout server;timeout server;timeout server;timeout server
+<<end
 = 0
 > eap-trace 1
 > 0 peer INITIALIZE IDLE
