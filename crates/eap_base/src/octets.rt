@@ -78,6 +78,22 @@ impl<const N: usize> Octets<N> {
         self.items.try_extend_from_slice(octets).is_ok()
     }
 
+    /// Leaves no octet.
+    pub fn clear(&mut self)
+        ensures { self.new ≡ [] }
+    {
+        self.items.truncate(0);
+    }
+
+    /// These octets take the place of what was there.
+    pub fn set(&mut self, octets: &[u8])
+        requires { length octets.now ≤ N }
+        ensures { self.new ≡ octets.now }
+    {
+        self.clear();
+        self.append(octets);
+    }
+
     /// Keeps the first `keep` octets, or all where there are fewer.
     pub fn truncate(&mut self, keep: usize)
         ensures { self.new ≡ take keep self.old }

@@ -14,8 +14,8 @@ use Rattle.psk_messages.specs.Message as psk_message
 use Rattle.psk_messages.specs.Reading as psk_reading
 use Rattle.login_policy.specs.Policy.{picked_suite}
 use Rattle.eap_method.specs.declared.tags.TagRecord.{TagRecord}
-use Rattle.eap_method.specs.declared.turn.PeerTurn.TheVariants as peer_answer
-use Rattle.eap_method.specs.declared.turn.ServerTurn.TheVariants as server_answer
+use Rattle.eap_method.specs.PeerTurn as peer_answer
+use Rattle.eap_method.specs.ServerTurn as server_answer
 use Rattle.eap_method.specs.declared.values.Credential.{Credential}
 use Rattle.eap_method.specs.declared.values.ServerSide.{ServerSide}
 use Rattle.eap_method.specs.declared.values.MethodState.{MethodState}

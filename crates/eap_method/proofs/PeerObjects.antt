@@ -6,7 +6,7 @@ use Rattle.eap_base.specs.Setup.{psk_kind, gpsk_kind, is_among}
 use Rattle.eap_packet.specs.declared.cause.Cause.TheVariants.{WrongOp}
 use Rattle.eap_method.specs.PskPeer as psk_peer
 use Rattle.eap_method.specs.GpskPeer as gpsk_peer
-use Rattle.eap_method.specs.declared.turn.PeerTurn.{PeerTurn}
+use Rattle.eap_method.specs.PeerTurn.{PeerTurn}
 use Rattle.eap_method.specs.Peer.{PeerShown, psk, gpsk, PeerViews, peer_kind, peer_step, peer_turn, psk_turn, gpsk_turn, peer_views, views_where}
 use Rattle.eap_method.specs.Turns.{PeerOutcome, discarded}
 

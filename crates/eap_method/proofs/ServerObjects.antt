@@ -7,7 +7,7 @@ use Rattle.eap_base.specs.declared.users.User.{User}
 use Rattle.eap_packet.specs.declared.cause.Cause.TheVariants.{WrongOp}
 use Rattle.eap_method.specs.PskServer as psk_server
 use Rattle.eap_method.specs.GpskServer as gpsk_server
-use Rattle.eap_method.specs.declared.turn.ServerTurn.{ServerTurn}
+use Rattle.eap_method.specs.ServerTurn.{ServerTurn}
 use Rattle.eap_method.specs.Server.{ServerShown, psk, gpsk, ServerViews, server_kind, server_step, server_turn, psk_hears, gpsk_hears, server_views, views_where}
 use Rattle.eap_method.specs.Turns.{ServerOutcome, dropped}
 

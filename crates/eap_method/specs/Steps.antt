@@ -1,14 +1,24 @@
 -- What one call of a machine of RFC 4137 does, seen from outside.
-use Rattle.std.specs.Prelude.{ℕ, List, [], Bool, true, false, Some, None}
+use Rattle.std.specs.Prelude.{ℕ, List, [], Bool, true, false, if◌then◌else◌, Option, Some, None}
 use Rattle.eap_packet.specs.declared.cause.Cause.{Cause}
 use Rattle.eap_packet.specs.declared.state.State.{State}
 use Rattle.eap_packet.specs.declared.state.State.TheVariants as state
-use Rattle.eap_method.specs.declared.step.Step.{Step}
+use Rattle.eap_method.specs.declared.step.Step as brief
 use Rattle.eap_method.specs.declared.tags.Tags.{Tags}
+use Rattle.eap_method.specs.Tags.{no_tags}
 
--- no records
-abbrev pub no_tags : Tags
-no_tags = record { accepted = []; made = [] }
+-- what one call does, with what it writes: the states that it enters, the cause of a discard, the packet
+-- that it sends, the records of the tags accepted and made
+pub record Step : Type 0 where
+  pub path : List State
+  pub cause : Option Cause
+  pub sent : Option (List ℕ)
+  pub tags : Tags
+
+-- the step of a call that answers so, with the packet and the records that it wrote
+abbrev pub step_with : brief.Step → List ℕ → Tags → Step
+step_with step packet tags =
+    record { path = step.path; cause = step.cause; sent = if step.sends then Some packet else None; tags = tags }
 
 -- the states entered, the octets sent, and the records
 abbrev pub sends : List State → List ℕ → Tags → Step

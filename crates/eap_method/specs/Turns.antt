@@ -2,10 +2,10 @@
 use Rattle.std.specs.Prelude.{ℕ, List, [], Bool, if◌then◌else◌, Option, Some, slice_index, drop}
 use Rattle.eap_packet.specs.declared.cause.Cause.{Cause}
 use Rattle.eap_method.specs.declared.tags.TagRecord.{TagRecord}
-use Rattle.eap_method.specs.declared.turn.PeerTurn.{PeerTurn}
-use Rattle.eap_method.specs.declared.turn.PeerTurn.TheVariants as peer
-use Rattle.eap_method.specs.declared.turn.ServerTurn.{ServerTurn}
-use Rattle.eap_method.specs.declared.turn.ServerTurn.TheVariants as server
+use Rattle.eap_method.specs.PeerTurn.{PeerTurn}
+use Rattle.eap_method.specs.PeerTurn as peer
+use Rattle.eap_method.specs.ServerTurn.{ServerTurn}
+use Rattle.eap_method.specs.ServerTurn as server
 use Rattle.eap_method.specs.declared.values.MethodState.{MethodState}
 use Rattle.eap_method.specs.declared.values.Decision.{Decision}
 

@@ -3,10 +3,12 @@
 ghost use Rattle.std.specs.Prelude.{◌≡◌, IsTrue};
 ghost use Rattle.eap_base.specs.Setup.{fits_kind};
 ghost use Rattle.eap_method.specs.Peer.{peer_kind, peer_begun, peer_step, peer_report, IsRequest};
+ghost use Rattle.eap_method.specs.PeerTurn.{peer_turn_with, peer_tags};
 
+use crate::tags::Tags;
 use crate::turn::PeerTurn;
 use crate::values::{Credential, Report};
-use eap_base::Nonce;
+use eap_base::{Nonce, Packet};
 
 /// A method at a peer. Its ghost member says which method it is and where it stands.
 pub trait PeerMethod: Drop {
@@ -26,10 +28,13 @@ pub trait PeerMethod: Drop {
         requires { IsTrue (fits_kind (peer_kind (peer_shown self.old)) cred.now.psk) }
         ensures { peer_shown self.new ≡ peer_begun cred.now nonce.now (peer_shown self.old) };
 
-    /// The turn for a Request of this Type with nothing past its Length.
-    fn handle(&mut self, request: &[u8]) -> PeerTurn
+    /// The turn for a Request of this Type with nothing past its Length. The Response is written into
+    /// `packet` in place of what was there, the records of its tags into `tags`. A discard leaves no
+    /// record, and nothing that counts in `packet`.
+    fn handle(&mut self, request: &[u8], packet: &mut Packet, tags: &mut Tags) -> PeerTurn
         requires { IsRequest (peer_kind (peer_shown self.old)) request.now }
-        ensures { peer_step (peer_shown self.old) request.now ≡ record { turn = result; after = peer_shown self.new } };
+        ensures turn { peer_step (peer_shown self.old) request.now ≡ record { turn = peer_turn_with result packet.new tags.new; after = peer_shown self.new } }
+        ensures tags { tags.new ≡ peer_tags (peer_turn_with result packet.new tags.new) };
 
     /// What the peer holds after a login that succeeded; None before and after any other.
     fn report(&self) -> Option<Report>
@@ -47,8 +52,8 @@ impl PeerMethod for Box<dyn PeerMethod> {
         (**self).begin(cred, nonce)
     }
 
-    fn handle(&mut self, request: &[u8]) -> PeerTurn {
-        (**self).handle(request)
+    fn handle(&mut self, request: &[u8], packet: &mut Packet, tags: &mut Tags) -> PeerTurn {
+        (**self).handle(request, packet, tags)
     }
 
     fn report(&self) -> Option<Report> {

@@ -4,11 +4,13 @@ ghost use Rattle.std.specs.Prelude.{◌≡◌, ℕ, List, true, map};
 ghost use Rattle.eap_base.specs.Setup.{is_among, IsSoundPeer, HasKeys};
 ghost use Rattle.eap_method.specs.Peer.{peer_kinds, peer_views, peer_turn, IsRequest, peer_report_of, views_begun, have_each, octets_or_none, key_for, credential_for};
 ghost use Rattle.eap_method.specs.Begun.{peer_begun_in};
+ghost use Rattle.eap_method.specs.PeerTurn.{peer_turn_with, peer_tags};
 
 use crate::peer::PeerMethod;
+use crate::tags::Tags;
 use crate::turn::PeerTurn;
 use crate::values::{Credential, Report};
-use eap_base::{PeerSetup, Secret};
+use eap_base::{Packet, PeerSetup, Secret};
 use eap_packet::Cause;
 use login_policy::peer_allows;
 
@@ -26,19 +28,31 @@ pub fn begin_peers<M: PeerMethod>(methods: &mut [M], setup: &PeerSetup)
 }
 
 /// The turn of the object of this Type, which is allowed, for a Request of this Type with nothing past
-/// its Length. Where there is no such object, the Request is discarded as one that no method awaits.
-pub fn hand_to_peer<M: PeerMethod>(methods: &mut [M], kind: u8, request: &[u8]) -> PeerTurn
+/// its Length: its Response is written into `packet`, the records of its tags into `tags`. Where there
+/// is no such object, the Request is discarded as one that no method awaits.
+pub fn hand_to_peer<M: PeerMethod>(
+    methods: &mut [M],
+    kind: u8,
+    request: &[u8],
+    packet: &mut Packet,
+    tags: &mut Tags,
+) -> PeerTurn
     requires { IsRequest kind request.now }
-    ensures turn { (allowed : List ℕ) → is_among allowed kind ≡ true → peer_turn kind (peer_views allowed (map M.peer_shown methods.old)) request.now ≡ record { turn = result; after = peer_views allowed (map M.peer_shown methods.new) } }
+    ensures turn { (allowed : List ℕ) → is_among allowed kind ≡ true → peer_turn kind (peer_views allowed (map M.peer_shown methods.old)) request.now
+        ≡ record { turn = peer_turn_with result packet.new tags.new; after = peer_views allowed (map M.peer_shown methods.new) } }
+    ensures tags { tags.new ≡ peer_tags (peer_turn_with result packet.new tags.new) }
     ensures kinds { peer_kinds (map M.peer_shown methods.new) ≡ peer_kinds (map M.peer_shown methods.old) }
 {
     match methods.split_first_mut() {
-        None => PeerTurn::Discard(Cause::WrongOp),
+        None => {
+            tags.clear();
+            PeerTurn::Discard(Cause::WrongOp)
+        }
         Some((first, rest)) => {
             if first.kind() == kind {
-                first.handle(request)
+                first.handle(request, packet, tags)
             } else {
-                hand_to_peer(rest, kind, request)
+                hand_to_peer(rest, kind, request, packet, tags)
             }
         }
     }

@@ -3,7 +3,9 @@
 ghost use Rattle.std.specs.Prelude.{◌≡◌, true, IsTrue, All};
 ghost use Rattle.eap_base.specs.Setup.{fits_kind, are_suites};
 ghost use Rattle.eap_method.specs.Server.{server_kind, server_begun, has_begun, server_first_step, server_step, server_report, IsResponse};
+ghost use Rattle.eap_method.specs.ServerTurn.{server_turn_with, server_tags};
 
+use crate::tags::Tags;
 use crate::turn::ServerTurn;
 use crate::values::{Report, ServerSide};
 use eap_base::{Nonce, Packet, Users};
@@ -25,17 +27,29 @@ pub trait ServerMethod: Drop {
         requires { IsTrue (are_suites own.now.suites) }
         ensures { server_shown self.new ≡ server_begun own.now nonce.now (server_shown self.old) };
 
-    /// The method's first Request, with this Identifier, of an object that has begun and made none.
-    fn first(&mut self, id: u8) -> Packet
+    /// Writes the method's first Request, with this Identifier, into `packet` in place of what was
+    /// there. The object has begun and made none.
+    fn first(&mut self, id: u8, packet: &mut Packet)
         requires { has_begun (server_shown self.old) ≡ true }
-        ensures { server_first_step (server_shown self.old) id ≡ record { packet = result; after = server_shown self.new } };
+        ensures { server_first_step (server_shown self.old) id ≡ record { packet = packet.new; after = server_shown self.new } };
 
-    /// The turn for a Response of this Type with nothing past its Length; a Request that follows has
-    /// the Identifier `next_id`. The users' keys have 16 octets for EAP-PSK, 32 to 64 for EAP-GPSK.
-    fn handle(&mut self, response: &[u8], next_id: u8, users: &Users) -> ServerTurn
+    /// The turn for a Response of this Type with nothing past its Length. A Request that follows has
+    /// the Identifier `next_id` and is written into `packet` in place of what was there, the records of
+    /// the turn's tags into `tags`. A discard leaves no record; without a Request nothing counts in
+    /// `packet`. The users' keys have 16 octets for EAP-PSK, 32 to 64 for EAP-GPSK.
+    fn handle(
+        &mut self,
+        response: &[u8],
+        next_id: u8,
+        users: &Users,
+        packet: &mut Packet,
+        tags: &mut Tags,
+    ) -> ServerTurn
         requires response { IsResponse (server_kind (server_shown self.old)) response.now }
         requires keys { All (λ user. IsTrue (fits_kind user.kind user.psk)) users.now }
-        ensures { server_step users.now next_id (server_shown self.old) response.now ≡ record { turn = result; after = server_shown self.new } };
+        ensures turn { server_step users.now next_id (server_shown self.old) response.now
+            ≡ record { turn = server_turn_with result packet.new tags.new; after = server_shown self.new } }
+        ensures tags { tags.new ≡ server_tags (server_turn_with result packet.new tags.new) };
 
     /// What the server holds after a login that succeeded; None before and after any other.
     fn report(&self) -> Option<Report>
@@ -53,12 +67,19 @@ impl ServerMethod for Box<dyn ServerMethod> {
         (**self).begin(own, nonce)
     }
 
-    fn first(&mut self, id: u8) -> Packet {
-        (**self).first(id)
+    fn first(&mut self, id: u8, packet: &mut Packet) {
+        (**self).first(id, packet)
     }
 
-    fn handle(&mut self, response: &[u8], next_id: u8, users: &Users) -> ServerTurn {
-        (**self).handle(response, next_id, users)
+    fn handle(
+        &mut self,
+        response: &[u8],
+        next_id: u8,
+        users: &Users,
+        packet: &mut Packet,
+        tags: &mut Tags,
+    ) -> ServerTurn {
+        (**self).handle(response, next_id, users, packet, tags)
     }
 
     fn report(&self) -> Option<Report> {

@@ -1,12 +1,14 @@
 //! The objects of a server: beginning them, finding the one of a method, and calling it.
 
-ghost use Rattle.std.specs.Prelude.{◌≡◌, ℕ, List, true, map, IsTrue, All};
+ghost use Rattle.std.specs.Prelude.{◌≡◌, ℕ, List, true, map, IsTrue, All, Some, None, if◌then◌else◌};
 ghost use Rattle.eap_base.specs.Setup.{is_among, fits_kind, are_suites};
 ghost use Rattle.eap_method.specs.Begun.{server_begun_in};
 ghost use Rattle.eap_method.specs.Peer.{have_each};
+ghost use Rattle.eap_method.specs.ServerTurn.{server_turn_with, server_tags};
 ghost use Rattle.eap_method.specs.Server.{server_kinds, server_views, server_offer, server_turn, IsResponse, server_report_of, side_of, views_begun};
 
 use crate::server::ServerMethod;
+use crate::tags::Tags;
 use crate::turn::ServerTurn;
 use crate::values::{Report, ServerSide};
 use eap_base::{Nonce, Packet, ServerSetup, Users};
@@ -21,54 +23,65 @@ pub fn begin_servers<M: ServerMethod>(methods: &mut [M], setup: &ServerSetup)
     begin_each(methods, setup);
 }
 
-/// The first Request, with this Identifier, of the object of this Type, which is proposed: the object
-/// begins and makes it. None, and nothing changes, where there is no such object.
+/// Writes the first Request, with this Identifier, of the object of this Type, which is proposed, into
+/// `packet`: the object begins and makes it. False, and nothing changes, where there is no such object.
 pub fn offer_method<M: ServerMethod>(
     methods: &mut [M],
     kind: u8,
     own: &ServerSide,
     nonce: &Nonce,
     id: u8,
-) -> Option<Packet>
+    packet: &mut Packet,
+) -> bool
     requires { IsTrue (are_suites own.now.suites) }
-    ensures offer { (order : List ℕ) → is_among order kind ≡ true → server_offer own.now nonce.now kind id (server_views order (map M.server_shown methods.old)) ≡ record { packet = result; after = server_views order (map M.server_shown methods.new) } }
+    ensures offer { (order : List ℕ) → is_among order kind ≡ true → server_offer own.now nonce.now kind id (server_views order (map M.server_shown methods.old))
+        ≡ record { packet = if result then Some packet.new else None; after = server_views order (map M.server_shown methods.new) } }
     ensures kinds { server_kinds (map M.server_shown methods.new) ≡ server_kinds (map M.server_shown methods.old) }
 {
     match methods.split_first_mut() {
-        None => None,
+        None => false,
         Some((first, rest)) => {
             if first.kind() == kind {
                 first.begin(own, nonce);
-                Some(first.first(id))
+                first.first(id, packet);
+                true
             } else {
-                offer_method(rest, kind, own, nonce, id)
+                offer_method(rest, kind, own, nonce, id, packet)
             }
         }
     }
 }
 
 /// The turn of the object of this Type, which is proposed, for a Response of this Type with nothing
-/// past its Length; a Request that follows has the Identifier `next_id`. Where there is no such object,
-/// the Response is discarded as one that no method awaits.
+/// past its Length: a Request that follows has the Identifier `next_id` and is written into `packet`,
+/// the records of the turn's tags into `tags`. Where there is no such object, the Response is discarded
+/// as one that no method awaits.
 pub fn hand_to_server<M: ServerMethod>(
     methods: &mut [M],
     kind: u8,
     response: &[u8],
     next_id: u8,
     users: &Users,
+    packet: &mut Packet,
+    tags: &mut Tags,
 ) -> ServerTurn
     requires response { IsResponse kind response.now }
     requires keys { All (λ user. IsTrue (fits_kind user.kind user.psk)) users.now }
-    ensures turn { (order : List ℕ) → is_among order kind ≡ true → server_turn users.now next_id kind (server_views order (map M.server_shown methods.old)) response.now ≡ record { turn = result; after = server_views order (map M.server_shown methods.new) } }
+    ensures turn { (order : List ℕ) → is_among order kind ≡ true → server_turn users.now next_id kind (server_views order (map M.server_shown methods.old)) response.now
+        ≡ record { turn = server_turn_with result packet.new tags.new; after = server_views order (map M.server_shown methods.new) } }
+    ensures tags { tags.new ≡ server_tags (server_turn_with result packet.new tags.new) }
     ensures kinds { server_kinds (map M.server_shown methods.new) ≡ server_kinds (map M.server_shown methods.old) }
 {
     match methods.split_first_mut() {
-        None => ServerTurn::Discard(Cause::WrongOp),
+        None => {
+            tags.clear();
+            ServerTurn::Discard(Cause::WrongOp)
+        }
         Some((first, rest)) => {
             if first.kind() == kind {
-                first.handle(response, next_id, users)
+                first.handle(response, next_id, users, packet, tags)
             } else {
-                hand_to_server(rest, kind, response, next_id, users)
+                hand_to_server(rest, kind, response, next_id, users, packet, tags)
             }
         }
     }

@@ -1,10 +1,9 @@
-//! What one call of a machine of RFC 4137 does.
+//! What one call of a machine of RFC 4137 does. The packet that it sends and the records of its tags
+//! stand where they were lent.
 
-ghost use Rattle.std.specs.Prelude.{◌≡◌, ◌≤◌, ◌∷◌, ◌++◌, [], Some, None, length};
-ghost use Rattle.eap_method.specs.Steps.{sends, enters, discards, is_end};
+ghost use Rattle.std.specs.Prelude.{◌≡◌, ◌≤◌, length, None, Some, true, false};
+ghost use Rattle.eap_method.specs.Steps.{is_end};
 
-use crate::tags::Tags;
-use eap_base::Packet;
 use eap_packet::{Cause, Path, State};
 
 /// What one call of a machine does, seen from outside.
@@ -14,49 +13,44 @@ pub struct Step {
     pub path: Path,
     /// Why it discards what came, None where it doesn't.
     pub cause: Option<Cause>,
-    /// The packet that it sends, None where it sends none.
-    pub sent: Option<Packet>,
-    /// The records of the tags that it accepted and made.
-    pub tags: Tags,
+    /// Whether it sends a packet.
+    pub sends: bool,
 }
 
 impl Step {
-    /// These states are entered, at most 8, and these octets sent.
-    pub fn sending(states: &[State], octets: Packet, tags: Tags) -> Step
+    /// These states are entered, at most 8, and a packet is sent.
+    pub fn sending(states: &[State]) -> Step
         requires { length states.now ≤ 8 }
-        ensures { result ≡ sends states.now octets tags }
+        ensures { result ≡ record { path = states.now; cause = None; sends = true } }
     {
         Step {
             path: path_of(states),
             cause: None,
-            sent: Some(octets),
-            tags,
+            sends: true,
         }
     }
 
     /// These states are entered, at most 8, and nothing is sent.
-    pub fn entering(states: &[State], tags: Tags) -> Step
+    pub fn entering(states: &[State]) -> Step
         requires { length states.now ≤ 8 }
-        ensures { result ≡ enters states.now tags }
+        ensures { result ≡ record { path = states.now; cause = None; sends = false } }
     {
         Step {
             path: path_of(states),
             cause: None,
-            sent: None,
-            tags,
+            sends: false,
         }
     }
 
     /// These states are entered, at most 8, and what came is discarded for this cause.
     pub fn discarding(states: &[State], cause: Cause) -> Step
         requires { length states.now ≤ 8 }
-        ensures { result ≡ discards states.now cause }
+        ensures { result ≡ record { path = states.now; cause = Some cause; sends = false } }
     {
         Step {
             path: path_of(states),
             cause: Some(cause),
-            sent: None,
-            tags: Tags::none(),
+            sends: false,
         }
     }
 }

@@ -1,8 +1,9 @@
 //! Records of the tags that an end makes and accepts.
 
-ghost use Rattle.std.specs.Prelude.{◌≡◌, ◌≤◌, ◌<◌, ◌↔◌, [], ◌∷◌, ◌++◌, length, IsTrue};
+ghost use Rattle.std.specs.Prelude.{◌≡◌, ◌≤◌, ◌<◌, ◌+◌, ◌↔◌, [], ◌∷◌, ◌++◌, length, map, IsTrue};
+ghost use Rattle.std.specs.List.{concat};
+ghost use Rattle.eap_method.specs.Tags.{no_tags};
 
-use arrayvec::ArrayVec;
 use eap_base::{Octets, Secret};
 use std::marker::Model;
 
@@ -45,21 +46,50 @@ impl TagRecord {
             tag: self.tag.copy(),
         }
     }
+
+    /// This record takes the place of what was there.
+    fn write(&mut self, method: u8, label: Label, psk: &Secret, covered: &[&[u8]], tag: &[u8])
+        requires covered { length (concat (map (λ p. p.now) covered.now)) ≤ 1500 }
+        requires tag { length tag.now ≤ 32 }
+        ensures { self.new ≡ record { method = method; label = label; psk = psk.now; octets = concat (map (λ p. p.now) covered.now); tag = tag.now } }
+    {
+        self.method = method;
+        self.label = label;
+        self.psk.set(psk.as_slice());
+        self.octets.clear();
+        append_each(&mut self.octets, covered);
+        self.tag.set(tag);
+    }
+}
+
+/// Appends the pieces, which fit.
+#[tactic(auto, using(std::proofs::Common::append_assoc))]
+fn append_each(octets: &mut Octets<1500>, pieces: &[&[u8]])
+    requires { length octets.old + length (concat (map (λ p. p.now) pieces.now)) ≤ 1500 }
+    ensures { octets.new ≡ octets.old ++ concat (map (λ p. p.now) pieces.now) }
+{
+    if let Some((first, rest)) = pieces.split_first() {
+        octets.append(first);
+        append_each(octets, rest);
+    }
 }
 
 /// At most 2 records, in the order of the message's tags. Contracts see the list of the records.
 #[derive(Drop)]
 pub struct TagList {
-    records: ArrayVec<TagRecord, 2>,
+    records: [TagRecord; 2],
+    count: usize,
 }
 
 impl Model for TagList {
-    ghost use Rattle.std.specs.Prelude.{List};
+    ghost use Rattle.std.specs.Prelude.{List, take, length, ◌≡◌, ◌≤◌};
     ghost use Rattle.eap_method.specs.declared.tags.TagRecord.{TagRecord};
 
     ghost Value = { List TagRecord };
 
-    ghost view = { λ l. l.records.items };
+    ghost view = { λ l. take l.count l.records };
+
+    ghost invariant = { λ l. (l.count ≤ 2) × (length l.records ≡ 2) };
 }
 
 impl TagList {
@@ -68,17 +98,35 @@ impl TagList {
         ensures { result ≡ [] }
     {
         TagList {
-            records: ArrayVec::new(),
+            records: [TagRecord::default(), TagRecord::default()],
+            count: 0,
         }
     }
 
-    /// Appends a record and answers true. Where 2 records are there it answers false and changes nothing.
-    pub fn push(&mut self, tag: TagRecord) -> bool
+    /// Leaves no record.
+    pub fn clear(&mut self)
+        ensures { self.new ≡ [] }
+    {
+        self.count = 0;
+    }
+
+    /// Appends a record and answers true. Where 2 records are there it answers false and changes
+    /// nothing. The octets that the tag covers are given in pieces, together at most 1,500; the tag has
+    /// at most 32.
+    pub fn add(&mut self, method: u8, label: Label, psk: &Secret, covered: &[&[u8]], tag: &[u8]) -> bool
+        requires covered { length (concat (map (λ p. p.now) covered.now)) ≤ 1500 }
+        requires tag { length tag.now ≤ 32 }
         ensures room { IsTrue result ↔ (length self.old < 2) }
-        ensures pushed { length self.old < 2 → self.new ≡ self.old ++ tag ∷ [] }
+        ensures added { length self.old < 2
+            → self.new ≡ self.old ++ (record { method = method; label = label; psk = psk.now; octets = concat (map (λ p. p.now) covered.now); tag = tag.now }) ∷ [] }
         ensures unchanged { 2 ≤ length self.old → self.new ≡ self.old }
     {
-        self.records.try_push(tag).is_ok()
+        if self.count >= 2 {
+            return false;
+        }
+        self.records[self.count].write(method, label, psk, covered, tag);
+        self.count += 1;
+        true
     }
 
     /// The records in order.
@@ -86,26 +134,7 @@ impl TagList {
         ensures same { result.now ≡ self.now }
         ensures fits { length result.now ≤ 2 }
     {
-        self.records.as_slice()
-    }
-
-    /// One record.
-    pub fn one(tag: TagRecord) -> TagList
-        ensures { result ≡ tag ∷ [] }
-    {
-        let mut list = TagList::new();
-        list.push(tag);
-        list
-    }
-
-    /// Two records.
-    pub fn two(first: TagRecord, second: TagRecord) -> TagList
-        ensures { result ≡ first ∷ second ∷ [] }
-    {
-        let mut list = TagList::new();
-        list.push(first);
-        list.push(second);
-        list
+        &self.records[..self.count]
     }
 }
 
@@ -119,12 +148,20 @@ pub struct Tags {
 
 impl Tags {
     /// No records.
-    pub fn none() -> Tags
-        ensures { result ≡ record { accepted = []; made = [] } }
+    pub fn new() -> Tags
+        ensures { result ≡ no_tags }
     {
         Tags {
             accepted: TagList::new(),
             made: TagList::new(),
         }
+    }
+
+    /// Leaves no record.
+    pub fn clear(&mut self)
+        ensures { self.new ≡ no_tags }
+    {
+        self.accepted.clear();
+        self.made.clear();
     }
 }

@@ -5,7 +5,7 @@ use Rattle.std.specs.Prelude.{IsSome}
 use Rattle.eap_base.specs.declared.setup.Party.{Party}
 use Rattle.eap_base.specs.declared.setup.Party.TheVariants as party
 use Rattle.eap_base.specs.declared.setup.Setup.{Setup}
-use Rattle.eap_method.specs.Steps.{no_tags}
+use Rattle.eap_method.specs.Tags.{no_tags}
 use Rattle.eap_method.specs.declared.values.Report.{Report}
 use Rattle.peer_machine.specs.Inputs.{peer_takes}
 use Rattle.peer_machine.proofs.Discards as peer_discards

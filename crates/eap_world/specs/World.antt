@@ -11,7 +11,7 @@ use Rattle.eap_packet.specs.declared.state.State.{State}
 use Rattle.eap_method.specs.Peer.{PeerShown, peer_kinds}
 use Rattle.eap_method.specs.Server.{ServerShown, server_kinds}
 use Rattle.eap_method.specs.Steps.{is_end}
-use Rattle.eap_method.specs.declared.step.Step.{Step}
+use Rattle.eap_method.specs.Steps.{Step}
 use Rattle.eap_method.specs.declared.tags.Tags.{Tags}
 use Rattle.eap_method.specs.declared.values.Report.{Report}
 use Rattle.peer_machine.specs.Inputs as peer_inputs

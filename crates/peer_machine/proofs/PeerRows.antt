@@ -6,8 +6,8 @@ use Rattle.eap_base.specs.Setup.{is_among}
 use Rattle.eap_packet.specs.Fault.{packet_of}
 use Rattle.eap_packet.specs.Packet.{PacketValue, request, response, success, failure, spelled}
 use Rattle.eap_packet.specs.declared.cause.Cause.{Cause}
-use Rattle.eap_method.specs.declared.turn.PeerTurn.{PeerTurn}
-use Rattle.eap_method.specs.declared.turn.PeerTurn.TheVariants.{Discard, Reply}
+use Rattle.eap_method.specs.PeerTurn.{PeerTurn}
+use Rattle.eap_method.specs.PeerTurn.{Discard, Reply}
 use Rattle.eap_method.specs.declared.values.Decision.{Decision}
 use Rattle.eap_method.specs.declared.values.Decision.TheVariants as decision
 use Rattle.eap_method.specs.Peer.{PeerViews, peer_turn}

@@ -1,8 +1,8 @@
 -- A method's turn, settled in the variables, is METHOD's row.
 use Rattle.std.proofs.Common.{◌≡◌, ℕ, List, Bool, refl, ap, ◌∙◌, sym}
-use Rattle.eap_method.specs.declared.step.Step.{Step}
-use Rattle.eap_method.specs.declared.turn.PeerTurn.{PeerTurn}
-use Rattle.eap_method.specs.declared.turn.PeerTurn.TheVariants.{Discard, Reply}
+use Rattle.eap_method.specs.Steps.{Step}
+use Rattle.eap_method.specs.PeerTurn.{PeerTurn}
+use Rattle.eap_method.specs.PeerTurn.{Discard, Reply}
 use Rattle.eap_method.specs.Peer.{PeerShown, PeerViews, peer_views, peer_turn}
 use Rattle.eap_method.proofs.Discards.{peer_turn_keeps}
 use Rattle.peer_machine.specs.PeerTable.{PeerNow, answer, method_answers, settled, peer_method}

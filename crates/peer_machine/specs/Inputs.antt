@@ -1,6 +1,7 @@
 -- What comes to the peer, and what it makes of it (RFC 4137 section 4).
 use Rattle.std.specs.Prelude.{ℕ, List, [], if◌then◌else◌}
-use Rattle.eap_method.specs.Steps.{no_tags, enters, is_end}
+use Rattle.eap_method.specs.Steps.{enters, is_end}
+use Rattle.eap_method.specs.Tags.{no_tags}
 use Rattle.peer_machine.specs.PeerTable.{PeerNow, PeerAnswer, answer, peer_deliver, peer_idle, peer_alt_accept, peer_alt_reject}
 
 -- octets from the server, or a report of the lower layer (section 4.1.1)

@@ -1,6 +1,6 @@
 -- Laws of the peer (RFC 4137 section 4), over its table alone.
 use Rattle.std.specs.Prelude.{◌≡◌, None, IsSome}
-use Rattle.eap_method.specs.Steps.{no_tags}
+use Rattle.eap_method.specs.Tags.{no_tags}
 use Rattle.peer_machine.specs.Inputs.{PeerInput, peer_takes}
 use Rattle.peer_machine.specs.PeerTable.{PeerNow, PeerAnswer}
 

@@ -9,16 +9,17 @@ use Rattle.eap_packet.specs.declared.cause.Cause.TheVariants as cause
 use Rattle.eap_packet.specs.declared.state.State.{State}
 use Rattle.eap_packet.specs.declared.state.State.TheVariants as state
 use Rattle.login_policy.specs.Policy.{nak_of}
-use Rattle.eap_method.specs.declared.step.Step.{Step}
-use Rattle.eap_method.specs.declared.turn.PeerTurn.{PeerTurn}
-use Rattle.eap_method.specs.declared.turn.PeerTurn.TheVariants.{Discard, Reply}
+use Rattle.eap_method.specs.Steps.{Step}
+use Rattle.eap_method.specs.PeerTurn.{PeerTurn}
+use Rattle.eap_method.specs.PeerTurn.{Discard, Reply}
 use Rattle.eap_method.specs.declared.values.MethodState.{MethodState}
 use Rattle.eap_method.specs.declared.values.MethodState.TheVariants as method
 use Rattle.eap_method.specs.declared.values.Decision.{Decision}
 use Rattle.eap_method.specs.declared.values.Decision.TheVariants as decision
 use Rattle.eap_method.specs.declared.values.Report.{Report}
 use Rattle.eap_method.specs.Peer.{PeerShown, PeerViews, peer_views, views_begun, peer_turn, peer_report_of}
-use Rattle.eap_method.specs.Steps.{no_tags, sends, enters, discards, is_end}
+use Rattle.eap_method.specs.Steps.{sends, enters, discards, is_end}
+use Rattle.eap_method.specs.Tags.{no_tags}
 use Rattle.peer_machine.specs.declared.variables.PeerVariables.{PeerVariables}
 
 -- a machine as its fields show it: its variables and its objects

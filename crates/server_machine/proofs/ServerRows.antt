@@ -7,8 +7,8 @@ use Rattle.eap_packet.specs.Packet.{PacketValue, request, response, success, fai
 use Rattle.eap_packet.specs.declared.cause.Cause.{Cause}
 use Rattle.eap_packet.specs.declared.state.State.{State}
 use Rattle.login_policy.specs.Policy.{next_kind}
-use Rattle.eap_method.specs.declared.turn.ServerTurn.{ServerTurn}
-use Rattle.eap_method.specs.declared.turn.ServerTurn.TheVariants as turn
+use Rattle.eap_method.specs.ServerTurn.{ServerTurn}
+use Rattle.eap_method.specs.ServerTurn as turn
 use Rattle.eap_method.specs.Server.{ServerViews}
 use Rattle.eap_method.specs.Steps.{is_end}
 use Rattle.server_machine.specs.Inputs.{start, timeout, octets}

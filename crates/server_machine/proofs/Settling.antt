@@ -2,11 +2,11 @@
 use Rattle.std.proofs.Common.{◌≡◌, ℕ, List, Option, Some, None, refl, ap, ◌∙◌, sym}
 use Rattle.eap_packet.specs.declared.state.State.{State}
 use Rattle.login_policy.specs.Policy.{next_kind}
-use Rattle.eap_method.specs.declared.step.Step.{Step}
-use Rattle.eap_method.specs.declared.turn.ServerTurn.{ServerTurn}
-use Rattle.eap_method.specs.declared.turn.ServerTurn.TheVariants.{Discard, Request, Done}
+use Rattle.eap_method.specs.Steps.{Step}
+use Rattle.eap_method.specs.ServerTurn.{ServerTurn}
+use Rattle.eap_method.specs.ServerTurn.{Discard, Request, Done}
 use Rattle.eap_method.specs.Server.{ServerShown, ServerViews, server_views, server_turn, server_offer, side_of, server_report_of}
-use Rattle.eap_method.specs.Steps.{no_tags}
+use Rattle.eap_method.specs.Tags.{no_tags}
 use Rattle.eap_method.proofs.Discards.{server_turn_keeps}
 use Rattle.server_machine.specs.ServerTable.{ServerNow, answer, method_answers, settled, server_method, select_action, proposes, offers, ends_badly, next_id}
 use Rattle.server_machine.specs.declared.variables.ServerVariables.{ServerVariables}

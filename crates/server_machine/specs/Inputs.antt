@@ -1,6 +1,7 @@
 -- What comes to the server, and what it makes of it (RFC 4137 section 5).
 use Rattle.std.specs.Prelude.{ℕ, List, [], if◌then◌else◌}
-use Rattle.eap_method.specs.Steps.{no_tags, enters, is_end}
+use Rattle.eap_method.specs.Steps.{enters, is_end}
+use Rattle.eap_method.specs.Tags.{no_tags}
 use Rattle.server_machine.specs.ServerTable.{ServerNow, ServerAnswer, answer, is_started, server_start, server_deliver, server_timeout}
 
 -- the start, the end of the retransmission timer, or octets from the peer

@@ -1,6 +1,6 @@
 -- Laws of the server (RFC 4137 section 5), over its table alone.
 use Rattle.std.specs.Prelude.{◌≡◌, None, IsSome}
-use Rattle.eap_method.specs.Steps.{no_tags}
+use Rattle.eap_method.specs.Tags.{no_tags}
 use Rattle.server_machine.specs.Inputs.{ServerInput, server_takes}
 use Rattle.server_machine.specs.ServerTable.{ServerNow, ServerAnswer}
 

@@ -8,10 +8,11 @@ use Rattle.eap_packet.specs.declared.state.State.{State}
 use Rattle.eap_packet.specs.declared.state.State.TheVariants as state
 use Rattle.login_policy.specs.Policy.{next_kind}
 use Rattle.eap_method.specs.declared.tags.Tags.{Tags}
-use Rattle.eap_method.specs.declared.turn.ServerTurn.{ServerTurn}
-use Rattle.eap_method.specs.declared.turn.ServerTurn.TheVariants as turn
+use Rattle.eap_method.specs.ServerTurn.{ServerTurn}
+use Rattle.eap_method.specs.ServerTurn as turn
 use Rattle.eap_method.specs.Server.{ServerViews, Offer, side_of, server_offer, server_turn}
-use Rattle.eap_method.specs.Steps.{no_tags, sends, enters, discards, is_end}
+use Rattle.eap_method.specs.Steps.{sends, enters, discards, is_end}
+use Rattle.eap_method.specs.Tags.{no_tags}
 use Rattle.server_machine.specs.Inputs.{ServerInput, start, timeout, octets, server_rests, server_takes}
 use Rattle.server_machine.specs.ServerTable.{ServerNow, ServerAnswer, answer, identity, nak, next_id, before_proposal, ends_badly, offers, method_answers, is_awaited, is_proposed, is_started, server_start}
 use Rattle.server_machine.specs.declared.variables.Progress.TheVariants as progress

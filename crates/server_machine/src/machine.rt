@@ -7,7 +7,8 @@ ghost use Rattle.eap_packet.specs.Packet as packets;
 ghost use Rattle.eap_packet.specs.declared.state.State.TheVariants.{Success, Failure, ProposeMethod, MethodRequest, SendRequest, Idle};
 ghost use Rattle.eap_method.specs.Peer.{have_each};
 ghost use Rattle.eap_method.specs.Server.{IsResponse, ServerViews, server_views, server_kinds, server_offer, server_turn, side_of};
-ghost use Rattle.eap_method.specs.Steps.{discards, enters, sends, no_tags};
+ghost use Rattle.eap_method.specs.Steps.{discards, enters, sends};
+ghost use Rattle.eap_method.specs.Tags.{no_tags};
 ghost use Rattle.server_machine.specs.ServerTable.{answer, vars_made, before_proposal, next_id, with_request, ends_well, ends_badly, offers, method_answers, settled, AreInOrder, is_current};
 
 use crate::variables::{Progress, ServerVariables};

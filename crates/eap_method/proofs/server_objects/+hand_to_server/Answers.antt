@@ -10,11 +10,11 @@ returns-in-None-clause-turn g t c = λ order is_proposed.
 pub returns-then-kind-clause-turn : goal.returns-then-kind-clause-turn
 returns-then-kind-clause-turn g t c = λ order is_proposed.
     rw c.in-Some.ensures.cases.0
-    (turn_hit _ _ order _ _ _ _ _ _ c.handle.ensures (sym c.kind.ensures ∙ c.if-kind.true) is_proposed)
+    (turn_hit _ _ order _ _ _ _ _ _ c.handle.ensures.turn (sym c.kind.ensures ∙ c.if-kind.true) is_proposed)
 
 pub returns-then-kind-clause-kinds : goal.returns-then-kind-clause-kinds
 returns-then-kind-clause-kinds g t c =
-    rw c.in-Some.ensures.cases.0 (rw (step_kind _ _ _ _ _ _ c.handle.ensures) refl)
+    rw c.in-Some.ensures.cases.0 (rw (step_kind _ _ _ _ _ _ c.handle.ensures.turn) refl)
 
 pub returns-else-kind-clause-turn : goal.returns-else-kind-clause-turn
 returns-else-kind-clause-turn g t c = λ order is_proposed.

@@ -1,0 +1,8 @@
+-- Records of the tags that an end makes and accepts.
+use Rattle.std.specs.Prelude.{ℕ, List, [], map}
+use Rattle.std.specs.List.{concat}
+use Rattle.eap_method.specs.declared.tags.Tags.{Tags}
+
+-- no records
+abbrev pub no_tags : Tags
+no_tags = record { accepted = []; made = [] }
