@@ -1,6 +1,5 @@
 -- Records of the tags that an end makes and accepts.
-use Rattle.std.specs.Prelude.{ℕ, List, [], map}
-use Rattle.std.specs.List.{concat}
+use Rattle.std.specs.Prelude.{[]}
 use Rattle.eap_method.specs.declared.tags.Tags.{Tags}
 
 -- no records

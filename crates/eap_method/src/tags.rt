@@ -113,7 +113,14 @@ impl TagList {
     /// Appends a record and answers true. Where 2 records are there it answers false and changes
     /// nothing. The octets that the tag covers are given in pieces, together at most 1,500; the tag has
     /// at most 32.
-    pub fn add(&mut self, method: u8, label: Label, psk: &Secret, covered: &[&[u8]], tag: &[u8]) -> bool
+    pub fn add(
+        &mut self,
+        method: u8,
+        label: Label,
+        psk: &Secret,
+        covered: &[&[u8]],
+        tag: &[u8],
+    ) -> bool
         requires covered { length (concat (map (λ p. p.now) covered.now)) ≤ 1500 }
         requires tag { length tag.now ≤ 32 }
         ensures room { IsTrue result ↔ (length self.old < 2) }
