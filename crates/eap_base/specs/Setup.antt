@@ -1,6 +1,9 @@
 -- When the settings of an end are sound: its methods, its suites and the keys that it holds.
 use Rattle.std.specs.Prelude.{ℕ, List, [], ◌∷◌, length, Bool, true, false, ◌==◌, ◌&&◌, ◌||◌, not, if◌then◌else◌, nat_le, IsTrue, IfSome, IsSome, All}
 use Rattle.std.specs.List.{list_any, list_all}
+use Rattle.std.specs.Str.{bytes_eq}
+use Rattle.eap_base.specs.declared.setup.Accepts.{Accepts}
+use Rattle.eap_base.specs.declared.setup.Accepts.TheVariants.{Any, One}
 use Rattle.eap_base.specs.declared.setup.PeerSetup.{PeerSetup}
 use Rattle.eap_base.specs.declared.setup.ServerSetup.{ServerSetup}
 
@@ -43,6 +46,11 @@ abbrev pub fits_kind : ℕ → List ℕ → Bool
 fits_kind kind key =
     if kind == psk_kind then length key == 16
     else (kind == gpsk_kind) && (nat_le 32 (length key) && nat_le (length key) 64)
+
+-- whether the peer accepts a server of this name
+abbrev pub accepts_name : Accepts → List ℕ → Bool
+accepts_name Any name = true
+accepts_name (One accepted) name = bytes_eq accepted name
 
 -- the settings of a peer are sound
 pub record IsSoundPeer (setup : PeerSetup) : Type 0 where

@@ -1,5 +1,5 @@
 -- The two ciphersuites of EAP-GPSK (RFC 5433 section 6).
-use Rattle.std.specs.Prelude.{ℕ, List, [], ◌∷◌}
+use Rattle.std.specs.Prelude.{ℕ, List, [], ◌∷◌, ◌==◌, if◌then◌else◌, Option, Some, None}
 use Rattle.eap_base.specs.declared.setup.Suite.{Suite}
 use Rattle.eap_base.specs.declared.setup.Suite.TheVariants.{Cmac, Hmac}
 
@@ -12,6 +12,13 @@ ks_of Hmac = 32
 abbrev pub suite_number : Suite → ℕ
 suite_number Cmac = 1
 suite_number Hmac = 2
+
+-- the suite of a number
+abbrev pub suite_numbered : ℕ → Option Suite
+suite_numbered number =
+    if number == 1 then Some Cmac
+    else if number == 2 then Some Hmac
+    else None
 
 -- CSuite_Sel: vendor 0 in four octets, the specifier in two
 abbrev pub suite_octets : Suite → List ℕ

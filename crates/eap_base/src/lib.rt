@@ -5,6 +5,7 @@
 mod calls;
 mod comparison;
 mod event;
+mod kind;
 mod lines;
 mod memory;
 mod octets;
@@ -18,9 +19,10 @@ mod users;
 
 pub use comparison::equal_in_full;
 pub use event::Event;
+pub use kind::{GPSK_KIND, PSK_KIND, is_among};
 pub use lines::{LineReader, NextLine};
 pub use memory::{MemSink, MemSource};
-pub use octets::{Identity, Kinds, Nonce, Octets, Packet, Secret, Suites};
+pub use octets::{Identity, Kinds, Nonce, Octets, Packet, Secret, Suites, array_of};
 pub use setup::{Accepts, Mode, Party, PeerSetup, Port, ServerSetup, Setup, Suite};
 pub use sink::Sink;
 pub use source::{Failed, Source};

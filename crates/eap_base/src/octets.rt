@@ -60,6 +60,16 @@ impl<const N: usize> Octets<N> {
         }
     }
 
+    /// The list of these octets, which fit.
+    pub fn of(octets: &[u8]) -> Octets<N>
+        requires { length octets.now ≤ N }
+        ensures { result ≡ octets.now }
+    {
+        let mut list = Octets::new();
+        list.put(octets);
+        list
+    }
+
     /// Appends one octet and answers true. Where the list is full it answers false and changes nothing.
     pub fn push(&mut self, octet: u8) -> bool
         ensures room { IsTrue result ↔ (length self.old < N) }
@@ -78,20 +88,28 @@ impl<const N: usize> Octets<N> {
         self.items.try_extend_from_slice(octets).is_ok()
     }
 
-    /// Leaves no octet.
-    pub fn clear(&mut self)
-        ensures { self.new ≡ [] }
+    /// Appends these octets, for which there is room.
+    pub fn put(&mut self, octets: &[u8])
+        requires { length self.old + length octets.now ≤ N }
+        ensures { self.new ≡ self.old ++ octets.now }
     {
-        self.items.truncate(0);
+        self.append(octets);
     }
 
-    /// These octets take the place of what was there.
+    /// Holds these octets, which fit, in place of its own.
     pub fn set(&mut self, octets: &[u8])
         requires { length octets.now ≤ N }
         ensures { self.new ≡ octets.now }
     {
         self.clear();
         self.append(octets);
+    }
+
+    /// Holds no octets.
+    pub fn clear(&mut self)
+        ensures { self.new ≡ [] }
+    {
+        self.items.clear();
     }
 
     /// Keeps the first `keep` octets, or all where there are fewer.
@@ -128,9 +146,7 @@ impl<const N: usize> Octets<N> {
     pub fn copy(&self) -> Octets<N>
         ensures { result ≡ self.now }
     {
-        let mut list = Octets::new();
-        list.append(self.as_slice());
-        list
+        Octets::of(self.as_slice())
     }
 }
 
@@ -140,4 +156,14 @@ impl<const N: usize> Default for Octets<N> {
     {
         Octets::new()
     }
+}
+
+/// These octets, of which there are `N`, as an array.
+pub fn array_of<const N: usize>(octets: &[u8]) -> [u8; N]
+    requires { length octets.now ≡ N }
+    ensures { result ≡ octets.now }
+{
+    let mut array = [0; N];
+    array.copy_from_slice(octets);
+    array
 }

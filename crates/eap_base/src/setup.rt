@@ -1,7 +1,8 @@
 //! The settings of a run: what each end is told before it begins.
 
 ghost use Rattle.std.specs.Prelude.{◌≡◌};
-ghost use Rattle.eap_base.specs.Suite.{ks_of, suite_octets};
+ghost use Rattle.eap_base.specs.Setup.{accepts_name};
+ghost use Rattle.eap_base.specs.Suite.{ks_of, suite_number, suite_numbered, suite_octets};
 
 use crate::octets::{Identity, Kinds, Nonce, Secret, Suites};
 use crate::users::Users;
@@ -26,14 +27,32 @@ impl Suite {
         }
     }
 
+    /// The suite's number, its specifier: 1 or 2.
+    pub fn number(&self) -> u8
+        ensures { result ≡ suite_number self.now }
+    {
+        match self {
+            Suite::Cmac => 1,
+            Suite::Hmac => 2,
+        }
+    }
+
+    /// The suite of this number, or None where it is neither 1 nor 2.
+    pub fn numbered(number: u8) -> Option<Suite>
+        ensures { result ≡ suite_numbered number }
+    {
+        match number {
+            1 => Some(Suite::Cmac),
+            2 => Some(Suite::Hmac),
+            _ => None,
+        }
+    }
+
     /// The suite as CSuite_Sel spells it: four octets of vendor 0, then two of specifier 1 or 2.
     pub fn octets(&self) -> [u8; 6]
         ensures { result ≡ suite_octets self.now }
     {
-        match self {
-            Suite::Cmac => [0, 0, 0, 0, 0, 1],
-            Suite::Hmac => [0, 0, 0, 0, 0, 2],
-        }
+        [0, 0, 0, 0, 0, self.number()]
     }
 }
 
@@ -72,6 +91,16 @@ pub enum Accepts {
 }
 
 impl Accepts {
+    /// Whether the peer accepts a server of this name.
+    pub fn takes(&self, name: &[u8]) -> bool
+        ensures { result ≡ accepts_name self.now name.now }
+    {
+        match self {
+            Accepts::Any => true,
+            Accepts::One(accepted) => accepted.as_slice() == name,
+        }
+    }
+
     /// An equal value.
     pub fn copy(&self) -> Accepts
         ensures { result ≡ self.now }

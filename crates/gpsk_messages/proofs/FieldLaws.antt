@@ -2,7 +2,7 @@
 use Rattle.std.proofs.Common.{◌≡◌, ℕ, zero, suc, ◌+◌, ◌*◌, ◌/◌, ◌%◌, ◌^◌, ◌<◌, true, eqb, leb, ltb, List, [], ◌∷◌, ◌++◌, length, get_or, take, drop, Option, Some, None, refl, sym, ap, subst, ◌∙◌, append_assoc, arith, inl, inr}
 use Rattle.std.specs.Prelude.{◌&&◌}
 use Rattle.std.specs.Int.{w32, from_be_bytes, to_be_bytes}
-use Rattle.std.proofs.lemmas.Bool.{cases_lt, leb-true, le-leb, ltb-true, lt-ltb, eqb-true, eq-eqb, and_parts, and_from}
+use Rattle.std.proofs.lemmas.Bool.{cases_lt, leb-true, le-leb, ltb-true, lt-ltb, eqb-true, eq-eqb, ne_eqb, and_parts, and_from}
 use Rattle.std.proofs.lemmas.List.{take_at, drop_at, take-append-drop, length-append, length-take-le, get_or_past}
 use Rattle.std.proofs.lemmas.List.Elements.{All-take, All-drop, All-tail}
 use Rattle.std.proofs.lemmas.Nat.{be_bytes_4, from_be_bytes-to_be_bytes_4}
@@ -99,6 +99,10 @@ suite_takes (zero ∷ zero ∷ zero ∷ zero ∷ zero ∷ suc zero ∷ octets) x
     suite_front Cmac octets x small (same_Some (Cmac, octets) x e)
 suite_takes (zero ∷ zero ∷ zero ∷ zero ∷ zero ∷ suc (suc zero) ∷ octets) x small e =
     suite_front Hmac octets x small (same_Some (Hmac, octets) x e)
+suite_takes (zero ∷ zero ∷ zero ∷ zero ∷ zero ∷ suc (suc (suc n)) ∷ octets) x small e =
+    let first = ne_eqb (suc (suc (suc n))) 1 (omega arith) in
+    let second = ne_eqb (suc (suc (suc n))) 2 (omega arith) in
+    absurd (cc (first, second, e))
 suite_takes octets x small e = absurd cc
 
 -- an octet at any place

@@ -1,9 +1,8 @@
 -- Reading Type-Data as an EAP-GPSK message (RFC 5433 section 7), field by field.
-use Rattle.std.specs.Prelude.{ℕ, zero, suc, ◌+◌, ◌*◌, ◌%◌, List, [], ◌∷◌, length, take, drop, Bool, nat_lt, nat_le, ◌==◌, ◌&&◌, ◌||◌, if◌then◌else◌, Option, Some, None, Result, Ok, Err}
+use Rattle.std.specs.Prelude.{ℕ, zero, ◌+◌, ◌*◌, ◌%◌, List, [], ◌∷◌, length, take, drop, Bool, nat_lt, nat_le, ◌==◌, ◌&&◌, ◌||◌, if◌then◌else◌, Option, Some, None, option_map, Result, Ok, Err}
 use Rattle.std.specs.Int.{w32, from_be_bytes}
 use Rattle.eap_base.specs.declared.setup.Suite.{Suite}
-use Rattle.eap_base.specs.declared.setup.Suite.TheVariants.{Cmac, Hmac}
-use Rattle.eap_base.specs.Suite.{ks_of}
+use Rattle.eap_base.specs.Suite.{ks_of, suite_numbered}
 use Rattle.eap_packet.specs.declared.cause.Cause.{Cause}
 use Rattle.eap_packet.specs.declared.cause.Cause.TheVariants.{GpskShape, ListTooLong}
 use Rattle.gpsk_messages.specs.Message.{Message, gpsk1, gpsk2, gpsk3, gpsk4, fail, protected_fail, list_of}
@@ -44,8 +43,7 @@ suites_at octets = do
 
 -- one of the two suites that the standard defines
 unfoldable pub suite_at : List ℕ → Option (Suite × List ℕ)
-suite_at (zero ∷ zero ∷ zero ∷ zero ∷ zero ∷ suc zero ∷ octets) = Some (Cmac, octets)
-suite_at (zero ∷ zero ∷ zero ∷ zero ∷ zero ∷ suc (suc zero) ∷ octets) = Some (Hmac, octets)
+suite_at (zero ∷ zero ∷ zero ∷ zero ∷ zero ∷ number ∷ octets) = option_map (λ suite. (suite, octets)) (suite_numbered number)
 suite_at octets = None
 
 -- a Failure-Code, in four octets

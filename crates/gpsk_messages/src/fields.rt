@@ -3,7 +3,7 @@
 ghost use Rattle.std.specs.Prelude.{◌≡◌, IfSome, length, option_map};
 ghost use Rattle.gpsk_messages.specs.Reading.{exact_at, sized_at, identity_at, suites_at, suite_at, code_at};
 
-use eap_base::Suite;
+use eap_base::{Suite, array_of};
 
 /// The most octets of an identity.
 const MAX_IDENTITY: usize = 253;
@@ -67,8 +67,7 @@ pub(crate) fn suite_field<'a>(octets: &'a [u8]) -> Option<(Suite, &'a [u8])>
     ensures { option_map (λ x. (x.0, x.1.now)) result ≡ suite_at octets.now }
 {
     match octets {
-        [0, 0, 0, 0, 0, 1, rest @ ..] => Some((Suite::Cmac, rest)),
-        [0, 0, 0, 0, 0, 2, rest @ ..] => Some((Suite::Hmac, rest)),
+        [0, 0, 0, 0, 0, number, rest @ ..] => Some((Suite::numbered(*number)?, rest)),
         _ => None,
     }
 }
@@ -79,9 +78,7 @@ pub(crate) fn rand_field<'a>(octets: &'a [u8]) -> Option<([u8; 32], &'a [u8])>
     ensures { option_map (λ x. (x.0, x.1.now)) result ≡ exact_at 32 octets.now }
 {
     let (front, rest) = exact_field(32, octets)?;
-    let mut rand = [0; 32];
-    rand.copy_from_slice(front);
-    Some((rand, rest))
+    Some((array_of(front), rest))
 }
 
 /// A Failure-Code, in four octets.

@@ -7,22 +7,11 @@ ghost use Rattle.eap_packet.specs.Packet as packets;
 ghost use Rattle.gpsk_messages.specs.Message.{message_of, op_code, spelled, sized, size_of};
 
 use crate::view::GpskView;
-use eap_base::{Octets, Packet, Suite};
+use eap_base::{GPSK_KIND, Octets, Packet, Suite};
 use eap_packet::{Code, encode};
-
-/// Type 51, EAP-GPSK.
-const GPSK: u8 = 51;
 
 /// The Type-Data of a packet of at most 1,500 octets.
 type Body = Octets<1495>;
-
-/// Appends these octets, for which there is room.
-fn put(body: &mut Body, octets: &[u8])
-    requires { length body.old + length octets.now ≤ 1495 }
-    ensures { body.new ≡ body.old ++ octets.now }
-{
-    body.append(octets);
-}
 
 /// Appends a field behind its length, for which there is room.
 fn put_sized(body: &mut Body, field: &[u8])
@@ -30,8 +19,8 @@ fn put_sized(body: &mut Body, field: &[u8])
     ensures { body.new ≡ body.old ++ sized field.now }
 {
     let size = field.len();
-    put(body, &[(size / 256) as u8, (size % 256) as u8]);
-    put(body, field);
+    body.put(&[(size / 256) as u8, (size % 256) as u8]);
+    body.put(field);
 }
 
 /// Appends a nonce, for which there is room.
@@ -39,7 +28,7 @@ fn put_rand(body: &mut Body, rand: &[u8; 32])
     requires { length body.old + length rand.now ≤ 1495 }
     ensures { body.new ≡ body.old ++ rand.now }
 {
-    put(body, rand);
+    body.put(rand);
 }
 
 /// Appends the two nonces, for which there is room.
@@ -84,9 +73,9 @@ fn put_sealed(body: &mut Body, suite: Suite, pd: &[u8], mac: &[u8])
     requires { length body.old + 8 + length pd.now + length mac.now ≤ 1495 }
     ensures { body.new ≡ body.old ++ (suite_octets suite ++ (sized pd.now ++ mac.now)) }
 {
-    put(body, &suite.octets());
+    body.put(&suite.octets());
     put_sized(body, pd);
-    put(body, mac);
+    body.put(mac);
 }
 
 /// The OP-Code of the message.
@@ -142,12 +131,12 @@ fn body_of(view: &GpskView) -> Body
         }
         GpskView::M4 { pd, mac } => {
             put_sized(&mut body, pd);
-            put(&mut body, mac);
+            body.put(mac);
         }
-        GpskView::Fail { code } => put(&mut body, &code.to_be_bytes()),
+        GpskView::Fail { code } => body.put(&code.to_be_bytes()),
         GpskView::ProtectedFail { code, mac } => {
-            put(&mut body, &code.to_be_bytes());
-            put(&mut body, mac);
+            body.put(&code.to_be_bytes());
+            body.put(mac);
         }
     }
     body
@@ -159,5 +148,5 @@ pub fn write_gpsk(view: &GpskView, code: Code, id: u8) -> Packet
     requires fits { size_of (message_of view.now) + 5 ≤ 1500 }
     ensures { result ≡ packets.spelled (value_with code id 51 (spelled (message_of view.now))) }
 {
-    encode(code, id, GPSK, body_of(view).as_slice())
+    encode(code, id, GPSK_KIND, body_of(view).as_slice())
 }

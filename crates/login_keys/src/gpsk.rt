@@ -6,10 +6,9 @@ ghost use Rattle.login_keys.specs.Gkdf.{gpsk_tag_of};
 ghost use Rattle.login_keys.specs.Gpsk.{gpsk_keys_of, input_string, keys_from, pk_size};
 ghost use Rattle.login_keys.specs.Gpsk as spec;
 
-use crate::copies::{array_of, list_of};
 use crate::derivation::gkdf;
 use cmac_mac::cmac_whole;
-use eap_base::{Octets, Suite};
+use eap_base::{Octets, Suite, array_of};
 use hmac_mac::hmac_whole;
 
 /// The keys of an EAP-GPSK login (RFC 5433, section 4). KS is 16 for suite 1 and 32 for suite 2.
@@ -97,7 +96,7 @@ fn master_key<'a>(
         &psk[..ks],
         &[&psk_len, psk, &selected, rand_p, id_p, rand_s, id_s],
     );
-    list_of(mk.as_slice())
+    Octets::of(mk.as_slice())
 }
 
 // The keys that are cut from the octets derived from the master key.
@@ -112,8 +111,8 @@ fn cut_keys(suite: Suite, mk: Octets<32>, derived: &[u8]) -> GpskKeys
         mk,
         msk: array_of(&derived[0..64]),
         emsk: array_of(&derived[64..128]),
-        sk: list_of(&derived[128..128 + ks]),
-        pk: list_of(&derived[128 + ks..]),
+        sk: Octets::of(&derived[128..128 + ks]),
+        pk: Octets::of(&derived[128 + ks..]),
     }
 }
 
@@ -126,7 +125,7 @@ pub fn gpsk_tag(suite: Suite, sk: &[u8], octets: &[u8]) -> Octets<32>
     ensures size { length result ≡ ks_of suite }
 {
     match suite {
-        Suite::Cmac => list_of(&cmac_whole(&array_of(sk), octets)),
-        Suite::Hmac => list_of(&hmac_whole(sk, octets)),
+        Suite::Cmac => Octets::of(&cmac_whole(&array_of(sk), octets)),
+        Suite::Hmac => Octets::of(&hmac_whole(sk, octets)),
     }
 }

@@ -3,7 +3,6 @@
 //! memory.
 #![tactic(auto)]
 
-mod copies;
 mod derivation;
 mod gpsk;
 mod mac_key;

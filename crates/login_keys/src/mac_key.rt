@@ -9,9 +9,8 @@ ghost use Rattle.eap_base.specs.declared.setup.Suite.{Suite};
 ghost use Rattle.login_keys.specs.Gkdf.{gpsk_tag_of};
 ghost use Rattle.login_keys.specs.MacKey.{IsMacKey};
 
-use crate::copies::{array_of, list_of};
 use cmac_mac::CmacKey;
-use eap_base::{Octets, Suite};
+use eap_base::{Octets, Suite, array_of};
 use hmac_mac::HmacKey;
 
 // A key of the MAC of suite 1 or of suite 2 (RFC 5433, sections 8.1.2 and 8.2.2).
@@ -41,8 +40,8 @@ impl MacKey {
             → result ≡ gpsk_tag_of suite key (front.now ++ concat (map (λ p. p.now) pieces.now)) }
     {
         match self {
-            MacKey::Cmac(key) => list_of(&key.tag(front, pieces)),
-            MacKey::Hmac(key) => list_of(&hmac_tag(key, front, pieces)),
+            MacKey::Cmac(key) => Octets::of(&key.tag(front, pieces)),
+            MacKey::Hmac(key) => Octets::of(&hmac_tag(key, front, pieces)),
         }
     }
 }

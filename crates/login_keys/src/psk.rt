@@ -5,9 +5,8 @@ ghost use Rattle.std.specs.List.{flat_map, range_with_len};
 ghost use Rattle.aes_block.specs.Cipher.{aes128};
 ghost use Rattle.login_keys.specs.Psk.{combined_with, psk_keys_of, psk_long_of};
 
-use crate::copies::array_of;
 use aes_block::Aes128;
-use eap_base::Octets;
+use eap_base::{Octets, array_of};
 
 /// The long-lived keys of a shared key (RFC 4764, section 3.1).
 #[derive(Drop)]
@@ -44,7 +43,7 @@ fn four_blocks(cipher: &Aes128, mixed: &[u8; 16], first: u8) -> [u8; 64]
 {
     let mut blocks: Octets<64> = Octets::new();
     'counters: for i in 0..4 {
-        blocks.append(&counter_block(cipher, mixed, first + i));
+        blocks.put(&counter_block(cipher, mixed, first + i));
     }
     array_of(blocks.as_slice())
 }

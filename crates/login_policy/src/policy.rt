@@ -2,10 +2,9 @@
 
 ghost use Rattle.std.specs.Prelude.{◌≡◌, ◌&&◌, not, None, option_copied};
 ghost use Rattle.eap_base.specs.Setup.{is_among};
-ghost use Rattle.eap_base.specs.Suite.{suite_number};
 ghost use Rattle.login_policy.specs.Policy.{nak_of, picked_suite, is_allowed, suite_or, is_desired, next_kind};
 
-use eap_base::{Kinds, PeerSetup, Suite, Suites};
+use eap_base::{Kinds, PeerSetup, Suite, Suites, is_among};
 
 /// The octets of an entry of a CSuite_List (RFC 5433 section 7).
 const ENTRY_SIZE: usize = 6;
@@ -24,9 +23,7 @@ pub fn nak_list(setup: &PeerSetup) -> Kinds
     ensures { result ≡ nak_of setup.now.methods }
 {
     if setup.methods.is_empty() {
-        let mut none = Kinds::new();
-        none.push(0);
-        none
+        Kinds::of(&[0])
     } else {
         setup.methods.copy()
     }
@@ -63,17 +60,7 @@ fn allowed_suite(allowed: &Suites, entry: &[u8]) -> Option<Suite>
 fn is_allowed(allowed: &Suites, entry: &[u8], suite: Suite) -> bool
     ensures { result ≡ is_allowed allowed.now entry.now suite }
 {
-    entry == suite.octets().as_slice() && is_among(allowed.as_slice(), number_of(suite))
-}
-
-/// The specifier of a suite (RFC 5433 section 6).
-fn number_of(suite: Suite) -> u8
-    ensures { result ≡ suite_number suite }
-{
-    match suite {
-        Suite::Cmac => 1,
-        Suite::Hmac => 2,
-    }
+    entry == suite.octets().as_slice() && is_among(allowed.as_slice(), suite.number())
 }
 
 /// The first Type of the server's order that is not yet proposed and that the peer's Nak, where one
@@ -104,11 +91,4 @@ fn is_desired(nak: Option<&[u8]>, kind: u8) -> bool
         None => true,
         Some(kinds) => is_among(kinds, kind),
     }
-}
-
-/// Whether a number is among these.
-fn is_among(numbers: &[u8], number: u8) -> bool
-    ensures { result ≡ is_among numbers.now number }
-{
-    numbers.iter().any(|other| *other == number)
 }

@@ -5,6 +5,7 @@ ghost use Rattle.psk_messages.specs.Message.{AreFields, heard, message_of};
 ghost use Rattle.psk_messages.specs.Reading.{front, behind, is_size, message_at, nonce_at, tag_at, sealed_at, psk1_at, psk2_at, psk3_at, psk4_at, read_of};
 
 use crate::view::PskView;
+use eap_base::array_of;
 use eap_packet::Cause;
 
 /// The octets of a nonce, a MAC or a tag.
@@ -31,9 +32,7 @@ fn split_field<'a>(octets: &'a [u8]) -> ([u8; 16], &'a [u8])
     ensures size { length result.1.now + 16 ≡ length octets.now }
 {
     let (start, rest) = octets.split_at(FIELD);
-    let mut field = [0; FIELD];
-    field.copy_from_slice(start);
-    (field, rest)
+    (array_of(start), rest)
 }
 
 /// The number in the first four octets, the most significant octet first.

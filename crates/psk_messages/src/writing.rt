@@ -6,31 +6,20 @@ ghost use Rattle.eap_packet.specs.Packet as packets;
 ghost use Rattle.psk_messages.specs.Message.{message_of, t_of, channel, fields_of, identity_of, spelled};
 
 use crate::view::PskView;
-use eap_base::{Octets, Packet};
+use eap_base::{Octets, PSK_KIND, Packet};
 use eap_packet::{Code, encode};
-
-/// Type 47, EAP-PSK.
-const PSK: u8 = 47;
 
 /// The Type-Data of a message: at most Flags, 48 octets and an identity.
 type Body = Octets<302>;
-
-/// Appends these octets, for which there is room.
-fn put(body: &mut Body, octets: &[u8])
-    requires { length body.old + length octets.now ≤ 302 }
-    ensures { body.new ≡ body.old ++ octets.now }
-{
-    body.append(octets);
-}
 
 /// Appends PCHANNEL, for which there is room.
 fn put_channel(body: &mut Body, nonce: u32, tag: &[u8; 16], sealed: u8)
     requires { length body.old + 21 ≤ 302 }
     ensures { body.new ≡ body.old ++ channel nonce tag.now sealed }
 {
-    put(body, &nonce.to_be_bytes());
-    put(body, tag);
-    put(body, &[sealed]);
+    body.put(&nonce.to_be_bytes());
+    body.put(tag);
+    body.put(&[sealed]);
 }
 
 /// Flags, whose six low bits are 0.
@@ -54,8 +43,8 @@ fn put_fields(body: &mut Body, view: &PskView)
 {
     match view {
         PskView::P1 { rand_s, id_s } => {
-            put(body, rand_s);
-            put(body, id_s);
+            body.put(rand_s);
+            body.put(id_s);
         }
         PskView::P2 {
             rand_s,
@@ -63,10 +52,10 @@ fn put_fields(body: &mut Body, view: &PskView)
             mac,
             id_p,
         } => {
-            put(body, rand_s);
-            put(body, rand_p);
-            put(body, mac);
-            put(body, id_p);
+            body.put(rand_s);
+            body.put(rand_p);
+            body.put(mac);
+            body.put(id_p);
         }
         PskView::P3 {
             rand_s,
@@ -75,8 +64,8 @@ fn put_fields(body: &mut Body, view: &PskView)
             tag,
             sealed,
         } => {
-            put(body, rand_s);
-            put(body, mac);
+            body.put(rand_s);
+            body.put(mac);
             put_channel(body, *nonce, tag, *sealed);
         }
         PskView::P4 {
@@ -85,7 +74,7 @@ fn put_fields(body: &mut Body, view: &PskView)
             tag,
             sealed,
         } => {
-            put(body, rand_s);
+            body.put(rand_s);
             put_channel(body, *nonce, tag, *sealed);
         }
     }
@@ -110,5 +99,5 @@ pub fn write_psk(view: &PskView, code: Code, id: u8) -> Packet
     requires identity { length (identity_of (message_of view.now)) ≤ 253 }
     ensures { result ≡ packets.spelled (value_with code id 47 (spelled (message_of view.now))) }
 {
-    encode(code, id, PSK, body_of(view).as_slice())
+    encode(code, id, PSK_KIND, body_of(view).as_slice())
 }

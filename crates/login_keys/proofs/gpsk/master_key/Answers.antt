@@ -9,7 +9,7 @@ unfolding master_key
 returns-clause-key c =
     let input : List ℕ = input_string c.args.rand_p.now c.args.id_p.now c.args.rand_s.now c.args.id_s.now in
     let z : List ℕ = two_octets (length c.args.psk.now) ++ (c.args.psk.now ++ (suite_octets c.args.suite ++ input)) in
-    c.list_of.ensures
+    c.of.ensures
     ∙ c.as_slice.ensures.same
     ∙ c.gkdf-mk.ensures.derived z (rw (c.to_be_bytes-psk_len.ensures, c.octets-selected.ensures, append-nil) refl)
     ∙ ap (λ (k : ℕ). gkdf c.args.suite k (take k c.args.psk.now) z) c.ks-ks.ensures

@@ -10,7 +10,7 @@ counters-init c = joined_none _ _ _ _ c.new-blocks.ensures
 
 pub counters-preserved : goal.counters-preserved
 counters-preserved c =
-    joined_push _ _ _ _ _ _ _ c.counters.invariant c.counter_block.ensures (omega arith) (c.append.ensures.appended (omega (arith, c.counters.invariant.whole)))
+    joined_push _ _ _ _ _ _ _ c.counters.invariant c.counter_block.ensures (omega arith) c.put.ensures
 
 pub returns : goal.returns
 returns c =
