@@ -5,7 +5,7 @@ use Rattle.std.specs.Str.{bytes_eq}
 use Rattle.eap_base.specs.declared.setup.Suite.{Suite}
 use Rattle.eap_base.specs.declared.users.User.{User}
 use Rattle.eap_base.specs.Suite.{ks_of}
-use Rattle.eap_base.specs.Setup.{psk_kind, gpsk_kind}
+use Rattle.eap_base.specs.Setup.{psk_kind, gpsk_kind, accepts_name}
 use Rattle.eap_base.specs.Users.{user_of}
 use Rattle.eap_packet.specs.declared.cause.Cause.{Cause}
 use Rattle.gpsk_messages.specs.Message as gpsk_message
@@ -20,7 +20,6 @@ use Rattle.eap_method.specs.declared.values.Credential.{Credential}
 use Rattle.eap_method.specs.declared.values.ServerSide.{ServerSide}
 use Rattle.eap_method.specs.declared.values.MethodState.{MethodState}
 use Rattle.eap_method.specs.declared.values.Decision.{Decision}
-use Rattle.eap_method.specs.Names.{accepts_name}
 use Rattle.eap_method.specs.GpskPeer as gpsk_peer
 use Rattle.eap_method.specs.GpskServer as gpsk_server
 use Rattle.eap_method.specs.PskPeer as psk_peer

@@ -3,7 +3,7 @@ use Rattle.std.specs.Prelude.{ℕ, List, [], ◌∷◌, Bool, true, false, ◌&&
 use Rattle.std.specs.Str.{bytes_eq}
 use Rattle.eap_base.specs.declared.setup.Suite.{Suite}
 use Rattle.eap_base.specs.Suite.{ks_of, suite_number}
-use Rattle.eap_base.specs.Setup.{gpsk_kind}
+use Rattle.eap_base.specs.Setup.{gpsk_kind, accepts_name}
 use Rattle.eap_packet.specs.declared.cause.Cause.{Cause}
 use Rattle.eap_packet.specs.declared.cause.Cause.TheVariants.{WrongOp, UnknownServer, NoSuite, FieldMismatch, BadTag}
 use Rattle.gpsk_messages.specs.Message.{Message, gpsk1, gpsk2, gpsk3, gpsk4, fail, protected_fail}
@@ -16,7 +16,6 @@ use Rattle.eap_method.specs.declared.values.Report.{Report}
 use Rattle.eap_method.specs.declared.values.MethodState.TheVariants.{Cont, MayCont, Done}
 use Rattle.eap_method.specs.declared.values.Decision.TheVariants.{Fail, CondSucc}
 use Rattle.eap_method.specs.GpskTags.{gpsk_response, tagged, is_tagged, sk_record, same_suite}
-use Rattle.eap_method.specs.Names.{accepts_name}
 use Rattle.eap_method.specs.Turns.{PeerOutcome, id_of, body_of, fault_if, discarded, replied}
 
 -- what a peer keeps of a login: its credential and RAND_Peer, ID_Server, RAND_Server, CSuite_Sel

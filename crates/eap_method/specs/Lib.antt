@@ -2,7 +2,6 @@ pub mod Begun
 pub mod GpskPeer
 pub mod GpskServer
 pub mod GpskTags
-pub mod Names
 pub mod Peer
 pub mod PeerTurn
 pub mod PskPeer

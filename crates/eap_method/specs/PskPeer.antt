@@ -1,7 +1,7 @@
 -- The peer of EAP-PSK (RFC 4764 section 4): where it stands, and its turn for each Request.
 use Rattle.std.specs.Prelude.{ℕ, List, [], ◌∷◌, Bool, true, false, ◌==◌, ◌&&◌, not, if◌then◌else◌, Option, Some, None, slice_index, Result, Ok, Err}
 use Rattle.std.specs.Str.{bytes_eq}
-use Rattle.eap_base.specs.Setup.{psk_kind}
+use Rattle.eap_base.specs.Setup.{psk_kind, accepts_name}
 use Rattle.eap_packet.specs.declared.cause.Cause.{Cause}
 use Rattle.eap_packet.specs.declared.cause.Cause.TheVariants.{WrongOp, UnknownServer, FieldMismatch, BadNonce, BadTag}
 use Rattle.psk_messages.specs.Message.{Message, psk1, psk2, psk3, psk4}
@@ -15,7 +15,6 @@ use Rattle.eap_method.specs.declared.tags.TagRecord.{TagRecord}
 use Rattle.eap_method.specs.declared.values.Report.{Report}
 use Rattle.eap_method.specs.declared.values.MethodState.TheVariants.{Cont, MayCont, Done}
 use Rattle.eap_method.specs.declared.values.Decision.TheVariants.{Fail, UncondSucc}
-use Rattle.eap_method.specs.Names.{accepts_name}
 use Rattle.eap_method.specs.PskTags.{psk_response, mac_p_octets, mac_s_octets, ak_record, tek_record, header_of, sealed_result, is_sealed, opened, result_fault, result_of, done_success, done_failure, blank_tag, rand_of}
 use Rattle.eap_method.specs.Turns.{PeerOutcome, id_of, body_of, fault_if, discarded, replied}
 

@@ -10,12 +10,11 @@ use crate::peer::PeerMethod;
 use crate::tags::Tags;
 use crate::turn::PeerTurn;
 use crate::values::{Credential, Report};
-use eap_base::{Packet, PeerSetup, Secret};
+use eap_base::{PSK_KIND, Packet, PeerSetup, Secret};
 use eap_packet::Cause;
 use login_policy::peer_allows;
 
 /// The Type of EAP-PSK (RFC 4764 section 3).
-const PSK_KIND: u8 = 47;
 
 /// Begins each object whose method the settings allow, with the key for it, wherever it stood before.
 pub fn begin_peers<M: PeerMethod>(methods: &mut [M], setup: &PeerSetup)

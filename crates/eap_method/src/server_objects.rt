@@ -11,7 +11,7 @@ use crate::server::ServerMethod;
 use crate::tags::Tags;
 use crate::turn::ServerTurn;
 use crate::values::{Report, ServerSide};
-use eap_base::{Nonce, Packet, ServerSetup, Users};
+use eap_base::{Nonce, Packet, ServerSetup, Users, is_among};
 use eap_packet::Cause;
 
 /// Begins each object whose method the settings propose, wherever it stood before.
@@ -127,11 +127,7 @@ fn begin_one<M: ServerMethod>(method: &mut M, setup: &ServerSetup)
 fn proposes(setup: &ServerSetup, kind: u8) -> bool
     ensures { result ≡ is_among setup.now.methods kind }
 {
-    setup
-        .methods
-        .as_slice()
-        .iter()
-        .any(|method| *method == kind)
+    is_among(setup.methods.as_slice(), kind)
 }
 
 #[tactic(auto, unfolding(crate::specs::Server::side_of))]

@@ -2,7 +2,7 @@
 -- its method tells them exactly, also where the login has failed.
 use Rattle.std.specs.Prelude.{◌≡◌, ℕ, List, [], ◌∷◌, Bool, true, false, if◌then◌else◌, Option, None, Some, Ok}
 use Rattle.eap_base.specs.declared.setup.PeerSetup.{PeerSetup}
-use Rattle.eap_base.specs.Setup.{psk_kind, gpsk_kind, is_among}
+use Rattle.eap_base.specs.Setup.{psk_kind, gpsk_kind, is_among, accepts_name}
 use Rattle.gpsk_messages.specs.Message.{Message, gpsk1, gpsk3}
 use Rattle.gpsk_messages.specs.Reading as gpsk_reading
 use Rattle.psk_messages.specs.Message.{psk1}
@@ -12,7 +12,6 @@ use Rattle.login_policy.specs.Policy.{picked_suite}
 use Rattle.eap_method.specs.declared.tags.TagRecord.{TagRecord}
 use Rattle.eap_method.specs.GpskPeer as gpsk
 use Rattle.eap_method.specs.GpskTags.{sk_record, tagged}
-use Rattle.eap_method.specs.Names.{accepts_name}
 use Rattle.eap_method.specs.Peer.{PeerViews, credential_for}
 use Rattle.eap_method.specs.PskPeer as psk
 use Rattle.eap_method.specs.PskTags.{ak_record, channel_nonce, done_success, done_failure}

@@ -4,12 +4,11 @@ use Rattle.std.specs.Str.{bytes_eq}
 use Rattle.eap_base.specs.declared.setup.PeerSetup.{PeerSetup}
 use Rattle.eap_base.specs.declared.setup.ServerSetup.{ServerSetup}
 use Rattle.eap_base.specs.declared.users.User.{User}
-use Rattle.eap_base.specs.Setup.{gpsk_kind, is_among}
+use Rattle.eap_base.specs.Setup.{gpsk_kind, is_among, accepts_name}
 use Rattle.eap_base.specs.Users.{user_of}
 use Rattle.eap_packet.specs.declared.state.State.{State}
 use Rattle.eap_packet.specs.declared.state.State.TheVariants as state
 use Rattle.eap_method.specs.declared.values.Report.{Report}
-use Rattle.eap_method.specs.Names.{accepts_name}
 use Rattle.peer_machine.specs.PeerTable.{peer_reports}
 use Rattle.server_machine.specs.ServerTable.{server_reports}
 use Rattle.eap_world.specs.World.{WorldNow}

@@ -1,12 +1,10 @@
 //! Whether both ends agree.
 
 ghost use Rattle.std.specs.Prelude.{◌≡◌};
-ghost use Rattle.eap_base.specs.Setup.{is_among};
-ghost use Rattle.eap_method.specs.Names.{accepts_name};
 ghost use Rattle.eap_base.specs.Users.{user_of};
 ghost use Rattle.eap_world.specs.Verdict.{same_report, allows_suite, peer_agrees, server_agrees, agree, judged, is_welcome};
 
-use eap_base::{Accepts, PeerSetup, ServerSetup};
+use eap_base::{GPSK_KIND, PeerSetup, ServerSetup, is_among};
 use eap_method::Report;
 
 /// What came of a login.
@@ -20,9 +18,6 @@ pub enum Verdict {
     /// Not both ends report success.
     Unfinished,
 }
-
-/// Type 51, EAP-GPSK.
-const GPSK: u8 = 51;
 
 /// Whether both reports are there and agree.
 pub fn judge_reports(
@@ -66,7 +61,7 @@ fn peer_agrees(setup: &PeerSetup, report: &Report) -> bool
     ensures { result ≡ peer_agrees setup.now report.now }
 {
     is_among(setup.methods.as_slice(), report.method)
-        && accepts(&setup.accepts, report.id_s.as_slice())
+        && setup.accepts.takes(report.id_s.as_slice())
         && allows_suite(setup.suites.as_slice(), report)
 }
 
@@ -93,22 +88,5 @@ fn welcomes(setup: &ServerSetup, report: &Report) -> bool
 fn allows_suite(suites: &[u8], report: &Report) -> bool
     ensures { result ≡ allows_suite suites.now report.now }
 {
-    report.method != GPSK || is_among(suites, report.suite)
-}
-
-/// Whether a name is accepted.
-fn accepts(accepts: &Accepts, name: &[u8]) -> bool
-    ensures { result ≡ accepts_name accepts.now name.now }
-{
-    match accepts {
-        Accepts::Any => true,
-        Accepts::One(accepted) => accepted.as_slice() == name,
-    }
-}
-
-/// Whether a number is among these.
-fn is_among(numbers: &[u8], number: u8) -> bool
-    ensures { result ≡ is_among numbers.now number }
-{
-    numbers.iter().any(|other| *other == number)
+    report.method != GPSK_KIND || is_among(suites, report.suite)
 }

@@ -7,15 +7,11 @@ ghost use Rattle.gpsk_messages.specs.Reading.{read_of};
 ghost use Rattle.eap_method.specs.GpskTags.{is_tagged, sk_record};
 ghost use Rattle.gpsk_ends.specs.Heard.{IsHeard};
 
-use crate::copies::list_of;
-use eap_base::{Secret, Suite, equal_in_full};
+use eap_base::{GPSK_KIND, Octets, Secret, Suite, equal_in_full};
 use eap_method::{Label, TagRecord};
 use eap_packet::Cause;
 use gpsk_messages::{GpskView, read_gpsk};
 use login_keys::gpsk_tag;
-
-/// Type 51, EAP-GPSK.
-pub(crate) const GPSK: u8 = 51;
 
 /// KS of a suite, 16 or 32, in one octet.
 fn ks_octet(suite: Suite) -> u8
@@ -81,10 +77,10 @@ pub(crate) fn record_of(view: &GpskView, body: &[u8], psk: &Secret) -> TagRecord
     ensures { result ≡ sk_record psk.now (message_of view.now) }
 {
     TagRecord {
-        method: GPSK,
+        method: GPSK_KIND,
         label: Label::Sk,
         psk: psk.copy(),
-        octets: list_of(covered_part(view, body)),
-        tag: list_of(mac_part(view)),
+        octets: Octets::of(covered_part(view, body)),
+        tag: Octets::of(mac_part(view)),
     }
 }

@@ -2,7 +2,6 @@
 //! takes memory.
 #![tactic(auto)]
 
-mod copies;
 mod hearing;
 mod peer;
 mod sealing;

@@ -7,11 +7,10 @@ mod login;
 mod stage;
 mod turns;
 
-use crate::hearing::GPSK;
 use crate::peer::login::Begun;
 use crate::peer::stage::{Stage, Taken};
 use crate::peer::turns::take;
-use eap_base::Nonce;
+use eap_base::{GPSK_KIND, Nonce};
 use eap_method::{Credential, PeerMethod, PeerTurn, Report};
 use std::marker::Model;
 use std::mem;
@@ -50,7 +49,7 @@ impl PeerMethod for GpskPeer {
     ghost peer_shown = { λ o. gpsk o };
 
     fn kind(&self) -> u8 {
-        GPSK
+        GPSK_KIND
     }
 
     fn begin(&mut self, cred: &Credential, nonce: &Nonce) {

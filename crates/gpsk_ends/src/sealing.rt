@@ -8,9 +8,7 @@ ghost use Rattle.gpsk_messages.specs.Message.{message_of, mac_of, spelled, size_
 ghost use Rattle.gpsk_messages.specs.Reading.{with_mac};
 ghost use Rattle.gpsk_ends.specs.Sealed.{sealed_of};
 
-use crate::copies::list_of;
-use crate::hearing::GPSK;
-use eap_base::{Packet, Secret, Suite};
+use eap_base::{GPSK_KIND, Octets, Packet, Secret, Suite};
 use eap_method::{Label, TagRecord};
 use eap_packet::Code;
 use gpsk_messages::{GpskView, write_gpsk};
@@ -70,13 +68,13 @@ pub(crate) fn seal(
     ensures { result ≡ sealed_of code id suite sk.now psk.now (without_mac (message_of view.now)) }
 {
     let mut packet = front(view, code, id, suite);
-    let octets = list_of(&packet.as_slice()[BEFORE_COVERED..]);
+    let octets = Octets::of(&packet.as_slice()[BEFORE_COVERED..]);
     let tag = gpsk_tag(suite, sk, octets.as_slice());
     packet.append(tag.as_slice());
     Sealed {
         packet,
         tag: TagRecord {
-            method: GPSK,
+            method: GPSK_KIND,
             label: Label::Sk,
             psk: psk.copy(),
             octets,

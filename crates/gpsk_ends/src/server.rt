@@ -8,11 +8,10 @@ mod login;
 mod stage;
 mod turns;
 
-use crate::hearing::GPSK;
 use crate::server::login::Begun;
 use crate::server::stage::{First, Stage, Taken};
 use crate::server::turns::{ask, take};
-use eap_base::{Nonce, Packet, Users};
+use eap_base::{GPSK_KIND, Nonce, Packet, Users};
 use eap_method::{Report, ServerMethod, ServerSide, ServerTurn};
 use std::marker::Model;
 use std::mem;
@@ -51,7 +50,7 @@ impl ServerMethod for GpskServer {
     ghost server_shown = { λ o. gpsk o };
 
     fn kind(&self) -> u8 {
-        GPSK
+        GPSK_KIND
     }
 
     fn begin(&mut self, own: &ServerSide, nonce: &Nonce) {

@@ -7,7 +7,7 @@ use Rattle.std.proofs.lemmas.Option.{same_Some, none-some}
 use Rattle.eap_base.specs.declared.setup.Suite.{Suite}
 use Rattle.eap_base.specs.declared.setup.Suite.TheVariants.{Cmac, Hmac}
 use Rattle.eap_base.specs.Suite.{ks_of, suite_number, suite_octets}
-use Rattle.eap_base.specs.Setup.{gpsk_kind, is_among}
+use Rattle.eap_base.specs.Setup.{gpsk_kind, is_among, accepts_name}
 use Rattle.eap_packet.specs.declared.cause.Cause.TheVariants.{FieldMismatch, SuiteNotOffered, BadTag}
 use Rattle.gpsk_messages.specs.Message.{Message, gpsk2, gpsk3, gpsk4, covered_of, mac_of, spelled, list_of, IsSuiteList, AreFields, HasMac}
 use Rattle.gpsk_messages.specs.Reading.{read_of}
@@ -18,7 +18,6 @@ use Rattle.login_keys.specs.declared.gpsk.GpskKeys.{GpskKeys}
 use Rattle.login_keys.proofs.Laws.{length-gpsk_tag_of}
 use Rattle.login_policy.specs.Policy.{picked_suite, suite_or, is_allowed}
 use Rattle.eap_method.specs.GpskTags.{gpsk_request, gpsk_response, suite_list, is_tagged, tagged, same_suite}
-use Rattle.eap_method.specs.Names.{accepts_name}
 use Rattle.eap_method.specs.Turns.{body_of}
 use Rattle.eap_method.specs.GpskPeer as peer
 use Rattle.eap_method.specs.GpskServer as server

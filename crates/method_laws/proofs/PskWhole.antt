@@ -3,7 +3,7 @@ use Rattle.std.proofs.Common.{◌≡◌, ℕ, List, [], ◌∷◌, length, true,
 use Rattle.std.specs.Str.{bytes_eq}
 use Rattle.std.proofs.lemmas.Bool.{cond-true, and_from}
 use Rattle.std.proofs.lemmas.List.{length-take-le}
-use Rattle.eap_base.specs.Setup.{psk_kind}
+use Rattle.eap_base.specs.Setup.{psk_kind, accepts_name}
 use Rattle.eap_packet.specs.declared.cause.Cause.TheVariants.{FieldMismatch, BadTag}
 use Rattle.psk_messages.specs.Message.{Message, spelled}
 use Rattle.psk_messages.specs.Reading.{read_of}
@@ -13,7 +13,6 @@ use Rattle.cmac_mac.proofs.Laws.{length-aes_cmac}
 use Rattle.login_keys.specs.Psk.{psk_long_of, psk_keys_of}
 use Rattle.login_keys.specs.declared.psk.PskKeys.{PskKeys}
 use Rattle.eap_method.specs.declared.tags.TagRecord.{TagRecord}
-use Rattle.eap_method.specs.Names.{accepts_name}
 use Rattle.eap_method.specs.PskTags.{psk_request, psk_response, mac_p_octets, mac_s_octets, ak_record, tek_record, header_of, is_sealed, opened, octet_with, result_of, result_fault, done_success, blank_tag, rand_of}
 use Rattle.eap_method.specs.Turns.{body_of, requested, done}
 use Rattle.eap_method.specs.PskPeer as peer

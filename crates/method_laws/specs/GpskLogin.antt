@@ -2,7 +2,7 @@
 use Rattle.std.specs.Prelude.{◌≡◌, ℕ, ◌<◌, ◌≤◌, List, [], ◌∷◌, length, true, false, Some}
 use Rattle.eap_base.specs.declared.setup.Suite.{Suite}
 use Rattle.eap_base.specs.declared.users.User.{User}
-use Rattle.eap_base.specs.Setup.{gpsk_kind}
+use Rattle.eap_base.specs.Setup.{gpsk_kind, accepts_name}
 use Rattle.eap_base.specs.Users.{user_of}
 use Rattle.login_policy.specs.Policy.{picked_suite}
 use Rattle.eap_method.specs.declared.values.Credential.{Credential}
@@ -10,7 +10,6 @@ use Rattle.eap_method.specs.declared.values.ServerSide.{ServerSide}
 use Rattle.eap_method.specs.declared.values.MethodState.TheVariants.{Cont, Done}
 use Rattle.eap_method.specs.declared.values.Decision.TheVariants.{Fail, CondSucc}
 use Rattle.eap_method.specs.GpskTags.{gpsk_request, gpsk_response, sk_record, suite_list}
-use Rattle.eap_method.specs.Names.{accepts_name}
 use Rattle.eap_method.specs.Turns.{replied, requested, done}
 use Rattle.eap_method.specs.GpskPeer as peer
 use Rattle.eap_method.specs.GpskServer as server

@@ -11,7 +11,7 @@ use Rattle.eap_method.specs.declared.values.Credential.{Credential}
 use Rattle.eap_method.specs.declared.values.MethodState.TheVariants.{Cont, MayCont, Done}
 use Rattle.eap_method.specs.declared.values.Decision.TheVariants.{Fail, CondSucc}
 use Rattle.eap_method.specs.GpskTags.{gpsk_response, sk_record}
-use Rattle.eap_method.specs.Names.{accepts_name}
+use Rattle.eap_base.specs.Setup.{accepts_name}
 use Rattle.eap_method.specs.Turns.{PeerOutcome, id_of, body_of, discarded, replied}
 use Rattle.eap_method.specs.GpskPeer.{Login, View, fresh, wait, over, keys_of, gpsk2_of, gpsk4_of, protected_fail_of, repeats, is_tagged_by, step}
 

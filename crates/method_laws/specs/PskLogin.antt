@@ -1,7 +1,7 @@
 -- A whole login by EAP-PSK (RFC 4764 section 4), turn by turn, between two ends that fit.
 use Rattle.std.specs.Prelude.{◌≡◌, ℕ, ◌≤◌, List, [], ◌∷◌, length, true, false, Some}
 use Rattle.eap_base.specs.declared.users.User.{User}
-use Rattle.eap_base.specs.Setup.{psk_kind}
+use Rattle.eap_base.specs.Setup.{psk_kind, accepts_name}
 use Rattle.eap_base.specs.Users.{user_of}
 use Rattle.psk_messages.specs.Message.{Message, psk1}
 use Rattle.eap_method.specs.declared.values.Credential.{Credential}
@@ -9,7 +9,6 @@ use Rattle.eap_method.specs.declared.values.ServerSide.{ServerSide}
 use Rattle.eap_method.specs.declared.values.MethodState.TheVariants.{Cont, Done}
 use Rattle.eap_method.specs.declared.values.Decision.TheVariants.{Fail, UncondSucc}
 use Rattle.eap_method.specs.declared.tags.TagRecord.{TagRecord}
-use Rattle.eap_method.specs.Names.{accepts_name}
 use Rattle.eap_method.specs.PskTags.{psk_request, psk_response, ak_record, done_success, rand_of}
 use Rattle.eap_method.specs.Turns.{replied, requested, done}
 use Rattle.eap_method.specs.PskPeer as peer

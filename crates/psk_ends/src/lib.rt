@@ -11,6 +11,3 @@ mod server;
 
 pub use peer::PskPeer;
 pub use server::PskServer;
-
-/// The Type of EAP-PSK (RFC 4764 section 5).
-const PSK: u8 = 47;

@@ -8,11 +8,10 @@ mod psk4;
 mod stage;
 mod turns;
 
-use crate::PSK;
 use crate::peer::login::Begun;
 use crate::peer::stage::{Stage, Taken};
 use crate::peer::turns::take;
-use eap_base::Nonce;
+use eap_base::{Nonce, PSK_KIND};
 use eap_method::{Credential, PeerMethod, PeerTurn, Report};
 use std::marker::Model;
 use std::mem;
@@ -50,7 +49,7 @@ impl PeerMethod for PskPeer {
     ghost peer_shown = { λ o. psk o };
 
     fn kind(&self) -> u8 {
-        PSK
+        PSK_KIND
     }
 
     fn begin(&mut self, cred: &Credential, nonce: &Nonce) {

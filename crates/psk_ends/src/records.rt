@@ -3,10 +3,8 @@
 ghost use Rattle.std.specs.Prelude.{◌≡◌, ◌≤◌, length};
 ghost use Rattle.eap_method.specs.PskTags.{mac_p_octets, mac_s_octets, channel_octets, ak_record, tek_record};
 
-use crate::PSK;
 use crate::channel::channel_nonce;
-use crate::octets::list_of;
-use eap_base::{Identity, Octets, Secret};
+use eap_base::{Identity, Octets, PSK_KIND, Secret};
 use eap_method::{Label, TagRecord};
 
 /// The octets that a tag covers.
@@ -22,7 +20,7 @@ pub fn mac_p_octets(
 ) -> Covered
     ensures { result ≡ mac_p_octets id_p.now id_s.now rand_s.now rand_p.now }
 {
-    let mut octets: Covered = list_of(id_p.as_slice());
+    let mut octets: Covered = Octets::of(id_p.as_slice());
     octets.append(id_s.as_slice());
     octets.append(rand_s);
     octets.append(rand_p);
@@ -34,7 +32,7 @@ pub fn mac_p_octets(
 pub fn mac_s_octets(id_s: &Identity, rand_p: &[u8; 16]) -> Covered
     ensures { result ≡ mac_s_octets id_s.now rand_p.now }
 {
-    let mut octets: Covered = list_of(id_s.as_slice());
+    let mut octets: Covered = Octets::of(id_s.as_slice());
     octets.append(rand_p);
     octets
 }
@@ -45,7 +43,7 @@ fn channel_octets(number: u32, header: &[u8], sealed: u8) -> Covered
     requires { length header.now ≤ 22 }
     ensures { result ≡ channel_octets number header.now sealed }
 {
-    let mut octets: Covered = list_of(channel_nonce(number).as_slice());
+    let mut octets: Covered = Octets::of(channel_nonce(number).as_slice());
     octets.append(header);
     octets.push(sealed);
     octets
@@ -56,11 +54,11 @@ pub fn mac_record(psk: &Secret, octets: Covered, mac: &[u8; 16]) -> TagRecord
     ensures { result ≡ ak_record psk.now octets mac.now }
 {
     TagRecord {
-        method: PSK,
+        method: PSK_KIND,
         label: Label::Ak,
         psk: psk.copy(),
         octets,
-        tag: list_of(mac),
+        tag: Octets::of(mac),
     }
 }
 
@@ -76,10 +74,10 @@ pub fn channel_record(
     ensures { result ≡ tek_record psk.now number header.now sealed tag.now }
 {
     TagRecord {
-        method: PSK,
+        method: PSK_KIND,
         label: Label::Tek,
         psk: psk.copy(),
         octets: channel_octets(number, header, sealed),
-        tag: list_of(tag),
+        tag: Octets::of(tag),
     }
 }

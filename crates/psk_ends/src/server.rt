@@ -9,11 +9,10 @@ mod psk4;
 mod stage;
 mod turns;
 
-use crate::PSK;
 use crate::server::login::Begun;
 use crate::server::stage::{First, Stage, Taken};
 use crate::server::turns::{ask, take};
-use eap_base::{Nonce, Packet, Users};
+use eap_base::{Nonce, PSK_KIND, Packet, Users};
 use eap_method::{Report, ServerMethod, ServerSide, ServerTurn};
 use std::marker::Model;
 use std::mem;
@@ -51,7 +50,7 @@ impl ServerMethod for PskServer {
     ghost server_shown = { λ o. psk o };
 
     fn kind(&self) -> u8 {
-        PSK
+        PSK_KIND
     }
 
     fn begin(&mut self, own: &ServerSide, nonce: &Nonce) {

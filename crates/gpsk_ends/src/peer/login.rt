@@ -8,10 +8,9 @@ ghost use Rattle.eap_method.specs.GpskTags.{gpsk_response, sk_record};
 ghost use Rattle.gpsk_ends.specs.Heard.{IsHeard};
 ghost use Rattle.gpsk_ends.specs.Sealed.{sealed_of};
 
-use crate::copies::{list_of, number_of};
-use crate::hearing::{GPSK, has_tag, record_of};
+use crate::hearing::{has_tag, record_of};
 use crate::sealing::{Sealed, mac_place, seal};
-use eap_base::{Identity, Nonce, Suite};
+use eap_base::{GPSK_KIND, Identity, Nonce, Suite};
 use eap_method::{Credential, Report, TagRecord};
 use eap_packet::Code;
 use gpsk_messages::GpskView;
@@ -67,7 +66,7 @@ impl Login {
         let keys = gpsk_keys(suite, psk, &own.nonce, id_p, rand_s, id_s);
         Login {
             own,
-            id_s: list_of(id_s),
+            id_s: Identity::of(id_s),
             rand_s: *rand_s,
             suite,
             keys,
@@ -88,7 +87,7 @@ impl Login {
         *rand_p == self.own.nonce
             && *rand_s == self.rand_s
             && id_s == self.id_s.as_slice()
-            && number_of(suite) == number_of(self.suite)
+            && suite.number() == self.suite.number()
     }
 
     /// Whether a message, which the Type-Data spells, has the MAC of the login.
@@ -166,10 +165,10 @@ impl Login {
         ensures { result ≡ report_of self.now }
     {
         Report {
-            method: GPSK,
+            method: GPSK_KIND,
             id_p: self.own.cred.id_p.copy(),
             id_s: self.id_s.copy(),
-            suite: number_of(self.suite),
+            suite: self.suite.number(),
             msk: self.keys.msk,
             emsk: self.keys.emsk,
         }

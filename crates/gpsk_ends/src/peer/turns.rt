@@ -6,7 +6,6 @@ ghost use Rattle.eap_packet.specs.declared.cause.Cause.TheVariants.{BadTag};
 ghost use Rattle.gpsk_messages.specs.Message.{message_of};
 ghost use Rattle.gpsk_messages.specs.Reading.{read_of};
 ghost use Rattle.login_policy.specs.Policy.{picked_suite};
-ghost use Rattle.eap_method.specs.Names.{accepts_name};
 ghost use Rattle.eap_method.specs.Turns.{fault_if};
 ghost use Rattle.eap_method.specs.GpskPeer.{answers, picks, hears_gpsk1, fresh_hears, fresh_reads, over_reads, step};
 ghost use Rattle.eap_method.specs.GpskPeer.{confirms, repeats_fail, repeats_protected, is_tagged_by, wait_hears, wait_reads};
@@ -16,21 +15,11 @@ ghost use Rattle.gpsk_ends.specs.PeerStage.{view_of, outcome_of};
 use crate::hearing::hear;
 use crate::peer::login::{Begun, Login};
 use crate::peer::stage::{Stage, Taken};
-use eap_base::{Accepts, Nonce};
+use eap_base::Nonce;
 use eap_method::{Decision, MethodState, PeerTurn, TagList, Tags};
 use eap_packet::{Cause, Code};
 use gpsk_messages::{GpskView, write_gpsk};
 use login_policy::pick_suite;
-
-/// Whether the peer accepts a server of this name.
-fn accepts_name(accepts: &Accepts, name: &[u8]) -> bool
-    ensures { result ≡ accepts_name accepts.now name.now }
-{
-    match accepts {
-        Accepts::Any => true,
-        Accepts::One(accepted) => accepted.as_slice() == name,
-    }
-}
 
 /// GPSK-1 is answered by GPSK-2, and the login begins.
 #[tactic(auto, unfolding(eap_method::specs::GpskPeer::answers))]
@@ -68,7 +57,7 @@ fn hears_gpsk1(own: Begun, id: u8, id_s: &[u8], rand_s: &Nonce, list: &[u8]) -> 
     requires few { length list.now ≤ 120 }
     ensures { outcome_of result ≡ hears_gpsk1 own.cred own.nonce id id_s.now rand_s.now list.now }
 {
-    if accepts_name(&own.cred.accepts, id_s) {
+    if own.cred.accepts.takes(id_s) {
         pick(own, id, id_s, rand_s, list)
     } else {
         Taken::discarded(Stage::Fresh { own }, Cause::UnknownServer)

@@ -8,10 +8,9 @@ ghost use Rattle.eap_method.specs.GpskServer.{refuses, answers, checks, asked_he
 ghost use Rattle.gpsk_ends.specs.Heard.{IsHeard};
 ghost use Rattle.gpsk_ends.specs.ServerStage.{view_of, outcome_of};
 
-use crate::hearing::GPSK;
 use crate::server::login::{Begun, Login};
 use crate::server::stage::{Stage, Taken};
-use eap_base::{User, Users};
+use eap_base::{GPSK_KIND, User, Users};
 use eap_method::{ServerTurn, Tags};
 use eap_packet::{Cause, Code};
 use gpsk_messages::{GpskView, write_gpsk};
@@ -72,7 +71,7 @@ fn find_user<'a>(users: &'a Users, id_p: &[u8]) -> Option<&'a User>
     ensures found { option_copied result ≡ user_of users.now id_p.now gpsk_kind }
     ensures key { IfSome result (λ user. 32 ≤ length user.now.psk) }
 {
-    users.find(id_p, GPSK)
+    users.find(id_p, GPSK_KIND)
 }
 
 /// A message at a server that has sent GPSK-1. `FieldMismatch`: GPSK-2 does not repeat what GPSK-1 said.

@@ -9,10 +9,9 @@ ghost use Rattle.eap_method.specs.GpskTags.{gpsk_request, sk_record};
 ghost use Rattle.gpsk_ends.specs.Heard.{IsHeard};
 ghost use Rattle.gpsk_ends.specs.Sealed.{sealed_of};
 
-use crate::copies::{list_of, number_of};
-use crate::hearing::{GPSK, has_tag, record_of};
+use crate::hearing::{has_tag, record_of};
 use crate::sealing::{Sealed, mac_place, seal};
-use eap_base::{Identity, Nonce, Octets, Packet, Secret, Suite, User};
+use eap_base::{GPSK_KIND, Identity, Nonce, Octets, Packet, Secret, Suite, User, is_among};
 use eap_method::{Report, ServerSide, TagRecord};
 use eap_packet::Code;
 use gpsk_messages::{GpskView, write_gpsk};
@@ -73,9 +72,7 @@ impl Begun {
     pub fn offers(&self, suite: Suite) -> bool
         ensures { result ≡ is_among self.now.side.suites (suite_number suite) }
     {
-        let number = number_of(suite);
-        let suites = self.side.suites.as_slice();
-        suites.iter().any(|other| *other == number)
+        is_among(self.side.suites.as_slice(), suite.number())
     }
 }
 
@@ -122,7 +119,7 @@ impl Login {
         let keys = gpsk_keys(suite, psk, rand_p, id_p, &own.nonce, id_s);
         Login {
             own,
-            id_p: list_of(id_p),
+            id_p: Identity::of(id_p),
             psk: user.psk.copy(),
             rand_p: *rand_p,
             suite,
@@ -205,10 +202,10 @@ impl Login {
         ensures { result ≡ report_of self.now }
     {
         Report {
-            method: GPSK,
+            method: GPSK_KIND,
             id_p: self.id_p.copy(),
             id_s: self.own.side.id_s.copy(),
-            suite: number_of(self.suite),
+            suite: self.suite.number(),
             msk: self.keys.msk,
             emsk: self.keys.emsk,
         }

@@ -2,12 +2,11 @@
 
 ghost use Rattle.std.specs.Prelude.{◌≡◌, ◌≤◌, length};
 
-use crate::PSK;
 use crate::keys::long_keys;
 use crate::octets::rand_of;
 use crate::records::{Covered, mac_p_octets, mac_s_octets};
 use cmac_mac::cmac_whole;
-use eap_base::{Identity, Nonce, Secret};
+use eap_base::{Identity, Nonce, PSK_KIND, Secret};
 use eap_method::{Credential, Report};
 use login_keys::{PskKeys, PskLong, psk_session};
 use std::marker::Model;
@@ -138,7 +137,7 @@ impl Login {
         ensures { result ≡ report_of self.now }
     {
         Report {
-            method: PSK,
+            method: PSK_KIND,
             id_p: self.own.cred.id_p.copy(),
             id_s: self.id_s.copy(),
             suite: 0,

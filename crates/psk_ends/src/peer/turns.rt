@@ -3,31 +3,20 @@
 ghost use Rattle.std.specs.Prelude.{◌≡◌, ◌≤◌, length};
 ghost use Rattle.psk_messages.specs.Message.{message_of, AreFields, psk2};
 ghost use Rattle.psk_messages.specs.Reading.{read_of};
-ghost use Rattle.eap_method.specs.Names.{accepts_name};
 ghost use Rattle.eap_method.specs.Turns.{id_of, body_of};
 ghost use Rattle.eap_method.specs.PskTags.{psk_response, header_of};
 ghost use Rattle.eap_method.specs.PskPeer.{rand_p_of, answers, hears_psk1, fresh_hears, fresh_reads, wait_hears, wait_reads, over_reads, step};
 ghost use Rattle.psk_ends.specs.PeerStage.{view_of, outcome_of};
 
-use crate::octets::{header_of, list_of};
+use crate::octets::header_of;
 use crate::peer::login::{Begun, Login};
 use crate::peer::psk4::{Psk3, hears_psk3};
 use crate::peer::stage::{Reply, Stage, Taken};
 use crate::records::mac_record;
-use eap_base::{Accepts, Packet};
+use eap_base::{Identity, Packet};
 use eap_method::{Decision, MethodState, TagList};
 use eap_packet::{Cause, Code};
 use psk_messages::{PskView, read_psk, write_psk};
-
-/// Whether the peer accepts a server of this name.
-fn accepts_name(accepts: &Accepts, name: &[u8]) -> bool
-    ensures { result ≡ accepts_name accepts.now name.now }
-{
-    match accepts {
-        Accepts::Any => true,
-        Accepts::One(accepted) => accepted.as_slice() == name,
-    }
-}
 
 /// PSK-2 with this MAC_P (RFC 4764 section 5.2).
 fn psk2(login: &Login, id: u8, mac: &[u8; 16]) -> Packet
@@ -63,8 +52,8 @@ fn hears_psk1(own: Begun, id: u8, rand_s: [u8; 16], id_s: &[u8]) -> Taken
     requires { length id_s.now ≤ 253 }
     ensures { outcome_of result ≡ hears_psk1 own.cred own.nonce id rand_s id_s.now }
 {
-    if accepts_name(&own.cred.accepts, id_s) {
-        answer(Login::new(own, list_of(id_s), rand_s), id)
+    if own.cred.accepts.takes(id_s) {
+        answer(Login::new(own, Identity::of(id_s), rand_s), id)
     } else {
         Taken::discarded(Stage::Fresh { own }, Cause::UnknownServer)
     }

@@ -3,12 +3,11 @@
 ghost use Rattle.std.specs.Prelude.{◌≡◌, ◌<◌};
 ghost use Rattle.eap_method.specs.PskServer.{r_for};
 
-use crate::PSK;
 use crate::channel::{DONE_FAILURE, DONE_SUCCESS};
 use crate::octets::rand_of;
 use crate::records::{Covered, mac_s_octets};
 use cmac_mac::cmac_whole;
-use eap_base::{Identity, Nonce, Secret, User};
+use eap_base::{Identity, Nonce, PSK_KIND, Secret, User};
 use eap_method::{Report, ServerSide};
 use login_keys::{PskKeys, PskLong, psk_session};
 use std::marker::Model;
@@ -133,7 +132,7 @@ impl Login {
         ensures { result ≡ report_of self.now }
     {
         Report {
-            method: PSK,
+            method: PSK_KIND,
             id_p: self.id_p.copy(),
             id_s: self.own.side.id_s.copy(),
             suite: 0,

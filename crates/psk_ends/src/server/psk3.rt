@@ -9,15 +9,14 @@ ghost use Rattle.eap_method.specs.PskTags.{psk_request};
 ghost use Rattle.eap_method.specs.PskServer.{rand_s_of, psk3_of, psk3_records, checked, finds, hears_psk2};
 ghost use Rattle.psk_ends.specs.ServerStage.{outcome_of};
 
-use crate::PSK;
 use crate::channel::{Sealed, seal};
 use crate::keys::long_keys;
-use crate::octets::{header_of, list_of, rand_of};
+use crate::octets::{header_of, rand_of};
 use crate::records::{channel_record, mac_p_octets, mac_record};
 use crate::server::login::{Begun, Login};
 use crate::server::stage::{Stage, Taken};
 use cmac_mac::cmac_whole;
-use eap_base::{Identity, Packet, User, Users, equal_in_full};
+use eap_base::{Identity, PSK_KIND, Packet, User, Users, equal_in_full};
 use eap_method::{TagList, Tags};
 use eap_packet::{Cause, Code};
 use psk_messages::{PskView, write_psk};
@@ -103,9 +102,9 @@ fn find(own: Begun, next_id: u8, psk2: &Psk2, id_p: &[u8], users: &Users) -> Tak
     ensures { outcome_of result ≡ finds own.side own.nonce next_id psk2.now.rand_p psk2.now.mac id_p.now
         (user_of users.now id_p.now psk_kind) }
 {
-    match users.find(id_p, PSK) {
+    match users.find(id_p, PSK_KIND) {
         None => Taken::done(Stage::Refused { own }, false, TagList::new()),
-        Some(user) => check(own, next_id, psk2, list_of(id_p), user),
+        Some(user) => check(own, next_id, psk2, Identity::of(id_p), user),
     }
 }
 

@@ -17,9 +17,9 @@ returns c =
     let size : length c.as_slice-3.result.now ≡ length tag = ap length c.as_slice-3.ensures.same in
     omega arith in
     rw c.copy.ensures
-    (seals c.args.code c.args.id c.args.suite c.args.sk.now c.args.psk.now (message_of c.args.view.now) c.list_of-octets.result tag c.append.new.self
+    (seals c.args.code c.args.id c.args.suite c.args.sk.now c.args.psk.now (message_of c.args.view.now) c.of-octets.result tag c.append.new.self
     c.requires.mac
-    (c.list_of-octets.ensures ∙ all_left 6 c.as_slice.result.now ∙ ap (λ (l : List ℕ). drop 6 l) c.as_slice.ensures.same ∙ c.front-packet.ensures.covered)
+    (c.of-octets.ensures ∙ all_left 6 c.as_slice.result.now ∙ ap (λ (l : List ℕ). drop 6 l) c.as_slice.ensures.same ∙ c.front-packet.ensures.covered)
     (c.gpsk_tag-tag.ensures.tag ∙ ap (gpsk_tag_of c.args.suite c.args.sk.now) c.as_slice-2.ensures.same)
     (c.append.ensures.appended within ∙ ap (λ (l : List ℕ). c.front-packet.result ++ l) c.as_slice-3.ensures.same
     ∙ c.front-packet.ensures.sealed tag c.gpsk_tag-tag.ensures.size))
