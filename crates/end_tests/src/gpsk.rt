@@ -3,8 +3,8 @@
 
 ghost use Rattle.std.specs.Prelude.{◌≤◌, length};
 
-use crate::login::{first_wrong, list_of, one_user};
-use eap_base::{Accepts, Packet};
+use crate::login::{first_wrong, one_user};
+use eap_base::{Accepts, Octets, Packet};
 use eap_method::{Credential, PeerMethod, ServerMethod, ServerSide};
 use gpsk_ends::{GpskPeer, GpskServer};
 use low_tests::row::Row;
@@ -25,10 +25,10 @@ fn begun_peer(suites: &[u8], key: &[u8; 47], nonce: &[u8; 32]) -> GpskPeer
     requires { length suites.now ≤ 2 }
 {
     let cred = Credential {
-        id_p: list_of(PEER),
-        accepts: Accepts::One(list_of(SERVER)),
-        suites: list_of(suites),
-        psk: list_of(key),
+        id_p: Octets::of(PEER),
+        accepts: Accepts::One(Octets::of(SERVER)),
+        suites: Octets::of(suites),
+        psk: Octets::of(key),
     };
     let mut peer = GpskPeer::new();
     peer.begin(&cred, nonce);
@@ -38,8 +38,8 @@ fn begun_peer(suites: &[u8], key: &[u8; 47], nonce: &[u8; 32]) -> GpskPeer
 /// The first Request, with the Identifier 7, of a server that begins, and offers suite 1 and then suite 2.
 fn first_request(server: &mut GpskServer, nonce: &[u8; 32]) -> Packet {
     let own = ServerSide {
-        id_s: list_of(SERVER),
-        suites: list_of(&[1, 2]),
+        id_s: Octets::of(SERVER),
+        suites: Octets::of(&[1, 2]),
     };
     server.begin(&own, nonce);
     server.first(7)
@@ -56,7 +56,7 @@ fn wrong_row(suites: &[u8], known: &[u8], barred: bool, login: &'static str) -> 
     let mut peer = begun_peer(suites, &key, &shared.array());
     let mut server = GpskServer::new();
     let first = first_request(&mut server, &shared.array());
-    let users = one_user(known, 51, list_of(&key), barred);
+    let users = one_user(known, 51, Octets::of(&key), barred);
     first_wrong(&mut peer, &mut server, &users, first, login)
 }
 

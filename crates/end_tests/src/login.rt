@@ -13,20 +13,10 @@
 ghost use Rattle.std.specs.Prelude.{◌≡◌, ◌≤◌, length, All, IsTrue};
 ghost use Rattle.eap_base.specs.Setup.{fits_kind};
 
-use eap_base::{Octets, Packet, Secret, User, Users};
+use eap_base::{Identity, Packet, Secret, User, Users};
 use eap_method::{Decision, MethodState, PeerMethod, PeerTurn, Report, ServerMethod, ServerTurn};
 use eap_packet::{Code, decode};
 use low_tests::row::Row;
-
-/// The octets as a list.
-pub fn list_of<const N: usize>(octets: &[u8]) -> Octets<N>
-    requires { length octets.now ≤ N }
-    ensures { result ≡ octets.now }
-{
-    let mut list = Octets::new();
-    list.append(octets);
-    list
-}
 
 /// One user, of this name, method and key.
 #[tactic(auto, using(crate::proofs::UserKeys::one_user))]
@@ -37,7 +27,7 @@ pub fn one_user(name: &[u8], kind: u8, psk: Secret, barred: bool) -> Users
 {
     let mut users = Users::new();
     users.add(User {
-        name: list_of(name),
+        name: Identity::of(name),
         kind,
         psk,
         barred,

@@ -1,8 +1,8 @@
 //! Logins by EAP-PSK. The octets were computed with Python: AES and CMAC of its package cryptography, and
 //! EAX as its paper defines it, put together as RFC 4764, sections 3 and 5, says.
 
-use crate::login::{first_wrong, list_of, one_user};
-use eap_base::{Accepts, Packet, Suites};
+use crate::login::{first_wrong, one_user};
+use eap_base::{Accepts, Octets, Packet, Suites};
 use eap_method::{Credential, PeerMethod, ServerMethod, ServerSide};
 use low_tests::row::Row;
 use psk_ends::{PskPeer, PskServer};
@@ -24,10 +24,10 @@ const NONCES: &str = "\
 /// A peer that has begun.
 fn begun_peer(key: &[u8; 16], nonce: &[u8; 32]) -> PskPeer {
     let cred = Credential {
-        id_p: list_of(PEER),
-        accepts: Accepts::One(list_of(SERVER)),
+        id_p: Octets::of(PEER),
+        accepts: Accepts::One(Octets::of(SERVER)),
         suites: Suites::new(),
-        psk: list_of(key),
+        psk: Octets::of(key),
     };
     let mut peer = PskPeer::new();
     peer.begin(&cred, nonce);
@@ -37,8 +37,8 @@ fn begun_peer(key: &[u8; 16], nonce: &[u8; 32]) -> PskPeer {
 /// The first Request, with the Identifier 7, of a server that begins.
 fn first_request(server: &mut PskServer, nonce: &[u8; 32]) -> Packet {
     let own = ServerSide {
-        id_s: list_of(SERVER),
-        suites: list_of(&[1]),
+        id_s: Octets::of(SERVER),
+        suites: Octets::of(&[1]),
     };
     server.begin(&own, nonce);
     server.first(7)
@@ -52,7 +52,7 @@ fn wrong_row(key: &str, barred: bool, login: &'static str) -> &'static str {
     let mut server = PskServer::new();
     let first = first_request(&mut server, &nonces.array());
     let known: [u8; 16] = Row::new(key).array();
-    let users = one_user(PEER, 47, list_of(&known), barred);
+    let users = one_user(PEER, 47, Octets::of(&known), barred);
     first_wrong(&mut peer, &mut server, &users, first, login)
 }
 

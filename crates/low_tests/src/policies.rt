@@ -48,12 +48,11 @@ const PICKED: &str = "\
 0102 000000000003000000000001 1
 01 0000000000020000000000 0";
 
-/// The specifier of the suite, 0 for none.
-fn specifier_of(suite: Option<Suite>) -> usize {
+/// The number of the suite, 0 for none.
+fn number_of(suite: Option<Suite>) -> usize {
     match suite {
         None => 0,
-        Some(Suite::Cmac) => 1,
-        Some(Suite::Hmac) => 2,
+        Some(suite) => usize::from(suite.number()),
     }
 }
 
@@ -61,7 +60,7 @@ fn specifier_of(suite: Option<Suite>) -> usize {
 fn picks(row: &str) -> bool {
     let mut row = Row::new(row);
     let picked = pick_suite(&row.list(), row.octets().as_slice());
-    specifier_of(picked) == row.number() && row.is_read()
+    number_of(picked) == row.number() && row.is_read()
 }
 
 #[test]

@@ -1,10 +1,12 @@
 //! Lists of octets, users, settings and suites.
 
+ghost use Rattle.std.specs.Prelude.{◌≤◌, length};
+
 use eap_base::{Accepts, Mode, Octets, PeerSetup, ServerSetup, Setup, Suite, User, Users};
 
 /// Whether a list of two octets, which has room for four, answers each call so and has the octets that fit.
 fn takes_what_fits() -> bool {
-    let mut list: Octets<4> = list_of(b"ab");
+    let mut list: Octets<4> = Octets::of(b"ab");
     let is_pushed = list.push(b'c');
     let is_refused = !list.append(b"de");
     let is_kept = list.as_slice() == b"abc".as_slice();
@@ -13,7 +15,11 @@ fn takes_what_fits() -> bool {
     let copied = list.copy();
     list.truncate(1);
     let is_cut = list.as_slice() == b"a".as_slice();
-    is_pushed & is_refused & is_kept & is_appended & is_full & is_cut & (copied.len() == 4)
+    list.set(b"abcd");
+    let is_set = list.as_slice() == copied.as_slice();
+    list.clear();
+    let is_cleared = list.is_empty();
+    is_pushed & is_refused & is_kept & is_appended & is_full & is_cut & is_set & is_cleared
 }
 
 /// Whether a list is made of octets that fit, and of no others.
@@ -29,11 +35,13 @@ fn lists_have_what_fits(rt: HostRuntime) {
 }
 
 /// Whether the users take one of this name and kind.
-fn takes(users: &mut Users, name: &[u8], kind: u8) -> bool {
+fn takes(users: &mut Users, name: &[u8], kind: u8) -> bool
+    requires { length name.now ≤ 253 }
+{
     users.add(User {
-        name: list_of(name),
+        name: Octets::of(name),
         kind,
-        psk: list_of(&[7; 16]),
+        psk: Octets::of(&[7; 16]),
         barred: false,
     })
 }
@@ -70,28 +78,21 @@ fn the_users_are_sixteen_at_most(rt: HostRuntime) {
     assert!(rt; all_but_the_last_are_taken());
 }
 
-/// A list with these octets, without those that don't fit.
-fn list_of<const N: usize>(octets: &[u8]) -> Octets<N> {
-    let mut list = Octets::new();
-    list.append(octets);
-    list
-}
-
 /// The settings of anna, who allows EAP-GPSK and then EAP-PSK, and of a server.
 fn settings() -> Setup {
     let peer = PeerSetup {
-        name: list_of(b"anna"),
-        accepts: Accepts::One(list_of(b"server")),
-        methods: list_of(&[51, 47]),
-        suites: list_of(&[2]),
+        name: Octets::of(b"anna"),
+        accepts: Accepts::One(Octets::of(b"server")),
+        methods: Octets::of(&[51, 47]),
+        suites: Octets::of(&[2]),
         psk47: None,
         psk51: Octets::from_slice(&[7; 32]),
         nonce: [1; 32],
     };
     let server = ServerSetup {
-        name: list_of(b"server"),
-        methods: list_of(&[51]),
-        suites: list_of(&[1, 2]),
+        name: Octets::of(b"server"),
+        methods: Octets::of(&[51]),
+        suites: Octets::of(&[1, 2]),
         users: Users::new(),
         nonce: [2; 32],
     };
@@ -119,14 +120,17 @@ fn settings_are_copied(rt: HostRuntime) {
 }
 
 // RFC 5433 section 6: the octets of a key of each suite, and how CSuite_Sel spells it.
-/// Whether the suite has keys of so many octets and is spelled so.
-fn is_suite(suite: Suite, ks: usize, octets: [u8; 6]) -> bool {
-    suite.ks() == ks && suite.octets() == octets
+/// Whether the suite has this number and keys of so many octets, and is spelled so.
+fn is_suite(number: u8, ks: usize, octets: [u8; 6]) -> bool {
+    match Suite::numbered(number) {
+        None => false,
+        Some(suite) => suite.number() == number && suite.ks() == ks && suite.octets() == octets,
+    }
 }
 
 #[test]
 fn suites_are_spelled(rt: HostRuntime) {
-    let is_first = is_suite(Suite::Cmac, 16, [0, 0, 0, 0, 0, 1]);
-    let is_second = is_suite(Suite::Hmac, 32, [0, 0, 0, 0, 0, 2]);
+    let is_first = is_suite(1, 16, [0, 0, 0, 0, 0, 1]);
+    let is_second = is_suite(2, 32, [0, 0, 0, 0, 0, 2]);
     assert!(rt; is_first && is_second);
 }
