@@ -1,6 +1,6 @@
 //! A source and a sink in memory, which tell their octets and fail at the calls that they are told.
 
-ghost use Rattle.std.specs.Prelude.{◌≡◌, ◌≤◌, ◌<◌, ◌++◌, ◌↔◌, [], length, take, drop, Some, IfOk, IsErr, OnErr, IsTrue};
+ghost use Rattle.std.specs.Prelude.{◌≡◌, ◌≤◌, ◌<◌, ◌++◌, ◌↔◌, [], length, take, drop, Some, IfOk, IsErr, OnOk, OnErr, IsTrue};
 ghost use Rattle.eap_base.specs.Known.{prepend_known, append_known, nothing_known};
 ghost use Rattle.eap_base.specs.Memory.{is_listed, last_fault, read_count, after_read, after_read_fault, write_fails, write_count, after_write, after_write_fault};
 
@@ -66,6 +66,7 @@ impl Source for MemSource {
         ensures taken { IfOk result (λ n. Some self.old.left ≡ prepend_known (take n buf.new) (Some self.new.left)) }
         ensures over { IfOk result (λ n. n ≡ 0 → 0 < length buf.old → Some self.new.left ≡ nothing_known (Some self.new.left)) }
         ensures counted { OnErr result (self.old.faults < self.new.faults) }
+        ensures uncounted { OnOk result (self.new.faults ≡ self.old.faults) }
         ensures never_falls { self.old.faults ≤ self.new.faults }
 
         // It fails exactly where the call is listed, and then takes nothing.
@@ -153,7 +154,9 @@ impl Sink for MemSink {
         ensures appended { IfOk result (λ n. append_known (Some self.old.written) (take n piece.now) ≡ Some self.new.written) }
         ensures unchanged { OnErr result (Some self.new.written ≡ Some self.old.written) }
         ensures counted { OnErr result (self.new.faults ≤ self.old.faults → Some last_fault ≡ Some self.new.faults) }
+        ensures uncounted { OnOk result (self.new.faults ≡ self.old.faults) }
         ensures never_falls { self.old.faults ≤ self.new.faults }
+        ensures never_passes { self.new.faults ≤ last_fault }
 
         // It fails exactly where the call is listed, or there is something to write and no room.
         ensures fails { IsErr result ↔ IsTrue (write_fails self.old piece.now) }

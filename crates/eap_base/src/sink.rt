@@ -1,6 +1,6 @@
 //! Where octets go.
 
-ghost use Rattle.std.specs.Prelude.{◌≡◌, ◌≤◌, ◌<◌, length, take, Some, IfOk, OnErr};
+ghost use Rattle.std.specs.Prelude.{◌≡◌, ◌≤◌, ◌<◌, length, take, Some, IfOk, IfSome, OnOk, OnErr};
 ghost use Rattle.eap_base.specs.Known.{append_known};
 
 use crate::source::Failed;
@@ -19,13 +19,15 @@ pub trait Sink {
     ghost last_write_fault: { Option ℕ };
 
     /// Writes the first octets of `piece`, at least one where there is one, and answers how many.
-    /// `Failed` comes only where the count of faults rose, or stands at its last value; then nothing
-    /// was written.
+    /// `Failed` comes only where the count of faults rose, or stands at its last value, which it never
+    /// passes; then nothing was written. Without `Failed` the count is as it was.
     fn write(&mut self, piece: &[u8]) -> Result<usize, Failed>
         ensures moves { IfOk result (λ n. 0 < length piece.now → 0 < n) }
         ensures fits { IfOk result (λ n. n ≤ length piece.now) }
         ensures appended { IfOk result (λ n. append_known (written self.old) (take n piece.now) ≡ written self.new) }
         ensures unchanged { OnErr result (written self.new ≡ written self.old) }
         ensures counted { OnErr result (write_faults self.new ≤ write_faults self.old → last_write_fault ≡ Some (write_faults self.new)) }
-        ensures never_falls { write_faults self.old ≤ write_faults self.new };
+        ensures uncounted { OnOk result (write_faults self.new ≡ write_faults self.old) }
+        ensures never_falls { write_faults self.old ≤ write_faults self.new }
+        ensures never_passes { IfSome last_write_fault (λ last. write_faults self.new ≤ last) };
 }

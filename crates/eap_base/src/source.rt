@@ -1,6 +1,6 @@
 //! Where octets come from.
 
-ghost use Rattle.std.specs.Prelude.{◌≡◌, ◌≤◌, ◌<◌, length, take, Some, IfOk, OnErr};
+ghost use Rattle.std.specs.Prelude.{◌≡◌, ◌≤◌, ◌<◌, length, take, Some, IfOk, IfSome, OnOk, OnErr};
 ghost use Rattle.eap_base.specs.Known.{prepend_known, nothing_known};
 
 use thiserror::Error;
@@ -25,11 +25,13 @@ pub trait Source {
 
     /// Reads up to `buf.len()` octets into the front of `buf` and answers how many. 0 octets in a `buf`
     /// that isn't empty say that nothing is left. `Failed` comes only where the count of faults rose,
-    /// or stands at its last value.
+    /// or stands at its last value, which it never passes; without `Failed` it is as it was.
     fn read(&mut self, buf: &mut [u8]) -> Result<usize, Failed>
         ensures fits { IfOk result (λ n. n ≤ length buf.old) }
         ensures taken { IfOk result (λ n. left self.old ≡ prepend_known (take n buf.new) (left self.new)) }
         ensures over { IfOk result (λ n. n ≡ 0 → 0 < length buf.old → left self.new ≡ nothing_known (left self.new)) }
         ensures counted { OnErr result (read_faults self.new ≤ read_faults self.old → last_read_fault ≡ Some (read_faults self.new)) }
-        ensures never_falls { read_faults self.old ≤ read_faults self.new };
+        ensures uncounted { OnOk result (read_faults self.new ≡ read_faults self.old) }
+        ensures never_falls { read_faults self.old ≤ read_faults self.new }
+        ensures never_passes { IfSome last_read_fault (λ last. read_faults self.new ≤ last) };
 }

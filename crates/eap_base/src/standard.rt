@@ -18,11 +18,15 @@ pub struct StdSource<R: Read + Drop> {
 }
 
 impl<R: Read + Drop> Model for StdSource<R> {
+    ghost use Rattle.std.specs.Prelude.{◌≤◌};
     ghost use Rattle.eap_base.specs.Counted.{Counted};
+    ghost use Rattle.eap_base.specs.Memory.{last_fault};
 
     ghost Value = { Counted R };
 
     ghost view = { λ s. record { inner = s.reader; faults = s.faults } };
+
+    ghost invariant = { λ s. s.faults ≤ last_fault };
 }
 
 impl<R: Read + Drop> StdSource<R> {
@@ -48,6 +52,7 @@ impl<R: Read + Drop> Source for StdSource<R> {
         ensures fits { IfOk result (λ n. n ≤ length buf.old) }
         ensures counted { OnErr result (self.new.faults ≤ self.old.faults → Some last_fault ≡ Some self.new.faults) }
         ensures never_falls { self.old.faults ≤ self.new.faults }
+        ensures never_passes { self.new.faults ≤ last_fault }
 
         // Every error of the reader is counted, and nothing else.
         ensures read { OnOk result (self.new.faults ≡ self.old.faults) }
@@ -75,11 +80,15 @@ pub struct StdSink<W: Write + Drop> {
 }
 
 impl<W: Write + Drop> Model for StdSink<W> {
+    ghost use Rattle.std.specs.Prelude.{◌≤◌};
     ghost use Rattle.eap_base.specs.Counted.{Counted};
+    ghost use Rattle.eap_base.specs.Memory.{last_fault};
 
     ghost Value = { Counted W };
 
     ghost view = { λ s. record { inner = s.writer; faults = s.faults } };
+
+    ghost invariant = { λ s. s.faults ≤ last_fault };
 }
 
 impl<W: Write + Drop> StdSink<W> {
@@ -106,6 +115,7 @@ impl<W: Write + Drop> Sink for StdSink<W> {
         ensures fits { IfOk result (λ n. n ≤ length piece.now) }
         ensures counted { OnErr result (self.new.faults ≤ self.old.faults → Some last_fault ≡ Some self.new.faults) }
         ensures never_falls { self.old.faults ≤ self.new.faults }
+        ensures never_passes { self.new.faults ≤ last_fault }
 
         // Every error of the writer is counted, and every write that takes nothing of something.
         ensures wrote { OnOk result (self.new.faults ≡ self.old.faults) }
