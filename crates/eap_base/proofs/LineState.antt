@@ -10,4 +10,4 @@ pub record InLine (before now : LineReading) (left_before left : Option (List �
   pub over : now.over ≡ false
   pub taken : now.taken ≡ before.taken + length now.line
   pub bounded : now.taken ≤ max_input
-  pub faults : faults_before ≤ faults_now
+  pub faults : faults_now ≡ faults_before

@@ -15,11 +15,11 @@ Gives (Octet octet) before after = before ≡ prepend_known (octet ∷ []) after
 Gives Nothing before after = (before ≡ after) × (after ≡ nothing_known after)
 Gives Fault before after = Unit {0}
 
--- a read fails only where the count of faults rose, or stands at its last value
+-- a read fails only where the count of faults rose, or stands at its last value; else it is as it was
 abbrev pub CountsFault : Taken → Option ℕ → ℕ → ℕ → Type 0
 CountsFault Fault last before after = after ≤ before → last ≡ Some after
-CountsFault Nothing last before after = Unit {0}
-CountsFault (Octet octet) last before after = Unit {0}
+CountsFault Nothing last before after = after ≡ before
+CountsFault (Octet octet) last before after = after ≡ before
 
 -- what the lines that were to come are after one octet, where the source has these octets left
 abbrev pub Advances : Step → LineReading → Option Lines → Option (List ℕ) → Type 0

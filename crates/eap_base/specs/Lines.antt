@@ -100,13 +100,14 @@ Exhausts TooLong left = Unit {0}
 Exhausts TooMuch left = Unit {0}
 Exhausts Read left = Unit {0}
 
--- the answer Read comes only where the count of faults rose, or stands at its last value
+-- the answer Read comes only where the count of faults rose, or stands at its last value; after any other
+-- answer it is as it was
 abbrev pub Faults : NextLine → Option ℕ → ℕ → ℕ → Type 0
 Faults Read last before after = after ≤ before → last ≡ Some after
-Faults Line last before after = Unit {0}
-Faults End last before after = Unit {0}
-Faults TooLong last before after = Unit {0}
-Faults TooMuch last before after = Unit {0}
+Faults Line last before after = after ≡ before
+Faults End last before after = after ≡ before
+Faults TooLong last before after = after ≡ before
+Faults TooMuch last before after = after ≡ before
 
 -- every answer but a line is the last one
 abbrev pub is_last : NextLine → Bool
