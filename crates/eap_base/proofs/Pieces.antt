@@ -1,6 +1,6 @@
 -- A part of a list that is copied over the front of a buffer.
-use Rattle.std.proofs.Common.{◌≡◌, ℕ, ◌≤◌, ◌+◌, ◌-◌, List, ◌++◌, length, take, drop, sym, ap, ◌∙◌}
-use Rattle.std.proofs.lemmas.List.{take_at, take_rest, take-append-drop, length-take-le, drop-drop}
+use Rattle.std.proofs.Common.{◌≡◌, ℕ, ◌≤◌, ◌+◌, ◌-◌, List, ◌++◌, length, take, drop, sym, ap, ◌∙◌, arith}
+use Rattle.std.proofs.lemmas.List.{take_at, take_rest, take-append-drop, length-take, length-take-le, drop-drop, drop-take}
 
 -- the front of the buffer, and what is left of the list
 pub take_front : (n : ℕ) (list buf now : List ℕ) → n ≤ length list → now ≡ take n list ++ buf → list ≡ take n now ++ drop n list
@@ -15,3 +15,10 @@ take_front_at n place octets before buf now is fits put =
     let fits_whole : n ≤ length (drop place octets) = rw whole at fits in
     let put_whole : now ≡ take n (drop place octets) ++ buf = rw whole at put in
     sym is ∙ rw (← drop-drop n place octets) (take_front n (drop place octets) buf now fits_whole put_whole)
+
+-- a part of a buffer without its first octets
+pub skipped : (n place filled : ℕ) (octets : List ℕ) → n ≤ length (take (filled - place) (drop place octets)) → length octets ≡ 4096 → take (filled - (place + n)) (drop (place + n) octets) ≡ drop n (take (filled - place) (drop place octets))
+skipped n place filled octets fits whole =
+    let most : n ≤ filled - place = omega (arith, length-take (filled - place) (drop place octets)) in
+    let count : filled - place ≡ n + (filled - (place + n)) = omega arith in
+    rw (count, ← drop-drop n place octets) (sym (drop-take n (filled - (place + n)) (drop place octets)))

@@ -1,50 +1,44 @@
--- What one octet of the source does to a line that is begun.
-use Rattle.std.specs.Prelude.{◌≡◌, ℕ, ◌+◌, ◌-◌, ◌≤◌, List, [], ◌∷◌, length, Bool, true, false, Option, Some}
-use Rattle.eap_base.specs.Known.{prepend_known, nothing_known}
-use Rattle.eap_base.specs.Lines.{Lines, LineReading, lines_after, lines_left, Divides}
-use Rattle.eap_base.specs.declared.lines.NextLine.TheVariants.{Line, End, TooLong, TooMuch}
+-- What the octets that a reader holds do to a line that is begun.
+use Rattle.std.specs.Prelude.{◌≡◌, ◌≢◌, ℕ, ◌+◌, ◌<◌, ◌≤◌, List, [], ◌∷◌, ◌++◌, length, min, Option, option_map}
+use Rattle.eap_base.specs.Lines.{Lines, LineReading, lines_from, lines_left, max_line, max_input, Divides}
+use Rattle.eap_base.specs.declared.lines.NextLine.TheVariants.{Line, End, TooLong, TooMuch, Read}
 use Rattle.eap_base.specs.declared.lines.NextLine.{NextLine}
-use Rattle.eap_base.specs.declared.lines.Taken.{Taken}
-use Rattle.eap_base.specs.declared.lines.Taken.TheVariants.{Octet, Nothing, Fault}
 use Rattle.eap_base.specs.declared.lines.Step.{Step}
 use Rattle.eap_base.specs.declared.lines.Step.TheVariants.{GoesOn, EndsLine, PassesLine, PassesInput}
 
--- what a read of one octet leaves of the source
-abbrev pub Gives : Taken → Option (List ℕ) → Option (List ℕ) → Type 0
-Gives (Octet octet) before after = before ≡ prepend_known (octet ∷ []) after
-Gives Nothing before after = (before ≡ after) × (after ≡ nothing_known after)
-Gives Fault before after = Unit {0}
+-- the lines that are still to come in mid-line, where the source tells what it has left
+abbrev pub lines_within : LineReading → Option (List ℕ) → Option Lines
+lines_within reader left = option_map (λ octets. lines_from reader.taken reader.line (reader.held ++ octets)) left
 
--- a read fails only where the count of faults rose, or stands at its last value; else it is as it was
-abbrev pub CountsFault : Taken → Option ℕ → ℕ → ℕ → Type 0
-CountsFault Fault last before after = after ≤ before → last ≡ Some after
-CountsFault Nothing last before after = after ≡ before
-CountsFault (Octet octet) last before after = after ≡ before
-
--- what the lines that were to come are after one octet, where the source has these octets left
+-- what the lines that were to come are after a step, where the source has these octets left
 abbrev pub Advances : Step → LineReading → Option Lines → Option (List ℕ) → Type 0
-Advances GoesOn now before left = before ≡ lines_after now.taken now.line left
+Advances GoesOn now before left = (now.held ≡ []) × (before ≡ lines_within now left)
 Advances EndsLine now before left = Divides Line now.line before (lines_left now left)
 Advances PassesLine now before left = Divides TooLong now.line before (lines_left now left)
 Advances PassesInput now before left = Divides TooMuch now.line before (lines_left now left)
 
--- an octet that passes no limit is taken
-abbrev pub TakesOctet : Step → LineReading → LineReading → Type 0
-TakesOctet GoesOn before after = (after.taken ≡ before.taken + 1) × (length after.line ≡ length before.line + 1)
-TakesOctet EndsLine before after = after.taken ≡ before.taken + 1
-TakesOctet PassesLine before after = Unit {0}
-TakesOctet PassesInput before after = Unit {0}
+-- how many octets a step takes: those that join the line, and its LF
+abbrev pub TakesOctets : Step → LineReading → LineReading → Type 0
+TakesOctets GoesOn before after = (before.taken < after.taken) × (after.taken + length before.line ≡ before.taken + length after.line)
+TakesOctets EndsLine before after = before.taken < after.taken
+TakesOctets PassesLine before after = before.taken ≤ after.taken
+TakesOctets PassesInput before after = before.taken ≤ after.taken
 
--- a limit that is passed ends the reading
-abbrev pub passes_limit : Step → Bool
-passes_limit GoesOn = false
-passes_limit EndsLine = false
-passes_limit PassesLine = true
-passes_limit PassesInput = true
+-- the next octet that is held, where there is one, ends the line or passes a limit
+abbrev pub StopsAt : List ℕ → List ℕ → ℕ → Type 0
+StopsAt [] line taken = Unit {0}
+StopsAt (octet ∷ rest) line taken = octet ≢ 10 → length line < max_line → max_input ≤ taken
 
--- how many lines the next octet begins
-abbrev pub begins : List ℕ → ℕ
-begins line = 1 - length line
+abbrev pub Stops : LineReading → Type 0
+Stops reader = StopsAt reader.held reader.line reader.taken
+
+-- how many lines were begun for an answer, with so much of the line
+abbrev pub begun_by : NextLine → List ℕ → ℕ
+begun_by Line line = 1
+begun_by End line = 0
+begun_by TooLong line = 1
+begun_by TooMuch line = 1
+begun_by Read line = min 1 (length line)
 
 -- at the end of the source a line that is begun is the answer, or else there is none
 abbrev pub end_answer : List ℕ → NextLine

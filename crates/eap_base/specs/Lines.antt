@@ -51,10 +51,6 @@ pub record LineReading : Type 0 where
   pub number : ℕ
   pub over : Bool
 
--- the lines that are still to come in mid-line, where the source tells what it has left
-abbrev pub lines_after : ℕ → List ℕ → Option (List ℕ) → Option Lines
-lines_after taken begun left = option_map (lines_from taken begun) left
-
 -- the lines that are still to come, where the source tells what it has left
 abbrev pub lines_left : LineReading → Option (List ℕ) → Option Lines
 lines_left reader left = option_map (λ octets. lines_from reader.taken [] (reader.held ++ octets)) left

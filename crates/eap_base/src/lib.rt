@@ -2,6 +2,7 @@
 //! the events of a run, and input and output that count their faults.
 #![tactic(auto)]
 
+mod ahead;
 mod calls;
 mod comparison;
 mod event;
