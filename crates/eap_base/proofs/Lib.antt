@@ -1,3 +1,4 @@
+pub mod Cut
 mod Differences
 pub mod LineLaws
 mod LineRows

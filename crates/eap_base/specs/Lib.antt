@@ -1,4 +1,5 @@
 pub mod Counted
+pub mod Cutting
 pub mod Known
 pub mod LineSteps
 pub mod Lines
