@@ -1,0 +1,41 @@
+-- Laws of the pass-through (RFC 4137 section 7), over its table alone.
+use Rattle.std.specs.Prelude.{◌≡◌, ℕ, List, true, Option, Some, None, IsSome}
+use Rattle.pass_through.specs.Inputs.{PassInput, start, timeout, from_peer, from_backend, pass_takes}
+use Rattle.pass_through.specs.PassTable.{PassAnswer, identity_request, unpadded, is_over}
+use Rattle.pass_through.specs.declared.variables.PassVariables.{PassVariables}
+
+-- no variable changed, and nothing was sent
+pub record KeepsThePassThrough (before : PassVariables) (out : PassAnswer) : Type 0 where
+  pub all : out.after ≡ before
+  pub to_peer : out.step.to_peer ≡ None
+  pub to_server : out.step.to_server ≡ None
+
+-- a discard changes nothing
+abbrev pub DiscardsKeep : Type 0
+DiscardsKeep =
+    (vars : PassVariables) (input : PassInput) → IsSome (pass_takes vars input).step.cause → KeepsThePassThrough vars (pass_takes vars input)
+
+-- where what is sent to the peer, and to the server, comes from: the pass-through's own Identity Request;
+-- the Request that it sent last, again; or the delivery that it answers, without its padding, on its way
+-- to the other side
+pub data IsSentOn (vars : PassVariables) : PassInput → Option (List ℕ) → Option (List ℕ) → Type 0 where
+  nothing : (input : PassInput) → IsSentOn vars input None None
+  own : IsSentOn vars start (Some (identity_request vars.first_id)) None
+  again : IsSentOn vars timeout (Some vars.last_request) None
+  onwards : (octets : List ℕ) → IsSentOn vars (from_peer octets) None (Some (unpadded octets))
+  back : (octets : List ℕ) → IsSentOn vars (from_backend octets) (Some (unpadded octets)) None
+
+-- what is kept for the timer is what was sent to the peer last, but for a Success or a Failure, after which
+-- nothing is sent
+pub data KeepsTheLast (before after : PassVariables) : Option (List ℕ) → Type 0 where
+  unsent : (same : after.last_request ≡ before.last_request) → KeepsTheLast before after None
+  kept : (octets : List ℕ) (last : after.last_request ≡ octets) → KeepsTheLast before after (Some octets)
+  ended : (octets : List ℕ) (over : is_over after.state ≡ true) → KeepsTheLast before after (Some octets)
+
+pub record Carries (vars : PassVariables) (input : PassInput) (out : PassAnswer) : Type 0 where
+  pub sent_on : IsSentOn vars input out.step.to_peer out.step.to_server
+  pub keeps : KeepsTheLast vars out.after out.step.to_peer
+
+-- what is sent is what came, or was sent before, or is the Identity Request
+abbrev pub SendsWhatCame : Type 0
+SendsWhatCame = (vars : PassVariables) (input : PassInput) → Carries vars input (pass_takes vars input)

@@ -1,0 +1,3 @@
+pub mod PassTable
+pub mod Inputs
+pub mod Laws

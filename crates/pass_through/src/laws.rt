@@ -1,0 +1,16 @@
+//! Laws of the pass-through (RFC 4137 section 7). Each is the contract of a function that does nothing.
+
+ghost use Rattle.pass_through.specs.Laws.{DiscardsKeep, SendsWhatCame};
+
+/// An input that is discarded changes no variable and sends nothing.
+#[tactic(auto, using(crate::proofs::Carrying::discards_keep))]
+pub fn discards_keep()
+    ensures { DiscardsKeep }
+{}
+
+/// What is sent is the Identity Request, the last Request to the peer again, or the delivery that is
+/// answered, without its padding, to the other side.
+#[tactic(auto, using(crate::proofs::Carrying::sends_what_came))]
+pub fn sends_what_came()
+    ensures { SendsWhatCame }
+{}

@@ -1,0 +1,13 @@
+//! The pass-through authenticator of EAP (RFC 4137 section 7): it carries packets between a peer and a
+//! login server. It reads no method and holds no key.
+#![tactic(auto)]
+
+mod laws;
+mod machine;
+mod rows;
+mod states;
+mod variables;
+
+pub use laws::{discards_keep, sends_what_came};
+pub use machine::PassThrough;
+pub use variables::PassVariables;

@@ -1,0 +1,184 @@
+//! The pass-through of RFC 4137 section 7.
+
+ghost use Rattle.std.specs.Prelude.{◌≡◌, ◌≤◌, true, false};
+ghost use Rattle.pass_through.specs.PassTable.{answer, to_peer_with, to_server_with, unpadded, identity_request};
+
+use crate::rows::{resend, take_aaa_idle, take_idle, take_idle2, write_identity_request};
+use crate::states::{is_aaa_idle, is_idle, is_idle2, is_over};
+use crate::variables::PassVariables;
+use eap_base::Packet;
+use eap_method::Step;
+use eap_packet::{Cause, State};
+use std::marker::Model;
+
+/// The pass-through authenticator of RFC 4137 section 7. Contracts see its variables.
+#[derive(Drop)]
+pub struct PassThrough {
+    vars: PassVariables,
+}
+
+impl Model for PassThrough {
+    ghost use Rattle.pass_through.specs.PassTable.{AreInOrder};
+    ghost use Rattle.pass_through.specs.declared.variables.PassVariables.{PassVariables};
+
+    ghost Value = { PassVariables };
+
+    ghost view = { λ p. p.vars };
+
+    ghost invariant = { λ p. AreInOrder p.vars };
+}
+
+impl PassThrough {
+    ghost use Rattle.std.specs.Prelude.{[]};
+    ghost use Rattle.pass_through.specs.PassTable.{pass_made, pass_start, pass_from_peer, pass_from_backend, pass_timeout, pass_aaa_timeout, pass_aaa_noreq};
+    ghost use Rattle.pass_through.specs.PassTable.{is_started, has_timer, is_aaa_idle, is_over};
+
+    /// A pass-through that has not started. `max_retrans` is at most 10.
+    pub fn new(first_id: u8, max_retrans: u8) -> PassThrough
+        requires { max_retrans ≤ 10 }
+        ensures { result ≡ pass_made first_id max_retrans }
+    {
+        PassThrough {
+            vars: PassVariables {
+                first_id,
+                max_retrans,
+                state: State::Initialize,
+                current_id: None,
+                retrans_count: 0,
+                last_request: Packet::new(),
+            },
+        }
+    }
+
+    /// INITIALIZE (RFC 4137 section 5.5): proposes Identity and writes its Request, with the first
+    /// Identifier, into `packet`; it goes to the peer. The pass-through has not started.
+    #[tactic(auto, unfolding(crate::specs::PassTable::pass_start))]
+    pub fn start(&mut self, packet: &mut Packet) -> Step
+        requires { is_started self.old.state ≡ false }
+        ensures step { pass_start self.old ≡ answer (to_peer_with result packet.new) self.new }
+        ensures own { packet.new ≡ identity_request self.old.first_id }
+    {
+        write_identity_request(packet, self.vars.first_id);
+        self.vars.state = State::Idle;
+        self.vars.current_id = Some(self.vars.first_id);
+        self.vars.retrans_count = 0;
+        self.vars.last_request.set(packet.as_slice());
+        let states = [
+            State::Initialize,
+            State::SelectAction,
+            State::ProposeMethod,
+            State::MethodRequest,
+            State::SendRequest,
+            State::Idle,
+        ];
+        Step::sending(&states)
+    }
+
+    /// Octets come from the peer. A Response that is awaited goes to the server, from `packet`, without
+    /// what stands past its Length. All else is discarded and changes nothing: in AAA_IDLE, where the
+    /// server is waited for, and after the end with an empty path.
+    #[tactic(auto, unfolding(crate::specs::PassTable::pass_from_peer))]
+    pub fn from_peer(&mut self, octets: &[u8], packet: &mut Packet) -> Step
+        ensures step { pass_from_peer self.old octets.now ≡ answer (to_server_with result packet.new) self.new }
+        ensures whole { result.sends ≡ true → packet.new ≡ unpadded octets.now }
+    {
+        let state = self.vars.state;
+        if is_over(state) {
+            Step::discarding(&[], Cause::Ended)
+        } else if is_idle(state) {
+            take_idle(&mut self.vars, octets, packet)
+        } else if is_idle2(state) {
+            take_idle2(&mut self.vars, octets, packet)
+        } else {
+            Step::discarding(&[], Cause::NotWaiting)
+        }
+    }
+
+    /// Octets come from the server. In AAA_IDLE a Request, a Success or a Failure goes to the peer, from
+    /// `packet`, without what stands past its Length. All else is discarded and changes nothing, with an
+    /// empty path.
+    #[tactic(auto, unfolding(crate::specs::PassTable::pass_from_backend))]
+    pub fn from_backend(&mut self, octets: &[u8], packet: &mut Packet) -> Step
+        ensures step { pass_from_backend self.old octets.now ≡ answer (to_peer_with result packet.new) self.new }
+        ensures whole { result.sends ≡ true → packet.new ≡ unpadded octets.now }
+    {
+        let state = self.vars.state;
+        if is_over(state) {
+            Step::discarding(&[], Cause::Ended)
+        } else if is_aaa_idle(state) {
+            take_aaa_idle(&mut self.vars, octets, packet)
+        } else {
+            Step::discarding(&[], Cause::NotWaiting)
+        }
+    }
+
+    /// The retransmission timer ends: the last Request goes to the peer again, from `packet`, at most
+    /// MaxRetrans times; then TIMEOUT_FAILURE or TIMEOUT_FAILURE2 follows. The state is IDLE or IDLE2.
+    #[tactic(auto, unfolding(crate::specs::PassTable::pass_timeout))]
+    pub fn timeout(&mut self, packet: &mut Packet) -> Step
+        requires { has_timer self.old.state ≡ true }
+        ensures step { pass_timeout self.old ≡ answer (to_peer_with result packet.new) self.new }
+        ensures again { result.sends ≡ true → packet.new ≡ self.old.last_request }
+    {
+        if is_idle(self.vars.state) {
+            resend(
+                &mut self.vars,
+                State::Retransmit,
+                State::Idle,
+                State::TimeoutFailure,
+                packet,
+            )
+        } else {
+            resend(
+                &mut self.vars,
+                State::Retransmit2,
+                State::Idle2,
+                State::TimeoutFailure2,
+                packet,
+            )
+        }
+    }
+
+    /// No answer of the server comes any more (RFC 4137 section 7.1, aaaTimeout): TIMEOUT_FAILURE2. The
+    /// state is AAA_IDLE.
+    #[tactic(auto, unfolding(crate::specs::PassTable::pass_aaa_timeout))]
+    pub fn aaa_timeout(&mut self) -> Step
+        requires { is_aaa_idle self.old.state ≡ true }
+        ensures { pass_aaa_timeout self.old ≡ answer (to_peer_with result []) self.new }
+    {
+        self.vars.state = State::TimeoutFailure2;
+        Step::entering(&[State::TimeoutFailure2])
+    }
+
+    /// The server answers that it has nothing to ask (RFC 4137 section 7.1, aaaEapNoReq): DISCARD2. The
+    /// state is AAA_IDLE.
+    #[tactic(auto, unfolding(crate::specs::PassTable::pass_aaa_noreq))]
+    pub fn aaa_noreq(&mut self) -> Step
+        requires { is_aaa_idle self.old.state ≡ true }
+        ensures { pass_aaa_noreq self.old ≡ answer (to_peer_with result []) self.new }
+    {
+        self.vars.state = State::Idle2;
+        Step::entering(&[State::Discard2, State::Idle2])
+    }
+
+    /// The state in which the pass-through stands.
+    pub fn state(&self) -> State
+        ensures { result ≡ self.now.state }
+    {
+        self.vars.state
+    }
+
+    /// True once it has started.
+    pub fn started(&self) -> bool
+        ensures { result ≡ is_started self.now.state }
+    {
+        !matches!(self.vars.state, State::Initialize)
+    }
+
+    /// True in SUCCESS2, FAILURE2, TIMEOUT_FAILURE and TIMEOUT_FAILURE2.
+    pub fn ended(&self) -> bool
+        ensures { result ≡ is_over self.now.state }
+    {
+        is_over(self.vars.state)
+    }
+}

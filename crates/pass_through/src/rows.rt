@@ -1,0 +1,153 @@
+//! The rows of the pass-through's table (RFC 4137 section 7.2).
+
+ghost use Rattle.std.specs.Prelude.{◌≡◌, ◌≤◌, ◌∷◌, [], true, false, Some};
+ghost use Rattle.eap_packet.specs.Fault.{packet_of};
+ghost use Rattle.eap_packet.specs.declared.state.State.TheVariants.{Received, Discard, Idle, Received2, Discard2, Idle2};
+ghost use Rattle.pass_through.specs.PassTable.{answer, to_peer_with, to_server_with, unpadded, identity_request, idle_row, idle2_row, aaa_row, is_over, resends};
+
+use crate::variables::PassVariables;
+use eap_base::Packet;
+use eap_method::Step;
+use eap_packet::{Cause, Code, State, decode, encode};
+
+/// Type 1, Identity.
+const IDENTITY: u8 = 1;
+
+/// The Identity Request.
+pub fn write_identity_request(packet: &mut Packet, id: u8)
+    ensures { packet.new ≡ identity_request id }
+{
+    packet.set(encode(Code::Request, id, IDENTITY, &[]).as_slice());
+}
+
+/// IDLE: the Identity Response goes to the server as it came.
+pub fn take_idle(vars: &mut PassVariables, octets: &[u8], packet: &mut Packet) -> Step
+    ensures step { idle_row vars.old octets.now (packet_of octets.now) ≡ answer (to_server_with result packet.new) vars.new }
+    ensures order { vars.old.retrans_count ≤ vars.old.max_retrans → vars.new.retrans_count ≤ vars.new.max_retrans }
+    ensures most { vars.new.max_retrans ≡ vars.old.max_retrans }
+    ensures whole { result.sends ≡ true → packet.new ≡ unpadded octets.now }
+{
+    match decode(octets) {
+        Err(cause) => discard(cause),
+        Ok(view) => {
+            if view.code != Code::Response {
+                discard(Cause::WrongRole)
+            } else if vars.current_id != Some(view.id) {
+                discard(Cause::IdMismatch)
+            } else if view.kind != IDENTITY {
+                discard(Cause::WrongMethod)
+            } else {
+                packet.set(view.whole);
+                vars.state = State::AaaIdle;
+                let states = [
+                    State::Received,
+                    State::IntegrityCheck,
+                    State::MethodResponse,
+                    State::SelectAction,
+                    State::InitializePassthrough,
+                    State::AaaRequest,
+                    State::AaaIdle,
+                ];
+                Step::sending(&states)
+            }
+        }
+    }
+}
+
+/// DISCARD, after which it stands in IDLE as before.
+fn discard(cause: Cause) -> Step
+    ensures { result ≡ record { path = Received ∷ Discard ∷ Idle ∷ []; cause = Some cause; sends = false } }
+{
+    Step::discarding(&[State::Received, State::Discard, State::Idle], cause)
+}
+
+/// IDLE2: a Response with currentId goes to the server as it came.
+pub fn take_idle2(vars: &mut PassVariables, octets: &[u8], packet: &mut Packet) -> Step
+    ensures step { idle2_row vars.old octets.now (packet_of octets.now) ≡ answer (to_server_with result packet.new) vars.new }
+    ensures order { vars.old.retrans_count ≤ vars.old.max_retrans → vars.new.retrans_count ≤ vars.new.max_retrans }
+    ensures most { vars.new.max_retrans ≡ vars.old.max_retrans }
+    ensures whole { result.sends ≡ true → packet.new ≡ unpadded octets.now }
+{
+    match decode(octets) {
+        Err(cause) => discard2(cause),
+        Ok(view) => {
+            if view.code != Code::Response {
+                discard2(Cause::WrongRole)
+            } else if vars.current_id != Some(view.id) {
+                discard2(Cause::IdMismatch)
+            } else {
+                packet.set(view.whole);
+                vars.state = State::AaaIdle;
+                Step::sending(&[State::Received2, State::AaaRequest, State::AaaIdle])
+            }
+        }
+    }
+}
+
+/// DISCARD2, after which it stands in IDLE2 as before.
+fn discard2(cause: Cause) -> Step
+    ensures { result ≡ record { path = Received2 ∷ Discard2 ∷ Idle2 ∷ []; cause = Some cause; sends = false } }
+{
+    Step::discarding(&[State::Received2, State::Discard2, State::Idle2], cause)
+}
+
+/// AAA_IDLE: a Request goes to the peer as it came, to be answered; a Success or a Failure too, and ends
+/// the conversation.
+pub fn take_aaa_idle(vars: &mut PassVariables, octets: &[u8], packet: &mut Packet) -> Step
+    ensures step { aaa_row vars.old octets.now (packet_of octets.now) ≡ answer (to_peer_with result packet.new) vars.new }
+    ensures order { vars.old.retrans_count ≤ vars.old.max_retrans → vars.new.retrans_count ≤ vars.new.max_retrans }
+    ensures most { vars.new.max_retrans ≡ vars.old.max_retrans }
+    ensures whole { result.sends ≡ true → packet.new ≡ unpadded octets.now }
+{
+    match decode(octets) {
+        Err(cause) => Step::discarding(&[], cause),
+        Ok(view) => match view.code {
+            Code::Response => Step::discarding(&[], Cause::WrongRole),
+            Code::Request => {
+                packet.set(view.whole);
+                vars.state = State::Idle2;
+                vars.current_id = Some(view.id);
+                vars.retrans_count = 0;
+                vars.last_request.set(view.whole);
+                Step::sending(&[State::AaaResponse, State::SendRequest2, State::Idle2])
+            }
+            Code::Success => {
+                packet.set(view.whole);
+                vars.state = State::Success2;
+                Step::sending(&[State::Success2])
+            }
+            Code::Failure => {
+                packet.set(view.whole);
+                vars.state = State::Failure2;
+                Step::sending(&[State::Failure2])
+            }
+        },
+    }
+}
+
+/// RETRANSMIT or RETRANSMIT2, the state `entered`: the last Request goes to the peer again, and the
+/// pass-through stands in `back`; past MaxRetrans it ends in `over`.
+pub fn resend(
+    vars: &mut PassVariables,
+    entered: State,
+    back: State,
+    over: State,
+    packet: &mut Packet,
+) -> Step
+    requires count { vars.old.retrans_count ≤ 10 }
+    requires over { is_over over ≡ true }
+    ensures step { resends vars.old entered back over ≡ answer (to_peer_with result packet.new) vars.new }
+    ensures order { is_over vars.new.state ≡ false → vars.new.retrans_count ≤ vars.new.max_retrans }
+    ensures most { vars.new.max_retrans ≡ vars.old.max_retrans }
+    ensures again { result.sends ≡ true → packet.new ≡ vars.old.last_request }
+{
+    vars.retrans_count += 1;
+    if vars.retrans_count <= vars.max_retrans {
+        packet.set(vars.last_request.as_slice());
+        vars.state = back;
+        Step::sending(&[entered, back])
+    } else {
+        vars.state = over;
+        Step::entering(&[entered, over])
+    }
+}
