@@ -1,6 +1,6 @@
 //! Octets that were read ahead of their use.
 
-ghost use Rattle.std.specs.Prelude.{◌≡◌, ◌≤◌, [], length, drop, Some, IfOk, OnErr};
+ghost use Rattle.std.specs.Prelude.{◌≡◌, ◌≤◌, [], length, drop, Some, IfOk, OnErr, OnOk};
 ghost use Rattle.eap_base.specs.Known.{prepend_known, nothing_known};
 
 use crate::source::{Failed, Source};
@@ -45,6 +45,7 @@ impl Ahead {
         ensures gives { IfOk result (λ n. S.left source.old ≡ prepend_known self.new (S.left source.new)) }
         ensures over { IfOk result (λ n. n ≡ 0 → S.left source.new ≡ nothing_known (S.left source.new)) }
         ensures counted { OnErr result (S.read_faults source.new ≤ S.read_faults source.old → S.last_read_fault ≡ Some (S.read_faults source.new)) }
+        ensures uncounted { OnOk result (S.read_faults source.new ≡ S.read_faults source.old) }
         ensures never_falls { S.read_faults source.old ≤ S.read_faults source.new }
     {
         self.place = 0;
