@@ -1,8 +1,10 @@
 -- The spelling of a packet: how long it is, and that it is read as that packet.
-use Rattle.std.proofs.Common.{◌≡◌, ◌≢◌, ℕ, ◌+◌, ◌-◌, ◌/◌, ◌%◌, ◌<◌, ◌≤◌, List, [], ◌∷◌, ◌++◌, length, take, drop, Ok, refl, ap, ◌∙◌, sym, arith, length-append, append-nil}
+use Rattle.std.proofs.Common.{◌≡◌, ◌≢◌, ℕ, ◌+◌, ◌-◌, ◌/◌, ◌%◌, ◌<◌, ◌≤◌, List, [], ◌∷◌, ◌++◌, length, take, drop, Ok, refl, ap, ◌∙◌, sym, arith, length-append, append-nil, IsTrue}
 use Rattle.std.proofs.lemmas.List.{take_at}
 use Rattle.std.proofs.lemmas.List.Elements.{All-cons, All-nil, All-append, All-from_recursion}
-use Rattle.eap_packet.specs.Packet.{PacketValue, request, response, success, failure, spelled, framed, IsPacket, IsOctets, AreTypedFields}
+use Rattle.eap_packet.specs.declared.packet.Code.{Code}
+use Rattle.eap_packet.specs.declared.packet.Code.TheVariants.{Request, Response, Success, Failure}
+use Rattle.eap_packet.specs.Packet.{PacketValue, request, response, success, failure, spelled, framed, two_octets, number_of, value_with, has_type, IsPacket, IsOctets, AreTypedFields}
 use Rattle.eap_packet.specs.Fault.{code_of, length_of, fields_of, packet_of, packet_unless}
 use Rattle.eap_packet.proofs.Faults.{Begins, none_if_begins}
 
@@ -12,6 +14,19 @@ size_of (request id kind body) = length body + 5
 size_of (response id kind body) = length body + 5
 size_of (success id) = 4
 size_of (failure id) = 4
+
+-- the fields before the Type-Data, and the Type-Data behind them
+pub spelled_from_front : (code : Code) (id kind size : ℕ) (body : List ℕ) → IsTrue (has_type code) → length body ≡ size →
+    (number_of code ∷ id ∷ two_octets (5 + size)) ++ kind ∷ [] ++ body ≡ spelled (value_with code id kind body)
+unfolding spelled
+spelled_from_front Request id kind size body t e =
+    let count : 5 + size ≡ length (kind ∷ body) + 4 = omega (arith, e) in
+    ap (λ n. 1 ∷ id ∷ two_octets n ++ kind ∷ body) count
+spelled_from_front Response id kind size body t e =
+    let count : 5 + size ≡ length (kind ∷ body) + 4 = omega (arith, e) in
+    ap (λ n. 2 ∷ id ∷ two_octets n ++ kind ∷ body) count
+spelled_from_front Success id kind size body t e = absurd cc
+spelled_from_front Failure id kind size body t e = absurd cc
 
 pub length-spelled : (packet : PacketValue) → length (spelled packet) ≡ size_of packet
 unfolding spelled

@@ -1,6 +1,6 @@
 //! EAP packets (RFC 3748 section 4): their fields, decoding and encoding.
 
-ghost use Rattle.std.specs.Prelude.{◌≡◌, ◌≢◌, ◌≤◌, [], length, take, IfOk, IsTrue, not, ◌∷◌, ◌-◌, drop, slice_index};
+ghost use Rattle.std.specs.Prelude.{◌≡◌, ◌≢◌, ◌≤◌, [], ℕ, List, ◌++◌, length, take, IfOk, IsTrue, not, ◌∷◌, ◌-◌, drop, slice_index};
 ghost use Rattle.eap_packet.specs.Packet.{spelled, value_of, value_with, has_type, IsPacket, IsPlain, heard, number_of, two_octets};
 ghost use Rattle.eap_packet.specs.Fault.{fault, fields_of, code_of, length_of, type_of, packet_of};
 
@@ -158,8 +158,35 @@ fn header(code: Code, id: u8, length: usize) -> [u8; 4]
     [code as u8, id, (length / 256) as u8, (length % 256) as u8]
 }
 
+/// Writes the fields before the Type-Data of a Request or a Response of this Type (RFC 3748 section
+/// 4.1), in place of what the packet held. Its Length counts `size` octets of Type-Data, which are yet
+/// to be appended.
+pub fn begin_into(packet: &mut Packet, code: Code, id: u8, kind: u8, size: usize)
+    requires typed { IsTrue (has_type code) }
+    requires fits { size ≤ 1495 }
+    requires no_nak_request { code ≡ Code.Request → kind ≢ 3 }
+    requires nak_desires { code ≡ Code.Response → kind ≡ 3 → size ≢ 0 }
+    ensures spells { (body : List ℕ) → length body ≡ size → packet.new ++ body ≡ spelled (value_with code id kind body) }
+    ensures size { length packet.new ≡ 5 }
+{
+    packet.set(&header(code, id, 5 + size));
+    packet.put(&[kind]);
+}
+
+/// Writes a Request or a Response of this Type and Type-Data (RFC 3748 section 4.1), in place of what
+/// the packet held.
+pub fn encode_into(packet: &mut Packet, code: Code, id: u8, kind: u8, body: &[u8])
+    requires typed { IsTrue (has_type code) }
+    requires fits { length body.now ≤ 1495 }
+    requires no_nak_request { code ≡ Code.Request → kind ≢ 3 }
+    requires nak_desires { code ≡ Code.Response → kind ≡ 3 → body.now ≢ [] }
+    ensures { packet.new ≡ spelled (value_with code id kind body.now) }
+{
+    begin_into(packet, code, id, kind, body.len());
+    packet.put(body);
+}
+
 /// A Request or a Response of this Type and Type-Data (RFC 3748 section 4.1).
-#[tactic(auto, unfolding(crate::specs::Packet::spelled))]
 pub fn encode(code: Code, id: u8, kind: u8, body: &[u8]) -> Packet
     requires typed { IsTrue (has_type code) }
     requires fits { length body.now ≤ 1495 }
@@ -168,19 +195,25 @@ pub fn encode(code: Code, id: u8, kind: u8, body: &[u8]) -> Packet
     ensures { result ≡ spelled (value_with code id kind body.now) }
 {
     let mut packet = Packet::new();
-    packet.append(&header(code, id, 5 + body.len()));
-    packet.push(kind);
-    packet.append(body);
+    encode_into(&mut packet, code, id, kind, body);
     packet
 }
 
-/// A Success or a Failure (RFC 3748 section 4.2).
+/// Writes a Success or a Failure (RFC 3748 section 4.2), in place of what the packet held.
 #[tactic(auto, unfolding(crate::specs::Packet::spelled))]
+pub fn encode_end_into(packet: &mut Packet, code: Code, id: u8)
+    requires { IsTrue (not (has_type code)) }
+    ensures { packet.new ≡ spelled (value_with code id 0 []) }
+{
+    packet.set(&header(code, id, 4));
+}
+
+/// A Success or a Failure (RFC 3748 section 4.2).
 pub fn encode_end(code: Code, id: u8) -> Packet
     requires { IsTrue (not (has_type code)) }
     ensures { result ≡ spelled (value_with code id 0 []) }
 {
     let mut packet = Packet::new();
-    packet.append(&header(code, id, 4));
+    encode_end_into(&mut packet, code, id);
     packet
 }

@@ -1,5 +1,5 @@
 -- The laws of the grammar.
-use Rattle.std.proofs.Common.{◌≡◌, ℕ, ◌*◌, ◌<◌, ◌≤◌, true, eqb, leb, List, [], ◌∷◌, ◌++◌, length, Option, Some, None, Result, Ok, Err, refl, sym, ap, subst, ◌∙◌, arith, inl, inr, length-append}
+use Rattle.std.proofs.Common.{◌≡◌, ℕ, ◌*◌, ◌<◌, ◌≤◌, true, eqb, leb, List, [], ◌∷◌, ◌++◌, length, Option, Some, None, Result, Ok, Err, refl, sym, ap, subst, ◌∙◌, arith, inl, inr, length-append, IfOk, IfErr}
 use Rattle.std.specs.Prelude.{◌⊎◌}
 use Rattle.std.proofs.lemmas.Bool.{eqb-true, eq-eqb, leb-true, le-leb, leb-false, lt-leb, or_cases, or_left, or_right, cond-true, cond-false, cond_both, cases_lt}
 use Rattle.std.proofs.lemmas.List.{nil_from_length, take_at}
@@ -7,9 +7,10 @@ use Rattle.std.proofs.lemmas.Option.{cond_some, same_Some, none-some}
 use Rattle.eap_packet.specs.declared.cause.Cause.{Cause}
 use Rattle.eap_packet.specs.declared.cause.Cause.TheVariants.{GpskShape, ListTooLong}
 use Rattle.eap_packet.specs.Packet.{IsOctets}
-use Rattle.gpsk_messages.specs.Message.{Message, gpsk1, gpsk2, gpsk3, gpsk4, fail, protected_fail, op_code, mac_of, list_of, covered_of, without_mac, spelled, AreFields, HasMac, IsMacSize, IsGpsk, IsGpskLoose}
+use Rattle.gpsk_messages.specs.declared.view.GpskView.{GpskView}
+use Rattle.gpsk_messages.specs.Message.{Message, message_of, heard, gpsk1, gpsk2, gpsk3, gpsk4, fail, protected_fail, op_code, mac_of, list_of, covered_of, without_mac, spelled, AreFields, HasMac, IsMacSize, IsGpsk, IsGpskLoose}
 use Rattle.gpsk_messages.specs.Reading.{fields_at, is_mac_size, takes_mac, with_mac, sealed, loose_of, judged, read_of}
-use Rattle.gpsk_messages.specs.Laws.{SpellingsAreRead, ReadsTheSpelling, SpellingsAreApart, ShapelessSpellsNothing, SpellsALongList, LongListsAreTold, SpellingsAreSized, CoveredIsTheMiddle, CoveredTellsTheFields}
+use Rattle.gpsk_messages.specs.Laws.{SpellingsAreRead, ReadsTheSpelling, SpellingsAreApart, ShapelessSpellsNothing, SpellsALongList, Refuses, LongListsAreTold, SpellingsAreSized, CoveredIsTheMiddle, CoveredTellsTheFields}
 use Rattle.gpsk_messages.proofs.FieldLaws.{step_of, step_again}
 use Rattle.gpsk_messages.proofs.Reader.{fields_takes, fields_again}
 
@@ -159,6 +160,22 @@ told_if_long ks octets s =
 
 pub long_lists_are_told : LongListsAreTold
 long_lists_are_told ks octets small = (long_if_told ks octets small, told_if_long ks octets)
+
+-- a reader's answer: a message that the octets spell
+pub spelled_if_heard : (ks : Option ℕ) (answer : Result GpskView Cause) (octets : List ℕ) → IsOctets octets → heard answer ≡ read_of ks octets →
+    IfOk answer (λ view. IsGpsk ks (message_of view) octets)
+spelled_if_heard ks (Ok view) octets small e = spelled_if_read ks octets (message_of view) small (sym e)
+spelled_if_heard ks (Err cause) octets small e = tt
+
+-- or the cause, where they spell none
+pub refused_if_heard : (ks : Option ℕ) (answer : Result GpskView Cause) (octets : List ℕ) → IsOctets octets → heard answer ≡ read_of ks octets →
+    IfErr answer (Refuses ks octets)
+refused_if_heard ks (Ok view) octets small e = tt
+refused_if_heard ks (Err cause) octets small e =
+    elim (read_judged ks octets (Err cause) (sym e)) [
+      | inl none ↦ inl (none.0, (shapeless_spells_nothing ks octets small).0 (sym e ∙ ap Err none.0))
+      | inr long ↦ inr (long.0, long_if_told ks octets small (sym e ∙ ap Err long.0))
+    ]
 
 pub spellings_are_sized : SpellingsAreSized
 unfolding spelled covered_of

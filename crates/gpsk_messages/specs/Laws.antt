@@ -1,5 +1,6 @@
 -- Laws of the messages' grammar (RFC 5433 section 7), over its definitions alone.
-use Rattle.std.specs.Prelude.{◌≡◌, ◌↔◌, ℕ, ◌-◌, List, length, take, drop, Option, Ok, Err}
+use Rattle.std.specs.Prelude.{◌≡◌, ◌↔◌, ◌⊎◌, ℕ, ◌-◌, List, length, take, drop, Option, Ok, Err}
+use Rattle.eap_packet.specs.declared.cause.Cause.{Cause}
 use Rattle.eap_packet.specs.declared.cause.Cause.TheVariants.{GpskShape, ListTooLong}
 use Rattle.eap_packet.specs.Packet.{IsOctets}
 use Rattle.gpsk_messages.specs.Message.{Message, op_code, covered_of, mac_of, without_mac, spelled, size_of, AreFields, IsGpsk, IsGpskLoose}
@@ -29,6 +30,11 @@ pub record SpellsALongList (ks : Option ℕ) (octets : List ℕ) : Type 0 where
   pub message : Message
   pub spells : IsGpskLoose ks message octets
   pub no_other : (other : Message) → ¬ IsGpsk ks other octets
+
+-- why octets are refused
+abbrev pub Refuses : Option ℕ → List ℕ → Cause → Type 0
+Refuses ks octets cause =
+    ((cause ≡ GpskShape) × ((message : Message) → ¬ IsGpskLoose ks message octets)) ⊎ ((cause ≡ ListTooLong) × SpellsALongList ks octets)
 
 -- ListTooLong comes exactly where the octets spell a message, but none whose list has at most 20 suites
 abbrev pub LongListsAreTold : Type 0

@@ -13,4 +13,4 @@ pub use laws::{
 };
 pub use reading::{covered, read_gpsk};
 pub use view::GpskView;
-pub use writing::write_gpsk;
+pub use writing::{write_gpsk, write_gpsk_into};

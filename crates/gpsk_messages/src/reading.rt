@@ -1,7 +1,8 @@
 //! Reading Type-Data as a message (RFC 5433 section 7).
 
-ghost use Rattle.std.specs.Prelude.{◌≡◌, ◌+◌, ◌-◌, ◌≤◌, length, take, drop, option_map, IfOk};
+ghost use Rattle.std.specs.Prelude.{◌≡◌, ◌+◌, ◌-◌, ◌≤◌, length, take, drop, option_map, IfOk, IfErr};
 ghost use Rattle.gpsk_messages.specs.Message.{message_of, heard, list_of, IsGpsk};
+ghost use Rattle.gpsk_messages.specs.Laws.{Refuses};
 ghost use Rattle.gpsk_messages.specs.Reading.{and_then, gpsk1_at, gpsk2_at, gpsk3_at, gpsk4_at, fail_at, protected_fail_at, sealed, is_mac_size, loose_of, read_of};
 
 use crate::fields::{
@@ -159,11 +160,19 @@ fn list_size(view: &GpskView) -> usize
 /// MAC's size in GPSK-4 and GPSK-Protected-Fail; with None either size is taken.
 ///
 /// `GpskShape` where the octets spell no message, `ListTooLong` where they spell one but for a list
-/// of more than 20 suites (RFC 5433 section 7).
-#[tactic(auto, unfolding(crate::specs::Reading::read_of))]
+/// of more than 20 suites (RFC 5433 section 9.2).
 pub fn read_gpsk<'a>(body: &'a [u8], ks: Option<u8>) -> Result<GpskView<'a>, Cause>
     ensures message { heard result ≡ read_of ks body.now }
     ensures spelled { IfOk result (λ view. IsGpsk ks (message_of view) body.now) }
+    ensures refused { IfErr result (Refuses ks body.now) }
+{
+    read_shape(body, ks)
+}
+
+/// The message that the octets spell, or why there is none.
+#[tactic(auto, unfolding(crate::specs::Reading::read_of))]
+fn read_shape<'a>(body: &'a [u8], ks: Option<u8>) -> Result<GpskView<'a>, Cause>
+    ensures { heard result ≡ read_of ks body.now }
 {
     match read_loosely(body, ks) {
         None => Err(Cause::GpskShape),

@@ -7,75 +7,72 @@ ghost use Rattle.eap_packet.specs.Packet as packets;
 ghost use Rattle.gpsk_messages.specs.Message.{message_of, op_code, spelled, sized, size_of};
 
 use crate::view::GpskView;
-use eap_base::{GPSK_KIND, Octets, Packet, Suite};
-use eap_packet::{Code, encode};
-
-/// The Type-Data of a packet of at most 1,500 octets.
-type Body = Octets<1495>;
+use eap_base::{GPSK_KIND, Packet, Suite};
+use eap_packet::{Code, begin_into};
 
 /// Appends a field behind its length, for which there is room.
-fn put_sized(body: &mut Body, field: &[u8])
-    requires { length body.old + 2 + length field.now ≤ 1495 }
-    ensures { body.new ≡ body.old ++ sized field.now }
+fn put_sized(packet: &mut Packet, field: &[u8])
+    requires { length packet.old + 2 + length field.now ≤ 1500 }
+    ensures { packet.new ≡ packet.old ++ sized field.now }
 {
     let size = field.len();
-    body.put(&[(size / 256) as u8, (size % 256) as u8]);
-    body.put(field);
+    packet.put(&[(size / 256) as u8, (size % 256) as u8]);
+    packet.put(field);
 }
 
 /// Appends a nonce, for which there is room.
-fn put_rand(body: &mut Body, rand: &[u8; 32])
-    requires { length body.old + length rand.now ≤ 1495 }
-    ensures { body.new ≡ body.old ++ rand.now }
+fn put_rand(packet: &mut Packet, rand: &[u8; 32])
+    requires { length packet.old + length rand.now ≤ 1500 }
+    ensures { packet.new ≡ packet.old ++ rand.now }
 {
-    body.put(rand);
+    packet.put(rand);
 }
 
 /// Appends the two nonces, for which there is room.
-fn put_rands(body: &mut Body, rand_p: &[u8; 32], rand_s: &[u8; 32])
-    requires { length body.old + length rand_p.now + length rand_s.now ≤ 1495 }
-    ensures { body.new ≡ body.old ++ (rand_p.now ++ rand_s.now) }
+fn put_rands(packet: &mut Packet, rand_p: &[u8; 32], rand_s: &[u8; 32])
+    requires { length packet.old + length rand_p.now + length rand_s.now ≤ 1500 }
+    ensures { packet.new ≡ packet.old ++ (rand_p.now ++ rand_s.now) }
 {
-    put_rand(body, rand_p);
-    put_rand(body, rand_s);
+    put_rand(packet, rand_p);
+    put_rand(packet, rand_s);
 }
 
 /// Appends the fields of GPSK-1, for which there is room.
-fn put_gpsk1(body: &mut Body, id_s: &[u8], rand_s: &[u8; 32], list: &[u8])
-    requires { length body.old + 4 + length id_s.now + length rand_s.now + length list.now ≤ 1495 }
-    ensures { body.new ≡ body.old ++ (sized id_s.now ++ (rand_s.now ++ sized list.now)) }
+fn put_gpsk1(packet: &mut Packet, id_s: &[u8], rand_s: &[u8; 32], list: &[u8])
+    requires { length packet.old + 4 + length id_s.now + length rand_s.now + length list.now ≤ 1500 }
+    ensures { packet.new ≡ packet.old ++ (sized id_s.now ++ (rand_s.now ++ sized list.now)) }
 {
-    put_sized(body, id_s);
-    put_rand(body, rand_s);
-    put_sized(body, list);
+    put_sized(packet, id_s);
+    put_rand(packet, rand_s);
+    put_sized(packet, list);
 }
 
 /// Appends the fields of GPSK-2 up to the list of suites, for which there is room.
 fn put_offer(
-    body: &mut Body,
+    packet: &mut Packet,
     id_p: &[u8],
     id_s: &[u8],
     rand_p: &[u8; 32],
     rand_s: &[u8; 32],
     list: &[u8],
 )
-    requires { length body.old + 6 + length id_p.now + length id_s.now + length rand_p.now + length rand_s.now + length list.now ≤ 1495 }
-    ensures { body.new ≡ body.old ++ (sized id_p.now ++ (sized id_s.now ++ (rand_p.now ++ (rand_s.now ++ sized list.now)))) }
+    requires { length packet.old + 6 + length id_p.now + length id_s.now + length rand_p.now + length rand_s.now + length list.now ≤ 1500 }
+    ensures { packet.new ≡ packet.old ++ (sized id_p.now ++ (sized id_s.now ++ (rand_p.now ++ (rand_s.now ++ sized list.now)))) }
 {
-    put_sized(body, id_p);
-    put_sized(body, id_s);
-    put_rands(body, rand_p, rand_s);
-    put_sized(body, list);
+    put_sized(packet, id_p);
+    put_sized(packet, id_s);
+    put_rands(packet, rand_p, rand_s);
+    put_sized(packet, list);
 }
 
 /// Appends CSuite_Sel, the PD block and the MAC, for which there is room.
-fn put_sealed(body: &mut Body, suite: Suite, pd: &[u8], mac: &[u8])
-    requires { length body.old + 8 + length pd.now + length mac.now ≤ 1495 }
-    ensures { body.new ≡ body.old ++ (suite_octets suite ++ (sized pd.now ++ mac.now)) }
+fn put_sealed(packet: &mut Packet, suite: Suite, pd: &[u8], mac: &[u8])
+    requires { length packet.old + 8 + length pd.now + length mac.now ≤ 1500 }
+    ensures { packet.new ≡ packet.old ++ (suite_octets suite ++ (sized pd.now ++ mac.now)) }
 {
-    body.put(&suite.octets());
-    put_sized(body, pd);
-    body.put(mac);
+    packet.put(&suite.octets());
+    put_sized(packet, pd);
+    packet.put(mac);
 }
 
 /// The OP-Code of the message.
@@ -92,17 +89,59 @@ fn op_code_of(view: &GpskView) -> u8
     }
 }
 
-/// The Type-Data of the message.
-#[tactic(auto, unfolding(crate::specs::Message::spelled, crate::specs::Message::covered_of))]
-fn body_of(view: &GpskView) -> Body
+/// The octets of the message's Type-Data.
+fn size_of(view: &GpskView) -> usize
     requires { size_of (message_of view.now) ≤ 1495 }
-    ensures { result ≡ spelled (message_of view.now) }
+    ensures { result ≡ size_of (message_of view.now) }
 {
-    let mut body = Body::new();
-    body.push(op_code_of(view));
+    match view {
+        GpskView::M1 { id_s, rand_s, list } => 5
+            + id_s.len()
+            + rand_s.as_slice().len()
+            + list.len(),
+        GpskView::M2 {
+            id_p,
+            id_s,
+            rand_p,
+            rand_s,
+            list,
+            pd,
+            mac,
+            ..
+        } => {
+            let names = id_p.len() + id_s.len();
+            let rands = rand_p.as_slice().len() + rand_s.as_slice().len();
+            15 + names + rands + list.len() + pd.len() + mac.len()
+        }
+        GpskView::M3 {
+            rand_p,
+            rand_s,
+            id_s,
+            pd,
+            mac,
+            ..
+        } => 11
+            + rand_p.as_slice().len()
+            + rand_s.as_slice().len()
+            + id_s.len()
+            + pd.len()
+            + mac.len(),
+        GpskView::M4 { pd, mac } => 3 + pd.len() + mac.len(),
+        GpskView::Fail { .. } => 5,
+        GpskView::ProtectedFail { mac, .. } => 5 + mac.len(),
+    }
+}
+
+/// Appends the Type-Data of the message, for which there is room.
+#[tactic(auto, unfolding(crate::specs::Message::spelled, crate::specs::Message::covered_of))]
+fn put_message(packet: &mut Packet, view: &GpskView)
+    requires { length packet.old + size_of (message_of view.now) ≤ 1500 }
+    ensures { packet.new ≡ packet.old ++ spelled (message_of view.now) }
+{
+    packet.put(&[op_code_of(view)]);
     match *view {
         GpskView::M1 { id_s, rand_s, list } => {
-            put_gpsk1(&mut body, id_s, &rand_s, list);
+            put_gpsk1(packet, id_s, &rand_s, list);
         }
         GpskView::M2 {
             id_p,
@@ -114,8 +153,8 @@ fn body_of(view: &GpskView) -> Body
             pd,
             mac,
         } => {
-            put_offer(&mut body, id_p, id_s, &rand_p, &rand_s, list);
-            put_sealed(&mut body, suite, pd, mac);
+            put_offer(packet, id_p, id_s, &rand_p, &rand_s, list);
+            put_sealed(packet, suite, pd, mac);
         }
         GpskView::M3 {
             rand_p,
@@ -125,21 +164,32 @@ fn body_of(view: &GpskView) -> Body
             pd,
             mac,
         } => {
-            put_rands(&mut body, &rand_p, &rand_s);
-            put_sized(&mut body, id_s);
-            put_sealed(&mut body, suite, pd, mac);
+            put_rands(packet, &rand_p, &rand_s);
+            put_sized(packet, id_s);
+            put_sealed(packet, suite, pd, mac);
         }
         GpskView::M4 { pd, mac } => {
-            put_sized(&mut body, pd);
-            body.put(mac);
+            put_sized(packet, pd);
+            packet.put(mac);
         }
-        GpskView::Fail { code } => body.put(&code.to_be_bytes()),
+        GpskView::Fail { code } => packet.put(&code.to_be_bytes()),
         GpskView::ProtectedFail { code, mac } => {
-            body.put(&code.to_be_bytes());
-            body.put(mac);
+            packet.put(&code.to_be_bytes());
+            packet.put(mac);
         }
     }
-    body
+}
+
+/// Writes the Request or the Response of Type 51 with this Identifier whose Type-Data spells the
+/// message, in place of what the packet held.
+#[tactic(auto, using(crate::proofs::Grammar::spellings_are_sized))]
+pub fn write_gpsk_into(packet: &mut Packet, view: &GpskView, code: Code, id: u8)
+    requires typed { IsTrue (has_type code) }
+    requires fits { size_of (message_of view.now) + 5 ≤ 1500 }
+    ensures { packet.new ≡ packets.spelled (value_with code id 51 (spelled (message_of view.now))) }
+{
+    begin_into(packet, code, id, GPSK_KIND, size_of(view));
+    put_message(packet, view);
 }
 
 /// The Request or the Response of Type 51 with this Identifier whose Type-Data spells the message.
@@ -148,5 +198,7 @@ pub fn write_gpsk(view: &GpskView, code: Code, id: u8) -> Packet
     requires fits { size_of (message_of view.now) + 5 ≤ 1500 }
     ensures { result ≡ packets.spelled (value_with code id 51 (spelled (message_of view.now))) }
 {
-    encode(code, id, GPSK_KIND, body_of(view).as_slice())
+    let mut packet = Packet::new();
+    write_gpsk_into(&mut packet, view, code, id);
+    packet
 }

@@ -1,12 +1,13 @@
 -- The laws of the grammar.
-use Rattle.std.proofs.Common.{◌≡◌, ℕ, ◌/◌, ◌<◌, ◌*◌, List, [], ◌∷◌, length, Bool, true, false, if◌then◌else◌, Result, Ok, Err, refl, ap, ◌∙◌, sym, subst, arith}
+use Rattle.std.proofs.Common.{◌≡◌, ℕ, ◌/◌, ◌<◌, ◌*◌, List, [], ◌∷◌, length, Bool, true, false, if◌then◌else◌, Result, Ok, Err, refl, ap, ◌∙◌, sym, subst, arith, IfOk, IfErr, length-append}
 use Rattle.std.proofs.lemmas.List.Elements.{All-tail}
 use Rattle.eap_packet.specs.declared.cause.Cause.{Cause}
 use Rattle.eap_packet.specs.declared.cause.Cause.TheVariants.{PskShape}
 use Rattle.eap_packet.specs.Packet.{IsOctets}
-use Rattle.psk_messages.specs.Message.{Message, t_of, fields_of, AreFields, IsPsk, spelled}
+use Rattle.psk_messages.specs.declared.view.PskView.{PskView}
+use Rattle.psk_messages.specs.Message.{Message, psk1, psk2, psk3, psk4, t_of, fields_of, AreFields, IsPsk, SpellsNone, spelled, message_of, heard}
 use Rattle.psk_messages.specs.Reading.{is_size, message_at, read_of}
-use Rattle.psk_messages.specs.Laws.{ReadsTheSpelling, SpellingsAreApart, RefusesTheRest, SentIsRead}
+use Rattle.psk_messages.specs.Laws.{ReadsTheSpelling, SpellingsAreApart, RefusesTheRest, SentIsRead, SpellingsAreSized}
 use Rattle.psk_messages.proofs.Fields.{is_size-fields, message_at-fields, IsReadFrom, is_read_from}
 
 pub read_of-fields : (flags : ℕ) (message : Message) → AreFields message → flags / 64 ≡ t_of message →
@@ -66,6 +67,35 @@ refuses_the_rest octets small = (
   λ e w. (let same = sym e ∙ read_if_psk octets w.0 w.1 in cc),
   λ none. either octets (λ w. none (w.0, psk_if_read octets w.0 small w.1)),
 )
+
+one_cause : (fits : Bool) (one : Message) (cause : Cause) →
+    (let answer : Result Message Cause = if fits then Ok one else Err PskShape in answer) ≡ Err cause → cause ≡ PskShape
+one_cause true one cause e = absurd cc
+one_cause false one cause e = cc
+
+refused_for_shape : (octets : List ℕ) (cause : Cause) → read_of octets ≡ Err cause → cause ≡ PskShape
+unfolding read_of
+refused_for_shape [] cause e = cc
+refused_for_shape (flags ∷ octets) cause e = one_cause (is_size (flags / 64) (length octets)) (message_at (flags / 64) octets) cause e
+
+-- a reader's answer: a message that the octets spell
+pub spelled_if_heard : (answer : Result PskView Cause) (octets : List ℕ) → IsOctets octets → heard answer ≡ read_of octets →
+    IfOk answer (λ view. IsPsk (message_of view) octets)
+spelled_if_heard (Ok view) octets small e = psk_if_read octets (message_of view) small (sym e)
+spelled_if_heard (Err cause) octets small e = tt
+
+-- or none, where they spell none
+pub none_if_refused : (answer : Result PskView Cause) (octets : List ℕ) → heard answer ≡ read_of octets →
+    IfErr answer (λ cause. (cause ≡ PskShape) × SpellsNone octets)
+none_if_refused (Ok view) octets e = tt
+none_if_refused (Err cause) octets e = (refused_for_shape octets cause (sym e), λ message p. (let same = e ∙ read_if_psk octets message p in cc))
+
+pub spellings_are_sized : SpellingsAreSized
+unfolding spelled
+spellings_are_sized (psk1 rand_s id_s) = simp length-append (omega arith)
+spellings_are_sized (psk2 rand_s rand_p mac id_p) = simp length-append (omega arith)
+spellings_are_sized (psk3 rand_s mac nonce tag sealed) = simp length-append (omega arith)
+spellings_are_sized (psk4 rand_s nonce tag sealed) = simp length-append (omega arith)
 
 pub sent_is_read : SentIsRead
 unfolding spelled

@@ -1,8 +1,8 @@
 -- Laws of the grammar of EAP-PSK (RFC 4764 section 5), over its definitions alone.
-use Rattle.std.specs.Prelude.{◌≡◌, ◌↔◌, ℕ, List, Ok, Err}
+use Rattle.std.specs.Prelude.{◌≡◌, ◌↔◌, ℕ, List, length, Ok, Err}
 use Rattle.eap_packet.specs.declared.cause.Cause.TheVariants.{PskShape}
 use Rattle.eap_packet.specs.Packet.{IsOctets}
-use Rattle.psk_messages.specs.Message.{Message, AreFields, IsPsk, spelled}
+use Rattle.psk_messages.specs.Message.{Message, AreFields, IsPsk, spelled, size_of}
 use Rattle.psk_messages.specs.Reading.{read_of}
 
 -- what is read is the message that the octets spell
@@ -17,6 +17,10 @@ SpellingsAreApart = (octets : List ℕ) (one other : Message) → IsPsk one octe
 abbrev pub RefusesTheRest : Type 0
 RefusesTheRest =
     (octets : List ℕ) → IsOctets octets → (read_of octets ≡ Err PskShape) ↔ (¬ ((message : Message) × IsPsk message octets))
+
+-- how many octets are sent
+abbrev pub SpellingsAreSized : Type 0
+SpellingsAreSized = (message : Message) → length (spelled message) ≡ size_of message
 
 -- what is sent is read
 abbrev pub SentIsRead : Type 0

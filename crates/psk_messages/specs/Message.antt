@@ -1,5 +1,5 @@
 -- EAP-PSK messages (RFC 4764 section 5): message values, their octets, their limits.
-use Rattle.std.specs.Prelude.{◌≡◌, ℕ, ◌*◌, ◌/◌, ◌^◌, ◌<◌, ◌≤◌, List, [], ◌∷◌, ◌++◌, length, Result, Ok, Err}
+use Rattle.std.specs.Prelude.{◌≡◌, ℕ, ◌+◌, ◌*◌, ◌/◌, ◌^◌, ◌<◌, ◌≤◌, List, [], ◌∷◌, ◌++◌, length, Result, Ok, Err}
 use Rattle.std.specs.Int.{w32, to_be_bytes}
 use Rattle.eap_packet.specs.declared.cause.Cause.{Cause}
 use Rattle.eap_packet.specs.Packet.{IsOctets}
@@ -64,9 +64,20 @@ pub record IsPsk (message : Message) (octets : List ℕ) : Type 0 where
   pub spelling : octets ≡ flags ∷ fields_of message
   pub fit : IsOctets octets
 
+-- the octets spell no message
+abbrev pub SpellsNone : List ℕ → Type 0
+SpellsNone octets = (message : Message) → ¬ IsPsk message octets
+
 -- the octets of the message that is sent: the six low bits of Flags are 0
 unfoldable pub spelled : Message → List ℕ
 spelled message = 64 * t_of message ∷ fields_of message
+
+-- the octets of the message that is sent, counted: Flags, the Nonce in four, the octet that is sealed
+abbrev pub size_of : Message → ℕ
+size_of (psk1 rand_s id_s) = 1 + length rand_s + length id_s
+size_of (psk2 rand_s rand_p mac id_p) = 1 + length rand_s + length rand_p + length mac + length id_p
+size_of (psk3 rand_s mac nonce tag sealed) = 6 + length rand_s + length mac + length tag
+size_of (psk4 rand_s nonce tag sealed) = 6 + length rand_s + length tag
 
 -- the message that a view shows
 abbrev pub message_of : PskView → Message

@@ -1,6 +1,6 @@
 //! Laws of the messages' grammar (RFC 4764 section 5). Each is the contract of a function that does nothing.
 
-ghost use Rattle.psk_messages.specs.Laws.{ReadsTheSpelling, SpellingsAreApart, RefusesTheRest, SentIsRead};
+ghost use Rattle.psk_messages.specs.Laws.{ReadsTheSpelling, SpellingsAreApart, RefusesTheRest, SentIsRead, SpellingsAreSized};
 
 /// What is read is the message that the octets spell, and that one alone.
 pub fn reads_the_spelling()
@@ -22,4 +22,10 @@ pub fn refuses_the_rest()
 #[tactic(auto, using(crate::proofs::Grammar::sent_is_read))]
 pub fn sent_is_read()
     ensures { SentIsRead }
+{}
+
+/// How many octets a message that is sent has.
+#[tactic(auto, using(crate::proofs::Grammar::spellings_are_sized))]
+pub fn spellings_are_sized()
+    ensures { SpellingsAreSized }
 {}

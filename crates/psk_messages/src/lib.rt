@@ -6,7 +6,9 @@ mod reading;
 mod view;
 mod writing;
 
-pub use laws::{reads_the_spelling, refuses_the_rest, sent_is_read, spellings_are_apart};
+pub use laws::{
+    reads_the_spelling, refuses_the_rest, sent_is_read, spellings_are_apart, spellings_are_sized,
+};
 pub use reading::read_psk;
 pub use view::PskView;
-pub use writing::write_psk;
+pub use writing::{write_psk, write_psk_into};

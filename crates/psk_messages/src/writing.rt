@@ -3,23 +3,20 @@
 ghost use Rattle.std.specs.Prelude.{◌≡◌, ◌+◌, ◌*◌, ◌≤◌, ◌++◌, length, IsTrue};
 ghost use Rattle.eap_packet.specs.Packet.{value_with, has_type};
 ghost use Rattle.eap_packet.specs.Packet as packets;
-ghost use Rattle.psk_messages.specs.Message.{message_of, t_of, channel, fields_of, identity_of, spelled};
+ghost use Rattle.psk_messages.specs.Message.{message_of, t_of, channel, fields_of, identity_of, size_of, spelled};
 
 use crate::view::PskView;
-use eap_base::{Octets, PSK_KIND, Packet};
-use eap_packet::{Code, encode};
-
-/// The Type-Data of a message: at most Flags, 48 octets and an identity.
-type Body = Octets<302>;
+use eap_base::{PSK_KIND, Packet};
+use eap_packet::{Code, begin_into};
 
 /// Appends PCHANNEL, for which there is room.
-fn put_channel(body: &mut Body, nonce: u32, tag: &[u8; 16], sealed: u8)
-    requires { length body.old + 21 ≤ 302 }
-    ensures { body.new ≡ body.old ++ channel nonce tag.now sealed }
+fn put_channel(packet: &mut Packet, nonce: u32, tag: &[u8; 16], sealed: u8)
+    requires { length packet.old + 21 ≤ 1500 }
+    ensures { packet.new ≡ packet.old ++ channel nonce tag.now sealed }
 {
-    body.put(&nonce.to_be_bytes());
-    body.put(tag);
-    body.put(&[sealed]);
+    packet.put(&nonce.to_be_bytes());
+    packet.put(tag);
+    packet.put(&[sealed]);
 }
 
 /// Flags, whose six low bits are 0.
@@ -36,15 +33,15 @@ fn flags_of(view: &PskView) -> u8
 }
 
 /// Appends the fields after Flags, for which there is room.
-fn put_fields(body: &mut Body, view: &PskView)
-    requires room { length body.old ≤ 1 }
+fn put_fields(packet: &mut Packet, view: &PskView)
+    requires room { length packet.old ≤ 6 }
     requires identity { length (identity_of (message_of view.now)) ≤ 253 }
-    ensures { body.new ≡ body.old ++ fields_of (message_of view.now) }
+    ensures { packet.new ≡ packet.old ++ fields_of (message_of view.now) }
 {
     match view {
         PskView::P1 { rand_s, id_s } => {
-            body.put(rand_s);
-            body.put(id_s);
+            packet.put(rand_s);
+            packet.put(id_s);
         }
         PskView::P2 {
             rand_s,
@@ -52,10 +49,10 @@ fn put_fields(body: &mut Body, view: &PskView)
             mac,
             id_p,
         } => {
-            body.put(rand_s);
-            body.put(rand_p);
-            body.put(mac);
-            body.put(id_p);
+            packet.put(rand_s);
+            packet.put(rand_p);
+            packet.put(mac);
+            packet.put(id_p);
         }
         PskView::P3 {
             rand_s,
@@ -64,9 +61,9 @@ fn put_fields(body: &mut Body, view: &PskView)
             tag,
             sealed,
         } => {
-            body.put(rand_s);
-            body.put(mac);
-            put_channel(body, *nonce, tag, *sealed);
+            packet.put(rand_s);
+            packet.put(mac);
+            put_channel(packet, *nonce, tag, *sealed);
         }
         PskView::P4 {
             rand_s,
@@ -74,22 +71,54 @@ fn put_fields(body: &mut Body, view: &PskView)
             tag,
             sealed,
         } => {
-            body.put(rand_s);
-            put_channel(body, *nonce, tag, *sealed);
+            packet.put(rand_s);
+            put_channel(packet, *nonce, tag, *sealed);
         }
     }
 }
 
-/// The Type-Data of the message.
-#[tactic(auto, unfolding(crate::specs::Message::spelled))]
-fn body_of(view: &PskView) -> Body
-    requires { length (identity_of (message_of view.now)) ≤ 253 }
-    ensures { result ≡ spelled (message_of view.now) }
+/// The octets of a field.
+fn count(field: &[u8]) -> usize
+    ensures { result ≡ length field.now }
 {
-    let mut body = Body::new();
-    body.push(flags_of(view));
-    put_fields(&mut body, view);
-    body
+    field.len()
+}
+
+/// The octets of the message's Type-Data.
+fn size_of(view: &PskView) -> usize
+    requires { length (identity_of (message_of view.now)) ≤ 253 }
+    ensures size { result ≡ size_of (message_of view.now) }
+    ensures fits { result ≤ 302 }
+{
+    match view {
+        PskView::P1 { rand_s, id_s } => 1 + count(rand_s) + id_s.len(),
+        PskView::P2 {
+            rand_s,
+            rand_p,
+            mac,
+            id_p,
+        } => 1 + count(rand_s) + count(rand_p) + count(mac) + id_p.len(),
+        PskView::P3 {
+            rand_s,
+            mac,
+            tag,
+            ..
+        } => 6 + count(rand_s) + count(mac) + count(tag),
+        PskView::P4 { rand_s, tag, .. } => 6 + count(rand_s) + count(tag),
+    }
+}
+
+/// Writes the Request or the Response of Type 47 with this Identifier whose Type-Data is the message,
+/// in place of what the packet held; the six low bits of Flags are 0.
+#[tactic(auto, unfolding(crate::specs::Message::spelled), using(crate::proofs::Grammar::spellings_are_sized))]
+pub fn write_psk_into(packet: &mut Packet, view: &PskView, code: Code, id: u8)
+    requires typed { IsTrue (has_type code) }
+    requires identity { length (identity_of (message_of view.now)) ≤ 253 }
+    ensures { packet.new ≡ packets.spelled (value_with code id 47 (spelled (message_of view.now))) }
+{
+    begin_into(packet, code, id, PSK_KIND, size_of(view));
+    packet.put(&[flags_of(view)]);
+    put_fields(packet, view);
 }
 
 /// The Request or the Response of Type 47 with this Identifier whose Type-Data is the message; the
@@ -99,5 +128,7 @@ pub fn write_psk(view: &PskView, code: Code, id: u8) -> Packet
     requires identity { length (identity_of (message_of view.now)) ≤ 253 }
     ensures { result ≡ packets.spelled (value_with code id 47 (spelled (message_of view.now))) }
 {
-    encode(code, id, PSK_KIND, body_of(view).as_slice())
+    let mut packet = Packet::new();
+    write_psk_into(&mut packet, view, code, id);
+    packet
 }

@@ -1,15 +1,17 @@
--- What is read is spelled so, as each octet fits.
-use Rattle.std.proofs.Common.{◌<◌, sym, arith}
+-- The answer by the relation, as each octet fits.
+use Rattle.std.proofs.Common.{◌<◌, List, ℕ, arith}
 use Rattle.std.proofs.lemmas.List.Elements.{All-from_get_or}
-use Rattle.gpsk_messages.specs.Message.{message_of}
-use Rattle.gpsk_messages.proofs.Grammar.{loose_takes}
+use Rattle.gpsk_messages.proofs.Grammar.{spelled_if_heard, refused_if_heard}
 use Rattle.gpsk_messages.proofs.reading.read_gpsk.Goals as goal
 
-pub returns-then-list_size-le-MAX_LIST-clause-spelled : goal.returns-then-list_size-le-MAX_LIST-clause-spelled
-returns-then-list_size-le-MAX_LIST-clause-spelled c =
+pub returns-clause-spelled : goal.returns-clause-spelled
+returns-clause-spelled c =
     let octets = c.args.body.now in
     let small = All-from_get_or (λ b. b < 256) octets 0 (λ i _. omega (arith, c.type_inv.body i)) in
-    record {
-      loosely = loose_takes c.args.ks octets (message_of c.in-Some.view) small (sym c.in-Some.ensures);
-      suites = omega arith;
-    }
+    spelled_if_heard c.args.ks c.read_shape.result octets small c.read_shape.ensures
+
+pub returns-clause-refused : goal.returns-clause-refused
+returns-clause-refused c =
+    let octets = c.args.body.now in
+    let small = All-from_get_or (λ b. b < 256) octets 0 (λ i _. omega (arith, c.type_inv.body i)) in
+    refused_if_heard c.args.ks c.read_shape.result octets small c.read_shape.ensures
