@@ -7,11 +7,11 @@ use Rattle.eap_base.specs.declared.setup.Accepts.TheVariants.{Any, One}
 use Rattle.eap_base.specs.declared.setup.PeerSetup.{PeerSetup}
 use Rattle.eap_base.specs.declared.setup.ServerSetup.{ServerSetup}
 
--- the Type of EAP-PSK (RFC 4764 section 3)
+-- the Type of EAP-PSK (RFC 4764 section 5)
 abbrev pub psk_kind : ℕ
 psk_kind = 47
 
--- the Type of EAP-GPSK (RFC 5433 section 3)
+-- the Type of EAP-GPSK (RFC 5433 section 9.1)
 abbrev pub gpsk_kind : ℕ
 gpsk_kind = 51
 

@@ -20,6 +20,6 @@ suite_numbered number =
     else if number == 2 then Some Hmac
     else None
 
--- CSuite_Sel: vendor 0 in four octets, the specifier in two
+-- CSuite_Sel: vendor 0 in four octets, the specifier in two (section 9.2)
 abbrev pub suite_octets : Suite → List ℕ
 suite_octets suite = 0 ∷ 0 ∷ 0 ∷ 0 ∷ 0 ∷ suite_number suite ∷ []

@@ -11,10 +11,10 @@ pub type Identity = Octets<253>;
 /// A shared key (PSK): at most 64 octets.
 pub type Secret = Octets<64>;
 
-/// The Types of one or two EAP methods, in order of preference.
+/// The Types of at most two EAP methods, in order of preference.
 pub type Kinds = Octets<2>;
 
-/// The specifiers of one or two EAP-GPSK ciphersuites, in order of preference.
+/// The specifiers of at most two EAP-GPSK ciphersuites, in order of preference.
 pub type Suites = Octets<2>;
 
 /// An EAP packet: at most 1,500 octets.

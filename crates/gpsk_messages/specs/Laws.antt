@@ -1,4 +1,4 @@
--- Laws of the messages' grammar (RFC 5433 section 7), over its definitions alone.
+-- Laws of the messages' grammar (RFC 5433 section 9), over its definitions alone.
 use Rattle.std.specs.Prelude.{◌≡◌, ◌↔◌, ◌⊎◌, ℕ, ◌-◌, List, length, take, drop, Option, Ok, Err}
 use Rattle.eap_packet.specs.declared.cause.Cause.{Cause}
 use Rattle.eap_packet.specs.declared.cause.Cause.TheVariants.{GpskShape, ListTooLong}

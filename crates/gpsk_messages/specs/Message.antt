@@ -1,4 +1,4 @@
--- EAP-GPSK messages (RFC 5433 section 7): message values, their spelling, their limits.
+-- EAP-GPSK messages (RFC 5433 section 9): message values, their spelling, their limits.
 use Rattle.std.specs.Prelude.{◌≡◌, ℕ, ◌+◌, ◌*◌, ◌^◌, ◌%◌, ◌<◌, ◌≤◌, ◌⊎◌, List, [], ◌∷◌, ◌++◌, length, Option, Some, None, Result, Ok, Err}
 use Rattle.std.specs.Int.{w32, to_be_bytes}
 use Rattle.eap_base.specs.declared.setup.Suite.{Suite}

@@ -1,4 +1,4 @@
--- Reading Type-Data as an EAP-GPSK message (RFC 5433 section 7), field by field.
+-- Reading Type-Data as an EAP-GPSK message (RFC 5433 section 9), field by field.
 use Rattle.std.specs.Prelude.{ℕ, zero, ◌+◌, ◌*◌, ◌%◌, List, [], ◌∷◌, length, take, drop, Bool, nat_lt, nat_le, ◌==◌, ◌&&◌, ◌||◌, if◌then◌else◌, Option, Some, None, option_map, Result, Ok, Err}
 use Rattle.std.specs.Int.{w32, from_be_bytes}
 use Rattle.eap_base.specs.declared.setup.Suite.{Suite}

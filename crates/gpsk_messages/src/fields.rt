@@ -1,4 +1,4 @@
-//! The kinds of fields (RFC 5433 section 7): each is split off the octets, with those after it.
+//! The kinds of fields (RFC 5433 section 9): each is split off the octets, with those after it.
 
 ghost use Rattle.std.specs.Prelude.{◌≡◌, IfSome, length, option_map};
 ghost use Rattle.gpsk_messages.specs.Reading.{exact_at, sized_at, identity_at, suites_at, suite_at, code_at};

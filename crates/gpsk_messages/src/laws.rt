@@ -1,4 +1,4 @@
-//! Laws of the messages' grammar (RFC 5433 section 7). Each is the contract of a function that does nothing.
+//! Laws of the messages' grammar (RFC 5433 section 9). Each is the contract of a function that does nothing.
 
 ghost use Rattle.gpsk_messages.specs.Laws.{SpellingsAreRead, ReadsTheSpelling, SpellingsAreApart, ShapelessSpellsNothing, LongListsAreTold, SpellingsAreSized, CoveredIsTheMiddle, CoveredTellsTheFields};
 

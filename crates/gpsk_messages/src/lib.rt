@@ -1,4 +1,4 @@
-//! EAP-GPSK messages (RFC 5433 section 7): their grammar, reading and writing.
+//! EAP-GPSK messages (RFC 5433 section 9): their grammar, reading and writing.
 #![tactic(auto)]
 
 mod fields;

@@ -1,4 +1,4 @@
-//! Reading Type-Data as a message (RFC 5433 section 7).
+//! Reading Type-Data as a message (RFC 5433 section 9).
 
 ghost use Rattle.std.specs.Prelude.{◌≡◌, ◌+◌, ◌-◌, ◌≤◌, length, take, drop, option_map, IfOk, IfErr};
 ghost use Rattle.gpsk_messages.specs.Message.{message_of, heard, list_of, IsGpsk};

@@ -2,7 +2,7 @@
 
 use eap_base::Suite;
 
-/// A message of EAP-GPSK (RFC 5433 section 7), borrowed from its Type-Data.
+/// A message of EAP-GPSK (RFC 5433 section 9), borrowed from its Type-Data.
 ///
 /// Identities have at most 253 octets, lists of suites one to 20 entries of six octets.
 #[derive(Clone, Copy)]

@@ -1,4 +1,4 @@
-//! Writing a message as a packet (RFC 5433 section 7).
+//! Writing a message as a packet (RFC 5433 section 9).
 
 ghost use Rattle.std.specs.Prelude.{◌≡◌, ◌+◌, ◌≤◌, ◌++◌, [], ◌∷◌, length, IsTrue};
 ghost use Rattle.eap_base.specs.Suite.{suite_octets};

@@ -22,7 +22,7 @@ suite_or allowed entry otherwise =
     else if is_allowed allowed entry Hmac then Some Hmac
     else otherwise
 
--- the first suite of a CSuite_List (RFC 5433 section 7, entries of six octets) that is allowed
+-- the first suite of a CSuite_List (RFC 5433 section 9.2, entries of six octets) that is allowed
 unfoldable pub picked_suite : List ℕ → List ℕ → Option Suite
 picked_suite allowed (a ∷ b ∷ c ∷ d ∷ e ∷ f ∷ rest) =
     suite_or allowed (a ∷ b ∷ c ∷ d ∷ e ∷ f ∷ []) (picked_suite allowed rest)

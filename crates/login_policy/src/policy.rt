@@ -6,7 +6,7 @@ ghost use Rattle.login_policy.specs.Policy.{nak_of, picked_suite, is_allowed, su
 
 use eap_base::{Kinds, PeerSetup, Suite, Suites, is_among};
 
-/// The octets of an entry of a CSuite_List (RFC 5433 section 7).
+/// The octets of an entry of a CSuite_List (RFC 5433 section 9.2).
 const ENTRY_SIZE: usize = 6;
 
 /// Whether the peer allows the method of this Type.
@@ -29,7 +29,7 @@ pub fn nak_list(setup: &PeerSetup) -> Kinds
     }
 }
 
-/// The first suite of a CSuite_List (RFC 5433 section 7) that is allowed, or None where there is none.
+/// The first suite of a CSuite_List (RFC 5433 section 9.2) that is allowed, or None where there is none.
 /// The list has entries of six octets; octets behind its last whole entry are passed over.
 #[tactic(auto, using(crate::proofs::Entries::picked_here, crate::proofs::Entries::picked_behind, crate::proofs::Entries::picked_from_part))]
 pub fn pick_suite(allowed: &Suites, list: &[u8]) -> Option<Suite>

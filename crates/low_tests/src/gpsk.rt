@@ -22,7 +22,7 @@ fn note_of(body: &[u8], ks: Option<u8>) -> &'static str {
     }
 }
 
-// Type-Data, the size of a MAC in hex, 00 where it isn't known, and the message that it is (RFC 5433 section 7).
+// Type-Data, the size of a MAC in hex, 00 where it isn't known, and the message that it is (RFC 5433 section 9).
 const READ: &str = "\
 07 00 GpskShape
 0500000001 00 fail
@@ -115,7 +115,7 @@ fn code_of(word: &str) -> Code
 }
 
 // The number of a message, the Code and the Identifier of its packet, the octets that this has, the message
-// that is read from it, and the packet (RFC 5433 section 7), where a dash stands for any.
+// that is read from it, and the packet (RFC 5433 section 9), where a dash stands for any.
 const WRITTEN: &str = "\
 0 request 01 57 gpsk-1 01010039330100037372762222222222222222222222222222222222222222222222222222222222222222000c000000000001000\
     000000002

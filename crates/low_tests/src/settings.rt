@@ -119,7 +119,7 @@ fn settings_are_copied(rt: HostRuntime) {
     assert!(rt; is_copied());
 }
 
-// RFC 5433 section 6: the octets of a key of each suite, and how CSuite_Sel spells it.
+// RFC 5433 sections 6 and 9.2: the octets of a key of each suite, and how CSuite_Sel spells it.
 /// Whether the suite has this number and keys of so many octets, and is spelled so.
 fn is_suite(number: u8, ks: usize, octets: [u8; 6]) -> bool {
     match Suite::numbered(number) {
