@@ -14,8 +14,6 @@ use eap_base::{PSK_KIND, Packet, PeerSetup, Secret};
 use eap_packet::Cause;
 use login_policy::peer_allows;
 
-/// The Type of EAP-PSK (RFC 4764 section 3).
-
 /// Begins each object whose method the settings allow, with the key for it, wherever it stood before.
 pub fn begin_peers<M: PeerMethod>(methods: &mut [M], setup: &PeerSetup)
     requires sound { IsSoundPeer setup.now }
