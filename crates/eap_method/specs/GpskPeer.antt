@@ -85,7 +85,7 @@ confirms login id message None =
     replied (over login true) (gpsk_response id (gpsk4_of login)) Done CondSucc
     (sk_record login.cred.psk message ∷ []) (sk_record login.cred.psk (gpsk4_of login) ∷ [])
 
--- GPSK-Fail is answered by itself (section 3)
+-- GPSK-Fail is answered by itself (section 10)
 abbrev pub repeats_fail : Login → ℕ → ℕ → PeerOutcome View
 repeats_fail login id code = replied (over login false) (gpsk_response id (fail code)) MayCont Fail [] []
 

@@ -39,7 +39,7 @@ pub data View : Type 0 where
   refused : ServerSide → List ℕ → View
   over : Login → Bool → View
 
--- Failure-Code: PSK Not Found, Authorization Failure (section 7)
+-- Failure-Code: PSK Not Found, Authorization Failure (section 9.3)
 abbrev pub psk_not_found : ℕ
 psk_not_found = 1
 

@@ -1,4 +1,4 @@
--- The MACs of EAP-GPSK (RFC 5433 section 7): what they cover, and their records.
+-- The MACs of EAP-GPSK (RFC 5433 sections 8.1.2 and 8.2.2): what they cover, and their records.
 use Rattle.std.specs.Prelude.{ℕ, List, [], ◌∷◌, Bool, ◌==◌}
 use Rattle.std.specs.Str.{bytes_eq}
 use Rattle.std.specs.List.{flat_map}

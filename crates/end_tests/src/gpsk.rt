@@ -1,5 +1,5 @@
 //! Logins by EAP-GPSK. Their packets, MSK and EMSK were computed with Python, by hashlib and hmac of its
-//! library and CMAC of the package cryptography, put together as RFC 5433, sections 4, 6 and 7, say.
+//! library and CMAC of the package cryptography, put together as RFC 5433, sections 4, 7, 8 and 9, say.
 
 ghost use Rattle.std.specs.Prelude.{◌≤◌, length};
 
