@@ -1,13 +1,13 @@
 -- What holds of every encryption: it is a block, and its octets are octets where the key's are. The
 -- inverse of an octet is the only one.
-use Rattle.std.proofs.Common.{◌≡◌, ℕ, zero, suc, ◌+◌, ◌-◌, ◌*◌, ◌/◌, ◌%◌, ◌<◌, eqb, true, cond, nat_lt, List, [], ◌∷◌, ◌++◌, length, refl, sym, ◌∙◌, All, map, bit_xor, slice_index, lit<, inl, inr}
+use Rattle.std.proofs.Common.{◌≡◌, ℕ, zero, suc, ◌+◌, ◌-◌, ◌*◌, ◌/◌, ◌%◌, ◌<◌, eqb, true, cond, ◌&&◌, nat_lt, List, [], ◌∷◌, ◌++◌, length, refl, sym, ◌∙◌, All, map, bit_xor, slice_index, lit<, inl, inr, arith}
 use Rattle.std.proofs.lemmas.Nat.{xor_lt}
-use Rattle.std.proofs.lemmas.Bool.{cases_lt, ltb-true, eq-eqb, cond-true, cond_both}
+use Rattle.std.proofs.lemmas.Bool.{cases_lt, ltb-true, eq-eqb, eqb-true, ne_eqb, and_parts, cond-true, cond-false, cond_both}
 use Rattle.std.proofs.lemmas.List.{get_or_past}
 use Rattle.std.proofs.lemmas.Grind.{get_or_default_zero}
 use Rattle.aes_block.proofs.Octets.{same_at}
 use Rattle.aes_block.proofs.Sbox.{sub_byte-lt}
-use Rattle.aes_block.specs.Field.{times, octets, inverse, sub_byte}
+use Rattle.aes_block.specs.Field.{times, octets, inverse, sub_byte, InversesStandAlone}
 use Rattle.aes_block.specs.KeySchedule.{KeyWords, word_of, key_words, change_at, power_of_x, round_constant, xor_words, sub_word, rot_word, round_key}
 use Rattle.aes_block.specs.Cipher.{sub_bytes, shift_rows, entry, add_round_key, rounds, aes128}
 
@@ -30,6 +30,21 @@ inverse_only b c hb hc h =
     let at_c : cond (eqb (times b c) 1) c (inverse b) ≡ inverse b =
     same_at (λ d. cond (eqb (times b d) 1) d (inverse b)) (λ _. inverse b) c at_b hc in
     sym (cond-true (eqb (times b c) 1) c (inverse b) (eq-eqb (times b c) 1 h)) ∙ at_c
+
+inverse_test : map (λ b. cond (eqb b 0) true (nat_lt (inverse b) 256 && eqb (times b (inverse b)) 1)) octets ≡ map (λ _. true) octets
+unfolding times inverse
+inverse_test = refl
+
+pub inverses_stand_alone : InversesStandAlone
+inverses_stand_alone b some fits =
+    let tested : cond (eqb b 0) true (nat_lt (inverse b) 256 && eqb (times b (inverse b)) 1) ≡ true =
+    same_at (λ x. cond (eqb x 0) true (nat_lt (inverse x) 256 && eqb (times x (inverse x)) 1)) (λ _. true) b inverse_test fits in
+    let both = and_parts (nat_lt (inverse b) 256) (eqb (times b (inverse b)) 1) (sym (cond-false (eqb b 0) _ _ (ne_eqb b 0 (omega arith))) ∙ tested) in
+    record {
+      octet = ltb-true (inverse b) 256 both.0;
+      product = eqb-true (times b (inverse b)) 1 both.1;
+      alone = λ other small one. inverse_only b other fits small one;
+    }
 
 -- ---- octets
 

@@ -1,6 +1,6 @@
 -- The field of 256 elements (FIPS 197, section 4). An octet is the polynomial whose coefficients are
 -- its bits, taken modulo x^8 + x^4 + x^3 + x + 1. The sum of two elements is `bit_xor`.
-use Rattle.std.specs.Prelude.{ℕ, zero, suc, ◌+◌, ◌*◌, ◌/◌, ◌%◌, ◌^◌, ◌==◌, nat_lt, if◌then◌else◌, List, find, unwrap_or, sum_by, bit_xor}
+use Rattle.std.specs.Prelude.{◌≡◌, ◌<◌, ℕ, zero, suc, ◌+◌, ◌*◌, ◌/◌, ◌%◌, ◌^◌, ◌==◌, nat_lt, if◌then◌else◌, List, find, unwrap_or, sum_by, bit_xor}
 use Rattle.std.specs.Int.{bit_at}
 use Rattle.std.specs.List.{range_with_len}
 
@@ -24,6 +24,16 @@ octets = range_with_len 0 256
 -- the inverse of an octet: the one octet c with b times c equal to 1, and 0 for b = 0 (4.4)
 unfoldable pub inverse : ℕ → ℕ
 inverse b = unwrap_or (find (λ c. times b c == 1) octets) 0
+
+-- the octet c is the one inverse of b
+pub record IsTheInverse (b c : ℕ) : Type 0 where
+  pub octet : c < 256
+  pub product : times b c ≡ 1
+  pub alone : (other : ℕ) → other < 256 → times b other ≡ 1 → other ≡ c
+
+-- every octet but 0 has one inverse, and it is this
+abbrev pub InversesStandAlone : Type 0
+InversesStandAlone = (b : ℕ) → 0 < b → b < 256 → IsTheInverse b (inverse b)
 
 -- bit i of the affine map's answer (5.1.1)
 abbrev pub affine_bit : ℕ → ℕ → ℕ

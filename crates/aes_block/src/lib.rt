@@ -12,6 +12,7 @@ use std::marker::Model;
 use std::simd::prelude::*;
 
 mod by_tables;
+mod inverses;
 mod key_schedule;
 mod lanes;
 mod rounds;
@@ -19,6 +20,7 @@ mod tables;
 mod word_schedule;
 
 pub use by_tables::TableAes128;
+pub use inverses::inverses_stand_alone;
 
 /// A key of 16 octets, expanded into its eleven round keys (FIPS 197, section 5.2).
 ///
