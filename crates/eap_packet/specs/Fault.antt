@@ -22,7 +22,7 @@ is_short octets = nat_lt (length octets) 4
 abbrev pub has_bad_code : List ℕ → Bool
 has_bad_code octets = (code_of octets == 0) || nat_lt 4 (code_of octets)
 
--- a Request or a Response has a Type, a Success or a Failure nothing past Length
+-- a Request or a Response has a Type, a Success or a Failure no field after Length
 abbrev pub has_bad_length : List ℕ → Bool
 has_bad_length octets =
     if nat_le (code_of octets) 2 then nat_lt (length_of octets) 5 else not (length_of octets == 4)

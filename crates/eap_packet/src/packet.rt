@@ -5,6 +5,7 @@ ghost use Rattle.eap_packet.specs.Packet.{spelled, value_of, value_with, has_typ
 ghost use Rattle.eap_packet.specs.Fault.{fault, fields_of, code_of, length_of, type_of, packet_of};
 
 use crate::cause::Cause;
+use byteorder::{BigEndian, ByteOrder};
 use eap_base::Packet;
 
 /// The Code field: what kind of packet it is.
@@ -41,7 +42,7 @@ fn length_field(octets: &[u8]) -> usize
     requires { 4 ≤ length octets.now }
     ensures { result ≡ length_of octets.now }
 {
-    256 * usize::from(octets[2]) + usize::from(octets[3])
+    usize::from(BigEndian::read_u16(&octets[2..]))
 }
 
 /// The first cause, in the order of `Cause`, for which the octets begin with no packet.
@@ -155,7 +156,9 @@ fn header(code: Code, id: u8, length: usize) -> [u8; 4]
     requires { length ≤ 1500 }
     ensures { result ≡ number_of code ∷ id ∷ two_octets length }
 {
-    [code as u8, id, (length / 256) as u8, (length % 256) as u8]
+    let mut header = [code as u8, id, 0, 0];
+    BigEndian::write_u16(&mut header[2..], length as u16);
+    header
 }
 
 /// Writes the fields before the Type-Data of a Request or a Response of this Type (RFC 3748 section
