@@ -3,6 +3,7 @@
 ghost use Rattle.std.specs.Prelude.{◌≡◌, IfSome, length, option_map};
 ghost use Rattle.gpsk_messages.specs.Reading.{exact_at, sized_at, identity_at, suites_at, suite_at, code_at};
 
+use byteorder::{BigEndian, ByteOrder};
 use eap_base::{Suite, array_of};
 
 /// The most octets of an identity.
@@ -30,7 +31,7 @@ pub(crate) fn sized_field<'a>(octets: &'a [u8]) -> Option<(&'a [u8], &'a [u8])>
     ensures { option_map (λ x. (x.0.now, x.1.now)) result ≡ sized_at octets.now }
 {
     match octets {
-        [high, low, rest @ ..] => exact_field(256 * usize::from(*high) + usize::from(*low), rest),
+        [_, _, rest @ ..] => exact_field(usize::from(BigEndian::read_u16(octets)), rest),
         _ => None,
     }
 }
@@ -87,6 +88,5 @@ pub(crate) fn code_field<'a>(octets: &'a [u8]) -> Option<(u32, &'a [u8])>
     ensures { option_map (λ x. (x.0, x.1.now)) result ≡ code_at octets.now }
 {
     let (front, rest) = exact_field(4, octets)?;
-    let code = u32::from_be_bytes([front[0], front[1], front[2], front[3]]);
-    Some((code, rest))
+    Some((BigEndian::read_u32(front), rest))
 }

@@ -1,12 +1,14 @@
 //! Writing a message as a packet (RFC 5433 section 9).
 
 ghost use Rattle.std.specs.Prelude.{◌≡◌, ◌+◌, ◌≤◌, ◌++◌, [], ◌∷◌, length, IsTrue};
+ghost use Rattle.std.specs.Int.{w32, to_be_bytes};
 ghost use Rattle.eap_base.specs.Suite.{suite_octets};
 ghost use Rattle.eap_packet.specs.Packet.{value_with, has_type};
 ghost use Rattle.eap_packet.specs.Packet as packets;
 ghost use Rattle.gpsk_messages.specs.Message.{message_of, op_code, spelled, sized, size_of};
 
 use crate::view::GpskView;
+use byteorder::{BigEndian, ByteOrder};
 use eap_base::{GPSK_KIND, Packet, Suite};
 use eap_packet::{Code, begin_into};
 
@@ -15,9 +17,20 @@ fn put_sized(packet: &mut Packet, field: &[u8])
     requires { length packet.old + 2 + length field.now ≤ 1500 }
     ensures { packet.new ≡ packet.old ++ sized field.now }
 {
-    let size = field.len();
-    packet.put(&[(size / 256) as u8, (size % 256) as u8]);
+    let mut size = [0; 2];
+    BigEndian::write_u16(&mut size, field.len() as u16);
+    packet.put(&size);
     packet.put(field);
+}
+
+/// Appends a Failure-Code, for which there is room.
+fn put_code(packet: &mut Packet, code: u32)
+    requires { length packet.old + 4 ≤ 1500 }
+    ensures { packet.new ≡ packet.old ++ to_be_bytes w32 code }
+{
+    let mut octets = [0; 4];
+    BigEndian::write_u32(&mut octets, code);
+    packet.put(&octets);
 }
 
 /// Appends a nonce, for which there is room.
@@ -172,9 +185,9 @@ fn put_message(packet: &mut Packet, view: &GpskView)
             put_sized(packet, pd);
             packet.put(mac);
         }
-        GpskView::Fail { code } => packet.put(&code.to_be_bytes()),
+        GpskView::Fail { code } => put_code(packet, code),
         GpskView::ProtectedFail { code, mac } => {
-            packet.put(&code.to_be_bytes());
+            put_code(packet, code);
             packet.put(mac);
         }
     }

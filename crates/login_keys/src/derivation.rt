@@ -6,7 +6,17 @@ ghost use Rattle.eap_base.specs.Suite.{ks_of};
 ghost use Rattle.login_keys.specs.Gkdf as spec;
 
 use crate::mac_key::MacKey;
+use byteorder::{BigEndian, ByteOrder};
 use eap_base::{Octets, Suite};
+
+/// A number in two octets.
+pub fn two_octets(number: u16) -> [u8; 2]
+    ensures { result ≡ spec.two_octets number }
+{
+    let mut octets = [0; 2];
+    BigEndian::write_u16(&mut octets, number);
+    octets
+}
 
 /// GKDF-X (Y, Z) of at most 160 octets (RFC 5433, section 7). X is `size`, Y is `key`, of KS octets,
 /// and the pieces joined are Z.
@@ -20,9 +30,9 @@ pub fn gkdf(suite: Suite, size: usize, key: &[u8], pieces: &[&[u8]]) -> Octets<1
     let mac = MacKey::new(suite, key);
     let mut out = Octets::new();
     'numbers: for done in 0..size.div_ceil(suite.ks()) {
-        let number = done as u16 + 1;
-        let block = mac.tag(&number.to_be_bytes(), pieces);
-        out.append(block.as_slice());
+        let number = two_octets(done as u16 + 1);
+        let block = mac.tag(&number, pieces);
+        out.put(block.as_slice());
     }
     out.truncate(size);
     out

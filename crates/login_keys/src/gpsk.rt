@@ -6,7 +6,7 @@ ghost use Rattle.login_keys.specs.Gkdf.{gpsk_tag_of};
 ghost use Rattle.login_keys.specs.Gpsk.{gpsk_keys_of, input_string, keys_from, pk_size};
 ghost use Rattle.login_keys.specs.Gpsk as spec;
 
-use crate::derivation::gkdf;
+use crate::derivation::{gkdf, two_octets};
 use cmac_mac::cmac_whole;
 use eap_base::{Octets, Suite, array_of};
 use hmac_mac::hmac_whole;
@@ -88,7 +88,7 @@ fn master_key<'a>(
     ensures size { length result ≡ ks_of suite }
 {
     let ks = suite.ks();
-    let psk_len = (psk.len() as u16).to_be_bytes();
+    let psk_len = two_octets(psk.len() as u16);
     let selected = suite.octets();
     let mk = gkdf(
         suite,

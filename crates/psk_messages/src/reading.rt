@@ -6,6 +6,7 @@ ghost use Rattle.psk_messages.specs.Message.{AreFields, IsPsk, SpellsNone, heard
 ghost use Rattle.psk_messages.specs.Reading.{front, behind, is_size, message_at, nonce_at, tag_at, sealed_at, psk1_at, psk2_at, psk3_at, psk4_at, read_of};
 
 use crate::view::PskView;
+use byteorder::{BigEndian, ByteOrder};
 use eap_base::array_of;
 use eap_packet::Cause;
 
@@ -41,7 +42,7 @@ fn nonce_field(octets: &[u8]) -> u32
     requires { 4 ≤ length octets.now }
     ensures { result ≡ nonce_at octets.now }
 {
-    u32::from_be_bytes([octets[0], octets[1], octets[2], octets[3]])
+    BigEndian::read_u32(octets)
 }
 
 /// The parts of PCHANNEL.

@@ -6,6 +6,7 @@ ghost use Rattle.eap_packet.specs.Packet as packets;
 ghost use Rattle.psk_messages.specs.Message.{message_of, t_of, channel, fields_of, identity_of, size_of, spelled};
 
 use crate::view::PskView;
+use byteorder::{BigEndian, ByteOrder};
 use eap_base::{PSK_KIND, Packet};
 use eap_packet::{Code, begin_into};
 
@@ -14,7 +15,9 @@ fn put_channel(packet: &mut Packet, nonce: u32, tag: &[u8; 16], sealed: u8)
     requires { length packet.old + 21 ≤ 1500 }
     ensures { packet.new ≡ packet.old ++ channel nonce tag.now sealed }
 {
-    packet.put(&nonce.to_be_bytes());
+    let mut number = [0; 4];
+    BigEndian::write_u32(&mut number, nonce);
+    packet.put(&number);
     packet.put(tag);
     packet.put(&[sealed]);
 }

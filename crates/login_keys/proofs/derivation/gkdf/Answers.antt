@@ -6,7 +6,7 @@ use Rattle.eap_base.specs.Suite.{ks_of}
 use Rattle.login_keys.specs.Gkdf.{gkdf, gkdf_block, gkdf_blocks, gpsk_tag_of}
 use Rattle.login_keys.proofs.Blocks.{joined_none, joined_push, before_last, after_last, ks-le}
 use Rattle.cmac_mac.proofs.Pieces.{joined}
-use Rattle.login_keys.proofs.Laws.{length-gpsk_tag_of}
+use Rattle.login_keys.proofs.Laws.{length_gpsk_tag_of}
 use Rattle.login_keys.proofs.derivation.gkdf.Goals as goal
 
 pub numbers-init : goal.numbers-init
@@ -23,9 +23,9 @@ numbers-preserved c =
     let whole : length c.numbers.out ≡ c.numbers.done * ks_of c.args.suite = c.numbers.invariant.whole in
     let mac = c.tag-block.ensures c.args.suite c.args.key.now c.new-mac.ensures in
     let same : c.as_slice.result.now ≡ f (1 + c.numbers.done) =
-    c.as_slice.ensures.same ∙ mac ∙ ap (λ counter. gpsk_tag_of c.args.suite c.args.key.now (counter ++ z)) c.to_be_bytes.ensures ∙ ap f (omega arith) in
-    let size : length c.as_slice.result.now ≡ ks_of c.args.suite = ap length same ∙ length-gpsk_tag_of c.args.suite c.args.key.now _ in
-    joined_push f 1 _ _ _ _ _ c.numbers.invariant same size (c.append.ensures.appended (omega arith))
+    c.as_slice.ensures.same ∙ mac ∙ ap (λ counter. gpsk_tag_of c.args.suite c.args.key.now (counter ++ z)) c.two_octets-number.ensures ∙ ap f (omega arith) in
+    let size : length c.as_slice.result.now ≡ ks_of c.args.suite = ap length same ∙ length_gpsk_tag_of c.args.suite c.args.key.now _ in
+    joined_push f 1 _ _ _ _ _ c.numbers.invariant same size c.put.ensures
 
 pub returns-clause-derived : goal.returns-clause-derived
 unfolding gkdf gkdf_blocks

@@ -11,5 +11,5 @@ returns-clause-key c =
     let z : List ℕ = two_octets (length c.args.psk.now) ++ (c.args.psk.now ++ (suite_octets c.args.suite ++ input)) in
     c.of.ensures
     ∙ c.as_slice.ensures.same
-    ∙ c.gkdf-mk.ensures.derived z (rw (c.to_be_bytes-psk_len.ensures, c.octets-selected.ensures, append-nil) refl)
+    ∙ c.gkdf-mk.ensures.derived z (rw (c.two_octets-psk_len.ensures, c.octets-selected.ensures, append-nil) refl)
     ∙ ap (λ (k : ℕ). gkdf c.args.suite k (take k c.args.psk.now) z) c.ks-ks.ensures
