@@ -6,12 +6,12 @@ use Rattle.aes_block.specs.Cipher.{mixed}
 use Rattle.aes_block.specs.Turned.{look, turned, plain, first_sum, second_sum, first_place, second_place, looked, once, twice, plain_box, of_kept, of_last}
 use Rattle.aes_block.specs.declared.tables.TheConstants.{S_BOX}
 use Rattle.aes_block.proofs.Octets.{same_at}
-use Rattle.aes_block.proofs.Sbox.{get_or-S_BOX, times_three, sub_byte-lt}
-use Rattle.aes_block.proofs.Xor.{xor_pairs, xor_twice, xor_ends, by_bits-xor}
+use Rattle.aes_block.proofs.Sbox.{get_or_S_BOX, times_three, sub_byte_lt}
+use Rattle.aes_block.proofs.Xor.{xor_pairs, xor_twice, xor_ends, by_bits_xor}
 
 pub plain-xor : (a b : ℕ) → plain (bit_xor a b) ≡ bit_xor (plain a) (plain b)
 unfolding plain
-plain-xor a b = by_bits-xor (0x60 ∷ 0xb6 ∷ 0x29 ∷ 0x08 ∷ 0xec ∷ 0xbc ∷ 0x51 ∷ 0xe0 ∷ []) a b
+plain-xor a b = by_bits_xor (0x60 ∷ 0xb6 ∷ 0x29 ∷ 0x08 ∷ 0xec ∷ 0xbc ∷ 0x51 ∷ 0xe0 ∷ []) a b
 
 plain_turned_test : map (λ b. plain (turned b)) octets ≡ map (λ b. b) octets
 unfolding plain turned look
@@ -36,7 +36,7 @@ once_test = refl
 pub plain_once : (b : ℕ) → b < 256 → plain (once b) ≡ bit_xor (sub_byte (plain b)) 0x63
 plain_once b h =
     same_at (λ b. plain (once b)) (λ b. bit_xor (get_or S_BOX (plain b) 0) 0x63) b once_test h
-    ∙ ap (λ s. bit_xor s 0x63) (get_or-S_BOX (plain b) (plain-lt b h))
+    ∙ ap (λ s. bit_xor s 0x63) (get_or_S_BOX (plain b) (plain-lt b h))
 
 twice_test : map (λ b. plain (twice b)) octets ≡ map (λ b. bit_xor (times 2 (get_or S_BOX (plain b) 0)) 0xc6) octets
 unfolding plain twice looked first_place second_place first_sum second_sum look times
@@ -46,7 +46,7 @@ twice_test = refl
 pub plain_twice : (b : ℕ) → b < 256 → plain (twice b) ≡ bit_xor (times 2 (sub_byte (plain b))) 0xc6
 plain_twice b h =
     same_at (λ b. plain (twice b)) (λ b. bit_xor (times 2 (get_or S_BOX (plain b) 0)) 0xc6) b twice_test h
-    ∙ ap (λ s. bit_xor (times 2 s) 0xc6) (get_or-S_BOX (plain b) (plain-lt b h))
+    ∙ ap (λ s. bit_xor (times 2 s) 0xc6) (get_or_S_BOX (plain b) (plain-lt b h))
 
 plain_box_test : map plain_box octets ≡ map (λ b. bit_xor (get_or S_BOX (plain b) 0) 0x63) octets
 unfolding plain plain_box looked first_place second_place first_sum second_sum look
@@ -56,7 +56,7 @@ plain_box_test = refl
 pub plain_box_is : (b : ℕ) → b < 256 → plain_box b ≡ bit_xor (sub_byte (plain b)) 0x63
 plain_box_is b h =
     same_at plain_box (λ b. bit_xor (get_or S_BOX (plain b) 0) 0x63) b plain_box_test h
-    ∙ ap (λ s. bit_xor s 0x63) (get_or-S_BOX (plain b) (plain-lt b h))
+    ∙ ap (λ s. bit_xor s 0x63) (get_or_S_BOX (plain b) (plain-lt b h))
 
 -- ---- a round
 
@@ -91,7 +91,7 @@ mixed_octet a b c d k ha hb hc hd =
       plain_once d hd,
       plain_twice b hb,
       plain_once c hc,
-      sym (times_three (sub_byte (plain b)) (sub_byte-lt (plain b))),
+      sym (times_three (sub_byte (plain b)) (sub_byte_lt (plain b))),
     )
     (constants_meet (times 2 (sub_byte (plain a))) (sub_byte (plain b)) (sub_byte (plain d)) (times 2 (sub_byte (plain b))) (sub_byte (plain c)) (plain k))
 

@@ -3,7 +3,7 @@ use Rattle.std.proofs.Common.{◌≡◌, ℕ, ◌+◌, ◌*◌, List, [], ◌∷
 use Rattle.aes_block.specs.KeySchedule.{change_at, xor_words, sub_word, joined, round_key}
 use Rattle.aes_block.specs.Cipher.{sub_bytes, shift_rows, mix_columns, mixed_column, add_round_key, full_round_of, last_round_of}
 use Rattle.aes_block.specs.Words.{octets_of, state_of_words, diagonal}
-use Rattle.aes_block.proofs.WordTables.{octets_of-xor}
+use Rattle.aes_block.proofs.WordTables.{octets_of_xor}
 use Rattle.aes_block.proofs.Schedule.{next_key}
 
 -- a state whose columns have these octets
@@ -26,8 +26,8 @@ module _ (state key : List ℕ) where
   pub words_added : state_of_words (sum_at 0 ∷ sum_at 1 ∷ sum_at 2 ∷ sum_at 3 ∷ []) ≡ add_round_key (state_of_words state) (state_of_words key)
   unfolding add_round_key
   words_added =
-      from_columns (sum_at 0) (sum_at 1) (sum_at 2) (sum_at 3) _ _ _ _ (octets_of-xor (column 0) (key_column 0)) (octets_of-xor (column 1) (key_column 1))
-      (octets_of-xor (column 2) (key_column 2)) (octets_of-xor (column 3) (key_column 3))
+      from_columns (sum_at 0) (sum_at 1) (sum_at 2) (sum_at 3) _ _ _ _ (octets_of_xor (column 0) (key_column 0)) (octets_of_xor (column 1) (key_column 1))
+      (octets_of_xor (column 2) (key_column 2)) (octets_of_xor (column 3) (key_column 3))
 
   abbrev full_octets : ℕ → ℕ → ℕ → ℕ → List ℕ
   full_octets a b c d = xor_words (mixed_column (sub_word (diagonal (column a) (column b) (column c) (column d)))) (octets_of (key_column a))
@@ -58,5 +58,5 @@ next_words_are key change round ec initial ek =
     let third : ℕ = bit_xor (slice_index key 2) second in
     let fourth : ℕ = bit_xor (slice_index key 3) third in
     next_key initial (state_of_words key) (octets_of change) (octets_of first) (octets_of second) (octets_of third) (octets_of fourth) round ek ec
-    (octets_of-xor (slice_index key 0) change) (octets_of-xor (slice_index key 1) first)
-    (octets_of-xor (slice_index key 2) second) (octets_of-xor (slice_index key 3) third)
+    (octets_of_xor (slice_index key 0) change) (octets_of_xor (slice_index key 1) first)
+    (octets_of_xor (slice_index key 2) second) (octets_of_xor (slice_index key 3) third)

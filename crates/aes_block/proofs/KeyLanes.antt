@@ -12,7 +12,7 @@ use Rattle.aes_block.proofs.Sixteen.{spread, lane_fits}
 use Rattle.aes_block.proofs.Basis.{kept_octet, substituted, turned-lt}
 use Rattle.aes_block.proofs.Xor.{xor_twice}
 use Rattle.aes_block.proofs.Lanewise.{state_of_same}
-use Rattle.aes_block.proofs.Schedule.{get_or-ROUND_CONSTANTS, change_at_first, next_key}
+use Rattle.aes_block.proofs.Schedule.{get_or_ROUND_CONSTANTS, change_at_first, next_key}
 
 -- a key with the constant of the affine map added
 with_constant : (key : List ℕ) → length key ≡ 16 → zip2 bit_xor key (replicate 16 0x63) ≡ all (λ b. bit_xor b 0x63) key
@@ -55,7 +55,7 @@ change_is round key w s f h ew es ef =
     let last : List ℕ = word_of (λ i. entry key i 3) in
     let constants : List ℕ = each_column (λ i. if i == 0 then get_or ROUND_CONSTANTS round 0 else 0) in
     ap (λ v. zip2 bit_xor v f) (es ∙ ap (all sub_byte) ew) ∙ ap (zip2 bit_xor (each_column (λ i. sub_byte (entry key ((i + 1) % 4) 3)))) ef
-    ∙ rw (get_or-ROUND_CONSTANTS round h, change_at_first round last) (simp xor_zero_r refl)
+    ∙ rw (get_or_ROUND_CONSTANTS round h, change_at_first round last) (simp xor_zero_r refl)
 
 -- the words that follow, from the sums of the columns
 sums_are_words : (key t : List ℕ)

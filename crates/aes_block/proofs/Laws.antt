@@ -6,7 +6,7 @@ use Rattle.std.proofs.lemmas.Bool.{cases_lt, ltb-true, eq-eqb, eqb-true, ne_eqb,
 use Rattle.std.proofs.lemmas.List.{get_or_past}
 use Rattle.std.proofs.lemmas.Grind.{get_or_default_zero}
 use Rattle.aes_block.proofs.Octets.{same_at}
-use Rattle.aes_block.proofs.Sbox.{sub_byte-lt}
+use Rattle.aes_block.proofs.Sbox.{sub_byte_lt}
 use Rattle.aes_block.specs.Field.{times, octets, inverse, sub_byte, InversesStandAlone}
 use Rattle.aes_block.specs.KeySchedule.{KeyWords, word_of, key_words, change_at, power_of_x, round_constant, xor_words, sub_word, rot_word, round_key}
 use Rattle.aes_block.specs.Cipher.{sub_bytes, shift_rows, entry, add_round_key, rounds, aes128}
@@ -56,10 +56,10 @@ double_test : map (λ b. nat_lt (times 2 b) 256) octets ≡ map (λ _. true) oct
 unfolding times
 double_test = refl
 
-power_of_x-lt : (n : ℕ) → power_of_x n < 256
+power_of_x_lt : (n : ℕ) → power_of_x n < 256
 unfolding power_of_x
-power_of_x-lt zero = lit< tt
-power_of_x-lt (suc n) = ltb-true (times 2 (power_of_x n)) 256 (same_at (λ b. nat_lt (times 2 b) 256) (λ _. true) (power_of_x n) double_test (power_of_x-lt n))
+power_of_x_lt zero = lit< tt
+power_of_x_lt (suc n) = ltb-true (times 2 (power_of_x n)) 256 (same_at (λ b. nat_lt (times 2 b) 256) (λ _. true) (power_of_x n) double_test (power_of_x_lt n))
 
 octet_at : (xs : List ℕ) (i : ℕ) → AreOctets xs → slice_index xs i < 256
 unfolding AreOctets
@@ -94,7 +94,7 @@ xor_words_octets v w hv hw =
 
 round_constant_octets : (j : ℕ) → AreOctets (round_constant j)
 unfolding AreOctets
-round_constant_octets j zero = power_of_x-lt (j - 1)
+round_constant_octets j zero = power_of_x_lt (j - 1)
 round_constant_octets j (suc zero) = lit< tt
 round_constant_octets j (suc (suc zero)) = lit< tt
 round_constant_octets j (suc (suc (suc zero))) = lit< tt
@@ -104,7 +104,7 @@ change_at_octets : (i : ℕ) (w : List ℕ) → AreOctets w → AreOctets (chang
 unfolding change_at
 change_at_octets i w h =
     let octet : ℕ → ℕ = λ j. slice_index (rot_word w) j in
-    let substituted : AreOctets (sub_word (rot_word w)) = word_octets (λ j. sub_byte (octet j)) (λ j _. sub_byte-lt (octet j)) in
+    let substituted : AreOctets (sub_word (rot_word w)) = word_octets (λ j. sub_byte (octet j)) (λ j _. sub_byte_lt (octet j)) in
     cond_both (eqb (i % 4) 0) (xor_words (sub_word (rot_word w)) (round_constant (i / 4))) w AreOctets
     (λ _. xor_words_octets (sub_word (rot_word w)) (round_constant (i / 4)) substituted (round_constant_octets (i / 4)))
     (λ _. h)
@@ -147,7 +147,7 @@ sub_bytes_octets : (s : List ℕ) → AreOctets (sub_bytes s)
 unfolding sub_bytes
 sub_bytes_octets s =
     joined_octets (λ i. sub_byte (entry s i 0)) (λ i. sub_byte (entry s i 1)) (λ i. sub_byte (entry s i 2)) (λ i. sub_byte (entry s i 3))
-    (λ i _. sub_byte-lt (entry s i 0)) (λ i _. sub_byte-lt (entry s i 1)) (λ i _. sub_byte-lt (entry s i 2)) (λ i _. sub_byte-lt (entry s i 3))
+    (λ i _. sub_byte_lt (entry s i 0)) (λ i _. sub_byte_lt (entry s i 1)) (λ i _. sub_byte_lt (entry s i 2)) (λ i _. sub_byte_lt (entry s i 3))
 
 shift_rows_octets : (s : List ℕ) → AreOctets s → AreOctets (shift_rows s)
 unfolding shift_rows

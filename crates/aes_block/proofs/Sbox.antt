@@ -10,8 +10,8 @@ s_box_test : map sub_byte octets ≡ S_BOX
 unfolding sub_byte inverse affine times
 s_box_test = refl
 
-pub get_or-S_BOX : (b : ℕ) → b < 256 → get_or S_BOX b 0 ≡ sub_byte b
-get_or-S_BOX b h = ap (λ t. get_or t b 0) (sym s_box_test) ∙ get_or-map-range_with_len sub_byte 0 256 b b 0 h (omega arith)
+pub get_or_S_BOX : (b : ℕ) → b < 256 → get_or S_BOX b 0 ≡ sub_byte b
+get_or_S_BOX b h = ap (λ t. get_or t b 0) (sym s_box_test) ∙ get_or-map-range_with_len sub_byte 0 256 b b 0 h (omega arith)
 
 -- a product with x + 1
 tripled_test : map (λ b. bit_xor (times 2 b) b) octets ≡ map (times 3) octets
@@ -23,21 +23,21 @@ times_three b h = same_at (λ b. bit_xor (times 2 b) b) (times 3) b tripled_test
 
 -- ---- its entries are octets
 
-affine_bit-lt : (b i : ℕ) → affine_bit b i < 2
-affine_bit-lt b i = omega arith
+affine_bit_lt : (b i : ℕ) → affine_bit b i < 2
+affine_bit_lt b i = omega arith
 
-pub sub_byte-lt : (b : ℕ) → sub_byte b < 256
+pub sub_byte_lt : (b : ℕ) → sub_byte b < 256
 unfolding sub_byte affine
-sub_byte-lt b =
+sub_byte_lt b =
     let x : ℕ = inverse b in
     omega (
       arith,
-      affine_bit-lt x 0,
-      affine_bit-lt x 1,
-      affine_bit-lt x 2,
-      affine_bit-lt x 3,
-      affine_bit-lt x 4,
-      affine_bit-lt x 5,
-      affine_bit-lt x 6,
-      affine_bit-lt x 7,
+      affine_bit_lt x 0,
+      affine_bit_lt x 1,
+      affine_bit_lt x 2,
+      affine_bit_lt x 3,
+      affine_bit_lt x 4,
+      affine_bit_lt x 5,
+      affine_bit_lt x 6,
+      affine_bit_lt x 7,
     )

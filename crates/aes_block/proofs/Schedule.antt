@@ -13,8 +13,8 @@ constants_test : map power_of_x (range_with_len 0 10) ≡ ROUND_CONSTANTS
 unfolding power_of_x times
 constants_test = refl
 
-pub get_or-ROUND_CONSTANTS : (r : ℕ) → r < 10 → get_or ROUND_CONSTANTS r 0 ≡ power_of_x r
-get_or-ROUND_CONSTANTS r h =
+pub get_or_ROUND_CONSTANTS : (r : ℕ) → r < 10 → get_or ROUND_CONSTANTS r 0 ≡ power_of_x r
+get_or_ROUND_CONSTANTS r h =
     ap (λ t. get_or t r 0) (sym constants_test) ∙ get_or-map-range_with_len power_of_x 0 10 r r 0 h (omega arith)
 
 -- four words on from k: the first is at the place i, and only there is a change made

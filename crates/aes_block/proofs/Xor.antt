@@ -36,8 +36,8 @@ bit_times a b m ha hb =
     below_two (suc (suc n)) h = absurd (omega arith)
 
 -- a map by bits is linear
-pub by_bits-xor : (images : List ℕ) (a b : ℕ) → by_bits images (bit_xor a b) ≡ bit_xor (by_bits images a) (by_bits images b)
-by_bits-xor [] a b = refl
-by_bits-xor (m ∷ ms) a b =
-    rw (xor_mod a b 1, xor_shr a b 1, by_bits-xor ms (a / 2) (b / 2), bit_times (a % 2) (b % 2) m (omega arith) (omega arith))
+pub by_bits_xor : (images : List ℕ) (a b : ℕ) → by_bits images (bit_xor a b) ≡ bit_xor (by_bits images a) (by_bits images b)
+by_bits_xor [] a b = refl
+by_bits_xor (m ∷ ms) a b =
+    rw (xor_mod a b 1, xor_shr a b 1, by_bits_xor ms (a / 2) (b / 2), bit_times (a % 2) (b % 2) m (omega arith) (omega arith))
     (xor_pairs (a % 2 * m) (b % 2 * m) (by_bits ms (a / 2)) (by_bits ms (b / 2)))

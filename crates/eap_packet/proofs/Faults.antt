@@ -25,20 +25,20 @@ abbrev AllFail : List (Bool × Cause) → Type 0
 AllFail [] = Unit {0}
 AllFail ((test, cause) ∷ rest) = (test ≡ false) × AllFail rest
 
-AllFail-from_none : (rows : List (Bool × Cause)) → first_cause rows ≡ None → AllFail rows
-AllFail-from_none [] e = tt
-AllFail-from_none ((true, cause) ∷ rest) e = cc
-AllFail-from_none ((false, cause) ∷ rest) e = (refl, AllFail-from_none rest e)
+AllFail_from_none : (rows : List (Bool × Cause)) → first_cause rows ≡ None → AllFail rows
+AllFail_from_none [] e = tt
+AllFail_from_none ((true, cause) ∷ rest) e = cc
+AllFail_from_none ((false, cause) ∷ rest) e = (refl, AllFail_from_none rest e)
 
-first_cause-fail : (rows : List (Bool × Cause)) → AllFail rows → first_cause rows ≡ None
-first_cause-fail [] fail = refl
-first_cause-fail ((true, cause) ∷ rest) fail = cc (fail.0)
-first_cause-fail ((false, cause) ∷ rest) fail = first_cause-fail rest fail.1
+first_cause_fail : (rows : List (Bool × Cause)) → AllFail rows → first_cause rows ≡ None
+first_cause_fail [] fail = refl
+first_cause_fail ((true, cause) ∷ rest) fail = cc (fail.0)
+first_cause_fail ((false, cause) ∷ rest) fail = first_cause_fail rest fail.1
 
 pub begins_if_none : (octets : List ℕ) → fault octets ≡ None → Begins octets
 unfolding fault
 begins_if_none octets e =
-    let fail = AllFail-from_none (fault_table octets) e in
+    let fail = AllFail_from_none (fault_table octets) e in
     let bad_code = fail.1.0 in
     let bad_length = fail.1.1.0 in
     let nak_request = fail.1.1.1.1.1.0 in
@@ -58,5 +58,5 @@ begins_if_none octets e =
 pub none_if_begins : (octets : List ℕ) → Begins octets → fault octets ≡ None
 unfolding fault
 none_if_begins octets b =
-    first_cause-fail (fault_table octets)
+    first_cause_fail (fault_table octets)
     (grind (arith, nat_tests), (grind (arith, nat_tests), (grind (arith, nat_tests), (grind (arith, nat_tests), (grind (arith, nat_tests), (grind (arith, nat_tests), (grind (arith, nat_tests), tt)))))))

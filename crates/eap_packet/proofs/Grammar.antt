@@ -8,7 +8,7 @@ use Rattle.eap_packet.specs.Fault.{code_of, length_of, type_of, fields_of, fault
 use Rattle.eap_packet.specs.Laws.{BeginsWith, SpellingsAreRead, SpellingsAreApart, ReadsTheSpelling, FaultlessIsSpelled}
 use Rattle.eap_packet.proofs.Faults.{Begins, AreFields, begins_if_none, none_if_begins}
 use Rattle.eap_packet.proofs.Fronts.{spelled_front}
-use Rattle.eap_packet.proofs.Spelling.{packet_of-spelled, begins_spelled}
+use Rattle.eap_packet.proofs.Spelling.{packet_of_spelled, begins_spelled}
 
 -- the octets of the Type-Data
 body_octets : (size : ℕ) (octets : List ℕ) → IsOctets octets → IsOctets (take (size - 5) (drop 5 octets))
@@ -88,17 +88,17 @@ unfolding packet_of
 refused_if_fault octets cause e = ap (λ found. packet_unless found octets) e
 
 pub spellings_are_read : SpellingsAreRead
-spellings_are_read = packet_of-spelled
+spellings_are_read = packet_of_spelled
 
 pub spellings_are_apart : SpellingsAreApart
 spellings_are_apart one other rest others p q e =
-    let same = sym (packet_of-spelled one rest p) ∙ ap packet_of e ∙ packet_of-spelled other others q in
+    let same = sym (packet_of_spelled one rest p) ∙ ap packet_of e ∙ packet_of_spelled other others q in
     cc
 
 pub reads_the_spelling : ReadsTheSpelling
 reads_the_spelling octets packet small = (
   λ e. subst (BeginsWith octets) (fields_if_read octets packet e) (begins_with_fields octets small (begins_if_read octets packet e)),
-  λ b. ap packet_of b.joined ∙ packet_of-spelled packet b.rest b.is_packet,
+  λ b. ap packet_of b.joined ∙ packet_of_spelled packet b.rest b.is_packet,
 )
 
 pub faultless_is_spelled : FaultlessIsSpelled

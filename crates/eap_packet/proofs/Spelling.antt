@@ -92,13 +92,13 @@ fields_spelled (success id) rest = refl
 fields_spelled (failure id) rest = refl
 
 -- A spelling, with any octets behind it, is read as its packet.
-pub packet_of-spelled : (packet : PacketValue) (rest : List ℕ) → IsPacket packet → packet_of (spelled packet ++ rest) ≡ Ok packet
-packet_of-spelled packet rest p =
+pub packet_of_spelled : (packet : PacketValue) (rest : List ℕ) → IsPacket packet → packet_of (spelled packet ++ rest) ≡ Ok packet
+packet_of_spelled packet rest p =
     read_if_begins (spelled packet ++ rest) (begins_spelled packet rest p) ∙ ap Ok (fields_spelled packet rest)
 
-pub packet_of-spelled_alone : (packet : PacketValue) → IsPacket packet → packet_of (spelled packet) ≡ Ok packet
-packet_of-spelled_alone packet p =
-    ap packet_of (sym (append-nil (spelled packet))) ∙ packet_of-spelled packet [] p
+pub packet_of_spelled_alone : (packet : PacketValue) → IsPacket packet → packet_of (spelled packet) ≡ Ok packet
+packet_of_spelled_alone packet p =
+    ap packet_of (sym (append-nil (spelled packet))) ∙ packet_of_spelled packet [] p
 
 -- the octets of a packet, each in its range
 framed_octets : (code id : ℕ) (fields : List ℕ) → code < 256 → id < 256 → IsOctets fields → length fields ≤ 1496 → IsOctets (framed code id fields)

@@ -5,27 +5,27 @@ use Rattle.std.specs.List.{flat_map, range_with_len}
 use Rattle.std.proofs.lemmas.Nat.{xor_lt}
 use Rattle.std.proofs.lemmas.List.Elements.{All-append, All-cons, All-head, All-nil, All-tail}
 use Rattle.aes_block.proofs.Laws.{All-aes128}
-use Rattle.cmac_mac.proofs.Laws.{All-aes_cmac, length-aes_cmac}
+use Rattle.cmac_mac.proofs.Laws.{All_aes_cmac, length_aes_cmac}
 use Rattle.eax_mode.specs.Eax.{block_of, combined, counter_mode, eax_ciphertext, eax_plaintext, eax_tag, first_counter, key_stream, omac, stream_block}
 use Rattle.eax_mode.proofs.Combining.{length-combined}
 
 -- a ciphertext has the size of its text
-pub length-eax_ciphertext : (key nonce text : List ℕ) → length (eax_ciphertext key nonce text) ≡ length text
+pub length_eax_ciphertext : (key nonce text : List ℕ) → length (eax_ciphertext key nonce text) ≡ length text
 unfolding eax_ciphertext counter_mode
-length-eax_ciphertext key nonce text = length-combined text (key_stream key (first_counter key nonce) (div_ceil (length text) 16))
+length_eax_ciphertext key nonce text = length-combined text (key_stream key (first_counter key nonce) (div_ceil (length text) 16))
 
 -- and a text that of its ciphertext
-pub length-eax_plaintext : (key nonce text : List ℕ) → length (eax_plaintext key nonce text) ≡ length text
+pub length_eax_plaintext : (key nonce text : List ℕ) → length (eax_plaintext key nonce text) ≡ length text
 unfolding eax_plaintext counter_mode
-length-eax_plaintext key nonce text = length-combined text (key_stream key (first_counter key nonce) (div_ceil (length text) 16))
+length_eax_plaintext key nonce text = length-combined text (key_stream key (first_counter key nonce) (div_ceil (length text) 16))
 
 -- a tag has sixteen octets
-pub length-eax_tag : (key nonce header ciphertext : List ℕ) → length (eax_tag key nonce header ciphertext) ≡ 16
+pub length_eax_tag : (key nonce header ciphertext : List ℕ) → length (eax_tag key nonce header ciphertext) ≡ 16
 unfolding eax_tag omac
-length-eax_tag key nonce header ciphertext =
+length_eax_tag key nonce header ciphertext =
     length-combined (combined (omac key 0 nonce) (omac key 1 header)) (omac key 2 ciphertext)
     ∙ length-combined (omac key 0 nonce) (omac key 1 header)
-    ∙ length-aes_cmac key _
+    ∙ length_aes_cmac key _
 
 -- octets combined with octets are octets
 All-combined : (xs ys : List ℕ) → All (λ octet. octet < 256) xs → All (λ octet. octet < 256) ys → All (λ octet. octet < 256) (combined xs ys)
@@ -46,24 +46,24 @@ All-blocks key start (n ∷ places) h =
     All-append (λ octet. octet < 256) (stream_block key start n) (flat_map (stream_block key start) places)
     (All-aes128 key (block_of ((start + n) % 2 ^ 128)) h) (All-blocks key start places h)
 
-All-counter_mode : (key : List ℕ) (start : ℕ) (text : List ℕ) → All (λ octet. octet < 256) key
+All_counter_mode : (key : List ℕ) (start : ℕ) (text : List ℕ) → All (λ octet. octet < 256) key
     → All (λ octet. octet < 256) text → All (λ octet. octet < 256) (counter_mode key start text)
 unfolding counter_mode key_stream
-All-counter_mode key start text h t =
+All_counter_mode key start text h t =
     All-combined text (key_stream key start (div_ceil (length text) 16)) t
     (All-blocks key start (range_with_len 0 (div_ceil (length text) 16)) h)
 
 -- the ciphertext of octets is of octets where the key is
-pub All-eax_ciphertext : (key nonce text : List ℕ) → All (λ octet. octet < 256) key → All (λ octet. octet < 256) text
+pub All_eax_ciphertext : (key nonce text : List ℕ) → All (λ octet. octet < 256) key → All (λ octet. octet < 256) text
     → All (λ octet. octet < 256) (eax_ciphertext key nonce text)
 unfolding eax_ciphertext
-All-eax_ciphertext key nonce text h t = All-counter_mode key (first_counter key nonce) text h t
+All_eax_ciphertext key nonce text h t = All_counter_mode key (first_counter key nonce) text h t
 
 -- a tag is of octets where the key is
-pub All-eax_tag : (key nonce header ciphertext : List ℕ) → All (λ octet. octet < 256) key
+pub All_eax_tag : (key nonce header ciphertext : List ℕ) → All (λ octet. octet < 256) key
     → All (λ octet. octet < 256) (eax_tag key nonce header ciphertext)
 unfolding eax_tag omac
-All-eax_tag key nonce header ciphertext h =
+All_eax_tag key nonce header ciphertext h =
     All-combined (combined (omac key 0 nonce) (omac key 1 header)) (omac key 2 ciphertext)
-    (All-combined (omac key 0 nonce) (omac key 1 header) (All-aes_cmac key _ h) (All-aes_cmac key _ h))
-    (All-aes_cmac key _ h)
+    (All-combined (omac key 0 nonce) (omac key 1 header) (All_aes_cmac key _ h) (All_aes_cmac key _ h))
+    (All_aes_cmac key _ h)

@@ -5,20 +5,20 @@ use Rattle.std.proofs.lemmas.Slice.Eq.{bytes_eq-Decides}
 use Rattle.eax_mode.proofs.Stream.{counter_mode_twice}
 
 -- the text comes back
-pub eax_plaintext-eax_ciphertext : (key nonce text : List ℕ) → eax_plaintext key nonce (eax_ciphertext key nonce text) ≡ text
+pub eax_plaintext_eax_ciphertext : (key nonce text : List ℕ) → eax_plaintext key nonce (eax_ciphertext key nonce text) ≡ text
 unfolding eax_plaintext eax_ciphertext
-eax_plaintext-eax_ciphertext key nonce text = counter_mode_twice key (first_counter key nonce) text
+eax_plaintext_eax_ciphertext key nonce text = counter_mode_twice key (first_counter key nonce) text
 
 -- and so does the ciphertext
-pub eax_ciphertext-eax_plaintext : (key nonce text : List ℕ) → eax_ciphertext key nonce (eax_plaintext key nonce text) ≡ text
+pub eax_ciphertext_eax_plaintext : (key nonce text : List ℕ) → eax_ciphertext key nonce (eax_plaintext key nonce text) ≡ text
 unfolding eax_plaintext eax_ciphertext
-eax_ciphertext-eax_plaintext key nonce text = counter_mode_twice key (first_counter key nonce) text
+eax_ciphertext_eax_plaintext key nonce text = counter_mode_twice key (first_counter key nonce) text
 
 -- the tag over a ciphertext is accepted
-pub eax_accepts-eax_tag : (key nonce header ciphertext : List ℕ)
+pub eax_accepts_eax_tag : (key nonce header ciphertext : List ℕ)
     → eax_accepts key nonce header ciphertext (eax_tag key nonce header ciphertext) ≡ true
 unfolding eax_accepts
-eax_accepts-eax_tag key nonce header ciphertext =
+eax_accepts_eax_tag key nonce header ciphertext =
     (bytes_eq-Decides (eax_tag key nonce header ciphertext) (eax_tag key nonce header ciphertext)).1 refl
 
 -- and no other is
@@ -34,13 +34,13 @@ pub only_text : (key nonce header ciphertext tag text : List ℕ) → tag ≡ ea
 only_text key nonce header ciphertext tag text is_tag is_text = record {
   seals =
       let back : eax_ciphertext key nonce text ≡ ciphertext =
-      ap (eax_ciphertext key nonce) is_text ∙ eax_ciphertext-eax_plaintext key nonce ciphertext in
+      ap (eax_ciphertext key nonce) is_text ∙ eax_ciphertext_eax_plaintext key nonce ciphertext in
       let of_hidden : List ℕ → Sealed = λ hidden. record { ciphertext = hidden; tag = eax_tag key nonce header hidden } in
       let with_tag : List ℕ → Sealed = λ t. record { ciphertext = ciphertext; tag = t } in
       ap of_hidden back ∙ ap with_tag (sym is_tag);
   no_other = λ other same.
       let hidden : Sealed → List ℕ = λ s. s.ciphertext in
-      sym (eax_plaintext-eax_ciphertext key nonce other)
+      sym (eax_plaintext_eax_ciphertext key nonce other)
       ∙ ap (eax_plaintext key nonce) (ap hidden same)
       ∙ sym is_text;
 }

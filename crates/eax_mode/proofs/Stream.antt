@@ -14,9 +14,9 @@ range_push a (suc n) =
     ap (λ l. a ∷ l) (range_push (a + 1) n) ∙ ap (λ k. a ∷ range_with_len (a + 1) n ++ k ∷ []) e
 
 -- no block
-pub key_stream-zero : (key : List ℕ) (start : ℕ) → key_stream key start 0 ≡ []
+pub key_stream_zero : (key : List ℕ) (start : ℕ) → key_stream key start 0 ≡ []
 unfolding key_stream
-key_stream-zero key start = refl
+key_stream_zero key start = refl
 
 -- one block more
 pub key_stream_more : (key : List ℕ) (start n : ℕ)
@@ -37,8 +37,8 @@ pub record IsCombinedFor (key : List ℕ) (start n : ℕ) (before now : List ℕ
 -- before the first block
 pub combined_none : (key : List ℕ) (start : ℕ) (text : List ℕ) → IsCombinedFor key start 0 text text
 combined_none key start text = record {
-  same = sym (ap (combined text) (key_stream-zero key start) ∙ combined-nil text);
-  whole = ap length (key_stream-zero key start);
+  same = sym (ap (combined text) (key_stream_zero key start) ∙ combined-nil text);
+  whole = ap length (key_stream_zero key start);
 }
 
 -- one block on: the part from 16 * n on, of at most sixteen octets, is combined with the block

@@ -8,13 +8,13 @@ use Rattle.sha2.proofs.Facts256.{length-sha256}
 use Rattle.hmac_mac.specs.Hmac.{hmac_sha256}
 
 -- HMAC-SHA256 has 32 octets
-pub length-hmac_sha256 : (key text : List ℕ) → length (hmac_sha256 key text) ≡ 32
+pub length_hmac_sha256 : (key text : List ℕ) → length (hmac_sha256 key text) ≡ 32
 unfolding hmac_sha256
-length-hmac_sha256 key text = length-sha256 _
+length_hmac_sha256 key text = length-sha256 _
 
-byte_at-lt : (place n : ℕ) → byte_at place n < 256
-byte_at-lt zero n = omega arith
-byte_at-lt (suc place) n = omega arith
+byte_at_lt : (place n : ℕ) → byte_at place n < 256
+byte_at_lt zero n = omega arith
+byte_at_lt (suc place) n = omega arith
 
 -- the octets of a word
 word_octets : (n : ℕ) → All (λ octet. octet < 256) (to_be_bytes w32 n)
@@ -23,10 +23,10 @@ word_octets n =
     let last : List ℕ = byte_at 0 n ∷ [] in
     let low : List ℕ = byte_at 1 n ∷ last in
     let three : List ℕ = byte_at 2 n ∷ low in
-    All-cons is_octet (byte_at 3 n) three (byte_at-lt 3 n)
-    (All-cons is_octet (byte_at 2 n) low (byte_at-lt 2 n)
-    (All-cons is_octet (byte_at 1 n) last (byte_at-lt 1 n)
-    (All-cons is_octet (byte_at 0 n) [] (byte_at-lt 0 n) (All-nil is_octet))))
+    All-cons is_octet (byte_at 3 n) three (byte_at_lt 3 n)
+    (All-cons is_octet (byte_at 2 n) low (byte_at_lt 2 n)
+    (All-cons is_octet (byte_at 1 n) last (byte_at_lt 1 n)
+    (All-cons is_octet (byte_at 0 n) [] (byte_at_lt 0 n) (All-nil is_octet))))
 
 digest_octets : (hash : List ℕ) (count : ℕ) → All (λ octet. octet < 256) (digest_bytes hash count)
 unfolding digest_bytes
@@ -41,6 +41,6 @@ unfolding sha256
 All-sha256 text = digest_octets (final_hash initial_hash_256 text) 8
 
 -- HMAC-SHA256 is of octets
-pub All-hmac_sha256 : (key text : List ℕ) → All (λ octet. octet < 256) (hmac_sha256 key text)
+pub All_hmac_sha256 : (key text : List ℕ) → All (λ octet. octet < 256) (hmac_sha256 key text)
 unfolding hmac_sha256
-All-hmac_sha256 key text = All-sha256 _
+All_hmac_sha256 key text = All-sha256 _

@@ -8,8 +8,8 @@ use Rattle.eap_base.specs.Suite.{ks_of}
 use Rattle.eap_base.specs.declared.setup.Suite.{Suite}
 use Rattle.eap_base.specs.declared.setup.Suite.TheVariants.{Cmac, Hmac}
 use Rattle.aes_block.proofs.Laws.{length-aes128, All-aes128}
-use Rattle.cmac_mac.proofs.Laws.{length-aes_cmac, All-aes_cmac}
-use Rattle.hmac_mac.proofs.Laws.{length-hmac_sha256, All-hmac_sha256}
+use Rattle.cmac_mac.proofs.Laws.{length_aes_cmac, All_aes_cmac}
+use Rattle.hmac_mac.proofs.Laws.{length_hmac_sha256, All_hmac_sha256}
 use Rattle.sha2.specs.Sha256.{sha256}
 use Rattle.sha2.proofs.Facts256.{length-sha256}
 use Rattle.login_keys.specs.Gkdf.{gpsk_tag_of, gkdf_block, gkdf_blocks, gkdf}
@@ -19,16 +19,16 @@ use Rattle.login_keys.specs.KeyName.{key_name_of}
 use Rattle.login_keys.proofs.Blocks.{ks-le, after_last}
 
 -- a tag has KS octets
-pub length-gpsk_tag_of : (suite : Suite) (key octets : List ℕ) → length (gpsk_tag_of suite key octets) ≡ ks_of suite
+pub length_gpsk_tag_of : (suite : Suite) (key octets : List ℕ) → length (gpsk_tag_of suite key octets) ≡ ks_of suite
 unfolding gpsk_tag_of
-length-gpsk_tag_of Cmac key octets = length-aes_cmac key octets
-length-gpsk_tag_of Hmac key octets = length-hmac_sha256 key octets
+length_gpsk_tag_of Cmac key octets = length_aes_cmac key octets
+length_gpsk_tag_of Hmac key octets = length_hmac_sha256 key octets
 
 -- a tag is of octets where the key is
-pub All-gpsk_tag_of : (suite : Suite) (key octets : List ℕ) → All (λ n. n < 256) key → All (λ n. n < 256) (gpsk_tag_of suite key octets)
+pub All_gpsk_tag_of : (suite : Suite) (key octets : List ℕ) → All (λ n. n < 256) key → All (λ n. n < 256) (gpsk_tag_of suite key octets)
 unfolding gpsk_tag_of
-All-gpsk_tag_of Cmac key octets h = All-aes_cmac key octets h
-All-gpsk_tag_of Hmac key octets h = All-hmac_sha256 key octets
+All_gpsk_tag_of Cmac key octets h = All_aes_cmac key octets h
+All_gpsk_tag_of Hmac key octets h = All_hmac_sha256 key octets
 
 -- blocks of one size, joined
 length-blocks : (f : ℕ → List ℕ) (size a n : ℕ) → ((k : ℕ) → length (f k) ≡ size) → length (flat_map f (range_with_len a n)) ≡ n * size
@@ -46,7 +46,7 @@ unfolding gkdf gkdf_blocks gkdf_block
 length-gkdf suite x y z =
     let count : ℕ = div_ceil x (ks_of suite) in
     let whole : length (gkdf_blocks suite y z count) ≡ count * ks_of suite =
-    length-blocks (gkdf_block suite y z) (ks_of suite) 1 count (λ k. length-gpsk_tag_of suite y _) in
+    length-blocks (gkdf_block suite y z) (ks_of suite) 1 count (λ k. length_gpsk_tag_of suite y _) in
     let enough : x ≤ count * ks_of suite = after_last suite x count (ks_of suite) count refl refl refl in
     length-take-le x (gkdf_blocks suite y z count) (subst (λ k. x ≤ k) (sym whole) enough)
 
@@ -60,7 +60,7 @@ All-blocks f a (suc n) each =
 pub All-gkdf : (suite : Suite) (x : ℕ) (y z : List ℕ) → All (λ m. m < 256) y → All (λ m. m < 256) (gkdf suite x y z)
 unfolding gkdf gkdf_blocks gkdf_block
 All-gkdf suite x y z h =
-    All-take (λ m. m < 256) x _ (All-blocks (gkdf_block suite y z) 1 (div_ceil x (ks_of suite)) (λ k. All-gpsk_tag_of suite y _ h))
+    All-take (λ m. m < 256) x _ (All-blocks (gkdf_block suite y z) 1 (div_ceil x (ks_of suite)) (λ k. All_gpsk_tag_of suite y _ h))
 
 -- the session key of EAP-GPSK is of octets where the shared key is
 pub All-sk : (suite : Suite) (psk rand_p id_p rand_s id_s : List ℕ) → All (λ m. m < 256) psk
@@ -104,51 +104,51 @@ gpsk_sizes suite psk rand_p id_p rand_s id_s =
     }
 
 -- an output block of the modified counter mode is a block
-length-counter_block : (key block : List ℕ) (c : ℕ) → length (counter_block key block c) ≡ 16
+length_counter_block : (key block : List ℕ) (c : ℕ) → length (counter_block key block c) ≡ 16
 unfolding counter_block
-length-counter_block key block c = length-aes128 key _
+length_counter_block key block c = length-aes128 key _
 
 -- it is of octets where the key is
-All-counter_block : (key block : List ℕ) (c : ℕ) → All (λ m. m < 256) key → All (λ m. m < 256) (counter_block key block c)
+All_counter_block : (key block : List ℕ) (c : ℕ) → All (λ m. m < 256) key → All (λ m. m < 256) (counter_block key block c)
 unfolding counter_block
-All-counter_block key block c h = All-aes128 key _ h
+All_counter_block key block c h = All-aes128 key _ h
 
 -- the keys of EAP-PSK are of octets where the keys are that they are derived from
 pub All-ak : (psk : List ℕ) → All (λ m. m < 256) psk → All (λ m. m < 256) (psk_long_of psk).ak
 unfolding psk_long_of
-All-ak psk h = All-counter_block psk _ 1 h
+All-ak psk h = All_counter_block psk _ 1 h
 
 pub All-kdk : (psk : List ℕ) → All (λ m. m < 256) psk → All (λ m. m < 256) (psk_long_of psk).kdk
 unfolding psk_long_of
-All-kdk psk h = All-counter_block psk _ 2 h
+All-kdk psk h = All_counter_block psk _ 2 h
 
 pub All-tek : (kdk rand_p : List ℕ) → All (λ m. m < 256) kdk → All (λ m. m < 256) (psk_keys_of kdk rand_p).tek
 unfolding psk_keys_of
-All-tek kdk rand_p h = All-counter_block kdk rand_p 1 h
+All-tek kdk rand_p h = All_counter_block kdk rand_p 1 h
 
 -- the sizes of the keys of EAP-PSK
 pub length-ak : (psk : List ℕ) → length (psk_long_of psk).ak ≡ 16
 unfolding psk_long_of
-length-ak psk = length-counter_block psk _ 1
+length-ak psk = length_counter_block psk _ 1
 
 pub length-kdk : (psk : List ℕ) → length (psk_long_of psk).kdk ≡ 16
 unfolding psk_long_of
-length-kdk psk = length-counter_block psk _ 2
+length-kdk psk = length_counter_block psk _ 2
 
 pub length-tek : (kdk rand_p : List ℕ) → length (psk_keys_of kdk rand_p).tek ≡ 16
 unfolding psk_keys_of
-length-tek kdk rand_p = length-counter_block kdk rand_p 1
+length-tek kdk rand_p = length_counter_block kdk rand_p 1
 
-pub length-psk_msk : (kdk rand_p : List ℕ) → length (psk_keys_of kdk rand_p).msk ≡ 64
+pub length_psk_msk : (kdk rand_p : List ℕ) → length (psk_keys_of kdk rand_p).msk ≡ 64
 unfolding psk_keys_of
-length-psk_msk kdk rand_p = length-blocks (counter_block kdk rand_p) 16 2 4 (length-counter_block kdk rand_p)
+length_psk_msk kdk rand_p = length-blocks (counter_block kdk rand_p) 16 2 4 (length_counter_block kdk rand_p)
 
-pub length-psk_emsk : (kdk rand_p : List ℕ) → length (psk_keys_of kdk rand_p).emsk ≡ 64
+pub length_psk_emsk : (kdk rand_p : List ℕ) → length (psk_keys_of kdk rand_p).emsk ≡ 64
 unfolding psk_keys_of
-length-psk_emsk kdk rand_p = length-blocks (counter_block kdk rand_p) 16 6 4 (length-counter_block kdk rand_p)
+length_psk_emsk kdk rand_p = length-blocks (counter_block kdk rand_p) 16 6 4 (length_counter_block kdk rand_p)
 
 -- a name has eight octets
-pub length-key_name_of : (key : List ℕ) → length (key_name_of key) ≡ 8
+pub length_key_name_of : (key : List ℕ) → length (key_name_of key) ≡ 8
 unfolding key_name_of
-length-key_name_of key =
+length_key_name_of key =
     length-take-le 8 (sha256 _) (subst (λ k. 8 ≤ k) (sym (length-sha256 _)) (omega arith))

@@ -8,17 +8,17 @@ use Rattle.eap_packet.specs.Packet.{IsOctets}
 use Rattle.psk_messages.specs.Message.{channel}
 use Rattle.psk_messages.specs.Reading.{nonce_at, tag_at, sealed_at}
 
-pub nonce_at-channel : (nonce sealed : ℕ) (tag : List ℕ) → nonce < 2 ^ 32 → nonce_at (channel nonce tag sealed) ≡ nonce
-nonce_at-channel nonce sealed tag small = from_be_bytes-to_be_bytes_4 nonce small
+pub nonce_at_channel : (nonce sealed : ℕ) (tag : List ℕ) → nonce < 2 ^ 32 → nonce_at (channel nonce tag sealed) ≡ nonce
+nonce_at_channel nonce sealed tag small = from_be_bytes-to_be_bytes_4 nonce small
 
-pub tag_at-channel : (nonce sealed : ℕ) (tag : List ℕ) → length tag ≡ 16 → tag_at (channel nonce tag sealed) ≡ tag
-tag_at-channel nonce sealed tag size = take_at tag (sealed ∷ []) 16 size
+pub tag_at_channel : (nonce sealed : ℕ) (tag : List ℕ) → length tag ≡ 16 → tag_at (channel nonce tag sealed) ≡ tag
+tag_at_channel nonce sealed tag size = take_at tag (sealed ∷ []) 16 size
 
 seam : (tag : List ℕ) (sealed n : ℕ) → length tag ≡ n → get_or (tag ++ sealed ∷ []) n 0 ≡ sealed
 seam tag sealed n size = ap (λ k. get_or (tag ++ sealed ∷ []) k 0) (sym size) ∙ get_or-append_seam tag sealed [] 0
 
-pub sealed_at-channel : (nonce sealed : ℕ) (tag : List ℕ) → length tag ≡ 16 → sealed_at (channel nonce tag sealed) ≡ sealed
-sealed_at-channel nonce sealed tag size = seam tag sealed 16 size
+pub sealed_at_channel : (nonce sealed : ℕ) (tag : List ℕ) → length tag ≡ 16 → sealed_at (channel nonce tag sealed) ≡ sealed
+sealed_at_channel nonce sealed tag size = seam tag sealed 16 size
 
 pub length-channel : (nonce sealed : ℕ) (tag : List ℕ) → length tag ≡ 16 → length (channel nonce tag sealed) ≡ 21
 length-channel nonce sealed tag size = omega (arith, length-append tag (sealed ∷ []))

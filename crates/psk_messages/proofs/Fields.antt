@@ -6,29 +6,29 @@ use Rattle.std.proofs.lemmas.List.Elements.{All-drop}
 use Rattle.eap_packet.specs.Packet.{IsOctets}
 use Rattle.psk_messages.specs.Message.{Message, psk1, psk2, psk3, psk4, t_of, fields_of, channel, AreFields}
 use Rattle.psk_messages.specs.Reading.{is_size, nonce_at, tag_at, sealed_at, message_at, psk1_at, psk2_at, psk3_at, psk4_at}
-use Rattle.psk_messages.proofs.Channel.{nonce_at-channel, tag_at-channel, sealed_at-channel, length-channel, parts}
+use Rattle.psk_messages.proofs.Channel.{nonce_at_channel, tag_at_channel, sealed_at_channel, length-channel, parts}
 
 -- The octets after Flags are as many as T says.
-pub is_size-fields : (message : Message) → AreFields message → is_size (t_of message) (length (fields_of message)) ≡ true
-is_size-fields (psk1 rand_s id_s) p = grind (arith, nat_tests, length-append rand_s id_s)
-is_size-fields (psk2 rand_s rand_p mac id_p) p =
+pub is_size_fields : (message : Message) → AreFields message → is_size (t_of message) (length (fields_of message)) ≡ true
+is_size_fields (psk1 rand_s id_s) p = grind (arith, nat_tests, length-append rand_s id_s)
+is_size_fields (psk2 rand_s rand_p mac id_p) p =
     grind (arith, nat_tests, length-append rand_s (rand_p ++ (mac ++ id_p)), length-append rand_p (mac ++ id_p), length-append mac id_p)
-is_size-fields (psk3 rand_s mac nonce tag sealed) p =
+is_size_fields (psk3 rand_s mac nonce tag sealed) p =
     let octets = channel nonce tag sealed in
     grind (arith, nat_tests, length-append rand_s (mac ++ octets), length-append mac octets, length-channel nonce sealed tag p.3)
-is_size-fields (psk4 rand_s nonce tag sealed) p =
+is_size_fields (psk4 rand_s nonce tag sealed) p =
     let octets = channel nonce tag sealed in
     grind (arith, nat_tests, length-append rand_s octets, length-channel nonce sealed tag p.2)
 
-psk1_at-fields : (rand_s id_s : List ℕ) → length rand_s ≡ 16 → psk1_at (rand_s ++ id_s) ≡ psk1 rand_s id_s
-psk1_at-fields rand_s id_s p =
+psk1_at_fields : (rand_s id_s : List ℕ) → length rand_s ≡ 16 → psk1_at (rand_s ++ id_s) ≡ psk1 rand_s id_s
+psk1_at_fields rand_s id_s p =
     let field = take_at rand_s id_s 16 p in
     let rest = drop_at rand_s id_s 16 p in
     cc
 
-psk2_at-fields : (rand_s rand_p mac id_p : List ℕ) → length rand_s ≡ 16 → length rand_p ≡ 16 → length mac ≡ 16 →
+psk2_at_fields : (rand_s rand_p mac id_p : List ℕ) → length rand_s ≡ 16 → length rand_p ≡ 16 → length mac ≡ 16 →
     psk2_at (rand_s ++ (rand_p ++ (mac ++ id_p))) ≡ psk2 rand_s rand_p mac id_p
-psk2_at-fields rand_s rand_p mac id_p p q r =
+psk2_at_fields rand_s rand_p mac id_p p q r =
     let field = take_at rand_s (rand_p ++ (mac ++ id_p)) 16 p in
     let rest = drop_at rand_s (rand_p ++ (mac ++ id_p)) 16 p in
     let second = take_at rand_p (mac ++ id_p) 16 q in
@@ -37,37 +37,37 @@ psk2_at-fields rand_s rand_p mac id_p p q r =
     let behind_third = drop_at mac id_p 16 r in
     cc
 
-psk3_at-fields : (rand_s mac octets : List ℕ) → length rand_s ≡ 16 → length mac ≡ 16 →
+psk3_at_fields : (rand_s mac octets : List ℕ) → length rand_s ≡ 16 → length mac ≡ 16 →
     psk3_at (rand_s ++ (mac ++ octets)) ≡ psk3 rand_s mac (nonce_at octets) (tag_at octets) (sealed_at octets)
-psk3_at-fields rand_s mac octets p q =
+psk3_at_fields rand_s mac octets p q =
     let field = take_at rand_s (mac ++ octets) 16 p in
     let rest = drop_at rand_s (mac ++ octets) 16 p in
     let second = take_at mac octets 16 q in
     let behind_second = drop_at mac octets 16 q in
     cc
 
-psk4_at-fields : (rand_s octets : List ℕ) → length rand_s ≡ 16 →
+psk4_at_fields : (rand_s octets : List ℕ) → length rand_s ≡ 16 →
     psk4_at (rand_s ++ octets) ≡ psk4 rand_s (nonce_at octets) (tag_at octets) (sealed_at octets)
-psk4_at-fields rand_s octets p =
+psk4_at_fields rand_s octets p =
     let field = take_at rand_s octets 16 p in
     let rest = drop_at rand_s octets 16 p in
     cc
 
 -- The message is read off the octets after Flags.
-pub message_at-fields : (message : Message) → AreFields message → message_at (t_of message) (fields_of message) ≡ message
-message_at-fields (psk1 rand_s id_s) p = psk1_at-fields rand_s id_s p.0
-message_at-fields (psk2 rand_s rand_p mac id_p) p = psk2_at-fields rand_s rand_p mac id_p p.0 p.1 p.2
-message_at-fields (psk3 rand_s mac nonce tag sealed) p =
-    let first = psk3_at-fields rand_s mac (channel nonce tag sealed) p.0 p.1 in
-    let number = nonce_at-channel nonce sealed tag p.2 in
-    let sign = tag_at-channel nonce sealed tag p.3 in
-    let octet = sealed_at-channel nonce sealed tag p.3 in
+pub message_at_fields : (message : Message) → AreFields message → message_at (t_of message) (fields_of message) ≡ message
+message_at_fields (psk1 rand_s id_s) p = psk1_at_fields rand_s id_s p.0
+message_at_fields (psk2 rand_s rand_p mac id_p) p = psk2_at_fields rand_s rand_p mac id_p p.0 p.1 p.2
+message_at_fields (psk3 rand_s mac nonce tag sealed) p =
+    let first = psk3_at_fields rand_s mac (channel nonce tag sealed) p.0 p.1 in
+    let number = nonce_at_channel nonce sealed tag p.2 in
+    let sign = tag_at_channel nonce sealed tag p.3 in
+    let octet = sealed_at_channel nonce sealed tag p.3 in
     cc
-message_at-fields (psk4 rand_s nonce tag sealed) p =
-    let first = psk4_at-fields rand_s (channel nonce tag sealed) p.0 in
-    let number = nonce_at-channel nonce sealed tag p.1 in
-    let sign = tag_at-channel nonce sealed tag p.2 in
-    let octet = sealed_at-channel nonce sealed tag p.2 in
+message_at_fields (psk4 rand_s nonce tag sealed) p =
+    let first = psk4_at_fields rand_s (channel nonce tag sealed) p.0 in
+    let number = nonce_at_channel nonce sealed tag p.1 in
+    let sign = tag_at_channel nonce sealed tag p.2 in
+    let octet = sealed_at_channel nonce sealed tag p.2 in
     cc
 
 -- The message that is read keeps the limits, has this T, and these are its octets after Flags.

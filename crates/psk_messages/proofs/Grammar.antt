@@ -8,19 +8,19 @@ use Rattle.psk_messages.specs.declared.view.PskView.{PskView}
 use Rattle.psk_messages.specs.Message.{Message, psk1, psk2, psk3, psk4, t_of, fields_of, AreFields, IsPsk, SpellsNone, spelled, message_of, heard}
 use Rattle.psk_messages.specs.Reading.{is_size, message_at, read_of}
 use Rattle.psk_messages.specs.Laws.{ReadsTheSpelling, SpellingsAreApart, RefusesTheRest, SentIsRead, SpellingsAreSized}
-use Rattle.psk_messages.proofs.Fields.{is_size-fields, message_at-fields, IsReadFrom, is_read_from}
+use Rattle.psk_messages.proofs.Fields.{is_size_fields, message_at_fields, IsReadFrom, is_read_from}
 
-pub read_of-fields : (flags : ℕ) (message : Message) → AreFields message → flags / 64 ≡ t_of message →
+pub read_of_fields : (flags : ℕ) (message : Message) → AreFields message → flags / 64 ≡ t_of message →
     read_of (flags ∷ fields_of message) ≡ Ok message
 unfolding read_of
-read_of-fields flags message p e =
+read_of_fields flags message p e =
     let octets = fields_of message in
-    let high = is_size-fields message p in
-    let same = message_at-fields message p in
+    let high = is_size_fields message p in
+    let same = message_at_fields message p in
     rw e (rw high (ap Ok same))
 
 pub read_if_psk : (octets : List ℕ) (message : Message) → IsPsk message octets → read_of octets ≡ Ok message
-read_if_psk octets message p = ap read_of p.spelling ∙ read_of-fields p.flags message p.fields p.high_bits
+read_if_psk octets message p = ap read_of p.spelling ∙ read_of_fields p.flags message p.fields p.high_bits
 
 if_ok : (fits : Bool) (one other : Message) →
     (let answer : Result Message Cause = if fits then Ok one else Err PskShape in answer) ≡ Ok other → (fits ≡ true) × (one ≡ other)
@@ -99,4 +99,4 @@ spellings_are_sized (psk4 rand_s nonce tag sealed) = simp length-append (omega a
 
 pub sent_is_read : SentIsRead
 unfolding spelled
-sent_is_read message p = read_of-fields (64 * t_of message) message p (omega arith)
+sent_is_read message p = read_of_fields (64 * t_of message) message p (omega arith)
