@@ -15,7 +15,7 @@ use Rattle.gpsk_messages.proofs.Grammar.{spellings_are_read}
 use Rattle.login_keys.specs.Gkdf.{gpsk_tag_of}
 use Rattle.login_keys.specs.Gpsk.{gpsk_keys_of}
 use Rattle.login_keys.specs.declared.gpsk.GpskKeys.{GpskKeys}
-use Rattle.login_keys.proofs.Laws.{length-gpsk_tag_of}
+use Rattle.login_keys.proofs.Laws.{length_gpsk_tag_of}
 use Rattle.login_policy.specs.Policy.{picked_suite, suite_or, is_allowed}
 use Rattle.eap_method.specs.GpskTags.{gpsk_request, gpsk_response, suite_list, is_tagged, tagged, same_suite}
 use Rattle.eap_method.specs.Turns.{body_of}
@@ -120,13 +120,13 @@ module _ (ends : Ends) (fit : Fit ends) where
   reads_gpsk1 = reads None _ (fit.server_name, fit.server_nonce, lists) tt few_octets
 
   reads_gpsk2 : read_of None (spelled (peer.gpsk2_of (peer_login ends) (suite_list ends.own.suites))) ≡ Ok (peer.gpsk2_of (peer_login ends) (suite_list ends.own.suites))
-  reads_gpsk2 = reads None _ (fit.peer_name, fit.server_name, fit.peer_nonce, fit.server_nonce, lists, omega arith) (length-gpsk_tag_of _ _ _) few_octets
+  reads_gpsk2 = reads None _ (fit.peer_name, fit.server_name, fit.peer_nonce, fit.server_nonce, lists, omega arith) (length_gpsk_tag_of _ _ _) few_octets
 
   reads_gpsk3 : read_of (Some (ks_of ends.suite)) (spelled (server.gpsk3_of (server_login ends))) ≡ Ok (server.gpsk3_of (server_login ends))
-  reads_gpsk3 = reads _ _ (fit.peer_nonce, fit.server_nonce, fit.server_name, omega arith) (length-gpsk_tag_of _ _ _) (omega arith)
+  reads_gpsk3 = reads _ _ (fit.peer_nonce, fit.server_nonce, fit.server_name, omega arith) (length_gpsk_tag_of _ _ _) (omega arith)
 
   reads_gpsk4 : read_of (Some (ks_of ends.suite)) (spelled (peer.gpsk4_of (peer_login ends))) ≡ Ok (peer.gpsk4_of (peer_login ends))
-  reads_gpsk4 = reads _ _ (omega arith) (length-gpsk_tag_of _ _ _) (omega arith)
+  reads_gpsk4 = reads _ _ (omega arith) (length_gpsk_tag_of _ _ _) (omega arith)
 
   begins : (id : ℕ) → server.first_step (server.begun ends.own ends.own_nonce) id
       ≡ record { packet = gpsk_request id (server.gpsk1_of ends.own ends.own_nonce); after = server.asked ends.own ends.own_nonce }

@@ -9,8 +9,8 @@ use Rattle.psk_messages.specs.Message.{psk3, psk4, channel}
 use Rattle.psk_messages.specs.Message as messages
 use Rattle.psk_messages.proofs.Channel.{length-channel}
 use Rattle.eax_mode.specs.Eax.{eax_accepts, eax_ciphertext, eax_plaintext, eax_tag}
-use Rattle.eax_mode.proofs.Laws.{length-eax_ciphertext, length-eax_tag}
-use Rattle.eax_mode.proofs.Sealing.{eax_plaintext-eax_ciphertext}
+use Rattle.eax_mode.proofs.Laws.{length_eax_ciphertext, length_eax_tag}
+use Rattle.eax_mode.proofs.Sealing.{eax_plaintext_eax_ciphertext}
 use Rattle.eap_method.specs.PskTags.{psk_request, psk_response, header_of, channel_nonce, sealed_result, is_sealed, opened, octet_with}
 use Rattle.method_laws.proofs.Tests.{bytes_same}
 
@@ -24,7 +24,7 @@ alone (x ∷ y ∷ octets) size = absurd (omega arith)
 -- the tag has sixteen octets
 pub length-sealed_tag : (tek : List ℕ) (number : ℕ) (header : List ℕ) (r : ℕ) → length (sealed_result tek number header r).tag ≡ 16
 unfolding sealed_result
-length-sealed_tag tek number header r = length-eax_tag tek (channel_nonce number) header _
+length-sealed_tag tek number header r = length_eax_tag tek (channel_nonce number) header _
 
 -- the octet that was sealed is found under the tag
 pub sealed_accepted : (tek : List ℕ) (number : ℕ) (header : List ℕ) (r : ℕ)
@@ -33,7 +33,7 @@ unfolding sealed_result eax_accepts
 sealed_accepted tek number header r =
     let hidden : List ℕ = eax_ciphertext tek (channel_nonce number) (octet_with r ∷ []) in
     ap (λ octets. bytes_eq (eax_tag tek (channel_nonce number) header octets) (eax_tag tek (channel_nonce number) header hidden))
-    (alone hidden (length-eax_ciphertext tek (channel_nonce number) (octet_with r ∷ [])))
+    (alone hidden (length_eax_ciphertext tek (channel_nonce number) (octet_with r ∷ [])))
     ∙ bytes_same (eax_tag tek (channel_nonce number) header hidden)
 
 -- and is opened
@@ -43,8 +43,8 @@ unfolding sealed_result
 sealed_opened tek number header r =
     let hidden : List ℕ = eax_ciphertext tek (channel_nonce number) (octet_with r ∷ []) in
     ap (λ octets. slice_index (eax_plaintext tek (channel_nonce number) octets) 0)
-    (alone hidden (length-eax_ciphertext tek (channel_nonce number) (octet_with r ∷ [])))
-    ∙ ap (λ (octets : List ℕ). slice_index octets 0) (eax_plaintext-eax_ciphertext tek (channel_nonce number) (octet_with r ∷ []))
+    (alone hidden (length_eax_ciphertext tek (channel_nonce number) (octet_with r ∷ [])))
+    ∙ ap (λ (octets : List ℕ). slice_index octets 0) (eax_plaintext_eax_ciphertext tek (channel_nonce number) (octet_with r ∷ []))
 
 -- ---- the headers: the first 22 octets, up to MAC_S or PCHANNEL
 

@@ -9,7 +9,7 @@ use Rattle.psk_messages.specs.Message.{Message, spelled}
 use Rattle.psk_messages.specs.Reading.{read_of}
 use Rattle.psk_messages.proofs.Grammar.{sent_is_read}
 use Rattle.cmac_mac.specs.Cmac.{aes_cmac}
-use Rattle.cmac_mac.proofs.Laws.{length-aes_cmac}
+use Rattle.cmac_mac.proofs.Laws.{length_aes_cmac}
 use Rattle.login_keys.specs.Psk.{psk_long_of, psk_keys_of}
 use Rattle.login_keys.specs.declared.psk.PskKeys.{PskKeys}
 use Rattle.eap_method.specs.declared.tags.TagRecord.{TagRecord}
@@ -30,11 +30,11 @@ bytes_equal xs ys same = ap (λ octets. bytes_eq octets ys) same ∙ bytes_same 
 
 length-mac_p : (login : peer.Login) → length (peer.mac_p_of login) ≡ 16
 unfolding peer.mac_p_of
-length-mac_p login = length-aes_cmac _ _
+length-mac_p login = length_aes_cmac _ _
 
 length-mac_s : (login : server.Login) → length (server.mac_s_of login) ≡ 16
 unfolding server.mac_s_of
-length-mac_s login = length-aes_cmac _ _
+length-mac_s login = length_aes_cmac _ _
 
 length-psk3_tag : (login : server.Login) (id : ℕ) → length (server.psk3_sealed login id).tag ≡ 16
 unfolding server.psk3_sealed
