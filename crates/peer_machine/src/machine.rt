@@ -1,11 +1,14 @@
 //! The peer of RFC 4137 section 4 over the objects of its methods.
 
-ghost use Rattle.std.specs.Prelude.{◌≡◌, [], ◌∷◌, ◌++◌, true, false, map, None, Ok, ℕ, List};
+ghost use Rattle.std.specs.Prelude.{◌≡◌, ◌≢◌, ◌≤◌, [], ◌∷◌, ◌++◌, length, true, false, map, None, Some, Ok, ℕ, List};
 ghost use Rattle.eap_base.specs.Setup.{IsSoundPeer, HasKeys, is_among};
 ghost use Rattle.eap_packet.specs.Packet.{spelled, value_of, IsPacket};
-ghost use Rattle.eap_packet.specs.declared.state.State.TheVariants.{Received, Method, Discard, Idle, Failure, SendResponse};
-ghost use Rattle.eap_method.specs.Steps.{discards, enters, sends};
-ghost use Rattle.peer_machine.specs.PeerTable.{vars_begun, before_method, method_answers, settled, answer, is_allowed};
+ghost use Rattle.eap_packet.specs.Packet as packets;
+ghost use Rattle.eap_packet.specs.declared.state.State.TheVariants.{Received, Method, Discard, Idle, Failure, Retransmit, SendResponse};
+ghost use Rattle.eap_method.specs.PeerTurn.{peer_turn_with, peer_tags};
+ghost use Rattle.eap_method.specs.Steps.{step_with};
+ghost use Rattle.eap_method.specs.Tags.{no_tags};
+ghost use Rattle.peer_machine.specs.PeerTable.{before_method, method_answers, settled, answer, is_allowed};
 ghost use Rattle.eap_method.specs.Peer.{IsRequest, PeerViews, peer_views, peer_turn, peer_kinds};
 
 use crate::variables::PeerVariables;
@@ -49,7 +52,7 @@ impl<M> Model for PeerMachine<M> {
 impl<M: PeerMethod> PeerMachine<M> {
     ghost use Rattle.eap_method.specs.Peer.{have_each};
     ghost use Rattle.eap_method.specs.Steps.{is_end};
-    ghost use Rattle.peer_machine.specs.PeerTable.{PeerAnswer, now_of, peer_made, peer_deliver, peer_idle, peer_alt_accept, peer_alt_reject, peer_reports, peer_row, peer_discard, peer_respond, peer_retransmit, peer_ends, peer_success, peer_failure, get_method, new_request, peer_method, is_last_id};
+    ghost use Rattle.peer_machine.specs.PeerTable.{PeerAnswer, now_of, peer_made, peer_deliver, peer_idle, peer_alt_accept, peer_alt_reject, peer_reports, peer_row, peer_success, peer_failure, new_request, peer_method, is_last_id};
 
     /// INITIALIZE (RFC 4137 section 4.5): begins the objects of the methods that the setup allows; the
     /// peer then stands in IDLE. Each of these methods has an object.
@@ -63,26 +66,37 @@ impl<M: PeerMethod> PeerMachine<M> {
         let mut methods = methods;
         begin_peers(methods.as_mut_slice(), &setup);
         PeerMachine {
-            vars: begun(setup),
+            vars: PeerVariables {
+                setup,
+                state: State::Idle,
+                selected: None,
+                method_state: MethodState::NotSet,
+                decision: Decision::Fail,
+                last_id: None,
+                last_response: Packet::new(),
+            },
             methods,
         }
     }
 
     /// Octets come from the server. The packet that they begin with is taken through RECEIVED (RFC 4137
     /// section 4.5). Octets that begin with no packet are discarded, and so are all once the peer has
-    /// ended. A discard changes neither a variable nor a method's view, and makes no record; a selection
-    /// that GET_METHOD had just made is undone.
+    /// ended. The packet that is sent is written into `packet`, the records of the turn's tags into `tags`,
+    /// in place of what was there. A discard changes neither a variable nor a method's view, and leaves
+    /// no record; a selection that GET_METHOD had just made is undone. Without a packet that is sent,
+    /// nothing counts in `packet`.
     #[tactic(auto, unfolding(crate::specs::PeerTable::peer_deliver))]
-    pub fn deliver(&mut self, octets: &[u8]) -> Step
-        ensures step { peer_deliver (now_of M.peer_shown self.old) octets.now ≡ answer result (now_of M.peer_shown self.new) }
+    pub fn deliver(&mut self, octets: &[u8], packet: &mut Packet, tags: &mut Tags) -> Step
+        ensures step { peer_deliver (now_of M.peer_shown self.old) octets.now ≡ answer (step_with result packet.new tags.new) (now_of M.peer_shown self.new) }
         ensures kinds { peer_kinds (map M.peer_shown self.new.methods) ≡ peer_kinds (map M.peer_shown self.old.methods) }
     {
+        tags.clear();
         if self.ended() {
             return Step::discarding(&[], Cause::Ended);
         }
         match decode(octets) {
-            Err(cause) => self.discard(cause),
-            Ok(view) => self.take(&view),
+            Err(cause) => discard(cause),
+            Ok(view) => self.take(&view, packet, tags),
         }
     }
 
@@ -91,13 +105,13 @@ impl<M: PeerMethod> PeerMachine<M> {
     #[tactic(auto, unfolding(crate::specs::PeerTable::peer_idle))]
     pub fn idle(&mut self) -> Step
         requires { is_end self.old.vars.state ≡ false }
-        ensures step { peer_idle (now_of M.peer_shown self.old) ≡ answer result (now_of M.peer_shown self.new) }
+        ensures step { peer_idle (now_of M.peer_shown self.old) ≡ answer (step_with result [] no_tags) (now_of M.peer_shown self.new) }
         ensures kinds { peer_kinds (map M.peer_shown self.new.methods) ≡ peer_kinds (map M.peer_shown self.old.methods) }
     {
         if self.vars.decision == Decision::UncondSucc {
-            self.end(State::Success)
+            end(&mut self.vars, State::Success)
         } else {
-            self.end(State::Failure)
+            end(&mut self.vars, State::Failure)
         }
     }
 
@@ -106,15 +120,15 @@ impl<M: PeerMethod> PeerMachine<M> {
     #[tactic(auto, unfolding(crate::specs::PeerTable::peer_alt_accept))]
     pub fn alt_accept(&mut self) -> Step
         requires { is_end self.old.vars.state ≡ false }
-        ensures step { peer_alt_accept (now_of M.peer_shown self.old) ≡ answer result (now_of M.peer_shown self.new) }
+        ensures step { peer_alt_accept (now_of M.peer_shown self.old) ≡ answer (step_with result [] no_tags) (now_of M.peer_shown self.new) }
         ensures kinds { peer_kinds (map M.peer_shown self.new.methods) ≡ peer_kinds (map M.peer_shown self.old.methods) }
     {
         if self.vars.decision != Decision::Fail {
-            self.end(State::Success)
+            end(&mut self.vars, State::Success)
         } else if self.vars.method_state != MethodState::Cont {
-            self.end(State::Failure)
+            end(&mut self.vars, State::Failure)
         } else {
-            Step::entering(&[], Tags::none())
+            Step::entering(&[])
         }
     }
 
@@ -122,10 +136,10 @@ impl<M: PeerMethod> PeerMachine<M> {
     #[tactic(auto, unfolding(crate::specs::PeerTable::peer_alt_reject))]
     pub fn alt_reject(&mut self) -> Step
         requires { is_end self.old.vars.state ≡ false }
-        ensures step { peer_alt_reject (now_of M.peer_shown self.old) ≡ answer result (now_of M.peer_shown self.new) }
+        ensures step { peer_alt_reject (now_of M.peer_shown self.old) ≡ answer (step_with result [] no_tags) (now_of M.peer_shown self.new) }
         ensures kinds { peer_kinds (map M.peer_shown self.new.methods) ≡ peer_kinds (map M.peer_shown self.old.methods) }
     {
-        self.end(State::Failure)
+        end(&mut self.vars, State::Failure)
     }
 
     /// The peer's settings.
@@ -166,253 +180,272 @@ impl<M: PeerMethod> PeerMachine<M> {
         self.methods
     }
 
-    /// RECEIVED, of a packet.
+    /// RECEIVED, of a packet; there are no records yet.
     #[tactic(auto, using(crate::proofs::Requests::is_request))]
-    fn take(&mut self, view: &View) -> Step
+    fn take(&mut self, view: &View, packet: &mut Packet, tags: &mut Tags) -> Step
         requires packet { IsPacket (value_of view.now) }
         requires whole { view.now.whole.now ≡ spelled (value_of view.now) }
-        ensures step { peer_row (now_of M.peer_shown self.old) (Ok (value_of view.now)) ≡ answer result (now_of M.peer_shown self.new) }
+        requires tags { tags.old ≡ no_tags }
+        ensures step { peer_row (now_of M.peer_shown self.old) (Ok (value_of view.now))
+            ≡ answer (step_with result packet.new tags.new) (now_of M.peer_shown self.new) }
         ensures kinds { peer_kinds (map M.peer_shown self.new.methods) ≡ peer_kinds (map M.peer_shown self.old.methods) }
     {
         let is_last = self.vars.last_id == Some(view.id);
         match view.code {
-            Code::Response => self.discard(Cause::WrongRole),
+            Code::Response => discard(Cause::WrongRole),
             Code::Request => {
                 if is_last {
-                    self.retransmit()
+                    retransmit(&self.vars, packet)
                 } else {
-                    self.new_request(view.id, view.kind, view.whole)
+                    self.new_request(view.id, view.kind, view.whole, packet, tags)
                 }
             }
             Code::Success => {
                 if is_last {
                     self.success()
                 } else {
-                    self.discard(Cause::IdMismatch)
+                    discard(Cause::IdMismatch)
                 }
             }
             Code::Failure => {
                 if is_last {
                     self.failure()
                 } else {
-                    self.discard(Cause::IdMismatch)
+                    discard(Cause::IdMismatch)
                 }
             }
         }
     }
 
-    /// DISCARD: nothing changes.
-    fn discard(&mut self, cause: Cause) -> Step
-        ensures step { peer_discard (now_of M.peer_shown self.old) cause ≡ answer result (now_of M.peer_shown self.new) }
-        ensures kinds { peer_kinds (map M.peer_shown self.new.methods) ≡ peer_kinds (map M.peer_shown self.old.methods) }
-    {
-        Step::discarding(&[State::Received, State::Discard, State::Idle], cause)
-    }
-
-    /// SEND_RESPONSE, after the state `entered`: sets lastId and lastRespData.
-    fn respond(&mut self, entered: State, id: u8, response: Packet) -> Step
-        ensures step { peer_respond (now_of M.peer_shown self.old) entered id response ≡ answer result (now_of M.peer_shown self.new) }
-        ensures kinds { peer_kinds (map M.peer_shown self.new.methods) ≡ peer_kinds (map M.peer_shown self.old.methods) }
-    {
-        self.vars.last_id = Some(id);
-        self.vars.last_response = response.copy();
-        let states = [State::Received, entered, State::SendResponse, State::Idle];
-        Step::sending(&states, response, Tags::none())
-    }
-
-    /// RETRANSMIT: lastRespData is sent again, unchanged; no method is called.
-    fn retransmit(&mut self) -> Step
-        ensures step { peer_retransmit (now_of M.peer_shown self.old) ≡ answer result (now_of M.peer_shown self.new) }
-        ensures kinds { peer_kinds (map M.peer_shown self.new.methods) ≡ peer_kinds (map M.peer_shown self.old.methods) }
-    {
-        let states = [
-            State::Received,
-            State::Retransmit,
-            State::SendResponse,
-            State::Idle,
-        ];
-        Step::sending(&states, self.vars.last_response.copy(), Tags::none())
-    }
-
-    /// The peer ends in this state, without a packet.
-    fn end(&mut self, state: State) -> Step
-        ensures step { peer_ends (now_of M.peer_shown self.old) [] state ≡ answer result (now_of M.peer_shown self.new) }
-        ensures kinds { peer_kinds (map M.peer_shown self.new.methods) ≡ peer_kinds (map M.peer_shown self.old.methods) }
-    {
-        self.vars.state = state;
-        Step::entering(&[state], Tags::none())
-    }
-
-    /// The peer ends in this state, after a packet.
-    fn end_received(&mut self, state: State) -> Step
-        ensures step { peer_ends (now_of M.peer_shown self.old) (Received ∷ []) state ≡ answer result (now_of M.peer_shown self.new) }
-        ensures kinds { peer_kinds (map M.peer_shown self.new.methods) ≡ peer_kinds (map M.peer_shown self.old.methods) }
-    {
-        self.vars.state = state;
-        Step::entering(&[State::Received, state], Tags::none())
-    }
-
-    /// A Success with lastId.
+    /// A Success with lastId. Nothing is sent.
     fn success(&mut self) -> Step
-        ensures step { peer_success (now_of M.peer_shown self.old) ≡ answer result (now_of M.peer_shown self.new) }
+        ensures step { (packet : List ℕ) → peer_success (now_of M.peer_shown self.old)
+            ≡ answer (step_with result packet no_tags) (now_of M.peer_shown self.new) }
         ensures kinds { peer_kinds (map M.peer_shown self.new.methods) ≡ peer_kinds (map M.peer_shown self.old.methods) }
     {
         if self.vars.decision != Decision::Fail {
-            self.end_received(State::Success)
+            end_received(&mut self.vars, State::Success)
         } else if self.vars.method_state == MethodState::Cont {
-            self.discard(Cause::EarlySuccess)
+            discard(Cause::EarlySuccess)
         } else {
-            self.end_received(State::Failure)
+            end_received(&mut self.vars, State::Failure)
         }
     }
 
-    /// A Failure with lastId.
+    /// A Failure with lastId. Nothing is sent.
     fn failure(&mut self) -> Step
-        ensures step { peer_failure (now_of M.peer_shown self.old) ≡ answer result (now_of M.peer_shown self.new) }
+        ensures step { (packet : List ℕ) → peer_failure (now_of M.peer_shown self.old)
+            ≡ answer (step_with result packet no_tags) (now_of M.peer_shown self.new) }
         ensures kinds { peer_kinds (map M.peer_shown self.new.methods) ≡ peer_kinds (map M.peer_shown self.old.methods) }
     {
         if self.vars.decision == Decision::UncondSucc {
-            self.discard(Cause::LateFailure)
+            discard(Cause::LateFailure)
         } else if self.vars.method_state == MethodState::Cont {
-            self.discard(Cause::EarlyFailure)
+            discard(Cause::EarlyFailure)
         } else {
-            self.end_received(State::Failure)
+            end_received(&mut self.vars, State::Failure)
         }
     }
 
-    /// A Request with another Identifier than lastId.
-    fn new_request(&mut self, id: u8, kind: u8, request: &[u8]) -> Step
-        requires { IsRequest kind request.now }
-        ensures step { new_request (now_of M.peer_shown self.old) id kind request.now self.old.vars.selected ≡ answer result (now_of M.peer_shown self.new) }
+    /// A Request with another Identifier than lastId; there are no records yet.
+    fn new_request(
+        &mut self,
+        id: u8,
+        kind: u8,
+        request: &[u8],
+        packet: &mut Packet,
+        tags: &mut Tags,
+    ) -> Step
+        requires request { IsRequest kind request.now }
+        requires tags { tags.old ≡ no_tags }
+        ensures step { new_request (now_of M.peer_shown self.old) id kind request.now self.old.vars.selected
+            ≡ answer (step_with result packet.new tags.new) (now_of M.peer_shown self.new) }
         ensures kinds { peer_kinds (map M.peer_shown self.new.methods) ≡ peer_kinds (map M.peer_shown self.old.methods) }
     {
         match self.vars.selected {
-            None => self.first_request(id, kind, request),
+            None => self.first_request(id, kind, request, packet, tags),
             Some(selected) => {
                 if kind == NOTIFICATION {
-                    self.discard(Cause::NotAllowed)
+                    discard(Cause::NotAllowed)
                 } else if kind != selected {
-                    self.discard(Cause::OtherMethod)
+                    discard(Cause::OtherMethod)
                 } else if self.vars.method_state == MethodState::Done {
-                    self.discard(Cause::MethodDone)
+                    discard(Cause::MethodDone)
                 } else {
-                    self.method(false, kind, id, request)
+                    self.method(false, kind, id, request, packet, tags)
                 }
             }
         }
     }
 
-    /// A Request while no method is selected: IDENTITY, NOTIFICATION or GET_METHOD.
-    fn first_request(&mut self, id: u8, kind: u8, request: &[u8]) -> Step
-        requires { IsRequest kind request.now }
-        ensures step { new_request (now_of M.peer_shown self.old) id kind request.now None ≡ answer result (now_of M.peer_shown self.new) }
-        ensures kinds { peer_kinds (map M.peer_shown self.new.methods) ≡ peer_kinds (map M.peer_shown self.old.methods) }
-    {
-        match kind {
-            IDENTITY => {
-                let response = encode(
-                    Code::Response,
-                    id,
-                    IDENTITY,
-                    self.vars.setup.name.as_slice(),
-                );
-                self.respond(State::Identity, id, response)
-            }
-            NOTIFICATION => {
-                let response = encode(Code::Response, id, NOTIFICATION, &[]);
-                self.respond(State::Notification, id, response)
-            }
-            _ => self.get_method(id, kind, request),
-        }
-    }
-
-    /// GET_METHOD: a method that the policy allows handles the Request; any other is answered by a Nak
-    /// (RFC 3748 section 5.3.1).
+    /// A Request while no method is selected: IDENTITY, NOTIFICATION or GET_METHOD. A method that the
+    /// policy allows handles the Request; any other is answered by a Nak (RFC 3748 section 5.3.1). There
+    /// are no records yet.
     #[tactic(auto, using(login_policy::proofs::Choices::nak_lists_some))]
-    fn get_method(&mut self, id: u8, kind: u8, request: &[u8]) -> Step
-        requires { IsRequest kind request.now }
-        ensures step { get_method (now_of M.peer_shown self.old) id kind request.now ≡ answer result (now_of M.peer_shown self.new) }
+    fn first_request(
+        &mut self,
+        id: u8,
+        kind: u8,
+        request: &[u8],
+        packet: &mut Packet,
+        tags: &mut Tags,
+    ) -> Step
+        requires request { IsRequest kind request.now }
+        requires tags { tags.old ≡ no_tags }
+        ensures step { new_request (now_of M.peer_shown self.old) id kind request.now None
+            ≡ answer (step_with result packet.new tags.new) (now_of M.peer_shown self.new) }
         ensures kinds { peer_kinds (map M.peer_shown self.new.methods) ≡ peer_kinds (map M.peer_shown self.old.methods) }
     {
-        if peer_allows(&self.vars.setup, kind) {
-            self.method(true, kind, id, request)
+        if kind == IDENTITY {
+            write_response(packet, id, IDENTITY, self.vars.setup.name.as_slice());
+            respond(&mut self.vars, State::Identity, id, packet)
+        } else if kind == NOTIFICATION {
+            write_response(packet, id, NOTIFICATION, &[]);
+            respond(&mut self.vars, State::Notification, id, packet)
+        } else if peer_allows(&self.vars.setup, kind) {
+            self.method(true, kind, id, request, packet, tags)
         } else {
-            let desired = nak_list(&self.vars.setup);
-            let response = encode(Code::Response, id, NAK, desired.as_slice());
-            self.respond(State::GetMethod, id, response)
+            write_response(packet, id, NAK, nak_list(&self.vars.setup).as_slice());
+            respond(&mut self.vars, State::GetMethod, id, packet)
         }
     }
 
     /// METHOD: the object of this Type, which the policy allows, handles the whole packet. Nothing is
-    /// written before its turn is known to be a reply.
+    /// written into the variables before its turn is known to be a reply.
     #[tactic(auto, unfolding(crate::specs::PeerTable::peer_method))]
-    fn method(&mut self, selects: bool, kind: u8, id: u8, request: &[u8]) -> Step
+    fn method(
+        &mut self,
+        selects: bool,
+        kind: u8,
+        id: u8,
+        request: &[u8],
+        packet: &mut Packet,
+        tags: &mut Tags,
+    ) -> Step
         requires request { IsRequest kind request.now }
         requires allowed { is_among self.old.vars.setup.methods kind ≡ true }
-        ensures step { peer_method selects (now_of M.peer_shown self.old) kind id request.now ≡ answer result (now_of M.peer_shown self.new) }
+        ensures step { peer_method selects (now_of M.peer_shown self.old) kind id request.now
+            ≡ answer (step_with result packet.new tags.new) (now_of M.peer_shown self.new) }
         ensures kinds { peer_kinds (map M.peer_shown self.new.methods) ≡ peer_kinds (map M.peer_shown self.old.methods) }
     {
-        let turn = hand(&mut self.methods, kind, request);
-        settle(&mut self.vars, selects, kind, id, turn)
+        let turn = hand(&mut self.methods, kind, request, packet, tags);
+        settle(&mut self.vars, selects, kind, id, turn, packet)
     }
 }
 
-/// The turn of the object of this Type.
-fn hand<M: PeerMethod>(methods: &mut Vec<M>, kind: u8, request: &[u8]) -> PeerTurn
-    requires { IsRequest kind request.now }
-    ensures turn { (allowed : List ℕ) → is_among allowed kind ≡ true → peer_turn kind (peer_views allowed (map M.peer_shown methods.old.items)) request.now ≡ record { turn = result; after = peer_views allowed (map M.peer_shown methods.new.items) } }
-    ensures kinds { peer_kinds (map M.peer_shown methods.new.items) ≡ peer_kinds (map M.peer_shown methods.old.items) }
+/// DISCARD: nothing changes.
+fn discard(cause: Cause) -> Step
+    ensures { result ≡ record { path = Received ∷ Discard ∷ Idle ∷ []; cause = Some cause; sends = false } }
 {
-    hand_to_peer(methods.as_mut_slice(), kind, request)
+    Step::discarding(&[State::Received, State::Discard, State::Idle], cause)
 }
 
-/// METHOD, of the turn of the method's object: a discard writes nothing.
-fn settle(vars: &mut PeerVariables, selects: bool, kind: u8, id: u8, turn: PeerTurn) -> Step
-    ensures step { (before after : PeerViews) → method_answers selects (record { vars = vars.old; views = before }) kind id after turn ≡ answer result (record { vars = vars.new; views = settled before after turn }) }
+/// Writes a Response of this Type and Type-Data in place of what was there.
+fn write_response(packet: &mut Packet, id: u8, kind: u8, body: &[u8])
+    requires fits { length body.now ≤ 1495 }
+    requires nak_desires { kind ≡ 3 → body.now ≢ [] }
+    ensures { packet.new ≡ spelled (packets.response id kind body.now) }
+{
+    packet.set(encode(Code::Response, id, kind, body).as_slice());
+}
+
+/// SEND_RESPONSE, after the state `entered`: sets lastId and lastRespData.
+fn respond(vars: &mut PeerVariables, entered: State, id: u8, response: &Packet) -> Step
+    ensures vars { vars.new ≡ record vars.old { last_id = Some id; last_response = response.now } }
+    ensures step { result ≡ record { path = Received ∷ entered ∷ SendResponse ∷ Idle ∷ []; cause = None; sends = true } }
+{
+    vars.last_id = Some(id);
+    vars.last_response.set(response.as_slice());
+    Step::sending(&[State::Received, entered, State::SendResponse, State::Idle])
+}
+
+/// RETRANSMIT: lastRespData is sent again, unchanged; no method is called.
+fn retransmit(vars: &PeerVariables, packet: &mut Packet) -> Step
+    ensures packet { packet.new ≡ vars.now.last_response }
+    ensures step { result ≡ record { path = Received ∷ Retransmit ∷ SendResponse ∷ Idle ∷ []; cause = None; sends = true } }
+{
+    packet.set(vars.last_response.as_slice());
+    let states = [
+        State::Received,
+        State::Retransmit,
+        State::SendResponse,
+        State::Idle,
+    ];
+    Step::sending(&states)
+}
+
+/// The peer ends in this state, without a packet.
+fn end(vars: &mut PeerVariables, state: State) -> Step
+    ensures vars { vars.new ≡ record vars.old { state = state } }
+    ensures step { result ≡ record { path = state ∷ []; cause = None; sends = false } }
+{
+    vars.state = state;
+    Step::entering(&[state])
+}
+
+/// The peer ends in this state, after a packet.
+fn end_received(vars: &mut PeerVariables, state: State) -> Step
+    ensures vars { vars.new ≡ record vars.old { state = state } }
+    ensures step { result ≡ record { path = Received ∷ state ∷ []; cause = None; sends = false } }
+{
+    vars.state = state;
+    Step::entering(&[State::Received, state])
+}
+
+/// The turn of the object of this Type.
+fn hand<M: PeerMethod>(
+    methods: &mut Vec<M>,
+    kind: u8,
+    request: &[u8],
+    packet: &mut Packet,
+    tags: &mut Tags,
+) -> PeerTurn
+    requires { IsRequest kind request.now }
+    ensures turn { (allowed : List ℕ) → is_among allowed kind ≡ true → peer_turn kind (peer_views allowed (map M.peer_shown methods.old.items)) request.now
+        ≡ record { turn = peer_turn_with result packet.new tags.new; after = peer_views allowed (map M.peer_shown methods.new.items) } }
+    ensures tags { tags.new ≡ peer_tags (peer_turn_with result packet.new tags.new) }
+    ensures kinds { peer_kinds (map M.peer_shown methods.new.items) ≡ peer_kinds (map M.peer_shown methods.old.items) }
+{
+    hand_to_peer(methods.as_mut_slice(), kind, request, packet, tags)
+}
+
+/// METHOD, of the turn of the method's object, whose Response is `packet`: a discard writes nothing.
+fn settle(
+    vars: &mut PeerVariables,
+    selects: bool,
+    kind: u8,
+    id: u8,
+    turn: PeerTurn,
+    packet: &Packet,
+) -> Step
+    ensures step { (before after : PeerViews) (tags : Tags) → let whole = peer_turn_with turn packet.now tags in
+        method_answers selects (record { vars = vars.old; views = before }) kind id after whole
+        ≡ answer (step_with result packet.now (peer_tags whole)) (record { vars = vars.new; views = settled before after whole }) }
     ensures setup { vars.new.setup ≡ vars.old.setup }
-    ensures selected { is_allowed vars.old.setup.methods vars.old.selected ≡ true → is_among vars.old.setup.methods kind ≡ true → is_allowed vars.new.setup.methods vars.new.selected ≡ true }
+    ensures selected { is_allowed vars.old.setup.methods vars.old.selected ≡ true → is_among vars.old.setup.methods kind ≡ true
+        → is_allowed vars.new.setup.methods vars.new.selected ≡ true }
 {
     match turn {
         PeerTurn::Discard(cause) => method_discards(selects, cause),
-        PeerTurn::Reply {
-            packet,
-            state,
-            decision,
-            tags,
-        } => {
+        PeerTurn::Reply { state, decision } => {
             vars.selected = Some(kind);
             vars.method_state = state;
             vars.decision = decision;
             if state == MethodState::Done && decision == Decision::Fail {
                 vars.state = State::Failure;
-                method_fails(selects, tags)
+                method_fails(selects)
             } else {
                 vars.last_id = Some(id);
-                vars.last_response = packet.copy();
-                method_replies(selects, packet, tags)
+                vars.last_response.set(packet.as_slice());
+                method_replies(selects)
             }
         }
     }
 }
 
-/// INITIALIZE: the variables of a peer that begins.
-fn begun(setup: PeerSetup) -> PeerVariables
-    ensures { result ≡ vars_begun setup }
-{
-    PeerVariables {
-        setup,
-        state: State::Idle,
-        selected: None,
-        method_state: MethodState::NotSet,
-        decision: Decision::Fail,
-        last_id: None,
-        last_response: Packet::new(),
-    }
-}
-
 /// METHOD and DISCARD, after GET_METHOD where it has just selected the method.
 fn method_discards(selects: bool, cause: Cause) -> Step
-    ensures { result ≡ discards (before_method selects ++ Method ∷ Discard ∷ Idle ∷ []) cause }
+    ensures { result ≡ record { path = before_method selects ++ Method ∷ Discard ∷ Idle ∷ []; cause = Some cause; sends = false } }
 {
     if selects {
         let states = [
@@ -430,8 +463,8 @@ fn method_discards(selects: bool, cause: Cause) -> Step
 }
 
 /// METHOD and FAILURE, after GET_METHOD where it has just selected the method.
-fn method_fails(selects: bool, tags: Tags) -> Step
-    ensures { result ≡ enters (before_method selects ++ Method ∷ Failure ∷ []) tags }
+fn method_fails(selects: bool) -> Step
+    ensures { result ≡ record { path = before_method selects ++ Method ∷ Failure ∷ []; cause = None; sends = false } }
 {
     if selects {
         let states = [
@@ -440,16 +473,16 @@ fn method_fails(selects: bool, tags: Tags) -> Step
             State::Method,
             State::Failure,
         ];
-        Step::entering(&states, tags)
+        Step::entering(&states)
     } else {
         let states = [State::Received, State::Method, State::Failure];
-        Step::entering(&states, tags)
+        Step::entering(&states)
     }
 }
 
 /// METHOD and SEND_RESPONSE, after GET_METHOD where it has just selected the method.
-fn method_replies(selects: bool, packet: Packet, tags: Tags) -> Step
-    ensures { result ≡ sends (before_method selects ++ Method ∷ SendResponse ∷ Idle ∷ []) packet tags }
+fn method_replies(selects: bool) -> Step
+    ensures { result ≡ record { path = before_method selects ++ Method ∷ SendResponse ∷ Idle ∷ []; cause = None; sends = true } }
 {
     if selects {
         let states = [
@@ -459,7 +492,7 @@ fn method_replies(selects: bool, packet: Packet, tags: Tags) -> Step
             State::SendResponse,
             State::Idle,
         ];
-        Step::sending(&states, packet, tags)
+        Step::sending(&states)
     } else {
         let states = [
             State::Received,
@@ -467,6 +500,6 @@ fn method_replies(selects: bool, packet: Packet, tags: Tags) -> Step
             State::SendResponse,
             State::Idle,
         ];
-        Step::sending(&states, packet, tags)
+        Step::sending(&states)
     }
 }

@@ -10,9 +10,11 @@ returns-clause-step g c =
     let inside : PeerValue _ = record { vars = c.self.inside.vars; methods = c.self.inside.methods.items } in
     let allowed : is_among inside.vars.setup.methods c.args.kind ≡ true =
     subst (λ (v : PeerValue _). is_among v.vars.setup.methods c.args.kind ≡ true) (sym c.self.view_is) c.requires.allowed in
+    let turn = c.hand-turn in
     rw (← c.self.view_is)
-    (method_settles c.args.selects (now_of shown inside) c.settle.new.vars c.args.kind c.args.id c.args.request.now c.hand-turn.result
-    (map shown c.hand-turn.new.methods.items) c.settle.result
-    (c.hand-turn.ensures.turn inside.vars.setup.methods allowed)
-    (c.settle.ensures.step (now_of shown inside).views _)
+    (method_settles c.args.selects (now_of shown inside) c.settle.new.vars c.args.kind c.args.id c.args.request.now turn.result
+    turn.new.packet turn.new.tags (map shown turn.new.methods.items) c.settle.result
+    (turn.ensures.turn inside.vars.setup.methods allowed)
+    turn.ensures.tags
+    (c.settle.ensures.step (now_of shown inside).views _ turn.new.tags)
     c.settle.ensures.setup)
