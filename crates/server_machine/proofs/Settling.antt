@@ -2,9 +2,12 @@
 use Rattle.std.proofs.Common.{◌≡◌, ℕ, List, Option, Some, None, refl, ap, ◌∙◌, sym}
 use Rattle.eap_packet.specs.declared.state.State.{State}
 use Rattle.login_policy.specs.Policy.{next_kind}
-use Rattle.eap_method.specs.Steps.{Step}
+use Rattle.eap_method.specs.declared.step.Step as brief
+use Rattle.eap_method.specs.declared.tags.Tags.{Tags}
+use Rattle.eap_method.specs.declared.turn.ServerTurn as short
+use Rattle.eap_method.specs.Steps.{Step, step_with}
 use Rattle.eap_method.specs.ServerTurn.{ServerTurn}
-use Rattle.eap_method.specs.ServerTurn.{Discard, Request, Done}
+use Rattle.eap_method.specs.ServerTurn.{Discard, Request, Done, server_turn_with, server_tags}
 use Rattle.eap_method.specs.Server.{ServerShown, ServerViews, server_views, server_turn, server_offer, side_of, server_report_of}
 use Rattle.eap_method.specs.Tags.{no_tags}
 use Rattle.eap_method.proofs.Discards.{server_turn_keeps}
@@ -46,13 +49,21 @@ settled_after now kind after octets (Request packet tags) turned = refl
 settled_after now kind after octets (Done good tags) turned = refl
 
 -- the turn of a method
-pub turn_settles : (now : ServerNow) (vars : ServerVariables) (id kind : ℕ) (octets : List ℕ) (turn : ServerTurn) (shown : List ServerShown) (step : Step)
-    → server_turn now.vars.setup.users (next_id now.vars) kind now.views octets ≡ record { turn = turn; after = server_views now.vars.setup.methods shown }
+pub turn_settles : (now : ServerNow) (vars : ServerVariables) (id kind : ℕ) (octets : List ℕ) (turn : short.ServerTurn) (packet sent : List ℕ) (tags : Tags)
+    (shown : List ServerShown) (step : brief.Step)
+    → server_turn now.vars.setup.users (next_id now.vars) kind now.views octets
+    ≡ record { turn = server_turn_with turn packet tags; after = server_views now.vars.setup.methods shown }
+    → tags ≡ server_tags (server_turn_with turn packet tags)
     → (let after = server_views now.vars.setup.methods shown in
-    method_answers now id after turn ≡ answer step (record { vars = vars; views = settled now.views after turn }))
+    let whole = server_turn_with turn packet tags in
+    method_answers now id after whole ≡ answer (step_with step sent (server_tags whole)) (record { vars = vars; views = settled now.views after whole }))
     → vars.setup ≡ now.vars.setup
-    → server_method now id kind octets ≡ answer step (record { vars = vars; views = server_views vars.setup.methods shown })
+    → server_method now id kind octets ≡ answer (step_with step sent tags) (record { vars = vars; views = server_views vars.setup.methods shown })
 unfolding server_method
-turn_settles now vars id kind octets turn shown step turned settles same =
-    let kept = settled_after now kind (server_views now.vars.setup.methods shown) octets turn turned in
-    rw turned (settles ∙ (ap (λ (views : ServerViews). answer step (record { vars = vars; views = views })) kept ∙ (rw same refl)))
+turn_settles now vars id kind octets turn packet sent tags shown step turned told settles same =
+    let after = server_views now.vars.setup.methods shown in
+    let whole = server_turn_with turn packet tags in
+    let kept = settled_after now kind after octets whole turned in
+    let step_told = ap (λ (t : Tags). answer (step_with step sent t) (record { vars = vars; views = settled now.views after whole })) (sym told) in
+    let step_kept = ap (λ (views : ServerViews). answer (step_with step sent tags) (record { vars = vars; views = views })) kept in
+    rw turned (settles ∙ (step_told ∙ (step_kept ∙ (rw same refl))))

@@ -1,15 +1,16 @@
 //! The stand-alone server of RFC 4137 section 5 over the objects of its methods.
 
-ghost use Rattle.std.specs.Prelude.{◌≡◌, ◌≤◌, ◌<◌, [], ◌∷◌, ◌++◌, ℕ, List, true, false, map, length, Some, None, Ok, option_copied, All, IsTrue, if◌then◌else◌};
+ghost use Rattle.std.specs.Prelude.{◌≡◌, ◌≤◌, ◌<◌, [], ◌∷◌, ◌++◌, ℕ, List, true, false, not, map, length, Some, None, Ok, option_copied, All, IsTrue, if◌then◌else◌};
 ghost use Rattle.eap_base.specs.Setup.{IsSoundServer, is_among, are_suites, fits_kind};
-ghost use Rattle.eap_packet.specs.Packet.{spelled, value_of, IsPacket};
+ghost use Rattle.eap_packet.specs.Packet.{spelled, value_of, value_with, has_type, IsPacket};
 ghost use Rattle.eap_packet.specs.Packet as packets;
-ghost use Rattle.eap_packet.specs.declared.state.State.TheVariants.{Success, Failure, ProposeMethod, MethodRequest, SendRequest, Idle};
+ghost use Rattle.eap_packet.specs.declared.state.State.TheVariants.{ProposeMethod, MethodRequest, SendRequest, Received, Discard, Idle};
 ghost use Rattle.eap_method.specs.Peer.{have_each};
 ghost use Rattle.eap_method.specs.Server.{IsResponse, ServerViews, server_views, server_kinds, server_offer, server_turn, side_of};
-ghost use Rattle.eap_method.specs.Steps.{discards, enters, sends};
+ghost use Rattle.eap_method.specs.ServerTurn.{server_turn_with, server_tags};
+ghost use Rattle.eap_method.specs.Steps.{step_with};
 ghost use Rattle.eap_method.specs.Tags.{no_tags};
-ghost use Rattle.server_machine.specs.ServerTable.{answer, vars_made, before_proposal, next_id, with_request, ends_well, ends_badly, offers, method_answers, settled, AreInOrder, is_current};
+ghost use Rattle.server_machine.specs.ServerTable.{answer, before_proposal, identity_request, next_id, with_request, ends_well, ends_badly, offers, method_answers, settled, AreInOrder, is_current};
 
 use crate::variables::{Progress, ServerVariables};
 use eap_base::{Kinds, Packet, ServerSetup};
@@ -65,7 +66,7 @@ impl<M> Model for ServerMachine<M> {
 
 impl<M: ServerMethod> ServerMachine<M> {
     ghost use Rattle.eap_method.specs.Steps.{is_end};
-    ghost use Rattle.server_machine.specs.ServerTable.{ServerAnswer, now_of, server_made, server_start, server_deliver, server_timeout, server_reports, is_started, server_row, server_discard, hears_identity, select_action, server_method, current_response, proposes};
+    ghost use Rattle.server_machine.specs.ServerTable.{ServerAnswer, now_of, server_made, server_start, server_deliver, server_timeout, server_reports, is_started, server_row, hears_identity, select_action, server_method, current_response, proposes};
 
     /// A server that has not started: begins the objects of the methods that the setup proposes. Each of
     /// these methods has an object; `max_retrans` is at most 10.
@@ -84,27 +85,38 @@ impl<M: ServerMethod> ServerMachine<M> {
         let mut methods = methods;
         begin_servers(methods.as_mut_slice(), &setup);
         ServerMachine {
-            vars: made(setup, first_id, max_retrans),
+            vars: ServerVariables {
+                setup,
+                first_id,
+                max_retrans,
+                state: State::Initialize,
+                current_id: None,
+                current: None,
+                progress: Progress::Continue,
+                retrans_count: 0,
+                last_request: Packet::new(),
+                proposed: Kinds::new(),
+            },
             methods,
         }
     }
 
     /// INITIALIZE (RFC 4137 section 5.5): proposes Identity and sends its Request, with the first
-    /// Identifier. The server has not started.
+    /// Identifier, in `packet`. The server has not started.
     #[tactic(auto, unfolding(crate::specs::ServerTable::server_start))]
-    pub fn start(&mut self) -> Step
+    pub fn start(&mut self, packet: &mut Packet) -> Step
         requires { is_started self.old.vars ≡ false }
-        ensures step { server_start (now_of M.server_shown self.old) ≡ answer result (now_of M.server_shown self.new) }
+        ensures step { server_start (now_of M.server_shown self.old) ≡ answer (step_with result packet.new no_tags) (now_of M.server_shown self.new) }
         ensures kinds { server_kinds (map M.server_shown self.new.methods) ≡ server_kinds (map M.server_shown self.old.methods) }
     {
-        let request = encode(Code::Request, self.vars.first_id, IDENTITY, &[]);
+        write_identity(packet, self.vars.first_id);
         self.vars.state = State::Idle;
         self.vars.current_id = Some(self.vars.first_id);
         self.vars.current = Some(IDENTITY);
         self.vars.progress = Progress::Continue;
         self.vars.retrans_count = 0;
-        self.vars.last_request = request.copy();
-        self.vars.proposed = Kinds::new();
+        self.vars.last_request.set(packet.as_slice());
+        self.vars.proposed.clear();
         let states = [
             State::Initialize,
             State::SelectAction,
@@ -113,41 +125,45 @@ impl<M: ServerMethod> ServerMachine<M> {
             State::SendRequest,
             State::Idle,
         ];
-        Step::sending(&states, request, Tags::none())
+        Step::sending(&states)
     }
 
     /// Octets come from the peer. The packet that they begin with is taken through RECEIVED (RFC 4137
     /// section 5.5). Octets that begin with no packet are discarded, and so are all once the server has
-    /// ended. A discard changes neither a variable nor a method's view, and makes no record.
+    /// ended. The packet that is sent is written into `packet`, the records of the turn's tags into `tags`,
+    /// in place of what was there. A discard changes neither a variable nor a method's view, and leaves
+    /// no record. Without a packet that is sent, nothing counts in `packet`.
     #[tactic(auto, unfolding(crate::specs::ServerTable::server_deliver))]
-    pub fn deliver(&mut self, octets: &[u8]) -> Step
-        ensures step { server_deliver (now_of M.server_shown self.old) octets.now ≡ answer result (now_of M.server_shown self.new) }
+    pub fn deliver(&mut self, octets: &[u8], packet: &mut Packet, tags: &mut Tags) -> Step
+        ensures step { server_deliver (now_of M.server_shown self.old) octets.now
+            ≡ answer (step_with result packet.new tags.new) (now_of M.server_shown self.new) }
         ensures kinds { server_kinds (map M.server_shown self.new.methods) ≡ server_kinds (map M.server_shown self.old.methods) }
     {
+        tags.clear();
         if self.ended() {
             return Step::discarding(&[], Cause::Ended);
         }
         match decode(octets) {
-            Err(cause) => self.discard(cause),
-            Ok(view) => self.take(&view),
+            Err(cause) => discard(cause),
+            Ok(view) => self.take(&view, packet, tags),
         }
     }
 
-    /// The retransmission timer ends (RFC 4137 section 5.5): the Request is sent again, at most
-    /// MaxRetrans times; then TIMEOUT_FAILURE follows. The server has not ended.
+    /// The retransmission timer ends (RFC 4137 section 5.5): the Request is sent again, in `packet`, at
+    /// most MaxRetrans times; then TIMEOUT_FAILURE follows. The server has not ended.
     #[tactic(auto, unfolding(crate::specs::ServerTable::server_timeout))]
-    pub fn timeout(&mut self) -> Step
+    pub fn timeout(&mut self, packet: &mut Packet) -> Step
         requires { is_end self.old.vars.state ≡ false }
-        ensures step { server_timeout (now_of M.server_shown self.old) ≡ answer result (now_of M.server_shown self.new) }
+        ensures step { server_timeout (now_of M.server_shown self.old) ≡ answer (step_with result packet.new no_tags) (now_of M.server_shown self.new) }
         ensures kinds { server_kinds (map M.server_shown self.new.methods) ≡ server_kinds (map M.server_shown self.old.methods) }
     {
         self.vars.retrans_count += 1;
         if self.vars.retrans_count <= self.vars.max_retrans {
-            let request = self.vars.last_request.copy();
-            Step::sending(&[State::Retransmit, State::Idle], request, Tags::none())
+            packet.set(self.vars.last_request.as_slice());
+            Step::sending(&[State::Retransmit, State::Idle])
         } else {
             self.vars.state = State::TimeoutFailure;
-            Step::entering(&[State::Retransmit, State::TimeoutFailure], Tags::none())
+            Step::entering(&[State::Retransmit, State::TimeoutFailure])
         }
     }
 
@@ -204,115 +220,125 @@ impl<M: ServerMethod> ServerMachine<M> {
         self.methods
     }
 
-    /// RECEIVED, of a packet.
+    /// RECEIVED, of a packet; there are no records yet.
     #[tactic(auto, using(crate::proofs::Responses::is_response))]
-    fn take(&mut self, view: &View) -> Step
+    fn take(&mut self, view: &View, packet: &mut Packet, tags: &mut Tags) -> Step
         requires packet { IsPacket (value_of view.now) }
         requires whole { view.now.whole.now ≡ spelled (value_of view.now) }
-        ensures step { server_row (now_of M.server_shown self.old) (Ok (value_of view.now)) ≡ answer result (now_of M.server_shown self.new) }
+        requires tags { tags.old ≡ no_tags }
+        ensures step { server_row (now_of M.server_shown self.old) (Ok (value_of view.now))
+            ≡ answer (step_with result packet.new tags.new) (now_of M.server_shown self.new) }
         ensures kinds { server_kinds (map M.server_shown self.new.methods) ≡ server_kinds (map M.server_shown self.old.methods) }
     {
         match view.code {
             Code::Response => {
                 if self.vars.current_id == Some(view.id) {
-                    self.take_current(view.id, view.kind, view.body, view.whole)
+                    self.take_current(view, packet, tags)
                 } else {
-                    self.discard(Cause::IdMismatch)
+                    discard(Cause::IdMismatch)
                 }
             }
-            Code::Request | Code::Success | Code::Failure => self.discard(Cause::WrongRole),
+            Code::Request | Code::Success | Code::Failure => discard(Cause::WrongRole),
         }
     }
 
-    /// A Response with currentId.
-    fn take_current(&mut self, id: u8, kind: u8, body: &[u8], response: &[u8]) -> Step
-        requires response { IsResponse kind response.now }
-        requires whole { response.now ≡ spelled (packets.response id kind body.now) }
-        ensures step { current_response (now_of M.server_shown self.old) id kind body.now ≡ answer result (now_of M.server_shown self.new) }
+    /// A Response with currentId; there are no records yet.
+    fn take_current(&mut self, view: &View, packet: &mut Packet, tags: &mut Tags) -> Step
+        requires response { IsResponse view.now.kind view.now.whole.now }
+        requires whole { view.now.whole.now ≡ spelled (packets.response view.now.id view.now.kind view.now.body.now) }
+        requires tags { tags.old ≡ no_tags }
+        ensures step { current_response (now_of M.server_shown self.old) view.now.id view.now.kind view.now.body.now
+            ≡ answer (step_with result packet.new tags.new) (now_of M.server_shown self.new) }
         ensures kinds { server_kinds (map M.server_shown self.new.methods) ≡ server_kinds (map M.server_shown self.old.methods) }
     {
-        if kind == NAK && self.vars.progress == Progress::Proposed {
-            self.propose(true, id, Some(body))
-        } else if self.vars.current != Some(kind) {
-            self.discard(Cause::WrongMethod)
-        } else if kind == IDENTITY {
-            self.hear_identity(id)
+        if view.kind == NAK && self.vars.progress == Progress::Proposed {
+            self.propose(true, view.id, Some(view.body), packet)
+        } else if self.vars.current != Some(view.kind) {
+            discard(Cause::WrongMethod)
+        } else if view.kind == IDENTITY {
+            self.hear_identity(view.id, packet)
         } else {
-            self.method(id, kind, response)
+            self.method(view.id, view.kind, view.whole, packet, tags)
         }
-    }
-
-    /// DISCARD: nothing changes.
-    fn discard(&mut self, cause: Cause) -> Step
-        ensures step { server_discard (now_of M.server_shown self.old) cause ≡ answer result (now_of M.server_shown self.new) }
-        ensures kinds { server_kinds (map M.server_shown self.new.methods) ≡ server_kinds (map M.server_shown self.old.methods) }
-    {
-        Step::discarding(&[State::Received, State::Discard, State::Idle], cause)
     }
 
     /// The identity has come: the Identity round is over, and the first method is proposed.
-    fn hear_identity(&mut self, id: u8) -> Step
-        ensures step { hears_identity (now_of M.server_shown self.old) id ≡ answer result (now_of M.server_shown self.new) }
+    fn hear_identity(&mut self, id: u8, packet: &mut Packet) -> Step
+        ensures step { hears_identity (now_of M.server_shown self.old) id ≡ answer (step_with result packet.new no_tags) (now_of M.server_shown self.new) }
         ensures kinds { server_kinds (map M.server_shown self.new.methods) ≡ server_kinds (map M.server_shown self.old.methods) }
     {
         self.vars.progress = Progress::End;
-        self.propose(false, id, None)
+        self.propose(false, id, None, packet)
     }
 
     /// SELECT_ACTION where a method is to be proposed: the first of the order that isn't yet proposed and
     /// that the Nak, where one has come, desires; where there is none, FAILURE.
     #[tactic(auto, using(login_policy::proofs::Choices::next_is_ordered, login_policy::proofs::Choices::next_is_unproposed), unfolding(crate::specs::ServerTable::select_action))]
-    fn propose(&mut self, naked: bool, id: u8, desired: Option<&[u8]>) -> Step
-        ensures step { select_action (before_proposal naked) (now_of M.server_shown self.old).vars (now_of M.server_shown self.old).views id (option_copied desired.entry) ≡ answer result (now_of M.server_shown self.new) }
+    fn propose(&mut self, naked: bool, id: u8, desired: Option<&[u8]>, packet: &mut Packet) -> Step
+        ensures step { select_action (before_proposal naked) (now_of M.server_shown self.old).vars (now_of M.server_shown self.old).views id (option_copied desired.entry)
+            ≡ answer (step_with result packet.new no_tags) (now_of M.server_shown self.new) }
         ensures kinds { server_kinds (map M.server_shown self.new.methods) ≡ server_kinds (map M.server_shown self.old.methods) }
     {
         match next_method(&self.vars.setup.methods, &self.vars.proposed, desired) {
-            None => end_badly(&mut self.vars, naked, id),
-            Some(kind) => self.offer(naked, id, kind),
+            None => end_badly(&mut self.vars, naked, id, packet),
+            Some(kind) => self.offer(naked, id, kind, packet),
         }
     }
 
     /// PROPOSE_METHOD, METHOD_REQUEST and SEND_REQUEST of a method of the order that isn't yet proposed;
     /// without an object of it, FAILURE.
-    fn offer(&mut self, naked: bool, id: u8, kind: u8) -> Step
+    fn offer(&mut self, naked: bool, id: u8, kind: u8, packet: &mut Packet) -> Step
         requires ordered { is_among self.old.vars.setup.methods kind ≡ true }
         requires unproposed { is_among self.old.vars.proposed kind ≡ false }
-        ensures step { proposes (before_proposal naked) (now_of M.server_shown self.old).vars (now_of M.server_shown self.old).views id (Some kind) ≡ answer result (now_of M.server_shown self.new) }
+        ensures step { proposes (before_proposal naked) (now_of M.server_shown self.old).vars (now_of M.server_shown self.old).views id (Some kind)
+            ≡ answer (step_with result packet.new no_tags) (now_of M.server_shown self.new) }
         ensures kinds { server_kinds (map M.server_shown self.new.methods) ≡ server_kinds (map M.server_shown self.old.methods) }
     {
-        let first = first_of(&mut self.methods, &self.vars, kind);
-        settle_offer(&mut self.vars, naked, id, kind, first)
+        let has_first = write_first(&mut self.methods, &self.vars, kind, packet);
+        settle_offer(&mut self.vars, naked, id, kind, has_first, packet)
     }
 
     /// INTEGRITY_CHECK: the object of the current method checks the whole packet. Nothing is written
-    /// before its turn is known not to be a discard.
-    fn method(&mut self, id: u8, kind: u8, response: &[u8]) -> Step
+    /// into the variables before its turn is known not to be a discard.
+    fn method(
+        &mut self,
+        id: u8,
+        kind: u8,
+        response: &[u8],
+        packet: &mut Packet,
+        tags: &mut Tags,
+    ) -> Step
         requires response { IsResponse kind response.now }
         requires ordered { is_among self.old.vars.setup.methods kind ≡ true }
-        ensures step { server_method (now_of M.server_shown self.old) id kind response.now ≡ answer result (now_of M.server_shown self.new) }
+        ensures step { server_method (now_of M.server_shown self.old) id kind response.now
+            ≡ answer (step_with result packet.new tags.new) (now_of M.server_shown self.new) }
         ensures kinds { server_kinds (map M.server_shown self.new.methods) ≡ server_kinds (map M.server_shown self.old.methods) }
     {
-        let turn = turn_of(&mut self.methods, &self.vars, kind, response);
-        settle(&mut self.vars, id, turn)
+        let turn = turn_of(&mut self.methods, &self.vars, kind, response, packet, tags);
+        settle(&mut self.vars, id, turn, packet)
     }
 }
 
-/// The variables of a server that has not started.
-fn made(setup: ServerSetup, first_id: u8, max_retrans: u8) -> ServerVariables
-    ensures { result ≡ vars_made setup first_id max_retrans }
+/// DISCARD: nothing changes.
+fn discard(cause: Cause) -> Step
+    ensures { result ≡ record { path = Received ∷ Discard ∷ Idle ∷ []; cause = Some cause; sends = false } }
 {
-    ServerVariables {
-        setup,
-        first_id,
-        max_retrans,
-        state: State::Initialize,
-        current_id: None,
-        current: None,
-        progress: Progress::Continue,
-        retrans_count: 0,
-        last_request: Packet::new(),
-        proposed: Kinds::new(),
-    }
+    Step::discarding(&[State::Received, State::Discard, State::Idle], cause)
+}
+
+/// Writes the Identity Request in place of what was there.
+fn write_identity(packet: &mut Packet, id: u8)
+    ensures { packet.new ≡ identity_request id }
+{
+    packet.set(encode(Code::Request, id, IDENTITY, &[]).as_slice());
+}
+
+/// Writes a Success or a Failure in place of what was there.
+fn write_end(packet: &mut Packet, code: Code, id: u8)
+    requires { IsTrue (not (has_type code)) }
+    ensures { packet.new ≡ spelled (value_with code id 0 []) }
+{
+    packet.set(encode_end(code, id).as_slice());
 }
 
 /// The Identifier of the next Request: the first one, or one more modulo 256.
@@ -337,25 +363,28 @@ fn side_of(setup: &ServerSetup) -> ServerSide
     }
 }
 
-/// The method of this Type begins and makes its first Request, with the next Identifier; None without
-/// an object of it.
-fn first_of<M: ServerMethod>(
+/// The method of this Type begins and writes its first Request, with the next Identifier, into `packet`;
+/// false without an object of it.
+fn write_first<M: ServerMethod>(
     methods: &mut Vec<M>,
     vars: &ServerVariables,
     kind: u8,
-) -> Option<Packet>
+    packet: &mut Packet,
+) -> bool
     requires ordered { is_among vars.now.setup.methods kind ≡ true }
     requires suites { IsTrue (are_suites vars.now.setup.suites) }
-    ensures offer { server_offer (side_of vars.now.setup) vars.now.setup.nonce kind (next_id vars.now) (server_views vars.now.setup.methods (map M.server_shown methods.old.items)) ≡ record { packet = result; after = server_views vars.now.setup.methods (map M.server_shown methods.new.items) } }
+    ensures offer { server_offer (side_of vars.now.setup) vars.now.setup.nonce kind (next_id vars.now)
+        (server_views vars.now.setup.methods (map M.server_shown methods.old.items))
+        ≡ record { packet = if result then Some packet.new else None; after = server_views vars.now.setup.methods (map M.server_shown methods.new.items) } }
     ensures kinds { server_kinds (map M.server_shown methods.new.items) ≡ server_kinds (map M.server_shown methods.old.items) }
 {
-    let own = side_of(&vars.setup);
     offer_method(
         methods.as_mut_slice(),
         kind,
-        &own,
+        &side_of(&vars.setup),
         &vars.setup.nonce,
         next_id(vars),
+        packet,
     )
 }
 
@@ -365,11 +394,16 @@ fn turn_of<M: ServerMethod>(
     vars: &ServerVariables,
     kind: u8,
     response: &[u8],
+    packet: &mut Packet,
+    tags: &mut Tags,
 ) -> ServerTurn
     requires response { IsResponse kind response.now }
     requires ordered { is_among vars.now.setup.methods kind ≡ true }
     requires keys { All (λ user. IsTrue (fits_kind user.kind user.psk)) vars.now.setup.users }
-    ensures turn { server_turn vars.now.setup.users (next_id vars.now) kind (server_views vars.now.setup.methods (map M.server_shown methods.old.items)) response.now ≡ record { turn = result; after = server_views vars.now.setup.methods (map M.server_shown methods.new.items) } }
+    ensures turn { server_turn vars.now.setup.users (next_id vars.now) kind
+        (server_views vars.now.setup.methods (map M.server_shown methods.old.items)) response.now
+        ≡ record { turn = server_turn_with result packet.new tags.new; after = server_views vars.now.setup.methods (map M.server_shown methods.new.items) } }
+    ensures tags { tags.new ≡ server_tags (server_turn_with result packet.new tags.new) }
     ensures kinds { server_kinds (map M.server_shown methods.new.items) ≡ server_kinds (map M.server_shown methods.old.items) }
 {
     hand_to_server(
@@ -378,17 +412,20 @@ fn turn_of<M: ServerMethod>(
         response,
         next_id(vars),
         &vars.setup.users,
+        packet,
+        tags,
     )
 }
 
 /// FAILURE, where a method was to be proposed: a Failure with currentId.
-fn end_badly(vars: &mut ServerVariables, naked: bool, id: u8) -> Step
-    ensures step { (views : ServerViews) → ends_badly (before_proposal naked) vars.old views id no_tags ≡ answer result (record { vars = vars.new; views = views }) }
+fn end_badly(vars: &mut ServerVariables, naked: bool, id: u8, packet: &mut Packet) -> Step
+    ensures step { (views : ServerViews) → ends_badly (before_proposal naked) vars.old views id no_tags
+        ≡ answer (step_with result packet.new no_tags) (record { vars = vars.new; views = views }) }
     ensures setup { vars.new.setup ≡ vars.old.setup }
     ensures order { AreInOrder vars.old → AreInOrder vars.new }
 {
     vars.state = State::Failure;
-    let failure = encode_end(Code::Failure, id);
+    write_end(packet, Code::Failure, id);
     if naked {
         let states = [
             State::Received,
@@ -396,44 +433,45 @@ fn end_badly(vars: &mut ServerVariables, naked: bool, id: u8) -> Step
             State::SelectAction,
             State::Failure,
         ];
-        Step::sending(&states, failure, Tags::none())
+        Step::sending(&states)
     } else {
-        Step::sending(&FAILING, failure, Tags::none())
+        Step::sending(&FAILING)
     }
 }
 
-/// PROPOSE_METHOD, METHOD_REQUEST and SEND_REQUEST of a method that isn't yet proposed; without its first
-/// Request, FAILURE.
+/// PROPOSE_METHOD, METHOD_REQUEST and SEND_REQUEST of a method that isn't yet proposed, whose first
+/// Request is `packet`; without one, FAILURE.
 #[tactic(auto, using(crate::proofs::Proposed::proposed_has_room, crate::proofs::Proposed::proposed_grows, crate::proofs::Proposed::order_is_kind))]
 fn settle_offer(
     vars: &mut ServerVariables,
     naked: bool,
     id: u8,
     kind: u8,
-    first: Option<Packet>,
+    has_first: bool,
+    packet: &mut Packet,
 ) -> Step
     requires ordered { is_among vars.old.setup.methods kind ≡ true }
     requires unproposed { is_among vars.old.proposed kind ≡ false }
     requires in_order { AreInOrder vars.old }
-    ensures step { (views : ServerViews) → offers (before_proposal naked) vars.old views id kind first ≡ answer result (record { vars = vars.new; views = views }) }
+    ensures step { (views : ServerViews) → offers (before_proposal naked) vars.old views id kind (if has_first then Some packet.old else None)
+        ≡ answer (step_with result packet.new no_tags) (record { vars = vars.new; views = views }) }
     ensures setup { vars.new.setup ≡ vars.old.setup }
     ensures order { AreInOrder vars.new }
 {
-    match first {
-        None => end_badly(vars, naked, id),
-        Some(request) => {
-            send_request(vars, &request);
-            vars.current = Some(kind);
-            vars.progress = Progress::Proposed;
-            vars.proposed.push(kind);
-            proposing(naked, request)
-        }
+    if has_first {
+        send_request(vars, packet);
+        vars.current = Some(kind);
+        vars.progress = Progress::Proposed;
+        vars.proposed.push(kind);
+        proposing(naked)
+    } else {
+        end_badly(vars, naked, id, packet)
     }
 }
 
 /// The step of a proposal.
-fn proposing(naked: bool, request: Packet) -> Step
-    ensures { result ≡ sends (before_proposal naked ++ ProposeMethod ∷ MethodRequest ∷ SendRequest ∷ Idle ∷ []) request no_tags }
+fn proposing(naked: bool) -> Step
+    ensures { result ≡ record { path = before_proposal naked ++ ProposeMethod ∷ MethodRequest ∷ SendRequest ∷ Idle ∷ []; cause = None; sends = true } }
 {
     if naked {
         let states = [
@@ -445,7 +483,7 @@ fn proposing(naked: bool, request: Packet) -> Step
             State::SendRequest,
             State::Idle,
         ];
-        Step::sending(&states, request, Tags::none())
+        Step::sending(&states)
     } else {
         let states = [
             State::Received,
@@ -457,7 +495,7 @@ fn proposing(naked: bool, request: Packet) -> Step
             State::SendRequest,
             State::Idle,
         ];
-        Step::sending(&states, request, Tags::none())
+        Step::sending(&states)
     }
 }
 
@@ -467,12 +505,15 @@ fn send_request(vars: &mut ServerVariables, request: &Packet)
 {
     vars.current_id = Some(next_id(vars));
     vars.retrans_count = 0;
-    vars.last_request = request.copy();
+    vars.last_request.set(request.as_slice());
 }
 
-/// INTEGRITY_CHECK, of the turn of the method's object: a discard writes nothing.
-fn settle(vars: &mut ServerVariables, id: u8, turn: ServerTurn) -> Step
-    ensures step { (before after : ServerViews) → method_answers (record { vars = vars.old; views = before }) id after turn ≡ answer result (record { vars = vars.new; views = settled before after turn }) }
+/// INTEGRITY_CHECK, of the turn of the method's object, whose Request is `packet`: a discard writes
+/// nothing, and after the method's end a Success or a Failure takes the place of what was there.
+fn settle(vars: &mut ServerVariables, id: u8, turn: ServerTurn, packet: &mut Packet) -> Step
+    ensures step { (before after : ServerViews) (tags : Tags) → let whole = server_turn_with turn packet.old tags in
+        method_answers (record { vars = vars.old; views = before }) id after whole
+        ≡ answer (step_with result packet.new (server_tags whole)) (record { vars = vars.new; views = settled before after whole }) }
     ensures setup { vars.new.setup ≡ vars.old.setup }
     ensures order { AreInOrder vars.old → AreInOrder vars.new }
 {
@@ -486,8 +527,8 @@ fn settle(vars: &mut ServerVariables, id: u8, turn: ServerTurn) -> Step
             ];
             Step::discarding(&states, cause)
         }
-        ServerTurn::Request { packet, tags } => {
-            send_request(vars, &packet);
+        ServerTurn::Request => {
+            send_request(vars, packet);
             vars.progress = Progress::Continue;
             let states = [
                 State::Received,
@@ -497,26 +538,30 @@ fn settle(vars: &mut ServerVariables, id: u8, turn: ServerTurn) -> Step
                 State::SendRequest,
                 State::Idle,
             ];
-            Step::sending(&states, packet, tags)
+            Step::sending(&states)
         }
-        ServerTurn::Done { success, tags } => {
+        ServerTurn::Done { success } => {
             vars.progress = Progress::End;
-            end_method(vars, id, success, tags)
+            end_method(vars, id, success, packet)
         }
     }
 }
 
 /// SUCCESS or FAILURE after the current method: a Success or a Failure with currentId.
-fn end_method(vars: &mut ServerVariables, id: u8, success: bool, tags: Tags) -> Step
-    ensures step { (views : ServerViews) → (if success then ends_well (before_proposal false) vars.old views id tags else ends_badly (before_proposal false) vars.old views id tags) ≡ answer result (record { vars = vars.new; views = views }) }
+fn end_method(vars: &mut ServerVariables, id: u8, success: bool, packet: &mut Packet) -> Step
+    ensures step { (views : ServerViews) (tags : Tags)
+        → (if success then ends_well (before_proposal false) vars.old views id tags else ends_badly (before_proposal false) vars.old views id tags)
+        ≡ answer (step_with result packet.new tags) (record { vars = vars.new; views = views }) }
     ensures setup { vars.new.setup ≡ vars.old.setup }
     ensures order { AreInOrder vars.old → AreInOrder vars.new }
 {
     if success {
         vars.state = State::Success;
-        Step::sending(&SUCCEEDING, encode_end(Code::Success, id), tags)
+        write_end(packet, Code::Success, id);
+        Step::sending(&SUCCEEDING)
     } else {
         vars.state = State::Failure;
-        Step::sending(&FAILING, encode_end(Code::Failure, id), tags)
+        write_end(packet, Code::Failure, id);
+        Step::sending(&FAILING)
     }
 }
