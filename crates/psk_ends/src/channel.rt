@@ -1,10 +1,13 @@
 //! PCHANNEL, the protected channel (RFC 4764 section 3.3), with the one octet that it hides.
 
-ghost use Rattle.std.specs.Prelude.{◌≡◌, ◌<◌, slice_index, Some, None, if◌then◌else◌};
-ghost use Rattle.eap_method.specs.PskTags.{channel_nonce, sealed_result, is_sealed, opened, result_fault, result_of};
+ghost use Rattle.std.specs.Prelude.{◌≡◌, ◌≤◌, ◌<◌, ◌-◌, [], ◌∷◌, ◌++◌, length, take, slice_index, Some, None, if◌then◌else◌};
+ghost use Rattle.eap_method.specs.PskTags.{channel_nonce, header_of, sealed_result, is_sealed, opened, result_fault, result_of, tek_record};
 ghost use Rattle.psk_ends.specs.Checks.{checked};
 
-use eap_base::Octets;
+use crate::octets::header_of;
+use crate::records::add_channel;
+use eap_base::{Packet, Secret};
+use eap_method::TagList;
 use eap_packet::Cause;
 use eax_mode::{eax_seal, eax_unseal};
 
@@ -14,7 +17,11 @@ pub const DONE_SUCCESS: u8 = 2;
 /// R of a side for which the login fails.
 pub const DONE_FAILURE: u8 = 3;
 
+/// The octets of PCHANNEL behind its Nonce: the tag, and the one that is sealed.
+const HIDDEN: usize = 17;
+
 /// What PCHANNEL carries besides its Nonce.
+#[derive(Drop)]
 pub struct Sealed {
     /// The octet, sealed.
     pub octet: u8,
@@ -24,28 +31,62 @@ pub struct Sealed {
 
 /// The nonce for EAX: the Nonce field behind twelve octets of 0.
 #[tactic(auto, unfolding(eap_method::specs::PskTags::channel_nonce))]
-pub fn channel_nonce(number: u32) -> Octets<16>
+pub fn channel_nonce(number: u32) -> [u8; 16]
     ensures { result ≡ channel_nonce number }
 {
-    let mut nonce = Octets::new();
-    nonce.append(&[0; 12]);
-    nonce.append(&number.to_be_bytes());
-    nonce
+    let [a, b, c, d] = number.to_be_bytes();
+    [0, 0, 0, 0, 0, 0, 0, 0, 0, 0, 0, 0, a, b, c, d]
 }
 
 /// Seals R, without E, under this Nonce and header.
 #[tactic(auto, unfolding(eap_method::specs::PskTags::sealed_result))]
-pub fn seal(tek: &[u8; 16], number: u32, header: &[u8], r: u8) -> Sealed
+fn seal(tek: &[u8; 16], number: u32, header: &[u8], r: u8) -> Sealed
     requires { r < 4 }
     ensures octet { result.octet ≡ slice_index (sealed_result tek.now number header.now r).ciphertext 0 }
     ensures tag { result.tag ≡ (sealed_result tek.now number header.now r).tag }
 {
     let mut text = [64 * r];
-    let tag = eax_seal(tek, channel_nonce(number).as_slice(), header, &mut text);
+    let tag = eax_seal(tek, &channel_nonce(number), header, &mut text);
     Sealed {
         octet: text[0],
         tag,
     }
+}
+
+/// Puts a tag and a sealed octet in the place of the packet's last 17 octets.
+fn put_last(packet: &mut Packet, channel: &Sealed)
+    requires { 17 ≤ length packet.old }
+    ensures { packet.new ≡ take (length packet.old - 17) packet.old ++ (channel.now.tag ++ channel.now.octet ∷ []) }
+{
+    packet.truncate(packet.len() - HIDDEN);
+    packet.append(&channel.tag);
+    packet.push(channel.octet);
+}
+
+/// Seals R, without E, into the packet, whose PCHANNEL stands at its end and is still blank, and adds
+/// the record of its tag.
+pub fn seal_in(
+    packet: &mut Packet,
+    tek: &[u8; 16],
+    psk: &Secret,
+    number: u32,
+    r: u8,
+    made: &mut TagList,
+)
+    requires blank { 17 ≤ length packet.old }
+    requires two_bits { r < 4 }
+    requires room { length made.old < 2 }
+    ensures packet { packet.new ≡ take (length packet.old - 17) packet.old
+        ++ ((sealed_result tek.now number (header_of packet.old) r).tag ++ slice_index (sealed_result tek.now number (header_of packet.old) r).ciphertext 0 ∷ []) }
+    ensures made { made.new ≡ made.old ++ tek_record psk.now number (header_of packet.old)
+        (slice_index (sealed_result tek.now number (header_of packet.old) r).ciphertext 0)
+        (sealed_result tek.now number (header_of packet.old) r).tag ∷ [] }
+    ensures size { length (sealed_result tek.now number (header_of packet.old) r).tag ≡ 16 }
+{
+    let header = header_of(packet.as_slice());
+    let channel = seal(tek, number, header, r);
+    add_channel(made, psk, number, header, &channel);
+    put_last(packet, &channel);
 }
 
 /// The octet that was sealed under this Nonce and header, or None where the tag is wrong.
@@ -53,13 +94,7 @@ pub fn open(tek: &[u8; 16], number: u32, header: &[u8], sealed: u8, tag: &[u8; 1
     ensures { result ≡ (if is_sealed tek.now number header.now sealed tag.now then Some (opened tek.now number sealed) else None) }
 {
     let mut text = [sealed];
-    if eax_unseal(
-        tek,
-        channel_nonce(number).as_slice(),
-        header,
-        &mut text,
-        tag,
-    ) {
+    if eax_unseal(tek, &channel_nonce(number), header, &mut text, tag) {
         Some(text[0])
     } else {
         None

@@ -11,3 +11,4 @@ mod server;
 
 pub use peer::PskPeer;
 pub use server::PskServer;
+

@@ -1,9 +1,14 @@
 //! Octets in the types that fields and calls want.
 
-ghost use Rattle.std.specs.Prelude.{◌≡◌, ◌≤◌, length};
+ghost use Rattle.std.specs.Prelude.{◌≡◌, ◌≤◌, length, IfOk};
+ghost use Rattle.psk_messages.specs.Message.{AreFields, heard, message_of};
+ghost use Rattle.psk_messages.specs.Reading.{read_of};
+ghost use Rattle.eap_method.specs.Turns.{body_of};
 ghost use Rattle.eap_method.specs.PskTags.{header_of, rand_of};
 
-use eap_base::{Nonce, array_of};
+use eap_base::{Nonce, Octets, array_of};
+use eap_packet::Cause;
+use psk_messages::{PskView, read_psk};
 
 /// The octets of the header that PCHANNEL's tag covers.
 const HEADER: usize = 22;
@@ -21,4 +26,13 @@ pub fn header_of<'a>(packet: &'a [u8]) -> &'a [u8]
     ensures size { length result.now ≤ 22 }
 {
     &packet[..packet.len().min(HEADER)]
+}
+
+/// The message in the Type-Data of a Request or a Response.
+pub fn message_in<'a>(packet: &'a [u8]) -> Result<PskView<'a>, Cause>
+    requires { 5 ≤ length packet.now }
+    ensures message { heard result ≡ read_of (body_of packet.now) }
+    ensures fields { IfOk result (λ view. AreFields (message_of view)) }
+{
+    read_psk(&packet[5..])
 }

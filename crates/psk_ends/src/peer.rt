@@ -9,12 +9,11 @@ mod stage;
 mod turns;
 
 use crate::peer::login::Begun;
-use crate::peer::stage::{Stage, Taken};
+use crate::peer::stage::Stage;
 use crate::peer::turns::take;
-use eap_base::{Nonce, PSK_KIND};
-use eap_method::{Credential, PeerMethod, PeerTurn, Report};
+use eap_base::{Nonce, PSK_KIND, Packet};
+use eap_method::{Credential, PeerMethod, PeerTurn, Report, Tags};
 use std::marker::Model;
-use std::mem;
 
 /// A peer of EAP-PSK. Contracts see where it stands.
 #[derive(Drop)]
@@ -62,11 +61,9 @@ impl PeerMethod for PskPeer {
     }
 
     #[tactic(auto, unfolding(eap_method::specs::Peer::peer_step))]
-    fn handle(&mut self, request: &[u8]) -> PeerTurn {
-        let stage = mem::replace(&mut self.stage, Stage::Unset);
-        let Taken { turn, after } = take(stage, request);
-        self.stage = after;
-        turn
+    fn handle(&mut self, request: &[u8], packet: &mut Packet, tags: &mut Tags) -> PeerTurn {
+        tags.clear();
+        take(&mut self.stage, request, packet, tags)
     }
 
     #[tactic(auto, unfolding(eap_method::specs::Peer::peer_report))]

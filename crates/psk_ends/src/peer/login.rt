@@ -1,13 +1,13 @@
 //! What a peer keeps of a login.
 
-ghost use Rattle.std.specs.Prelude.{◌≡◌, ◌≤◌, length};
+ghost use Rattle.std.specs.Prelude.{◌≡◌, ◌≤◌, ◌<◌, [], ◌∷◌, ◌++◌, length};
 
 use crate::keys::long_keys;
 use crate::octets::rand_of;
-use crate::records::{Covered, mac_p_octets, mac_s_octets};
-use cmac_mac::cmac_whole;
-use eap_base::{Identity, Nonce, PSK_KIND, Secret};
-use eap_method::{Credential, Report};
+use crate::records::{add_mac_p, add_mac_s, mac_p, mac_s};
+use cmac_mac::CmacKey;
+use eap_base::{Identity, Nonce, Octets, PSK_KIND, Secret};
+use eap_method::{Credential, Report, TagList};
 use login_keys::{PskKeys, PskLong, psk_session};
 use std::marker::Model;
 
@@ -20,6 +20,19 @@ pub struct Begun {
     ghost sixteen: { length cred.psk ≡ 16 },
 }
 
+impl Begun {
+    /// An equal value.
+    fn copy(&self) -> Begun
+        ensures cred { result.cred ≡ self.now.cred }
+        ensures nonce { result.nonce ≡ self.now.nonce }
+    {
+        Begun {
+            cred: self.cred.copy(),
+            nonce: self.nonce,
+        }
+    }
+}
+
 /// A login after PSK-1, with its keys, which are derived once. Contracts see what they come from.
 #[derive(Drop)]
 pub struct Login {
@@ -28,8 +41,8 @@ pub struct Login {
     id_s: Identity,
     /// RAND_S.
     rand_s: [u8; 16],
-    /// AK.
-    ak: [u8; 16],
+    /// AK, expanded.
+    ak: CmacKey,
     /// TEK, MSK and EMSK.
     keys: PskKeys,
 }
@@ -48,21 +61,21 @@ impl Model for Login {
 }
 
 impl Login {
-    ghost use Rattle.cmac_mac.specs.Cmac.{aes_cmac};
-    ghost use Rattle.eap_method.specs.PskPeer.{rand_p_of, ak_of, keys_of, mac_p_covers, mac_s_covers, report_of};
+    ghost use Rattle.eap_method.specs.PskTags.{ak_record};
+    ghost use Rattle.eap_method.specs.PskPeer.{rand_p_of, ak_of, keys_of, mac_p_covers, mac_p_of, mac_s_covers, mac_s_of, report_of};
 
     /// The login of a peer that has taken PSK-1.
-    pub fn new(own: Begun, id_s: Identity, rand_s: [u8; 16]) -> Login
-        ensures { result ≡ record { cred = own.cred; nonce = own.nonce; id_s = id_s; rand_s = rand_s } }
+    pub fn new(own: &Begun, id_s: &[u8], rand_s: &[u8; 16]) -> Login
+        requires { length id_s.now ≤ 253 }
+        ensures { result ≡ record { cred = own.now.cred; nonce = own.now.nonce; id_s = id_s.now; rand_s = rand_s.now } }
     {
         let PskLong { ak, kdk } = long_keys(&own.cred.psk);
-        let keys = psk_session(&kdk, &rand_of(&own.nonce));
         Login {
-            own,
-            id_s,
-            rand_s,
-            ak,
-            keys,
+            own: own.copy(),
+            id_s: Octets::of(id_s),
+            rand_s: *rand_s,
+            ak: CmacKey::new(&ak),
+            keys: psk_session(&kdk, &rand_of(&own.nonce)),
         }
     }
 
@@ -102,33 +115,55 @@ impl Login {
         &self.keys.tek
     }
 
-    /// The MAC under AK.
-    #[tactic(auto, unfolding(eap_method::specs::PskPeer::ak_of))]
-    pub fn mac_over(&self, covered: &Covered) -> [u8; 16]
-        ensures { result ≡ aes_cmac (ak_of self.now) covered.now }
+    /// MAC_P (RFC 4764 section 5.2).
+    #[tactic(auto, unfolding(eap_method::specs::PskPeer::mac_p_of, eap_method::specs::PskPeer::ak_of, eap_method::specs::PskPeer::mac_p_covers))]
+    pub fn mac_p(&self) -> [u8; 16]
+        ensures { result ≡ mac_p_of self.now }
     {
-        cmac_whole(&self.ak, covered.as_slice())
-    }
-
-    /// What MAC_P covers (RFC 4764 section 5.2).
-    #[tactic(auto, unfolding(eap_method::specs::PskPeer::mac_p_covers))]
-    pub fn mac_p_covers(&self) -> Covered
-        ensures { result ≡ mac_p_covers self.now }
-    {
-        mac_p_octets(
-            &self.own.cred.id_p,
-            &self.id_s,
+        let rand_p = self.rand_p();
+        mac_p(
+            &self.ak,
+            self.own.cred.id_p.as_slice(),
+            self.id_s.as_slice(),
             &self.rand_s,
-            &self.rand_p(),
+            &rand_p,
         )
     }
 
-    /// What MAC_S covers (RFC 4764 section 5.3).
-    #[tactic(auto, unfolding(eap_method::specs::PskPeer::mac_s_covers))]
-    pub fn mac_s_covers(&self) -> Covered
-        ensures { result ≡ mac_s_covers self.now }
+    /// MAC_S (RFC 4764 section 5.3).
+    #[tactic(auto, unfolding(eap_method::specs::PskPeer::mac_s_of, eap_method::specs::PskPeer::ak_of, eap_method::specs::PskPeer::mac_s_covers))]
+    pub fn mac_s(&self) -> [u8; 16]
+        ensures { result ≡ mac_s_of self.now }
     {
-        mac_s_octets(&self.id_s, &self.rand_p())
+        mac_s(&self.ak, self.id_s.as_slice(), &self.rand_p())
+    }
+
+    /// Adds the record of this MAC_P.
+    #[tactic(auto, unfolding(eap_method::specs::PskPeer::mac_p_covers))]
+    pub fn add_mac_p(&self, made: &mut TagList, mac: &[u8; 16])
+        requires { length made.old < 2 }
+        ensures { made.new ≡ made.old ++ ak_record self.now.cred.psk (mac_p_covers self.now) mac.now ∷ [] }
+    {
+        let rand_p = self.rand_p();
+        add_mac_p(
+            made,
+            self.psk(),
+            self.own.cred.id_p.as_slice(),
+            self.id_s.as_slice(),
+            &self.rand_s,
+            &rand_p,
+            mac,
+        );
+    }
+
+    /// Adds the record of this MAC_S.
+    #[tactic(auto, unfolding(eap_method::specs::PskPeer::mac_s_covers))]
+    pub fn add_mac_s(&self, accepted: &mut TagList, mac: &[u8; 16])
+        requires { length accepted.old < 2 }
+        ensures { accepted.new ≡ accepted.old ++ ak_record self.now.cred.psk (mac_s_covers self.now) mac.now ∷ [] }
+    {
+        let rand_p = self.rand_p();
+        add_mac_s(accepted, self.psk(), self.id_s.as_slice(), &rand_p, mac);
     }
 
     /// What the peer holds where the login succeeded.

@@ -1,11 +1,18 @@
-//! Where a peer stands, and what a turn makes of it.
+//! Where a peer stands.
 
 ghost use Rattle.std.specs.Prelude.{◌≡◌};
 
 use crate::peer::login::{Begun, Login};
-use eap_base::Packet;
-use eap_method::{Decision, MethodState, PeerTurn, Report, TagList, Tags};
-use eap_packet::Cause;
+use eap_method::Report;
+
+/// How far a peer with a login is.
+#[derive(Clone, Copy)]
+pub enum Phase {
+    /// It has sent PSK-2, and awaits PSK-3.
+    Wait,
+    /// It has sent PSK-4, and takes nothing more.
+    Over { good: bool },
+}
 
 /// Where a peer stands.
 #[derive(Drop)]
@@ -14,10 +21,8 @@ pub enum Stage {
     Unset,
     /// It has begun, and awaits PSK-1.
     Fresh { own: Begun },
-    /// It has sent PSK-2, and awaits PSK-3.
-    Wait { login: Login },
-    /// It has sent PSK-4, and takes nothing more.
-    Over { login: Login, good: bool },
+    /// It has taken PSK-1.
+    Known { login: Login, phase: Phase },
 }
 
 impl Stage {
@@ -29,60 +34,11 @@ impl Stage {
         ensures { result ≡ report (view_of self.now) }
     {
         match self {
-            Stage::Over { login, good: true } => Some(login.report()),
+            Stage::Known {
+                login,
+                phase: Phase::Over { good: true },
+            } => Some(login.report()),
             _ => None,
         }
     }
-}
-
-/// A turn, and where the peer stands after it.
-#[derive(Drop)]
-pub struct Taken {
-    pub turn: PeerTurn,
-    pub after: Stage,
-}
-
-impl Taken {
-    ghost use Rattle.psk_ends.specs.PeerStage.{view_of, outcome_of};
-    ghost use Rattle.eap_method.specs.Turns.{discarded, replied};
-
-    /// The Request is discarded, and the peer stays where it stands.
-    pub fn discarded(stage: Stage, cause: Cause) -> Taken
-        ensures { outcome_of result ≡ discarded (view_of stage) cause }
-    {
-        Taken {
-            turn: PeerTurn::Discard(cause),
-            after: stage,
-        }
-    }
-
-    /// A Response, with the tags that were accepted and made.
-    pub fn replied(after: Stage, reply: Reply, accepted: TagList) -> Taken
-        ensures { outcome_of result ≡ replied (view_of after) reply.packet reply.state reply.decision accepted reply.made }
-    {
-        let Reply {
-            packet,
-            state,
-            decision,
-            made,
-        } = reply;
-        Taken {
-            turn: PeerTurn::Reply {
-                packet,
-                state,
-                decision,
-                tags: Tags { accepted, made },
-            },
-            after,
-        }
-    }
-}
-
-/// A Response, what the peer says of the method after it, and the tags made for it.
-#[derive(Drop)]
-pub struct Reply {
-    pub packet: Packet,
-    pub state: MethodState,
-    pub decision: Decision,
-    pub made: TagList,
 }

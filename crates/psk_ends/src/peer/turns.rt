@@ -1,26 +1,27 @@
 //! A peer's turn for each Request (RFC 4764 section 4).
 
-ghost use Rattle.std.specs.Prelude.{◌≡◌, ◌≤◌, length};
+ghost use Rattle.std.specs.Prelude.{◌≡◌, ℕ, ◌≤◌, List, [], ◌∷◌, length, Bool, Ok};
 ghost use Rattle.psk_messages.specs.Message.{message_of, AreFields, psk2};
 ghost use Rattle.psk_messages.specs.Reading.{read_of};
+ghost use Rattle.eap_method.specs.Tags.{no_tags};
+ghost use Rattle.eap_method.specs.declared.tags.Tags.{Tags};
 ghost use Rattle.eap_method.specs.Turns.{id_of, body_of};
-ghost use Rattle.eap_method.specs.PskTags.{psk_response, header_of};
-ghost use Rattle.eap_method.specs.PskPeer.{rand_p_of, answers, hears_psk1, fresh_hears, fresh_reads, wait_hears, wait_reads, over_reads, step};
-ghost use Rattle.psk_ends.specs.PeerStage.{view_of, outcome_of};
+ghost use Rattle.eap_method.specs.PskTags.{psk_response, header_of, ak_record};
+ghost use Rattle.eap_method.specs.PskPeer.{Login, over, rand_p_of, mac_p_covers, mac_p_of, psk2_of, hears_psk1, fresh_hears, fresh_reads, wait_hears, wait_reads, over_reads, step};
+ghost use Rattle.psk_ends.specs.PeerStage.{in_phase, view_of, left_by, left_with, left_alone, fresh_left, wait_left};
 
-use crate::octets::header_of;
+use crate::octets::{header_of, message_in};
 use crate::peer::login::{Begun, Login};
 use crate::peer::psk4::{Psk3, hears_psk3};
-use crate::peer::stage::{Reply, Stage, Taken};
-use crate::records::mac_record;
-use eap_base::{Identity, Packet};
-use eap_method::{Decision, MethodState, TagList};
+use crate::peer::stage::{Phase, Stage};
+use eap_base::{Accepts, Packet};
+use eap_method::{Decision, MethodState, PeerTurn, TagList, Tags};
 use eap_packet::{Cause, Code};
-use psk_messages::{PskView, read_psk, write_psk};
+use psk_messages::{PskView, write_psk_into};
 
-/// PSK-2 with this MAC_P (RFC 4764 section 5.2).
-fn psk2(login: &Login, id: u8, mac: &[u8; 16]) -> Packet
-    ensures { result ≡ psk_response id (psk2 login.now.rand_s (rand_p_of login.now) mac.now login.now.cred.id_p) }
+/// Writes PSK-2 with this MAC_P (RFC 4764 section 5.2).
+fn write_psk2(login: &Login, id: u8, mac: &[u8; 16], packet: &mut Packet)
+    ensures { packet.new ≡ psk_response id (psk2 login.now.rand_s (rand_p_of login.now) mac.now login.now.cred.id_p) }
 {
     let message = PskView::P2 {
         rand_s: *login.rand_s(),
@@ -28,63 +29,91 @@ fn psk2(login: &Login, id: u8, mac: &[u8; 16]) -> Packet
         mac: *mac,
         id_p: login.id_p().as_slice(),
     };
-    write_psk(&message, Code::Response, id)
+    write_psk_into(packet, &message, Code::Response, id);
 }
 
-/// PSK-1 is answered by PSK-2, and the login begins.
-#[tactic(auto, unfolding(eap_method::specs::PskPeer::answers, eap_method::specs::PskPeer::mac_p_of))]
-fn answer(login: Login, id: u8) -> Taken
-    ensures { outcome_of result ≡ answers login id }
+/// PSK-1 is answered by PSK-2.
+fn answer(login: &Login, id: u8, packet: &mut Packet, made: &mut TagList)
+    requires { made.old ≡ [] }
+    ensures packet { packet.new ≡ psk_response id (psk2_of login.now) }
+    ensures made { made.new ≡ ak_record login.now.cred.psk (mac_p_covers login.now) (mac_p_of login.now) ∷ [] }
 {
-    let covered = login.mac_p_covers();
-    let mac = login.mac_over(&covered);
-    let reply = Reply {
-        packet: psk2(&login, id, &mac),
-        state: MethodState::Cont,
-        decision: Decision::Fail,
-        made: TagList::one(mac_record(login.psk(), covered, &mac)),
-    };
-    Taken::replied(Stage::Wait { login }, reply, TagList::new())
+    let mac = login.mac_p();
+    write_psk2(login, id, &mac, packet);
+    login.add_mac_p(made, &mac);
 }
 
-/// PSK-1. `UnknownServer`: the peer doesn't accept the server's name.
-fn hears_psk1(own: Begun, id: u8, rand_s: [u8; 16], id_s: &[u8]) -> Taken
-    requires { length id_s.now ≤ 253 }
-    ensures { outcome_of result ≡ hears_psk1 own.cred own.nonce id rand_s id_s.now }
+/// PSK-1, which begins the login. `UnknownServer`: the peer doesn't accept the server's name.
+#[tactic(auto, unfolding(eap_method::specs::PskPeer::answers))]
+fn hears_psk1(
+    own: &Begun,
+    id: u8,
+    rand_s: &[u8; 16],
+    id_s: &[u8],
+    packet: &mut Packet,
+    tags: &mut Tags,
+) -> Result<Login, Cause>
+    requires name { length id_s.now ≤ 253 }
+    requires none { tags.old ≡ no_tags }
+    ensures { fresh_left own.now packet.new tags.new result ≡ left_by (hears_psk1 own.now.cred own.now.nonce id rand_s.now id_s.now) }
 {
     if own.cred.accepts.takes(id_s) {
-        answer(Login::new(own, Identity::of(id_s), rand_s), id)
+        let login = Login::new(own, id_s, rand_s);
+        answer(&login, id, packet, &mut tags.made);
+        Ok(login)
     } else {
-        Taken::discarded(Stage::Fresh { own }, Cause::UnknownServer)
+        Err(Cause::UnknownServer)
     }
 }
 
 /// A message at a peer that has begun.
-fn fresh_hears(own: Begun, id: u8, message: &PskView) -> Taken
-    requires { AreFields (message_of message.now) }
-    ensures { outcome_of result ≡ fresh_hears own.cred own.nonce id (message_of message.now) }
+fn fresh_hears(
+    own: &Begun,
+    id: u8,
+    message: &PskView,
+    packet: &mut Packet,
+    tags: &mut Tags,
+) -> Result<Login, Cause>
+    requires fields { AreFields (message_of message.now) }
+    requires none { tags.old ≡ no_tags }
+    ensures { fresh_left own.now packet.new tags.new result ≡ left_by (fresh_hears own.now.cred own.now.nonce id (message_of message.now)) }
 {
     match message {
-        PskView::P1 { rand_s, id_s } => hears_psk1(own, id, *rand_s, id_s),
-        _ => Taken::discarded(Stage::Fresh { own }, Cause::WrongOp),
+        PskView::P1 { rand_s, id_s } => hears_psk1(own, id, rand_s, id_s, packet, tags),
+        _ => Err(Cause::WrongOp),
     }
 }
 
 /// A Request at a peer that has begun.
-fn fresh_reads(own: Begun, request: &[u8]) -> Taken
-    requires { 5 ≤ length request.now }
-    ensures { outcome_of result ≡ fresh_reads own.cred own.nonce (id_of request.now) (read_of (body_of request.now)) }
+fn fresh_reads(
+    own: &Begun,
+    request: &[u8],
+    packet: &mut Packet,
+    tags: &mut Tags,
+) -> Result<Login, Cause>
+    requires size { 5 ≤ length request.now }
+    requires none { tags.old ≡ no_tags }
+    ensures { fresh_left own.now packet.new tags.new result
+        ≡ left_by (fresh_reads own.now.cred own.now.nonce (id_of request.now) (read_of (body_of request.now))) }
 {
-    match read_psk(&request[5..]) {
-        Err(cause) => Taken::discarded(Stage::Fresh { own }, cause),
-        Ok(message) => fresh_hears(own, request[1], &message),
+    match message_in(request) {
+        Err(cause) => Err(cause),
+        Ok(message) => fresh_hears(own, request[1], &message, packet, tags),
     }
 }
 
 /// A message, with this Identifier and this header, at a peer that has sent PSK-2.
-fn wait_hears(login: Login, id: u8, header: &[u8], message: &PskView) -> Taken
-    requires { length header.now ≤ 22 }
-    ensures { outcome_of result ≡ wait_hears login id header.now (message_of message.now) }
+fn wait_hears(
+    login: &Login,
+    id: u8,
+    header: &[u8],
+    message: &PskView,
+    packet: &mut Packet,
+    tags: &mut Tags,
+) -> Result<bool, Cause>
+    requires header { length header.now ≤ 22 }
+    requires none { tags.old ≡ no_tags }
+    ensures { wait_left login.now packet.new tags.new result ≡ left_by (wait_hears login.now id header.now (message_of message.now)) }
 {
     match message {
         PskView::P3 {
@@ -101,45 +130,114 @@ fn wait_hears(login: Login, id: u8, header: &[u8], message: &PskView) -> Taken
                 tag: *tag,
                 sealed: *sealed,
             };
-            hears_psk3(login, id, header, &psk3)
+            hears_psk3(login, id, header, &psk3, packet, tags)
         }
-        _ => Taken::discarded(Stage::Wait { login }, Cause::WrongOp),
+        _ => Err(Cause::WrongOp),
     }
 }
 
 /// A Request at a peer that has sent PSK-2.
-fn wait_reads(login: Login, request: &[u8]) -> Taken
-    requires { 5 ≤ length request.now }
-    ensures { outcome_of result ≡ wait_reads login (id_of request.now) (header_of request.now) (read_of (body_of request.now)) }
+fn wait_reads(
+    login: &Login,
+    request: &[u8],
+    packet: &mut Packet,
+    tags: &mut Tags,
+) -> Result<bool, Cause>
+    requires size { 5 ≤ length request.now }
+    requires none { tags.old ≡ no_tags }
+    ensures { wait_left login.now packet.new tags.new result
+        ≡ left_by (wait_reads login.now (id_of request.now) (header_of request.now) (read_of (body_of request.now))) }
 {
-    match read_psk(&request[5..]) {
-        Err(cause) => Taken::discarded(Stage::Wait { login }, cause),
-        Ok(message) => wait_hears(login, request[1], header_of(request), &message),
+    match message_in(request) {
+        Err(cause) => Err(cause),
+        Ok(message) => wait_hears(
+            login,
+            request[1],
+            header_of(request),
+            &message,
+            packet,
+            tags,
+        ),
     }
 }
 
-/// A Request at a peer whose login is over.
-fn over_reads(login: Login, good: bool, request: &[u8]) -> Taken
+/// Why a Request is discarded by a peer whose login is over.
+fn over_reads(request: &[u8]) -> Cause
     requires { 5 ≤ length request.now }
-    ensures { outcome_of result ≡ over_reads login good (read_of (body_of request.now)) }
+    ensures { (login : Login) (good : Bool)
+        → left_alone (over login good) result no_tags ≡ left_by (over_reads login good (read_of (body_of request.now))) }
 {
-    let cause = match read_psk(&request[5..]) {
+    match message_in(request) {
         Err(cause) => cause,
         Ok(_) => Cause::WrongOp,
-    };
-    Taken::discarded(Stage::Over { login, good }, cause)
+    }
+}
+
+/// The Response to PSK-3, where the login succeeded or not.
+fn confirmed(good: bool) -> PeerTurn
+    ensures { (login : Login) (octets : List ℕ) (tags : Tags)
+        → left_with result octets tags (over login good) ≡ wait_left login octets tags (Ok good) }
+{
+    if good {
+        PeerTurn::Reply {
+            state: MethodState::Done,
+            decision: Decision::UncondSucc,
+        }
+    } else {
+        PeerTurn::Reply {
+            state: MethodState::MayCont,
+            decision: Decision::Fail,
+        }
+    }
+}
+
+/// A Request at a peer with a login.
+#[tactic(auto, unfolding(eap_method::specs::PskPeer::step))]
+fn known_reads(
+    login: &Login,
+    phase: &mut Phase,
+    request: &[u8],
+    packet: &mut Packet,
+    tags: &mut Tags,
+) -> PeerTurn
+    requires size { 5 ≤ length request.now }
+    requires none { tags.old ≡ no_tags }
+    ensures { left_with result packet.new tags.new (in_phase phase.new login.now) ≡ left_by (step (in_phase phase.old login.now) request.now) }
+{
+    match *phase {
+        Phase::Over { .. } => PeerTurn::Discard(over_reads(request)),
+        Phase::Wait => match wait_reads(login, request, packet, tags) {
+            Err(cause) => PeerTurn::Discard(cause),
+            Ok(good) => {
+                *phase = Phase::Over { good };
+                confirmed(good)
+            }
+        },
+    }
 }
 
 /// The turn for a Request of Type 47 with nothing past its Length.
 #[tactic(auto, unfolding(eap_method::specs::PskPeer::step))]
-pub fn take(stage: Stage, request: &[u8]) -> Taken
-    requires { 5 ≤ length request.now }
-    ensures { outcome_of result ≡ step (view_of stage) request.now }
+pub fn take(stage: &mut Stage, request: &[u8], packet: &mut Packet, tags: &mut Tags) -> PeerTurn
+    requires size { 5 ≤ length request.now }
+    requires none { tags.old ≡ no_tags }
+    ensures { left_with result packet.new tags.new (view_of stage.new) ≡ left_by (step (view_of stage.old) request.now) }
 {
     match stage {
-        Stage::Unset => Taken::discarded(Stage::Unset, Cause::WrongOp),
-        Stage::Fresh { own } => fresh_reads(own, request),
-        Stage::Wait { login } => wait_reads(login, request),
-        Stage::Over { login, good } => over_reads(login, good, request),
+        Stage::Unset => PeerTurn::Discard(Cause::WrongOp),
+        Stage::Fresh { own } => match fresh_reads(own, request, packet, tags) {
+            Err(cause) => PeerTurn::Discard(cause),
+            Ok(login) => {
+                *stage = Stage::Known {
+                    login,
+                    phase: Phase::Wait,
+                };
+                PeerTurn::Reply {
+                    state: MethodState::Cont,
+                    decision: Decision::Fail,
+                }
+            }
+        },
+        Stage::Known { login, phase } => known_reads(login, phase, request, packet, tags),
     }
 }

@@ -1,15 +1,17 @@
 //! What a server keeps of a login.
 
-ghost use Rattle.std.specs.Prelude.{◌≡◌, ◌<◌};
+ghost use Rattle.std.specs.Prelude.{◌≡◌, ◌≤◌, ◌<◌, [], ◌∷◌, ◌++◌, length};
+ghost use Rattle.cmac_mac.specs.Cmac.{aes_cmac};
+ghost use Rattle.eap_method.specs.PskTags.{mac_p_octets, rand_of};
 ghost use Rattle.eap_method.specs.PskServer.{r_for};
 
 use crate::channel::{DONE_FAILURE, DONE_SUCCESS};
 use crate::octets::rand_of;
-use crate::records::{Covered, mac_s_octets};
-use cmac_mac::cmac_whole;
-use eap_base::{Identity, Nonce, PSK_KIND, Secret, User};
-use eap_method::{Report, ServerSide};
-use login_keys::{PskKeys, PskLong, psk_session};
+use crate::records::{add_mac_p, add_mac_s, mac_p, mac_s};
+use cmac_mac::CmacKey;
+use eap_base::{Identity, Nonce, Octets, PSK_KIND, Secret, User};
+use eap_method::{Report, ServerSide, TagList};
+use login_keys::{PskKeys, psk_session};
 use std::marker::Model;
 
 /// What a server brings into a login, its users apart.
@@ -18,6 +20,26 @@ pub struct Begun {
     pub side: ServerSide,
     /// Its first 16 octets are RAND_S.
     pub nonce: Nonce,
+}
+
+impl Begun {
+    /// An equal value.
+    fn copy(&self) -> Begun
+        ensures { result ≡ self.now }
+    {
+        Begun {
+            side: self.side.copy(),
+            nonce: self.nonce,
+        }
+    }
+
+    /// MAC_P of a peer of this name under this AK (RFC 4764 section 5.2).
+    pub fn mac_p(&self, ak: &CmacKey, id_p: &[u8], rand_p: &[u8; 16]) -> [u8; 16]
+        ensures { result ≡ aes_cmac ak.now (mac_p_octets id_p.now self.now.side.id_s (rand_of self.now.nonce) rand_p.now) }
+    {
+        let rand_s = rand_of(&self.nonce);
+        mac_p(ak, id_p, self.side.id_s.as_slice(), &rand_s, rand_p)
+    }
 }
 
 /// R for a user: a barred one gets a failure.
@@ -39,8 +61,8 @@ pub struct Login {
     rand_p: [u8; 16],
     /// R, the server's result.
     r: u8,
-    /// AK.
-    ak: [u8; 16],
+    /// AK, expanded.
+    ak: CmacKey,
     /// TEK, MSK and EMSK.
     keys: PskKeys,
 }
@@ -58,25 +80,39 @@ impl Model for Login {
 }
 
 impl Login {
-    ghost use Rattle.cmac_mac.specs.Cmac.{aes_cmac};
     ghost use Rattle.login_keys.specs.Psk.{psk_long_of};
-    ghost use Rattle.eap_method.specs.PskServer.{rand_s_of, ak_of, keys_of, mac_s_covers, report_of};
+    ghost use Rattle.eap_method.specs.PskTags.{ak_record};
+    ghost use Rattle.eap_method.specs.PskServer.{rand_s_of, keys_of, mac_p_covers, mac_s_covers, mac_s_of, report_of};
 
     /// The login of a user, from AK and KDK of the user's key.
-    pub fn new(own: Begun, id_p: Identity, user: &User, rand_p: [u8; 16], long: PskLong) -> Login
-        requires { long ≡ psk_long_of user.now.psk }
-        ensures { result ≡ record { own = own.side; nonce = own.nonce; id_p = id_p; psk = user.now.psk; rand_p = rand_p; r = r_for user.now.barred } }
+    pub fn new(
+        own: &Begun,
+        id_p: &[u8],
+        user: &User,
+        rand_p: &[u8; 16],
+        ak: CmacKey,
+        kdk: &[u8; 16],
+    ) -> Login
+        requires name { length id_p.now ≤ 253 }
+        requires ak { ak ≡ (psk_long_of user.now.psk).ak }
+        requires kdk { kdk.now ≡ (psk_long_of user.now.psk).kdk }
+        ensures { result ≡ record {
+          own = own.now.side;
+          nonce = own.now.nonce;
+          id_p = id_p.now;
+          psk = user.now.psk;
+          rand_p = rand_p.now;
+          r = r_for user.now.barred;
+        } }
     {
-        let PskLong { ak, kdk } = long;
-        let keys = psk_session(&kdk, &rand_p);
         Login {
-            own,
-            id_p,
+            own: own.copy(),
+            id_p: Octets::of(id_p),
             psk: user.psk.copy(),
-            rand_p,
+            rand_p: *rand_p,
             r: r_for(user.barred),
             ak,
-            keys,
+            keys: psk_session(kdk, rand_p),
         }
     }
 
@@ -110,20 +146,40 @@ impl Login {
         &self.keys.tek
     }
 
-    /// The MAC under AK.
-    #[tactic(auto, unfolding(eap_method::specs::PskServer::ak_of))]
-    pub fn mac_over(&self, covered: &Covered) -> [u8; 16]
-        ensures { result ≡ aes_cmac (ak_of self.now) covered.now }
+    /// MAC_S (RFC 4764 section 5.3).
+    #[tactic(auto, unfolding(eap_method::specs::PskServer::mac_s_of, eap_method::specs::PskServer::ak_of, eap_method::specs::PskServer::mac_s_covers))]
+    pub fn mac_s(&self) -> [u8; 16]
+        ensures { result ≡ mac_s_of self.now }
     {
-        cmac_whole(&self.ak, covered.as_slice())
+        mac_s(&self.ak, self.own.side.id_s.as_slice(), &self.rand_p)
     }
 
-    /// What MAC_S covers (RFC 4764 section 5.3).
-    #[tactic(auto, unfolding(eap_method::specs::PskServer::mac_s_covers))]
-    pub fn mac_s_covers(&self) -> Covered
-        ensures { result ≡ mac_s_covers self.now }
+    /// Adds the record of this MAC_P.
+    #[tactic(auto, unfolding(eap_method::specs::PskServer::mac_p_covers))]
+    pub fn add_mac_p(&self, accepted: &mut TagList, mac: &[u8; 16])
+        requires { length accepted.old < 2 }
+        ensures { accepted.new ≡ accepted.old ++ ak_record self.now.psk (mac_p_covers self.now) mac.now ∷ [] }
     {
-        mac_s_octets(&self.own.side.id_s, &self.rand_p)
+        let rand_s = self.rand_s();
+        add_mac_p(
+            accepted,
+            &self.psk,
+            self.id_p.as_slice(),
+            self.own.side.id_s.as_slice(),
+            &rand_s,
+            &self.rand_p,
+            mac,
+        );
+    }
+
+    /// Adds the record of this MAC_S.
+    #[tactic(auto, unfolding(eap_method::specs::PskServer::mac_s_covers))]
+    pub fn add_mac_s(&self, made: &mut TagList, mac: &[u8; 16])
+        requires { length made.old < 2 }
+        ensures { made.new ≡ made.old ++ ak_record self.now.psk (mac_s_covers self.now) mac.now ∷ [] }
+    {
+        let id_s = self.own.side.id_s.as_slice();
+        add_mac_s(made, &self.psk, id_s, &self.rand_p, mac);
     }
 
     /// What the server holds where the login succeeded.

@@ -1,27 +1,39 @@
-//! Where a server stands, and what a turn makes of it.
+//! Where a server stands.
 
 ghost use Rattle.std.specs.Prelude.{◌≡◌};
 
 use crate::server::login::{Begun, Login};
-use eap_base::Packet;
-use eap_method::{Report, ServerTurn, TagList, Tags};
-use eap_packet::Cause;
+use eap_method::Report;
+
+/// How far a server without a login is.
+#[derive(Clone, Copy)]
+pub enum EarlyPhase {
+    /// It has made no Request.
+    Begun,
+    /// It has sent PSK-1, and awaits PSK-2.
+    Asked,
+    /// It doesn't know the user, and takes nothing more.
+    Refused,
+}
+
+/// How far a server with a login is.
+#[derive(Clone, Copy)]
+pub enum KnownPhase {
+    /// It has sent PSK-3, and awaits PSK-4.
+    Checked,
+    /// It has taken PSK-4, and takes nothing more.
+    Over { success: bool },
+}
 
 /// Where a server stands.
 #[derive(Drop)]
 pub enum Stage {
     /// It hasn't begun.
     Unset,
-    /// It has begun, and made no Request.
-    Begun { own: Begun },
-    /// It has sent PSK-1, and awaits PSK-2.
-    Asked { own: Begun },
-    /// It has sent PSK-3, and awaits PSK-4.
-    Checked { login: Login },
-    /// It doesn't know the user, and takes nothing more.
-    Refused { own: Begun },
-    /// It has taken PSK-4, and takes nothing more.
-    Over { login: Login, success: bool },
+    /// It has begun, and has taken no PSK-2.
+    Early { own: Begun, phase: EarlyPhase },
+    /// It has taken PSK-2.
+    Known { login: Login, phase: KnownPhase },
 }
 
 impl Stage {
@@ -33,64 +45,11 @@ impl Stage {
         ensures { result ≡ report (view_of self.now) }
     {
         match self {
-            Stage::Over {
+            Stage::Known {
                 login,
-                success: true,
+                phase: KnownPhase::Over { success: true },
             } => Some(login.report()),
             _ => None,
-        }
-    }
-}
-
-/// The first Request, and where the server stands after it.
-#[derive(Drop)]
-pub struct First {
-    pub packet: Packet,
-    pub after: Stage,
-}
-
-/// A turn, and where the server stands after it.
-#[derive(Drop)]
-pub struct Taken {
-    pub turn: ServerTurn,
-    pub after: Stage,
-}
-
-impl Taken {
-    ghost use Rattle.psk_ends.specs.ServerStage.{view_of, outcome_of};
-    ghost use Rattle.eap_method.specs.Turns.{dropped, requested, done};
-
-    /// The Response is discarded, and the server stays where it stands.
-    pub fn dropped(stage: Stage, cause: Cause) -> Taken
-        ensures { outcome_of result ≡ dropped (view_of stage) cause }
-    {
-        Taken {
-            turn: ServerTurn::Discard(cause),
-            after: stage,
-        }
-    }
-
-    /// The next Request, with the tags that were accepted and made.
-    pub fn requested(after: Stage, packet: Packet, tags: Tags) -> Taken
-        ensures { outcome_of result ≡ requested (view_of after) packet tags.accepted tags.made }
-    {
-        Taken {
-            turn: ServerTurn::Request { packet, tags },
-            after,
-        }
-    }
-
-    /// The method is over, with the tags that were accepted.
-    pub fn done(after: Stage, success: bool, accepted: TagList) -> Taken
-        ensures { outcome_of result ≡ done (view_of after) success accepted }
-    {
-        let tags = Tags {
-            accepted,
-            made: TagList::new(),
-        };
-        Taken {
-            turn: ServerTurn::Done { success, tags },
-            after,
         }
     }
 }

@@ -1,58 +1,77 @@
 //! A server's first Request, and its turn for each Response (RFC 4764 section 4).
 
-ghost use Rattle.std.specs.Prelude.{◌≡◌, ◌≤◌, length, All, IsTrue};
+ghost use Rattle.std.specs.Prelude.{◌≡◌, ℕ, ◌≤◌, List, length, All, IsTrue};
+ghost use Rattle.eap_base.specs.declared.users.User.{User};
 ghost use Rattle.eap_base.specs.Setup.{fits_kind};
 ghost use Rattle.psk_messages.specs.Message.{message_of, AreFields};
 ghost use Rattle.psk_messages.specs.Reading.{read_of};
+ghost use Rattle.eap_method.specs.Tags.{no_tags};
 ghost use Rattle.eap_method.specs.Turns.{body_of};
 ghost use Rattle.eap_method.specs.PskTags.{header_of};
-ghost use Rattle.eap_method.specs.PskServer.{first, first_step, asked_hears, asked_reads, checked_hears, checked_reads, idle_reads, step};
-ghost use Rattle.psk_ends.specs.ServerStage.{view_of, outcome_of, first_of};
+ghost use Rattle.eap_method.specs.PskServer.{View, first, first_step, asked_hears, asked_reads, checked_hears, checked_reads, idle_reads, step};
+ghost use Rattle.psk_ends.specs.ServerStage.{in_early, in_known, view_of, left_by, left_with, left_alone, asked_left, checked_left};
 
-use crate::octets::{header_of, rand_of};
+use crate::octets::{header_of, message_in, rand_of};
 use crate::server::login::{Begun, Login};
 use crate::server::psk3::{Psk2, hears_psk2};
 use crate::server::psk4::{Psk4, hears_psk4};
-use crate::server::stage::{First, Stage, Taken};
+use crate::server::stage::{EarlyPhase, KnownPhase, Stage};
 use eap_base::{Packet, Users};
+use eap_method::{ServerTurn, Tags};
 use eap_packet::{Cause, Code};
-use psk_messages::{PskView, read_psk, write_psk};
+use psk_messages::{PskView, write_psk_into};
 
-/// PSK-1 (RFC 4764 section 5.1).
+/// Writes PSK-1 (RFC 4764 section 5.1).
 #[tactic(auto, unfolding(eap_method::specs::PskServer::first))]
-fn psk1(own: &Begun, id: u8) -> Packet
-    ensures { result ≡ first own.now.side own.now.nonce id }
+fn write_psk1(own: &Begun, id: u8, packet: &mut Packet)
+    ensures { packet.new ≡ first own.now.side own.now.nonce id }
 {
     let message = PskView::P1 {
         rand_s: rand_of(&own.nonce),
         id_s: own.side.id_s.as_slice(),
     };
-    write_psk(&message, Code::Request, id)
+    write_psk_into(packet, &message, Code::Request, id);
+}
+
+/// The first Request of a server without a login.
+#[tactic(auto, unfolding(eap_method::specs::PskServer::first_step))]
+fn ask_early(own: &Begun, phase: &mut EarlyPhase, id: u8, packet: &mut Packet)
+    ensures { record { packet = packet.new; after = in_early phase.new own.now } ≡ first_step (in_early phase.old own.now) id }
+{
+    match *phase {
+        EarlyPhase::Begun => {
+            write_psk1(own, id, packet);
+            *phase = EarlyPhase::Asked;
+        }
+        _ => packet.clear(),
+    }
 }
 
 /// The first Request of a server that has begun. Any other makes an empty packet, and stays where it
 /// stands.
 #[tactic(auto, unfolding(eap_method::specs::PskServer::first_step))]
-pub fn ask(stage: Stage, id: u8) -> First
-    ensures { first_of result ≡ first_step (view_of stage) id }
+pub fn ask(stage: &mut Stage, id: u8, packet: &mut Packet)
+    ensures { record { packet = packet.new; after = view_of stage.new } ≡ first_step (view_of stage.old) id }
 {
     match stage {
-        Stage::Begun { own } => First {
-            packet: psk1(&own, id),
-            after: Stage::Asked { own },
-        },
-        other => First {
-            packet: Packet::new(),
-            after: other,
-        },
+        Stage::Early { own, phase } => ask_early(own, phase, id, packet),
+        _ => packet.clear(),
     }
 }
 
 /// A message at a server that has sent PSK-1.
-fn asked_hears(own: Begun, next_id: u8, message: &PskView, users: &Users) -> Taken
+fn asked_hears(
+    own: &Begun,
+    next_id: u8,
+    message: &PskView,
+    users: &Users,
+    packet: &mut Packet,
+    tags: &mut Tags,
+) -> Result<Option<Login>, Cause>
     requires fields { AreFields (message_of message.now) }
     requires keys { All (λ user. IsTrue (fits_kind user.kind user.psk)) users.now }
-    ensures { outcome_of result ≡ asked_hears users.now own.side own.nonce next_id (message_of message.now) }
+    requires none { tags.old ≡ no_tags }
+    ensures { asked_left own.now packet.new tags.new result ≡ left_by (asked_hears users.now own.now.side own.now.nonce next_id (message_of message.now)) }
 {
     match message {
         PskView::P2 {
@@ -66,28 +85,43 @@ fn asked_hears(own: Begun, next_id: u8, message: &PskView, users: &Users) -> Tak
                 rand_p: *rand_p,
                 mac: *mac,
             };
-            hears_psk2(own, next_id, &psk2, id_p, users)
+            hears_psk2(own, next_id, &psk2, id_p, users, packet, tags)
         }
-        _ => Taken::dropped(Stage::Asked { own }, Cause::WrongOp),
+        _ => Err(Cause::WrongOp),
     }
 }
 
 /// A Response at a server that has sent PSK-1.
-fn asked_reads(own: Begun, next_id: u8, response: &[u8], users: &Users) -> Taken
+fn asked_reads(
+    own: &Begun,
+    next_id: u8,
+    response: &[u8],
+    users: &Users,
+    packet: &mut Packet,
+    tags: &mut Tags,
+) -> Result<Option<Login>, Cause>
     requires size { 5 ≤ length response.now }
     requires keys { All (λ user. IsTrue (fits_kind user.kind user.psk)) users.now }
-    ensures { outcome_of result ≡ asked_reads users.now own.side own.nonce next_id (read_of (body_of response.now)) }
+    requires none { tags.old ≡ no_tags }
+    ensures { asked_left own.now packet.new tags.new result
+        ≡ left_by (asked_reads users.now own.now.side own.now.nonce next_id (read_of (body_of response.now))) }
 {
-    match read_psk(&response[5..]) {
-        Err(cause) => Taken::dropped(Stage::Asked { own }, cause),
-        Ok(message) => asked_hears(own, next_id, &message, users),
+    match message_in(response) {
+        Err(cause) => Err(cause),
+        Ok(message) => asked_hears(own, next_id, &message, users, packet, tags),
     }
 }
 
 /// A message, with this header, at a server that has sent PSK-3.
-fn checked_hears(login: Login, header: &[u8], message: &PskView) -> Taken
-    requires { length header.now ≤ 22 }
-    ensures { outcome_of result ≡ checked_hears login header.now (message_of message.now) }
+fn checked_hears(
+    login: &Login,
+    header: &[u8],
+    message: &PskView,
+    tags: &mut Tags,
+) -> Result<bool, Cause>
+    requires header { length header.now ≤ 22 }
+    requires none { tags.old ≡ no_tags }
+    ensures { checked_left login.now tags.new result ≡ left_by (checked_hears login.now header.now (message_of message.now)) }
 {
     match message {
         PskView::P4 {
@@ -102,48 +136,97 @@ fn checked_hears(login: Login, header: &[u8], message: &PskView) -> Taken
                 tag: *tag,
                 sealed: *sealed,
             };
-            hears_psk4(login, header, &psk4)
+            hears_psk4(login, header, &psk4, tags)
         }
-        _ => Taken::dropped(Stage::Checked { login }, Cause::WrongOp),
+        _ => Err(Cause::WrongOp),
     }
 }
 
 /// A Response at a server that has sent PSK-3.
-fn checked_reads(login: Login, response: &[u8]) -> Taken
-    requires { 5 ≤ length response.now }
-    ensures { outcome_of result ≡ checked_reads login (header_of response.now) (read_of (body_of response.now)) }
+fn checked_reads(login: &Login, response: &[u8], tags: &mut Tags) -> Result<bool, Cause>
+    requires size { 5 ≤ length response.now }
+    requires none { tags.old ≡ no_tags }
+    ensures { checked_left login.now tags.new result ≡ left_by (checked_reads login.now (header_of response.now) (read_of (body_of response.now))) }
 {
-    match read_psk(&response[5..]) {
-        Err(cause) => Taken::dropped(Stage::Checked { login }, cause),
-        Ok(message) => checked_hears(login, header_of(response), &message),
+    match message_in(response) {
+        Err(cause) => Err(cause),
+        Ok(message) => checked_hears(login, header_of(response), &message, tags),
     }
 }
 
-/// A Response at a server that awaits nothing.
-fn idle_reads(stage: Stage, response: &[u8]) -> Taken
+/// Why a Response is discarded by a server that awaits nothing.
+fn idle_reads(response: &[u8]) -> Cause
     requires { 5 ≤ length response.now }
-    ensures { outcome_of result ≡ idle_reads (view_of stage) (read_of (body_of response.now)) }
+    ensures { (view : View) → left_alone view result no_tags ≡ left_by (idle_reads view (read_of (body_of response.now))) }
 {
-    let cause = match read_psk(&response[5..]) {
+    match message_in(response) {
         Err(cause) => cause,
         Ok(_) => Cause::WrongOp,
-    };
-    Taken::dropped(stage, cause)
+    }
+}
+
+/// A Response at a server with a login.
+#[tactic(auto, unfolding(eap_method::specs::PskServer::step))]
+fn known_reads(
+    login: &Login,
+    phase: &mut KnownPhase,
+    response: &[u8],
+    tags: &mut Tags,
+) -> ServerTurn
+    requires size { 5 ≤ length response.now }
+    requires none { tags.old ≡ no_tags }
+    ensures { (users : List User) (next_id : ℕ) (packet : List ℕ)
+        → left_with result packet tags.new (in_known phase.new login.now) ≡ left_by (step users next_id (in_known phase.old login.now) response.now) }
+{
+    match *phase {
+        KnownPhase::Over { .. } => ServerTurn::Discard(idle_reads(response)),
+        KnownPhase::Checked => match checked_reads(login, response, tags) {
+            Err(cause) => ServerTurn::Discard(cause),
+            Ok(success) => {
+                *phase = KnownPhase::Over { success };
+                ServerTurn::Done { success }
+            }
+        },
+    }
 }
 
 /// The turn for a Response of Type 47 with nothing past its Length.
 #[tactic(auto, unfolding(eap_method::specs::PskServer::step))]
-pub fn take(stage: Stage, response: &[u8], next_id: u8, users: &Users) -> Taken
+pub fn take(
+    stage: &mut Stage,
+    response: &[u8],
+    next_id: u8,
+    users: &Users,
+    packet: &mut Packet,
+    tags: &mut Tags,
+) -> ServerTurn
     requires size { 5 ≤ length response.now }
     requires keys { All (λ user. IsTrue (fits_kind user.kind user.psk)) users.now }
-    ensures { outcome_of result ≡ step users.now next_id (view_of stage) response.now }
+    requires none { tags.old ≡ no_tags }
+    ensures { left_with result packet.new tags.new (view_of stage.new) ≡ left_by (step users.now next_id (view_of stage.old) response.now) }
 {
     match stage {
-        Stage::Unset => Taken::dropped(Stage::Unset, Cause::WrongOp),
-        Stage::Begun { own } => idle_reads(Stage::Begun { own }, response),
-        Stage::Asked { own } => asked_reads(own, next_id, response, users),
-        Stage::Checked { login } => checked_reads(login, response),
-        Stage::Refused { own } => idle_reads(Stage::Refused { own }, response),
-        Stage::Over { login, success } => idle_reads(Stage::Over { login, success }, response),
+        Stage::Unset => ServerTurn::Discard(Cause::WrongOp),
+        Stage::Known { login, phase } => known_reads(login, phase, response, tags),
+        Stage::Early { own, phase } => match *phase {
+            EarlyPhase::Asked => {
+                match asked_reads(own, next_id, response, users, packet, tags) {
+                    Err(cause) => ServerTurn::Discard(cause),
+                    Ok(None) => {
+                        *phase = EarlyPhase::Refused;
+                        ServerTurn::Done { success: false }
+                    }
+                    Ok(Some(login)) => {
+                        *stage = Stage::Known {
+                            login,
+                            phase: KnownPhase::Checked,
+                        };
+                        ServerTurn::Request
+                    }
+                }
+            }
+            EarlyPhase::Begun => ServerTurn::Discard(idle_reads(response)),
+            EarlyPhase::Refused => ServerTurn::Discard(idle_reads(response)),
+        },
     }
 }

@@ -2,5 +2,5 @@ use Rattle.eap_base.specs.Setup.{psk_kind}
 use Rattle.psk_ends.proofs.Requests.{holds_a_type}
 use Rattle.psk_ends.proofs.peer.PskPeerPeerMethod.handle.Goals as goal
 
-pub take-turn-requires : goal.take-turn-requires
-take-turn-requires c = holds_a_type psk_kind c.args.request.now c.requires
+pub take-requires-clause-size : goal.take-requires-clause-size
+take-requires-clause-size c = holds_a_type psk_kind c.args.request.now c.requires
