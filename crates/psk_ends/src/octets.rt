@@ -6,7 +6,7 @@ ghost use Rattle.psk_messages.specs.Reading.{read_of};
 ghost use Rattle.eap_method.specs.Turns.{body_of};
 ghost use Rattle.eap_method.specs.PskTags.{header_of, rand_of};
 
-use eap_base::{Nonce, Octets, array_of};
+use eap_base::{Nonce, array_of};
 use eap_packet::Cause;
 use psk_messages::{PskView, read_psk};
 

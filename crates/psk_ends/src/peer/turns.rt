@@ -14,7 +14,7 @@ use crate::octets::{header_of, message_in};
 use crate::peer::login::{Begun, Login};
 use crate::peer::psk4::{Psk3, hears_psk3};
 use crate::peer::stage::{Phase, Stage};
-use eap_base::{Accepts, Packet};
+use eap_base::Packet;
 use eap_method::{Decision, MethodState, PeerTurn, TagList, Tags};
 use eap_packet::{Cause, Code};
 use psk_messages::{PskView, write_psk_into};
