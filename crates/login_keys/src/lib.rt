@@ -11,5 +11,6 @@ mod psk;
 
 pub use derivation::gkdf;
 pub use gpsk::{GpskKeys, gpsk_keys, gpsk_tag};
+pub use mac_key::MacKey;
 pub use naming::key_name;
 pub use psk::{PskKeys, PskLong, psk_long, psk_session};

@@ -13,7 +13,10 @@ use cmac_mac::CmacKey;
 use eap_base::{Octets, Suite, array_of};
 use hmac_mac::HmacKey;
 
-// A key of the MAC of suite 1 or of suite 2 (RFC 5433, sections 8.1.2 and 8.2.2).
+/// A key of the MAC of suite 1 or of suite 2 (RFC 5433, sections 8.1.2 and 8.2.2), made once for many
+/// texts.
+///
+/// A contract says by `IsMacKey made suite key` for which suite and which octets a value stands.
 #[derive(Drop)]
 pub enum MacKey {
     Cmac(CmacKey),
@@ -21,7 +24,7 @@ pub enum MacKey {
 }
 
 impl MacKey {
-    // The key of these octets.
+    /// The key of these octets, KS of the suite.
     #[tactic(auto, unfolding(crate::specs::MacKey::IsMacKey))]
     pub fn new(suite: Suite, key: &[u8]) -> MacKey
         requires { length key.now ≡ ks_of suite }
@@ -33,7 +36,7 @@ impl MacKey {
         }
     }
 
-    // The MAC of the text that begins with `front` and goes on with the pieces.
+    /// The MAC of the text that begins with `front` and goes on with the pieces.
     #[tactic(auto, unfolding(crate::specs::MacKey::IsMacKey, crate::specs::Gkdf::gpsk_tag_of))]
     pub fn tag(&self, front: &[u8], pieces: &[&[u8]]) -> Octets<32>
         ensures { (suite : Suite) (key : List ℕ) → IsMacKey self.now suite key
@@ -42,6 +45,18 @@ impl MacKey {
         match self {
             MacKey::Cmac(key) => Octets::of(&key.tag(front, pieces)),
             MacKey::Hmac(key) => Octets::of(&hmac_tag(key, front, pieces)),
+        }
+    }
+
+    /// The MAC of a text in one piece. It has KS octets.
+    #[tactic(auto, unfolding(crate::specs::MacKey::IsMacKey, crate::specs::Gkdf::gpsk_tag_of))]
+    pub fn tag_whole(&self, text: &[u8]) -> Octets<32>
+        ensures tag { (suite : Suite) (key : List ℕ) → IsMacKey self.now suite key → result ≡ gpsk_tag_of suite key text.now }
+        ensures size { (suite : Suite) (key : List ℕ) → IsMacKey self.now suite key → length result ≡ ks_of suite }
+    {
+        match self {
+            MacKey::Cmac(key) => list_of(&key.tag(text, &[])),
+            MacKey::Hmac(key) => list_of(&hmac_tag(key, text, &[])),
         }
     }
 }
