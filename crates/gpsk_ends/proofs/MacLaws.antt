@@ -12,8 +12,9 @@ use Rattle.gpsk_messages.specs.Message.{Message, gpsk1, gpsk2, gpsk3, gpsk4, fai
 use Rattle.gpsk_messages.specs.Reading.{with_mac}
 use Rattle.login_keys.specs.Gkdf.{gpsk_tag_of}
 use Rattle.eap_method.specs.declared.tags.Label.TheVariants.{Sk}
-use Rattle.gpsk_ends.specs.declared.sealing.Sealed.{Sealed}
-use Rattle.gpsk_ends.specs.Sealed.{sealed_of}
+use Rattle.eap_method.specs.declared.tags.TagRecord.{TagRecord}
+use Rattle.eap_method.specs.GpskTags.{tagged}
+use Rattle.gpsk_ends.specs.Sealed.{packet_of, record_of}
 
 -- ---- a message and its MAC
 
@@ -165,15 +166,25 @@ is_front code id suite message packet octets t m e o =
 
 -- ---- the packet with its MAC, and the MAC's record
 
-pub seals : (code : Code) (id : ℕ) (suite : Suite) (sk psk : List ℕ) (message : Message) (octets tag packet : List ℕ) →
+-- the MAC of the covered octets, and the message with it
+tag_of : (suite : Suite) (sk : List ℕ) (message : Message) (octets tag : List ℕ) → octets ≡ covered_of message →
+    tag ≡ gpsk_tag_of suite sk octets → tagged suite sk (without_mac message) ≡ with_mac message tag
+tag_of suite sk message octets tag o t =
+    let same : gpsk_tag_of suite sk (covered_of (without_mac message)) ≡ tag = ap (gpsk_tag_of suite sk) (covered_without message ∙ sym o) ∙ sym t in
+    ap (with_mac (without_mac message)) same ∙ with_without message tag
+
+pub packet_sealed : (code : Code) (id : ℕ) (suite : Suite) (sk : List ℕ) (message : Message) (octets tag packet : List ℕ) →
+    octets ≡ covered_of message → tag ≡ gpsk_tag_of suite sk octets → packet ≡ packets.spelled (value_with code id 51 (spelled (with_mac message tag))) →
+    packet ≡ packet_of code id suite sk (without_mac message)
+packet_sealed code id suite sk message octets tag packet o t p =
+    p ∙ ap (λ m. packets.spelled (value_with code id 51 (spelled m))) (sym (tag_of suite sk message octets tag o t))
+
+pub record_sealed : (suite : Suite) (sk psk : List ℕ) (message : Message) (octets tag : List ℕ) →
     length (mac_of message) ≡ ks_of suite → octets ≡ covered_of message → tag ≡ gpsk_tag_of suite sk octets →
-    packet ≡ packets.spelled (value_with code id 51 (spelled (with_mac message tag))) →
-    (let made : Sealed = record { packet = packet; tag = record { method = 51; label = Sk; psk = psk; octets = octets; tag = tag } } in
-    made ≡ sealed_of code id suite sk psk (without_mac message))
-seals code id suite sk psk message octets tag packet h o t p =
-    let c = covered_without message in
-    let same : tag ≡ gpsk_tag_of suite sk (covered_of (without_mac message)) = t ∙ ap (gpsk_tag_of suite sk) (o ∙ sym c) in
-    let w = with_without message tag in
+    (let made : TagRecord = record { method = 51; label = Sk; psk = psk; octets = octets; tag = tag } in
+    made ≡ record_of suite sk psk (without_mac message))
+record_sealed suite sk psk message octets tag h o t =
+    let whole = tag_of suite sk message octets tag o t in
     let d = covered_with message tag in
     let m = mac_with suite message tag h in
     cc

@@ -1,4 +1,5 @@
 pub mod Heard
+pub mod Keys
 pub mod PeerLogin
 pub mod PeerStage
 pub mod Sealed

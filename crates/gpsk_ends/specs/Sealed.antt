@@ -7,12 +7,13 @@ use Rattle.eap_packet.specs.Packet.{value_with}
 use Rattle.eap_packet.specs.Packet as packets
 use Rattle.gpsk_messages.specs.Message.{Message}
 use Rattle.gpsk_messages.specs.Message as messages
+use Rattle.eap_method.specs.declared.tags.TagRecord.{TagRecord}
 use Rattle.eap_method.specs.GpskTags.{tagged, sk_record}
-use Rattle.gpsk_ends.specs.declared.sealing.Sealed.{Sealed}
 
--- the packet of a message with its MAC, and the MAC's record
-abbrev pub sealed_of : Code → ℕ → Suite → List ℕ → List ℕ → Message → Sealed
-sealed_of code id suite sk psk message = record {
-  packet = packets.spelled (value_with code id gpsk_kind (messages.spelled (tagged suite sk message)));
-  tag = sk_record psk (tagged suite sk message);
-}
+-- the packet of a message with its MAC
+abbrev pub packet_of : Code → ℕ → Suite → List ℕ → Message → List ℕ
+packet_of code id suite sk message = packets.spelled (value_with code id gpsk_kind (messages.spelled (tagged suite sk message)))
+
+-- and the MAC's record
+abbrev pub record_of : Suite → List ℕ → List ℕ → Message → TagRecord
+record_of suite sk psk message = sk_record psk (tagged suite sk message)

@@ -1,6 +1,5 @@
 -- What a server keeps of a login, as its definition says it.
 use Rattle.std.specs.Prelude.{◌≡◌, length}
-use Rattle.eap_base.specs.Suite.{ks_of}
 use Rattle.eap_method.specs.GpskServer.{Login, keys_of}
 use Rattle.gpsk_ends.specs.declared.server.login.Login.TheInside.{Inside}
 
@@ -12,12 +11,11 @@ login_of kept = record {
   id_p = kept.id_p;
   psk = kept.psk;
   rand_p = kept.rand_p;
-  suite = kept.suite;
+  suite = kept.keys.suite;
 }
 
--- the keys are those of the login; SK has KS octets, a nonce 32
+-- the keys are those of the login; a nonce has 32 octets
 pub record IsKept (kept : Inside) : Type 0 where
-  pub keys : kept.keys ≡ keys_of (login_of kept)
-  pub sk : length kept.keys.sk ≡ ks_of kept.suite
+  pub keys : kept.keys.keys ≡ keys_of (login_of kept)
   pub rand_p : length kept.rand_p ≡ 32
   pub rand_s : length kept.own.nonce ≡ 32

@@ -1,26 +1,54 @@
--- Where a server of EAP-GPSK stands, as its definition says it.
-use Rattle.eap_method.specs.GpskServer.{View, unset, begun, asked, refusing, barring, checked, refused, over}
-use Rattle.eap_method.specs.Turns.{ServerOutcome, FirstOutcome}
+-- Where a server of EAP-GPSK stands, and what a call makes of it, as its definition says it.
+use Rattle.std.specs.Prelude.{ℕ, List, Result}
+use Rattle.eap_packet.specs.declared.cause.Cause.{Cause}
+use Rattle.gpsk_messages.specs.Message.{Message}
+use Rattle.eap_method.specs.declared.tags.Tags.{Tags}
+use Rattle.eap_method.specs.declared.turn.ServerTurn as brief
+use Rattle.eap_method.specs.declared.turn.ServerTurn.TheVariants as turn
+use Rattle.eap_method.specs.declared.values.ServerSide.{ServerSide}
+use Rattle.eap_method.specs.GpskServer.{Login, View, unset, begun, asked, refusing, barring, checked, refused, over, barring_reads, checked_reads, idle_reads}
+use Rattle.eap_method.specs.ServerTurn.{server_turn_with}
+use Rattle.eap_method.specs.Turns.{ServerOutcome, dropped}
+use Rattle.gpsk_ends.specs.declared.server.stage.Alone.{Alone}
+use Rattle.gpsk_ends.specs.declared.server.stage.Alone.TheVariants as alone
+use Rattle.gpsk_ends.specs.declared.server.stage.Phase.{Phase}
+use Rattle.gpsk_ends.specs.declared.server.stage.Phase.TheVariants as phase
 use Rattle.gpsk_ends.specs.declared.server.stage.Stage.{Stage}
 use Rattle.gpsk_ends.specs.declared.server.stage.Stage.TheVariants as stage
-use Rattle.gpsk_ends.specs.declared.server.stage.First.{First}
-use Rattle.gpsk_ends.specs.declared.server.stage.Taken.{Taken}
+use Rattle.gpsk_ends.specs.declared.server.stage.Answered.{Answered}
+use Rattle.gpsk_ends.specs.declared.server.stage.Answered.TheVariants as answered
+
+-- where the server stands without a login
+abbrev pub view_alone : ServerSide → List ℕ → Alone → View
+view_alone own nonce alone.Begun = begun own nonce
+view_alone own nonce alone.Asked = asked own nonce
+view_alone own nonce alone.Refusing = refusing own nonce
+view_alone own nonce alone.Refused = refused own nonce
+
+-- where the server stands in a login
+abbrev pub view_in : Login → Phase → View
+view_in login phase.Barring = barring login
+view_in login phase.Checked = checked login
+view_in login (phase.Over good) = over login good
 
 -- where the server stands
 abbrev pub view_of : Stage → View
 view_of stage.Unset = unset
-view_of (stage.Begun own) = begun own.side own.nonce
-view_of (stage.Asked own) = asked own.side own.nonce
-view_of (stage.Refusing own) = refusing own.side own.nonce
-view_of (stage.Barring login) = barring login
-view_of (stage.Checked login) = checked login
-view_of (stage.Refused own) = refused own.side own.nonce
-view_of (stage.Over login good) = over login good
+view_of (stage.Alone own phase) = view_alone own.side own.nonce phase
+view_of (stage.Login login phase) = view_in login phase
 
--- the first Request, and where the server stands after it
-abbrev pub first_of : First → FirstOutcome View
-first_of made = record { packet = made.packet; after = view_of made.after }
+-- a turn with what it wrote, and where the server stands after it
+abbrev pub outcome_with : brief.ServerTurn → List ℕ → Tags → View → ServerOutcome View
+outcome_with turn packet tags after = record { turn = server_turn_with turn packet tags; after = after }
 
--- a turn, and where the server stands after it
-abbrev pub outcome_of : Taken → ServerOutcome View
-outcome_of taken = record { turn = taken.turn; after = view_of taken.after }
+-- what GPSK-2 leaves, with what was written
+abbrev pub answered_with : Answered → List ℕ → Tags → ServerSide → List ℕ → ServerOutcome View
+answered_with (answered.Dropped cause) packet tags own nonce = dropped (asked own nonce) cause
+answered_with answered.Refused packet tags own nonce = outcome_with turn.Request packet tags (refusing own nonce)
+answered_with (answered.Known login phase) packet tags own nonce = outcome_with turn.Request packet tags (view_in login phase)
+
+-- the Type-Data at a server in a login
+abbrev pub reads_in : Login → Phase → Result Message Cause → ServerOutcome View
+reads_in login phase.Barring read = barring_reads login read
+reads_in login phase.Checked read = checked_reads login read
+reads_in login (phase.Over good) read = idle_reads (over login good) read

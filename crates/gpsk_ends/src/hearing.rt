@@ -1,17 +1,14 @@
-//! Messages received: their reading, their MACs, and the records of these.
+//! Messages received: their reading, and where their MACs and the octets under these stand.
 
 ghost use Rattle.std.specs.Prelude.{◌≡◌, ◌≤◌, length, option_map, IfOk};
 ghost use Rattle.eap_base.specs.Suite.{ks_of};
 ghost use Rattle.gpsk_messages.specs.Message.{message_of, heard, spelled, mac_of, covered_of};
 ghost use Rattle.gpsk_messages.specs.Reading.{read_of};
-ghost use Rattle.eap_method.specs.GpskTags.{is_tagged, sk_record};
 ghost use Rattle.gpsk_ends.specs.Heard.{IsHeard};
 
-use eap_base::{GPSK_KIND, Octets, Secret, Suite, equal_in_full};
-use eap_method::{Label, TagRecord};
+use eap_base::Suite;
 use eap_packet::Cause;
 use gpsk_messages::{GpskView, read_gpsk};
-use login_keys::gpsk_tag;
 
 /// KS of a suite, 16 or 32, in one octet.
 fn ks_octet(suite: Suite) -> u8
@@ -36,7 +33,7 @@ pub(crate) fn hear<'a>(body: &'a [u8], suite: Option<Suite>) -> Result<GpskView<
 }
 
 /// The MAC of a message, empty where it has none.
-fn mac_part<'a>(view: &GpskView<'a>) -> &'a [u8]
+pub(crate) fn mac_part<'a>(view: &GpskView<'a>) -> &'a [u8]
     ensures { result.now ≡ mac_of (message_of view.now) }
 {
     match view {
@@ -50,37 +47,10 @@ fn mac_part<'a>(view: &GpskView<'a>) -> &'a [u8]
 
 /// The octets that a message's MAC covers: those after the OP-Code up to the MAC.
 #[tactic(auto, using(crate::proofs::Covered::covered_start, crate::proofs::Covered::covered_middle))]
-fn covered_part<'a>(view: &GpskView, body: &'a [u8]) -> &'a [u8]
+pub(crate) fn covered_part<'a>(view: &GpskView, body: &'a [u8]) -> &'a [u8]
     requires { body.now ≡ spelled (message_of view.now) }
     ensures covered { result.now ≡ covered_of (message_of view.now) }
     ensures size { length result.now ≤ length body.now }
 {
     &body[1..body.len() - mac_part(view).len()]
-}
-
-/// Whether the message, which the Type-Data spells, has the MAC of its covered octets under `sk` (RFC
-/// 5433, sections 8.1.2 and 8.2.2). All octets of the MAC are compared. MACs are compared here alone.
-pub(crate) fn has_tag(view: &GpskView, body: &[u8], suite: Suite, sk: &[u8]) -> bool
-    requires spelling { body.now ≡ spelled (message_of view.now) }
-    requires key { length sk.now ≡ ks_of suite }
-    ensures { result ≡ is_tagged suite sk.now (message_of view.now) }
-{
-    equal_in_full(
-        gpsk_tag(suite, sk, covered_part(view, body)).as_slice(),
-        mac_part(view),
-    )
-}
-
-/// The record of the message's MAC, where the Type-Data spells the message.
-pub(crate) fn record_of(view: &GpskView, body: &[u8], psk: &Secret) -> TagRecord
-    requires { IsHeard (message_of view.now) body.now }
-    ensures { result ≡ sk_record psk.now (message_of view.now) }
-{
-    TagRecord {
-        method: GPSK_KIND,
-        label: Label::Sk,
-        psk: psk.copy(),
-        octets: Octets::of(covered_part(view, body)),
-        tag: Octets::of(mac_part(view)),
-    }
 }

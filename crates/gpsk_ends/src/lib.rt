@@ -3,7 +3,9 @@
 #![tactic(auto)]
 
 mod hearing;
+mod keys;
 mod peer;
+mod records;
 mod sealing;
 mod server;
 

@@ -3,17 +3,18 @@
 ghost use Rattle.std.specs.Prelude.{◌≡◌};
 ghost use Rattle.eap_method.specs.GpskPeer.{unset};
 
+mod gpsk1;
 mod login;
+mod offer;
 mod stage;
 mod turns;
 
 use crate::peer::login::Begun;
-use crate::peer::stage::{Stage, Taken};
+use crate::peer::stage::Stage;
 use crate::peer::turns::take;
-use eap_base::{GPSK_KIND, Nonce};
-use eap_method::{Credential, PeerMethod, PeerTurn, Report};
+use eap_base::{GPSK_KIND, Nonce, Packet};
+use eap_method::{Credential, PeerMethod, PeerTurn, Report, Tags};
 use std::marker::Model;
-use std::mem;
 
 /// A peer of EAP-GPSK. Contracts see where it stands. It derives its keys once a login, and takes no
 /// memory.
@@ -62,11 +63,14 @@ impl PeerMethod for GpskPeer {
     }
 
     #[tactic(auto, unfolding(eap_method::specs::Peer::peer_step))]
-    fn handle(&mut self, request: &[u8]) -> PeerTurn {
-        let stage = mem::replace(&mut self.stage, Stage::Unset);
-        let Taken { turn, after } = take(stage, request);
-        self.stage = after;
-        turn
+    fn handle(&mut self, request: &[u8], packet: &mut Packet, tags: &mut Tags) -> PeerTurn {
+        match take(&mut self.stage, request, packet, tags) {
+            PeerTurn::Discard(cause) => {
+                tags.clear();
+                PeerTurn::Discard(cause)
+            }
+            PeerTurn::Reply { state, decision } => PeerTurn::Reply { state, decision },
+        }
     }
 
     #[tactic(auto, unfolding(eap_method::specs::Peer::peer_report))]

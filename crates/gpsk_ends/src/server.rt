@@ -9,12 +9,11 @@ mod stage;
 mod turns;
 
 use crate::server::login::Begun;
-use crate::server::stage::{First, Stage, Taken};
+use crate::server::stage::{Alone, Stage};
 use crate::server::turns::{ask, take};
 use eap_base::{GPSK_KIND, Nonce, Packet, Users};
-use eap_method::{Report, ServerMethod, ServerSide, ServerTurn};
+use eap_method::{Report, ServerMethod, ServerSide, ServerTurn, Tags};
 use std::marker::Model;
-use std::mem;
 
 /// A server of EAP-GPSK. Contracts see where it stands. It derives its keys once for each GPSK-2 of a
 /// known user, and takes no memory.
@@ -54,28 +53,37 @@ impl ServerMethod for GpskServer {
     }
 
     fn begin(&mut self, own: &ServerSide, nonce: &Nonce) {
-        self.stage = Stage::Begun {
+        self.stage = Stage::Alone {
             own: Begun {
                 side: own.copy(),
                 nonce: *nonce,
             },
+            phase: Alone::Begun,
         };
     }
 
     #[tactic(auto, unfolding(eap_method::specs::Server::server_first_step))]
-    fn first(&mut self, id: u8) -> Packet {
-        let stage = mem::replace(&mut self.stage, Stage::Unset);
-        let First { packet, after } = ask(stage, id);
-        self.stage = after;
-        packet
+    fn first(&mut self, id: u8, packet: &mut Packet) {
+        ask(&mut self.stage, id, packet);
     }
 
     #[tactic(auto, unfolding(eap_method::specs::Server::server_step))]
-    fn handle(&mut self, response: &[u8], next_id: u8, users: &Users) -> ServerTurn {
-        let stage = mem::replace(&mut self.stage, Stage::Unset);
-        let Taken { turn, after } = take(stage, response, next_id, users);
-        self.stage = after;
-        turn
+    fn handle(
+        &mut self,
+        response: &[u8],
+        next_id: u8,
+        users: &Users,
+        packet: &mut Packet,
+        tags: &mut Tags,
+    ) -> ServerTurn {
+        match take(&mut self.stage, response, next_id, users, packet, tags) {
+            ServerTurn::Discard(cause) => {
+                tags.clear();
+                ServerTurn::Discard(cause)
+            }
+            ServerTurn::Request => ServerTurn::Request,
+            ServerTurn::Done { success } => ServerTurn::Done { success },
+        }
     }
 
     #[tactic(auto, unfolding(eap_method::specs::Server::server_report))]

@@ -1,20 +1,21 @@
 //! What a peer keeps of a login, and the messages that it makes of it.
 
-ghost use Rattle.std.specs.Prelude.{◌≡◌, ◌≤◌, ◌+◌, length};
+ghost use Rattle.std.specs.Prelude.{◌≡◌, ◌≤◌, ◌+◌, ◌∷◌, [], length};
 ghost use Rattle.eap_base.specs.Suite.{ks_of};
 ghost use Rattle.eap_packet.specs.declared.packet.Code.TheVariants as code;
 ghost use Rattle.gpsk_messages.specs.Message.{message_of, mac_of, size_of, without_mac};
 ghost use Rattle.eap_method.specs.GpskTags.{gpsk_response, sk_record};
 ghost use Rattle.gpsk_ends.specs.Heard.{IsHeard};
-ghost use Rattle.gpsk_ends.specs.Sealed.{sealed_of};
+ghost use Rattle.gpsk_ends.specs.Sealed.{packet_of, record_of};
 
-use crate::hearing::{has_tag, record_of};
-use crate::sealing::{Sealed, mac_place, seal};
-use eap_base::{GPSK_KIND, Identity, Nonce, Suite};
-use eap_method::{Credential, Report, TagRecord};
+use crate::keys::Keys;
+use crate::peer::offer::Offer;
+use crate::records::record;
+use crate::sealing::mac_place;
+use eap_base::{GPSK_KIND, Identity, Nonce, Octets, Packet, Suite};
+use eap_method::{Credential, Report, TagList};
 use eap_packet::Code;
 use gpsk_messages::GpskView;
-use login_keys::{GpskKeys, gpsk_keys};
 use std::marker::Model;
 
 /// What a peer brings into a login.
@@ -26,6 +27,19 @@ pub struct Begun {
     ghost long_enough: { 32 ≤ length cred.psk },
 }
 
+impl Begun {
+    /// An equal value.
+    fn copy(&self) -> Begun
+        ensures cred { result.cred ≡ self.now.cred }
+        ensures nonce { result.nonce ≡ self.now.nonce }
+    {
+        Begun {
+            cred: self.cred.copy(),
+            nonce: self.nonce,
+        }
+    }
+}
+
 /// A login after GPSK-1, with its keys. Contracts see the login alone: its keys are those that it has
 /// by its definition.
 #[derive(Drop)]
@@ -35,9 +49,7 @@ pub struct Login {
     id_s: Identity,
     /// RAND_Server.
     rand_s: Nonce,
-    /// CSuite_Sel.
-    suite: Suite,
-    keys: GpskKeys,
+    keys: Keys,
 }
 
 impl Model for Login {
@@ -54,21 +66,21 @@ impl Model for Login {
 
 impl Login {
     ghost use Rattle.eap_method.specs.GpskPeer.{keys_of, gpsk2_of, gpsk4_of, protected_fail_of, is_tagged_by, repeats, report_of};
+    ghost use Rattle.gpsk_ends.specs.PeerStage.{login_with};
 
-    /// The login that begins with GPSK-1. Its keys are derived here alone (RFC 5433 section 4).
+    /// The login that begins with an offer. Its keys are derived here alone (RFC 5433 section 4).
     #[tactic(auto, unfolding(eap_method::specs::GpskPeer::keys_of))]
-    pub fn new(own: Begun, id_s: &[u8], rand_s: &Nonce, suite: Suite) -> Login
-        requires { length id_s.now ≤ 253 }
-        ensures { result ≡ record { cred = own.cred; nonce = own.nonce; id_s = id_s.now; rand_s = rand_s.now; suite = suite } }
+    pub fn new(own: &Begun, offer: &Offer) -> Login
+        ensures { result ≡ login_with own.now.cred own.now.nonce offer.now }
     {
-        let psk = own.cred.psk.as_slice();
+        let psk = &own.cred.psk;
         let id_p = own.cred.id_p.as_slice();
-        let keys = gpsk_keys(suite, psk, &own.nonce, id_p, rand_s, id_s);
+        let rand_s = &offer.rand_s;
+        let keys = Keys::new(offer.suite, psk, &own.nonce, id_p, rand_s, offer.id_s);
         Login {
-            own,
-            id_s: Identity::of(id_s),
-            rand_s: *rand_s,
-            suite,
+            own: own.copy(),
+            id_s: Octets::of(offer.id_s),
+            rand_s: offer.rand_s,
             keys,
         }
     }
@@ -77,7 +89,7 @@ impl Login {
     pub fn suite(&self) -> Suite
         ensures { result ≡ self.now.suite }
     {
-        self.suite
+        self.keys.suite()
     }
 
     /// Whether GPSK-3 repeats the fields of the login.
@@ -87,7 +99,7 @@ impl Login {
         *rand_p == self.own.nonce
             && *rand_s == self.rand_s
             && id_s == self.id_s.as_slice()
-            && suite.number() == self.suite.number()
+            && suite.number() == self.keys.suite().number()
     }
 
     /// Whether a message, which the Type-Data spells, has the MAC of the login.
@@ -95,68 +107,71 @@ impl Login {
         requires { IsHeard (message_of view.now) body.now }
         ensures { result ≡ is_tagged_by self.now (message_of view.now) }
     {
-        has_tag(view, body, self.suite, self.keys.sk.as_slice())
+        self.keys.is_tagged(view, body)
     }
 
-    /// The record of the MAC of a message, which the Type-Data spells.
-    pub fn record(&self, view: &GpskView, body: &[u8]) -> TagRecord
+    /// Leaves the record of the MAC of a message, which the Type-Data spells, alone in `accepted`.
+    pub fn accept(&self, view: &GpskView, body: &[u8], accepted: &mut TagList)
         requires { IsHeard (message_of view.now) body.now }
-        ensures { result ≡ sk_record self.now.cred.psk (message_of view.now) }
+        ensures { accepted.new ≡ sk_record self.now.cred.psk (message_of view.now) ∷ [] }
     {
-        record_of(view, body, &self.own.cred.psk)
+        record(accepted, view, body, &self.own.cred.psk);
     }
 
-    /// The Response with a message whose MAC is yet to come, with the MAC of the login.
-    fn seal(&self, view: &GpskView, id: u8) -> Sealed
+    /// Writes the Response with a message whose MAC is yet to come, with the MAC of the login.
+    fn seal(&self, view: &GpskView, id: u8, packet: &mut Packet, made: &mut TagList)
         requires fits { size_of (message_of view.now) + 5 ≤ 1500 }
         requires mac { length (mac_of (message_of view.now)) ≡ ks_of self.now.suite }
-        ensures { result ≡ sealed_of code.Response id self.now.suite (keys_of self.now).sk self.now.cred.psk (without_mac (message_of view.now)) }
+        ensures packet { packet.new ≡ packet_of code.Response id self.now.suite (keys_of self.now).sk (without_mac (message_of view.now)) }
+        ensures record { made.new ≡ record_of self.now.suite (keys_of self.now).sk self.now.cred.psk (without_mac (message_of view.now)) ∷ [] }
     {
-        let sk = self.keys.sk.as_slice();
-        seal(view, Code::Response, id, self.suite, sk, &self.own.cred.psk)
+        let psk = &self.own.cred.psk;
+        self.keys.seal(view, Code::Response, id, psk, packet, made);
     }
 
-    /// GPSK-2 with its MAC. `list` is the CSuite_List of GPSK-1.
-    pub fn gpsk2(&self, id: u8, list: &[u8]) -> Sealed
+    /// Writes GPSK-2 with its MAC, whose record is then alone in `made`. `list` is the CSuite_List of
+    /// GPSK-1.
+    pub fn gpsk2(&self, id: u8, list: &[u8], packet: &mut Packet, made: &mut TagList)
         requires { length list.now ≤ 120 }
-        ensures packet { result.packet ≡ gpsk_response id (gpsk2_of self.now list.now) }
-        ensures tag { result.tag ≡ sk_record self.now.cred.psk (gpsk2_of self.now list.now) }
+        ensures packet { packet.new ≡ gpsk_response id (gpsk2_of self.now list.now) }
+        ensures record { made.new ≡ sk_record self.now.cred.psk (gpsk2_of self.now list.now) ∷ [] }
     {
+        let suite = self.keys.suite();
         let open = GpskView::M2 {
             id_p: self.own.cred.id_p.as_slice(),
             id_s: self.id_s.as_slice(),
             rand_p: self.own.nonce,
             rand_s: self.rand_s,
             list,
-            suite: self.suite,
+            suite,
             pd: &[],
-            mac: mac_place(self.suite),
+            mac: mac_place(suite),
         };
-        self.seal(&open, id)
+        self.seal(&open, id, packet, made);
     }
 
-    /// GPSK-4 with its MAC.
-    pub fn gpsk4(&self, id: u8) -> Sealed
-        ensures packet { result.packet ≡ gpsk_response id (gpsk4_of self.now) }
-        ensures tag { result.tag ≡ sk_record self.now.cred.psk (gpsk4_of self.now) }
+    /// Writes GPSK-4 with its MAC, whose record is then alone in `made`.
+    pub fn gpsk4(&self, id: u8, packet: &mut Packet, made: &mut TagList)
+        ensures packet { packet.new ≡ gpsk_response id (gpsk4_of self.now) }
+        ensures record { made.new ≡ sk_record self.now.cred.psk (gpsk4_of self.now) ∷ [] }
     {
         let open = GpskView::M4 {
             pd: &[],
-            mac: mac_place(self.suite),
+            mac: mac_place(self.keys.suite()),
         };
-        self.seal(&open, id)
+        self.seal(&open, id, packet, made);
     }
 
-    /// GPSK-Protected-Fail with its MAC.
-    pub fn protected_fail(&self, id: u8, code: u32) -> Sealed
-        ensures packet { result.packet ≡ gpsk_response id (protected_fail_of self.now code) }
-        ensures tag { result.tag ≡ sk_record self.now.cred.psk (protected_fail_of self.now code) }
+    /// Writes GPSK-Protected-Fail with its MAC, whose record is then alone in `made`.
+    pub fn protected_fail(&self, id: u8, code: u32, packet: &mut Packet, made: &mut TagList)
+        ensures packet { packet.new ≡ gpsk_response id (protected_fail_of self.now code) }
+        ensures record { made.new ≡ sk_record self.now.cred.psk (protected_fail_of self.now code) ∷ [] }
     {
         let open = GpskView::ProtectedFail {
             code,
-            mac: mac_place(self.suite),
+            mac: mac_place(self.keys.suite()),
         };
-        self.seal(&open, id)
+        self.seal(&open, id, packet, made);
     }
 
     /// What the peer holds where the login succeeded.
@@ -168,9 +183,9 @@ impl Login {
             method: GPSK_KIND,
             id_p: self.own.cred.id_p.copy(),
             id_s: self.id_s.copy(),
-            suite: self.suite.number(),
-            msk: self.keys.msk,
-            emsk: self.keys.emsk,
+            suite: self.keys.suite().number(),
+            msk: self.keys.msk(),
+            emsk: self.keys.emsk(),
         }
     }
 }

@@ -1,66 +1,81 @@
 //! GPSK-2 is checked, and answered (RFC 5433 section 10).
 
-ghost use Rattle.std.specs.Prelude.{◌≡◌, ◌≤◌, length, All, IsTrue, IfSome, option_copied};
+ghost use Rattle.std.specs.Prelude.{◌≡◌, ◌≤◌, length, All, IsTrue, IfSome, None, option_copied};
 ghost use Rattle.eap_base.specs.Setup.{fits_kind, gpsk_kind};
 ghost use Rattle.eap_base.specs.Users.{user_of};
 ghost use Rattle.gpsk_messages.specs.Message.{message_of};
-ghost use Rattle.eap_method.specs.GpskServer.{refuses, answers, checks, asked_hears};
+ghost use Rattle.gpsk_messages.specs.Reading.{read_of};
+ghost use Rattle.eap_method.specs.GpskServer.{refuses, answers, checks, asked_hears, asked_reads};
 ghost use Rattle.gpsk_ends.specs.Heard.{IsHeard};
-ghost use Rattle.gpsk_ends.specs.ServerStage.{view_of, outcome_of};
+ghost use Rattle.gpsk_ends.specs.ServerStage.{answered_with, outcome_with, view_in};
+ghost use Rattle.eap_method.specs.declared.turn.ServerTurn.TheVariants.{Request};
 
+use crate::hearing::hear;
 use crate::server::login::{Begun, Login};
-use crate::server::stage::{Stage, Taken};
-use eap_base::{GPSK_KIND, User, Users};
-use eap_method::{ServerTurn, Tags};
+use crate::server::stage::{Answered, Phase};
+use eap_base::{GPSK_KIND, Packet, User, Users};
+use eap_method::Tags;
 use eap_packet::{Cause, Code};
-use gpsk_messages::{GpskView, write_gpsk};
+use gpsk_messages::{GpskView, write_gpsk_into};
 
 /// Failure-Code PSK Not Found (RFC 5433 section 9.3).
 pub const PSK_NOT_FOUND: u32 = 1;
 
 /// GPSK-2 of a user that the server doesn't know is answered by GPSK-Fail.
 #[tactic(auto, unfolding(eap_method::specs::GpskServer::refuses))]
-fn refuse(own: Begun, next_id: u8) -> Taken
-    ensures { outcome_of result ≡ refuses own.side own.nonce next_id }
+fn refuse(own: &Begun, next_id: u8, packet: &mut Packet, tags: &mut Tags) -> Answered
+    ensures { answered_with result packet.new tags.new own.now.side own.now.nonce ≡ refuses own.now.side own.now.nonce next_id }
 {
     let message = GpskView::Fail {
         code: PSK_NOT_FOUND,
     };
-    Taken {
-        turn: ServerTurn::Request {
-            packet: write_gpsk(&message, Code::Request, next_id),
-            tags: Tags::none(),
-        },
-        after: Stage::Refusing { own },
-    }
+    write_gpsk_into(packet, &message, Code::Request, next_id);
+    tags.clear();
+    Answered::Refused
 }
 
 /// GPSK-2 with its MAC is answered by GPSK-3, that of a barred user by GPSK-Protected-Fail.
 #[tactic(auto, unfolding(eap_method::specs::GpskServer::answers))]
-fn answer(login: Login, barred: bool, next_id: u8, view: &GpskView, body: &[u8]) -> Taken
+fn answer(
+    login: &Login,
+    barred: bool,
+    next_id: u8,
+    view: &GpskView,
+    body: &[u8],
+    packet: &mut Packet,
+    tags: &mut Tags,
+) -> Phase
     requires { IsHeard (message_of view.now) body.now }
-    ensures { outcome_of result ≡ answers login barred next_id (message_of view.now) }
+    ensures { outcome_with Request packet.new tags.new (view_in login.now result) ≡ answers login.now barred next_id (message_of view.now) }
 {
-    let accepted = login.record(view, body);
+    login.accept(view, body, &mut tags.accepted);
     if barred {
-        let sealed = login.protected_fail(next_id);
-        Taken::requested(Stage::Barring { login }, sealed, accepted)
+        login.protected_fail(next_id, packet, &mut tags.made);
+        Phase::Barring
     } else {
-        let sealed = login.gpsk3(next_id);
-        Taken::requested(Stage::Checked { login }, sealed, accepted)
+        login.gpsk3(next_id, packet, &mut tags.made);
+        Phase::Checked
     }
 }
 
 /// GPSK-2 of a known user. `BadTag`: its MAC is wrong. The keys that were derived for it are dropped.
-fn check(login: Login, barred: bool, next_id: u8, view: &GpskView, body: &[u8]) -> Taken
+fn check(
+    login: Login,
+    barred: bool,
+    next_id: u8,
+    view: &GpskView,
+    body: &[u8],
+    packet: &mut Packet,
+    tags: &mut Tags,
+) -> Answered
     requires { IsHeard (message_of view.now) body.now }
-    ensures { outcome_of result ≡ checks login barred next_id (message_of view.now) }
+    ensures { answered_with result packet.new tags.new login.own login.nonce ≡ checks login barred next_id (message_of view.now) }
 {
     if login.is_tagged(view, body) {
-        answer(login, barred, next_id, view, body)
+        let phase = answer(&login, barred, next_id, view, body, packet, tags);
+        Answered::Known { login, phase }
     } else {
-        let own = login.into_begun();
-        Taken::dropped(Stage::Asked { own }, Cause::BadTag)
+        Answered::Dropped(Cause::BadTag)
     }
 }
 
@@ -76,10 +91,19 @@ fn find_user<'a>(users: &'a Users, id_p: &[u8]) -> Option<&'a User>
 
 /// A message at a server that has sent GPSK-1. `FieldMismatch`: GPSK-2 does not repeat what GPSK-1 said.
 /// `SuiteNotOffered`: it names a suite that was not offered.
-pub fn asked_hears(own: Begun, next_id: u8, view: &GpskView, body: &[u8], users: &Users) -> Taken
+fn asked_hears(
+    own: &Begun,
+    next_id: u8,
+    view: &GpskView,
+    body: &[u8],
+    users: &Users,
+    packet: &mut Packet,
+    tags: &mut Tags,
+) -> Answered
     requires heard { IsHeard (message_of view.now) body.now }
     requires keys { All (λ user. IsTrue (fits_kind user.kind user.psk)) users.now }
-    ensures { outcome_of result ≡ asked_hears users.now own.side own.nonce next_id (message_of view.now) }
+    ensures { answered_with result packet.new tags.new own.now.side own.now.nonce
+        ≡ asked_hears users.now own.now.side own.now.nonce next_id (message_of view.now) }
 {
     match view {
         GpskView::M2 {
@@ -92,19 +116,39 @@ pub fn asked_hears(own: Begun, next_id: u8, view: &GpskView, body: &[u8], users:
             ..
         } => {
             if !own.repeats(id_s, rand_s, list) {
-                Taken::dropped(Stage::Asked { own }, Cause::FieldMismatch)
+                Answered::Dropped(Cause::FieldMismatch)
             } else if !own.offers(*suite) {
-                Taken::dropped(Stage::Asked { own }, Cause::SuiteNotOffered)
+                Answered::Dropped(Cause::SuiteNotOffered)
             } else {
                 match find_user(users, id_p) {
-                    None => refuse(own, next_id),
+                    None => refuse(own, next_id, packet, tags),
                     Some(user) => {
                         let login = Login::new(own, id_p, user, rand_p, *suite);
-                        check(login, user.barred, next_id, view, body)
+                        check(login, user.barred, next_id, view, body, packet, tags)
                     }
                 }
             }
         }
-        _ => Taken::dropped(Stage::Asked { own }, Cause::WrongOp),
+        _ => Answered::Dropped(Cause::WrongOp),
+    }
+}
+
+/// The Type-Data at a server that has sent GPSK-1.
+pub fn asked_reads(
+    own: &Begun,
+    next_id: u8,
+    body: &[u8],
+    users: &Users,
+    packet: &mut Packet,
+    tags: &mut Tags,
+) -> Answered
+    requires size { length body.now ≤ 1495 }
+    requires keys { All (λ user. IsTrue (fits_kind user.kind user.psk)) users.now }
+    ensures { answered_with result packet.new tags.new own.now.side own.now.nonce
+        ≡ asked_reads users.now own.now.side own.now.nonce next_id (read_of None body.now) }
+{
+    match hear(body, None) {
+        Err(cause) => Answered::Dropped(cause),
+        Ok(view) => asked_hears(own, next_id, &view, body, users, packet, tags),
     }
 }

@@ -1,21 +1,21 @@
 //! What a server keeps of a login, and the messages that it makes of it.
 
-ghost use Rattle.std.specs.Prelude.{◌≡◌, ◌≤◌, ◌+◌, length};
+ghost use Rattle.std.specs.Prelude.{◌≡◌, ◌≤◌, ◌+◌, ◌∷◌, [], length};
 ghost use Rattle.eap_base.specs.Setup.{is_among};
 ghost use Rattle.eap_base.specs.Suite.{ks_of, suite_number};
 ghost use Rattle.eap_packet.specs.declared.packet.Code.TheVariants as code;
 ghost use Rattle.gpsk_messages.specs.Message.{message_of, mac_of, size_of, without_mac};
 ghost use Rattle.eap_method.specs.GpskTags.{gpsk_request, sk_record};
 ghost use Rattle.gpsk_ends.specs.Heard.{IsHeard};
-ghost use Rattle.gpsk_ends.specs.Sealed.{sealed_of};
+ghost use Rattle.gpsk_ends.specs.Sealed.{packet_of, record_of};
 
-use crate::hearing::{has_tag, record_of};
-use crate::sealing::{Sealed, mac_place, seal};
-use eap_base::{GPSK_KIND, Identity, Nonce, Octets, Packet, Secret, Suite, User, is_among};
-use eap_method::{Report, ServerSide, TagRecord};
+use crate::keys::Keys;
+use crate::records::record;
+use crate::sealing::mac_place;
+use eap_base::{GPSK_KIND, Identity, Nonce, Octets, Packet, Secret, Suite, User};
+use eap_method::{Report, ServerSide, TagList};
 use eap_packet::Code;
-use gpsk_messages::{GpskView, write_gpsk};
-use login_keys::{GpskKeys, gpsk_keys};
+use gpsk_messages::{GpskView, write_gpsk_into};
 use std::marker::Model;
 
 /// Failure-Code Authorization Failure (RFC 5433 section 9.3).
@@ -33,6 +33,16 @@ impl Begun {
     ghost use Rattle.eap_method.specs.GpskTags.{suite_list};
     ghost use Rattle.eap_method.specs.GpskServer.{first, repeats};
 
+    /// An equal value.
+    fn copy(&self) -> Begun
+        ensures { result ≡ self.now }
+    {
+        Begun {
+            side: self.side.copy(),
+            nonce: self.nonce,
+        }
+    }
+
     /// CSuite_List: the entry of each suite that the server offers, in six octets (RFC 5433 section 9.2).
     #[tactic(auto, unfolding(eap_method::specs::GpskTags::suite_list))]
     fn suite_list(&self) -> Octets<12>
@@ -45,10 +55,10 @@ impl Begun {
         list
     }
 
-    /// GPSK-1, the first Request.
+    /// Writes GPSK-1, the first Request.
     #[tactic(auto, unfolding(eap_method::specs::GpskServer::first))]
-    pub fn gpsk1(&self, id: u8) -> Packet
-        ensures { result ≡ first self.now.side self.now.nonce id }
+    pub fn gpsk1(&self, id: u8, packet: &mut Packet)
+        ensures { packet.new ≡ first self.now.side self.now.nonce id }
     {
         let list = self.suite_list();
         let message = GpskView::M1 {
@@ -56,7 +66,7 @@ impl Begun {
             rand_s: self.nonce,
             list: list.as_slice(),
         };
-        write_gpsk(&message, Code::Request, id)
+        write_gpsk_into(packet, &message, Code::Request, id);
     }
 
     /// Whether GPSK-2 repeats what the server sent in GPSK-1.
@@ -72,7 +82,9 @@ impl Begun {
     pub fn offers(&self, suite: Suite) -> bool
         ensures { result ≡ is_among self.now.side.suites (suite_number suite) }
     {
-        is_among(self.side.suites.as_slice(), suite.number())
+        let number = suite.number();
+        let suites = self.side.suites.as_slice();
+        suites.iter().any(|other| *other == number)
     }
 }
 
@@ -87,9 +99,7 @@ pub struct Login {
     psk: Secret,
     /// RAND_Peer.
     rand_p: Nonce,
-    /// CSuite_Sel.
-    suite: Suite,
-    keys: GpskKeys,
+    keys: Keys,
 }
 
 impl Model for Login {
@@ -109,37 +119,27 @@ impl Login {
 
     /// The login of the user that GPSK-2 names. Its keys are derived here alone (RFC 5433 section 4).
     #[tactic(auto, unfolding(eap_method::specs::GpskServer::keys_of))]
-    pub fn new(own: Begun, id_p: &[u8], user: &User, rand_p: &Nonce, suite: Suite) -> Login
+    pub fn new(own: &Begun, id_p: &[u8], user: &User, rand_p: &Nonce, suite: Suite) -> Login
         requires name { length id_p.now ≤ 253 }
         requires key { 32 ≤ length user.now.psk }
-        ensures { result ≡ record { own = own.side; nonce = own.nonce; id_p = id_p.now; psk = user.now.psk; rand_p = rand_p.now; suite = suite } }
+        ensures { result ≡ record { own = own.now.side; nonce = own.now.nonce; id_p = id_p.now; psk = user.now.psk; rand_p = rand_p.now; suite = suite } }
     {
-        let psk = user.psk.as_slice();
         let id_s = own.side.id_s.as_slice();
-        let keys = gpsk_keys(suite, psk, rand_p, id_p, &own.nonce, id_s);
+        let keys = Keys::new(suite, &user.psk, rand_p, id_p, &own.nonce, id_s);
         Login {
-            own,
-            id_p: Identity::of(id_p),
+            own: own.copy(),
+            id_p: Octets::of(id_p),
             psk: user.psk.copy(),
             rand_p: *rand_p,
-            suite,
             keys,
         }
-    }
-
-    /// What the server brought into the login.
-    pub fn into_begun(self) -> Begun
-        ensures side { result.side ≡ self.own }
-        ensures nonce { result.nonce ≡ self.nonce }
-    {
-        self.own
     }
 
     /// CSuite_Sel.
     pub fn suite(&self) -> Suite
         ensures { result ≡ self.now.suite }
     {
-        self.suite
+        self.keys.suite()
     }
 
     /// Whether a message, which the Type-Data spells, has the MAC of the login.
@@ -147,53 +147,55 @@ impl Login {
         requires { IsHeard (message_of view.now) body.now }
         ensures { result ≡ is_tagged_by self.now (message_of view.now) }
     {
-        has_tag(view, body, self.suite, self.keys.sk.as_slice())
+        self.keys.is_tagged(view, body)
     }
 
-    /// The record of the MAC of a message, which the Type-Data spells.
-    pub fn record(&self, view: &GpskView, body: &[u8]) -> TagRecord
+    /// Leaves the record of the MAC of a message, which the Type-Data spells, alone in `accepted`.
+    pub fn accept(&self, view: &GpskView, body: &[u8], accepted: &mut TagList)
         requires { IsHeard (message_of view.now) body.now }
-        ensures { result ≡ sk_record self.now.psk (message_of view.now) }
+        ensures { accepted.new ≡ sk_record self.now.psk (message_of view.now) ∷ [] }
     {
-        record_of(view, body, &self.psk)
+        record(accepted, view, body, &self.psk);
     }
 
-    /// The Request with a message whose MAC is yet to come, with the MAC of the login.
-    fn seal(&self, view: &GpskView, id: u8) -> Sealed
+    /// Writes the Request with a message whose MAC is yet to come, with the MAC of the login.
+    fn seal(&self, view: &GpskView, id: u8, packet: &mut Packet, made: &mut TagList)
         requires fits { size_of (message_of view.now) + 5 ≤ 1500 }
         requires mac { length (mac_of (message_of view.now)) ≡ ks_of self.now.suite }
-        ensures { result ≡ sealed_of code.Request id self.now.suite (keys_of self.now).sk self.now.psk (without_mac (message_of view.now)) }
+        ensures packet { packet.new ≡ packet_of code.Request id self.now.suite (keys_of self.now).sk (without_mac (message_of view.now)) }
+        ensures record { made.new ≡ record_of self.now.suite (keys_of self.now).sk self.now.psk (without_mac (message_of view.now)) ∷ [] }
     {
-        let sk = self.keys.sk.as_slice();
-        seal(view, Code::Request, id, self.suite, sk, &self.psk)
+        self.keys
+            .seal(view, Code::Request, id, &self.psk, packet, made);
     }
 
-    /// GPSK-3 with its MAC.
-    pub fn gpsk3(&self, id: u8) -> Sealed
-        ensures packet { result.packet ≡ gpsk_request id (gpsk3_of self.now) }
-        ensures tag { result.tag ≡ sk_record self.now.psk (gpsk3_of self.now) }
+    /// Writes GPSK-3 with its MAC, whose record is then alone in `made`.
+    pub fn gpsk3(&self, id: u8, packet: &mut Packet, made: &mut TagList)
+        ensures packet { packet.new ≡ gpsk_request id (gpsk3_of self.now) }
+        ensures record { made.new ≡ sk_record self.now.psk (gpsk3_of self.now) ∷ [] }
     {
+        let suite = self.keys.suite();
         let open = GpskView::M3 {
             rand_p: self.rand_p,
             rand_s: self.own.nonce,
             id_s: self.own.side.id_s.as_slice(),
-            suite: self.suite,
+            suite,
             pd: &[],
-            mac: mac_place(self.suite),
+            mac: mac_place(suite),
         };
-        self.seal(&open, id)
+        self.seal(&open, id, packet, made);
     }
 
-    /// GPSK-Protected-Fail for a barred user, with its MAC.
-    pub fn protected_fail(&self, id: u8) -> Sealed
-        ensures packet { result.packet ≡ gpsk_request id (bars_with self.now) }
-        ensures tag { result.tag ≡ sk_record self.now.psk (bars_with self.now) }
+    /// Writes GPSK-Protected-Fail for a barred user, with its MAC, whose record is then alone in `made`.
+    pub fn protected_fail(&self, id: u8, packet: &mut Packet, made: &mut TagList)
+        ensures packet { packet.new ≡ gpsk_request id (bars_with self.now) }
+        ensures record { made.new ≡ sk_record self.now.psk (bars_with self.now) ∷ [] }
     {
         let open = GpskView::ProtectedFail {
             code: AUTHORIZATION_FAILURE,
-            mac: mac_place(self.suite),
+            mac: mac_place(self.keys.suite()),
         };
-        self.seal(&open, id)
+        self.seal(&open, id, packet, made);
     }
 
     /// What the server holds where the login succeeded.
@@ -205,9 +207,9 @@ impl Login {
             method: GPSK_KIND,
             id_p: self.id_p.copy(),
             id_s: self.own.side.id_s.copy(),
-            suite: self.suite.number(),
-            msk: self.keys.msk,
-            emsk: self.keys.emsk,
+            suite: self.keys.suite().number(),
+            msk: self.keys.msk(),
+            emsk: self.keys.emsk(),
         }
     }
 }

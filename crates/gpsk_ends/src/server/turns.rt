@@ -1,191 +1,240 @@
 //! A server's first Request, and its turn for each Response (RFC 5433 section 10).
 
-ghost use Rattle.std.specs.Prelude.{◌≡◌, ◌≤◌, ◌∷◌, [], length, All, IsTrue, None, Some, option_map};
+ghost use Rattle.std.specs.Prelude.{◌≡◌, ◌≤◌, ℕ, List, ◌∷◌, [], length, All, IsTrue, None, Some, option_map};
 ghost use Rattle.eap_base.specs.Setup.{fits_kind};
 ghost use Rattle.eap_base.specs.Suite.{ks_of};
 ghost use Rattle.gpsk_messages.specs.Message.{message_of};
 ghost use Rattle.gpsk_messages.specs.Reading.{read_of};
+ghost use Rattle.eap_method.specs.declared.values.ServerSide.{ServerSide};
 ghost use Rattle.eap_method.specs.GpskTags.{sk_record};
-ghost use Rattle.eap_method.specs.GpskServer.{first_step, asked_reads, refusing_hears, refusing_reads, over, idle_reads, step};
+ghost use Rattle.eap_method.specs.GpskServer.{View, first_step, refusing_hears, refusing_reads, over, idle_reads, step};
 ghost use Rattle.eap_method.specs.GpskServer.{barring_hears, barring_reads, checked_hears, checked_reads};
-ghost use Rattle.eap_method.specs.Turns.{done};
+ghost use Rattle.eap_method.specs.Turns.{done, dropped};
 ghost use Rattle.gpsk_ends.specs.Heard.{IsHeard};
-ghost use Rattle.gpsk_ends.specs.ServerStage.{view_of, outcome_of, first_of};
+ghost use Rattle.gpsk_ends.specs.ServerStage.{view_alone, view_in, view_of, outcome_with, reads_in};
+ghost use Rattle.gpsk_ends.specs.declared.server.stage.Alone.TheVariants.{Refusing};
+ghost use Rattle.gpsk_ends.specs.declared.server.stage.Phase.TheVariants.{Barring, Checked};
 
 use crate::hearing::hear;
-use crate::server::gpsk2::{PSK_NOT_FOUND, asked_hears};
-use crate::server::login::{AUTHORIZATION_FAILURE, Begun, Login};
-use crate::server::stage::{First, Stage, Taken};
+use crate::server::gpsk2::{PSK_NOT_FOUND, asked_reads};
+use crate::server::login::{AUTHORIZATION_FAILURE, Login};
+use crate::server::stage::{Alone, Answered, Phase, Stage};
 use eap_base::{Packet, Suite, Users};
-use eap_method::TagList;
+use eap_method::{ServerTurn, Tags};
 use eap_packet::Cause;
 use gpsk_messages::GpskView;
 
 /// The first Request of a server that has begun. Any other makes an empty packet, and stays where it
 /// stands.
 #[tactic(auto, unfolding(eap_method::specs::GpskServer::first_step))]
-pub fn ask(stage: Stage, id: u8) -> First
-    ensures { first_of result ≡ first_step (view_of stage) id }
+pub fn ask(stage: &mut Stage, id: u8, packet: &mut Packet)
+    ensures { first_step (view_of stage.old) id ≡ record { packet = packet.new; after = view_of stage.new } }
 {
     match stage {
-        Stage::Begun { own } => First {
-            packet: own.gpsk1(id),
-            after: Stage::Asked { own },
+        Stage::Alone { own, phase } => match phase {
+            Alone::Begun => {
+                own.gpsk1(id, packet);
+                *phase = Alone::Asked;
+            }
+            _ => packet.clear(),
         },
-        other => First {
-            packet: Packet::new(),
-            after: other,
-        },
-    }
-}
-
-/// The Type-Data at a server that has sent GPSK-1.
-fn asked_reads(own: Begun, next_id: u8, body: &[u8], users: &Users) -> Taken
-    requires size { length body.now ≤ 1495 }
-    requires keys { All (λ user. IsTrue (fits_kind user.kind user.psk)) users.now }
-    ensures { outcome_of result ≡ asked_reads users.now own.side own.nonce next_id (read_of None body.now) }
-{
-    match hear(body, None) {
-        Err(cause) => Taken::dropped(Stage::Asked { own }, cause),
-        Ok(view) => asked_hears(own, next_id, &view, body, users),
+        _ => packet.clear(),
     }
 }
 
 /// A message at a server that has sent GPSK-Fail: the same failure ends the method. `FieldMismatch`: it
 /// is another.
-fn refusing_hears(own: Begun, view: &GpskView) -> Taken
-    ensures { outcome_of result ≡ refusing_hears own.side own.nonce (message_of view.now) }
+fn refusing_hears(view: &GpskView, phase: &mut Alone, tags: &mut Tags) -> ServerTurn
+    requires { phase.old ≡ Refusing }
+    ensures { (own : ServerSide) (nonce packet : List ℕ) →
+        outcome_with result packet tags.new (view_alone own nonce phase.new) ≡ refusing_hears own nonce (message_of view.now) }
 {
     match view {
         GpskView::Fail { code } => {
             if *code == PSK_NOT_FOUND {
-                Taken::done(Stage::Refused { own }, false, TagList::new())
+                tags.clear();
+                *phase = Alone::Refused;
+                ServerTurn::Done { success: false }
             } else {
-                Taken::dropped(Stage::Refusing { own }, Cause::FieldMismatch)
+                ServerTurn::Discard(Cause::FieldMismatch)
             }
         }
-        _ => Taken::dropped(Stage::Refusing { own }, Cause::WrongOp),
+        _ => ServerTurn::Discard(Cause::WrongOp),
     }
 }
 
 /// The Type-Data at a server that has sent GPSK-Fail.
-fn refusing_reads(own: Begun, body: &[u8]) -> Taken
-    requires { length body.now ≤ 1495 }
-    ensures { outcome_of result ≡ refusing_reads own.side own.nonce (read_of None body.now) }
+fn refusing_reads(body: &[u8], phase: &mut Alone, tags: &mut Tags) -> ServerTurn
+    requires size { length body.now ≤ 1495 }
+    requires awaits { phase.old ≡ Refusing }
+    ensures { (own : ServerSide) (nonce packet : List ℕ) →
+        outcome_with result packet tags.new (view_alone own nonce phase.new) ≡ refusing_reads own nonce (read_of None body.now) }
 {
     match hear(body, None) {
-        Err(cause) => Taken::dropped(Stage::Refusing { own }, cause),
-        Ok(view) => refusing_hears(own, &view),
+        Err(cause) => ServerTurn::Discard(cause),
+        Ok(view) => refusing_hears(&view, phase, tags),
     }
 }
 
 /// A message with the MAC of the login ends it.
-fn end(login: Login, success: bool, view: &GpskView, body: &[u8]) -> Taken
+fn end(
+    login: &Login,
+    phase: &mut Phase,
+    success: bool,
+    view: &GpskView,
+    body: &[u8],
+    tags: &mut Tags,
+) -> ServerTurn
     requires { IsHeard (message_of view.now) body.now }
-    ensures { outcome_of result ≡ done (over login success) success (sk_record login.psk (message_of view.now) ∷ []) }
+    ensures { (packet : List ℕ) →
+        outcome_with result packet tags.new (view_in login.now phase.new)
+        ≡ done (over login.now success) success (sk_record login.now.psk (message_of view.now) ∷ []) }
 {
-    let accepted = TagList::one(login.record(view, body));
-    let after = Stage::Over {
-        login,
-        good: success,
-    };
-    Taken::done(after, success, accepted)
+    login.accept(view, body, &mut tags.accepted);
+    tags.made.clear();
+    *phase = Phase::Over { good: success };
+    ServerTurn::Done { success }
 }
 
 /// A message at a server that has sent GPSK-Protected-Fail: the same failure ends the method.
 /// `FieldMismatch`: it is another. `BadTag`: its MAC is wrong.
 #[tactic(auto, unfolding(eap_method::specs::GpskServer::ends))]
-fn barring_hears(login: Login, view: &GpskView, body: &[u8]) -> Taken
-    requires { IsHeard (message_of view.now) body.now }
-    ensures { outcome_of result ≡ barring_hears login (message_of view.now) }
+fn barring_hears(
+    login: &Login,
+    phase: &mut Phase,
+    view: &GpskView,
+    body: &[u8],
+    tags: &mut Tags,
+) -> ServerTurn
+    requires heard { IsHeard (message_of view.now) body.now }
+    requires awaits { phase.old ≡ Barring }
+    ensures { (packet : List ℕ) → outcome_with result packet tags.new (view_in login.now phase.new) ≡ barring_hears login.now (message_of view.now) }
 {
     match view {
         GpskView::ProtectedFail { code, .. } => {
             if *code != AUTHORIZATION_FAILURE {
-                Taken::dropped(Stage::Barring { login }, Cause::FieldMismatch)
+                ServerTurn::Discard(Cause::FieldMismatch)
             } else if login.is_tagged(view, body) {
-                end(login, false, view, body)
+                end(login, phase, false, view, body, tags)
             } else {
-                Taken::dropped(Stage::Barring { login }, Cause::BadTag)
+                ServerTurn::Discard(Cause::BadTag)
             }
         }
-        _ => Taken::dropped(Stage::Barring { login }, Cause::WrongOp),
+        _ => ServerTurn::Discard(Cause::WrongOp),
     }
 }
 
 /// The Type-Data at a server that has sent GPSK-Protected-Fail.
-fn barring_reads(login: Login, body: &[u8]) -> Taken
-    requires { length body.now ≤ 1495 }
-    ensures { outcome_of result ≡ barring_reads login (read_of (Some (ks_of login.suite)) body.now) }
+fn barring_reads(login: &Login, phase: &mut Phase, body: &[u8], tags: &mut Tags) -> ServerTurn
+    requires size { length body.now ≤ 1495 }
+    requires awaits { phase.old ≡ Barring }
+    ensures { (packet : List ℕ) →
+        outcome_with result packet tags.new (view_in login.now phase.new) ≡ barring_reads login.now (read_of (Some (ks_of login.now.suite)) body.now) }
 {
     match hear(body, Some(login.suite())) {
-        Err(cause) => Taken::dropped(Stage::Barring { login }, cause),
-        Ok(view) => barring_hears(login, &view, body),
+        Err(cause) => ServerTurn::Discard(cause),
+        Ok(view) => barring_hears(login, phase, &view, body, tags),
     }
 }
 
 /// A message at a server that has sent GPSK-3: GPSK-4 ends the method with success. `BadTag`: its MAC is
 /// wrong.
 #[tactic(auto, unfolding(eap_method::specs::GpskServer::ends))]
-fn checked_hears(login: Login, view: &GpskView, body: &[u8]) -> Taken
-    requires { IsHeard (message_of view.now) body.now }
-    ensures { outcome_of result ≡ checked_hears login (message_of view.now) }
+fn checked_hears(
+    login: &Login,
+    phase: &mut Phase,
+    view: &GpskView,
+    body: &[u8],
+    tags: &mut Tags,
+) -> ServerTurn
+    requires heard { IsHeard (message_of view.now) body.now }
+    requires awaits { phase.old ≡ Checked }
+    ensures { (packet : List ℕ) → outcome_with result packet tags.new (view_in login.now phase.new) ≡ checked_hears login.now (message_of view.now) }
 {
     match view {
         GpskView::M4 { .. } => {
             if login.is_tagged(view, body) {
-                end(login, true, view, body)
+                end(login, phase, true, view, body, tags)
             } else {
-                Taken::dropped(Stage::Checked { login }, Cause::BadTag)
+                ServerTurn::Discard(Cause::BadTag)
             }
         }
-        _ => Taken::dropped(Stage::Checked { login }, Cause::WrongOp),
+        _ => ServerTurn::Discard(Cause::WrongOp),
     }
 }
 
 /// The Type-Data at a server that has sent GPSK-3.
-fn checked_reads(login: Login, body: &[u8]) -> Taken
-    requires { length body.now ≤ 1495 }
-    ensures { outcome_of result ≡ checked_reads login (read_of (Some (ks_of login.suite)) body.now) }
+fn checked_reads(login: &Login, phase: &mut Phase, body: &[u8], tags: &mut Tags) -> ServerTurn
+    requires size { length body.now ≤ 1495 }
+    requires awaits { phase.old ≡ Checked }
+    ensures { (packet : List ℕ) →
+        outcome_with result packet tags.new (view_in login.now phase.new) ≡ checked_reads login.now (read_of (Some (ks_of login.now.suite)) body.now) }
 {
     match hear(body, Some(login.suite())) {
-        Err(cause) => Taken::dropped(Stage::Checked { login }, cause),
-        Ok(view) => checked_hears(login, &view, body),
+        Err(cause) => ServerTurn::Discard(cause),
+        Ok(view) => checked_hears(login, phase, &view, body, tags),
     }
 }
 
-/// The Type-Data at a server that awaits nothing.
-fn idle_reads(stage: Stage, suite: Option<Suite>, body: &[u8]) -> Taken
+/// Why a server that awaits nothing discards the Type-Data.
+fn idle_cause(suite: Option<Suite>, body: &[u8]) -> Cause
     requires { length body.now ≤ 1495 }
-    ensures { outcome_of result ≡ idle_reads (view_of stage) (read_of (option_map ks_of suite) body.now) }
+    ensures { (view : View) → dropped view result ≡ idle_reads view (read_of (option_map ks_of suite) body.now) }
 {
-    let cause = match hear(body, suite) {
+    match hear(body, suite) {
         Err(cause) => cause,
         Ok(_) => Cause::WrongOp,
-    };
-    Taken::dropped(stage, cause)
+    }
 }
 
-/// The turn for a Response of Type 51 with nothing past its Length.
+/// The Type-Data at a server in a login.
+fn login_reads(login: &Login, phase: &mut Phase, body: &[u8], tags: &mut Tags) -> ServerTurn
+    requires { length body.now ≤ 1495 }
+    ensures { (packet : List ℕ) →
+        outcome_with result packet tags.new (view_in login.now phase.new)
+        ≡ reads_in login.now phase.old (read_of (Some (ks_of login.now.suite)) body.now) }
+{
+    match phase {
+        Phase::Barring => barring_reads(login, phase, body, tags),
+        Phase::Checked => checked_reads(login, phase, body, tags),
+        Phase::Over { .. } => ServerTurn::Discard(idle_cause(Some(login.suite()), body)),
+    }
+}
+
+/// The turn for a Response of Type 51 with nothing past its Length. A discard leaves nothing that counts
+/// in `packet` and `tags`.
 #[tactic(auto, unfolding(eap_method::specs::GpskServer::step))]
-pub fn take(stage: Stage, response: &[u8], next_id: u8, users: &Users) -> Taken
+pub fn take(
+    stage: &mut Stage,
+    response: &[u8],
+    next_id: u8,
+    users: &Users,
+    packet: &mut Packet,
+    tags: &mut Tags,
+) -> ServerTurn
     requires header { 5 ≤ length response.now }
     requires size { length response.now ≤ 1500 }
     requires keys { All (λ user. IsTrue (fits_kind user.kind user.psk)) users.now }
-    ensures { outcome_of result ≡ step users.now next_id (view_of stage) response.now }
+    ensures { outcome_with result packet.new tags.new (view_of stage.new) ≡ step users.now next_id (view_of stage.old) response.now }
 {
     let body = &response[5..];
     match stage {
-        Stage::Unset => Taken::dropped(Stage::Unset, Cause::WrongOp),
-        Stage::Begun { own } => idle_reads(Stage::Begun { own }, None, body),
-        Stage::Asked { own } => asked_reads(own, next_id, body, users),
-        Stage::Refusing { own } => refusing_reads(own, body),
-        Stage::Barring { login } => barring_reads(login, body),
-        Stage::Checked { login } => checked_reads(login, body),
-        Stage::Refused { own } => idle_reads(Stage::Refused { own }, None, body),
-        Stage::Over { login, good } => {
-            let suite = login.suite();
-            idle_reads(Stage::Over { login, good }, Some(suite), body)
-        }
+        Stage::Unset => ServerTurn::Discard(Cause::WrongOp),
+        Stage::Alone { own, phase } => match phase {
+            Alone::Asked => match asked_reads(own, next_id, body, users, packet, tags) {
+                Answered::Dropped(cause) => ServerTurn::Discard(cause),
+                Answered::Refused => {
+                    *phase = Alone::Refusing;
+                    ServerTurn::Request
+                }
+                Answered::Known { login, phase } => {
+                    *stage = Stage::Login { login, phase };
+                    ServerTurn::Request
+                }
+            },
+            Alone::Refusing => refusing_reads(body, phase, tags),
+            Alone::Begun | Alone::Refused => ServerTurn::Discard(idle_cause(None, body)),
+        },
+        Stage::Login { login, phase } => login_reads(login, phase, body, tags),
     }
 }

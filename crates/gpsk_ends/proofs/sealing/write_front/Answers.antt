@@ -2,20 +2,20 @@
 use Rattle.std.proofs.Common.{◌∙◌, ◌-◌, length, take, ap, arith}
 use Rattle.gpsk_messages.specs.Message.{message_of}
 use Rattle.gpsk_ends.proofs.MacLaws.{IsFront, mac_fits, is_front}
-use Rattle.gpsk_ends.proofs.sealing.front.Goals as goal
+use Rattle.gpsk_ends.proofs.sealing.write_front.Goals as goal
 
 pub overflow_sub-len : goal.overflow_sub-len
 overflow_sub-len c =
     let message = message_of c.args.view.now in
-    let packet = c.write_gpsk-packet.result in
-    omega (arith, mac_fits c.args.code c.args.id c.args.suite message packet c.requires.typed c.requires.mac c.write_gpsk-packet.ensures)
+    let packet = c.write_gpsk_into.new.packet in
+    omega (arith, mac_fits c.args.code c.args.id c.args.suite message packet c.requires.typed c.requires.mac c.write_gpsk_into.ensures)
 
 is_cut : (c : goal.After-truncate) → IsFront c.args.code c.args.id c.args.suite (message_of c.args.view.now) c.truncate.new.self
 is_cut c =
-    is_front c.args.code c.args.id c.args.suite (message_of c.args.view.now) c.write_gpsk-packet.result c.truncate.new.self c.requires.typed
-    c.requires.mac c.write_gpsk-packet.ensures
-    (c.truncate.ensures ∙ ap (λ n. take (n - c.ks.result) c.write_gpsk-packet.result) c.len.ensures.count
-    ∙ ap (λ n. take (length c.write_gpsk-packet.result - n) c.write_gpsk-packet.result) c.ks.ensures)
+    let packet = c.write_gpsk_into.new.packet in
+    is_front c.args.code c.args.id c.args.suite (message_of c.args.view.now) packet c.truncate.new.self c.requires.typed c.requires.mac
+    c.write_gpsk_into.ensures
+    (c.truncate.ensures ∙ ap (λ n. take (n - c.ks.result) packet) c.len.ensures.count ∙ ap (λ n. take (length packet - n) packet) c.ks.ensures)
 
 pub returns-clause-begins : goal.returns-clause-begins
 returns-clause-begins c = (is_cut c).begins

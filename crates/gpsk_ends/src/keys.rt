@@ -1,0 +1,118 @@
+//! The keys of a login, ready for its MACs.
+
+ghost use Rattle.std.specs.Prelude.{◌≡◌, ◌≤◌, ◌+◌, ◌∷◌, [], length, IsTrue};
+ghost use Rattle.eap_base.specs.Suite.{ks_of};
+ghost use Rattle.eap_packet.specs.Packet.{has_type};
+ghost use Rattle.gpsk_messages.specs.Message.{message_of, mac_of, size_of, spelled, without_mac};
+ghost use Rattle.gpsk_ends.specs.Heard.{IsHeard};
+ghost use Rattle.gpsk_ends.specs.Sealed.{packet_of, record_of};
+
+use crate::hearing::{covered_part, mac_part};
+use crate::records::set_alone;
+use crate::sealing::{BEFORE_COVERED, write_front};
+use eap_base::{Nonce, Packet, Secret, Suite, equal_in_full};
+use eap_method::TagList;
+use eap_packet::Code;
+use gpsk_messages::GpskView;
+use login_keys::{GpskKeys, MacKey, gpsk_keys};
+use std::marker::Model;
+
+/// The keys of a login under CSuite_Sel. Contracts see the suite and the keys; SK is kept expanded.
+#[derive(Drop)]
+pub(crate) struct Keys {
+    /// CSuite_Sel.
+    suite: Suite,
+    keys: GpskKeys,
+    /// SK.
+    mac: MacKey,
+}
+
+impl Model for Keys {
+    ghost use Rattle.gpsk_ends.specs.Keys.{SuiteKeys, shown, IsReady};
+
+    ghost Value = { SuiteKeys };
+
+    ghost view = { shown };
+
+    ghost invariant = { IsReady };
+}
+
+impl Keys {
+    ghost use Rattle.login_keys.specs.Gpsk.{gpsk_keys_of};
+    ghost use Rattle.eap_method.specs.GpskTags.{is_tagged, sk_record};
+
+    /// The keys that a peer and a server with the shared key `psk` derive from their nonces and names
+    /// (RFC 5433 section 4).
+    pub(crate) fn new(
+        suite: Suite,
+        psk: &Secret,
+        rand_p: &Nonce,
+        id_p: &[u8],
+        rand_s: &Nonce,
+        id_s: &[u8],
+    ) -> Keys
+        requires key { 32 ≤ length psk.now }
+        requires peer_name { length id_p.now ≤ 253 }
+        requires server_name { length id_s.now ≤ 253 }
+        ensures { result ≡ record { suite = suite; keys = gpsk_keys_of suite psk.now rand_p.now id_p.now rand_s.now id_s.now } }
+    {
+        let keys = gpsk_keys(suite, psk.as_slice(), rand_p, id_p, rand_s, id_s);
+        let mac = MacKey::new(suite, keys.sk.as_slice());
+        Keys { suite, keys, mac }
+    }
+
+    /// CSuite_Sel.
+    pub(crate) fn suite(&self) -> Suite
+        ensures { result ≡ self.now.suite }
+    {
+        self.suite
+    }
+
+    /// The Master Session Key.
+    pub(crate) fn msk(&self) -> [u8; 64]
+        ensures { result ≡ self.now.keys.msk }
+    {
+        self.keys.msk
+    }
+
+    /// The Extended Master Session Key.
+    pub(crate) fn emsk(&self) -> [u8; 64]
+        ensures { result ≡ self.now.keys.emsk }
+    {
+        self.keys.emsk
+    }
+
+    /// Whether the message, which the Type-Data spells, has the MAC of its covered octets under SK (RFC
+    /// 5433, sections 8.1.2 and 8.2.2). All octets of the MAC are compared. MACs are compared here alone.
+    pub(crate) fn is_tagged(&self, view: &GpskView, body: &[u8]) -> bool
+        requires { body.now ≡ spelled (message_of view.now) }
+        ensures { result ≡ is_tagged self.now.suite self.now.keys.sk (message_of view.now) }
+    {
+        let tag = self.mac.tag_whole(covered_part(view, body));
+        equal_in_full(tag.as_slice(), mac_part(view))
+    }
+
+    /// Writes the packet of a message whose MAC is yet to come, with the MAC of its covered octets under
+    /// SK, and leaves that MAC's record alone in `made`. `psk` is the shared key from which SK comes.
+    pub(crate) fn seal(
+        &self,
+        view: &GpskView,
+        code: Code,
+        id: u8,
+        psk: &Secret,
+        packet: &mut Packet,
+        made: &mut TagList,
+    )
+        requires typed { IsTrue (has_type code) }
+        requires fits { size_of (message_of view.now) + 5 ≤ 1500 }
+        requires mac { length (mac_of (message_of view.now)) ≡ ks_of self.now.suite }
+        ensures packet { packet.new ≡ packet_of code id self.now.suite self.now.keys.sk (without_mac (message_of view.now)) }
+        ensures record { made.new ≡ record_of self.now.suite self.now.keys.sk psk.now (without_mac (message_of view.now)) ∷ [] }
+    {
+        write_front(view, code, id, self.suite, packet);
+        let covered = &packet.as_slice()[BEFORE_COVERED..];
+        let tag = self.mac.tag_whole(covered);
+        set_alone(made, psk, covered, tag.as_slice());
+        packet.append(tag.as_slice());
+    }
+}

@@ -1,0 +1,20 @@
+//! What a peer takes out of GPSK-1.
+
+ghost use Rattle.std.specs.Prelude.{◌≤◌, length};
+
+use eap_base::{Nonce, Suite};
+
+/// GPSK-1 of a server that the peer accepts, with the suite that it picks.
+#[derive(Drop)]
+pub struct Offer<'a> {
+    /// ID_Server.
+    pub id_s: &'a [u8],
+    /// RAND_Server.
+    pub rand_s: Nonce,
+    /// CSuite_List.
+    pub list: &'a [u8],
+    /// CSuite_Sel.
+    pub suite: Suite,
+    ghost name: { length id_s.now ≤ 253 },
+    ghost few: { length list.now ≤ 120 },
+}

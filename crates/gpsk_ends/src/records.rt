@@ -1,0 +1,31 @@
+//! The records of a message's MAC.
+
+ghost use Rattle.std.specs.Prelude.{◌≡◌, ◌≤◌, ◌∷◌, [], length};
+ghost use Rattle.gpsk_messages.specs.Message.{message_of};
+ghost use Rattle.eap_method.specs.declared.tags.Label.TheVariants.{Sk};
+ghost use Rattle.eap_method.specs.GpskTags.{sk_record};
+ghost use Rattle.gpsk_ends.specs.Heard.{IsHeard};
+
+use crate::hearing::{covered_part, mac_part};
+use eap_base::{GPSK_KIND, Secret};
+use eap_method::{Label, TagList};
+use gpsk_messages::GpskView;
+
+/// Leaves the record of this MAC of these octets alone in the list.
+#[tactic(auto, using(crate::proofs::Covered::one_piece))]
+pub(crate) fn set_alone(list: &mut TagList, psk: &Secret, covered: &[u8], mac: &[u8])
+    requires covered { length covered.now ≤ 1500 }
+    requires mac { length mac.now ≤ 32 }
+    ensures { list.new ≡ record { method = 51; label = Sk; psk = psk.now; octets = covered.now; tag = mac.now } ∷ [] }
+{
+    list.clear();
+    list.add(GPSK_KIND, Label::Sk, psk, &[covered], mac);
+}
+
+/// Leaves the record of the message's MAC, where the Type-Data spells the message, alone in the list.
+pub(crate) fn record(list: &mut TagList, view: &GpskView, body: &[u8], psk: &Secret)
+    requires { IsHeard (message_of view.now) body.now }
+    ensures { list.new ≡ sk_record psk.now (message_of view.now) ∷ [] }
+{
+    set_alone(list, psk, covered_part(view, body), mac_part(view));
+}
