@@ -11,7 +11,7 @@ ghost use Rattle.gpsk_ends.specs.PeerStage.{offered};
 use crate::hearing::hear;
 use crate::peer::login::Begun;
 use crate::peer::offer::Offer;
-use eap_base::{Accepts, Nonce};
+use eap_base::Nonce;
 use eap_packet::Cause;
 use gpsk_messages::GpskView;
 use login_policy::pick_suite;
