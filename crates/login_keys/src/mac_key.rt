@@ -55,8 +55,8 @@ impl MacKey {
         ensures size { (suite : Suite) (key : List ℕ) → IsMacKey self.now suite key → length result ≡ ks_of suite }
     {
         match self {
-            MacKey::Cmac(key) => list_of(&key.tag(text, &[])),
-            MacKey::Hmac(key) => list_of(&hmac_tag(key, text, &[])),
+            MacKey::Cmac(key) => Octets::of(&key.tag(text, &[])),
+            MacKey::Hmac(key) => Octets::of(&hmac_tag(key, text, &[])),
         }
     }
 }
