@@ -1,20 +1,17 @@
 //! A peer and a server with no method, stepped by hand.
 
-use eap_base::{Accepts, Identity, Kinds, PeerSetup, ServerSetup, Suites, Users};
-use eap_method::{PeerMethod, ServerMethod, Step};
+use eap_base::{Accepts, Identity, Kinds, Packet, PeerSetup, ServerSetup, Suites, Users};
+use eap_method::{PeerMethod, ServerMethod, Step, Tags};
 use eap_packet::State;
 use low_tests::row::Row;
 use peer_machine::PeerMachine;
 use server_machine::ServerMachine;
 use std::alloc::Global;
 
-/// Whether the step sends the row's octets, discards for its cause and goes through its states; a dash
-/// stands for no octets and for no cause.
-fn is_step(step: &Step, row: &mut Row) -> bool {
-    let sent = match &step.sent {
-        None => &[],
-        Some(packet) => packet.as_slice(),
-    };
+/// Whether the step sends the row's octets, as they stand in `packet`, discards for its cause and goes
+/// through its states; a dash stands for no octets and for no cause.
+fn is_step(step: &Step, packet: &Packet, row: &mut Row) -> bool {
+    let sent = if step.sends { packet.as_slice() } else { &[] };
     let is_sent = sent == row.octets().as_slice();
     let cause = match step.cause {
         None => "-",
@@ -67,10 +64,12 @@ const PEER: &str = "\
 
 /// The first row that isn't as the peer does, empty where each is.
 fn wrong_delivery(peer: &mut Peer, rows: &'static str) -> &'static str {
+    let mut packet = Packet::new();
+    let mut tags = Tags::new();
     for line in rows.lines() {
         let mut row = Row::new(line);
-        let step = peer.deliver(row.octets().as_slice());
-        if !is_step(&step, &mut row) {
+        let step = peer.deliver(row.octets().as_slice(), &mut packet, &mut tags);
+        if !is_step(&step, &packet, &mut row) {
             return line;
         }
     }
@@ -107,20 +106,22 @@ fn bare_server(alloc: Global) -> Server {
 }
 
 /// What the server does at the row's call: `start`, `timeout`, or `deliver` with what is delivered.
-fn step_of(server: &mut Server, row: &mut Row) -> Step {
+fn step_of(server: &mut Server, row: &mut Row, packet: &mut Packet, tags: &mut Tags) -> Step {
     match row.word() {
-        "start" if !server.started() => server.start(),
-        "timeout" if !server.ended() => server.timeout(),
-        _ => server.deliver(row.octets().as_slice()),
+        "start" if !server.started() => server.start(packet),
+        "timeout" if !server.ended() => server.timeout(packet),
+        _ => server.deliver(row.octets().as_slice(), packet, tags),
     }
 }
 
 /// The first row that isn't as the server does, empty where each is.
 fn wrong_row(server: &mut Server, rows: &'static str) -> &'static str {
+    let mut packet = Packet::new();
+    let mut tags = Tags::new();
     for line in rows.lines() {
         let mut row = Row::new(line);
-        let step = step_of(server, &mut row);
-        if !is_step(&step, &mut row) {
+        let step = step_of(server, &mut row, &mut packet, &mut tags);
+        if !is_step(&step, &packet, &mut row) {
             return line;
         }
     }
