@@ -180,7 +180,7 @@ impl<M: PeerMethod> PeerMachine<M> {
         self.methods
     }
 
-    /// RECEIVED, of a packet; there are no records yet.
+    /// RECEIVED, of a packet; `tags` has no record yet.
     #[tactic(auto, using(crate::proofs::Requests::is_request))]
     fn take(&mut self, view: &View, packet: &mut Packet, tags: &mut Tags) -> Step
         requires packet { IsPacket (value_of view.now) }
@@ -247,7 +247,7 @@ impl<M: PeerMethod> PeerMachine<M> {
         }
     }
 
-    /// A Request with another Identifier than lastId; there are no records yet.
+    /// A Request with another Identifier than lastId; `tags` has no record yet.
     fn new_request(
         &mut self,
         id: u8,
@@ -279,8 +279,8 @@ impl<M: PeerMethod> PeerMachine<M> {
     }
 
     /// A Request while no method is selected: IDENTITY, NOTIFICATION or GET_METHOD. A method that the
-    /// policy allows handles the Request; any other is answered by a Nak (RFC 3748 section 5.3.1). There
-    /// are no records yet.
+    /// policy allows handles the Request; any other is answered by a Nak (RFC 3748 section 5.3.1). `tags`
+    /// has no record yet.
     #[tactic(auto, using(login_policy::proofs::Choices::nak_lists_some))]
     fn first_request(
         &mut self,
