@@ -66,7 +66,7 @@ impl<M> Model for ServerMachine<M> {
 
 impl<M: ServerMethod> ServerMachine<M> {
     ghost use Rattle.eap_method.specs.Steps.{is_end};
-    ghost use Rattle.server_machine.specs.ServerTable.{ServerAnswer, now_of, server_made, server_start, server_deliver, server_timeout, server_reports, is_started, server_row, hears_identity, select_action, server_method, current_response, proposes};
+    ghost use Rattle.server_machine.specs.ServerTable.{ServerAnswer, now_of, server_made, server_start, server_deliver, server_timeout, server_reports, is_started, server_row, select_action, server_method, current_response, proposes};
 
     /// A server that has not started: begins the objects of the methods that the setup proposes. Each of
     /// these methods has an object; `max_retrans` is at most 10.
@@ -220,7 +220,7 @@ impl<M: ServerMethod> ServerMachine<M> {
         self.methods
     }
 
-    /// RECEIVED, of a packet; there are no records yet.
+    /// RECEIVED, of a packet; `tags` has no record yet.
     #[tactic(auto, using(crate::proofs::Responses::is_response))]
     fn take(&mut self, view: &View, packet: &mut Packet, tags: &mut Tags) -> Step
         requires packet { IsPacket (value_of view.now) }
@@ -242,7 +242,8 @@ impl<M: ServerMethod> ServerMachine<M> {
         }
     }
 
-    /// A Response with currentId; there are no records yet.
+    /// A Response with currentId; `tags` has no record yet. With the identity the Identity round is over,
+    /// and the first method is proposed.
     fn take_current(&mut self, view: &View, packet: &mut Packet, tags: &mut Tags) -> Step
         requires response { IsResponse view.now.kind view.now.whole.now }
         requires whole { view.now.whole.now ≡ spelled (packets.response view.now.id view.now.kind view.now.body.now) }
@@ -256,19 +257,11 @@ impl<M: ServerMethod> ServerMachine<M> {
         } else if self.vars.current != Some(view.kind) {
             discard(Cause::WrongMethod)
         } else if view.kind == IDENTITY {
-            self.hear_identity(view.id, packet)
+            self.vars.progress = Progress::End;
+            self.propose(false, view.id, None, packet)
         } else {
             self.method(view.id, view.kind, view.whole, packet, tags)
         }
-    }
-
-    /// The identity has come: the Identity round is over, and the first method is proposed.
-    fn hear_identity(&mut self, id: u8, packet: &mut Packet) -> Step
-        ensures step { hears_identity (now_of M.server_shown self.old) id ≡ answer (step_with result packet.new no_tags) (now_of M.server_shown self.new) }
-        ensures kinds { server_kinds (map M.server_shown self.new.methods) ≡ server_kinds (map M.server_shown self.old.methods) }
-    {
-        self.vars.progress = Progress::End;
-        self.propose(false, id, None, packet)
     }
 
     /// SELECT_ACTION where a method is to be proposed: the first of the order that isn't yet proposed and
