@@ -1,8 +1,7 @@
 -- Writing a text part by part.
-use Rattle.std.proofs.Common.{◌≡◌, ℕ, ◌≤◌, ◌+◌, ◌-◌, ◌<◌, List, [], ◌++◌, length, take, drop, map, get_or, Bor, Option, Some, None}
+use Rattle.std.proofs.Common.{◌≡◌, ℕ, ◌≤◌, ◌+◌, ◌-◌, ◌<◌, List, [], ◌++◌, length, take, drop, Option, Some, None}
 use Rattle.std.specs.Prelude.{Result, Ok, Err, IsErr}
-use Rattle.std.proofs.Common.{refl, sym, ◌∙◌, ap, subst, arith, append_assoc, append-nil, take-append-drop, add-one, drop-cons}
-use Rattle.std.specs.List.{concat}
+use Rattle.std.proofs.Common.{refl, sym, ◌∙◌, ap, subst, arith, append_assoc, append-nil, take-append-drop}
 use Rattle.std.proofs.lemmas.Grind.{common_steps}
 use Rattle.eap_base.specs.Known.{append_known}
 use Rattle.eap_base.specs.declared.source.Failed.{Failed}
@@ -16,14 +15,6 @@ pub append_known-append : (known : Option (List ℕ)) (xs ys : List ℕ) → app
 append_known-append None xs ys = refl
 append_known-append (Some zs) xs ys = ap Some (sym (append_assoc zs xs ys))
 
--- the pieces of references joined
-abbrev pub joined : List (Bor (List ℕ)) → List ℕ
-joined pieces = concat (map (λ p. p.now) pieces)
-
-pub joined-drop : (pieces : List (Bor (List ℕ))) (i : ℕ) (d : Bor (List ℕ)) → i < length pieces
-    → joined (drop i pieces) ≡ (get_or pieces i d).now ++ joined (drop (i + 1) pieces)
-joined-drop pieces i d h = rw (add-one, drop-cons pieces i d h) refl
-
 module _ {S : Type 0} (written : S → Option (List ℕ)) (faults : S → ℕ) (last : Option ℕ) where
   -- a text in two parts: the first was written, and then the second
   pub appends_both : (result : Result (Unit {0}) Failed) (done : Unit {0}) (before mid after : S) (first second : List ℕ)
@@ -33,6 +24,7 @@ module _ {S : Type 0} (written : S → Option (List ℕ)) (faults : S → ℕ) (
   appends_both (Ok all) done before mid after first second a b = record {
     writes = append_known-append (written before) first second ∙ ap (λ k. append_known k second) a.writes ∙ b.writes;
     counted = tt;
+    uncounted = b.uncounted ∙ a.uncounted;
     never_falls = omega arith;
   }
   appends_both (Err fault) done before mid after first second a b = record {
@@ -43,6 +35,7 @@ module _ {S : Type 0} (written : S → Option (List ℕ)) (faults : S → ℕ) (
       appended = append_known-append (written before) first b.writes.front ∙ ap (λ k. append_known k b.writes.front) a.writes ∙ b.writes.appended;
     };
     counted = λ h. b.counted (omega arith);
+    uncounted = tt;
     never_falls = omega arith;
   }
 
@@ -60,13 +53,14 @@ module _ {S : Type 0} (written : S → Option (List ℕ)) (faults : S → ℕ) (
       appended = a.writes.appended;
     };
     counted = a.counted;
+    uncounted = tt;
     never_falls = a.never_falls;
   }
 
   -- nothing was written
   pub appends_none : (done : Unit {0}) (now : S) → Appends written faults last (Ok done) now now []
   unfolding Appends
-  appends_none done now = record { writes = append_known-nil (written now); counted = tt; never_falls = omega arith }
+  appends_none done now = record { writes = append_known-nil (written now); counted = tt; uncounted = refl; never_falls = omega arith }
 
   -- the text has been written up to the rest
   pub record Appending (before now : S) (text rest : List ℕ) : Type 0 where
@@ -108,12 +102,12 @@ module _ {S : Type 0} (written : S → Option (List ℕ)) (faults : S → ℕ) (
 
   -- some octets of a slice were written, and the rest of it is a range
   pub appending_range : (before now after : S) (text rest : List ℕ) (n : ℕ) → Appending before now text rest
-      → append_known (written now) (take n rest) ≡ written after → faults now ≤ faults after
+      → append_known (written now) (take n rest) ≡ written after → faults after ≡ faults now
       → Appending before after text (take (length rest - n) (drop n rest))
   unfolding Appends
   appending_range before now after text rest n a e f =
       let all : take (length rest - n) (drop n rest) ≡ drop n rest = grind (arith, common_steps) in
-      let took : Appended written faults last (Ok tt) now after (take n rest) = record { writes = e; counted = tt; never_falls = f } in
+      let took : Appended written faults last (Ok tt) now after (take n rest) = record { writes = e; counted = tt; uncounted = f; never_falls = omega arith } in
       rw all (appending_next before now after text rest (take n rest) (drop n rest) (sym (take-append-drop n rest)) a took)
 
   -- a fault came, and nothing was written
@@ -125,5 +119,6 @@ module _ {S : Type 0} (written : S → Option (List ℕ)) (faults : S → ℕ) (
   appends_nothing (Err fault) before after text is e h f = record {
     writes = record { front = []; rest = text; split = refl; appended = append_known-nil (written before) ∙ sym e };
     counted = h;
+    uncounted = tt;
     never_falls = f;
   }

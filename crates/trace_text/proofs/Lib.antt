@@ -1,5 +1,6 @@
 pub mod Numbers
 pub mod Fronts
+pub mod Putting
 pub mod States
 pub mod Scanning
 pub mod Plain

@@ -22,7 +22,8 @@ use Rattle.login_keys.specs.declared.psk.PskKeys.{PskKeys}
 use Rattle.scenario_text.specs.declared.key_line.KeyLine.{KeyLine}
 use Rattle.scenario_text.specs.declared.key_line.KeyLine.TheVariants as asked
 use Rattle.trace_text.specs.Keys.{hex_line, sealed_text, exported_text, gpsk_text, long_text, session_text, key_text}
-use Rattle.trace_text.specs.Packets.{hex_text, number_text, numbers_text, psk_note, gpsk_note, identity_word, nak_word, note_text, type_text, sizes_text, line_end, typed_text, end_text, end_sizes_text, end_line_text, value_text, packet_text_by, packet_text, packets_text}
+use Rattle.trace_text.specs.Pieces.{hex_text}
+use Rattle.trace_text.specs.Packets.{number_text, numbers_text, psk_note, gpsk_note, identity_word, nak_word, note_text, type_text, sizes_text, line_end, typed_text, end_text, end_sizes_text, end_line_text, value_text, packet_text_by, packet_text, packets_text}
 use Rattle.trace_text.proofs.Plain.{is_within, plain, join, through, within_join, decimal_within, decimal_first, numbered, skips, after_test}
 use Rattle.trace_text.proofs.PlainTexts.{cause_within, hex_within, either_within}
 

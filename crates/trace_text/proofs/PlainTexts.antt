@@ -18,7 +18,7 @@ use Rattle.eap_world.specs.declared.told.Skip.{Skip}
 use Rattle.eap_world.specs.declared.told.Skip.TheVariants as skip
 use Rattle.eap_world.specs.declared.told.Told.{Told}
 use Rattle.login_keys.specs.KeyName.{key_name_of}
-use Rattle.trace_text.specs.Packets.{hex_text}
+use Rattle.trace_text.specs.Pieces.{hex_text}
 use Rattle.trace_text.specs.Run.{party_word, port_word, skip_word, code_word, type_text, states_text, path_text, party_text, cause_text, sent_text, octets_line, octets_text, keys_line, keys_text, shown_text, acted_text, told_by, told_text, peer_start_text, start_text, ends_text, counts_text}
 use Rattle.trace_text.proofs.Plain.{is_within, plain, join, through, within_join, encoded_within, decimal_within, decimal_first, numbered}
 

@@ -13,7 +13,7 @@ use Rattle.login_keys.specs.declared.psk.PskLong.{PskLong}
 use Rattle.login_keys.specs.declared.psk.PskKeys.{PskKeys}
 use Rattle.scenario_text.specs.declared.key_line.KeyLine.{KeyLine}
 use Rattle.scenario_text.specs.declared.key_line.KeyLine.TheVariants as asked
-use Rattle.trace_text.specs.Packets.{hex_text}
+use Rattle.trace_text.specs.Pieces.{hex_text}
 
 -- a name and octets in hex, in one line
 unfoldable pub hex_line : List ℕ → List ℕ → List ℕ

@@ -1,5 +1,6 @@
 pub mod Keys
 pub mod Lines
 pub mod Packets
+pub mod Pieces
 pub mod Run
 pub mod Writes

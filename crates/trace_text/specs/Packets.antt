@@ -1,7 +1,6 @@
 -- What a packet is, in one line.
 use Rattle.std.specs.Prelude.{ℕ, ◌-◌, List, [], ◌∷◌, ◌++◌, length, ◌==◌, if◌then◌else◌, None, Result, Ok, Err, codes, decimal}
 use Rattle.std.specs.List.{concat}
-use Rattle.hex.specs.Hex.{encode_lower}
 use Rattle.eap_packet.specs.Words.{cause_word}
 use Rattle.eap_packet.specs.Packet.{PacketValue, request, response, success, failure, spelled}
 use Rattle.eap_packet.specs.Fault.{packet_of}
@@ -10,11 +9,7 @@ use Rattle.psk_messages.specs.Message as psk
 use Rattle.psk_messages.specs.Reading as psk_reading
 use Rattle.gpsk_messages.specs.Message as gpsk
 use Rattle.gpsk_messages.specs.Reading as gpsk_reading
-
--- octets in hex, `-` where there are none
-abbrev pub hex_text : List ℕ → List ℕ
-hex_text [] = codes "-"
-hex_text (b ∷ rest) = encode_lower (b ∷ rest)
+use Rattle.trace_text.specs.Pieces.{hex_text}
 
 -- an octet as a decimal number, after a space
 unfoldable pub number_text : ℕ → List ℕ

@@ -1,5 +1,5 @@
 -- What a write of a text does to a sink: all of it was written, or a fault came and a front of it was.
-use Rattle.std.specs.Prelude.{◌≡◌, ◌≤◌, ℕ, List, ◌++◌, Option, Some, Result, Ok, Err, OnErr}
+use Rattle.std.specs.Prelude.{◌≡◌, ◌≤◌, ℕ, List, ◌++◌, Option, Some, Result, Ok, Err, OnOk, OnErr}
 use Rattle.eap_base.specs.Known.{append_known}
 use Rattle.eap_base.specs.declared.source.Failed.{Failed}
 
@@ -17,13 +17,29 @@ Writes (Err fault) before after text = WritesFront before after text
 
 -- by what a sink tells of itself: its octets, its count of faults, and the last value of that count
 module _ {S : Type 0} (written : S → Option (List ℕ)) (faults : S → ℕ) (last : Option ℕ) where
-  -- what a writer does to a sink: the text was written, or a front of it; a write failed only where the count
-  -- of faults rose, or stands at its last value; that count never falls
+  -- what a writer does to a sink: the text was written, or a front of it; a write failed exactly where the
+  -- count of faults rose, or stands at its last value; that count never falls
   pub record Appended (result : Result (Unit {0}) Failed) (before after : S) (text : List ℕ) : Type 0 where
     pub writes : Writes result (written before) (written after) text
     pub counted : OnErr result (faults after ≤ faults before → last ≡ Some (faults after))
+    pub uncounted : OnOk result (faults after ≡ faults before)
     pub never_falls : faults before ≤ faults after
 
   -- the same in a word that a search takes whole
   unfoldable pub Appends : Result (Unit {0}) Failed → S → S → List ℕ → Type 0
   Appends result before after text = Appended result before after text
+
+  -- what a writer of a part of a line does to a sink and to what is held of the line, which the text follows:
+  -- a front of both was written, and the rest is held where no write failed
+  pub record Put (result : Result (Unit {0}) Failed) (before after : S) (held now text : List ℕ) : Type 0 where
+    pub front : List ℕ
+    pub rest : List ℕ
+    pub split : held ++ text ≡ front ++ rest
+    pub appended : append_known (written before) front ≡ written after
+    pub holds : OnOk result (now ≡ rest)
+    pub counted : OnErr result (faults after ≤ faults before → last ≡ Some (faults after))
+    pub uncounted : OnOk result (faults after ≡ faults before)
+    pub never_falls : faults before ≤ faults after
+
+  unfoldable pub Puts : Result (Unit {0}) Failed → S → S → List ℕ → List ℕ → List ℕ → Type 0
+  Puts result before after held now text = Put result before after held now text

@@ -6,7 +6,7 @@ ghost use Rattle.trace_text.specs.Writes.{Appends};
 ghost use Rattle.scenario_text.specs.Keys.{HasSizes};
 ghost use Rattle.trace_text.specs.Keys.{exported_text, gpsk_text, hex_line, key_text, long_text, psk_text, sealed_text, session_text};
 
-use crate::packet::{MAX_DIGITS, hex_digits};
+use crate::pieces::Piece::{Hex, Text};
 use crate::pieces::write_pieces;
 use aes_block::Aes128;
 use cmac_mac::cmac_whole;
@@ -18,17 +18,38 @@ use scenario_text::KeyLine;
 
 /// Writes a name and octets in hex, `-` where there are none, in one line.
 #[tactic(auto, unfolding(crate::specs::Keys::hex_line))]
-fn write_hex_line<W: Sink>(sink: &mut W, name: &str, octets: &[u8]) -> Result<(), Failed>
-    requires { length octets.now ≤ 2000 }
+fn write_hex_line<'a, W: Sink>(sink: &mut W, name: &'a str, octets: &'a [u8]) -> Result<(), Failed>
     ensures { Appends W.written W.write_faults W.last_write_fault result sink.old sink.new (hex_line name.now octets.now) }
 {
-    let mut room = [0; MAX_DIGITS];
-    let digits = hex_digits(octets, &mut room);
-    write_pieces(sink, &[name.as_bytes(), b" ", digits, b"\n"])
+    write_pieces(
+        sink,
+        &[Text(name.as_bytes()), Text(b" "), Hex(octets), Text(b"\n")],
+    )
+}
+
+/// Writes a ciphertext and its tag.
+#[tactic(auto, unfolding(crate::specs::Keys::sealed_text))]
+fn write_tagged<'a, W: Sink>(
+    sink: &mut W,
+    ciphertext: &'a [u8],
+    tag: &'a [u8],
+) -> Result<(), Failed>
+    ensures { Appends W.written W.write_faults W.last_write_fault result sink.old sink.new
+        (sealed_text (record { ciphertext = ciphertext.now; tag = tag.now })) }
+{
+    write_pieces(
+        sink,
+        &[
+            Text(b"eax "),
+            Hex(ciphertext),
+            Text(b" "),
+            Hex(tag),
+            Text(b"\n"),
+        ],
+    )
 }
 
 /// Seals a text in place, and writes the ciphertext and the tag.
-#[tactic(auto, unfolding(crate::specs::Keys::sealed_text))]
 fn write_sealed<W: Sink>(
     sink: &mut W,
     key: &[u8; 16],
@@ -36,15 +57,10 @@ fn write_sealed<W: Sink>(
     header: &[u8],
     text: &mut [u8],
 ) -> Result<(), Failed>
-    requires { length text.old ≤ 2000 }
     ensures { Appends W.written W.write_faults W.last_write_fault result sink.old sink.new (sealed_text (eax_sealed key.now nonce.now header.now text.old)) }
 {
     let tag = eax_seal(key, nonce, header, text);
-    let mut text_room = [0; MAX_DIGITS];
-    let mut tag_room = [0; MAX_DIGITS];
-    let text_digits = hex_digits(text, &mut text_room);
-    let tag_digits = hex_digits(&tag, &mut tag_room);
-    write_pieces(sink, &[b"eax ", text_digits, b" ", tag_digits, b"\n"])
+    write_tagged(sink, text, &tag)
 }
 
 /// Writes what a text is sealed to by EAX.

@@ -4,6 +4,7 @@
 #![tactic(auto)]
 
 mod keys;
+mod line_buffer;
 mod lines;
 mod packet;
 mod pieces;
@@ -12,5 +13,5 @@ mod run;
 pub use keys::write_key_line;
 pub use lines::{write_line, write_refused};
 pub use packet::{write_packet, write_packet_counts};
-pub use pieces::write_pieces;
+pub use pieces::{Piece, write_pieces};
 pub use run::{write_end, write_start, write_told};

@@ -3,20 +3,21 @@
 
 ghost use Rattle.std.specs.Prelude.{◌≡◌, Some, length, slice_index, [], ◌∷◌, codes, decimal};
 ghost use Rattle.std.specs.List.{concat};
-ghost use Rattle.trace_text.specs.Writes.{Appends};
+ghost use Rattle.trace_text.specs.Writes.{Appends, Puts};
+ghost use Rattle.trace_text.specs.Pieces.{hex_text};
 ghost use Rattle.trace_text.specs.Run.{state_text, party_word, port_word, skip_word, code_word, states_text, path_text, party_text};
 ghost use Rattle.trace_text.specs.Run.{cause_text, sent_text, octets_line, octets_text, keys_line, keys_text, shown_text, acted_text};
 ghost use Rattle.trace_text.specs.Run.{told_text, peer_start_text, start_text, ends_text, counts_text, tags_text, verdict_word};
 ghost use Rattle.trace_text.specs.Run.{result_text, end_text_of, end_text};
 ghost use Rattle.eap_world.specs.World.{now_of};
 
-use crate::packet::{MAX_DIGITS, hex_digits};
-use crate::pieces::write_pieces;
+use crate::line_buffer::LineBuffer;
+use crate::pieces::Piece::{Hex, Number, Text};
+use crate::pieces::{put_pieces, send, write_nothing, write_pieces};
 use eap_base::{Failed, Party, Port, Sink};
 use eap_method::{PeerMethod, ServerMethod};
 use eap_packet::{Cause, State};
 use eap_world::{Counts, Named, SentPacket, Skip, TagsVerdict, Told, Verdict, World};
-use itoa::Buffer;
 use login_keys::key_name;
 
 fn name_of_party(party: Party) -> &'static str
@@ -84,45 +85,85 @@ fn octet_at(octets: &[u8], place: usize) -> u8
     }
 }
 
-/// Writes a state of a path, after a space.
-fn write_state<W: Sink>(sink: &mut W, state: State) -> Result<(), Failed>
-    ensures { Appends W.written W.write_faults W.last_write_fault result sink.old sink.new (state_text state) }
+/// Puts a state of a path, after a space.
+fn put_state<W: Sink>(sink: &mut W, line: &mut LineBuffer, state: State) -> Result<(), Failed>
+    ensures { Puts W.written W.write_faults W.last_write_fault result sink.old sink.new line.old line.new (state_text state) }
 {
-    write_pieces(sink, &[b" ", state.word().as_bytes()])
+    put_pieces(sink, line, &[Text(b" "), Text(state.word().as_bytes())])
 }
 
-/// Writes the states of a path, each after a space, and the end of the line.
-fn write_states<W: Sink>(sink: &mut W, states: &[State]) -> Result<(), Failed>
-    ensures { Appends W.written W.write_faults W.last_write_fault result sink.old sink.new (states_text states.now) }
+/// Puts the states of a path, each after a space, and the end of the line.
+fn put_states<W: Sink>(sink: &mut W, line: &mut LineBuffer, states: &[State]) -> Result<(), Failed>
+    ensures { Puts W.written W.write_faults W.last_write_fault result sink.old sink.new line.old line.new (states_text states.now) }
 {
     for state in states {
-        write_state(sink, *state)?;
+        put_state(sink, line, *state)?;
     }
-    write_pieces(sink, &[b"\n"])
+    put_pieces(sink, line, &[Text(b"\n")])
 }
 
-/// Writes the states of a path and the end of the line, `-` for no states.
-fn write_path<W: Sink>(sink: &mut W, states: &[State]) -> Result<(), Failed>
-    ensures { Appends W.written W.write_faults W.last_write_fault result sink.old sink.new (path_text states.now) }
+/// Puts the states of a path and the end of the line, `-` for no states.
+fn put_path<W: Sink>(sink: &mut W, line: &mut LineBuffer, states: &[State]) -> Result<(), Failed>
+    ensures { Puts W.written W.write_faults W.last_write_fault result sink.old sink.new line.old line.new (path_text states.now) }
 {
     if states.is_empty() {
-        write_pieces(sink, &[b" -\n"])
+        put_pieces(sink, line, &[Text(b" -\n")])
     } else {
-        write_states(sink, states)
+        put_states(sink, line, states)
     }
 }
 
-/// Writes the event's number and the party.
-fn write_head<W: Sink>(sink: &mut W, event: u32, party: Party) -> Result<(), Failed>
-    ensures { Appends W.written W.write_faults W.last_write_fault result sink.old sink.new (concat (decimal event ∷ codes " " ∷ party_word party ∷ [])) }
+/// Puts the event's number and the party.
+fn put_head<W: Sink>(
+    sink: &mut W,
+    line: &mut LineBuffer,
+    event: u32,
+    party: Party,
+) -> Result<(), Failed>
+    ensures { Puts W.written W.write_faults W.last_write_fault result sink.old sink.new line.old line.new
+        (concat (decimal event ∷ codes " " ∷ party_word party ∷ [])) }
 {
-    let mut number = Buffer::new();
-    let digits = number.format(event).as_bytes();
-    write_pieces(sink, &[digits, b" ", name_of_party(party).as_bytes()])
+    put_pieces(
+        sink,
+        line,
+        &[
+            Number(u64::from(event)),
+            Text(b" "),
+            Text(name_of_party(party).as_bytes()),
+        ],
+    )
+}
+
+/// Puts the line of a party, with the states that it entered.
+#[tactic(auto, using(crate::proofs::Putting::puts_both, crate::proofs::Putting::puts_front))]
+fn put_party<W: Sink>(
+    sink: &mut W,
+    line: &mut LineBuffer,
+    event: u32,
+    party: Party,
+    path: &[State],
+) -> Result<(), Failed>
+    ensures { Puts W.written W.write_faults W.last_write_fault result sink.old sink.new line.old line.new (party_text event (Some party) path.now) }
+{
+    put_head(sink, line, event, party)?;
+    put_path(sink, line, path)
+}
+
+#[tactic(auto, using(crate::proofs::Putting::appends_sent, crate::proofs::Putting::appends_cut))]
+fn write_party_line<W: Sink>(
+    sink: &mut W,
+    event: u32,
+    party: Party,
+    path: &[State],
+) -> Result<(), Failed>
+    ensures { Appends W.written W.write_faults W.last_write_fault result sink.old sink.new (party_text event (Some party) path.now) }
+{
+    let mut line = LineBuffer::new();
+    put_party(sink, &mut line, event, party, path)?;
+    send(sink, &mut line)
 }
 
 /// Writes the line of the party that acted, with the states that it entered.
-#[tactic(auto, using(crate::proofs::Fronts::appends_both, crate::proofs::Fronts::appends_front))]
 fn write_party<W: Sink>(
     sink: &mut W,
     event: u32,
@@ -132,11 +173,8 @@ fn write_party<W: Sink>(
     ensures { Appends W.written W.write_faults W.last_write_fault result sink.old sink.new (party_text event party path.now) }
 {
     match party {
-        None => write_pieces(sink, &[]),
-        Some(party) => {
-            write_head(sink, event, party)?;
-            write_path(sink, path)
-        }
+        None => write_nothing(sink),
+        Some(party) => write_party_line(sink, event, party, path),
     }
 }
 
@@ -145,12 +183,16 @@ fn write_cause<W: Sink>(sink: &mut W, event: u32, cause: Option<Cause>) -> Resul
     ensures { Appends W.written W.write_faults W.last_write_fault result sink.old sink.new (cause_text event cause) }
 {
     match cause {
-        None => write_pieces(sink, &[]),
-        Some(cause) => {
-            let mut number = Buffer::new();
-            let digits = number.format(event).as_bytes();
-            write_pieces(sink, &[digits, b" cause ", cause.word().as_bytes(), b"\n"])
-        }
+        None => write_nothing(sink),
+        Some(cause) => write_pieces(
+            sink,
+            &[
+                Number(u64::from(event)),
+                Text(b" cause "),
+                Text(cause.word().as_bytes()),
+                Text(b"\n"),
+            ],
+        ),
     }
 }
 
@@ -159,7 +201,7 @@ fn write_sent<W: Sink>(sink: &mut W, event: u32, sent: &Option<SentPacket>) -> R
     ensures { Appends W.written W.write_faults W.last_write_fault result sink.old sink.new (sent_text event sent.now) }
 {
     match sent {
-        None => write_pieces(sink, &[]),
+        None => write_nothing(sink),
         Some(packet) => write_packet_line(sink, event, packet),
     }
 }
@@ -170,38 +212,30 @@ fn write_packet_line<W: Sink>(sink: &mut W, event: u32, sent: &SentPacket) -> Re
     ensures { Appends W.written W.write_faults W.last_write_fault result sink.old sink.new (sent_text event (Some sent.now)) }
 {
     let octets = sent.packet.as_slice();
-    let mut event_buffer = Buffer::new();
-    let mut number_buffer = Buffer::new();
-    let mut id_buffer = Buffer::new();
-    let mut length_buffer = Buffer::new();
-    let event_digits = event_buffer.format(event).as_bytes();
-    let number_digits = number_buffer.format(sent.number).as_bytes();
-    let id_digits = id_buffer.format(octet_at(octets, 1)).as_bytes();
-    let length_digits = length_buffer.format(octets.len()).as_bytes();
-    let mut type_buffer = Buffer::new();
-    let type_digits = type_buffer.format(octet_at(octets, 4)).as_bytes();
-    let has_type = octet_at(octets, 0) <= 2;
-    let type_word: &[u8] = if has_type { b" type " } else { b"" };
-    let type_shown: &[u8] = if has_type { type_digits } else { b"" };
-    let code = name_of_code(octet_at(octets, 0)).as_bytes();
-    let port = name_of_port(sent.port).as_bytes();
+    let code = octet_at(octets, 0);
+    let has_type = code <= 2;
+    let kind = octet_at(octets, 4);
     write_pieces(
         sink,
         &[
-            event_digits,
-            b" sent ",
-            number_digits,
-            b" to ",
-            port,
-            b" ",
-            code,
-            b" ",
-            id_digits,
-            type_word,
-            type_shown,
-            b" length ",
-            length_digits,
-            b"\n",
+            Number(u64::from(event)),
+            Text(b" sent "),
+            Number(u64::from(sent.number)),
+            Text(b" to "),
+            Text(name_of_port(sent.port).as_bytes()),
+            Text(b" "),
+            Text(name_of_code(code).as_bytes()),
+            Text(b" "),
+            Number(u64::from(octet_at(octets, 1))),
+            Text(if has_type { b" type " } else { b"" }),
+            if has_type {
+                Number(u64::from(kind))
+            } else {
+                Text(b"")
+            },
+            Text(b" length "),
+            Number(octets.len() as u64),
+            Text(b"\n"),
         ],
     )
 }
@@ -210,11 +244,15 @@ fn write_packet_line<W: Sink>(sink: &mut W, event: u32, sent: &SentPacket) -> Re
 fn write_octets_line<W: Sink>(sink: &mut W, event: u32, sent: &SentPacket) -> Result<(), Failed>
     ensures { Appends W.written W.write_faults W.last_write_fault result sink.old sink.new (octets_line event sent.now) }
 {
-    let mut number = Buffer::new();
-    let digits = number.format(event).as_bytes();
-    let mut room = [0; MAX_DIGITS];
-    let octets = hex_digits(sent.packet.as_slice(), &mut room);
-    write_pieces(sink, &[digits, b" octets ", octets, b"\n"])
+    write_pieces(
+        sink,
+        &[
+            Number(u64::from(event)),
+            Text(b" octets "),
+            Hex(sent.packet.as_slice()),
+            Text(b"\n"),
+        ],
+    )
 }
 
 /// Writes the octets of the packet that was sent, if there was one and names are asked for.
@@ -227,12 +265,12 @@ fn write_octets<W: Sink>(
     ensures { Appends W.written W.write_faults W.last_write_fault result sink.old sink.new (octets_text names event sent.now) }
 {
     match sent {
-        None => write_pieces(sink, &[]),
+        None => write_nothing(sink),
         Some(packet) => {
             if names {
                 write_octets_line(sink, event, packet)
             } else {
-                write_pieces(sink, &[])
+                write_nothing(sink)
             }
         }
     }
@@ -242,17 +280,33 @@ fn write_octets<W: Sink>(
 fn write_keys_line<W: Sink>(sink: &mut W, event: u32, named: &Named) -> Result<(), Failed>
     ensures { Appends W.written W.write_faults W.last_write_fault result sink.old sink.new (keys_line event named.now) }
 {
-    let mut number = Buffer::new();
-    let digits = number.format(event).as_bytes();
-    let party = name_of_party(named.party).as_bytes();
-    let mut msk_room = [0; MAX_DIGITS];
-    let mut emsk_room = [0; MAX_DIGITS];
-    let msk = hex_digits(&key_name(&named.report.msk), &mut msk_room);
-    let emsk = hex_digits(&key_name(&named.report.emsk), &mut emsk_room);
+    let msk = key_name(&named.report.msk);
+    let emsk = key_name(&named.report.emsk);
+    write_key_names(sink, event, name_of_party(named.party), &msk, &emsk)
+}
+
+/// Writes the names of a party's keys, in one line.
+fn write_key_names<'a, W: Sink>(
+    sink: &mut W,
+    event: u32,
+    party: &'a str,
+    msk: &'a [u8],
+    emsk: &'a [u8],
+) -> Result<(), Failed>
+    ensures { Appends W.written W.write_faults W.last_write_fault result sink.old sink.new (concat (
+        decimal event ∷ codes " keys " ∷ party.now ∷ codes " msk " ∷ hex_text msk.now ∷ codes " emsk " ∷ hex_text emsk.now ∷ codes "\n" ∷ [])) }
+{
     write_pieces(
         sink,
         &[
-            digits, b" keys ", party, b" msk ", msk, b" emsk ", emsk, b"\n",
+            Number(u64::from(event)),
+            Text(b" keys "),
+            Text(party.as_bytes()),
+            Text(b" msk "),
+            Hex(msk),
+            Text(b" emsk "),
+            Hex(emsk),
+            Text(b"\n"),
         ],
     )
 }
@@ -267,12 +321,12 @@ fn write_keys<W: Sink>(
     ensures { Appends W.written W.write_faults W.last_write_fault result sink.old sink.new (keys_text names event named.now) }
 {
     match named {
-        None => write_pieces(sink, &[]),
+        None => write_nothing(sink),
         Some(named) => {
             if names {
                 write_keys_line(sink, event, named)
             } else {
-                write_pieces(sink, &[])
+                write_nothing(sink)
             }
         }
     }
@@ -288,14 +342,15 @@ pub fn write_told<W: Sink>(sink: &mut W, told: &Told, names: bool) -> Result<(),
 {
     match told.skip {
         None => write_acted(sink, told, names),
-        Some(skip) => {
-            let mut number = Buffer::new();
-            let digits = number.format(told.event).as_bytes();
-            write_pieces(
-                sink,
-                &[digits, b" skip ", name_of_skip(skip).as_bytes(), b"\n"],
-            )
-        }
+        Some(skip) => write_pieces(
+            sink,
+            &[
+                Number(u64::from(told.event)),
+                Text(b" skip "),
+                Text(name_of_skip(skip).as_bytes()),
+                Text(b"\n"),
+            ],
+        ),
     }
 }
 
@@ -324,7 +379,7 @@ fn write_shown<W: Sink>(sink: &mut W, told: &Told, names: bool) -> Result<(), Fa
 fn write_peer_start<W: Sink>(sink: &mut W) -> Result<(), Failed>
     ensures { Appends W.written W.write_faults W.last_write_fault result sink.old sink.new peer_start_text }
 {
-    write_pieces(sink, &[b"0 peer INITIALIZE IDLE\n"])
+    write_pieces(sink, &[Text(b"0 peer INITIALIZE IDLE\n")])
 }
 
 /// Writes the lines of the start, event 0: the peer begins, then what is told of the server, with the
@@ -362,16 +417,15 @@ pub fn write_end_of<W: Sink>(
 fn write_ends<W: Sink>(sink: &mut W, peer: State, server: State) -> Result<(), Failed>
     ensures { Appends W.written W.write_faults W.last_write_fault result sink.old sink.new (ends_text peer server) }
 {
-    let peer_word = peer.word().as_bytes();
-    let server_word = server.word().as_bytes();
     write_pieces(
         sink,
         &[
-            b"state peer ",
-            peer_word,
-            b"\nstate server ",
-            server_word,
-            b"\n",
+            Text(b"state peer "),
+            Text(peer.word().as_bytes()),
+            Text(b"\n"),
+            Text(b"state server "),
+            Text(server.word().as_bytes()),
+            Text(b"\n"),
         ],
     )
 }
@@ -381,22 +435,18 @@ fn write_ends<W: Sink>(sink: &mut W, peer: State, server: State) -> Result<(), F
 fn write_counts<W: Sink>(sink: &mut W, counts: Counts) -> Result<(), Failed>
     ensures { Appends W.written W.write_faults W.last_write_fault result sink.old sink.new (counts_text counts) }
 {
-    let mut events_buffer = Buffer::new();
-    let mut deliveries_buffer = Buffer::new();
-    let mut discards_buffer = Buffer::new();
-    let events = events_buffer.format(counts.events).as_bytes();
-    let deliveries = deliveries_buffer.format(counts.deliveries).as_bytes();
-    let discards = discards_buffer.format(counts.discards).as_bytes();
     write_pieces(
         sink,
         &[
-            b"events ",
-            events,
-            b"\ndeliveries ",
-            deliveries,
-            b"\ndiscards ",
-            discards,
-            b"\n",
+            Text(b"events "),
+            Number(u64::from(counts.events)),
+            Text(b"\n"),
+            Text(b"deliveries "),
+            Number(u64::from(counts.deliveries)),
+            Text(b"\n"),
+            Text(b"discards "),
+            Number(u64::from(counts.discards)),
+            Text(b"\n"),
         ],
     )
 }
@@ -408,12 +458,11 @@ fn write_tags<W: Sink>(sink: &mut W, tags: TagsVerdict) -> Result<(), Failed>
     ensures { Appends W.written W.write_faults W.last_write_fault result sink.old sink.new (tags_text tags) }
 {
     match tags {
-        TagsVerdict::Honest => write_pieces(sink, &[b"tags honest\n"]),
-        TagsVerdict::Broken(event) => {
-            let mut number = Buffer::new();
-            let digits = number.format(event).as_bytes();
-            write_pieces(sink, &[b"tags broken ", digits, b"\n"])
-        }
+        TagsVerdict::Honest => write_pieces(sink, &[Text(b"tags honest\n")]),
+        TagsVerdict::Broken(event) => write_pieces(
+            sink,
+            &[Text(b"tags broken "), Number(u64::from(event)), Text(b"\n")],
+        ),
     }
 }
 
@@ -422,8 +471,15 @@ fn write_tags<W: Sink>(sink: &mut W, tags: TagsVerdict) -> Result<(), Failed>
 fn write_result<W: Sink>(sink: &mut W, verdict: Verdict) -> Result<(), Failed>
     ensures { Appends W.written W.write_faults W.last_write_fault result sink.old sink.new (result_text verdict) }
 {
-    let word = name_of_verdict(verdict).as_bytes();
-    write_pieces(sink, &[b"result ", word, b"\nend\n"])
+    write_pieces(
+        sink,
+        &[
+            Text(b"result "),
+            Text(name_of_verdict(verdict).as_bytes()),
+            Text(b"\n"),
+            Text(b"end\n"),
+        ],
+    )
 }
 
 /// Writes the lines of the end: where both ends stand, the counts, and the two verdicts. `Failed`: a write

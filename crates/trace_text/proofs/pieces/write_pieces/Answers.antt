@@ -1,14 +1,10 @@
-use Rattle.trace_text.proofs.Fronts.{appending_begins, appending_next, appending_cut, joined-drop}
+use Rattle.std.proofs.Common.{refl}
+use Rattle.trace_text.proofs.Putting.{appends_sent, appends_cut}
 use Rattle.trace_text.proofs.pieces.write_pieces.Goals as goal
 
-pub loop-piece-init : goal.loop-piece-init
-loop-piece-init g c = appending_begins _ _ _ _ _
+pub returns-in_err-put_pieces : goal.returns-in_err-put_pieces
+returns-in_err-put_pieces g c text e =
+    appends_cut _ _ _ _ _ _ _ _ _ _ c.from_residual.ensures.0 refl c.new-line.ensures (c.in_err-put_pieces.ensures text e)
 
-pub loop-piece-preserved : goal.loop-piece-preserved
-loop-piece-preserved g c =
-    appending_next _ _ _ _ _ _ _ _ _ _ (joined-drop _ _ _ c.loop-piece-test.true) c.loop-piece.invariant c.in_ok-write_whole.ensures
-
-pub returns-in_err-write_whole : goal.returns-in_err-write_whole
-returns-in_err-write_whole g c text e =
-    rw e (appending_cut _ _ _ _ _ _ _ _ _ _ _ _ c.from_residual.ensures.0 (joined-drop _ _ _ c.loop-piece-test.true)
-    c.loop-piece.invariant c.in_err-write_whole.ensures)
+pub returns : goal.returns
+returns g c text e = appends_sent _ _ _ _ _ _ _ _ _ _ _ _ c.new-line.ensures (c.in_ok-put_pieces.ensures text e) c.send.ensures.puts c.send.ensures.sent

@@ -5,7 +5,7 @@ pub loop-rest-init : goal.loop-rest-init
 loop-rest-init g c = appending_begins _ _ _ _ _
 
 pub loop-rest-preserved : goal.loop-rest-preserved
-loop-rest-preserved g c = appending_range _ _ _ _ _ _ _ _ _ c.loop-rest.invariant c.in_ok-count.ensures.appended c.in_ok-count.ensures.never_falls
+loop-rest-preserved g c = appending_range _ _ _ _ _ _ _ _ _ c.loop-rest.invariant c.in_ok-count.ensures.appended c.in_ok-count.ensures.uncounted
 
 pub returns-in_err-count : goal.returns-in_err-count
 returns-in_err-count g c =

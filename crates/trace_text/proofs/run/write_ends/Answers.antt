@@ -4,5 +4,4 @@ use Rattle.trace_text.proofs.run.write_ends.Goals as goal
 
 pub returns : goal.returns
 unfolding ends_text
-returns g c =
-    c.write_pieces.ensures _ (rw (c.as_bytes-peer_word.ensures.value, c.word.ensures, c.as_bytes-server_word.ensures.value, c.word-2.ensures) refl)
+returns g c = c.write_pieces.ensures _ (rw (c.as_bytes.ensures.value, c.word.ensures, c.as_bytes-2.ensures.value, c.word-2.ensures) refl)

@@ -1,9 +1,9 @@
 use Rattle.std.proofs.Common.{drop}
 use Rattle.trace_text.specs.Run.{states_text}
-use Rattle.trace_text.proofs.Fronts.{Appending}
-use Rattle.trace_text.proofs.run.write_states.Given as goal
+use Rattle.trace_text.proofs.Putting.{Putting}
+use Rattle.trace_text.proofs.run.put_states.Given as goal
 
 abbrev pub invariant-loop-state : goal.invariant-loop-state
 invariant-loop-state g l =
-    Appending g.W.Sink.written g.W.Sink.write_faults g.W.Sink.last_write_fault l.initial.sink l.sink
+    Putting g.W.Sink.written g.W.Sink.write_faults g.W.Sink.last_write_fault l.initial.sink l.sink l.initial.line l.line
     (states_text l.states) (states_text (drop l.state-index l.states))
