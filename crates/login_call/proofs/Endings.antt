@@ -5,7 +5,7 @@ use Rattle.trace_text.specs.Writes.{WritesFront}
 use Rattle.trace_text.proofs.Fronts.{append_known-append, append_known-nil}
 use Rattle.login_call.specs.declared.status.Status.{Status}
 use Rattle.login_call.specs.declared.status.Status.TheVariants as status
-use Rattle.login_call.specs.Answers.{Answer, after_text, Gives, Ends, Finishes}
+use Rattle.login_call.specs.Answers.{Answer, after_text, Gives, Ends, KeepsReads, KeepsWrites, Finishes}
 
 -- a text after what was written
 pub gives_after : (s : Status) (before mid now : Option (List ℕ)) (front : List ℕ) (a : Answer) → append_known before front ≡ mid
@@ -35,14 +35,32 @@ ends_after status.Memory before mid now front a e w = front_after before mid now
 ends_after status.TooMuch before mid now front a e w = gives_after status.TooMuch before mid now front a e w
 ends_after status.Findings before mid now front a e w = gives_after status.Findings before mid now front a e w
 
+-- the counts of faults
+pub keeps_writes_from : (s : Status) (before mid now : ℕ) → mid ≡ before → KeepsWrites s mid now → KeepsWrites s before now
+keeps_writes_from s before mid now e h = subst (λ n. KeepsWrites s n now) e h
+
+pub keeps_reads_from : (s : Status) (before mid now : ℕ) → mid ≡ before → KeepsReads s mid now → KeepsReads s before now
+keeps_reads_from s before mid now e h = subst (λ n. KeepsReads s n now) e h
+
+pub keeps_reads : (s : Status) (before now : ℕ) → now ≡ before → KeepsReads s before now
+keeps_reads status.Done before now e = e
+keeps_reads status.Usage before now e = e
+keeps_reads status.Refused before now e = e
+keeps_reads status.ReadFault before now e = tt
+keeps_reads status.WriteFault before now e = e
+keeps_reads status.Memory before now e = e
+keeps_reads status.TooMuch before now e = e
+keeps_reads status.Findings before now e = e
+
 pub finishes_after : {S : Type 0} (written : S → Option (List ℕ)) (faults : S → ℕ) (last : Option ℕ)
     (result : Status) (before mid now : S) (front : List ℕ) (a : Answer)
-    → append_known (written before) front ≡ written mid → faults before ≤ faults mid
+    → append_known (written before) front ≡ written mid → faults mid ≡ faults before
     → Finishes written faults last result mid now a → Finishes written faults last result before now (after_text front a)
 finishes_after written faults last result before mid now front a e f w = record {
   ends = ends_after result (written before) (written mid) (written now) front a e w.ends;
   written_only = w.written_only;
   counted = λ is h. w.counted is (omega arith);
+  uncounted = keeps_writes_from result (faults before) (faults mid) (faults now) f w.uncounted;
   never_falls = omega arith;
 }
 

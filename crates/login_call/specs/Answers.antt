@@ -61,13 +61,36 @@ IsWritten status.Memory = ⊥
 IsWritten status.TooMuch = Unit {0}
 IsWritten status.Findings = Unit {0}
 
--- how a run ends that only writes an answer: a write failed only where the count of faults rose, or stands
+-- but where a read failed, the count of failed reads is as it was
+abbrev pub KeepsReads : Status → ℕ → ℕ → Type 0
+KeepsReads status.Done before now = now ≡ before
+KeepsReads status.Usage before now = now ≡ before
+KeepsReads status.Refused before now = now ≡ before
+KeepsReads status.ReadFault before now = Unit {0}
+KeepsReads status.WriteFault before now = now ≡ before
+KeepsReads status.Memory before now = now ≡ before
+KeepsReads status.TooMuch before now = now ≡ before
+KeepsReads status.Findings before now = now ≡ before
+
+-- but where a write failed, the count of failed writes is as it was
+abbrev pub KeepsWrites : Status → ℕ → ℕ → Type 0
+KeepsWrites status.Done before now = now ≡ before
+KeepsWrites status.Usage before now = now ≡ before
+KeepsWrites status.Refused before now = now ≡ before
+KeepsWrites status.ReadFault before now = now ≡ before
+KeepsWrites status.WriteFault before now = Unit {0}
+KeepsWrites status.Memory before now = now ≡ before
+KeepsWrites status.TooMuch before now = now ≡ before
+KeepsWrites status.Findings before now = now ≡ before
+
+-- how a run ends that only writes an answer: a write failed exactly where the count of faults rose, or stands
 -- at its last value, and that count never falls
 pub record Finishes {S : Type 0} (written : S → Option (List ℕ)) (faults : S → ℕ) (last : Option ℕ)
     (result : Status) (before now : S) (a : Answer) : Type 0 where
   pub ends : Ends result (written before) (written now) a
   pub written_only : IsWritten result
   pub counted : result ≡ status.WriteFault → faults now ≤ faults before → last ≡ Some (faults now)
+  pub uncounted : KeepsWrites result (faults before) (faults now)
   pub never_falls : faults before ≤ faults now
 
 -- where the input was read to its end, nothing is left

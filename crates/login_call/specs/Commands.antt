@@ -1,5 +1,5 @@
 -- A command that reads lines: what each line brings, and what the end of the input brings.
-use Rattle.std.specs.Prelude.{◌≡◌, ℕ, ◌+◌, List, [], Bool, true, false, ◌||◌, ◌≤◌, Option, Some, Result, Ok, Err, OnErr}
+use Rattle.std.specs.Prelude.{◌≡◌, ℕ, ◌+◌, List, [], Bool, true, false, ◌||◌, ◌≤◌, Option, Some, Result, Ok, Err, OnOk, OnErr}
 use Rattle.eap_base.specs.Known.{append_known}
 use Rattle.eap_base.specs.Lines.{Lines, max_input, ended, too_long, too_much, line}
 use Rattle.eap_base.specs.declared.source.Failed.{Failed}
@@ -107,11 +107,18 @@ Troubles (Ok next) last before now lacks = Unit {0}
 Troubles (Err trouble.Write) last before now lacks = now ≤ before → last ≡ Some now
 Troubles (Err trouble.Memory) last before now lacks = lacks ≡ true
 
+-- but where a write failed, the count of faults is as it was
+abbrev pub KeepsFaults : Result Next Trouble → ℕ → ℕ → Type 0
+KeepsFaults (Ok next) before now = now ≡ before
+KeepsFaults (Err trouble.Write) before now = Unit {0}
+KeepsFaults (Err trouble.Memory) before now = now ≡ before
+
 -- what a command does to a sink at one line, by what the sink tells of itself
 pub record AnswersLine {C S : Type 0} (written : S → Option (List ℕ)) (faults : S → ℕ) (last : Option ℕ)
     (result : Result Next Trouble) (before now : S) (t : Took C) (lacks : Bool) (after : C) : Type 0 where
   pub takes : Takes result t (written before) (written now) after
   pub trouble : Troubles result last (faults before) (faults now) lacks
+  pub uncounted : KeepsFaults result (faults before) (faults now)
   pub never_falls : faults before ≤ faults now
 
 -- what a command does to a sink at the end of the input
@@ -119,6 +126,7 @@ pub record AnswersEnd {S : Type 0} (written : S → Option (List ℕ)) (faults :
     (result : Result Close Failed) (before now : S) (t : Closing) : Type 0 where
   pub closes : Closes result t (written before) (written now)
   pub counted : OnErr result (faults now ≤ faults before → last ≡ Some (faults now))
+  pub uncounted : OnOk result (faults now ≡ faults before)
   pub never_falls : faults before ≤ faults now
 
 -- the command has taken so many lines, which an input can have

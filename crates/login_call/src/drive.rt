@@ -2,7 +2,7 @@
 
 ghost use Rattle.std.specs.Prelude.{◌≡◌, ◌≤◌, ◌+◌, ℕ, List, Option, Some, true};
 ghost use Rattle.eap_base.specs.Lines.{lines};
-ghost use Rattle.login_call.specs.Answers.{Ends, Finishes, IsRefusal, Drains, refusal, after_text};
+ghost use Rattle.login_call.specs.Answers.{Ends, Finishes, IsRefusal, Drains, KeepsReads, KeepsWrites, refusal, after_text};
 ghost use Rattle.login_call.specs.Commands.{answer, lacking, closing_answer, SomeLacks};
 
 use crate::command::{Close, Command, Next, Trouble};
@@ -36,7 +36,8 @@ fn close<C: Command, W: Sink>(command: &C, sink: &mut W, line: u32) -> Status
 }
 
 /// Reads the lines of the source one after the other, gives each to the command, and ends at the end
-/// of the input, at a refused line, at a limit or at a fault.
+/// of the input, at a refused line, at a limit or at a fault. No read or write that failed is passed over.
+#[tactic(auto, using(crate::proofs::Endings::keeps_reads, crate::proofs::Endings::keeps_writes_from))]
 pub fn drive<C: Command, S: Source, W: Sink>(
     command: &mut C,
     source: &mut S,
@@ -48,6 +49,8 @@ pub fn drive<C: Command, S: Source, W: Sink>(
     ensures drains { Drains result (S.left source.new) }
     ensures read_fault { result ≡ Status.ReadFault → S.read_faults source.new ≤ S.read_faults source.old → S.last_read_fault ≡ Some (S.read_faults source.new) }
     ensures write_fault { result ≡ Status.WriteFault → W.write_faults sink.new ≤ W.write_faults sink.old → W.last_write_fault ≡ Some (W.write_faults sink.new) }
+    ensures reads { KeepsReads result (S.read_faults source.old) (S.read_faults source.new) }
+    ensures writes { KeepsWrites result (W.write_faults sink.old) (W.write_faults sink.new) }
     ensures memory { result ≡ Status.Memory → (octets : List ℕ) → S.left source.old ≡ Some octets
         → lacking C.took C.lacks (C.seen command.old) (lines octets) ≡ true }
     ensures wanting { result ≡ Status.Memory → SomeLacks C.lacks }

@@ -1,7 +1,7 @@
 //! The program's one call.
 
 ghost use Rattle.std.specs.Prelude.{◌≡◌, ◌≢◌, ◌≤◌, ℕ, List, Option, Some, true, false, map, string_bytes};
-ghost use Rattle.login_call.specs.Answers.{Ends, Drains, Finishes, IsWritten};
+ghost use Rattle.login_call.specs.Answers.{Ends, Drains, Finishes, IsWritten, KeepsReads, KeepsWrites};
 ghost use Rattle.login_call.specs.Login.{is_alone, are_two, reads_scenario, is_form, login_answer, usage_answer, usage_text, HasSetup};
 ghost use Rattle.login_call.specs.Decode.{decode_answer};
 ghost use Rattle.login_call.specs.Keys.{keys_answer};
@@ -31,7 +31,7 @@ use trace_text::write_line;
 /// - All other words write the usage line; the source isn't touched.
 ///
 /// Each of the two lists of `methods` has an object of EAP-PSK and one of EAP-GPSK.
-#[tactic(auto, using(crate::proofs::NeverBoth::usage_writes))]
+#[tactic(auto, using(crate::proofs::NeverBoth::usage_writes, crate::proofs::Endings::keeps_reads))]
 pub fn eap_login<P: PeerMethod, M: ServerMethod, S: Source, W: Sink>(
     alloc: Global,
     words: &Vec<String>,
@@ -51,16 +51,18 @@ pub fn eap_login<P: PeerMethod, M: ServerMethod, S: Source, W: Sink>(
     // end of its run agree in method, identities, suite, MSK and EMSK, which both policies allow; the
     // identities are their own names, the server's user has the peer's key, and by EAP-GPSK the suite is
     // the first of the server's that the peer allows.
-    ensures honest_ends_agree { (octets : List ℕ) → S.left source.old ≡ Some octets → HonestEndsAgree octets }
+    ensures honest_ends_agree { (octets : List ℕ) → HonestEndsAgree octets }
 
     // On octets alone: no text written with status 0 has both the line `tags honest` and the line
     // `result apart`.
     ensures never_both { (octets : List ℕ) → S.left source.old ≡ Some octets → WritesNeverBoth result (W.written sink.old) (W.written sink.new) }
 
-    // A fault comes only where its count rose in this call, or stands at its last value; want of
-    // memory only for `replay`, after the line `events` was taken.
+    // A fault comes exactly where its count rose in this call, or stands at its last value: none is passed
+    // over. Want of memory comes only for `replay`, after the line `events` was taken.
     ensures read_fault { result ≡ Status.ReadFault → S.read_faults source.new ≤ S.read_faults source.old → S.last_read_fault ≡ Some (S.read_faults source.new) }
     ensures write_fault { result ≡ Status.WriteFault → W.write_faults sink.new ≤ W.write_faults sink.old → W.last_write_fault ≡ Some (W.write_faults sink.new) }
+    ensures reads { KeepsReads result (S.read_faults source.old) (S.read_faults source.new) }
+    ensures writes { KeepsWrites result (W.write_faults sink.old) (W.write_faults sink.new) }
     ensures memory { result ≡ Status.Memory → reads_scenario (map string_bytes words.now.items) ≡ true }
     ensures setup { result ≡ Status.Memory → (octets : List ℕ) → S.left source.old ≡ Some octets → HasSetup octets }
 
@@ -125,7 +127,7 @@ fn write_usage<W: Sink>(sink: &mut W) -> Result<(), Failed>
 }
 
 /// Reads a scenario and writes the trace of its run, with names or without.
-#[tactic(auto, unfolding(trace_text::specs::Writes::Appends))]
+#[tactic(auto, unfolding(trace_text::specs::Writes::Appends), using(crate::proofs::Endings::keeps_writes_from))]
 fn replay<P: PeerMethod, M: ServerMethod, S: Source, W: Sink>(
     alloc: Global,
     names: bool,
@@ -138,6 +140,8 @@ fn replay<P: PeerMethod, M: ServerMethod, S: Source, W: Sink>(
     ensures drains { Drains result (S.left source.new) }
     ensures read_fault { result ≡ Status.ReadFault → S.read_faults source.new ≤ S.read_faults source.old → S.last_read_fault ≡ Some (S.read_faults source.new) }
     ensures write_fault { result ≡ Status.WriteFault → W.write_faults sink.new ≤ W.write_faults sink.old → W.last_write_fault ≡ Some (W.write_faults sink.new) }
+    ensures reads { KeepsReads result (S.read_faults source.old) (S.read_faults source.new) }
+    ensures writes { KeepsWrites result (W.write_faults sink.old) (W.write_faults sink.new) }
     ensures memory { result ≡ Status.Memory → (octets : List ℕ) → S.left source.old ≡ Some octets → HasSetup octets }
 {
     match write_trace_header(sink) {
@@ -163,6 +167,8 @@ fn decode<S: Source, W: Sink>(source: &mut S, sink: &mut W) -> Status
     ensures drains { Drains result (S.left source.new) }
     ensures read_fault { result ≡ Status.ReadFault → S.read_faults source.new ≤ S.read_faults source.old → S.last_read_fault ≡ Some (S.read_faults source.new) }
     ensures write_fault { result ≡ Status.WriteFault → W.write_faults sink.new ≤ W.write_faults sink.old → W.last_write_fault ≡ Some (W.write_faults sink.new) }
+    ensures reads { KeepsReads result (S.read_faults source.old) (S.read_faults source.new) }
+    ensures writes { KeepsWrites result (W.write_faults sink.old) (W.write_faults sink.new) }
     ensures no_memory { result ≢ Status.Memory }
 {
     let mut command = Decode::new();
@@ -175,6 +181,8 @@ fn keys<S: Source, W: Sink>(source: &mut S, sink: &mut W) -> Status
     ensures drains { Drains result (S.left source.new) }
     ensures read_fault { result ≡ Status.ReadFault → S.read_faults source.new ≤ S.read_faults source.old → S.last_read_fault ≡ Some (S.read_faults source.new) }
     ensures write_fault { result ≡ Status.WriteFault → W.write_faults sink.new ≤ W.write_faults sink.old → W.last_write_fault ≡ Some (W.write_faults sink.new) }
+    ensures reads { KeepsReads result (S.read_faults source.old) (S.read_faults source.new) }
+    ensures writes { KeepsWrites result (W.write_faults sink.old) (W.write_faults sink.new) }
     ensures no_memory { result ≢ Status.Memory }
 {
     let mut command = Keys::new();

@@ -9,8 +9,8 @@ loop-command-preserved g c = record {
   few_lines = omega (arith, c.in-Line.ensures.number, c.in-Line.ensures.takes);
   holds = subst (λ (k : ℕ). g.C.Command.holds c.take.new.self k) (sym c.in-Line.ensures.number) (c.in-Ok-Goes.ensures.holds_after c.loop-command.reader.number c.loop-command.invariant.holds);
   underway = λ octets e. underway_goes _ _ _ _ _ _ _ _ _ _ _ _ _ _ _ _ (c.loop-command.invariant.underway octets e) c.in-Line.ensures.lines c.in-Line.ensures.number c.line.ensures.same (rw c.in-Ok-Goes.field-0-is at c.in-Ok-Goes.ensures.answers.takes);
-  read_faults = omega arith;
-  write_faults = omega arith;
+  read_faults = c.in-Line.ensures.read ∙ c.loop-command.invariant.read_faults;
+  write_faults = c.in-Ok-Goes.ensures.answers.uncounted ∙ c.loop-command.invariant.write_faults;
 }
 
 pub returns-in-Ok-Refuses-clause-ends : goal.returns-in-Ok-Refuses-clause-ends
@@ -54,3 +54,7 @@ returns-in-Err-Memory-clause-wanting g c _ = record {
   text = c.line.result.now;
   wanting = rw c.in-Err-Memory.field-0-is at c.in-Err-Memory.ensures.answers.trouble;
 }
+
+pub returns-in-Err-Memory-clause-writes : goal.returns-in-Err-Memory-clause-writes
+returns-in-Err-Memory-clause-writes g c =
+    let uncounted = rw c.in-Err-Memory.field-0-is at c.in-Err-Memory.ensures.answers.uncounted in uncounted ∙ c.loop-command.invariant.write_faults

@@ -17,16 +17,16 @@ pub returns-then-are_alone-3-clause-never_both : goal.returns-then-are_alone-3-c
 returns-then-are_alone-3-clause-never_both g c octets h = keys_writes c.keys.result _ _ octets (c.keys.ensures.ends octets h)
 
 pub returns-then-are_alone-clause-honest_ends_agree : goal.returns-then-are_alone-clause-honest_ends_agree
-returns-then-are_alone-clause-honest_ends_agree g c octets h = headline octets
+returns-then-are_alone-clause-honest_ends_agree g c octets = headline octets
 
 pub returns-then-are_two-clause-honest_ends_agree : goal.returns-then-are_two-clause-honest_ends_agree
-returns-then-are_two-clause-honest_ends_agree g c octets h = headline octets
+returns-then-are_two-clause-honest_ends_agree g c octets = headline octets
 
 pub returns-then-are_alone-2-clause-honest_ends_agree : goal.returns-then-are_alone-2-clause-honest_ends_agree
-returns-then-are_alone-2-clause-honest_ends_agree g c octets h = headline octets
+returns-then-are_alone-2-clause-honest_ends_agree g c octets = headline octets
 
 pub returns-then-are_alone-3-clause-honest_ends_agree : goal.returns-then-are_alone-3-clause-honest_ends_agree
-returns-then-are_alone-3-clause-honest_ends_agree g c octets h = headline octets
+returns-then-are_alone-3-clause-honest_ends_agree g c octets = headline octets
 
 pub returns-clause-honest_ends_agree : goal.returns-clause-honest_ends_agree
-returns-clause-honest_ends_agree g c octets h = headline octets
+returns-clause-honest_ends_agree g c octets = headline octets
