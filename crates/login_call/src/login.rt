@@ -43,7 +43,8 @@ pub fn eap_login<P: PeerMethod, M: ServerMethod, S: Source, W: Sink>(
 
     // With status 0, 1, 2 or 6 the whole text was written and the status is that of the answer. With
     // 3, 4 or 5 a front of the text was.
-    ensures ends { (octets : List ℕ) → S.left source.old ≡ Some octets → Ends result (W.written sink.old) (W.written sink.new) (login_answer (map string_bytes words.now.items) octets) }
+    ensures ends { (octets : List ℕ) → S.left source.old ≡ Some octets
+        → Ends result (W.written sink.old) (W.written sink.new) (login_answer (map string_bytes words.now.items) octets) }
     ensures drains { Drains result (S.left source.new) }
 
     // Whatever the scenario has delivered, lost, repeated, reordered, altered or injected: where each tag

@@ -1,6 +1,6 @@
 //! The texts that the program writes: lines, and the trace of a run, whose states and variables are
-//! those of RFC 4137. Each call appends its text to a sink and takes no memory. It answers `Failed`
-//! only where a write of the sink failed; a front of the text was then appended, and nothing follows.
+//! those of RFC 4137. Each call appends its text to a sink, a line in one write, and takes no memory. It
+//! answers `Failed` exactly where a write of the sink failed; a front of the text was then appended.
 #![tactic(auto)]
 
 mod keys;
