@@ -225,8 +225,8 @@ fn scenario_setup() -> Option<Setup> {
     let mut reader = ScenarioReader::new();
     let mut found = None;
     for line in SCENARIO.lines() {
-        if let Ok(Item::Ready(setup)) = reader.line(line.as_bytes()) {
-            found = Some(setup);
+        if let Ok(Item::Ready) = reader.line(line.as_bytes()) {
+            found = reader.setup().ok();
         }
     }
     found

@@ -1,22 +1,20 @@
 -- What has been read is within its limits, line by line.
-use Rattle.std.proofs.Common.{◌≡◌, ℕ, ◌≤◌, ◌<◌, List, length, Option, Some, None, IfSome, IsSome, Result, Ok, Err, IfOk, refl, lit<, lit≤, IsTrue}
+use Rattle.std.proofs.Common.{◌≡◌, ℕ, ◌≤◌, ◌<◌, List, length, Option, Some, None, IfSome, IsSome, Ok, Err, IfOk, refl, lit<, lit≤, IsTrue}
 use Rattle.std.specs.Str.{bytes_eq}
-use Rattle.std.proofs.lemmas.Result.{IfOk-at_ok}
 use Rattle.eap_base.specs.Setup.{psk_kind, gpsk_kind, is_kind, are_kinds, are_suites, fits_kind, is_among}
 use Rattle.eap_base.specs.declared.setup.Mode.TheVariants as mode
 use Rattle.scenario_text.specs.Words.{is_passed_over}
 use Rattle.scenario_text.specs.Entries.{entry_of}
-use Rattle.scenario_text.specs.Reading.{Reading, reads, has_setting, with_setting, no_settings, both_suites, needed, key_for, peer_setup_of, server_setup_of, setup_of, header, is_crowded, read_setting, read_event, read_late, late_setting, read_entry, read_body, read_at, read_line, answered}
-use Rattle.scenario_text.specs.Valid.{IsName, AcceptsName, IsValidUser, IsValidSetting, IsValidEntry, AreValid, IsValidPeer, IsValidServer, IsValidSetup, IsValidItem, IsValidReadLine}
-use Rattle.scenario_text.specs.declared.fault.LineFault.{LineFault}
+use Rattle.scenario_text.specs.Reading.{Reading, reads, has_setting, with_setting, no_settings, both_suites, needed, key_for, peer_setup_of, server_setup_of, setup_of, header, is_crowded, read_setting, read_event, read_late, late_setting, read_entry, read_body, read_at, read_line}
+use Rattle.scenario_text.specs.Valid.{IsName, AcceptsName, IsValidUser, IsValidSetting, IsValidEntry, AreValid, IsValidPeer, IsValidServer, IsValidSetup, IsValidReadLine}
 use Rattle.scenario_text.specs.declared.fault.LineFault.TheVariants.{NoHeader, BadCount, Repeated, Missing, Order}
 use Rattle.scenario_text.specs.declared.entry.Setting.{Setting}
 use Rattle.scenario_text.specs.declared.entry.Setting.TheVariants as setting
 use Rattle.scenario_text.specs.declared.entry.Entry.{Entry}
 use Rattle.scenario_text.specs.declared.entry.Entry.TheVariants as entry
 use Rattle.scenario_text.specs.declared.settings.Settings.{Settings}
-use Rattle.scenario_text.specs.declared.scenario.Item.{Item}
-use Rattle.scenario_text.specs.declared.scenario.Item.TheVariants as item
+use Rattle.scenario_text.specs.Items.{Item}
+use Rattle.scenario_text.specs.Items as item
 use Rattle.scenario_text.specs.declared.scenario.Phase.{Phase}
 use Rattle.scenario_text.specs.declared.scenario.Phase.TheVariants as phase
 use Rattle.std.proofs.lemmas.List.Elements.{All-nil, All-weaker}
@@ -140,11 +138,6 @@ read_body-valid p s line h =
     IfOk-test (is_passed_over line) (reads item.Nothing p s) _ IsValidReadLine (λ e. record { item = tt; settings = h })
     (λ e. IfOk-test (is_crowded s line) (Err BadCount) _ IsValidReadLine (λ c. tt)
     (λ c. IfOk-bind (entry_of line) (read_entry p s) IsValidEntry IsValidReadLine (entry_of-valid line) (λ x k. read_entry-valid p s x h k)))
-
--- the same of a reader's answer
-pub valid_item : (p : Phase) (s : Settings) (line : List ℕ) (result : Result Item LineFault) (after : Reading) → AreValid s → read_body p s line ≡ answered result after → IfOk result IsValidItem
-valid_item p s line (Err fault) after h e = tt
-valid_item p s line (Ok item) after h e = (IfOk-at_ok IsValidReadLine e (read_body-valid p s line h)).item
 
 read_at-valid : (p : Phase) (s : Settings) (line : List ℕ) → AreValid s → IfOk (read_at p s line) IsValidReadLine
 read_at-valid phase.Unread s line h = IfOk-test (bytes_eq line header) (reads item.Nothing phase.Settings no_settings) (Err NoHeader) IsValidReadLine (λ e. record { item = tt; settings = no_settings-valid }) (λ e. tt)

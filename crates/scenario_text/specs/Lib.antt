@@ -1,6 +1,7 @@
 pub mod Entries
 pub mod Events
 pub mod Fields
+pub mod Items
 pub mod Reading
 pub mod Words
 pub mod Valid

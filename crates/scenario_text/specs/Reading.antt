@@ -1,5 +1,5 @@
 -- A scenario, line by line: what has been read, and what each line adds.
-use Rattle.std.specs.Prelude.{ℕ, List, [], ◌∷◌, ◌++◌, length, nat_lt, nat_le, not, ◌&&◌, Bool, if◌then◌else◌, codes, Option, Some, None, Result, Ok, Err, ok_or, is_some, unwrap_or}
+use Rattle.std.specs.Prelude.{ℕ, List, [], ◌∷◌, ◌++◌, length, nat_lt, nat_le, not, ◌&&◌, Bool, if◌then◌else◌, codes, Option, Some, None, Result, Ok, Err, IsOk, ok_or, is_some, unwrap_or}
 use Rattle.std.specs.Str.{bytes_eq}
 use Rattle.eap_base.specs.Setup.{psk_kind, gpsk_kind, is_among}
 use Rattle.eap_base.specs.Users.{user_of}
@@ -17,8 +17,9 @@ use Rattle.scenario_text.specs.declared.entry.Setting.TheVariants as setting
 use Rattle.scenario_text.specs.declared.entry.Entry.{Entry}
 use Rattle.scenario_text.specs.declared.entry.Entry.TheVariants as entry
 use Rattle.scenario_text.specs.declared.settings.Settings.{Settings}
-use Rattle.scenario_text.specs.declared.scenario.Item.{Item}
-use Rattle.scenario_text.specs.declared.scenario.Item.TheVariants as item
+use Rattle.scenario_text.specs.Items.{Item}
+use Rattle.scenario_text.specs.Items as item
+use Rattle.scenario_text.specs.declared.scenario.Item as answer
 use Rattle.scenario_text.specs.declared.scenario.Phase.{Phase}
 use Rattle.scenario_text.specs.declared.scenario.Phase.TheVariants as phase
 
@@ -121,10 +122,21 @@ said item phase settings = record { item = item; after = record { phase = phase;
 abbrev pub reads : Item → Phase → Settings → Result ReadLine LineFault
 reads item phase settings = Ok (said item phase settings)
 
--- the answer of a reader, and what it holds after, as what a line says and adds
-abbrev pub answered : Result Item LineFault → Reading → Result ReadLine LineFault
-answered (Ok item) after = Ok (record { item = item; after = after })
+-- the answer of a reader, and what it holds after, as what a line says and adds: where the settings are
+-- whole, the reader holds them
+abbrev pub answered : Result answer.Item LineFault → Reading → Result ReadLine LineFault
+answered (Ok answer.TheVariants.Nothing) after = Ok (record { item = item.Nothing; after = after })
+answered (Ok answer.TheVariants.Ready) after = setup_of after.settings >>= λ setup. Ok (record { item = item.Ready setup; after = after })
+answered (Ok (answer.TheVariants.Event event)) after = Ok (record { item = item.Event event; after = after })
+answered (Ok answer.TheVariants.End) after = Ok (record { item = item.End; after = after })
 answered (Err fault) after = Err fault
+
+-- the settings are whole where the answer says so
+abbrev pub HasSetup : answer.Item → Reading → Type 0
+HasSetup answer.TheVariants.Nothing after = Unit {0}
+HasSetup answer.TheVariants.Ready after = IsOk (setup_of after.settings)
+HasSetup (answer.TheVariants.Event event) after = Unit {0}
+HasSetup answer.TheVariants.End after = Unit {0}
 
 -- a line before the line `events`
 abbrev pub read_setting : Settings → Entry → Result ReadLine LineFault

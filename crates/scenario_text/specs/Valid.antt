@@ -14,8 +14,8 @@ use Rattle.scenario_text.specs.declared.entry.Setting.TheVariants as setting
 use Rattle.scenario_text.specs.declared.entry.Entry.{Entry}
 use Rattle.scenario_text.specs.declared.entry.Entry.TheVariants as entry
 use Rattle.scenario_text.specs.declared.settings.Settings.{Settings}
-use Rattle.scenario_text.specs.declared.scenario.Item.{Item}
-use Rattle.scenario_text.specs.declared.scenario.Item.TheVariants as item
+use Rattle.scenario_text.specs.Items.{Item}
+use Rattle.scenario_text.specs.Items as item
 
 -- a name has 1 to 253 octets
 pub record IsName (name : List ℕ) : Type 0 where

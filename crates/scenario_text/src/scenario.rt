@@ -1,10 +1,10 @@
 //! Reading a scenario, line by line: its header, its settings, the line `events`, its events, the
 //! line `end`. After the header an empty line and one that begins with `#` are passed over.
 
-ghost use Rattle.std.specs.Prelude.{◌≡◌, MatchResult, IfOk, OnErr, Ok, Err};
-ghost use Rattle.scenario_text.specs.Reading.{no_settings, answered, finish_of};
+ghost use Rattle.std.specs.Prelude.{◌≡◌, IfOk, OnErr};
+ghost use Rattle.scenario_text.specs.Reading.{no_settings, answered, setup_of, finish_of, HasSetup};
 ghost use Rattle.scenario_text.specs.Reading as reading;
-ghost use Rattle.scenario_text.specs.Valid.{IsValidSetting, IsValidEntry, IsValidItem};
+ghost use Rattle.scenario_text.specs.Valid.{IsValidSetting, IsValidEntry, IsValidSetup};
 
 use crate::entry::{Entry, Setting, read_entry};
 use crate::fault::LineFault;
@@ -18,8 +18,8 @@ use std::marker::Model;
 pub enum Item {
     /// Nothing that happens: the header, a setting, or a line that is passed over.
     Nothing,
-    /// The line `events`: the settings are whole.
-    Ready(Setup),
+    /// The line `events`: the settings are whole, and `ScenarioReader::setup` gives them.
+    Ready,
     /// What happens next in the run.
     Event(Event),
     /// The line `end`.
@@ -72,16 +72,22 @@ impl ScenarioReader {
     /// the reader is as it was.
     #[tactic(auto, unfolding(crate::specs::Reading::read_line))]
     pub fn line(&mut self, line: &[u8]) -> Result<Item, LineFault>
-        ensures read { MatchResult result
-            (λ item. reading.read_line self.old line.now ≡ Ok (record { item = item; after = self.new }))
-            (λ fault. reading.read_line self.old line.now ≡ Err fault) }
+        ensures read { reading.read_line self.old line.now ≡ answered result self.new }
+        ensures ready { IfOk result (λ item. HasSetup item self.new) }
         ensures unchanged { OnErr result (self.new ≡ self.old) }
-        ensures valid { IfOk result IsValidItem }
     {
         match self.phase {
             Phase::Unread => self.read_header(line),
             _ => self.read_body(line),
         }
+    }
+
+    /// The settings of the run, each within its limits, or `Missing` where a needed one has not come.
+    pub fn setup(&self) -> Result<Setup, LineFault>
+        ensures value { result ≡ setup_of self.now.settings }
+        ensures valid { IfOk result IsValidSetup }
+    {
+        self.settings.setup()
     }
 
     /// What the end of the input means: `NoHeader` where no line was read, else `Missing` where the
@@ -99,6 +105,7 @@ impl ScenarioReader {
     /// Reads line 1.
     fn read_header(&mut self, line: &[u8]) -> Result<Item, LineFault>
         ensures read { reading.read_header line.now ≡ answered result self.new }
+        ensures ready { IfOk result (λ item. HasSetup item self.new) }
         ensures unchanged { OnErr result (self.new ≡ self.old) }
     {
         if line != b"eap-scenario 1".as_slice() {
@@ -112,6 +119,7 @@ impl ScenarioReader {
     /// Reads a line after the first.
     fn read_body(&mut self, line: &[u8]) -> Result<Item, LineFault>
         ensures read { reading.read_body self.old.phase self.old.settings line.now ≡ answered result self.new }
+        ensures ready { IfOk result (λ item. HasSetup item self.new) }
         ensures unchanged { OnErr result (self.new ≡ self.old) }
     {
         if is_comment(line) {
@@ -128,6 +136,7 @@ impl ScenarioReader {
     fn take(&mut self, entry: Entry) -> Result<Item, LineFault>
         requires { IsValidEntry entry }
         ensures read { reading.read_entry self.old.phase self.old.settings entry ≡ answered result self.new }
+        ensures ready { IfOk result (λ item. HasSetup item self.new) }
         ensures unchanged { OnErr result (self.new ≡ self.old) }
     {
         match entry {
@@ -142,6 +151,7 @@ impl ScenarioReader {
     fn take_setting(&mut self, setting: Setting) -> Result<Item, LineFault>
         requires { IsValidSetting setting }
         ensures read { reading.read_entry self.old.phase self.old.settings (Entry.Set setting) ≡ answered result self.new }
+        ensures ready { IfOk result (λ item. HasSetup item self.new) }
         ensures unchanged { OnErr result (self.new ≡ self.old) }
     {
         if self.phase == Phase::Unread {
@@ -160,14 +170,15 @@ impl ScenarioReader {
     /// Takes the line `events`, which makes the settings whole.
     fn take_events(&mut self) -> Result<Item, LineFault>
         ensures read { reading.read_entry self.old.phase self.old.settings Entry.Events ≡ answered result self.new }
+        ensures ready { IfOk result (λ item. HasSetup item self.new) }
         ensures unchanged { OnErr result (self.new ≡ self.old) }
     {
         match self.phase {
             Phase::Unread => Err(LineFault::NoHeader),
             Phase::Settings => {
-                let setup = self.settings.setup()?;
+                self.settings.check()?;
                 self.phase = Phase::Events;
-                Ok(Item::Ready(setup))
+                Ok(Item::Ready)
             }
             Phase::Events | Phase::Ended => Err(LineFault::Order),
         }
@@ -176,6 +187,7 @@ impl ScenarioReader {
     /// Takes an event, which comes after the line `events` and before the line `end`.
     fn take_event(&mut self, event: Event) -> Result<Item, LineFault>
         ensures read { reading.read_entry self.old.phase self.old.settings (Entry.Happens event) ≡ answered result self.new }
+        ensures ready { IfOk result (λ item. HasSetup item self.new) }
         ensures unchanged { OnErr result (self.new ≡ self.old) }
     {
         match self.phase {
@@ -188,6 +200,7 @@ impl ScenarioReader {
     /// Takes the line `end`.
     fn take_end(&mut self) -> Result<Item, LineFault>
         ensures read { reading.read_entry self.old.phase self.old.settings Entry.End ≡ answered result self.new }
+        ensures ready { IfOk result (λ item. HasSetup item self.new) }
         ensures unchanged { OnErr result (self.new ≡ self.old) }
     {
         match self.phase {
