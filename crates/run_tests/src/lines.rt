@@ -35,7 +35,7 @@ fn reader_after(count: usize, without: &str) -> ScenarioReader {
     let mut reader = ScenarioReader::new();
     for before in SCENARIO.lines().take(count) {
         if without.is_empty() || !before.starts_with(without) {
-            let _ = reader.line(before.as_bytes());
+            let _ = reader.line(before.as_bytes(), &mut Event::Idle);
         }
     }
     reader
@@ -61,7 +61,7 @@ fn has_fault(row: &str) -> bool {
     let mut rest = row;
     let count = part(&mut rest).parse::<usize>().unwrap_or(0);
     let line = part(&mut rest);
-    fault_name(reader_after(count, "").line(line.as_bytes())) == rest
+    fault_name(reader_after(count, "").line(line.as_bytes(), &mut Event::Idle)) == rest
 }
 
 const REFUSED_SETTINGS: &str = "\
@@ -168,7 +168,7 @@ fn has_fault_without(row: &str) -> bool {
     let without = part(&mut rest);
     let count = part(&mut rest).parse::<usize>().unwrap_or(0);
     let line = part(&mut rest);
-    fault_name(reader_after(count, without).line(line.as_bytes())) == rest
+    fault_name(reader_after(count, without).line(line.as_bytes(), &mut Event::Idle)) == rest
 }
 
 #[test]
@@ -193,13 +193,13 @@ fn has_fault_where_full(row: &str) -> bool {
     let mut rest = row;
     let line = part(&mut rest);
     let mut reader = ScenarioReader::new();
-    let _ = reader.line(b"eap-scenario 1");
+    let _ = reader.line(b"eap-scenario 1", &mut Event::Idle);
     for letter in b'a'..=b'p' {
         let mut user = *b"user a 47 000102030405060708090a0b0c0d0e0f allowed";
         user[5] = letter;
-        let _ = reader.line(user.as_slice());
+        let _ = reader.line(user.as_slice(), &mut Event::Idle);
     }
-    fault_name(reader.line(line.as_bytes())) == rest
+    fault_name(reader.line(line.as_bytes(), &mut Event::Idle)) == rest
 }
 
 #[test]
@@ -225,7 +225,7 @@ fn scenario_setup() -> Option<Setup> {
     let mut reader = ScenarioReader::new();
     let mut found = None;
     for line in SCENARIO.lines() {
-        if let Ok(Item::Ready) = reader.line(line.as_bytes()) {
+        if let Ok(Item::Ready) = reader.line(line.as_bytes(), &mut Event::Idle) {
             found = reader.setup().ok();
         }
     }
@@ -271,40 +271,36 @@ fn a_setup_is_read(rt: HostRuntime) {
 
 /// What the event's line says, in words of its own; empty where it is none.
 fn event_read(line: &str) -> &'static str {
-    match reader_after(18, "").line(line.as_bytes()) {
-        Ok(Item::Event(Event::Deliver { number: 1_000_000 })) => "a million",
-        Ok(Item::Event(Event::Timeout { .. })) => "timer",
-        Ok(Item::Event(Event::Idle)) => "idle",
-        Ok(
-            Item::Event(
-                Event::Alter {
-                    number: 3,
-                    place: 20,
-                    mask: 1,
-                },
-            ),
-        ) => "altered",
-        Ok(
-            Item::Event(
-                Event::Cut {
-                    number: 3,
-                    keep: 20,
-                },
-            ),
-        ) => "cut",
-        Ok(
-            Item::Event(
-                Event::Inject {
-                    port: Port::Server,
-                    octets,
-                },
-            ),
-        ) => if octets.as_slice() == [3, 4].as_slice() {
+    let mut event = Event::Idle;
+    match reader_after(18, "").line(line.as_bytes(), &mut event) {
+        Ok(Item::Event) => event_name(&event),
+        Ok(Item::End) => "end",
+        _ => "",
+    }
+}
+
+fn event_name(event: &Event) -> &'static str {
+    match event {
+        Event::Deliver { number: 1_000_000 } => "a million",
+        Event::Timeout { .. } => "timer",
+        Event::Idle => "idle",
+        Event::Alter {
+            number: 3,
+            place: 20,
+            mask: 1,
+        } => "altered",
+        Event::Cut {
+            number: 3,
+            keep: 20,
+        } => "cut",
+        Event::Inject {
+            port: Port::Server,
+            octets,
+        } => if octets.as_slice() == [3, 4].as_slice() {
             "injected"
         } else {
             ""
         },
-        Ok(Item::End) => "end",
         _ => "",
     }
 }

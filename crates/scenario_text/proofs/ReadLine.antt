@@ -9,8 +9,8 @@ use Rattle.scenario_text.specs.Entries.{entry_of}
 use Rattle.scenario_text.specs.Reading.{Reading, ReadLine, said, reads, has_setting, with_setting, no_settings, setup_of, header, is_crowded, read_setting, read_event, read_late, read_entry, read_body, read_at, read_line}
 use Rattle.scenario_text.specs.declared.fault.LineFault.TheVariants.{NoHeader, BadCount, Repeated, Order}
 use Rattle.scenario_text.specs.declared.entry.Setting.{Setting}
-use Rattle.scenario_text.specs.declared.entry.Entry.{Entry}
-use Rattle.scenario_text.specs.declared.entry.Entry.TheVariants as entry
+use Rattle.scenario_text.specs.Contents.{Entry}
+use Rattle.scenario_text.specs.Contents as entry
 use Rattle.scenario_text.specs.declared.settings.Settings.{Settings}
 use Rattle.scenario_text.specs.Items as item
 use Rattle.scenario_text.specs.declared.scenario.Phase.{Phase}

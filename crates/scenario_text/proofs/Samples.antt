@@ -13,7 +13,7 @@ use Rattle.scenario_text.specs.Keys.{both, request_of, sized_of, gpsk_words, fie
 use Rattle.scenario_text.specs.declared.key_line.KeyLine.TheVariants as request
 use Rattle.scenario_text.specs.declared.fault.LineFault.TheVariants.{BadWord, BadCount, BadChoice, BadNumber, BadHex, BadSize, Repeated}
 use Rattle.scenario_text.specs.declared.entry.Setting.TheVariants as setting
-use Rattle.scenario_text.specs.declared.entry.Entry.TheVariants.{Set, Happens}
+use Rattle.scenario_text.specs.Contents.{Set, Happens}
 
 deliver_one : entry_of (codes "deliver 1") ≡ Ok (Happens (event.Deliver 1))
 unfolding entry_of entry_for keyword_of server_keyword_of event_keyword_of number_of

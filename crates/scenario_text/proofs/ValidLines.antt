@@ -12,7 +12,7 @@ use Rattle.scenario_text.specs.Fields.{◌>>=◌, number_of, number_after, is_de
 use Rattle.scenario_text.specs.Methods.{kinds_of, suites_of, peer_psk_of, user_line}
 use Rattle.scenario_text.specs.Events.{timer_party_of, alter_of, cut_of, inject_of}
 use Rattle.scenario_text.specs.Entries.{word_alone, nothing_more, setting_with, event_with, mode_of, accepts_of, nonce_of, first_keyword, entry_by, entry_for, entry_of}
-use Rattle.scenario_text.specs.Valid.{IsName, AcceptsName, IsValidUser, IsValidSetting, IsValidEntry}
+use Rattle.scenario_text.specs.Valid.{IsName, AcceptsName, IsValidUser, IsValidSetting, IsValidEntry, IsValidTold}
 use Rattle.eap_base.specs.Setup.{are_kinds, are_suites}
 use Rattle.scenario_text.specs.declared.fault.LineFault.{LineFault}
 use Rattle.scenario_text.specs.declared.fault.LineFault.TheVariants.{BadChoice, BadNumber, BadSize, BadWord, BadCount}
@@ -20,8 +20,9 @@ use Rattle.scenario_text.specs.declared.entry.Keyword.{Keyword}
 use Rattle.scenario_text.specs.declared.entry.Keyword.TheVariants as key
 use Rattle.scenario_text.specs.declared.entry.Setting.{Setting}
 use Rattle.scenario_text.specs.declared.entry.Setting.TheVariants as setting
-use Rattle.scenario_text.specs.declared.entry.Entry.{Entry}
-use Rattle.scenario_text.specs.declared.entry.Entry.TheVariants.{Set, Happens, Events, End}
+use Rattle.scenario_text.specs.Contents.{Entry, entry_with}
+use Rattle.scenario_text.specs.declared.entry.Entry as told
+use Rattle.scenario_text.specs.Contents.{Set, Happens, Events, End}
 use Rattle.scenario_text.proofs.ValidMethods.{name_of-valid, kinds_of-valid, suites_of-valid, peer_psk_of-valid, user_line-valid}
 use Rattle.scenario_text.proofs.Steps.{IfOk-bind, IfOk-test, IfOk-any, and-right}
 
@@ -109,3 +110,10 @@ entry_of-valid line =
 -- the same of a line that was read
 pub valid_entry : (line : List ℕ) (e : Entry) → Ok e ≡ entry_of line → IsValidEntry e
 valid_entry line e h = IfOk-at_ok IsValidEntry (sym h) (entry_of-valid line)
+
+-- and of what is told of it
+pub valid_told : (it : told.Entry) (e : Event) → IsValidEntry (entry_with it e) → IsValidTold it
+valid_told (told.TheVariants.Set v) e h = h
+valid_told told.TheVariants.Events e h = tt
+valid_told told.TheVariants.Happens e h = tt
+valid_told told.TheVariants.End e h = tt

@@ -17,8 +17,8 @@ use Rattle.scenario_text.specs.declared.entry.Keyword.{Keyword}
 use Rattle.scenario_text.specs.declared.entry.Keyword.TheVariants as key
 use Rattle.scenario_text.specs.declared.entry.Setting.{Setting}
 use Rattle.scenario_text.specs.declared.entry.Setting.TheVariants as setting
-use Rattle.scenario_text.specs.declared.entry.Entry.{Entry}
-use Rattle.scenario_text.specs.declared.entry.Entry.TheVariants.{Set, Events, Happens, End}
+use Rattle.scenario_text.specs.Contents.{Entry}
+use Rattle.scenario_text.specs.Contents.{Set, Events, Happens, End}
 
 -- the keywords
 

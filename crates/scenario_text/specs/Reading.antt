@@ -7,6 +7,7 @@ use Rattle.eap_base.specs.declared.users.User.{User}
 use Rattle.eap_base.specs.declared.setup.PeerSetup.{PeerSetup}
 use Rattle.eap_base.specs.declared.setup.ServerSetup.{ServerSetup}
 use Rattle.eap_base.specs.declared.setup.Setup.{Setup}
+use Rattle.eap_base.specs.declared.event.Event.{Event}
 use Rattle.scenario_text.specs.Words.{is_passed_over}
 use Rattle.scenario_text.specs.Fields.{◌>>=◌}
 use Rattle.scenario_text.specs.Entries.{entry_of, is_user_line}
@@ -14,8 +15,8 @@ use Rattle.scenario_text.specs.declared.fault.LineFault.{LineFault}
 use Rattle.scenario_text.specs.declared.fault.LineFault.TheVariants.{NoHeader, BadCount, Repeated, Missing, Order}
 use Rattle.scenario_text.specs.declared.entry.Setting.{Setting}
 use Rattle.scenario_text.specs.declared.entry.Setting.TheVariants as setting
-use Rattle.scenario_text.specs.declared.entry.Entry.{Entry}
-use Rattle.scenario_text.specs.declared.entry.Entry.TheVariants as entry
+use Rattle.scenario_text.specs.Contents.{Entry}
+use Rattle.scenario_text.specs.Contents as entry
 use Rattle.scenario_text.specs.declared.settings.Settings.{Settings}
 use Rattle.scenario_text.specs.Items.{Item}
 use Rattle.scenario_text.specs.Items as item
@@ -122,20 +123,20 @@ said item phase settings = record { item = item; after = record { phase = phase;
 abbrev pub reads : Item → Phase → Settings → Result ReadLine LineFault
 reads item phase settings = Ok (said item phase settings)
 
--- the answer of a reader, and what it holds after, as what a line says and adds: where the settings are
--- whole, the reader holds them
-abbrev pub answered : Result answer.Item LineFault → Reading → Result ReadLine LineFault
-answered (Ok answer.TheVariants.Nothing) after = Ok (record { item = item.Nothing; after = after })
-answered (Ok answer.TheVariants.Ready) after = setup_of after.settings >>= λ setup. Ok (record { item = item.Ready setup; after = after })
-answered (Ok (answer.TheVariants.Event event)) after = Ok (record { item = item.Event event; after = after })
-answered (Ok answer.TheVariants.End) after = Ok (record { item = item.End; after = after })
-answered (Err fault) after = Err fault
+-- the answer of a reader, what it holds after and the event that it wrote, as what a line says and adds:
+-- where the settings are whole, the reader holds them
+abbrev pub answered : Result answer.Item LineFault → Reading → Event → Result ReadLine LineFault
+answered (Ok answer.TheVariants.Nothing) after event = Ok (record { item = item.Nothing; after = after })
+answered (Ok answer.TheVariants.Ready) after event = setup_of after.settings >>= λ setup. Ok (record { item = item.Ready setup; after = after })
+answered (Ok answer.TheVariants.Event) after event = Ok (record { item = item.Event event; after = after })
+answered (Ok answer.TheVariants.End) after event = Ok (record { item = item.End; after = after })
+answered (Err fault) after event = Err fault
 
 -- the settings are whole where the answer says so
 abbrev pub HasSetup : answer.Item → Reading → Type 0
 HasSetup answer.TheVariants.Nothing after = Unit {0}
 HasSetup answer.TheVariants.Ready after = IsOk (setup_of after.settings)
-HasSetup (answer.TheVariants.Event event) after = Unit {0}
+HasSetup answer.TheVariants.Event after = Unit {0}
 HasSetup answer.TheVariants.End after = Unit {0}
 
 -- a line before the line `events`

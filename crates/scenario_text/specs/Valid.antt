@@ -11,8 +11,9 @@ use Rattle.eap_base.specs.declared.setup.Setup.{Setup}
 use Rattle.scenario_text.specs.Reading.{ReadLine}
 use Rattle.scenario_text.specs.declared.entry.Setting.{Setting}
 use Rattle.scenario_text.specs.declared.entry.Setting.TheVariants as setting
-use Rattle.scenario_text.specs.declared.entry.Entry.{Entry}
-use Rattle.scenario_text.specs.declared.entry.Entry.TheVariants as entry
+use Rattle.scenario_text.specs.Contents.{Entry}
+use Rattle.scenario_text.specs.Contents as entry
+use Rattle.scenario_text.specs.declared.entry.Entry as told
 use Rattle.scenario_text.specs.declared.settings.Settings.{Settings}
 use Rattle.scenario_text.specs.Items.{Item}
 use Rattle.scenario_text.specs.Items as item
@@ -55,6 +56,13 @@ IsValidEntry (entry.Set v) = IsValidSetting v
 IsValidEntry entry.Events = Unit {0}
 IsValidEntry (entry.Happens event) = Unit {0}
 IsValidEntry entry.End = Unit {0}
+
+-- the same of what is told of a line
+abbrev pub IsValidTold : told.Entry → Type 0
+IsValidTold (told.TheVariants.Set v) = IsValidSetting v
+IsValidTold told.TheVariants.Events = Unit {0}
+IsValidTold told.TheVariants.Happens = Unit {0}
+IsValidTold told.TheVariants.End = Unit {0}
 
 -- each setting that has come is valid
 pub record AreValid (s : Settings) : Type 0 where

@@ -2,8 +2,10 @@
 
 ghost use Rattle.std.specs.Prelude.{◌≡◌, length, slice_get, MatchResult, Ok, Err};
 ghost use Rattle.scenario_text.specs.Words.{words};
+ghost use Rattle.eap_base.specs.declared.event.Event.{Event};
+ghost use Rattle.scenario_text.specs.Contents.{entered};
 ghost use Rattle.scenario_text.specs.Fields.{number_of};
-ghost use Rattle.scenario_text.specs.Entries.{keyword_of, server_keyword_of, event_keyword_of, word_alone, nothing_more, mode_of, accepts_of, nonce_of, first_keyword, entry_of, entry_for, is_user_word, is_user_line};
+ghost use Rattle.scenario_text.specs.Entries.{keyword_of, server_keyword_of, event_keyword_of, word_alone, mode_of, accepts_of, nonce_of, first_keyword, entry_of, entry_for, is_user_word, is_user_line};
 
 use crate::event_words::{read_alter, read_cut, read_inject, read_timer_party};
 use crate::fault::LineFault;
@@ -61,12 +63,12 @@ pub enum Setting {
     User(User),
 }
 
-/// A line of a scenario after its header.
+/// What a line of a scenario holds after its header. An event stands where it was written.
 #[derive(Drop)]
 pub enum Entry {
     Set(Setting),
     Events,
-    Happens(Event),
+    Happens,
     End,
 }
 
@@ -148,18 +150,18 @@ fn read_event_keyword(word: &[u8]) -> Option<Keyword>
     }
 }
 
-/// What a line says, or the first fault of its words. The line is neither the header nor one that is
-/// passed over.
+/// What a line says, or the first fault of its words; an event is written to `event`. The line is
+/// neither the header nor one that is passed over.
 #[tactic(auto, unfolding(crate::specs::Entries::entry_of))]
-pub fn read_entry(line: &[u8]) -> Result<Entry, LineFault>
-    ensures { result ≡ entry_of line.now }
+pub fn read_entry(line: &[u8], event: &mut Event) -> Result<Entry, LineFault>
+    ensures { entry_of line.now ≡ entered result event.new }
 {
     if !is_printable_line(line) {
         return Err(LineFault::BadWord);
     }
     match first_keyword(line) {
         None => Err(LineFault::BadWord),
-        Some(keyword) => read_fields(keyword, line),
+        Some(keyword) => read_fields(keyword, line, event),
     }
 }
 
@@ -191,8 +193,8 @@ fn begins_with_user(line: &[u8]) -> bool
 }
 
 /// The words after the keyword, each as the keyword has it.
-fn read_fields(keyword: Keyword, line: &[u8]) -> Result<Entry, LineFault>
-    ensures { result ≡ entry_for keyword (words line.now) }
+fn read_fields(keyword: Keyword, line: &[u8], event: &mut Event) -> Result<Entry, LineFault>
+    ensures { entry_for keyword (words line.now) ≡ entered result event.new }
 {
     match keyword {
         Keyword::Mode => mode_entry(line),
@@ -210,21 +212,21 @@ fn read_fields(keyword: Keyword, line: &[u8]) -> Result<Entry, LineFault>
         Keyword::ServerNonce => server_nonce_entry(line),
         Keyword::User => user_entry(line),
         Keyword::Events => events_entry(line),
-        Keyword::Deliver => deliver_entry(line),
-        Keyword::Alter => alter_entry(line),
-        Keyword::Cut => cut_entry(line),
-        Keyword::Inject => inject_entry(line),
-        Keyword::Timeout => timeout_entry(line),
-        Keyword::Idle => idle_entry(line),
-        Keyword::AltAccept => alt_accept_entry(line),
-        Keyword::AltReject => alt_reject_entry(line),
+        Keyword::Deliver => deliver_entry(line, event),
+        Keyword::Alter => alter_entry(line, event),
+        Keyword::Cut => cut_entry(line, event),
+        Keyword::Inject => inject_entry(line, event),
+        Keyword::Timeout => timeout_entry(line, event),
+        Keyword::Idle => idle_entry(line, event),
+        Keyword::AltAccept => alt_accept_entry(line, event),
+        Keyword::AltReject => alt_reject_entry(line, event),
         Keyword::End => end_entry(line),
     }
 }
 
 #[tactic(auto, unfolding(crate::specs::Entries::entry_for))]
 fn mode_entry(line: &[u8]) -> Result<Entry, LineFault>
-    ensures { result ≡ entry_for Keyword.Mode (words line.now) }
+    ensures { (event : Event) → entry_for Keyword.Mode (words line.now) ≡ entered result event }
 {
     let word = read_word_alone(line)?;
     let mode = read_mode(word)?;
@@ -233,7 +235,7 @@ fn mode_entry(line: &[u8]) -> Result<Entry, LineFault>
 
 #[tactic(auto, unfolding(crate::specs::Entries::entry_for))]
 fn first_id_entry(line: &[u8]) -> Result<Entry, LineFault>
-    ensures { result ≡ entry_for Keyword.FirstId (words line.now) }
+    ensures { (event : Event) → entry_for Keyword.FirstId (words line.now) ≡ entered result event }
 {
     let word = read_word_alone(line)?;
     let id = read_octet(word, 255)?;
@@ -242,7 +244,7 @@ fn first_id_entry(line: &[u8]) -> Result<Entry, LineFault>
 
 #[tactic(auto, unfolding(crate::specs::Entries::entry_for))]
 fn max_retrans_entry(line: &[u8]) -> Result<Entry, LineFault>
-    ensures { result ≡ entry_for Keyword.MaxRetrans (words line.now) }
+    ensures { (event : Event) → entry_for Keyword.MaxRetrans (words line.now) ≡ entered result event }
 {
     let word = read_word_alone(line)?;
     let count = read_octet(word, 10)?;
@@ -251,7 +253,7 @@ fn max_retrans_entry(line: &[u8]) -> Result<Entry, LineFault>
 
 #[tactic(auto, unfolding(crate::specs::Entries::entry_for))]
 fn peer_name_entry(line: &[u8]) -> Result<Entry, LineFault>
-    ensures { result ≡ entry_for Keyword.PeerName (words line.now) }
+    ensures { (event : Event) → entry_for Keyword.PeerName (words line.now) ≡ entered result event }
 {
     let word = read_word_alone(line)?;
     let name = read_name(word)?;
@@ -260,7 +262,7 @@ fn peer_name_entry(line: &[u8]) -> Result<Entry, LineFault>
 
 #[tactic(auto, unfolding(crate::specs::Entries::entry_for))]
 fn peer_server_entry(line: &[u8]) -> Result<Entry, LineFault>
-    ensures { result ≡ entry_for Keyword.PeerServer (words line.now) }
+    ensures { (event : Event) → entry_for Keyword.PeerServer (words line.now) ≡ entered result event }
 {
     let word = read_word_alone(line)?;
     let accepts = read_accepts(word)?;
@@ -269,7 +271,7 @@ fn peer_server_entry(line: &[u8]) -> Result<Entry, LineFault>
 
 #[tactic(auto, unfolding(crate::specs::Entries::entry_for))]
 fn peer_methods_entry(line: &[u8]) -> Result<Entry, LineFault>
-    ensures { result ≡ entry_for Keyword.PeerMethods (words line.now) }
+    ensures { (event : Event) → entry_for Keyword.PeerMethods (words line.now) ≡ entered result event }
 {
     let kinds = read_kinds(line)?;
     Ok(Entry::Set(Setting::PeerMethods(kinds)))
@@ -277,7 +279,7 @@ fn peer_methods_entry(line: &[u8]) -> Result<Entry, LineFault>
 
 #[tactic(auto, unfolding(crate::specs::Entries::entry_for))]
 fn peer_suites_entry(line: &[u8]) -> Result<Entry, LineFault>
-    ensures { result ≡ entry_for Keyword.PeerSuites (words line.now) }
+    ensures { (event : Event) → entry_for Keyword.PeerSuites (words line.now) ≡ entered result event }
 {
     let suites = read_suites(line)?;
     Ok(Entry::Set(Setting::PeerSuites(suites)))
@@ -285,7 +287,7 @@ fn peer_suites_entry(line: &[u8]) -> Result<Entry, LineFault>
 
 #[tactic(auto, unfolding(crate::specs::Entries::entry_for))]
 fn peer_psk_entry(line: &[u8]) -> Result<Entry, LineFault>
-    ensures { result ≡ entry_for Keyword.PeerPsk (words line.now) }
+    ensures { (event : Event) → entry_for Keyword.PeerPsk (words line.now) ≡ entered result event }
 {
     if word_count(line) != 3 {
         return Err(LineFault::BadCount);
@@ -296,7 +298,7 @@ fn peer_psk_entry(line: &[u8]) -> Result<Entry, LineFault>
 
 #[tactic(auto, unfolding(crate::specs::Entries::entry_for))]
 fn peer_nonce_entry(line: &[u8]) -> Result<Entry, LineFault>
-    ensures { result ≡ entry_for Keyword.PeerNonce (words line.now) }
+    ensures { (event : Event) → entry_for Keyword.PeerNonce (words line.now) ≡ entered result event }
 {
     let word = read_word_alone(line)?;
     let nonce = read_nonce(word)?;
@@ -305,7 +307,7 @@ fn peer_nonce_entry(line: &[u8]) -> Result<Entry, LineFault>
 
 #[tactic(auto, unfolding(crate::specs::Entries::entry_for))]
 fn server_name_entry(line: &[u8]) -> Result<Entry, LineFault>
-    ensures { result ≡ entry_for Keyword.ServerName (words line.now) }
+    ensures { (event : Event) → entry_for Keyword.ServerName (words line.now) ≡ entered result event }
 {
     let word = read_word_alone(line)?;
     let name = read_name(word)?;
@@ -314,7 +316,7 @@ fn server_name_entry(line: &[u8]) -> Result<Entry, LineFault>
 
 #[tactic(auto, unfolding(crate::specs::Entries::entry_for))]
 fn server_methods_entry(line: &[u8]) -> Result<Entry, LineFault>
-    ensures { result ≡ entry_for Keyword.ServerMethods (words line.now) }
+    ensures { (event : Event) → entry_for Keyword.ServerMethods (words line.now) ≡ entered result event }
 {
     let kinds = read_kinds(line)?;
     Ok(Entry::Set(Setting::ServerMethods(kinds)))
@@ -322,7 +324,7 @@ fn server_methods_entry(line: &[u8]) -> Result<Entry, LineFault>
 
 #[tactic(auto, unfolding(crate::specs::Entries::entry_for))]
 fn server_suites_entry(line: &[u8]) -> Result<Entry, LineFault>
-    ensures { result ≡ entry_for Keyword.ServerSuites (words line.now) }
+    ensures { (event : Event) → entry_for Keyword.ServerSuites (words line.now) ≡ entered result event }
 {
     let suites = read_suites(line)?;
     Ok(Entry::Set(Setting::ServerSuites(suites)))
@@ -330,7 +332,7 @@ fn server_suites_entry(line: &[u8]) -> Result<Entry, LineFault>
 
 #[tactic(auto, unfolding(crate::specs::Entries::entry_for))]
 fn server_nonce_entry(line: &[u8]) -> Result<Entry, LineFault>
-    ensures { result ≡ entry_for Keyword.ServerNonce (words line.now) }
+    ensures { (event : Event) → entry_for Keyword.ServerNonce (words line.now) ≡ entered result event }
 {
     let word = read_word_alone(line)?;
     let nonce = read_nonce(word)?;
@@ -339,7 +341,7 @@ fn server_nonce_entry(line: &[u8]) -> Result<Entry, LineFault>
 
 #[tactic(auto, unfolding(crate::specs::Entries::entry_for))]
 fn user_entry(line: &[u8]) -> Result<Entry, LineFault>
-    ensures { result ≡ entry_for Keyword.User (words line.now) }
+    ensures { (event : Event) → entry_for Keyword.User (words line.now) ≡ entered result event }
 {
     if word_count(line) != 5 {
         return Err(LineFault::BadCount);
@@ -350,88 +352,108 @@ fn user_entry(line: &[u8]) -> Result<Entry, LineFault>
 
 #[tactic(auto, unfolding(crate::specs::Entries::entry_for))]
 fn events_entry(line: &[u8]) -> Result<Entry, LineFault>
-    ensures { result ≡ entry_for Keyword.Events (words line.now) }
+    ensures { (event : Event) → entry_for Keyword.Events (words line.now) ≡ entered result event }
 {
-    read_bare(line, Entry::Events)
+    if word_count(line) != 1 {
+        return Err(LineFault::BadCount);
+    }
+    Ok(Entry::Events)
 }
 
 #[tactic(auto, unfolding(crate::specs::Entries::entry_for))]
-fn deliver_entry(line: &[u8]) -> Result<Entry, LineFault>
-    ensures { result ≡ entry_for Keyword.Deliver (words line.now) }
+fn deliver_entry(line: &[u8], event: &mut Event) -> Result<Entry, LineFault>
+    ensures { entry_for Keyword.Deliver (words line.now) ≡ entered result event.new }
 {
     let word = read_word_alone(line)?;
     let number = read_number(word, 1, 1_000_000)?;
-    Ok(Entry::Happens(Event::Deliver { number }))
+    *event = Event::Deliver { number };
+    Ok(Entry::Happens)
 }
 
 #[tactic(auto, unfolding(crate::specs::Entries::entry_for))]
-fn alter_entry(line: &[u8]) -> Result<Entry, LineFault>
-    ensures { result ≡ entry_for Keyword.Alter (words line.now) }
+fn alter_entry(line: &[u8], event: &mut Event) -> Result<Entry, LineFault>
+    ensures { entry_for Keyword.Alter (words line.now) ≡ entered result event.new }
 {
     if word_count(line) != 4 {
         return Err(LineFault::BadCount);
     }
-    let event = read_alter(line)?;
-    Ok(Entry::Happens(event))
+    *event = read_alter(line)?;
+    Ok(Entry::Happens)
 }
 
 #[tactic(auto, unfolding(crate::specs::Entries::entry_for))]
-fn cut_entry(line: &[u8]) -> Result<Entry, LineFault>
-    ensures { result ≡ entry_for Keyword.Cut (words line.now) }
+fn cut_entry(line: &[u8], event: &mut Event) -> Result<Entry, LineFault>
+    ensures { entry_for Keyword.Cut (words line.now) ≡ entered result event.new }
 {
     if word_count(line) != 3 {
         return Err(LineFault::BadCount);
     }
-    let event = read_cut(line)?;
-    Ok(Entry::Happens(event))
+    *event = read_cut(line)?;
+    Ok(Entry::Happens)
 }
 
 #[tactic(auto, unfolding(crate::specs::Entries::entry_for))]
-fn inject_entry(line: &[u8]) -> Result<Entry, LineFault>
-    ensures { result ≡ entry_for Keyword.Inject (words line.now) }
+fn inject_entry(line: &[u8], event: &mut Event) -> Result<Entry, LineFault>
+    ensures { entry_for Keyword.Inject (words line.now) ≡ entered result event.new }
 {
     if word_count(line) != 3 {
         return Err(LineFault::BadCount);
     }
-    let event = read_inject(line)?;
-    Ok(Entry::Happens(event))
+    *event = read_inject(line)?;
+    Ok(Entry::Happens)
 }
 
 #[tactic(auto, unfolding(crate::specs::Entries::entry_for))]
-fn timeout_entry(line: &[u8]) -> Result<Entry, LineFault>
-    ensures { result ≡ entry_for Keyword.Timeout (words line.now) }
+fn timeout_entry(line: &[u8], event: &mut Event) -> Result<Entry, LineFault>
+    ensures { entry_for Keyword.Timeout (words line.now) ≡ entered result event.new }
 {
     let word = read_word_alone(line)?;
     let party = read_timer_party(word)?;
-    Ok(Entry::Happens(Event::Timeout { party }))
+    *event = Event::Timeout { party };
+    Ok(Entry::Happens)
 }
 
 #[tactic(auto, unfolding(crate::specs::Entries::entry_for))]
-fn idle_entry(line: &[u8]) -> Result<Entry, LineFault>
-    ensures { result ≡ entry_for Keyword.Idle (words line.now) }
+fn idle_entry(line: &[u8], event: &mut Event) -> Result<Entry, LineFault>
+    ensures { entry_for Keyword.Idle (words line.now) ≡ entered result event.new }
 {
-    read_bare(line, Entry::Happens(Event::Idle))
+    if word_count(line) != 1 {
+        return Err(LineFault::BadCount);
+    }
+    *event = Event::Idle;
+    Ok(Entry::Happens)
 }
 
 #[tactic(auto, unfolding(crate::specs::Entries::entry_for))]
-fn alt_accept_entry(line: &[u8]) -> Result<Entry, LineFault>
-    ensures { result ≡ entry_for Keyword.AltAccept (words line.now) }
+fn alt_accept_entry(line: &[u8], event: &mut Event) -> Result<Entry, LineFault>
+    ensures { entry_for Keyword.AltAccept (words line.now) ≡ entered result event.new }
 {
-    read_bare(line, Entry::Happens(Event::AltAccept))
+    if word_count(line) != 1 {
+        return Err(LineFault::BadCount);
+    }
+    *event = Event::AltAccept;
+    Ok(Entry::Happens)
 }
 
 #[tactic(auto, unfolding(crate::specs::Entries::entry_for))]
-fn alt_reject_entry(line: &[u8]) -> Result<Entry, LineFault>
-    ensures { result ≡ entry_for Keyword.AltReject (words line.now) }
+fn alt_reject_entry(line: &[u8], event: &mut Event) -> Result<Entry, LineFault>
+    ensures { entry_for Keyword.AltReject (words line.now) ≡ entered result event.new }
 {
-    read_bare(line, Entry::Happens(Event::AltReject))
+    if word_count(line) != 1 {
+        return Err(LineFault::BadCount);
+    }
+    *event = Event::AltReject;
+    Ok(Entry::Happens)
 }
 
 #[tactic(auto, unfolding(crate::specs::Entries::entry_for))]
 fn end_entry(line: &[u8]) -> Result<Entry, LineFault>
-    ensures { result ≡ entry_for Keyword.End (words line.now) }
+    ensures { (event : Event) → entry_for Keyword.End (words line.now) ≡ entered result event }
 {
-    read_bare(line, Entry::End)
+    if word_count(line) != 1 {
+        return Err(LineFault::BadCount);
+    }
+    Ok(Entry::End)
 }
 
 /// The one word after the keyword.
@@ -440,17 +462,6 @@ fn read_word_alone<'a>(line: &'a [u8]) -> Result<&'a [u8], LineFault>
 {
     if word_count(line) == 2 {
         word_at(line, 1).ok_or(LineFault::BadCount)
-    } else {
-        Err(LineFault::BadCount)
-    }
-}
-
-/// The entry, where no word follows the keyword.
-fn read_bare(line: &[u8], entry: Entry) -> Result<Entry, LineFault>
-    ensures { result ≡ nothing_more (words line.now) entry }
-{
-    if word_count(line) == 1 {
-        Ok(entry)
     } else {
         Err(LineFault::BadCount)
     }

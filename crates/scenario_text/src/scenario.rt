@@ -4,7 +4,10 @@
 ghost use Rattle.std.specs.Prelude.{◌≡◌, IfOk, OnErr};
 ghost use Rattle.scenario_text.specs.Reading.{no_settings, answered, setup_of, finish_of, HasSetup};
 ghost use Rattle.scenario_text.specs.Reading as reading;
-ghost use Rattle.scenario_text.specs.Valid.{IsValidSetting, IsValidEntry, IsValidSetup};
+ghost use Rattle.scenario_text.specs.Contents as contents;
+ghost use Rattle.scenario_text.specs.Contents.{entry_with};
+ghost use Rattle.eap_base.specs.declared.event.Event.{Event};
+ghost use Rattle.scenario_text.specs.Valid.{IsValidSetting, IsValidTold, IsValidSetup};
 
 use crate::entry::{Entry, Setting, read_entry};
 use crate::fault::LineFault;
@@ -14,14 +17,14 @@ use eap_base::{Event, Setup};
 use std::marker::Model;
 
 /// What a line of a scenario says.
-#[derive(Drop)]
+#[derive(Clone, Copy, PartialEq, Eq, Debug)]
 pub enum Item {
     /// Nothing that happens: the header, a setting, or a line that is passed over.
     Nothing,
     /// The line `events`: the settings are whole, and `ScenarioReader::setup` gives them.
     Ready,
-    /// What happens next in the run.
-    Event(Event),
+    /// What happens next in the run: the event that was written.
+    Event,
     /// The line `end`.
     End,
 }
@@ -68,17 +71,17 @@ impl ScenarioReader {
         }
     }
 
-    /// Reads the next line, without its end. The first fault that the line meets refuses it, and then
-    /// the reader is as it was.
+    /// Reads the next line, without its end, and writes its event, if it has one, to `event`. The first
+    /// fault that the line meets refuses it, and then the reader is as it was.
     #[tactic(auto, unfolding(crate::specs::Reading::read_line))]
-    pub fn line(&mut self, line: &[u8]) -> Result<Item, LineFault>
-        ensures read { reading.read_line self.old line.now ≡ answered result self.new }
+    pub fn line(&mut self, line: &[u8], event: &mut Event) -> Result<Item, LineFault>
+        ensures read { reading.read_line self.old line.now ≡ answered result self.new event.new }
         ensures ready { IfOk result (λ item. HasSetup item self.new) }
         ensures unchanged { OnErr result (self.new ≡ self.old) }
     {
         match self.phase {
             Phase::Unread => self.read_header(line),
-            _ => self.read_body(line),
+            _ => self.read_body(line, event),
         }
     }
 
@@ -104,7 +107,7 @@ impl ScenarioReader {
 
     /// Reads line 1.
     fn read_header(&mut self, line: &[u8]) -> Result<Item, LineFault>
-        ensures read { reading.read_header line.now ≡ answered result self.new }
+        ensures read { (event : Event) → reading.read_header line.now ≡ answered result self.new event }
         ensures ready { IfOk result (λ item. HasSetup item self.new) }
         ensures unchanged { OnErr result (self.new ≡ self.old) }
     {
@@ -117,8 +120,8 @@ impl ScenarioReader {
     }
 
     /// Reads a line after the first.
-    fn read_body(&mut self, line: &[u8]) -> Result<Item, LineFault>
-        ensures read { reading.read_body self.old.phase self.old.settings line.now ≡ answered result self.new }
+    fn read_body(&mut self, line: &[u8], event: &mut Event) -> Result<Item, LineFault>
+        ensures read { reading.read_body self.old.phase self.old.settings line.now ≡ answered result self.new event.new }
         ensures ready { IfOk result (λ item. HasSetup item self.new) }
         ensures unchanged { OnErr result (self.new ≡ self.old) }
     {
@@ -128,21 +131,21 @@ impl ScenarioReader {
         if self.settings.is_crowded(line) {
             return Err(LineFault::BadCount);
         }
-        let entry = read_entry(line)?;
+        let entry = read_entry(line, event)?;
         self.take(entry)
     }
 
     /// Takes what a line says.
     fn take(&mut self, entry: Entry) -> Result<Item, LineFault>
-        requires { IsValidEntry entry }
-        ensures read { reading.read_entry self.old.phase self.old.settings entry ≡ answered result self.new }
+        requires { IsValidTold entry }
+        ensures read { (event : Event) → reading.read_entry self.old.phase self.old.settings (entry_with entry event) ≡ answered result self.new event }
         ensures ready { IfOk result (λ item. HasSetup item self.new) }
         ensures unchanged { OnErr result (self.new ≡ self.old) }
     {
         match entry {
             Entry::Set(setting) => self.take_setting(setting),
             Entry::Events => self.take_events(),
-            Entry::Happens(event) => self.take_event(event),
+            Entry::Happens => self.take_event(),
             Entry::End => self.take_end(),
         }
     }
@@ -150,7 +153,7 @@ impl ScenarioReader {
     /// Takes a setting. One that came before is `Repeated`, also where no setting may come any more.
     fn take_setting(&mut self, setting: Setting) -> Result<Item, LineFault>
         requires { IsValidSetting setting }
-        ensures read { reading.read_entry self.old.phase self.old.settings (Entry.Set setting) ≡ answered result self.new }
+        ensures read { (event : Event) → reading.read_entry self.old.phase self.old.settings (contents.Set setting) ≡ answered result self.new event }
         ensures ready { IfOk result (λ item. HasSetup item self.new) }
         ensures unchanged { OnErr result (self.new ≡ self.old) }
     {
@@ -169,7 +172,7 @@ impl ScenarioReader {
 
     /// Takes the line `events`, which makes the settings whole.
     fn take_events(&mut self) -> Result<Item, LineFault>
-        ensures read { reading.read_entry self.old.phase self.old.settings Entry.Events ≡ answered result self.new }
+        ensures read { (event : Event) → reading.read_entry self.old.phase self.old.settings contents.Events ≡ answered result self.new event }
         ensures ready { IfOk result (λ item. HasSetup item self.new) }
         ensures unchanged { OnErr result (self.new ≡ self.old) }
     {
@@ -185,21 +188,21 @@ impl ScenarioReader {
     }
 
     /// Takes an event, which comes after the line `events` and before the line `end`.
-    fn take_event(&mut self, event: Event) -> Result<Item, LineFault>
-        ensures read { reading.read_entry self.old.phase self.old.settings (Entry.Happens event) ≡ answered result self.new }
+    fn take_event(&mut self) -> Result<Item, LineFault>
+        ensures read { (event : Event) → reading.read_entry self.old.phase self.old.settings (contents.Happens event) ≡ answered result self.new event }
         ensures ready { IfOk result (λ item. HasSetup item self.new) }
         ensures unchanged { OnErr result (self.new ≡ self.old) }
     {
         match self.phase {
             Phase::Unread => Err(LineFault::NoHeader),
-            Phase::Events => Ok(Item::Event(event)),
+            Phase::Events => Ok(Item::Event),
             Phase::Settings | Phase::Ended => Err(LineFault::Order),
         }
     }
 
     /// Takes the line `end`.
     fn take_end(&mut self) -> Result<Item, LineFault>
-        ensures read { reading.read_entry self.old.phase self.old.settings Entry.End ≡ answered result self.new }
+        ensures read { (event : Event) → reading.read_entry self.old.phase self.old.settings contents.End ≡ answered result self.new event }
         ensures ready { IfOk result (λ item. HasSetup item self.new) }
         ensures unchanged { OnErr result (self.new ≡ self.old) }
     {

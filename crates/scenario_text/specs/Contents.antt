@@ -1,0 +1,24 @@
+-- What a line of a scenario holds after its header.
+use Rattle.eap_base.specs.declared.event.Event.{Event}
+use Rattle.scenario_text.specs.declared.entry.Setting.{Setting}
+use Rattle.scenario_text.specs.declared.entry.Entry as told
+use Rattle.scenario_text.specs.declared.fault.LineFault.{LineFault}
+use Rattle.std.specs.Prelude.{Result, Ok, Err}
+
+-- a setting, the line `events`, an event, the line `end`
+pub data Entry : Type 0 where
+  Set : Setting → Entry
+  Events : Entry
+  Happens : Event → Entry
+  End : Entry
+
+-- what is told of a line, with the event that was written where it tells of one
+abbrev pub entry_with : told.Entry → Event → Entry
+entry_with (told.TheVariants.Set v) event = Set v
+entry_with told.TheVariants.Events event = Events
+entry_with told.TheVariants.Happens event = Happens event
+entry_with told.TheVariants.End event = End
+
+abbrev pub entered : Result told.Entry LineFault → Event → Result Entry LineFault
+entered (Ok it) event = Ok (entry_with it event)
+entered (Err fault) event = Err fault
