@@ -1,7 +1,7 @@
 //! Lines of sources.
 
 use crate::row::Row;
-use eap_base::{Failed, LineReader, MemSource, NextLine, Octets, Source, SureSource};
+use eap_base::{Failed, LineReader, MemSource, NextLine, Octets, Source};
 use std::alloc::{AllocError, Global};
 use std::test::Fail;
 
@@ -31,7 +31,7 @@ fn has_lines<S: Source>(source: &mut S, wanted: &[u8], last: NextLine, number: u
 
 #[test]
 fn lines_are_the_same_in_every_cutting(rt: HostRuntime) -> Result<(), Fail> {
-    for piece in [1, 2, 3, 100] {
+    for piece in [1, 2, 7, 4096] {
         let mut source = MemSource::new(rt.alloc(), INPUT, piece, &[])?;
         let is_same = has_lines(&mut source, b"one\ntwo\r\n\nla\rst\r\n", NextLine::End, 4);
         assert!(rt; is_same, "{piece}");
@@ -39,10 +39,28 @@ fn lines_are_the_same_in_every_cutting(rt: HostRuntime) -> Result<(), Fail> {
     Ok(())
 }
 
+// How many octets a read gives, the read that fails, and the number of the last line then. A line that is
+// there whole comes before the next read.
+const FAILING: &str = "\
+1 07 02
+5 02 01
+7 02 02";
+
+/// Whether the first line comes, and then the read fails in the row's line.
+fn fails_after_one(alloc: Global, row: &str) -> Result<bool, AllocError> {
+    let mut row = Row::new(row);
+    let piece = row.number();
+    let call = u32::from(row.octet());
+    let mut source = MemSource::new(alloc, INPUT, piece.max(1), &[call])?;
+    let number = u32::from(row.octet());
+    Ok(has_lines(&mut source, b"one\n", NextLine::Read, number) && row.is_read())
+}
+
 #[test]
 fn a_read_that_fails_ends_the_reading(rt: HostRuntime) -> Result<(), Fail> {
-    let mut source = MemSource::new(rt.alloc(), INPUT, 1, &[7])?;
-    assert!(rt; has_lines(&mut source, b"one\n", NextLine::Read, 2));
+    for row in FAILING.lines() {
+        assert!(rt; fails_after_one(rt.alloc(), row)?, "{row}");
+    }
     Ok(())
 }
 
@@ -55,12 +73,13 @@ const LIMITS: &str = "\
 4097 0a long
 4096 0d0a long";
 
-/// Whether the reader meets first what the row says, in line 1.
-fn meets(alloc: Global, row: &str) -> Result<bool, AllocError> {
+/// Whether the reader meets first what the row says, in line 1, at a source that gives so many octets at a
+/// time.
+fn meets(alloc: Global, row: &str, piece: usize) -> Result<bool, AllocError> {
     let mut row = Row::new(row);
     let mut octets = vec![in alloc; b'x'; row.number()]?;
     octets.extend_from_slice(row.octets().as_slice())?;
-    let mut source = SureSource::new(alloc, &octets)?;
+    let mut source = MemSource::new(alloc, &octets, piece.max(1), &[])?;
     let mut reader = LineReader::new();
     let met = reader.next_line(&mut source);
     let wanted = match row.word() {
@@ -73,7 +92,9 @@ fn meets(alloc: Global, row: &str) -> Result<bool, AllocError> {
 #[test]
 fn a_line_has_a_limit(rt: HostRuntime) -> Result<(), Fail> {
     for row in LIMITS.lines() {
-        assert!(rt; meets(rt.alloc(), row)?, "{row}");
+        for piece in [1, 7, 4096] {
+            assert!(rt; meets(rt.alloc(), row, piece)?, "{row} by {piece}");
+        }
     }
     Ok(())
 }
@@ -94,12 +115,12 @@ impl Source for Ruled {
     ghost last_read_fault = { None };
 
     fn read(&mut self, buf: &mut [u8]) -> Result<usize, Failed> {
-        if self.left == 0 || buf.is_empty() {
-            return Ok(0);
+        let count = buf.len().min(self.left as usize);
+        for octet in buf[..count].iter_mut() {
+            self.left = self.left.saturating_sub(1);
+            *octet = if self.left % 64 == 0 { LF } else { b'x' };
         }
-        self.left -= 1;
-        buf[0] = if self.left % 64 == 0 { LF } else { b'x' };
-        Ok(1)
+        Ok(count)
     }
 }
 
