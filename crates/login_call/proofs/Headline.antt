@@ -11,8 +11,8 @@ use Rattle.eap_world.proofs.Whose.{honest_names_are_theirs}
 use Rattle.scenario_text.specs.Reading.{Reading, ReadLine, no_settings, read_line}
 use Rattle.scenario_text.specs.Valid.{AreValid, IsValidSetup, IsValidItem, IsValidReadLine}
 use Rattle.scenario_text.specs.declared.fault.LineFault.{LineFault}
-use Rattle.scenario_text.specs.declared.scenario.Item.{Item}
-use Rattle.scenario_text.specs.declared.scenario.Item.TheVariants as item
+use Rattle.scenario_text.specs.Items.{Item}
+use Rattle.scenario_text.specs.Items as item
 use Rattle.scenario_text.specs.declared.scenario.Phase.TheVariants as phase
 use Rattle.scenario_text.proofs.ValidReading.{no_settings-valid, read_line-valid}
 use Rattle.login_call.specs.Headline.{HonestEndsAgree}

@@ -18,8 +18,8 @@ use Rattle.scenario_text.specs.Packets.{packet_line}
 use Rattle.scenario_text.specs.Keys.{key_line}
 use Rattle.scenario_text.specs.declared.key_line.KeyLine.{KeyLine}
 use Rattle.scenario_text.specs.declared.fault.LineFault.{LineFault}
-use Rattle.scenario_text.specs.declared.scenario.Item.{Item}
-use Rattle.scenario_text.specs.declared.scenario.Item.TheVariants as item
+use Rattle.scenario_text.specs.Items.{Item}
+use Rattle.scenario_text.specs.Items as item
 use Rattle.trace_text.specs.Run.{start_text, told_text, end_text}
 use Rattle.trace_text.proofs.Plain.{plain, over, none, join}
 use Rattle.trace_text.proofs.PlainAnswers.{begins_result, packet_plain, packets_plain, key_plain}

@@ -10,8 +10,8 @@ use Rattle.eap_world.specs.declared.world.Methods.{Methods}
 use Rattle.scenario_text.specs.Words.{fault_word}
 use Rattle.scenario_text.specs.Reading.{Reading, ReadLine, read_line, finish_of}
 use Rattle.scenario_text.specs.declared.fault.LineFault.{LineFault}
-use Rattle.scenario_text.specs.declared.scenario.Item.{Item}
-use Rattle.scenario_text.specs.declared.scenario.Item.TheVariants as item
+use Rattle.scenario_text.specs.Items.{Item}
+use Rattle.scenario_text.specs.Items as item
 use Rattle.trace_text.specs.Run.{start_text, told_text, end_text}
 use Rattle.login_call.specs.Commands.{Took, Closing, goes, refuses, ends, misses}
 use Rattle.login_call.specs.declared.replay.Replay.{Replay}

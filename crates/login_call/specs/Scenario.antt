@@ -8,8 +8,8 @@ use Rattle.eap_world.specs.World.{WorldNow, world_made, world_start, run_after, 
 use Rattle.scenario_text.specs.Words.{fault_word}
 use Rattle.scenario_text.specs.Reading.{Reading, ReadLine, no_settings, read_line, finish_of}
 use Rattle.scenario_text.specs.declared.fault.LineFault.{LineFault}
-use Rattle.scenario_text.specs.declared.scenario.Item.{Item}
-use Rattle.scenario_text.specs.declared.scenario.Item.TheVariants as item
+use Rattle.scenario_text.specs.Items.{Item}
+use Rattle.scenario_text.specs.Items as item
 use Rattle.scenario_text.specs.declared.scenario.Phase.TheVariants as phase
 use Rattle.trace_text.specs.Lines.{line_text}
 use Rattle.trace_text.specs.Run.{start_text, told_text, end_text}

@@ -1,14 +1,15 @@
 //! The commands `replay` and `replay names`: a scenario is read line by line, and each event is run as it
 //! comes.
 
-ghost use Rattle.std.specs.Prelude.{◌≡◌, None, Some, IfOk};
-ghost use Rattle.scenario_text.specs.Valid.{IsValidSetup};
+ghost use Rattle.std.specs.Prelude.{◌≡◌, None, Some, Ok, IfOk, IsOk};
+ghost use Rattle.scenario_text.specs.Reading.{setup_of};
+ghost use Rattle.eap_base.specs.declared.setup.Setup.{Setup};
 ghost use Rattle.login_call.specs.Replay.{IsReady, seen_of};
 
 use crate::beginning::world_of;
 use crate::command::{Close, Command, Next, Trouble};
 use crate::status::Status;
-use eap_base::{Event, Failed, Setup, Sink};
+use eap_base::{Event, Failed, Sink};
 use eap_method::{PeerMethod, ServerMethod};
 use eap_world::{Methods, World};
 use scenario_text::{Item, ScenarioReader};
@@ -58,16 +59,20 @@ impl<P: PeerMethod, S: ServerMethod> Replay<P, S> {
 
     /// The line `events`: the world starts.
     #[tactic(auto, unfolding(trace_text::specs::Writes::Appends))]
-    fn start<W: Sink>(&mut self, sink: &mut W, setup: Setup) -> Result<Next, Trouble>
-        requires valid { IsValidSetup setup }
+    fn start<W: Sink>(&mut self, sink: &mut W) -> Result<Next, Trouble>
+        requires whole { IsOk (setup_of self.old.reader.settings) }
         requires ready { IsReady P.peer_shown S.server_shown self.old 0 }
         ensures ready_after { IfOk result (λ next. IsReady P.peer_shown S.server_shown self.new 0) }
-        ensures answers { AnswersLine W.written W.write_faults W.last_write_fault result sink.old sink.new
+        ensures answers { (setup : Setup) → setup_of self.old.reader.settings ≡ Ok setup
+            → AnswersLine W.written W.write_faults W.last_write_fault result sink.old sink.new
             (starts (seen_of P.peer_shown S.server_shown self.old) setup) true (seen_of P.peer_shown S.server_shown self.new) }
     {
         if self.world.is_some() {
             return Ok(Next::Goes);
         }
+        let Ok(setup) = self.reader.setup() else {
+            return Ok(Next::Goes);
+        };
         match self.methods.take() {
             None => Ok(Next::Goes),
             Some(methods) => {
@@ -145,10 +150,11 @@ impl<P: PeerMethod, S: ServerMethod> Command for Replay<P, S> {
 
     #[tactic(auto, unfolding(crate::specs::Replay::replay_took, crate::specs::Replay::replay_lacks))]
     fn take<W: Sink>(&mut self, sink: &mut W, line: &[u8]) -> Result<Next, Trouble> {
-        match self.reader.line(line) {
+        let mut event = Event::Idle;
+        match self.reader.line(line, &mut event) {
             Ok(Item::Nothing) => Ok(Next::Goes),
-            Ok(Item::Ready(setup)) => self.start(sink, setup),
-            Ok(Item::Event(event)) => self.step(sink, &event),
+            Ok(Item::Ready) => self.start(sink),
+            Ok(Item::Event) => self.step(sink, &event),
             Ok(Item::End) => Ok(Next::Goes),
             Err(fault) => Ok(Next::Refuses(fault.word(), Status::Refused)),
         }
