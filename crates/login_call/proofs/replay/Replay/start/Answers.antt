@@ -13,4 +13,4 @@ returns-in-Ok-write_start-clause-ready_after g c =
     let peer_shown = g.P.PeerMethod.peer_shown in
     let server_shown = g.S.ServerMethod.server_shown in
     ready_in peer_shown server_shown _ c.start.new.self refl
-    (start_starts _ (now_of peer_shown server_shown c.start.new.self) c.in-Ok.told c.in-Ok.ensures.told)
+    (start_starts _ (now_of peer_shown server_shown c.start.new.self) c.in-Ok-start.told c.in-Ok-start.ensures.told)
