@@ -5,9 +5,8 @@ use Rattle.eap_base.specs.declared.event.Event.TheVariants as event
 use Rattle.eap_base.specs.declared.setup.Port.{Port}
 use Rattle.eap_base.specs.declared.setup.Port.TheVariants as port
 use Rattle.server_machine.specs.Inputs.{start}
-use Rattle.eap_world.specs.World.{Acted, Call, WorldNow, WorldOutcome, act, call_at, call_of, call_with, called, called_unless, counted, first_skip, packet_numbered, run_after, skip_table, skipped, to_server, told_of, world_acted, world_outcome, world_step}
-use Rattle.eap_world.specs.declared.act.Action.TheVariants.{Skipped}
-use Rattle.eap_world.specs.declared.act.Sent.{Sent}
+use Rattle.eap_world.specs.World.{Acted, Call, Skipped, WorldNow, WorldOutcome, act, call_at, call_of, call_with, called, called_unless, counted, first_skip, run_after, skip_table, skipped, to_server, told_of, world_acted, world_outcome, world_step}
+use Rattle.eap_world.specs.Sent.{Sent, packet_numbered}
 use Rattle.eap_world.specs.declared.told.Skip.{Skip}
 
 -- what comes of an event: nothing but the count of events changes, or a party is called; none starts the server

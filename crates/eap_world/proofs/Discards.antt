@@ -12,9 +12,7 @@ use Rattle.peer_machine.proofs.Discards as peer_discards
 use Rattle.server_machine.specs.Inputs.{server_takes}
 use Rattle.server_machine.proofs.Discards as server_discards
 use Rattle.eap_world.specs.Laws.{HasToldReports, KeepsBothEnds, DiscardsKeep, RunsTellReports}
-use Rattle.eap_world.specs.World.{Call, Parties, WorldNow, WorldOutcome, acted, booked_of, called, did_by, end_of, first_report, has_held, held_after, held_by, is_delivery, named_by, report_of, sent_to, to_peer, to_server, world_made, world_start, world_step}
-use Rattle.eap_world.specs.declared.act.Action.TheVariants.{Called}
-use Rattle.eap_world.specs.declared.act.Did.{Did}
+use Rattle.eap_world.specs.World.{Call, Called, Did, Parties, WorldNow, WorldOutcome, acted, booked_of, called, did_by, end_of, first_report, has_held, held_after, held_by, is_delivery, named_by, report_of, sent_to, to_peer, to_server, world_made, world_start, world_step}
 use Rattle.eap_world.specs.declared.book.End.{End}
 use Rattle.eap_world.specs.declared.world.Held.{Held}
 use Rattle.server_machine.specs.Inputs.{start}
@@ -47,11 +45,11 @@ steps_keep w _ (skips skip) is_discard = cc is_discard
 steps_keep w _ (calls (to_peer input) later) is_discard =
     let out = peer_takes w.parties.peer input in
     let same = peer_discards.discards_keep w.parties.peer input is_discard in
-    call_keeps w (did_by party.Peer (is_delivery (to_peer input)) out.step) _ (ap (λ peer. record w.parties { peer = peer }) same.all) same.sent same.tags
+    call_keeps w (did_by w.parties.mode party.Peer (is_delivery (to_peer input)) out.step) _ (ap (λ peer. record w.parties { peer = peer }) same.all) same.sent same.tags
 steps_keep w _ (calls (to_server input) later) is_discard =
     let out = server_takes w.parties.server input in
     let same = server_discards.discards_keep w.parties.server input is_discard in
-    call_keeps w (did_by party.Server (is_delivery (to_server input)) out.step) _
+    call_keeps w (did_by w.parties.mode party.Server (is_delivery (to_server input)) out.step) _
     (ap (λ server. record w.parties { server = server }) same.all) same.sent same.tags
 
 pub discards_keep : DiscardsKeep

@@ -12,9 +12,9 @@ use Rattle.eap_world.specs.declared.book.Use.TheVariants.{Accepted, Made}
 use Rattle.eap_world.specs.Agreement.{HasFewTags, FewTags}
 use Rattle.eap_world.specs.World.{Parties}
 use Rattle.eap_world.specs.Records.{AreFew, same_use, tags_by}
-use Rattle.eap_world.proofs.Agreement.{every_run_stands}
+use Rattle.eap_world.proofs.HonestRuns.{every_run_stands}
 use Rattle.eap_world.proofs.PeerKeeps.{peer_few}
-use Rattle.eap_world.proofs.Running.{BothStand}
+use Rattle.eap_world.proofs.EndsStand.{BothStand}
 use Rattle.eap_world.proofs.ServerKeeps.{server_few}
 
 -- one more entry is in one of the four lists

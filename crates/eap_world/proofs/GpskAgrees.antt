@@ -16,13 +16,13 @@ use Rattle.eap_method.specs.Peer.{peer_report_of}
 use Rattle.eap_method.specs.Server.{server_report_of, gpsk_report}
 use Rattle.peer_machine.specs.PeerTable.{PeerNow, selected_report, peer_reports}
 use Rattle.server_machine.specs.ServerTable.{ServerNow, current_report, server_reports}
-use Rattle.eap_world.specs.Verdict.{judged, peer_agrees, server_agrees, is_welcome}
+use Rattle.eap_world.specs.Judgement.{judged, peer_agrees, server_agrees, is_welcome}
 use Rattle.eap_world.specs.Records.{IsIn}
 use Rattle.eap_world.specs.PeerStands.{GpskBegun, gpsk2_record}
 use Rattle.eap_world.specs.ServerStands.{GpskChecked, gpsk2_taken}
 use Rattle.eap_world.proofs.Fields.{fronts, sized_fronts, suite_fronts, read_rands}
 use Rattle.eap_world.proofs.Among.{among_two}
-use Rattle.eap_world.proofs.Agrees.{reports_agree}
+use Rattle.eap_world.proofs.EqualReports.{reports_agree}
 
 -- both ends speak of the same login
 pub record IsSame (p : peer.Login) (list : List ℕ) (s : server.Login) : Type 0 where

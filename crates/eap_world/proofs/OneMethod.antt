@@ -5,7 +5,7 @@ use Rattle.std.proofs.lemmas.Bool.{false≢true, eq-eqb}
 use Rattle.eap_packet.specs.declared.state.State.{State}
 use Rattle.eap_packet.specs.declared.state.State.TheVariants as state
 use Rattle.eap_method.specs.Steps.{is_end}
-use Rattle.eap_world.specs.Verdict.{is_success}
+use Rattle.eap_world.specs.Judgement.{is_success}
 
 some_same : (one other : ℕ) → Some one ≡ Some other → one ≡ other
 some_same one other same = cc

@@ -36,7 +36,7 @@ use Rattle.peer_machine.specs.PeerTable.{PeerNow, PeerAnswer, with_vars, peer_ma
 use Rattle.peer_machine.specs.Rows as rows
 use Rattle.peer_machine.specs.Rows.{Calls, first, again}
 use Rattle.peer_machine.proofs.PeerRows.{peer_answers_are_rows}
-use Rattle.eap_world.specs.Verdict.{is_success}
+use Rattle.eap_world.specs.Judgement.{is_success}
 use Rattle.eap_world.specs.Records.{AreFew}
 use Rattle.eap_world.specs.PeerStands.{psk2_record, psk3_taken, gpsk2_record, gpsk3_taken, result_for, PskPeerTags, psk_unset, psk_fresh, psk_waits, psk_over, GpskPeerTags, gpsk_unset, gpsk_fresh, gpsk_waits, gpsk_confirmed, gpsk_failed, gpsk_barred, PeerTags, none_selected, psk_selected, gpsk_selected, HasSucceeded, psk_succeeded, gpsk_succeeded, PeerStands}
 use Rattle.eap_world.proofs.OneMethod.{apart, goes_on}

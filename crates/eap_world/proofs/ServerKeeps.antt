@@ -42,7 +42,7 @@ use Rattle.server_machine.proofs.ServerRows.{server_answers_are_rows}
 use Rattle.server_machine.specs.declared.variables.Progress.{Progress}
 use Rattle.server_machine.specs.declared.variables.Progress.TheVariants as progress
 use Rattle.server_machine.specs.declared.variables.ServerVariables.{ServerVariables}
-use Rattle.eap_world.specs.Verdict.{is_success}
+use Rattle.eap_world.specs.Judgement.{is_success}
 use Rattle.eap_world.specs.Records.{AreFew, AreNone, untagged}
 use Rattle.eap_world.specs.ServerStands.{psk2_record, GpskChecked, gpsk2_taken, PskServerTags, psk_asked, psk_checked, psk_refused, psk_over, GpskServerTags, gpsk_asked, gpsk_refusing, gpsk_refused, gpsk_barring, gpsk_checked, gpsk_barred, gpsk_confirmed, ServerTags, none_current, identity_current, psk_current, gpsk_current, HasSucceeded, psk_succeeded, gpsk_succeeded, ServerStands}
 use Rattle.eap_world.proofs.OneMethod.{apart, goes_on}

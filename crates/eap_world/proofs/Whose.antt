@@ -16,7 +16,7 @@ use Rattle.eap_method.specs.PskServer as psk_server
 use Rattle.eap_method.specs.Server.{side_of}
 use Rattle.eap_world.specs.Book.{first_broken, tags_verdict}
 use Rattle.eap_world.specs.declared.book.TagsVerdict.TheVariants.{Honest}
-use Rattle.eap_world.specs.Verdict.{verdict_of}
+use Rattle.eap_world.specs.Judgement.{verdict_of}
 use Rattle.eap_world.specs.declared.verdict.Verdict.{Verdict}
 use Rattle.eap_world.specs.declared.verdict.Verdict.TheVariants.{Agree}
 use Rattle.eap_world.specs.World.{WorldNow}
@@ -24,9 +24,9 @@ use Rattle.eap_world.specs.declared.book.End.TheVariants as end
 use Rattle.eap_world.specs.Agreement.{IsWhole, AreTheirs, TakesFirstSuite, TheirsWhereHonest, HonestNamesAreTheirs, run_of}
 use Rattle.eap_world.specs.PeerStands.{PskBegun, GpskBegun}
 use Rattle.eap_world.specs.ServerStands.{PskChecked, GpskChecked}
-use Rattle.eap_world.proofs.Agreeing.{BothSucceed, by_psk, by_gpsk, ends_succeed}
-use Rattle.eap_world.proofs.Agreement.{none_if_honest, every_run_stands, agree_in}
-use Rattle.eap_world.proofs.Booked.{honest_tags}
+use Rattle.eap_world.proofs.SucceedingEnds.{BothSucceed, by_psk, by_gpsk, ends_succeed}
+use Rattle.eap_world.proofs.HonestRuns.{none_if_honest, every_run_stands, agree_in}
+use Rattle.eap_world.proofs.TagsOfEnds.{honest_tags}
 use Rattle.eap_world.proofs.GpskAgrees as gpsk
 use Rattle.eap_world.proofs.PskAgrees as psk
 

@@ -1,6 +1,6 @@
 -- The Identity round (RFC 3748 section 2), computed from the definitions alone.
 use Rattle.std.proofs.Common.{◌≡◌, List, [], ◌∷◌, true, false, refl, Some, None}
-use Rattle.std.specs.Prelude.{codes, replicate}
+use Rattle.std.specs.Prelude.{codes, map, replicate}
 use Rattle.eap_base.specs.declared.setup.Setup.{Setup}
 use Rattle.eap_base.specs.declared.setup.Mode.TheVariants as mode
 use Rattle.eap_base.specs.declared.setup.Accepts.TheVariants.{One}
@@ -21,7 +21,7 @@ use Rattle.eap_method.specs.declared.values.Decision.TheVariants.{Fail}
 use Rattle.peer_machine.specs.PeerTable.{peer_deliver}
 use Rattle.server_machine.specs.ServerTable.{server_start, server_deliver, select_action}
 use Rattle.server_machine.specs.declared.variables.Progress.TheVariants.{End}
-use Rattle.eap_world.specs.World.{world_made, world_start, act, world_step, run_after, told_after}
+use Rattle.eap_world.specs.World.{world_made, world_start, act, world_step, outcomes_after, run_after}
 
 -- alice logs in at the server srv, which sends a Request again four times; no end has a method
 example_setup : Setup
@@ -40,6 +40,7 @@ three = Deliver 1 ∷ Deliver 2 ∷ Deliver 3 ∷ []
 identity_round : run_after (world_start (world_made example_setup)).after three
     ≡ record {
       parties = record {
+        mode = mode.Alone;
         peer = record {
           vars = record {
             setup = example_setup.peer;
@@ -80,14 +81,14 @@ unfolding run_after world_start world_step act server_start server_deliver peer_
 identity_round = refl
 
 -- what is told of its events
-identity_round-told : told_after (world_start (world_made example_setup)).after three
+identity_round_told : map (λ out. out.told) (outcomes_after (world_start (world_made example_setup)).after three)
     ≡ record {
       event = 1;
       party = Some party.Peer;
       path = state.Received ∷ state.Identity ∷ state.SendResponse ∷ state.Idle ∷ [];
       cause = None;
       skip = None;
-      sent = Some (record { number = 2; port = port.Server; packet = 2 ∷ 0 ∷ 0 ∷ 10 ∷ 1 ∷ codes "alice" });
+      sent = Some (record { number = 2; port = port.Server });
       named = None;
     }
     ∷ record {
@@ -96,7 +97,7 @@ identity_round-told : told_after (world_start (world_made example_setup)).after 
       path = state.Received ∷ state.IntegrityCheck ∷ state.MethodResponse ∷ state.SelectAction ∷ state.Failure ∷ [];
       cause = None;
       skip = None;
-      sent = Some (record { number = 3; port = port.Peer; packet = 4 ∷ 0 ∷ 0 ∷ 4 ∷ [] });
+      sent = Some (record { number = 3; port = port.Peer });
       named = None;
     }
     ∷ record {
@@ -108,5 +109,5 @@ identity_round-told : told_after (world_start (world_made example_setup)).after 
       sent = None;
       named = None;
     } ∷ []
-unfolding told_after world_start world_step act server_start server_deliver peer_deliver select_action next_kind packet_of fault spelled example_setup three peer.views_begun server.views_begun peer.peer_report_of server.server_report_of
-identity_round-told = refl
+unfolding outcomes_after world_start world_step act server_start server_deliver peer_deliver select_action next_kind packet_of fault spelled example_setup three peer.views_begun server.views_begun peer.peer_report_of server.server_report_of
+identity_round_told = refl

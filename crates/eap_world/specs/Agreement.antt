@@ -1,5 +1,5 @@
 -- Agreement over an altering network.
-use Rattle.std.specs.Prelude.{◌≡◌, ◌≤◌, List, length, true, false, Some}
+use Rattle.std.specs.Prelude.{◌≡◌, ◌≤◌, List, [], ◌∷◌, ◌++◌, length, true, false, Some}
 use Rattle.eap_base.specs.declared.event.Event.{Event}
 use Rattle.eap_base.specs.declared.setup.Setup.{Setup}
 use Rattle.eap_base.specs.declared.setup.Suite.{Suite}
@@ -10,7 +10,8 @@ use Rattle.eap_base.specs.Users.{user_of}
 use Rattle.login_policy.specs.Policy.{picked_suite}
 use Rattle.eap_method.specs.declared.values.Report.{Report}
 use Rattle.eap_method.specs.GpskTags.{suite_list}
-use Rattle.eap_method.specs.Peer.{key_for}
+use Rattle.eap_method.specs.Peer.{PeerShown, key_for}
+use Rattle.eap_method.specs.Server.{ServerShown}
 use Rattle.peer_machine.specs.PeerTable.{peer_reports}
 use Rattle.server_machine.specs.ServerTable.{server_reports}
 use Rattle.eap_world.specs.Book.{tags_verdict}
@@ -18,9 +19,9 @@ use Rattle.eap_world.specs.declared.book.TagsVerdict.TheVariants.{Honest}
 use Rattle.eap_world.specs.declared.book.End.{End}
 use Rattle.eap_world.specs.declared.book.Entry.{Entry}
 use Rattle.eap_world.specs.declared.book.Use.{Use}
-use Rattle.eap_world.specs.Verdict.{verdict_of, is_success}
+use Rattle.eap_world.specs.Judgement.{verdict_of, is_success}
 use Rattle.eap_world.specs.declared.verdict.Verdict.TheVariants.{Agree, Apart}
-use Rattle.eap_world.specs.World.{WorldNow, world_made, world_start, run_after}
+use Rattle.eap_world.specs.World.{WorldNow, WorldValue, now_of, world_made, world_start, run_after}
 use Rattle.eap_world.specs.Records.{tags_by}
 
 -- a setup as a scenario gives it: both ends are sound, and each nonce has 32 octets
@@ -90,3 +91,18 @@ pub record HasFewTags (book : List Entry) : Type 0 where
 -- the book stays small however many events there are
 abbrev pub FewTags : Type 0
 FewTags = (setup : Setup) (events : List Event) → HasFewTags (run_of setup events).book
+
+-- what a start, or an event, makes of a world of a run: it goes on with the run, and its book stays small
+module _ {P S : Type 0} (peer_shown : P → PeerShown) (server_shown : S → ServerShown) where
+  abbrev pub BeginsRun : WorldValue P S → WorldValue P S → Type 0
+  BeginsRun before after = (setup : Setup) → now_of peer_shown server_shown before ≡ world_made setup → now_of peer_shown server_shown after ≡ run_of setup []
+
+  abbrev pub BeginsSmall : WorldValue P S → WorldValue P S → Type 0
+  BeginsSmall before after = (setup : Setup) → now_of peer_shown server_shown before ≡ world_made setup → HasFewTags after.book
+
+  abbrev pub GoesOn : Event → WorldValue P S → WorldValue P S → Type 0
+  GoesOn event before after = (setup : Setup) (events : List Event)
+      → now_of peer_shown server_shown before ≡ run_of setup events → now_of peer_shown server_shown after ≡ run_of setup (events ++ (event ∷ []))
+
+  abbrev pub StaysSmall : WorldValue P S → WorldValue P S → Type 0
+  StaysSmall before after = (setup : Setup) (events : List Event) → now_of peer_shown server_shown before ≡ run_of setup events → HasFewTags after.book

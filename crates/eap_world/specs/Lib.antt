@@ -1,6 +1,8 @@
 pub mod Book
+pub mod Sent
+pub mod Store
 pub mod World
-pub mod Verdict
+pub mod Judgement
 pub mod Laws
 pub mod Records
 pub mod PeerStands

@@ -16,7 +16,7 @@ use Rattle.eap_method.specs.Peer.{PeerViews, credential_for}
 use Rattle.eap_method.specs.PskPeer as psk
 use Rattle.eap_method.specs.PskTags.{ak_record, channel_nonce, done_success, done_failure}
 use Rattle.peer_machine.specs.PeerTable.{PeerNow, is_fail}
-use Rattle.eap_world.specs.Verdict.{is_success}
+use Rattle.eap_world.specs.Judgement.{is_success}
 
 -- a login by EAP-PSK that the peer has begun: what it keeps is its setup's, or was read of a PSK-1
 pub record PskBegun (setup : PeerSetup) (login : psk.Login) : Type 0 where

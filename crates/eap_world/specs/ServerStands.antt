@@ -18,7 +18,7 @@ use Rattle.eap_method.specs.PskServer as psk
 use Rattle.eap_method.specs.PskTags.{ak_record, tek_record, channel_nonce, done_success}
 use Rattle.eap_method.specs.Server.{ServerViews, side_of}
 use Rattle.server_machine.specs.ServerTable.{ServerNow, identity, is_proposed}
-use Rattle.eap_world.specs.Verdict.{is_success}
+use Rattle.eap_world.specs.Judgement.{is_success}
 use Rattle.eap_world.specs.Records.{AreNone}
 
 -- a login by EAP-PSK of a user: what the server keeps is its setup's, or was read of a PSK-2

@@ -1,6 +1,8 @@
 -- Both ends over events: what was sent, the book of tags, what each event does, and the run.
-use Rattle.std.specs.Prelude.{◌≡◌, ◌≤◌, ℕ, ◌+◌, ◌-◌, ◌*◌, List, [], ◌∷◌, ◌++◌, length, take, drop, Bool, true, false, ◌==◌, nat_lt, nat_le, if◌then◌else◌, Option, Some, None, slice_get, slice_index, bit_xor, is_some, is_none, map, option_map}
+use Rattle.std.specs.Prelude.{◌≡◌, ◌≤◌, ℕ, ◌+◌, ◌-◌, ◌*◌, List, [], ◌∷◌, ◌++◌, length, take, drop, Bool, true, false, ◌==◌, nat_lt, nat_le, if◌then◌else◌, Option, Some, None, slice_index, bit_xor, is_some, is_none, map, option_map}
 use Rattle.eap_base.specs.declared.setup.Setup.{Setup}
+use Rattle.eap_base.specs.declared.setup.Mode.{Mode}
+use Rattle.eap_base.specs.declared.setup.Mode.TheVariants as mode
 use Rattle.eap_base.specs.declared.setup.Port.{Port}
 use Rattle.eap_base.specs.declared.setup.Port.TheVariants as port
 use Rattle.eap_base.specs.declared.setup.Party.{Party}
@@ -10,8 +12,7 @@ use Rattle.eap_base.specs.declared.event.Event.TheVariants as event
 use Rattle.eap_packet.specs.declared.state.State.{State}
 use Rattle.eap_method.specs.Peer.{PeerShown, peer_kinds}
 use Rattle.eap_method.specs.Server.{ServerShown, server_kinds}
-use Rattle.eap_method.specs.Steps.{is_end}
-use Rattle.eap_method.specs.Steps.{Step}
+use Rattle.eap_method.specs.Steps.{Step, step_with, is_end}
 use Rattle.eap_method.specs.declared.tags.Tags.{Tags}
 use Rattle.eap_method.specs.declared.values.Report.{Report}
 use Rattle.peer_machine.specs.Inputs as peer_inputs
@@ -24,11 +25,11 @@ use Rattle.server_machine.specs.ServerTable as servers
 use Rattle.server_machine.specs.ServerTable.{ServerValue, ServerNow, server_made, server_reports, is_started}
 use Rattle.server_machine.specs.declared.variables.ServerVariables.{ServerVariables}
 use Rattle.eap_world.specs.Book.{booked}
-use Rattle.eap_world.specs.declared.act.Action.{Action}
-use Rattle.eap_world.specs.declared.act.Action.TheVariants.{Skipped, Called}
-use Rattle.eap_world.specs.declared.act.Did.{Did}
+use Rattle.eap_world.specs.Sent.{Sent, packet_numbered}
+use Rattle.eap_world.specs.declared.act.Action as brief_action
+use Rattle.eap_world.specs.declared.act.Action.TheVariants as brief
+use Rattle.eap_world.specs.declared.act.Did as brief_did
 use Rattle.eap_world.specs.declared.act.Machines.{Machines}
-use Rattle.eap_world.specs.declared.act.Sent.{Sent}
 use Rattle.eap_world.specs.declared.book.Entry.{Entry}
 use Rattle.eap_world.specs.declared.book.End.{End}
 use Rattle.eap_world.specs.declared.book.End.TheVariants as end
@@ -40,9 +41,10 @@ use Rattle.eap_world.specs.declared.told.Skip.{Skip}
 use Rattle.eap_world.specs.declared.told.Skip.TheVariants.{NoParty, Unsent, Place, Ended, NoTimer}
 use Rattle.eap_world.specs.declared.world.Held.{Held}
 
--- a world as its fields show it: both machines, the packets sent so far in order, the book of tags, the
--- counts, which ends have held a report, and whether the world has started
+-- a world as its fields show it: its mode, both machines, the packets sent so far in order, the book of tags,
+-- the counts, which ends have held a report, and whether the world has started
 pub record WorldValue (P S : Type 0) : Type 0 where
+  pub mode : Mode
   pub peer : PeerValue P
   pub server : ServerValue S
   pub sent : List Sent
@@ -51,8 +53,9 @@ pub record WorldValue (P S : Type 0) : Type 0 where
   pub held : Held
   pub started : Bool
 
--- what the parties are, where the objects show their methods and views
+-- in which mode the parties run, and what they are, where the objects show their methods and views
 pub record Parties : Type 0 where
+  pub mode : Mode
   pub peer : PeerNow
   pub server : ServerNow
 
@@ -66,12 +69,12 @@ pub record WorldNow : Type 0 where
   pub started : Bool
 
 abbrev pub parties_of : {P S : Type 0} → (P → PeerShown) → (S → ServerShown) → Machines P S → Parties
-parties_of peer_shown server_shown m = record { peer = peers.now_of peer_shown m.peer; server = servers.now_of server_shown m.server }
+parties_of peer_shown server_shown m = record { mode = m.mode; peer = peers.now_of peer_shown m.peer; server = servers.now_of server_shown m.server }
 
 -- what a world is, where the objects show their methods and views
 abbrev pub now_of : {P S : Type 0} → (P → PeerShown) → (S → ServerShown) → WorldValue P S → WorldNow
 now_of peer_shown server_shown w = record {
-  parties = parties_of peer_shown server_shown (record { peer = w.peer; server = w.server });
+  parties = parties_of peer_shown server_shown (record { mode = w.mode; peer = w.peer; server = w.server });
   sent = w.sent;
   book = w.book;
   counts = w.counts;
@@ -88,10 +91,24 @@ abbrev pub kinds_of : {P S : Type 0} → (P → PeerShown) → (S → ServerShow
 kinds_of peer_shown server_shown peer server =
     record { peer = peer_kinds (map peer_shown peer); server = server_kinds (map server_shown server) }
 
+-- the objects of both ends are of the same methods before and after
+abbrev pub HaveSameKinds : {P S : Type 0} → (P → PeerShown) → (S → ServerShown) → List P → List S → List P → List S → Type 0
+HaveSameKinds peer_shown server_shown peer server peer_after server_after =
+    kinds_of peer_shown server_shown peer_after server_after ≡ kinds_of peer_shown server_shown peer server
+
+abbrev pub KeepsKinds : {P S : Type 0} → (P → PeerShown) → (S → ServerShown) → WorldValue P S → WorldValue P S → Type 0
+KeepsKinds peer_shown server_shown before after =
+    HaveSameKinds peer_shown server_shown before.peer.methods before.server.methods after.peer.methods after.server.methods
+
+-- the machines run in the same mode before and after, over objects of the same methods
+pub record RunAlike {P S : Type 0} (peer_shown : P → PeerShown) (server_shown : S → ServerShown) (before after : Machines P S) : Type 0 where
+  pub mode : after.mode ≡ before.mode
+  pub kinds : HaveSameKinds peer_shown server_shown before.peer.methods before.server.methods after.peer.methods after.server.methods
+
 -- the world before its start
 abbrev pub world_made : Setup → WorldNow
 world_made setup = record {
-  parties = record { peer = peer_made setup.peer; server = server_made setup.server setup.first_id setup.max_retrans };
+  parties = record { mode = setup.mode; peer = peer_made setup.peer; server = server_made setup.server setup.first_id setup.max_retrans };
   sent = [];
   book = [];
   counts = record { events = 0; deliveries = 0; discards = 0 };
@@ -110,11 +127,22 @@ report_of parties party.Peer = peer_reports parties.peer
 report_of parties party.Pass = None
 report_of parties party.Server = server_reports parties.server
 
--- where a party's packets go; the pass-through isn't there
-abbrev pub goes_to : Party → Port
-goes_to party.Peer = port.Server
-goes_to party.Pass = port.Peer
-goes_to party.Server = port.Peer
+-- where a party's packets go: from end to end alone, through the pass-through else. What the pass-through
+-- itself sends to the peer is all that is here of it
+abbrev pub goes_to : Party → Mode → Port
+goes_to party.Peer mode.Alone = port.Server
+goes_to party.Peer mode.Through = port.PassPeer
+goes_to party.Server mode.Alone = port.Peer
+goes_to party.Server mode.Through = port.PassServer
+goes_to party.Pass mode = port.Peer
+
+-- nobody stands at a port: the pass-through's two are there in its mode alone
+abbrev pub is_absent : Mode → Port → Bool
+is_absent mode.Through port = false
+is_absent mode.Alone port.Peer = false
+is_absent mode.Alone port.Server = false
+is_absent mode.Alone port.PassPeer = true
+is_absent mode.Alone port.PassServer = true
 
 -- ---- an event is skipped, or is a call of one party
 
@@ -128,10 +156,6 @@ is_delivery (to_peer (peer_inputs.octets octets)) = true
 is_delivery (to_server (server_inputs.octets octets)) = true
 is_delivery _ = false
 
--- the packet of a number, from 1; none ever has the number 0
-abbrev pub packet_numbered : List Sent → ℕ → Option Sent
-packet_numbered sent n = if n == 0 then None else slice_get sent (n - 1)
-
 abbrev pub octets_of : Option Sent → List ℕ
 octets_of None = []
 octets_of (Some packet) = packet.octets
@@ -140,19 +164,14 @@ octets_of (Some packet) = packet.octets
 abbrev pub altered : List ℕ → ℕ → ℕ → List ℕ
 altered octets place mask = take place octets ++ bit_xor (slice_index octets place) mask ∷ drop (place + 1) octets
 
--- nobody stands at a port, or at that of a packet
-abbrev pub is_absent : Port → Bool
-is_absent port.Peer = false
-is_absent port.Server = false
-is_absent _ = true
-
-abbrev pub goes_nowhere : Option Sent → Bool
-goes_nowhere None = false
-goes_nowhere (Some packet) = is_absent packet.port
+-- nobody stands at the port of a packet
+abbrev pub goes_nowhere : Mode → Option Sent → Bool
+goes_nowhere mode None = false
+goes_nowhere mode (Some packet) = is_absent mode packet.port
 
 -- the skips that an event may come to, in their order, each with its condition
-abbrev pub packet_skips : Option Sent → Bool → List (Bool × Skip)
-packet_skips packet is_misplaced = (goes_nowhere packet, NoParty) ∷ (is_none packet, Unsent) ∷ (is_misplaced, Place) ∷ []
+abbrev pub packet_skips : Mode → Option Sent → Bool → List (Bool × Skip)
+packet_skips mode packet is_misplaced = (goes_nowhere mode packet, NoParty) ∷ (is_none packet, Unsent) ∷ (is_misplaced, Place) ∷ []
 
 abbrev pub timer_skips : Parties → Party → List (Bool × Skip)
 timer_skips parties party.Peer = (is_end parties.peer.vars.state, Ended) ∷ (true, NoTimer) ∷ []
@@ -160,12 +179,12 @@ timer_skips parties party.Pass = (true, NoParty) ∷ []
 timer_skips parties party.Server = (is_end parties.server.vars.state, Ended) ∷ []
 
 abbrev pub skip_table : Parties → List Sent → Event → List (Bool × Skip)
-skip_table parties sent (event.Deliver n) = packet_skips (packet_numbered sent n) false
+skip_table parties sent (event.Deliver n) = packet_skips parties.mode (packet_numbered sent n) false
 skip_table parties sent (event.Alter n place mask) =
-    let packet = packet_numbered sent n in packet_skips packet (nat_le (length (octets_of packet)) place)
+    let packet = packet_numbered sent n in packet_skips parties.mode packet (nat_le (length (octets_of packet)) place)
 skip_table parties sent (event.Cut n keep) =
-    let packet = packet_numbered sent n in packet_skips packet (nat_lt (length (octets_of packet)) keep)
-skip_table parties sent (event.Inject port octets) = (is_absent port, NoParty) ∷ []
+    let packet = packet_numbered sent n in packet_skips parties.mode packet (nat_lt (length (octets_of packet)) keep)
+skip_table parties sent (event.Inject port octets) = (is_absent parties.mode port, NoParty) ∷ []
 skip_table parties sent (event.Timeout party) = timer_skips parties party
 skip_table parties sent event.AaaTimeout = (true, NoParty) ∷ []
 skip_table parties sent event.AaaNoReq = (true, NoParty) ∷ []
@@ -200,6 +219,28 @@ call_of sent (event.Inject port octets) = call_at port octets
 call_of sent (event.Timeout party) = Some (to_server server_inputs.timeout)
 call_of sent e = reported e
 
+-- what a call of a party did, with what it wrote: the party, whether octets were handed to it, where what it
+-- sends goes, and its step
+pub record Did : Type 0 where
+  pub party : Party
+  pub is_delivery : Bool
+  pub port : Port
+  pub step : Step
+
+-- what came of an event: it was skipped, or a party was called
+pub data Action : Type 0 where
+  Skipped : Skip → Action
+  Called : Did → Action
+
+-- the action of a call that answers so, with the packet and the records that it wrote
+abbrev pub did_with : brief_did.Did → List ℕ → Tags → Did
+did_with did packet tags =
+    record { party = did.party; is_delivery = did.is_delivery; port = did.port; step = step_with did.step packet tags }
+
+abbrev pub action_with : brief_action.Action → List ℕ → Tags → Action
+action_with (brief.Skipped skip) packet tags = Skipped skip
+action_with (brief.Called did) packet tags = Called (did_with did packet tags)
+
 -- what a start or an event makes of the parties: what was done, and the parties after it
 pub record Acted : Type 0 where
   pub action : Action
@@ -211,16 +252,21 @@ acted action after = record { action = action; after = after }
 abbrev pub skipped : Parties → Skip → Acted
 skipped parties skip = acted (Skipped skip) parties
 
-abbrev pub did_by : Party → Bool → Step → Did
-did_by party is_delivery step = record { party = party; is_delivery = is_delivery; port = goes_to party; step = step }
+-- what a call did that answers so, with what it wrote, and the machines after it
+abbrev pub acted_with : {P S : Type 0} → (P → PeerShown) → (S → ServerShown) → brief_action.Action → List ℕ → Tags → Machines P S → Acted
+acted_with peer_shown server_shown action packet tags after = acted (action_with action packet tags) (parties_of peer_shown server_shown after)
+
+abbrev pub did_by : Mode → Party → Bool → Step → Did
+did_by mode party is_delivery step =
+    record { party = party; is_delivery = is_delivery; port = goes_to party mode; step = step }
 
 abbrev pub called : Parties → Call → Acted
 called parties (to_peer input) =
     let out = peer_takes parties.peer input in
-    acted (Called (did_by party.Peer (is_delivery (to_peer input)) out.step)) (record parties { peer = out.after })
+    acted (Called (did_by parties.mode party.Peer (is_delivery (to_peer input)) out.step)) (record parties { peer = out.after })
 called parties (to_server input) =
     let out = server_takes parties.server input in
-    acted (Called (did_by party.Server (is_delivery (to_server input)) out.step)) (record parties { server = out.after })
+    acted (Called (did_by parties.mode party.Server (is_delivery (to_server input)) out.step)) (record parties { server = out.after })
 
 abbrev pub called_unless : Parties → Option Skip → Option Call → Acted
 called_unless parties (Some skip) call = skipped parties skip
@@ -296,7 +342,7 @@ held_after held (Some named) = held_by held named.party
 -- what is told of it: the number of its event, that of the packet it sends, and a first report
 abbrev pub numbered : ℕ → Port → Option (List ℕ) → Option SentPacket
 numbered number port None = None
-numbered number port (Some octets) = Some (record { number = number; port = port; packet = octets })
+numbered number port (Some octets) = Some (record { number = number; port = port })
 
 abbrev pub told_of : ℕ → ℕ → Option Named → Action → Told
 told_of event number named (Skipped skip) =
@@ -318,6 +364,10 @@ pub record WorldOutcome : Type 0 where
 
 abbrev pub world_outcome : Told → WorldNow → WorldOutcome
 world_outcome told after = record { told = told; after = after }
+
+-- it was told, and the world is after it
+abbrev pub Tells : {P S : Type 0} → (P → PeerShown) → (S → ServerShown) → WorldOutcome → Told → WorldValue P S → Type 0
+Tells peer_shown server_shown out told after = out ≡ world_outcome told (now_of peer_shown server_shown after)
 
 -- the world after the parties have acted as event number so-and-so, with these counts; it has started
 abbrev pub world_acted : WorldNow → ℕ → Counts → Acted → WorldOutcome
@@ -348,14 +398,28 @@ unfoldable pub run_after : WorldNow → List Event → WorldNow
 run_after w [] = w
 run_after w (e ∷ rest) = run_after (world_step w e).after rest
 
-unfoldable pub told_after : WorldNow → List Event → List Told
-told_after w [] = []
-told_after w (e ∷ rest) = (world_step w e).told ∷ told_after (world_step w e).after rest
+-- what came of each of the events
+unfoldable pub outcomes_after : WorldNow → List Event → List WorldOutcome
+outcomes_after w [] = []
+outcomes_after w (e ∷ rest) = world_step w e ∷ outcomes_after (world_step w e).after rest
 
--- what holds in every world: it has sent at most one packet an event and one more, has booked at most
--- four tags for each of these, counts no more deliveries and discards than events, and its server starts
--- with it
-pub record IsInRange (server : ServerVariables) (sent : List Sent) (book : List Entry) (counts : Counts) (started : Bool) : Type 0 where
+-- the octets of the packet of a number
+abbrev pub octets_numbered : List Sent → ℕ → Option (List ℕ)
+octets_numbered sent n = option_map (λ (packet : Sent). packet.octets) (packet_numbered sent n)
+
+-- the octets of the packet of which is told, among those sent so far; none where it tells of none
+abbrev pub octets_of_sent : List Sent → Option SentPacket → List ℕ
+octets_of_sent sent None = []
+octets_of_sent sent (Some packet) = octets_of (packet_numbered sent packet.number)
+
+abbrev pub told_octets : WorldOutcome → List ℕ
+told_octets out = octets_of_sent out.after.sent out.told.sent
+
+-- what holds in every world: the server answers by itself; it has sent at most one packet an event and one
+-- more, has booked at most four tags for each of these, counts no more deliveries and discards than events,
+-- and its server starts with it
+pub record IsInRange (runs : Mode) (server : ServerVariables) (sent : List Sent) (book : List Entry) (counts : Counts) (started : Bool) : Type 0 where
+  pub alone : runs ≡ mode.Alone
   pub few_events : counts.events ≤ 1000000
   pub few_sent : length sent ≤ counts.events + one_if started
   pub few_booked : length book ≤ 4 * (counts.events + one_if started)

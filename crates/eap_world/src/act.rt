@@ -1,26 +1,25 @@
-//! What an event makes of the parties: it is skipped, or is a call of one of them.
+//! What an event makes of the parties: it is skipped, or is a call of one of them. What a call sends and
+//! the records of its tags are written where the caller lends the room.
 
-ghost use Rattle.std.specs.Prelude.{◌≡◌, ◌≤◌, ◌<◌, ◌∷◌, [], Some, false, if◌then◌else◌, length, nat_le, nat_lt, option_copied, take};
+ghost use Rattle.std.specs.Prelude.{◌≡◌, ◌≤◌, ◌<◌, ◌∷◌, ℕ, List, [], Some, IfSome, false, if◌then◌else◌, length, nat_le, nat_lt, option_map, take};
 ghost use Rattle.server_machine.specs.Inputs as server_inputs;
-ghost use Rattle.eap_method.specs.Steps.{is_end};
-ghost use Rattle.eap_world.specs.World.{Acted, parties_of, kinds_of, act, acted, altered, call_at, call_with, called_unless, did_by, first_skip, goes_to, is_absent, octets_of, packet_numbered, packet_skips, reported, timer_skips, to_server};
-ghost use Rattle.eap_world.specs.declared.act.Action.TheVariants.{Skipped, Called};
+ghost use Rattle.eap_method.specs.Steps.{is_end, step_with};
+ghost use Rattle.eap_method.specs.declared.tags.Tags.{Tags};
+ghost use Rattle.eap_world.specs.Store.{stored};
+ghost use Rattle.eap_world.specs.World.{RunAlike, acted_with, action_with, parties_of, act, altered, call_at, call_with, called_unless, did_by, first_skip, goes_to, is_absent, octets_of, packet_skips, reported, timer_skips, to_server};
+ghost use Rattle.eap_world.specs.World as worlds;
+ghost use Rattle.eap_world.specs.declared.act.Action.TheVariants.{Skipped};
 ghost use Rattle.eap_world.specs.declared.told.Skip.TheVariants.{Ended, NoParty, Place};
 
+use crate::store::{Store, Stored};
 use crate::told::Skip;
-use eap_base::{Event, Packet, Party, Port};
-use eap_method::{PeerMethod, ServerMethod, Step};
+use eap_base::{Event, Mode, Packet, Party, Port};
+use eap_method::{PeerMethod, ServerMethod, Step, Tags};
 use peer_machine::PeerMachine;
 use server_machine::ServerMachine;
 
-/// A packet as it was sent: to which port, and its octets.
-#[derive(Drop)]
-pub struct Sent {
-    pub port: Port,
-    pub octets: Packet,
-}
-
-/// What a call of a party did.
+/// What a call of a party did. The packet that it sends and the records of its tags stand where they
+/// were lent.
 #[derive(Drop)]
 pub struct Did {
     pub party: Party,
@@ -41,84 +40,111 @@ pub enum Action {
 /// The machines of a run: the peer (RFC 4137 section 4) and the stand-alone server (section 5).
 #[derive(Drop)]
 pub struct Machines<P, S> {
+    pub mode: Mode,
     pub peer: PeerMachine<P>,
     pub server: ServerMachine<S>,
 }
 
-/// An event comes to the machines, where these packets were sent before it. A skipped event changes
-/// no variable.
+/// An event comes to the machines, where these packets were sent before it. What is sent is written into
+/// `packet`, the records of tags into `tags`, in place of what was there. A skipped event changes no
+/// variable.
 #[tactic(auto, unfolding(crate::specs::World::act))]
 pub fn act<P: PeerMethod, S: ServerMethod>(
     machines: &mut Machines<P, S>,
-    sent: &[Sent],
+    sent: &Store,
     event: &Event,
+    packet: &mut Packet,
+    tags: &mut Tags,
 ) -> Action
-    ensures acts { act (parties_of P.peer_shown S.server_shown machines.old) sent.now event.now ≡ acted result (parties_of P.peer_shown S.server_shown machines.new) }
-    ensures kinds { kinds_of P.peer_shown S.server_shown machines.new.peer.methods machines.new.server.methods ≡ kinds_of P.peer_shown S.server_shown machines.old.peer.methods machines.old.server.methods }
+    ensures acts { act (parties_of P.peer_shown S.server_shown machines.old) sent.now.packets event.now
+        ≡ acted_with P.peer_shown S.server_shown result packet.new tags.new machines.new }
+    ensures alike { RunAlike P.peer_shown S.server_shown machines.old machines.new }
 {
     match event {
-        Event::Deliver { number } => deliver(machines, packet(sent, *number)),
+        Event::Deliver { number } => deliver(machines, sent.get(*number), packet, tags),
         Event::Alter {
             number,
             place,
             mask,
-        } => alter(machines, *place, *mask, packet(sent, *number)),
-        Event::Cut { number, keep } => cut(machines, *keep, packet(sent, *number)),
-        Event::Inject { port, octets } => hand(machines, *port, octets.as_slice()),
-        Event::Timeout { party } => end_timer(machines, *party),
+        } => alter(machines, *place, *mask, sent.get(*number), packet, tags),
+        Event::Cut { number, keep } => cut(machines, *keep, sent.get(*number), packet, tags),
+        Event::Inject { port, octets } => hand(machines, *port, octets.as_slice(), packet, tags),
+        Event::Timeout { party } => end_timer(machines, *party, packet, tags),
         Event::AaaTimeout => Action::Skipped(Skip::NoParty),
         Event::AaaNoReq => Action::Skipped(Skip::NoParty),
-        Event::Idle => report(machines, event),
-        Event::AltAccept => report(machines, event),
-        Event::AltReject => report(machines, event),
+        Event::Idle => report(machines, event, packet, tags),
+        Event::AltAccept => report(machines, event, packet, tags),
+        Event::AltReject => report(machines, event, packet, tags),
     }
-}
-
-/// The packet of this number, counted from 1; None where none was sent with it.
-fn packet(sent: &[Sent], number: u32) -> Option<&Sent>
-    ensures { option_copied result ≡ packet_numbered sent.now number }
-{
-    if number == 0 {
-        return None;
-    }
-    sent.get(number as usize - 1)
 }
 
 /// What a party's call did.
-pub fn does(party: Party, is_delivery: bool, step: Step) -> Action
-    ensures { result ≡ Called (did_by party is_delivery step) }
+pub fn does(mode: Mode, party: Party, is_delivery: bool, step: Step) -> Action
+    ensures { (packet : List ℕ) (tags : Tags) → action_with result packet tags ≡ worlds.Called (did_by mode party is_delivery (step_with step packet tags)) }
 {
     Action::Called(Did {
         party,
         is_delivery,
-        port: goes_to(party),
+        port: goes_to(party, mode),
         step,
     })
 }
 
-/// Where a party's packets go.
-fn goes_to(party: Party) -> Port
-    ensures { result ≡ goes_to party }
+/// Where a party's packets go. What the pass-through itself sends to the peer is all that is here of it.
+fn goes_to(party: Party, mode: Mode) -> Port
+    ensures { result ≡ goes_to party mode }
 {
     match party {
-        Party::Peer => Port::Server,
+        Party::Peer => match mode {
+            Mode::Alone => Port::Server,
+            Mode::Through => Port::PassPeer,
+        },
+        Party::Server => match mode {
+            Mode::Alone => Port::Peer,
+            Mode::Through => Port::PassServer,
+        },
         Party::Pass => Port::Peer,
-        Party::Server => Port::Peer,
     }
 }
 
-/// Octets come to a port. The pass-through authenticator (RFC 4137 section 7) isn't there.
+/// Whether nobody stands at a port: the pass-through authenticator (RFC 4137 section 7) is there in its
+/// mode alone.
+fn is_absent(mode: Mode, port: Port) -> bool
+    ensures { result ≡ is_absent mode port }
+{
+    match mode {
+        Mode::Through => false,
+        Mode::Alone => match port {
+            Port::Peer => false,
+            Port::Server => false,
+            Port::PassPeer => true,
+            Port::PassServer => true,
+        },
+    }
+}
+
+/// Octets come to a port.
 fn hand<P: PeerMethod, S: ServerMethod>(
     machines: &mut Machines<P, S>,
     port: Port,
     octets: &[u8],
+    packet: &mut Packet,
+    tags: &mut Tags,
 ) -> Action
-    ensures acts { called_unless (parties_of P.peer_shown S.server_shown machines.old) (first_skip ((is_absent port, NoParty) ∷ [])) (call_at port octets.now) ≡ acted result (parties_of P.peer_shown S.server_shown machines.new) }
-    ensures kinds { kinds_of P.peer_shown S.server_shown machines.new.peer.methods machines.new.server.methods ≡ kinds_of P.peer_shown S.server_shown machines.old.peer.methods machines.old.server.methods }
+    ensures acts { called_unless (parties_of P.peer_shown S.server_shown machines.old) (first_skip ((is_absent machines.old.mode port, NoParty) ∷ [])) (call_at port octets.now)
+        ≡ acted_with P.peer_shown S.server_shown result packet.new tags.new machines.new }
+    ensures alike { RunAlike P.peer_shown S.server_shown machines.old machines.new }
 {
+    let mode = machines.mode;
     match port {
-        Port::Peer => does(Party::Peer, true, machines.peer.deliver(octets)),
-        Port::Server => does(Party::Server, true, machines.server.deliver(octets)),
+        Port::Peer => {
+            let step = machines.peer.deliver(octets, packet, tags);
+            does(mode, Party::Peer, true, step)
+        }
+        Port::Server => {
+            let step = machines.server.deliver(octets, packet, tags);
+            does(mode, Party::Server, true, step)
+        }
         Port::PassPeer => Action::Skipped(Skip::NoParty),
         Port::PassServer => Action::Skipped(Skip::NoParty),
     }
@@ -127,14 +153,17 @@ fn hand<P: PeerMethod, S: ServerMethod>(
 /// A packet comes to its port.
 fn deliver<P: PeerMethod, S: ServerMethod>(
     machines: &mut Machines<P, S>,
-    packet: Option<&Sent>,
+    sent: Option<Stored>,
+    packet: &mut Packet,
+    tags: &mut Tags,
 ) -> Action
-    ensures acts { called_unless (parties_of P.peer_shown S.server_shown machines.old) (first_skip (packet_skips (option_copied packet.entry) false)) (call_with (option_copied packet.entry) (octets_of (option_copied packet.entry))) ≡ acted result (parties_of P.peer_shown S.server_shown machines.new) }
-    ensures kinds { kinds_of P.peer_shown S.server_shown machines.new.peer.methods machines.new.server.methods ≡ kinds_of P.peer_shown S.server_shown machines.old.peer.methods machines.old.server.methods }
+    ensures acts { called_unless (parties_of P.peer_shown S.server_shown machines.old) (first_skip (packet_skips machines.old.mode (option_map stored sent.entry) false)) (call_with (option_map stored sent.entry) (octets_of (option_map stored sent.entry)))
+        ≡ acted_with P.peer_shown S.server_shown result packet.new tags.new machines.new }
+    ensures alike { RunAlike P.peer_shown S.server_shown machines.old machines.new }
 {
-    match packet {
+    match sent {
         None => Action::Skipped(Skip::Unsent),
-        Some(sent) => hand(machines, sent.port, sent.octets.as_slice()),
+        Some(stored) => hand(machines, stored.port, stored.octets, packet, tags),
     }
 }
 
@@ -143,24 +172,47 @@ fn alter<P: PeerMethod, S: ServerMethod>(
     machines: &mut Machines<P, S>,
     place: u16,
     mask: u8,
-    packet: Option<&Sent>,
+    sent: Option<Stored>,
+    packet: &mut Packet,
+    tags: &mut Tags,
 ) -> Action
-    ensures acts { called_unless (parties_of P.peer_shown S.server_shown machines.old) (first_skip (packet_skips (option_copied packet.entry) (nat_le (length (octets_of (option_copied packet.entry))) place))) (call_with (option_copied packet.entry) (altered (octets_of (option_copied packet.entry)) place mask)) ≡ acted result (parties_of P.peer_shown S.server_shown machines.new) }
-    ensures kinds { kinds_of P.peer_shown S.server_shown machines.new.peer.methods machines.new.server.methods ≡ kinds_of P.peer_shown S.server_shown machines.old.peer.methods machines.old.server.methods }
+    requires { IfSome sent (λ s. length s.octets.now ≤ 1500) }
+    ensures acts { called_unless (parties_of P.peer_shown S.server_shown machines.old) (first_skip (packet_skips machines.old.mode (option_map stored sent.entry) (nat_le (length (octets_of (option_map stored sent.entry))) place)))
+        (call_with (option_map stored sent.entry) (altered (octets_of (option_map stored sent.entry)) place mask))
+        ≡ acted_with P.peer_shown S.server_shown result packet.new tags.new machines.new }
+    ensures alike { RunAlike P.peer_shown S.server_shown machines.old machines.new }
 {
-    match packet {
+    match sent {
         None => Action::Skipped(Skip::Unsent),
-        Some(sent) => {
-            let octets = sent.octets.as_slice();
+        Some(stored) => {
             let place = usize::from(place);
-            if octets.len() <= place {
-                misplaced(sent.port)
+            if stored.octets.len() <= place {
+                misplaced(machines.mode, stored.port)
             } else {
-                let changed = altered_copy(octets, place, mask);
-                hand(machines, sent.port, changed.as_slice())
+                hand_altered(machines, &stored, place, mask, packet, tags)
             }
         }
     }
+}
+
+/// A packet comes to its port with its octet at `place`, which it has, combined with `mask`.
+fn hand_altered<P: PeerMethod, S: ServerMethod>(
+    machines: &mut Machines<P, S>,
+    stored: &Stored,
+    place: usize,
+    mask: u8,
+    packet: &mut Packet,
+    tags: &mut Tags,
+) -> Action
+    requires fits { length stored.now.octets.now ≤ 1500 }
+    requires place { place < length stored.now.octets.now }
+    ensures acts { called_unless (parties_of P.peer_shown S.server_shown machines.old) (first_skip ((is_absent machines.old.mode stored.now.port, NoParty) ∷ []))
+        (call_at stored.now.port (altered stored.now.octets.now place mask))
+        ≡ acted_with P.peer_shown S.server_shown result packet.new tags.new machines.new }
+    ensures alike { RunAlike P.peer_shown S.server_shown machines.old machines.new }
+{
+    let changed = altered_copy(stored.octets, place, mask);
+    hand(machines, stored.port, changed.as_slice(), packet, tags)
 }
 
 /// A copy whose octet at `place` is combined with `mask` by exclusive or.
@@ -180,40 +232,50 @@ fn altered_copy(octets: &[u8], place: usize, mask: u8) -> Packet
 fn cut<P: PeerMethod, S: ServerMethod>(
     machines: &mut Machines<P, S>,
     keep: u16,
-    packet: Option<&Sent>,
+    sent: Option<Stored>,
+    packet: &mut Packet,
+    tags: &mut Tags,
 ) -> Action
-    ensures acts { called_unless (parties_of P.peer_shown S.server_shown machines.old) (first_skip (packet_skips (option_copied packet.entry) (nat_lt (length (octets_of (option_copied packet.entry))) keep))) (call_with (option_copied packet.entry) (take keep (octets_of (option_copied packet.entry)))) ≡ acted result (parties_of P.peer_shown S.server_shown machines.new) }
-    ensures kinds { kinds_of P.peer_shown S.server_shown machines.new.peer.methods machines.new.server.methods ≡ kinds_of P.peer_shown S.server_shown machines.old.peer.methods machines.old.server.methods }
+    ensures acts { called_unless (parties_of P.peer_shown S.server_shown machines.old) (first_skip (packet_skips machines.old.mode (option_map stored sent.entry) (nat_lt (length (octets_of (option_map stored sent.entry))) keep)))
+        (call_with (option_map stored sent.entry) (take keep (octets_of (option_map stored sent.entry))))
+        ≡ acted_with P.peer_shown S.server_shown result packet.new tags.new machines.new }
+    ensures alike { RunAlike P.peer_shown S.server_shown machines.old machines.new }
 {
-    match packet {
+    match sent {
         None => Action::Skipped(Skip::Unsent),
-        Some(sent) => {
-            let octets = sent.octets.as_slice();
+        Some(stored) => {
             let keep = usize::from(keep);
-            if octets.len() < keep {
-                misplaced(sent.port)
+            if stored.octets.len() < keep {
+                misplaced(machines.mode, stored.port)
             } else {
-                hand(machines, sent.port, &octets[..keep])
+                hand(machines, stored.port, &stored.octets[..keep], packet, tags)
             }
         }
     }
 }
 
 /// Why a packet on its way to a port is skipped of which more octets are named than it has.
-fn misplaced(port: Port) -> Action
-    ensures { result ≡ Skipped (if is_absent port then NoParty else Place) }
+fn misplaced(mode: Mode, port: Port) -> Action
+    ensures { result ≡ Skipped (if is_absent mode port then NoParty else Place) }
 {
-    match port {
-        Port::Peer => Action::Skipped(Skip::Place),
-        Port::Server => Action::Skipped(Skip::Place),
-        _ => Action::Skipped(Skip::NoParty),
+    if is_absent(mode, port) {
+        Action::Skipped(Skip::NoParty)
+    } else {
+        Action::Skipped(Skip::Place)
     }
 }
 
 /// The retransmission timer of a party ends; only the server has one.
-fn end_timer<P: PeerMethod, S: ServerMethod>(machines: &mut Machines<P, S>, party: Party) -> Action
-    ensures acts { called_unless (parties_of P.peer_shown S.server_shown machines.old) (first_skip (timer_skips (parties_of P.peer_shown S.server_shown machines.old) party)) (Some (to_server server_inputs.timeout)) ≡ acted result (parties_of P.peer_shown S.server_shown machines.new) }
-    ensures kinds { kinds_of P.peer_shown S.server_shown machines.new.peer.methods machines.new.server.methods ≡ kinds_of P.peer_shown S.server_shown machines.old.peer.methods machines.old.server.methods }
+fn end_timer<P: PeerMethod, S: ServerMethod>(
+    machines: &mut Machines<P, S>,
+    party: Party,
+    packet: &mut Packet,
+    tags: &mut Tags,
+) -> Action
+    ensures acts { called_unless (parties_of P.peer_shown S.server_shown machines.old) (first_skip (timer_skips (parties_of P.peer_shown S.server_shown machines.old) party))
+        (Some (to_server server_inputs.timeout))
+        ≡ acted_with P.peer_shown S.server_shown result packet.new tags.new machines.new }
+    ensures alike { RunAlike P.peer_shown S.server_shown machines.old machines.new }
 {
     match party {
         Party::Peer => Action::Skipped(if machines.peer.ended() {
@@ -226,25 +288,35 @@ fn end_timer<P: PeerMethod, S: ServerMethod>(machines: &mut Machines<P, S>, part
             if machines.server.ended() {
                 Action::Skipped(Skip::Ended)
             } else {
-                does(Party::Server, false, machines.server.timeout())
+                tags.clear();
+                let step = machines.server.timeout(packet);
+                does(machines.mode, Party::Server, false, step)
             }
         }
     }
 }
 
-/// The peer's lower layer is idle, or reports success or failure.
-fn report<P: PeerMethod, S: ServerMethod>(machines: &mut Machines<P, S>, event: &Event) -> Action
-    ensures acts { called_unless (parties_of P.peer_shown S.server_shown machines.old) (first_skip ((is_end machines.old.peer.vars.state, Ended) ∷ [])) (reported event.now) ≡ acted result (parties_of P.peer_shown S.server_shown machines.new) }
-    ensures kinds { kinds_of P.peer_shown S.server_shown machines.new.peer.methods machines.new.server.methods ≡ kinds_of P.peer_shown S.server_shown machines.old.peer.methods machines.old.server.methods }
+/// The peer's lower layer is idle, or reports success or failure. Nothing is sent for it, and no tag made.
+fn report<P: PeerMethod, S: ServerMethod>(
+    machines: &mut Machines<P, S>,
+    event: &Event,
+    packet: &mut Packet,
+    tags: &mut Tags,
+) -> Action
+    ensures acts { called_unless (parties_of P.peer_shown S.server_shown machines.old) (first_skip ((is_end machines.old.peer.vars.state, Ended) ∷ [])) (reported event.now)
+        ≡ acted_with P.peer_shown S.server_shown result packet.new tags.new machines.new }
+    ensures alike { RunAlike P.peer_shown S.server_shown machines.old machines.new }
 {
+    packet.clear();
+    tags.clear();
     if machines.peer.ended() {
-        Action::Skipped(Skip::Ended)
-    } else {
-        match event {
-            Event::Idle => does(Party::Peer, false, machines.peer.idle()),
-            Event::AltAccept => does(Party::Peer, false, machines.peer.alt_accept()),
-            Event::AltReject => does(Party::Peer, false, machines.peer.alt_reject()),
-            _ => Action::Skipped(Skip::NoParty),
-        }
+        return Action::Skipped(Skip::Ended);
+    }
+    let mode = machines.mode;
+    match event {
+        Event::Idle => does(mode, Party::Peer, false, machines.peer.idle()),
+        Event::AltAccept => does(mode, Party::Peer, false, machines.peer.alt_accept()),
+        Event::AltReject => does(mode, Party::Peer, false, machines.peer.alt_reject()),
+        _ => Action::Skipped(Skip::NoParty),
     }
 }

@@ -1,6 +1,6 @@
 //! The book of tags.
 
-ghost use Rattle.std.specs.Prelude.{◌≡◌, ◌≤◌, ◌+◌, ◌++◌, map, vec_len, vec_capacity};
+ghost use Rattle.std.specs.Prelude.{◌≡◌, ◌≤◌, ◌+◌, ◌++◌, ◌∷◌, [], map, vec_len, vec_capacity};
 ghost use Rattle.std.specs.List.{list_any};
 ghost use Rattle.eap_world.specs.Book.{entry, booked, tags_verdict, is_honest, vouches, same_tag};
 
@@ -59,17 +59,27 @@ fn book_each(book: &mut Vec<Entry>, event: u32, end: End, used: Use, tags: &TagL
     ensures capacity { vec_capacity book.old ≤ vec_capacity book.new }
 {
     for tag in tags.as_slice() {
-        let _ = book.push(Entry {
-            event,
-            end,
-            used,
-            tag: tag.copy(),
-        });
+        book_one(book, event, end, used, tag);
     }
 }
 
+/// Writes this tag into the book. There is room.
+fn book_one(book: &mut Vec<Entry>, event: u32, end: End, used: Use, tag: &TagRecord)
+    requires { vec_len book.old + 1 ≤ vec_capacity book.old }
+    ensures items { book.new.items ≡ book.old.items ++ entry event end used tag.now ∷ [] }
+    ensures few { vec_len book.new ≡ vec_len book.old + 1 }
+    ensures capacity { vec_capacity book.old ≤ vec_capacity book.new }
+{
+    let _ = book.push(Entry {
+        event,
+        end,
+        used,
+        tag: tag.copy(),
+    });
+}
+
 /// Whether each accepted tag of a book was made earlier by the other end.
-#[tactic(auto, using(crate::proofs::Booking::broken_more, crate::proofs::Booking::broken_here, crate::proofs::Booking::broken_all))]
+#[tactic(auto, using(crate::proofs::FirstBroken::broken_more, crate::proofs::FirstBroken::broken_here, crate::proofs::FirstBroken::broken_all))]
 pub fn judge_tags(book: &[Entry]) -> TagsVerdict
     ensures { result ≡ tags_verdict book.now }
 {

@@ -19,7 +19,7 @@ pub fn runs_tell_reports()
 /// Whatever is delivered, lost, repeated, reordered, altered or injected: where each tag that an end
 /// accepted was made earlier by the other end, two ends that both stand in SUCCESS agree in method,
 /// identities, suite, MSK and EMSK, which both policies allow.
-#[tactic(auto, using(crate::proofs::Agreement::honest_ends_agree))]
+#[tactic(auto, using(crate::proofs::HonestRuns::honest_ends_agree))]
 pub fn honest_ends_agree()
     ensures { HonestEndsAgree }
 {}

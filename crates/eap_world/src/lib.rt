@@ -5,15 +5,17 @@
 mod act;
 mod book;
 mod laws;
+mod store;
 mod told;
 mod verdict;
 mod world;
 
-pub use act::{Action, Did, Machines, Sent};
+pub use act::{Action, Did, Machines};
 pub use book::{End, Entry, TagsVerdict, Use};
 pub use laws::{
     discards_keep, few_tags, honest_ends_agree, honest_names_are_theirs, runs_tell_reports,
 };
+pub use store::{Slot, Store, Stored};
 pub use told::{Counts, Named, SentPacket, Skip, Told};
 pub use verdict::Verdict;
 pub use world::{Held, MAX_EVENTS, Memory, Methods, World};

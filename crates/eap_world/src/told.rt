@@ -1,6 +1,6 @@
 //! What came of an event.
 
-use eap_base::{Packet, Party, Port};
+use eap_base::{Party, Port};
 use eap_method::Report;
 use eap_packet::{Cause, Path};
 
@@ -19,15 +19,13 @@ pub enum Skip {
     NoTimer,
 }
 
-/// A packet that was sent.
-#[derive(Drop)]
+/// A packet that was sent. The world lends its octets.
+#[derive(Clone, Copy, PartialEq, Eq, Debug)]
 pub struct SentPacket {
     /// Its number, counted from 1 in the order of sending; a packet that is sent again gets another.
     pub number: u32,
     /// The port that it goes to.
     pub port: Port,
-    /// Its octets (RFC 3748 section 4).
-    pub packet: Packet,
 }
 
 /// A report that an end is the first time seen to hold.

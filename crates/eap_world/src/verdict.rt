@@ -2,7 +2,7 @@
 
 ghost use Rattle.std.specs.Prelude.{◌≡◌};
 ghost use Rattle.eap_base.specs.Users.{user_of};
-ghost use Rattle.eap_world.specs.Verdict.{same_report, allows_suite, peer_agrees, server_agrees, agree, judged, is_welcome};
+ghost use Rattle.eap_world.specs.Judgement.{same_report, allows_suite, peer_agrees, server_agrees, agree, judged, is_welcome};
 
 use eap_base::{GPSK_KIND, PeerSetup, ServerSetup, is_among};
 use eap_method::Report;

@@ -1,16 +1,18 @@
 //! Both ends over events.
 
-ghost use Rattle.std.specs.Prelude.{◌≡◌, ◌≤◌, ◌<◌, ◌+◌, ◌-◌, ◌*◌, ◌^◌, ◌++◌, ◌∷◌, List, [], true, false, map, length, MatchResult, IfOk, option_to_list, vec_len, vec_capacity};
+ghost use Rattle.std.specs.Prelude.{◌≡◌, ◌≤◌, ◌<◌, ◌+◌, ◌-◌, ◌*◌, ◌^◌, ◌++◌, ◌∷◌, ℕ, List, [], true, false, map, length, MatchResult, IfOk, option_copied, vec_len, vec_capacity};
 ghost use Rattle.eap_base.specs.Setup.{IsSoundPeer, IsSoundServer, HasKeys};
 ghost use Rattle.eap_base.specs.declared.setup.Mode.TheVariants.{Alone};
-ghost use Rattle.eap_world.specs.World.{parties_of, sent_by, sent_to, booked_by, counted, end_of, has_held, named_by, first_report, held_by, held_after, numbered, report_of, told_of};
+ghost use Rattle.eap_method.specs.declared.tags.Tags.{Tags};
+ghost use Rattle.eap_world.specs.World.{action_with, parties_of, sent_by, booked_by, counted, end_of, has_held, named_by, first_report, held_by, held_after, numbered, report_of, told_of};
 
-use crate::act::{Action, Did, Machines, Sent, act, does};
+use crate::act::{Action, Did, Machines, act, does};
 use crate::book::{End, Entry, TagsVerdict, book_tags, judge_tags};
+use crate::store::Store;
 use crate::told::{Counts, Named, SentPacket, Told};
 use crate::verdict::{Verdict, judge_reports};
-use eap_base::{Event, Mode, Packet, Party, Port, Setup};
-use eap_method::{PeerMethod, Report, ServerMethod};
+use eap_base::{Event, Mode, Packet, Party, Setup};
+use eap_method::{PeerMethod, Report, ServerMethod, Tags};
 use eap_packet::{Path, State};
 use peer_machine::PeerMachine;
 use server_machine::ServerMachine;
@@ -49,11 +51,15 @@ pub struct Held {
 #[derive(Drop)]
 pub struct World<P, S> {
     machines: Machines<P, S>,
-    sent: Vec<Sent>,
+    sent: Store,
     book: Vec<Entry>,
     counts: Counts,
     held: Held,
     started: bool,
+    /// Where a machine writes the packet that it sends, before it is stored.
+    packet: Packet,
+    /// Where a machine writes the records of its tags, before they are booked.
+    tags: Tags,
 }
 
 impl<P, S> Model for World<P, S> {
@@ -61,20 +67,20 @@ impl<P, S> Model for World<P, S> {
 
     ghost Value = { WorldValue P S };
 
-    ghost view = { λ w. record { peer = w.machines.peer; server = w.machines.server; sent = w.sent.items; book = w.book.items; counts = w.counts; held = w.held; started = w.started } };
+    ghost view = { λ w. record { mode = w.machines.mode; peer = w.machines.peer; server = w.machines.server; sent = w.sent.packets; book = w.book.items; counts = w.counts; held = w.held; started = w.started } };
 
-    ghost invariant = { λ w. IsInRange w.machines.server.vars w.sent.items w.book.items w.counts w.started };
+    ghost invariant = { λ w. IsInRange w.machines.mode w.machines.server.vars w.sent.packets w.book.items w.counts w.started };
 }
 
 impl<P: PeerMethod, S: ServerMethod> World<P, S> {
     ghost use Rattle.eap_method.specs.Peer.{peer_kinds, have_each};
     ghost use Rattle.eap_method.specs.Server.{server_kinds};
-    ghost use Rattle.eap_world.specs.Agreement.{IsOfRun, IsWhole, AreTheirs, run_of};
+    ghost use Rattle.eap_world.specs.Agreement.{BeginsRun, BeginsSmall, GoesOn, StaysSmall, IsOfRun, IsWhole, AreTheirs, run_of};
     ghost use Rattle.eap_world.specs.Book.{tags_verdict};
     ghost use Rattle.eap_world.specs.declared.book.TagsVerdict.TheVariants.{Honest};
     ghost use Rattle.eap_world.specs.declared.verdict.Verdict.TheVariants.{Agree, Apart};
-    ghost use Rattle.eap_world.specs.Verdict.{verdict_of};
-    ghost use Rattle.eap_world.specs.World.{WorldOutcome, world_outcome, world_made, world_start, world_step, kinds_of, now_of, state_of};
+    ghost use Rattle.eap_world.specs.Judgement.{verdict_of};
+    ghost use Rattle.eap_world.specs.World.{HaveSameKinds, KeepsKinds, Tells, WorldOutcome, world_made, world_start, world_step, now_of, octets_numbered, state_of};
 
     /// The world of a setup, in which the peer has begun and the server hasn't started. The server
     /// answers by itself; each method that an end allows or proposes has an object. It takes no memory.
@@ -87,10 +93,11 @@ impl<P: PeerMethod, S: ServerMethod> World<P, S> {
         requires peer_objects { have_each (peer_kinds (map P.peer_shown methods.peer.items)) setup.peer.methods ≡ true }
         requires server_objects { have_each (server_kinds (map S.server_shown methods.server.items)) setup.server.methods ≡ true }
         ensures made { now_of P.peer_shown S.server_shown result ≡ world_made setup }
-        ensures kinds { kinds_of P.peer_shown S.server_shown result.peer.methods result.server.methods ≡ kinds_of P.peer_shown S.server_shown methods.peer.items methods.server.items }
+        ensures kinds { HaveSameKinds P.peer_shown S.server_shown methods.peer.items methods.server.items result.peer.methods result.server.methods }
     {
         World {
             machines: Machines {
+                mode: setup.mode,
                 peer: PeerMachine::new(setup.peer, methods.peer),
                 server: ServerMachine::new(
                     setup.server,
@@ -99,7 +106,7 @@ impl<P: PeerMethod, S: ServerMethod> World<P, S> {
                     methods.server,
                 ),
             },
-            sent: Vec::new(alloc),
+            sent: Store::new(alloc),
             book: Vec::new(alloc),
             counts: Counts {
                 events: 0,
@@ -111,6 +118,8 @@ impl<P: PeerMethod, S: ServerMethod> World<P, S> {
                 server: false,
             },
             started: false,
+            packet: Packet::new(),
+            tags: Tags::new(),
         }
     }
 
@@ -119,9 +128,11 @@ impl<P: PeerMethod, S: ServerMethod> World<P, S> {
     /// that has just been made then is that of the run without events.
     pub fn start(&mut self) -> Result<Told, Memory>
         requires { self.old.started ≡ false }
-        ensures told { MatchResult result (λ told. world_start (now_of P.peer_shown S.server_shown self.old) ≡ world_outcome told (now_of P.peer_shown S.server_shown self.new)) (λ _. self.new ≡ self.old) }
-        ensures run { IfOk result (λ told. (setup : Setup) → now_of P.peer_shown S.server_shown self.old ≡ world_made setup → now_of P.peer_shown S.server_shown self.new ≡ run_of setup []) }
-        ensures kinds { kinds_of P.peer_shown S.server_shown self.new.peer.methods self.new.server.methods ≡ kinds_of P.peer_shown S.server_shown self.old.peer.methods self.old.server.methods }
+        ensures told { MatchResult result (λ told. Tells P.peer_shown S.server_shown (world_start (now_of P.peer_shown S.server_shown self.old)) told self.new)
+            (λ _. self.new ≡ self.old) }
+        ensures run { IfOk result (λ told. BeginsRun P.peer_shown S.server_shown self.old self.new) }
+        ensures few { IfOk result (λ told. BeginsSmall P.peer_shown S.server_shown self.old self.new) }
+        ensures kinds { KeepsKinds P.peer_shown S.server_shown self.old self.new }
     {
         self.begin()
     }
@@ -134,9 +145,11 @@ impl<P: PeerMethod, S: ServerMethod> World<P, S> {
     pub fn step(&mut self, event: &Event) -> Result<Told, Memory>
         requires started { self.old.started ≡ true }
         requires room { self.old.counts.events < MAX_EVENTS }
-        ensures told { MatchResult result (λ told. world_step (now_of P.peer_shown S.server_shown self.old) event.now ≡ world_outcome told (now_of P.peer_shown S.server_shown self.new)) (λ _. self.new ≡ self.old) }
-        ensures run { IfOk result (λ told. (setup : Setup) (events : List Event) → now_of P.peer_shown S.server_shown self.old ≡ run_of setup events → now_of P.peer_shown S.server_shown self.new ≡ run_of setup (events ++ (event.now ∷ []))) }
-        ensures kinds { kinds_of P.peer_shown S.server_shown self.new.peer.methods self.new.server.methods ≡ kinds_of P.peer_shown S.server_shown self.old.peer.methods self.old.server.methods }
+        ensures told { MatchResult result (λ told. Tells P.peer_shown S.server_shown (world_step (now_of P.peer_shown S.server_shown self.old) event.now) told self.new)
+            (λ _. self.new ≡ self.old) }
+        ensures run { IfOk result (λ told. GoesOn P.peer_shown S.server_shown event.now self.old self.new) }
+        ensures few { IfOk result (λ told. StaysSmall P.peer_shown S.server_shown self.old self.new) }
+        ensures kinds { KeepsKinds P.peer_shown S.server_shown self.old self.new }
     {
         self.take(event)
     }
@@ -145,13 +158,16 @@ impl<P: PeerMethod, S: ServerMethod> World<P, S> {
     #[tactic(auto, unfolding(crate::specs::World::world_start))]
     fn begin(&mut self) -> Result<Told, Memory>
         requires { self.old.started ≡ false }
-        ensures told { MatchResult result (λ told. world_start (now_of P.peer_shown S.server_shown self.old) ≡ world_outcome told (now_of P.peer_shown S.server_shown self.new)) (λ _. self.new ≡ self.old) }
-        ensures kinds { kinds_of P.peer_shown S.server_shown self.new.peer.methods self.new.server.methods ≡ kinds_of P.peer_shown S.server_shown self.old.peer.methods self.old.server.methods }
+        ensures told { MatchResult result (λ told. Tells P.peer_shown S.server_shown (world_start (now_of P.peer_shown S.server_shown self.old)) told self.new)
+            (λ _. self.new ≡ self.old) }
+        ensures kinds { KeepsKinds P.peer_shown S.server_shown self.old self.new }
     {
         if !make_room(&mut self.sent, &mut self.book) {
             return Err(Memory);
         }
-        let action = does(Party::Server, false, self.machines.server.start());
+        self.tags.clear();
+        let step = self.machines.server.start(&mut self.packet);
+        let action = does(self.machines.mode, Party::Server, false, step);
         self.started = true;
         Ok(keep(
             &self.machines,
@@ -160,6 +176,8 @@ impl<P: PeerMethod, S: ServerMethod> World<P, S> {
             &mut self.held,
             0,
             action,
+            &self.packet,
+            &self.tags,
         ))
     }
 
@@ -168,13 +186,20 @@ impl<P: PeerMethod, S: ServerMethod> World<P, S> {
     fn take(&mut self, event: &Event) -> Result<Told, Memory>
         requires started { self.old.started ≡ true }
         requires room { self.old.counts.events < MAX_EVENTS }
-        ensures told { MatchResult result (λ told. world_step (now_of P.peer_shown S.server_shown self.old) event.now ≡ world_outcome told (now_of P.peer_shown S.server_shown self.new)) (λ _. self.new ≡ self.old) }
-        ensures kinds { kinds_of P.peer_shown S.server_shown self.new.peer.methods self.new.server.methods ≡ kinds_of P.peer_shown S.server_shown self.old.peer.methods self.old.server.methods }
+        ensures told { MatchResult result (λ told. Tells P.peer_shown S.server_shown (world_step (now_of P.peer_shown S.server_shown self.old) event.now) told self.new)
+            (λ _. self.new ≡ self.old) }
+        ensures kinds { KeepsKinds P.peer_shown S.server_shown self.old self.new }
     {
         if !make_room(&mut self.sent, &mut self.book) {
             return Err(Memory);
         }
-        let action = act(&mut self.machines, self.sent.as_slice(), event);
+        let action = act(
+            &mut self.machines,
+            &self.sent,
+            event,
+            &mut self.packet,
+            &mut self.tags,
+        );
         self.counts = count(self.counts, &action);
         Ok(keep(
             &self.machines,
@@ -183,6 +208,8 @@ impl<P: PeerMethod, S: ServerMethod> World<P, S> {
             &mut self.held,
             self.counts.events,
             action,
+            &self.packet,
+            &self.tags,
         ))
     }
 
@@ -195,9 +222,21 @@ impl<P: PeerMethod, S: ServerMethod> World<P, S> {
 
     /// The mode: the server answers by itself.
     pub fn mode(&self) -> Mode
-        ensures { result ≡ Alone }
+        ensures value { result ≡ self.now.mode }
+        ensures alone { result ≡ Alone }
     {
-        Mode::Alone
+        self.machines.mode
+    }
+
+    /// The octets of the packet of this number, counted from 1 in the order of sending (RFC 3748 section
+    /// 4); None where none was sent with it.
+    pub fn packet(&self, number: u32) -> Option<&[u8]>
+        ensures { option_copied result ≡ octets_numbered self.now.sent number }
+    {
+        match self.sent.get(number) {
+            None => None,
+            Some(stored) => Some(stored.octets),
+        }
     }
 
     /// The state of a party (RFC 4137 sections 4.5 and 5.5); None for the pass-through, which isn't there.
@@ -244,7 +283,7 @@ impl<P: PeerMethod, S: ServerMethod> World<P, S> {
     /// each of its methods and nonces of 32 octets, it is never Apart where [`World::tags`] is Honest; and
     /// where both ends then agree, what they report is their own: the names of their setups, a user of the
     /// server with the peer's key, by EAP-GPSK the first suite of the server's that the peer allows.
-    #[tactic(auto, using(crate::proofs::Agreement::never_apart, crate::proofs::Whose::theirs_if_agreed))]
+    #[tactic(auto, using(crate::proofs::HonestRuns::never_apart, crate::proofs::Whose::theirs_if_agreed))]
     pub fn result(&self) -> Verdict
         ensures value { result ≡ verdict_of (now_of P.peer_shown S.server_shown self.now) }
         ensures never_apart { IsOfRun (now_of P.peer_shown S.server_shown self.now) → tags_verdict self.now.book ≡ Honest → result ≡ Apart → ⊥ }
@@ -254,7 +293,7 @@ impl<P: PeerMethod, S: ServerMethod> World<P, S> {
     }
 
     /// Whether both ends agree.
-    #[tactic(auto, unfolding(crate::specs::Verdict::verdict_of))]
+    #[tactic(auto, unfolding(crate::specs::Judgement::verdict_of))]
     fn verdict(&self) -> Verdict
         ensures { result ≡ verdict_of (now_of P.peer_shown S.server_shown self.now) }
     {
@@ -290,40 +329,43 @@ impl<P: PeerMethod, S: ServerMethod> World<P, S> {
     }
 }
 
-/// Makes room for one packet and four tags; false for want of memory.
-fn make_room(sent: &mut Vec<Sent>, book: &mut Vec<Entry>) -> bool
-    ensures sent { sent.new.items ≡ sent.old.items }
+/// Makes room for one packet and four tags; false for want of memory, which comes only where room lacked.
+fn make_room(sent: &mut Store, book: &mut Vec<Entry>) -> bool
+    ensures sent { sent.new.packets ≡ sent.old.packets }
     ensures book { book.new.items ≡ book.old.items }
-    ensures sent_room { result ≡ true → vec_len sent.new < vec_capacity sent.new }
+    ensures sent_room { result ≡ true → (1500 ≤ sent.new.octets_room) × (1 ≤ sent.new.packets_room) }
     ensures book_room { result ≡ true → vec_len book.new + 4 ≤ vec_capacity book.new }
-    ensures sent_len { vec_len sent.new ≡ vec_len sent.old }
     ensures book_len { vec_len book.new ≡ vec_len book.old }
+    ensures lacked { 1500 ≤ sent.old.octets_room → 1 ≤ sent.old.packets_room → vec_len book.old + 4 ≤ vec_capacity book.old → result ≡ true }
 {
-    sent.reserve(1).is_ok() && book.reserve(MAX_TAGS).is_ok()
+    sent.make_room() && book.reserve(MAX_TAGS).is_ok()
 }
 
 /// Keeps what an action sends and what it writes into the book, for which there is room, and tells of it.
 fn keep<P: PeerMethod, S: ServerMethod>(
     machines: &Machines<P, S>,
-    sent: &mut Vec<Sent>,
+    sent: &mut Store,
     book: &mut Vec<Entry>,
     held: &mut Held,
     event: u32,
     action: Action,
+    packet: &Packet,
+    tags: &Tags,
 ) -> Told
-    requires sent_room { vec_len sent.old < vec_capacity sent.old }
+    requires sent_room { (1500 ≤ sent.old.octets_room) × (1 ≤ sent.old.packets_room) }
     requires book_room { vec_len book.old + 4 ≤ vec_capacity book.old }
-    requires few { vec_len sent.old < 2 ^ 32 - 1 }
-    ensures told { result ≡ told_of event (length sent.old.items + 1) (named_by held.old (parties_of P.peer_shown S.server_shown machines.now) action) action }
-    ensures sent { sent.new.items ≡ sent.old.items ++ sent_by action }
-    ensures book { book.new.items ≡ book.old.items ++ booked_by event action }
-    ensures held { held.new ≡ held_after held.old (named_by held.old (parties_of P.peer_shown S.server_shown machines.now) action) }
-    ensures few_sent { vec_len sent.new ≤ vec_len sent.old + 1 }
+    requires few { length sent.old.packets < 2 ^ 32 - 1 }
+    ensures told { result ≡ told_of event (length sent.old.packets + 1) (named_by held.old (parties_of P.peer_shown S.server_shown machines.now) (action_with action packet.now tags.now))
+        (action_with action packet.now tags.now) }
+    ensures sent { sent.new.packets ≡ sent.old.packets ++ sent_by (action_with action packet.now tags.now) }
+    ensures book { book.new.items ≡ book.old.items ++ booked_by event (action_with action packet.now tags.now) }
+    ensures held { held.new ≡ held_after held.old (named_by held.old (parties_of P.peer_shown S.server_shown machines.now) (action_with action packet.now tags.now)) }
+    ensures few_sent { length sent.new.packets ≤ length sent.old.packets + 1 }
     ensures few_booked { vec_len book.new ≤ vec_len book.old + 4 }
 {
     let number = next_number(sent.len());
-    keep_sent(sent, &action);
-    keep_tags(book, event, &action);
+    keep_sent(sent, &action, packet);
+    keep_tags(book, event, &action, tags);
     let named = name(machines, *held, &action);
     *held = with_named(*held, &named);
     tell(event, number, named, action)
@@ -335,7 +377,7 @@ fn name<P: PeerMethod, S: ServerMethod>(
     held: Held,
     action: &Action,
 ) -> Option<Named>
-    ensures { result ≡ named_by held (parties_of P.peer_shown S.server_shown machines.now) action.now }
+    ensures { (packet : List ℕ) (tags : Tags) → result ≡ named_by held (parties_of P.peer_shown S.server_shown machines.now) (action_with action.now packet tags) }
 {
     match action {
         Action::Skipped(_) => None,
@@ -410,14 +452,14 @@ fn with_party(held: Held, party: Party) -> Held
 }
 
 /// Writes the tags of an action into the book, for which there is room.
-fn keep_tags(book: &mut Vec<Entry>, event: u32, action: &Action)
+fn keep_tags(book: &mut Vec<Entry>, event: u32, action: &Action, tags: &Tags)
     requires { vec_len book.old + 4 ≤ vec_capacity book.old }
-    ensures kept { book.new.items ≡ book.old.items ++ booked_by event action.now }
+    ensures kept { (packet : List ℕ) → book.new.items ≡ book.old.items ++ booked_by event (action_with action.now packet tags.now) }
     ensures few { vec_len book.new ≤ vec_len book.old + 4 }
 {
     if let Action::Called(did) = action {
         if let Some(end) = end_of(did.party) {
-            book_tags(book, event, end, &did.step.tags);
+            book_tags(book, event, end, tags);
         }
     }
 }
@@ -441,37 +483,16 @@ fn next_number(sent: usize) -> u32
     sent as u32 + 1
 }
 
-/// Keeps what an action sends, where there is room for it.
-fn keep_sent(sent: &mut Vec<Sent>, action: &Action)
-    requires { vec_len sent.old < vec_capacity sent.old }
-    ensures kept { sent.new.items ≡ sent.old.items ++ sent_by action.now }
-    ensures few { vec_len sent.new ≤ vec_len sent.old + 1 }
+/// Keeps what an action sends, for which there is room.
+fn keep_sent(sent: &mut Store, action: &Action, packet: &Packet)
+    requires room { (1500 ≤ sent.old.octets_room) × (1 ≤ sent.old.packets_room) }
+    ensures kept { (tags : Tags) → sent.new.packets ≡ sent.old.packets ++ sent_by (action_with action.now packet.now tags) }
+    ensures few { length sent.new.packets ≤ length sent.old.packets + 1 }
 {
-    if let Some(packet) = sent_by(action) {
-        let _ = sent.push(packet);
-    }
-}
-
-/// What an action sends.
-fn sent_by(action: &Action) -> Option<Sent>
-    ensures { option_to_list result ≡ sent_by action.now }
-{
-    match action {
-        Action::Skipped(_) => None,
-        Action::Called(did) => sent_to(did.port, &did.step.sent),
-    }
-}
-
-/// A packet on its way to a port.
-fn sent_to(port: Port, packet: &Option<Packet>) -> Option<Sent>
-    ensures { option_to_list result ≡ sent_to port packet.now }
-{
-    match packet {
-        None => None,
-        Some(octets) => Some(Sent {
-            port,
-            octets: octets.copy(),
-        }),
+    if let Action::Called(did) = action {
+        if did.step.sends {
+            sent.keep(did.port, packet.as_slice());
+        }
     }
 }
 
@@ -480,7 +501,7 @@ fn count(counts: Counts, action: &Action) -> Counts
     requires room { counts.events < 2 ^ 31 }
     requires deliveries { counts.deliveries ≤ counts.events }
     requires discards { counts.discards ≤ counts.events }
-    ensures value { result ≡ counted counts action.now }
+    ensures value { (packet : List ℕ) (tags : Tags) → result ≡ counted counts (action_with action.now packet tags) }
     ensures events { result.events ≡ counts.events + 1 }
     ensures few_deliveries { result.deliveries ≤ counts.deliveries + 1 }
     ensures few_discards { result.discards ≤ counts.discards + 1 }
@@ -500,7 +521,7 @@ fn count(counts: Counts, action: &Action) -> Counts
 
 /// What is told of an action: the number of its event, and that of the packet that it sends.
 fn tell(event: u32, number: u32, named: Option<Named>, action: Action) -> Told
-    ensures { result ≡ told_of event number named action }
+    ensures { (packet : List ℕ) (tags : Tags) → result ≡ told_of event number named (action_with action packet tags) }
 {
     match action {
         Action::Skipped(skip) => Told {
@@ -525,13 +546,10 @@ fn tell(event: u32, number: u32, named: Option<Named>, action: Action) -> Told
             path: step.path,
             cause: step.cause,
             skip: None,
-            sent: match step.sent {
-                None => None,
-                Some(packet) => Some(SentPacket {
-                    number,
-                    port,
-                    packet,
-                }),
+            sent: if step.sends {
+                Some(SentPacket { number, port })
+            } else {
+                None
             },
             named,
         },

@@ -1,6 +1,6 @@
 use Rattle.std.proofs.Common.{◌≡◌}
 use Rattle.eap_world.specs.World.{now_of}
-use Rattle.eap_world.proofs.Runs.{run_begins}
+use Rattle.eap_world.proofs.EventByEvent.{run_begins, begins_small}
 use Rattle.eap_world.proofs.world.World.start.Goals as goal
 
 pub returns-clause-run : goal.returns-clause-run
@@ -8,3 +8,9 @@ returns-clause-run g c =
     run_begins (now_of g.P.PeerMethod.peer_shown g.S.ServerMethod.server_shown c.args.self.now)
     (now_of g.P.PeerMethod.peer_shown g.S.ServerMethod.server_shown c.begin.new.self) (c.begin.new.self ≡ c.args.self.now) c.begin.result
     c.begin.ensures.told
+
+pub returns-clause-few : goal.returns-clause-few
+returns-clause-few g c =
+    begins_small (now_of g.P.PeerMethod.peer_shown g.S.ServerMethod.server_shown c.args.self.now)
+    (now_of g.P.PeerMethod.peer_shown g.S.ServerMethod.server_shown c.begin.new.self) (c.begin.new.self ≡ c.args.self.now) c.begin.result
+    (returns-clause-run g c)

@@ -1,6 +1,6 @@
 use Rattle.std.proofs.Common.{◌≡◌}
 use Rattle.eap_world.specs.World.{now_of}
-use Rattle.eap_world.proofs.Runs.{run_goes_on}
+use Rattle.eap_world.proofs.EventByEvent.{run_goes_on, stays_small}
 use Rattle.eap_world.proofs.world.World.step.Goals as goal
 
 pub returns-clause-run : goal.returns-clause-run
@@ -8,3 +8,9 @@ returns-clause-run g c =
     run_goes_on (now_of g.P.PeerMethod.peer_shown g.S.ServerMethod.server_shown c.args.self.now)
     (now_of g.P.PeerMethod.peer_shown g.S.ServerMethod.server_shown c.take.new.self) (c.take.new.self ≡ c.args.self.now) c.args.event.now c.take.result
     c.take.ensures.told
+
+pub returns-clause-few : goal.returns-clause-few
+returns-clause-few g c =
+    stays_small (now_of g.P.PeerMethod.peer_shown g.S.ServerMethod.server_shown c.args.self.now)
+    (now_of g.P.PeerMethod.peer_shown g.S.ServerMethod.server_shown c.take.new.self) (c.take.new.self ≡ c.args.self.now) c.args.event.now c.take.result
+    (returns-clause-run g c)

@@ -6,18 +6,18 @@ use Rattle.eap_base.specs.declared.setup.Setup.{Setup}
 use Rattle.server_machine.specs.ServerTable.{server_start}
 use Rattle.eap_world.specs.Book.{first_broken, verdict_on, tags_verdict}
 use Rattle.eap_world.specs.declared.book.TagsVerdict.TheVariants.{Honest}
-use Rattle.eap_world.specs.Verdict.{verdict_of, is_success, judged}
+use Rattle.eap_world.specs.Judgement.{verdict_of, is_success, judged}
 use Rattle.eap_world.specs.declared.verdict.Verdict.{Verdict}
 use Rattle.eap_world.specs.declared.verdict.Verdict.TheVariants.{Agree, Apart, Unfinished}
 use Rattle.eap_world.specs.World.{WorldNow, world_made, world_start}
 use Rattle.eap_world.specs.declared.book.End.TheVariants as end
 use Rattle.eap_world.specs.Agreement.{IsWhole, IsOfRun, AgreesWhereHonest, HonestEndsAgree, run_of}
 use Rattle.eap_world.specs.Records.{tags_by}
-use Rattle.eap_world.proofs.Booked.{honest_tags}
-use Rattle.eap_world.proofs.Running.{BothStand, run_stands}
+use Rattle.eap_world.proofs.TagsOfEnds.{honest_tags}
+use Rattle.eap_world.proofs.EndsStand.{BothStand, run_stands}
 use Rattle.eap_world.proofs.PeerKeeps as peer_calls
 use Rattle.eap_world.proofs.ServerKeeps as server_calls
-use Rattle.eap_world.proofs.Agreeing.{both_agree, ends_succeed}
+use Rattle.eap_world.proofs.SucceedingEnds.{both_agree, ends_succeed}
 
 pub none_if_honest : (o : Option ℕ) → verdict_on o ≡ Honest → o ≡ None
 none_if_honest None e = refl

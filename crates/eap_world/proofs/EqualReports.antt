@@ -6,7 +6,7 @@ use Rattle.std.proofs.lemmas.Slice.Eq.{bytes_eq-Decides}
 use Rattle.eap_base.specs.declared.setup.PeerSetup.{PeerSetup}
 use Rattle.eap_base.specs.declared.setup.ServerSetup.{ServerSetup}
 use Rattle.eap_method.specs.declared.values.Report.{Report}
-use Rattle.eap_world.specs.Verdict.{same_report, peer_agrees, server_agrees, agree}
+use Rattle.eap_world.specs.Judgement.{same_report, peer_agrees, server_agrees, agree}
 
 same_octets : (octets : List ℕ) → bytes_eq octets octets ≡ true
 same_octets octets = (bytes_eq-Decides octets octets).1 refl

@@ -11,7 +11,7 @@ use Rattle.eap_method.specs.GpskServer as gpsk_server
 use Rattle.eap_method.specs.GpskTags.{sk_record}
 use Rattle.peer_machine.specs.PeerTable.{PeerNow, peer_reports}
 use Rattle.server_machine.specs.ServerTable.{ServerNow, server_reports}
-use Rattle.eap_world.specs.Verdict.{judged, is_success}
+use Rattle.eap_world.specs.Judgement.{judged, is_success}
 use Rattle.eap_world.specs.Records.{IsIn, AreIn, here}
 use Rattle.eap_world.specs.PeerStands as peers
 use Rattle.eap_world.specs.PeerStands.{PeerStands}

@@ -12,7 +12,7 @@ use Rattle.eap_world.specs.PeerStands.{PeerStands}
 use Rattle.eap_world.specs.ServerStands.{ServerStands}
 use Rattle.eap_world.specs.Records.{tags_by}
 use Rattle.eap_world.proofs.Acting.{Steps, skips, calls, run_keeps}
-use Rattle.eap_world.proofs.Booked.{grows, rests}
+use Rattle.eap_world.proofs.TagsOfEnds.{grows, rests}
 use Rattle.eap_world.proofs.PeerKeeps.{peer_keeps}
 use Rattle.eap_world.proofs.ServerKeeps.{server_keeps}
 

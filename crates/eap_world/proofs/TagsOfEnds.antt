@@ -38,20 +38,20 @@ nil_either : (b : Bool) → (let none : List TagRecord = [] in none ≡ (if b th
 nil_either true = refl
 nil_either false = refl
 
-tags_by-map : (end other : End) (how use_of : Use) (event : ℕ) (tags : List TagRecord)
+mapped_tags : (end other : End) (how use_of : Use) (event : ℕ) (tags : List TagRecord)
     → tags_by end how (map (entry event other use_of) tags) ≡ (if same_end other end && same_use use_of how then tags else [])
 unfolding tags_by
-tags_by-map end other how use_of event [] = nil_either (same_end other end && same_use use_of how)
-tags_by-map end other how use_of event (tag ∷ rest) =
-    kept_if (same_end other end && same_use use_of how) tag rest _ (tags_by-map end other how use_of event rest)
+mapped_tags end other how use_of event [] = nil_either (same_end other end && same_use use_of how)
+mapped_tags end other how use_of event (tag ∷ rest) =
+    kept_if (same_end other end && same_use use_of how) tag rest _ (mapped_tags end other how use_of event rest)
 
 -- what an event of an end books
-tags_by-booked : (end other : End) (how : Use) (event : ℕ) (tags : Tags)
+booked_tags : (end other : End) (how : Use) (event : ℕ) (tags : Tags)
     → tags_by end how (booked event other tags)
     ≡ (if same_end other end && same_use Accepted how then tags.accepted else []) ++ (if same_end other end && same_use Made how then tags.made else [])
-tags_by-booked end other how event tags =
+booked_tags end other how event tags =
     tags_append end how (map (entry event other Accepted) tags.accepted) (map (entry event other Made) tags.made)
-    ∙ (rw (tags_by-map end other how Accepted event tags.accepted, tags_by-map end other how Made event tags.made) refl)
+    ∙ (rw (mapped_tags end other how Accepted event tags.accepted, mapped_tags end other how Made event tags.made) refl)
 
 -- the other end
 abbrev pub other_end : End → End
@@ -75,12 +75,12 @@ of_other Server how tags = refl
 -- what holds of the lists of an end holds of them with its own event's tags, and stays at the other's event
 module _ (own : End) (P : List TagRecord → List TagRecord → Type 0) (book : List Entry) (event : ℕ) (tags : Tags) where
   grown : (how : Use) → tags_by own how (book ++ booked event own tags) ≡ tags_by own how book ++ (elim how [ Accepted ↦ tags.accepted | Made ↦ tags.made ])
-  grown how = tags_append own how book _ ∙ ap (λ xs. tags_by own how book ++ xs) (tags_by-booked own own how event tags ∙ of_own own how tags)
+  grown how = tags_append own how book _ ∙ ap (λ xs. tags_by own how book ++ xs) (booked_tags own own how event tags ∙ of_own own how tags)
 
   stayed : (how : Use) → tags_by own how (book ++ booked event (other_end own) tags) ≡ tags_by own how book
   stayed how =
       tags_append own how book _
-      ∙ (ap (λ xs. tags_by own how book ++ xs) (tags_by-booked own (other_end own) how event tags ∙ of_other own how tags) ∙ append-nil (tags_by own how book))
+      ∙ (ap (λ xs. tags_by own how book ++ xs) (booked_tags own (other_end own) how event tags ∙ of_other own how tags) ∙ append-nil (tags_by own how book))
 
   pub grows : P (tags_by own Accepted book ++ tags.accepted) (tags_by own Made book ++ tags.made)
       → P (tags_by own Accepted (book ++ booked event own tags)) (tags_by own Made (book ++ booked event own tags))

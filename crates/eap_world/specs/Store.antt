@@ -1,0 +1,31 @@
+-- The store of the packets that were sent: their octets joined, and where each packet's stand.
+use Rattle.std.specs.Prelude.{◌≤◌, ◌+◌, ℕ, List, take, drop, map}
+use Rattle.std.specs.List.{All}
+use Rattle.eap_world.specs.Sent.{Sent}
+use Rattle.eap_world.specs.declared.store.Slot.{Slot}
+use Rattle.eap_world.specs.declared.store.Stored.{Stored}
+
+-- the packets in their order, and for how many more octets and packets there is room
+pub record StoreValue : Type 0 where
+  pub packets : List Sent
+  pub octets_room : ℕ
+  pub packets_room : ℕ
+
+-- the packet whose octets stand at a slot
+abbrev pub packet_at : List ℕ → Slot → Sent
+packet_at octets slot = record { port = slot.port; octets = take slot.length (drop slot.place octets) }
+
+abbrev pub packets_at : List ℕ → List Slot → List Sent
+packets_at octets slots = map (packet_at octets) slots
+
+-- a packet as the store lends it
+abbrev pub stored : Stored → Sent
+stored packet = record { port = packet.port; octets = packet.octets.now }
+
+-- so many octets are enough for a slot, which is a packet's
+pub record IsThere (count : ℕ) (slot : Slot) : Type 0 where
+  pub enough : slot.place + slot.length ≤ count
+  pub fits : slot.length ≤ 1500
+
+abbrev pub AreThere : ℕ → List Slot → Type 0
+AreThere count slots = All (IsThere count) slots

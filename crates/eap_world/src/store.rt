@@ -1,0 +1,157 @@
+//! The packets that were sent.
+
+ghost use Rattle.std.specs.Prelude.{◌≡◌, ◌≤◌, ◌<◌, ◌+◌, ◌++◌, ◌∷◌, [], true, length, take, drop, Option, option_map, option_copied, IfSome};
+ghost use Rattle.eap_world.specs.Store.{AreThere, IsThere, packet_at, stored};
+ghost use Rattle.eap_world.specs.Sent.{packet_numbered};
+
+use eap_base::Port;
+use std::alloc::Global;
+use std::marker::Model;
+
+/// The octets of the longest packet.
+const MAX_OCTETS: usize = 1500;
+
+/// Where a packet's octets stand, and where it goes.
+#[derive(Clone, Copy, PartialEq, Eq, Debug)]
+pub struct Slot {
+    pub port: Port,
+    /// The place of its first octet among the octets of all packets.
+    pub place: usize,
+    /// How many octets it has.
+    pub length: usize,
+}
+
+/// A packet that was sent, as the store lends it.
+#[derive(Clone, Copy)]
+pub struct Stored<'a> {
+    pub port: Port,
+    pub octets: &'a [u8],
+}
+
+/// The packets that were sent, in their order. One whose octets are those of the last packet to the same
+/// port stands where that one does. Contracts see the packets, and how much more there is room for.
+#[derive(Drop)]
+pub struct Store {
+    octets: Vec<u8>,
+    slots: Vec<Slot>,
+}
+
+impl Model for Store {
+    ghost use Rattle.std.specs.Prelude.{◌-◌, vec_len, vec_capacity};
+    ghost use Rattle.eap_world.specs.Store.{StoreValue, AreThere, packets_at};
+
+    ghost Value = { StoreValue };
+
+    ghost view = { λ s. record {
+      packets = packets_at s.octets.items s.slots.items;
+      octets_room = vec_capacity s.octets - vec_len s.octets;
+      packets_room = vec_capacity s.slots - vec_len s.slots;
+    } };
+
+    ghost invariant = { λ s. AreThere (vec_len s.octets) s.slots.items };
+}
+
+impl Store {
+    /// No packets. It takes no memory.
+    pub fn new(alloc: Global) -> Store
+        ensures { result.packets ≡ [] }
+    {
+        Store {
+            octets: Vec::new(alloc),
+            slots: Vec::new(alloc),
+        }
+    }
+
+    /// The number of packets.
+    pub fn len(&self) -> usize
+        ensures { result ≡ length self.now.packets }
+    {
+        self.slots.len()
+    }
+
+    /// Makes room for one more packet of at most 1,500 octets. False for want of memory, which comes only
+    /// where that room lacked. The packets stay, and no room is lost.
+    pub fn make_room(&mut self) -> bool
+        ensures packets { self.new.packets ≡ self.old.packets }
+        ensures octets_room { result ≡ true → 1500 ≤ self.new.octets_room }
+        ensures packets_room { result ≡ true → 1 ≤ self.new.packets_room }
+        ensures octets_stay { self.old.octets_room ≤ self.new.octets_room }
+        ensures packets_stay { self.old.packets_room ≤ self.new.packets_room }
+        ensures lacked { 1500 ≤ self.old.octets_room → 1 ≤ self.old.packets_room → result ≡ true }
+    {
+        self.octets.reserve(MAX_OCTETS).is_ok() && self.slots.reserve(1).is_ok()
+    }
+
+    /// Keeps a packet of at most 1,500 octets, for which there is room.
+    #[tactic(auto, using(crate::proofs::Storing::one_more, crate::proofs::Storing::stored_behind, crate::proofs::Storing::are_there))]
+    pub fn keep(&mut self, port: Port, octets: &[u8])
+        requires fits { length octets.now ≤ 1500 }
+        requires octets_room { 1500 ≤ self.old.octets_room }
+        requires packets_room { 1 ≤ self.old.packets_room }
+        ensures packets { self.new.packets ≡ self.old.packets ++ (record { port = port; octets = octets.now }) ∷ [] }
+    {
+        let length = octets.len();
+        match place_of(self.octets.as_slice(), self.slots.as_slice(), port, octets) {
+            Some(place) => {
+                let _ = self.slots.push(Slot { port, place, length });
+            }
+            None => {
+                let place = self.octets.len();
+                let _ = self.octets.extend_from_slice(octets);
+                let _ = self.slots.push(Slot { port, place, length });
+            }
+        }
+    }
+
+    /// The packet of this number, counted from 1; None where none was sent with it.
+    pub fn get(&self, number: u32) -> Option<Stored>
+        ensures packet { option_map stored result ≡ packet_numbered self.now.packets number }
+        ensures fits { IfSome result (λ packet. length packet.octets.now ≤ 1500) }
+    {
+        if number == 0 {
+            return None;
+        }
+        match self.slots.get(number as usize - 1) {
+            None => None,
+            Some(slot) => Some(Stored {
+                port: slot.port,
+                octets: octets_at(self.octets.as_slice(), slot),
+            }),
+        }
+    }
+}
+
+/// The place of a packet's octets where they are those of the last packet to its port.
+fn place_of(octets: &[u8], slots: &[Slot], port: Port, packet: &[u8]) -> Option<usize>
+    requires { AreThere (length octets.now) slots.now }
+    ensures there { IfSome result (λ place. place + length packet.now ≤ length octets.now) }
+    ensures same { IfSome result (λ place. take (length packet.now) (drop place octets.now) ≡ packet.now) }
+{
+    match last_to(slots, port) {
+        None => None,
+        Some(number) => {
+            let slot = slots[number];
+            if octets_at(octets, &slot) == packet {
+                Some(slot.place)
+            } else {
+                None
+            }
+        }
+    }
+}
+
+/// The place among these of the last to a port.
+fn last_to(slots: &[Slot], port: Port) -> Option<usize>
+    ensures { IfSome result (λ number. number < length slots.now) }
+{
+    slots.iter().rposition(|slot| slot.port == port)
+}
+
+/// The octets at a slot.
+fn octets_at<'a>(octets: &'a [u8], slot: &Slot) -> &'a [u8]
+    requires { IsThere (length octets.now) slot.now }
+    ensures same { result.now ≡ (packet_at octets.now slot.now).octets }
+    ensures fits { length result.now ≤ 1500 }
+{
+    &octets[slot.place..slot.place + slot.length]
+}
