@@ -1,13 +1,16 @@
 -- The store of the packets that were sent: their octets joined, and where each packet's stand.
-use Rattle.std.specs.Prelude.{◌≤◌, ◌+◌, ℕ, List, take, drop, map}
+use Rattle.std.specs.Prelude.{◌≤◌, ◌+◌, ℕ, List, [], ◌∷◌, Bool, if◌then◌else◌, take, drop, map, Option, Some, None, option_map}
 use Rattle.std.specs.List.{All}
-use Rattle.eap_world.specs.Sent.{Sent}
+use Rattle.eap_base.specs.declared.setup.Port.{Port}
+use Rattle.eap_world.specs.Sent.{Sent, same_port}
 use Rattle.eap_world.specs.declared.store.Slot.{Slot}
 use Rattle.eap_world.specs.declared.store.Stored.{Stored}
 
--- the packets in their order, and for how many more octets and packets there is room
+-- the packets in their order, how many octets are stored for them, and for how many more octets and packets
+-- there is room
 pub record StoreValue : Type 0 where
   pub packets : List Sent
+  pub stored : ℕ
   pub octets_room : ℕ
   pub packets_room : ℕ
 
@@ -22,6 +25,9 @@ packets_at octets slots = map (packet_at octets) slots
 abbrev pub stored : Stored → Sent
 stored packet = record { port = packet.port; octets = packet.octets.now }
 
+abbrev pub lent : Option Stored → Option Sent
+lent packet = option_map stored packet
+
 -- so many octets are enough for a slot, which is a packet's
 pub record IsThere (count : ℕ) (slot : Slot) : Type 0 where
   pub enough : slot.place + slot.length ≤ count
@@ -29,3 +35,12 @@ pub record IsThere (count : ℕ) (slot : Slot) : Type 0 where
 
 abbrev pub AreThere : ℕ → List Slot → Type 0
 AreThere count slots = All (IsThere count) slots
+
+-- the last slot to a port
+abbrev pub or_slot : Bool → Slot → Option Slot → Option Slot
+or_slot is_to slot (Some later) = Some later
+or_slot is_to slot None = if is_to then Some slot else None
+
+unfoldable pub last_slot : Port → List Slot → Option Slot
+last_slot port [] = None
+last_slot port (slot ∷ rest) = or_slot (same_port slot.port port) slot (last_slot port rest)

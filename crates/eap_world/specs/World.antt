@@ -41,13 +41,15 @@ use Rattle.eap_world.specs.declared.told.Skip.{Skip}
 use Rattle.eap_world.specs.declared.told.Skip.TheVariants.{NoParty, Unsent, Place, Ended, NoTimer}
 use Rattle.eap_world.specs.declared.world.Held.{Held}
 
--- a world as its fields show it: its mode, both machines, the packets sent so far in order, the book of tags,
--- the counts, which ends have held a report, and whether the world has started
+-- a world as its fields show it: its mode, both machines, the packets sent so far in order and how many octets
+-- are stored for them, the book of tags, the counts, which ends have held a report, and whether the world has
+-- started
 pub record WorldValue (P S : Type 0) : Type 0 where
   pub mode : Mode
   pub peer : PeerValue P
   pub server : ServerValue S
   pub sent : List Sent
+  pub stored : ℕ
   pub book : List Entry
   pub counts : Counts
   pub held : Held
@@ -273,6 +275,30 @@ called_unless parties (Some skip) call = skipped parties skip
 called_unless parties None None = skipped parties NoParty
 called_unless parties None (Some call) = called parties call
 
+-- the same by what the event is: a packet's octets, as they are, altered or cut, and others, that come to a
+-- port; the end of a timer; a report of the lower layer
+abbrev pub handed : Parties → Option Sent → Bool → List ℕ → Acted
+handed parties packet is_misplaced octets = called_unless parties (first_skip (packet_skips parties.mode packet is_misplaced)) (call_with packet octets)
+
+abbrev pub delivered : Parties → Option Sent → Acted
+delivered parties packet = handed parties packet false (octets_of packet)
+
+abbrev pub delivered_altered : Parties → Option Sent → ℕ → ℕ → Acted
+delivered_altered parties packet place mask =
+    handed parties packet (nat_le (length (octets_of packet)) place) (altered (octets_of packet) place mask)
+
+abbrev pub delivered_cut : Parties → Option Sent → ℕ → Acted
+delivered_cut parties packet keep = handed parties packet (nat_lt (length (octets_of packet)) keep) (take keep (octets_of packet))
+
+abbrev pub injected : Parties → Port → List ℕ → Acted
+injected parties port octets = called_unless parties (first_skip ((is_absent parties.mode port, NoParty) ∷ [])) (call_at port octets)
+
+abbrev pub timed_out : Parties → Party → Acted
+timed_out parties party = called_unless parties (first_skip (timer_skips parties party)) (Some (to_server server_inputs.timeout))
+
+abbrev pub told_peer : Parties → Event → Acted
+told_peer parties e = called_unless parties (first_skip ((is_end parties.peer.vars.state, Ended) ∷ [])) (reported e)
+
 -- what an event makes of the parties, where these packets were sent before it
 unfoldable pub act : Parties → List Sent → Event → Acted
 act parties sent e = called_unless parties (first_skip (skip_table parties sent e)) (call_of sent e)
@@ -356,6 +382,14 @@ told_of event number named (Called did) = record {
   sent = numbered number did.port did.step.sent;
   named = named;
 }
+
+-- what is told of an action that left the machines so, and which ends have then held a report
+abbrev pub told_with : {P S : Type 0} → (P → PeerShown) → (S → ServerShown) → Held → Machines P S → ℕ → ℕ → Action → Told
+told_with peer_shown server_shown held after event number action =
+    told_of event number (named_by held (parties_of peer_shown server_shown after) action) action
+
+abbrev pub held_with : {P S : Type 0} → (P → PeerShown) → (S → ServerShown) → Held → Machines P S → Action → Held
+held_with peer_shown server_shown held after action = held_after held (named_by held (parties_of peer_shown server_shown after) action)
 
 -- what came of a start or an event, and the world after it
 pub record WorldOutcome : Type 0 where

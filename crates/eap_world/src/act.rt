@@ -1,15 +1,15 @@
 //! What an event makes of the parties: it is skipped, or is a call of one of them. What a call sends and
 //! the records of its tags are written where the caller lends the room.
 
-ghost use Rattle.std.specs.Prelude.{◌≡◌, ◌≤◌, ◌<◌, ◌∷◌, ℕ, List, [], Some, IfSome, false, if◌then◌else◌, length, nat_le, nat_lt, option_map, take};
-ghost use Rattle.server_machine.specs.Inputs as server_inputs;
-ghost use Rattle.eap_method.specs.Steps.{is_end, step_with};
+ghost use Rattle.std.specs.Prelude.{◌≡◌, ◌≤◌, ◌<◌, ℕ, List, IfSome, if◌then◌else◌, length};
+ghost use Rattle.eap_method.specs.Steps.{step_with};
 ghost use Rattle.eap_method.specs.declared.tags.Tags.{Tags};
-ghost use Rattle.eap_world.specs.Store.{stored};
-ghost use Rattle.eap_world.specs.World.{RunAlike, acted_with, action_with, parties_of, act, altered, call_at, call_with, called_unless, did_by, first_skip, goes_to, is_absent, octets_of, packet_skips, reported, timer_skips, to_server};
+ghost use Rattle.eap_world.specs.Store.{lent};
+ghost use Rattle.eap_world.specs.World.{RunAlike, act, acted_with, action_with, altered, delivered, delivered_altered, delivered_cut};
+ghost use Rattle.eap_world.specs.World.{did_by, goes_to, injected, is_absent, parties_of, timed_out, told_peer};
 ghost use Rattle.eap_world.specs.World as worlds;
 ghost use Rattle.eap_world.specs.declared.act.Action.TheVariants.{Skipped};
-ghost use Rattle.eap_world.specs.declared.told.Skip.TheVariants.{Ended, NoParty, Place};
+ghost use Rattle.eap_world.specs.declared.told.Skip.TheVariants.{NoParty, Place};
 
 use crate::store::{Store, Stored};
 use crate::told::Skip;
@@ -80,7 +80,8 @@ pub fn act<P: PeerMethod, S: ServerMethod>(
 
 /// What a party's call did.
 pub fn does(mode: Mode, party: Party, is_delivery: bool, step: Step) -> Action
-    ensures { (packet : List ℕ) (tags : Tags) → action_with result packet tags ≡ worlds.Called (did_by mode party is_delivery (step_with step packet tags)) }
+    ensures { (packet : List ℕ) (tags : Tags)
+        → action_with result packet tags ≡ worlds.Called (did_by mode party is_delivery (step_with step packet tags)) }
 {
     Action::Called(Did {
         party,
@@ -131,7 +132,7 @@ fn hand<P: PeerMethod, S: ServerMethod>(
     packet: &mut Packet,
     tags: &mut Tags,
 ) -> Action
-    ensures acts { called_unless (parties_of P.peer_shown S.server_shown machines.old) (first_skip ((is_absent machines.old.mode port, NoParty) ∷ [])) (call_at port octets.now)
+    ensures acts { injected (parties_of P.peer_shown S.server_shown machines.old) port octets.now
         ≡ acted_with P.peer_shown S.server_shown result packet.new tags.new machines.new }
     ensures alike { RunAlike P.peer_shown S.server_shown machines.old machines.new }
 {
@@ -157,7 +158,7 @@ fn deliver<P: PeerMethod, S: ServerMethod>(
     packet: &mut Packet,
     tags: &mut Tags,
 ) -> Action
-    ensures acts { called_unless (parties_of P.peer_shown S.server_shown machines.old) (first_skip (packet_skips machines.old.mode (option_map stored sent.entry) false)) (call_with (option_map stored sent.entry) (octets_of (option_map stored sent.entry)))
+    ensures acts { delivered (parties_of P.peer_shown S.server_shown machines.old) (lent sent.entry)
         ≡ acted_with P.peer_shown S.server_shown result packet.new tags.new machines.new }
     ensures alike { RunAlike P.peer_shown S.server_shown machines.old machines.new }
 {
@@ -177,8 +178,7 @@ fn alter<P: PeerMethod, S: ServerMethod>(
     tags: &mut Tags,
 ) -> Action
     requires { IfSome sent (λ s. length s.octets.now ≤ 1500) }
-    ensures acts { called_unless (parties_of P.peer_shown S.server_shown machines.old) (first_skip (packet_skips machines.old.mode (option_map stored sent.entry) (nat_le (length (octets_of (option_map stored sent.entry))) place)))
-        (call_with (option_map stored sent.entry) (altered (octets_of (option_map stored sent.entry)) place mask))
+    ensures acts { delivered_altered (parties_of P.peer_shown S.server_shown machines.old) (lent sent.entry) place mask
         ≡ acted_with P.peer_shown S.server_shown result packet.new tags.new machines.new }
     ensures alike { RunAlike P.peer_shown S.server_shown machines.old machines.new }
 {
@@ -206,8 +206,7 @@ fn hand_altered<P: PeerMethod, S: ServerMethod>(
 ) -> Action
     requires fits { length stored.now.octets.now ≤ 1500 }
     requires place { place < length stored.now.octets.now }
-    ensures acts { called_unless (parties_of P.peer_shown S.server_shown machines.old) (first_skip ((is_absent machines.old.mode stored.now.port, NoParty) ∷ []))
-        (call_at stored.now.port (altered stored.now.octets.now place mask))
+    ensures acts { injected (parties_of P.peer_shown S.server_shown machines.old) stored.now.port (altered stored.now.octets.now place mask)
         ≡ acted_with P.peer_shown S.server_shown result packet.new tags.new machines.new }
     ensures alike { RunAlike P.peer_shown S.server_shown machines.old machines.new }
 {
@@ -236,8 +235,7 @@ fn cut<P: PeerMethod, S: ServerMethod>(
     packet: &mut Packet,
     tags: &mut Tags,
 ) -> Action
-    ensures acts { called_unless (parties_of P.peer_shown S.server_shown machines.old) (first_skip (packet_skips machines.old.mode (option_map stored sent.entry) (nat_lt (length (octets_of (option_map stored sent.entry))) keep)))
-        (call_with (option_map stored sent.entry) (take keep (octets_of (option_map stored sent.entry))))
+    ensures acts { delivered_cut (parties_of P.peer_shown S.server_shown machines.old) (lent sent.entry) keep
         ≡ acted_with P.peer_shown S.server_shown result packet.new tags.new machines.new }
     ensures alike { RunAlike P.peer_shown S.server_shown machines.old machines.new }
 {
@@ -272,8 +270,7 @@ fn end_timer<P: PeerMethod, S: ServerMethod>(
     packet: &mut Packet,
     tags: &mut Tags,
 ) -> Action
-    ensures acts { called_unless (parties_of P.peer_shown S.server_shown machines.old) (first_skip (timer_skips (parties_of P.peer_shown S.server_shown machines.old) party))
-        (Some (to_server server_inputs.timeout))
+    ensures acts { timed_out (parties_of P.peer_shown S.server_shown machines.old) party
         ≡ acted_with P.peer_shown S.server_shown result packet.new tags.new machines.new }
     ensures alike { RunAlike P.peer_shown S.server_shown machines.old machines.new }
 {
@@ -303,7 +300,7 @@ fn report<P: PeerMethod, S: ServerMethod>(
     packet: &mut Packet,
     tags: &mut Tags,
 ) -> Action
-    ensures acts { called_unless (parties_of P.peer_shown S.server_shown machines.old) (first_skip ((is_end machines.old.peer.vars.state, Ended) ∷ [])) (reported event.now)
+    ensures acts { told_peer (parties_of P.peer_shown S.server_shown machines.old) event.now
         ≡ acted_with P.peer_shown S.server_shown result packet.new tags.new machines.new }
     ensures alike { RunAlike P.peer_shown S.server_shown machines.old machines.new }
 {

@@ -1,8 +1,8 @@
 //! The packets that were sent.
 
-ghost use Rattle.std.specs.Prelude.{◌≡◌, ◌≤◌, ◌<◌, ◌+◌, ◌++◌, ◌∷◌, [], true, length, take, drop, Option, option_map, option_copied, IfSome};
-ghost use Rattle.eap_world.specs.Store.{AreThere, IsThere, packet_at, stored};
-ghost use Rattle.eap_world.specs.Sent.{packet_numbered};
+ghost use Rattle.std.specs.Prelude.{◌≡◌, ◌≤◌, ◌<◌, ◌+◌, ◌++◌, ◌∷◌, [], true, length, take, drop, Some, IfSome, is_some};
+ghost use Rattle.eap_world.specs.Sent.{last_to, packet_numbered, same_port};
+ghost use Rattle.eap_world.specs.Store.{AreThere, IsThere, last_slot, lent, packet_at, packets_at};
 
 use eap_base::Port;
 use std::alloc::Global;
@@ -44,6 +44,7 @@ impl Model for Store {
 
     ghost view = { λ s. record {
       packets = packets_at s.octets.items s.slots.items;
+      stored = vec_len s.octets;
       octets_room = vec_capacity s.octets - vec_len s.octets;
       packets_room = vec_capacity s.slots - vec_len s.slots;
     } };
@@ -54,7 +55,8 @@ impl Model for Store {
 impl Store {
     /// No packets. It takes no memory.
     pub fn new(alloc: Global) -> Store
-        ensures { result.packets ≡ [] }
+        ensures packets { result.packets ≡ [] }
+        ensures stored { result.stored ≡ 0 }
     {
         Store {
             octets: Vec::new(alloc),
@@ -69,10 +71,18 @@ impl Store {
         self.slots.len()
     }
 
+    /// How many octets are stored: those of a packet that stands where an earlier one does are stored once.
+    pub fn stored(&self) -> usize
+        ensures { result ≡ self.now.stored }
+    {
+        self.octets.len()
+    }
+
     /// Makes room for one more packet of at most 1,500 octets. False for want of memory, which comes only
     /// where that room lacked. The packets stay, and no room is lost.
     pub fn make_room(&mut self) -> bool
         ensures packets { self.new.packets ≡ self.old.packets }
+        ensures stored { self.new.stored ≡ self.old.stored }
         ensures octets_room { result ≡ true → 1500 ≤ self.new.octets_room }
         ensures packets_room { result ≡ true → 1 ≤ self.new.packets_room }
         ensures octets_stay { self.old.octets_room ≤ self.new.octets_room }
@@ -82,30 +92,41 @@ impl Store {
         self.octets.reserve(MAX_OCTETS).is_ok() && self.slots.reserve(1).is_ok()
     }
 
-    /// Keeps a packet of at most 1,500 octets, for which there is room.
+    /// Keeps a packet of at most 1,500 octets, for which there is room. One whose octets are those of the last
+    /// packet to the same port takes no more octets.
     #[tactic(auto, using(crate::proofs::Storing::one_more, crate::proofs::Storing::stored_behind, crate::proofs::Storing::are_there))]
     pub fn keep(&mut self, port: Port, octets: &[u8])
         requires fits { length octets.now ≤ 1500 }
         requires octets_room { 1500 ≤ self.old.octets_room }
         requires packets_room { 1 ≤ self.old.packets_room }
         ensures packets { self.new.packets ≡ self.old.packets ++ (record { port = port; octets = octets.now }) ∷ [] }
+        ensures stored { self.new.stored ≤ self.old.stored + length octets.now }
+        ensures repeats { last_to port self.old.packets ≡ Some octets.now → self.new.stored ≡ self.old.stored }
     {
         let length = octets.len();
         match place_of(self.octets.as_slice(), self.slots.as_slice(), port, octets) {
             Some(place) => {
-                let _ = self.slots.push(Slot { port, place, length });
+                let _ = self.slots.push(Slot {
+                    port,
+                    place,
+                    length,
+                });
             }
             None => {
                 let place = self.octets.len();
                 let _ = self.octets.extend_from_slice(octets);
-                let _ = self.slots.push(Slot { port, place, length });
+                let _ = self.slots.push(Slot {
+                    port,
+                    place,
+                    length,
+                });
             }
         }
     }
 
     /// The packet of this number, counted from 1; None where none was sent with it.
     pub fn get(&self, number: u32) -> Option<Stored>
-        ensures packet { option_map stored result ≡ packet_numbered self.now.packets number }
+        ensures packet { lent result ≡ packet_numbered self.now.packets number }
         ensures fits { IfSome result (λ packet. length packet.octets.now ≤ 1500) }
     {
         if number == 0 {
@@ -122,29 +143,51 @@ impl Store {
 }
 
 /// The place of a packet's octets where they are those of the last packet to its port.
+#[tactic(auto, using(crate::proofs::Storing::last_is, crate::proofs::Storing::none_last))]
 fn place_of(octets: &[u8], slots: &[Slot], port: Port, packet: &[u8]) -> Option<usize>
     requires { AreThere (length octets.now) slots.now }
     ensures there { IfSome result (λ place. place + length packet.now ≤ length octets.now) }
     ensures same { IfSome result (λ place. take (length packet.now) (drop place octets.now) ≡ packet.now) }
+    ensures repeats { last_to port (packets_at octets.now slots.now) ≡ Some packet.now → is_some result ≡ true }
 {
     match last_to(slots, port) {
         None => None,
-        Some(number) => {
-            let slot = slots[number];
-            if octets_at(octets, &slot) == packet {
-                Some(slot.place)
-            } else {
-                None
-            }
-        }
+        Some(slot) => place_at(octets, &slot, packet),
     }
 }
 
-/// The place among these of the last to a port.
-fn last_to(slots: &[Slot], port: Port) -> Option<usize>
-    ensures { IfSome result (λ number. number < length slots.now) }
+/// The place of a slot where a packet's octets are those at it.
+fn place_at(octets: &[u8], slot: &Slot, packet: &[u8]) -> Option<usize>
+    requires { IsThere (length octets.now) slot.now }
+    ensures there { IfSome result (λ place. place + length packet.now ≤ length octets.now) }
+    ensures same { IfSome result (λ place. take (length packet.now) (drop place octets.now) ≡ packet.now) }
+    ensures repeats { (packet_at octets.now slot.now).octets ≡ packet.now → is_some result ≡ true }
 {
-    slots.iter().rposition(|slot| slot.port == port)
+    if octets_at(octets, slot) == packet {
+        Some(slot.place)
+    } else {
+        None
+    }
+}
+
+/// The last slot to a port, looked for from the end.
+#[tactic(auto, using(crate::proofs::Storing::passes_over, crate::proofs::Storing::stops_at, crate::proofs::Storing::none_left))]
+fn last_to(slots: &[Slot], port: Port) -> Option<Slot>
+    ensures { result ≡ last_slot port slots.now }
+{
+    for back in 0..slots.len() {
+        let slot = slots[slots.len() - 1 - back];
+        if is_to(&slot, port) {
+            return Some(slot);
+        }
+    }
+    None
+}
+
+fn is_to(slot: &Slot, port: Port) -> bool
+    ensures { result ≡ same_port slot.now.port port }
+{
+    slot.port == port
 }
 
 /// The octets at a slot.

@@ -1,10 +1,12 @@
 //! Both ends over events.
 
-ghost use Rattle.std.specs.Prelude.{◌≡◌, ◌≤◌, ◌<◌, ◌+◌, ◌-◌, ◌*◌, ◌^◌, ◌++◌, ◌∷◌, ℕ, List, [], true, false, map, length, MatchResult, IfOk, option_copied, vec_len, vec_capacity};
+ghost use Rattle.std.specs.Prelude.{◌≡◌, ◌≤◌, ◌<◌, ◌+◌, ◌-◌, ◌^◌, ◌++◌, ℕ, List, true, false, map, length};
+ghost use Rattle.std.specs.Prelude.{MatchResult, IfOk, option_copied, vec_len, vec_capacity};
 ghost use Rattle.eap_base.specs.Setup.{IsSoundPeer, IsSoundServer, HasKeys};
 ghost use Rattle.eap_base.specs.declared.setup.Mode.TheVariants.{Alone};
 ghost use Rattle.eap_method.specs.declared.tags.Tags.{Tags};
-ghost use Rattle.eap_world.specs.World.{action_with, parties_of, sent_by, booked_by, counted, end_of, has_held, named_by, first_report, held_by, held_after, numbered, report_of, told_of};
+ghost use Rattle.eap_world.specs.World.{action_with, parties_of, sent_by, booked_by, counted, end_of, has_held, named_by};
+ghost use Rattle.eap_world.specs.World.{first_report, held_by, held_after, held_with, report_of, told_of, told_with};
 
 use crate::act::{Action, Did, Machines, act, does};
 use crate::book::{End, Entry, TagsVerdict, book_tags, judge_tags};
@@ -67,7 +69,17 @@ impl<P, S> Model for World<P, S> {
 
     ghost Value = { WorldValue P S };
 
-    ghost view = { λ w. record { mode = w.machines.mode; peer = w.machines.peer; server = w.machines.server; sent = w.sent.packets; book = w.book.items; counts = w.counts; held = w.held; started = w.started } };
+    ghost view = { λ w. record {
+      mode = w.machines.mode;
+      peer = w.machines.peer;
+      server = w.machines.server;
+      sent = w.sent.packets;
+      stored = w.sent.stored;
+      book = w.book.items;
+      counts = w.counts;
+      held = w.held;
+      started = w.started;
+    } };
 
     ghost invariant = { λ w. IsInRange w.machines.mode w.machines.server.vars w.sent.packets w.book.items w.counts w.started };
 }
@@ -80,7 +92,8 @@ impl<P: PeerMethod, S: ServerMethod> World<P, S> {
     ghost use Rattle.eap_world.specs.declared.book.TagsVerdict.TheVariants.{Honest};
     ghost use Rattle.eap_world.specs.declared.verdict.Verdict.TheVariants.{Agree, Apart};
     ghost use Rattle.eap_world.specs.Judgement.{verdict_of};
-    ghost use Rattle.eap_world.specs.World.{HaveSameKinds, KeepsKinds, Tells, WorldOutcome, world_made, world_start, world_step, now_of, octets_numbered, state_of};
+    ghost use Rattle.eap_world.specs.World.{HaveSameKinds, KeepsKinds, Tells, world_made, world_start, world_step, now_of};
+    ghost use Rattle.eap_world.specs.World.{octets_numbered, octets_of_sent, state_of};
 
     /// The world of a setup, in which the peer has begun and the server hasn't started. The server
     /// answers by itself; each method that an end allows or proposes has an object. It takes no memory.
@@ -128,7 +141,8 @@ impl<P: PeerMethod, S: ServerMethod> World<P, S> {
     /// that has just been made then is that of the run without events.
     pub fn start(&mut self) -> Result<Told, Memory>
         requires { self.old.started ≡ false }
-        ensures told { MatchResult result (λ told. Tells P.peer_shown S.server_shown (world_start (now_of P.peer_shown S.server_shown self.old)) told self.new)
+        ensures told { MatchResult result
+            (λ told. Tells P.peer_shown S.server_shown (world_start (now_of P.peer_shown S.server_shown self.old)) told self.new)
             (λ _. self.new ≡ self.old) }
         ensures run { IfOk result (λ told. BeginsRun P.peer_shown S.server_shown self.old self.new) }
         ensures few { IfOk result (λ told. BeginsSmall P.peer_shown S.server_shown self.old self.new) }
@@ -145,7 +159,8 @@ impl<P: PeerMethod, S: ServerMethod> World<P, S> {
     pub fn step(&mut self, event: &Event) -> Result<Told, Memory>
         requires started { self.old.started ≡ true }
         requires room { self.old.counts.events < MAX_EVENTS }
-        ensures told { MatchResult result (λ told. Tells P.peer_shown S.server_shown (world_step (now_of P.peer_shown S.server_shown self.old) event.now) told self.new)
+        ensures told { MatchResult result
+            (λ told. Tells P.peer_shown S.server_shown (world_step (now_of P.peer_shown S.server_shown self.old) event.now) told self.new)
             (λ _. self.new ≡ self.old) }
         ensures run { IfOk result (λ told. GoesOn P.peer_shown S.server_shown event.now self.old self.new) }
         ensures few { IfOk result (λ told. StaysSmall P.peer_shown S.server_shown self.old self.new) }
@@ -158,7 +173,8 @@ impl<P: PeerMethod, S: ServerMethod> World<P, S> {
     #[tactic(auto, unfolding(crate::specs::World::world_start))]
     fn begin(&mut self) -> Result<Told, Memory>
         requires { self.old.started ≡ false }
-        ensures told { MatchResult result (λ told. Tells P.peer_shown S.server_shown (world_start (now_of P.peer_shown S.server_shown self.old)) told self.new)
+        ensures told { MatchResult result
+            (λ told. Tells P.peer_shown S.server_shown (world_start (now_of P.peer_shown S.server_shown self.old)) told self.new)
             (λ _. self.new ≡ self.old) }
         ensures kinds { KeepsKinds P.peer_shown S.server_shown self.old self.new }
     {
@@ -186,7 +202,8 @@ impl<P: PeerMethod, S: ServerMethod> World<P, S> {
     fn take(&mut self, event: &Event) -> Result<Told, Memory>
         requires started { self.old.started ≡ true }
         requires room { self.old.counts.events < MAX_EVENTS }
-        ensures told { MatchResult result (λ told. Tells P.peer_shown S.server_shown (world_step (now_of P.peer_shown S.server_shown self.old) event.now) told self.new)
+        ensures told { MatchResult result
+            (λ told. Tells P.peer_shown S.server_shown (world_step (now_of P.peer_shown S.server_shown self.old) event.now) told self.new)
             (λ _. self.new ≡ self.old) }
         ensures kinds { KeepsKinds P.peer_shown S.server_shown self.old self.new }
     {
@@ -239,6 +256,27 @@ impl<P: PeerMethod, S: ServerMethod> World<P, S> {
         }
     }
 
+    /// The octets of the packet of which was told; no octets where none was sent, or not in this world.
+    pub fn octets_of(&self, told: &Told) -> &[u8]
+        ensures { result.now ≡ octets_of_sent self.now.sent told.now.sent }
+    {
+        match told.sent {
+            None => &[],
+            Some(sent) => match self.packet(sent.number) {
+                None => &[],
+                Some(octets) => octets,
+            },
+        }
+    }
+
+    /// How many octets are stored for the packets that were sent: one whose octets are those of the last
+    /// packet to the same port takes none.
+    pub fn stored(&self) -> usize
+        ensures { result ≡ self.now.stored }
+    {
+        self.sent.stored()
+    }
+
     /// The state of a party (RFC 4137 sections 4.5 and 5.5); None for the pass-through, which isn't there.
     pub fn state(&self, party: Party) -> Option<State>
         ensures { result ≡ state_of (now_of P.peer_shown S.server_shown self.now).parties party }
@@ -287,7 +325,8 @@ impl<P: PeerMethod, S: ServerMethod> World<P, S> {
     pub fn result(&self) -> Verdict
         ensures value { result ≡ verdict_of (now_of P.peer_shown S.server_shown self.now) }
         ensures never_apart { IsOfRun (now_of P.peer_shown S.server_shown self.now) → tags_verdict self.now.book ≡ Honest → result ≡ Apart → ⊥ }
-        ensures theirs { (setup : Setup) (events : List Event) → IsWhole setup → now_of P.peer_shown S.server_shown self.now ≡ run_of setup events → tags_verdict self.now.book ≡ Honest → result ≡ Agree → AreTheirs setup (now_of P.peer_shown S.server_shown self.now) }
+        ensures theirs { (setup : Setup) (events : List Event) → IsWhole setup → now_of P.peer_shown S.server_shown self.now ≡ run_of setup events
+            → tags_verdict self.now.book ≡ Honest → result ≡ Agree → AreTheirs setup (now_of P.peer_shown S.server_shown self.now) }
     {
         self.verdict()
     }
@@ -332,11 +371,13 @@ impl<P: PeerMethod, S: ServerMethod> World<P, S> {
 /// Makes room for one packet and four tags; false for want of memory, which comes only where room lacked.
 fn make_room(sent: &mut Store, book: &mut Vec<Entry>) -> bool
     ensures sent { sent.new.packets ≡ sent.old.packets }
+    ensures stored { sent.new.stored ≡ sent.old.stored }
     ensures book { book.new.items ≡ book.old.items }
     ensures sent_room { result ≡ true → (1500 ≤ sent.new.octets_room) × (1 ≤ sent.new.packets_room) }
     ensures book_room { result ≡ true → vec_len book.new + 4 ≤ vec_capacity book.new }
     ensures book_len { vec_len book.new ≡ vec_len book.old }
-    ensures lacked { 1500 ≤ sent.old.octets_room → 1 ≤ sent.old.packets_room → vec_len book.old + 4 ≤ vec_capacity book.old → result ≡ true }
+    ensures lacked { 1500 ≤ sent.old.octets_room → 1 ≤ sent.old.packets_room → vec_len book.old + 4 ≤ vec_capacity book.old
+        → result ≡ true }
 {
     sent.make_room() && book.reserve(MAX_TAGS).is_ok()
 }
@@ -355,11 +396,11 @@ fn keep<P: PeerMethod, S: ServerMethod>(
     requires sent_room { (1500 ≤ sent.old.octets_room) × (1 ≤ sent.old.packets_room) }
     requires book_room { vec_len book.old + 4 ≤ vec_capacity book.old }
     requires few { length sent.old.packets < 2 ^ 32 - 1 }
-    ensures told { result ≡ told_of event (length sent.old.packets + 1) (named_by held.old (parties_of P.peer_shown S.server_shown machines.now) (action_with action packet.now tags.now))
-        (action_with action packet.now tags.now) }
+    ensures told { result
+        ≡ told_with P.peer_shown S.server_shown held.old machines.now event (length sent.old.packets + 1) (action_with action packet.now tags.now) }
     ensures sent { sent.new.packets ≡ sent.old.packets ++ sent_by (action_with action packet.now tags.now) }
     ensures book { book.new.items ≡ book.old.items ++ booked_by event (action_with action packet.now tags.now) }
-    ensures held { held.new ≡ held_after held.old (named_by held.old (parties_of P.peer_shown S.server_shown machines.now) (action_with action packet.now tags.now)) }
+    ensures held { held.new ≡ held_with P.peer_shown S.server_shown held.old machines.now (action_with action packet.now tags.now) }
     ensures few_sent { length sent.new.packets ≤ length sent.old.packets + 1 }
     ensures few_booked { vec_len book.new ≤ vec_len book.old + 4 }
 {
@@ -377,7 +418,8 @@ fn name<P: PeerMethod, S: ServerMethod>(
     held: Held,
     action: &Action,
 ) -> Option<Named>
-    ensures { (packet : List ℕ) (tags : Tags) → result ≡ named_by held (parties_of P.peer_shown S.server_shown machines.now) (action_with action.now packet tags) }
+    ensures { (packet : List ℕ) (tags : Tags)
+        → result ≡ named_by held (parties_of P.peer_shown S.server_shown machines.now) (action_with action.now packet tags) }
 {
     match action {
         Action::Skipped(_) => None,

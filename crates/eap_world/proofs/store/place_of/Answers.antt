@@ -1,10 +1,8 @@
-use Rattle.std.proofs.Common.{sym, ◌∙◌}
-use Rattle.std.proofs.lemmas.Slice.Eq.{bytes_eq-Decides}
-use Rattle.eap_world.proofs.Storing.{found_at}
+use Rattle.std.proofs.Common.{length, sym, ◌∙◌}
+use Rattle.eap_world.proofs.Storing.{last_there}
 use Rattle.eap_world.proofs.store.place_of.Goals as goal
 
--- src/store.rt:114:1
-pub returns-then-eq-clause-same : goal.returns-then-eq-clause-same
-returns-then-eq-clause-same c =
-    found_at c.args.octets.now c.args.packet.now c.octets_at.result.now _ _ (c.requires c.in-Some.number _ c.in-Some.ensures).enough c.octets_at.ensures.same
-    ((bytes_eq-Decides c.octets_at.result.now c.args.packet.now).0 (sym c.eq.ensures ∙ c.if-eq.true))
+-- src/store.rt:154:23
+pub place_at-requires : goal.place_at-requires
+place_at-requires c =
+    last_there (length c.args.octets.now) c.args.port c.args.slots.now c.in-Some.slot c.requires (sym c.last_to.ensures ∙ c.in-Some.is)
