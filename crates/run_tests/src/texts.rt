@@ -128,13 +128,13 @@ fn leaves(alloc: Global, failing: u32, want: &[u8], succeeds: bool) -> Result<bo
     Ok(wrote == succeeds && sink.written() == want)
 }
 
-// Eight calls write the line; none follows the one that fails.
+// The line has 24 octets, so that five calls write it; none follows the one that fails.
 #[test]
 fn failed_write_leaves_a_front(rt: HostRuntime) -> Result<(), Fail> {
     assert!(rt; leaves(rt.alloc(), 1, b"", false)?);
     assert!(rt; leaves(rt.alloc(), 3, b"refused li", false)?);
-    assert!(rt; leaves(rt.alloc(), 8, b"refused line 20 Missing", false)?);
-    assert!(rt; leaves(rt.alloc(), 9, b"refused line 20 Missing\n", true)?);
+    assert!(rt; leaves(rt.alloc(), 5, b"refused line 20 Miss", false)?);
+    assert!(rt; leaves(rt.alloc(), 6, b"refused line 20 Missing\n", true)?);
     Ok(())
 }
 
