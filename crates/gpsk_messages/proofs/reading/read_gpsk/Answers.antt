@@ -1,5 +1,5 @@
 -- The answer by the relation, as each octet fits.
-use Rattle.std.proofs.Common.{◌<◌, List, ℕ, arith}
+use Rattle.std.proofs.Common.{◌<◌, arith}
 use Rattle.std.proofs.lemmas.List.Elements.{All-from_get_or}
 use Rattle.gpsk_messages.proofs.Grammar.{spelled_if_heard, refused_if_heard}
 use Rattle.gpsk_messages.proofs.reading.read_gpsk.Goals as goal
