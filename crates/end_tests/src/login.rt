@@ -14,7 +14,9 @@ ghost use Rattle.std.specs.Prelude.{◌≡◌, ◌≤◌, length, All, IsTrue};
 ghost use Rattle.eap_base.specs.Setup.{fits_kind};
 
 use eap_base::{Identity, Packet, Secret, User, Users};
-use eap_method::{Decision, MethodState, PeerMethod, PeerTurn, Report, ServerMethod, ServerTurn};
+use eap_method::{
+    Decision, MethodState, PeerMethod, PeerTurn, Report, ServerMethod, ServerTurn, Tags,
+};
 use eap_packet::{Code, decode};
 use low_tests::row::Row;
 
@@ -46,8 +48,9 @@ pub fn first_wrong<P: PeerMethod, S: ServerMethod>(
     requires { All (λ user. IsTrue (fits_kind user.kind user.psk)) users.now }
 {
     let mut sent = first;
+    let mut tags = Tags::new();
     for row in login.lines() {
-        if !is_so(peer, server, users, &mut sent, row) {
+        if !is_so(peer, server, users, &mut sent, &mut tags, row) {
             return row;
         }
     }
@@ -60,14 +63,15 @@ fn is_so<P: PeerMethod, S: ServerMethod>(
     server: &mut S,
     users: &Users,
     sent: &mut Packet,
+    tags: &mut Tags,
     row: &str,
 ) -> bool
     requires { All (λ user. IsTrue (fits_kind user.kind user.psk)) users.now }
 {
     let mut row = Row::new(row);
     let is_so = match row.word() {
-        "peer" => peer_answers(peer, sent, &mut row),
-        "server" => server_answers(server, users, sent, &mut row),
+        "peer" => peer_answers(peer, sent, tags, &mut row),
+        "server" => server_answers(server, users, sent, tags, &mut row),
         "peer-has" => is_report(peer.report(), &mut row),
         "server-has" => is_report(server.report(), &mut row),
         "hands" => {
@@ -80,26 +84,30 @@ fn is_so<P: PeerMethod, S: ServerMethod>(
 }
 
 /// The peer's turn for a Request of its Type.
-fn peer_turn<P: PeerMethod>(peer: &mut P, request: &[u8]) -> Option<PeerTurn> {
+fn peer_turn<P: PeerMethod>(
+    peer: &mut P,
+    request: &[u8],
+    packet: &mut Packet,
+    tags: &mut Tags,
+) -> Option<PeerTurn> {
     match decode(request) {
         Ok(view) if view.code == Code::Request && view.kind == peer.kind() => {
-            Some(peer.handle(view.whole))
+            Some(peer.handle(view.whole, packet, tags))
         }
         _ => None,
     }
 }
 
 /// Whether the peer answers so.
-fn peer_answers<P: PeerMethod>(peer: &mut P, sent: &mut Packet, row: &mut Row) -> bool {
-    match peer_turn(peer, sent.as_slice()) {
-        Some(
-            PeerTurn::Reply {
-                packet,
-                state,
-                decision,
-                ..
-            },
-        ) => {
+fn peer_answers<P: PeerMethod>(
+    peer: &mut P,
+    sent: &mut Packet,
+    tags: &mut Tags,
+    row: &mut Row,
+) -> bool {
+    let mut packet = Packet::new();
+    match peer_turn(peer, sent.as_slice(), &mut packet, tags) {
+        Some(PeerTurn::Reply { state, decision }) => {
             let is_same = packet.as_slice() == row.octets().as_slice();
             *sent = packet;
             let stand = row.word();
@@ -125,12 +133,14 @@ fn server_turn<S: ServerMethod>(
     server: &mut S,
     users: &Users,
     response: &[u8],
+    packet: &mut Packet,
+    tags: &mut Tags,
 ) -> Option<ServerTurn>
     requires { All (λ user. IsTrue (fits_kind user.kind user.psk)) users.now }
 {
     match decode(response) {
         Ok(view) if view.code == Code::Response && view.kind == server.kind() => {
-            Some(server.handle(view.whole, 8, users))
+            Some(server.handle(view.whole, 8, users, packet, tags))
         }
         _ => None,
     }
@@ -141,17 +151,19 @@ fn server_answers<S: ServerMethod>(
     server: &mut S,
     users: &Users,
     sent: &mut Packet,
+    tags: &mut Tags,
     row: &mut Row,
 ) -> bool
     requires { All (λ user. IsTrue (fits_kind user.kind user.psk)) users.now }
 {
-    match server_turn(server, users, sent.as_slice()) {
-        Some(ServerTurn::Request { packet, .. }) => {
+    let mut packet = Packet::new();
+    match server_turn(server, users, sent.as_slice(), &mut packet, tags) {
+        Some(ServerTurn::Request) => {
             let is_same = packet.as_slice() == row.octets().as_slice();
             *sent = packet;
             is_same
         }
-        Some(ServerTurn::Done { success, .. }) => {
+        Some(ServerTurn::Done { success }) => {
             row.word() == if success { "success" } else { "failure" }
         }
         Some(ServerTurn::Discard(cause)) => row.word() == cause.word(),

@@ -41,7 +41,9 @@ fn first_request(server: &mut PskServer, nonce: &[u8; 32]) -> Packet {
         suites: Octets::of(&[1]),
     };
     server.begin(&own, nonce);
-    server.first(7)
+    let mut packet = Packet::new();
+    server.first(7, &mut packet);
+    packet
 }
 
 /// The first row of the login that isn't as the ends do, where the server knows the peer's name with this
