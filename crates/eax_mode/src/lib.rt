@@ -72,20 +72,55 @@ fn tag_over(
 /// ciphertext, and the tag of sixteen octets is returned. Under one key no nonce may serve twice,
 /// or the two ciphertexts tell how their texts differ.
 #[tactic(auto, using(crate::proofs::Stream::counter_mode_twice), unfolding(crate::specs::Eax::eax_ciphertext, crate::specs::Eax::eax_plaintext, crate::specs::Eax::eax_tag))]
+pub fn eax_seal_with(key: &CmacKey, nonce: &[u8], header: &[u8], text: &mut [u8]) -> [u8; 16]
+    ensures ciphertext { text.new ≡ (eax_sealed key.now nonce.now header.now text.old).ciphertext }
+    ensures tag { result ≡ (eax_sealed key.now nonce.now header.now text.old).tag }
+    ensures comes_back { eax_plaintext key.now nonce.now text.new ≡ text.old }
+{
+    let nonce_mac = omac(key, 0, nonce);
+    apply_key_stream(key.cipher(), u128::from_be_bytes(nonce_mac), text);
+    tag_over(key, &nonce_mac, header, text)
+}
+
+/// The same under a key that serves once.
 pub fn eax_seal(key: &[u8; 16], nonce: &[u8], header: &[u8], text: &mut [u8]) -> [u8; 16]
     ensures ciphertext { text.new ≡ (eax_sealed key.now nonce.now header.now text.old).ciphertext }
     ensures tag { result ≡ (eax_sealed key.now nonce.now header.now text.old).tag }
     ensures comes_back { eax_plaintext key.now nonce.now text.new ≡ text.old }
 {
-    let key = CmacKey::new(key);
-    let nonce_mac = omac(&key, 0, nonce);
-    apply_key_stream(key.cipher(), u128::from_be_bytes(nonce_mac), text);
-    tag_over(&key, &nonce_mac, header, text)
+    eax_seal_with(&CmacKey::new(key), nonce, header, text)
 }
 
 /// Unseals the ciphertext `text` in place. Where `tag` is the tag over nonce, header and ciphertext,
 /// the answer is true and `text` becomes the plaintext; else it is false and `text` stays as it was.
 #[tactic(auto, unfolding(crate::specs::Eax::eax_accepts, crate::specs::Eax::eax_plaintext, crate::specs::Eax::eax_tag))]
+pub fn eax_unseal_with(
+    key: &CmacKey,
+    nonce: &[u8],
+    header: &[u8],
+    text: &mut [u8],
+    tag: &[u8; 16],
+) -> bool
+    // The answer, as a fact and as a test that computes.
+    ensures accepted { IsTrue result ↔ (tag.now ≡ eax_tag key.now nonce.now header.now text.old) }
+    ensures answer { result ≡ eax_accepts key.now nonce.now header.now text.old tag.now }
+
+    // The text that is left.
+    ensures opened { OnTrue result (text.new ≡ eax_plaintext key.now nonce.now text.old) }
+    ensures only { OnTrue result (IsOnlyTextOf key.now nonce.now header.now text.old tag.now text.new) }
+    ensures unchanged { OnFalse result (text.new ≡ text.old) }
+{
+    let nonce_mac = omac(key, 0, nonce);
+    let expected = tag_over(key, &nonce_mac, header, text);
+    if !equal_in_full(&expected, tag) {
+        return false;
+    }
+    let first_counter = u128::from_be_bytes(nonce_mac);
+    apply_key_stream(key.cipher(), first_counter, text);
+    true
+}
+
+/// The same under a key that serves once.
 pub fn eax_unseal(
     key: &[u8; 16],
     nonce: &[u8],
@@ -102,13 +137,5 @@ pub fn eax_unseal(
     ensures only { OnTrue result (IsOnlyTextOf key.now nonce.now header.now text.old tag.now text.new) }
     ensures unchanged { OnFalse result (text.new ≡ text.old) }
 {
-    let key = CmacKey::new(key);
-    let nonce_mac = omac(&key, 0, nonce);
-    let expected = tag_over(&key, &nonce_mac, header, text);
-    if !equal_in_full(&expected, tag) {
-        return false;
-    }
-    let first_counter = u128::from_be_bytes(nonce_mac);
-    apply_key_stream(key.cipher(), first_counter, text);
-    true
+    eax_unseal_with(&CmacKey::new(key), nonce, header, text, tag)
 }

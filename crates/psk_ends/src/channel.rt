@@ -6,10 +6,11 @@ ghost use Rattle.psk_ends.specs.Checks.{checked};
 
 use crate::octets::header_of;
 use crate::records::add_channel;
+use cmac_mac::CmacKey;
 use eap_base::{Packet, Secret};
 use eap_method::TagList;
 use eap_packet::Cause;
-use eax_mode::{eax_seal, eax_unseal};
+use eax_mode::{eax_seal_with, eax_unseal_with};
 
 /// R of a side for which the login succeeds.
 pub const DONE_SUCCESS: u8 = 2;
@@ -40,13 +41,13 @@ pub fn channel_nonce(number: u32) -> [u8; 16]
 
 /// Seals R, without E, under this Nonce and header.
 #[tactic(auto, unfolding(eap_method::specs::PskTags::sealed_result))]
-fn seal(tek: &[u8; 16], number: u32, header: &[u8], r: u8) -> Sealed
+fn seal(tek: &CmacKey, number: u32, header: &[u8], r: u8) -> Sealed
     requires { r < 4 }
     ensures octet { result.octet ≡ slice_index (sealed_result tek.now number header.now r).ciphertext 0 }
     ensures tag { result.tag ≡ (sealed_result tek.now number header.now r).tag }
 {
     let mut text = [64 * r];
-    let tag = eax_seal(tek, &channel_nonce(number), header, &mut text);
+    let tag = eax_seal_with(tek, &channel_nonce(number), header, &mut text);
     Sealed {
         octet: text[0],
         tag,
@@ -67,7 +68,7 @@ fn put_last(packet: &mut Packet, channel: &Sealed)
 /// the record of its tag.
 pub fn seal_in(
     packet: &mut Packet,
-    tek: &[u8; 16],
+    tek: &CmacKey,
     psk: &Secret,
     number: u32,
     r: u8,
@@ -77,7 +78,8 @@ pub fn seal_in(
     requires two_bits { r < 4 }
     requires room { length made.old < 2 }
     ensures packet { packet.new ≡ take (length packet.old - 17) packet.old
-        ++ ((sealed_result tek.now number (header_of packet.old) r).tag ++ slice_index (sealed_result tek.now number (header_of packet.old) r).ciphertext 0 ∷ []) }
+        ++ ((sealed_result tek.now number (header_of packet.old) r).tag
+        ++ slice_index (sealed_result tek.now number (header_of packet.old) r).ciphertext 0 ∷ []) }
     ensures made { made.new ≡ made.old ++ tek_record psk.now number (header_of packet.old)
         (slice_index (sealed_result tek.now number (header_of packet.old) r).ciphertext 0)
         (sealed_result tek.now number (header_of packet.old) r).tag ∷ [] }
@@ -90,11 +92,11 @@ pub fn seal_in(
 }
 
 /// The octet that was sealed under this Nonce and header, or None where the tag is wrong.
-pub fn open(tek: &[u8; 16], number: u32, header: &[u8], sealed: u8, tag: &[u8; 16]) -> Option<u8>
+pub fn open(tek: &CmacKey, number: u32, header: &[u8], sealed: u8, tag: &[u8; 16]) -> Option<u8>
     ensures { result ≡ (if is_sealed tek.now number header.now sealed tag.now then Some (opened tek.now number sealed) else None) }
 {
     let mut text = [sealed];
-    if eax_unseal(tek, &channel_nonce(number), header, &mut text, tag) {
+    if eax_unseal_with(tek, &channel_nonce(number), header, &mut text, tag) {
         Some(text[0])
     } else {
         None

@@ -90,7 +90,8 @@ fn add_pieces<'a>(
 )
     requires room { length list.old < 2 }
     requires header { length header.now ≤ 22 }
-    ensures { list.new ≡ list.old ++ (record { method = psk_kind; label = Tek; psk = psk.now; octets = nonce.now ++ (header.now ++ sealed.now); tag = tag.now }) ∷ [] }
+    ensures { list.new ≡ list.old
+        ++ (record { method = psk_kind; label = Tek; psk = psk.now; octets = nonce.now ++ (header.now ++ sealed.now); tag = tag.now }) ∷ [] }
 {
     list.add(PSK_KIND, Label::Tek, psk, &[nonce, header, sealed], tag);
 }

@@ -45,6 +45,8 @@ pub struct Login {
     ak: CmacKey,
     /// TEK, MSK and EMSK.
     keys: PskKeys,
+    /// TEK, expanded.
+    tek: CmacKey,
 }
 
 impl Model for Login {
@@ -57,7 +59,8 @@ impl Model for Login {
 
     ghost view = { λ l. record { cred = l.own.cred; nonce = l.own.nonce; id_s = l.id_s; rand_s = l.rand_s } };
 
-    ghost invariant = { λ l. (l.ak ≡ (psk_long_of l.own.cred.psk).ak) × (l.keys ≡ psk_keys_of (psk_long_of l.own.cred.psk).kdk (rand_of l.own.nonce)) };
+    ghost invariant = { λ l. (l.ak ≡ (psk_long_of l.own.cred.psk).ak) × (l.keys ≡ psk_keys_of (psk_long_of l.own.cred.psk).kdk (rand_of l.own.nonce))
+        × (l.tek ≡ l.keys.tek) };
 }
 
 impl Login {
@@ -70,12 +73,14 @@ impl Login {
         ensures { result ≡ record { cred = own.now.cred; nonce = own.now.nonce; id_s = id_s.now; rand_s = rand_s.now } }
     {
         let PskLong { ak, kdk } = long_keys(&own.cred.psk);
+        let keys = psk_session(&kdk, &rand_of(&own.nonce));
         Login {
             own: own.copy(),
             id_s: Octets::of(id_s),
             rand_s: *rand_s,
             ak: CmacKey::new(&ak),
-            keys: psk_session(&kdk, &rand_of(&own.nonce)),
+            tek: CmacKey::new(&keys.tek),
+            keys,
         }
     }
 
@@ -109,10 +114,10 @@ impl Login {
 
     /// TEK (RFC 4764 section 3.2).
     #[tactic(auto, unfolding(eap_method::specs::PskPeer::keys_of))]
-    pub fn tek(&self) -> &[u8; 16]
+    pub fn tek(&self) -> &CmacKey
         ensures { result.now ≡ (keys_of self.now).tek }
     {
-        &self.keys.tek
+        &self.tek
     }
 
     /// MAC_P (RFC 4764 section 5.2).

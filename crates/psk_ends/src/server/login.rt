@@ -65,6 +65,8 @@ pub struct Login {
     ak: CmacKey,
     /// TEK, MSK and EMSK.
     keys: PskKeys,
+    /// TEK, expanded.
+    tek: CmacKey,
 }
 
 impl Model for Login {
@@ -76,7 +78,7 @@ impl Model for Login {
 
     ghost view = { λ l. record { own = l.own.side; nonce = l.own.nonce; id_p = l.id_p; psk = l.psk; rand_p = l.rand_p; r = l.r } };
 
-    ghost invariant = { λ l. (l.r < 4) × (l.ak ≡ (psk_long_of l.psk).ak) × (l.keys ≡ psk_keys_of (psk_long_of l.psk).kdk l.rand_p) };
+    ghost invariant = { λ l. (l.r < 4) × (l.ak ≡ (psk_long_of l.psk).ak) × (l.keys ≡ psk_keys_of (psk_long_of l.psk).kdk l.rand_p) × (l.tek ≡ l.keys.tek) };
 }
 
 impl Login {
@@ -105,6 +107,7 @@ impl Login {
           r = r_for user.now.barred;
         } }
     {
+        let keys = psk_session(kdk, rand_p);
         Login {
             own: own.copy(),
             id_p: Octets::of(id_p),
@@ -112,7 +115,8 @@ impl Login {
             rand_p: *rand_p,
             r: r_for(user.barred),
             ak,
-            keys: psk_session(kdk, rand_p),
+            tek: CmacKey::new(&keys.tek),
+            keys,
         }
     }
 
@@ -140,10 +144,10 @@ impl Login {
 
     /// TEK (RFC 4764 section 3.2).
     #[tactic(auto, unfolding(eap_method::specs::PskServer::keys_of))]
-    pub fn tek(&self) -> &[u8; 16]
+    pub fn tek(&self) -> &CmacKey
         ensures { result.now ≡ (keys_of self.now).tek }
     {
-        &self.keys.tek
+        &self.tek
     }
 
     /// MAC_S (RFC 4764 section 5.3).

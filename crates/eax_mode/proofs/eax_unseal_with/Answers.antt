@@ -1,7 +1,7 @@
 use Rattle.std.proofs.Common.{◌≡◌, rules}
 use Rattle.eax_mode.specs.Eax.{eax_plaintext, eax_tag}
 use Rattle.eax_mode.proofs.Sealing.{only_text}
-use Rattle.eax_mode.proofs.eax_unseal.Goals as goal
+use Rattle.eax_mode.proofs.eax_unseal_with.Goals as goal
 
 pub returns-clause-only : goal.returns-clause-only
 unfolding eax_plaintext eax_tag
