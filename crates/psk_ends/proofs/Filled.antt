@@ -19,12 +19,16 @@ front3 id rand_s mac =
     1 ∷ id ∷ (length rand_s + length mac + 27) / 256 ∷ (length rand_s + length mac + 27) % 256 ∷ 47 ∷ 128
     ∷ (rand_s ++ (mac ++ 0 ∷ 0 ∷ 0 ∷ 0 ∷ []))
 
+-- PCHANNEL of PSK-3
+abbrev channel3 : List ℕ → ℕ → List ℕ
+channel3 tag sealed = 0 ∷ 0 ∷ 0 ∷ 0 ∷ (tag ++ sealed ∷ [])
+
 split3 : (id : ℕ) (rand_s mac tag : List ℕ) (sealed : ℕ) → length tag ≡ 16
     → psk_request id (psk3 rand_s mac 0 tag sealed) ≡ front3 id rand_s mac ++ (tag ++ sealed ∷ [])
 unfolding spelled messages.spelled
 split3 id rand_s mac tag sealed sixteen =
-    let size : length (47 ∷ 128 ∷ (rand_s ++ (mac ++ 0 ∷ 0 ∷ 0 ∷ 0 ∷ (tag ++ sealed ∷ [])))) + 4 ≡ length rand_s + length mac + 27
-    = omega (arith, length-append rand_s (mac ++ 0 ∷ 0 ∷ 0 ∷ 0 ∷ (tag ++ sealed ∷ [])), length-append mac (0 ∷ 0 ∷ 0 ∷ 0 ∷ (tag ++ sealed ∷ [])), length-append tag (sealed ∷ []), sixteen) in
+    let size : length (47 ∷ 128 ∷ (rand_s ++ (mac ++ channel3 tag sealed))) + 4 ≡ length rand_s + length mac + 27
+    = omega (arith, length-append rand_s (mac ++ channel3 tag sealed), length-append mac (channel3 tag sealed), length-append tag (sealed ∷ []), sixteen) in
     rw size (simp append_assoc)
 
 -- PSK-4 up to PCHANNEL's tag
