@@ -11,7 +11,7 @@ use Rattle.eap_method.specs.ServerTurn.{Discard, Request, Done, server_turn_with
 use Rattle.eap_method.specs.Server.{ServerShown, ServerViews, server_views, server_turn, server_offer, side_of, server_report_of}
 use Rattle.eap_method.specs.Tags.{no_tags}
 use Rattle.eap_method.proofs.Discards.{server_turn_keeps}
-use Rattle.server_machine.specs.ServerTable.{ServerNow, answer, method_answers, settled, server_method, select_action, proposes, offers, ends_badly, next_id}
+use Rattle.server_machine.specs.ServerTable.{ServerNow, answer, method_answers, settled, server_method, select_action, offers, ends_badly, next_id}
 use Rattle.server_machine.specs.declared.variables.ServerVariables.{ServerVariables}
 
 -- the Identity round has no report
@@ -30,16 +30,19 @@ unfolding select_action
 none_settles entered before vars shown id desired step none settles same =
     rw (← none) (settles (server_views before.setup.methods shown) ∙ rw same refl)
 
--- the offer of a method
-pub offer_settles : (entered : List State) (before vars : ServerVariables) (shown after : List ServerShown) (id kind : ℕ) (first : Option (List ℕ)) (step : Step)
+-- the offer of the next method
+pub offer_settles : (entered : List State) (before vars : ServerVariables) (shown after : List ServerShown) (id kind : ℕ) (desired : Option (List ℕ))
+    (first : Option (List ℕ)) (step : Step)
+    → Some kind ≡ next_kind before.setup.methods before.proposed desired
     → server_offer (side_of before.setup) before.setup.nonce kind (next_id before) (server_views before.setup.methods shown)
     ≡ record { packet = first; after = server_views before.setup.methods after }
     → ((views : ServerViews) → offers entered before views id kind first ≡ answer step (record { vars = vars; views = views }))
     → vars.setup ≡ before.setup
-    → proposes entered before (server_views before.setup.methods shown) id (Some kind)
+    → select_action entered before (server_views before.setup.methods shown) id desired
     ≡ answer step (record { vars = vars; views = server_views vars.setup.methods after })
-offer_settles entered before vars shown after id kind first step offered settles same =
-    rw offered (settles (server_views before.setup.methods after) ∙ rw same refl)
+unfolding select_action
+offer_settles entered before vars shown after id kind desired first step next offered settles same =
+    rw (← next) (rw offered (settles (server_views before.setup.methods after) ∙ rw same refl))
 
 settled_after : (now : ServerNow) (kind : ℕ) (after : ServerViews) (octets : List ℕ) (turn : ServerTurn)
     → server_turn now.vars.setup.users (next_id now.vars) kind now.views octets ≡ record { turn = turn; after = after }

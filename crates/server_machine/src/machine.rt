@@ -66,7 +66,7 @@ impl<M> Model for ServerMachine<M> {
 
 impl<M: ServerMethod> ServerMachine<M> {
     ghost use Rattle.eap_method.specs.Steps.{is_end};
-    ghost use Rattle.server_machine.specs.ServerTable.{ServerAnswer, now_of, server_made, server_start, server_deliver, server_timeout, server_reports, is_started, server_row, select_action, server_method, current_response, proposes};
+    ghost use Rattle.server_machine.specs.ServerTable.{ServerAnswer, now_of, server_made, server_start, server_deliver, server_timeout, server_reports, is_started, server_row, select_action, server_method, current_response};
 
     /// A server that has not started: begins the objects of the methods that the setup proposes. Each of
     /// these methods has an object; `max_retrans` is at most 10.
@@ -265,7 +265,7 @@ impl<M: ServerMethod> ServerMachine<M> {
     }
 
     /// SELECT_ACTION where a method is to be proposed: the first of the order that isn't yet proposed and
-    /// that the Nak, where one has come, desires; where there is none, FAILURE.
+    /// that the Nak, where one has come, desires; where there is none, or no object of it, FAILURE.
     #[tactic(auto, using(login_policy::proofs::Choices::next_is_ordered, login_policy::proofs::Choices::next_is_unproposed), unfolding(crate::specs::ServerTable::select_action))]
     fn propose(&mut self, naked: bool, id: u8, desired: Option<&[u8]>, packet: &mut Packet) -> Step
         ensures step { select_action (before_proposal naked) (now_of M.server_shown self.old).vars (now_of M.server_shown self.old).views id (option_copied desired.entry)
@@ -274,21 +274,11 @@ impl<M: ServerMethod> ServerMachine<M> {
     {
         match next_method(&self.vars.setup.methods, &self.vars.proposed, desired) {
             None => end_badly(&mut self.vars, naked, id, packet),
-            Some(kind) => self.offer(naked, id, kind, packet),
+            Some(kind) => {
+                let has_first = write_first(&mut self.methods, &self.vars, kind, packet);
+                settle_offer(&mut self.vars, naked, id, kind, has_first, packet)
+            }
         }
-    }
-
-    /// PROPOSE_METHOD, METHOD_REQUEST and SEND_REQUEST of a method of the order that isn't yet proposed;
-    /// without an object of it, FAILURE.
-    fn offer(&mut self, naked: bool, id: u8, kind: u8, packet: &mut Packet) -> Step
-        requires ordered { is_among self.old.vars.setup.methods kind ≡ true }
-        requires unproposed { is_among self.old.vars.proposed kind ≡ false }
-        ensures step { proposes (before_proposal naked) (now_of M.server_shown self.old).vars (now_of M.server_shown self.old).views id (Some kind)
-            ≡ answer (step_with result packet.new no_tags) (now_of M.server_shown self.new) }
-        ensures kinds { server_kinds (map M.server_shown self.new.methods) ≡ server_kinds (map M.server_shown self.old.methods) }
-    {
-        let has_first = write_first(&mut self.methods, &self.vars, kind, packet);
-        settle_offer(&mut self.vars, naked, id, kind, has_first, packet)
     }
 
     /// INTEGRITY_CHECK: the object of the current method checks the whole packet. Nothing is written
