@@ -42,7 +42,9 @@ fn first_request(server: &mut GpskServer, nonce: &[u8; 32]) -> Packet {
         suites: Octets::of(&[1, 2]),
     };
     server.begin(&own, nonce);
-    server.first(7)
+    let mut packet = Packet::new();
+    server.first(7, &mut packet);
+    packet
 }
 
 /// The first row of the login that isn't as the ends do, where the peer allows these suites and the server
