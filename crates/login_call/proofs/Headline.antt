@@ -5,7 +5,7 @@ use Rattle.eap_base.specs.declared.event.Event.{Event}
 use Rattle.eap_base.specs.declared.setup.Setup.{Setup}
 use Rattle.eap_base.specs.Lines.{Lines, ended, too_long, too_much, line, lines}
 use Rattle.eap_world.specs.Agreement.{IsWhole}
-use Rattle.eap_world.proofs.Agreement.{honest_ends_agree}
+use Rattle.eap_world.proofs.HonestRuns.{honest_ends_agree}
 use Rattle.eap_world.proofs.Few.{few_tags}
 use Rattle.eap_world.proofs.Whose.{honest_names_are_theirs}
 use Rattle.scenario_text.specs.Reading.{Reading, ReadLine, no_settings, read_line}

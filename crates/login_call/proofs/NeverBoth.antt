@@ -10,9 +10,8 @@ use Rattle.eap_base.specs.declared.event.Event.{Event}
 use Rattle.eap_base.specs.declared.setup.Setup.{Setup}
 use Rattle.eap_world.specs.Agreement.{run_of, AgreesWhereHonest}
 use Rattle.eap_world.specs.Book.{tags_verdict}
-use Rattle.eap_world.specs.Verdict.{verdict_of}
-use Rattle.eap_world.specs.World.{world_made, world_start, told_after}
-use Rattle.eap_world.specs.declared.told.Told.{Told}
+use Rattle.eap_world.specs.Judgement.{verdict_of}
+use Rattle.eap_world.specs.World.{WorldOutcome, outcomes_after, told_octets, world_made, world_start}
 use Rattle.scenario_text.specs.Reading.{Reading, ReadLine, read_line, finish_of}
 use Rattle.scenario_text.specs.Packets.{packet_line}
 use Rattle.scenario_text.specs.Keys.{key_line}
@@ -20,7 +19,7 @@ use Rattle.scenario_text.specs.declared.key_line.KeyLine.{KeyLine}
 use Rattle.scenario_text.specs.declared.fault.LineFault.{LineFault}
 use Rattle.scenario_text.specs.Items.{Item}
 use Rattle.scenario_text.specs.Items as item
-use Rattle.trace_text.specs.Run.{start_text, told_text, end_text}
+use Rattle.trace_text.specs.Run.{begin_text, outcome_text, end_text}
 use Rattle.trace_text.proofs.Plain.{plain, over, none, join}
 use Rattle.trace_text.proofs.PlainAnswers.{begins_result, packet_plain, packets_plain, key_plain}
 use Rattle.trace_text.proofs.PlainTexts.{begins_verdict, no_verdict, told_plain, start_plain}
@@ -86,9 +85,10 @@ header_plain : plain begins_verdict true trace_header ≡ true
 unfolding trace_header
 header_plain = refl
 
-told_all-plain : (names : Bool) (told : List Told) → plain begins_verdict true (flat_map (told_text names) told) ≡ true
-told_all-plain names [] = refl
-told_all-plain names (t ∷ rest) = join begins_verdict (told_text names t) _ true (told_plain begins_verdict no_verdict names t) (told_all-plain names rest)
+outcomes_plain : (names : Bool) (outcomes : List WorldOutcome) → plain begins_verdict true (flat_map (outcome_text names) outcomes) ≡ true
+outcomes_plain names [] = refl
+outcomes_plain names (out ∷ rest) =
+    join begins_verdict (outcome_text names out) _ true (told_plain begins_verdict no_verdict names (told_octets out) out.told) (outcomes_plain names rest)
 
 -- without a setup nothing is told
 nothing_told : has_mark apart_line true (trace_header ++ []) ≡ false
@@ -108,9 +108,9 @@ module _ (names : Bool) (setup : Setup) (events : List Event) where
       let begun = world_start (world_made setup) in
       let shown = end_text (run_of setup events) in
       let lines = events_text names begun.after events in
-      over begins_verdict m mark bad trace_header (start_text names begun.told ++ (lines ++ shown)) true header_plain
-      ∙ (over begins_verdict m mark bad (start_text names begun.told) (lines ++ shown) true (start_plain names begun.told)
-      ∙ over begins_verdict m mark bad lines shown true (told_all-plain names (told_after begun.after events)))
+      over begins_verdict m mark bad trace_header (begin_text names begun ++ (lines ++ shown)) true header_plain
+      ∙ (over begins_verdict m mark bad (begin_text names begun) (lines ++ shown) true (start_plain names (told_octets begun) begun.told)
+      ∙ over begins_verdict m mark bad lines shown true (outcomes_plain names (outcomes_after begun.after events)))
 
   tells : (mark text : List ℕ) → has_mark mark true text ≡ has_mark mark true (end_text (run_of setup events)) → has_mark mark true text ≡ true
       → has_mark mark true (end_text (run_of setup events)) ≡ true

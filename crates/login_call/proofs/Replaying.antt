@@ -3,7 +3,7 @@ use Rattle.std.proofs.Common.{◌≡◌, ℕ, ◌+◌, List, [], Bool, true, fal
 use Rattle.std.specs.Prelude.{codes, is_some}
 use Rattle.eap_base.specs.Lines.{Lines, ended, too_long, too_much, line}
 use Rattle.eap_base.specs.declared.event.Event.{Event}
-use Rattle.eap_world.specs.World.{WorldNow, world_made, world_start, world_step, run_after, told_after}
+use Rattle.eap_world.specs.World.{WorldNow, world_made, world_start, world_step, run_after, outcomes_after}
 use Rattle.login_call.proofs.Runs.{world_step-events}
 use Rattle.scenario_text.specs.Reading.{Reading, ReadLine, said, with_setting, no_settings, read_line, finish_of}
 use Rattle.scenario_text.specs.declared.fault.LineFault.{LineFault}
@@ -12,7 +12,7 @@ use Rattle.scenario_text.specs.declared.scenario.Phase.{Phase}
 use Rattle.scenario_text.specs.declared.scenario.Phase.TheVariants as phase
 use Rattle.scenario_text.specs.declared.settings.Settings.{Settings}
 use Rattle.scenario_text.proofs.ReadLine.{FromSettings, FromEvents, PassedBefore, NewSetting, AllSet, PassedBetween, NewEvent, AllRead, read_line-from_unread, read_line-from_settings, read_line-from_events, read_line-from_ended}
-use Rattle.trace_text.specs.Run.{start_text, told_text, end_text}
+use Rattle.trace_text.specs.Run.{begin_text, outcome_text, end_text}
 use Rattle.login_call.specs.Answers.{Answer, after_text}
 use Rattle.login_call.specs.Commands.{Took, refuses, after_verdict, lacking_after, closing_answer, answer, lacking}
 use Rattle.login_call.specs.Replay.{ReplayNow, max_events, goes_with, replay_took, replay_closing, replay_lacks, reading_lacks, took_reading, closing_by}
@@ -60,16 +60,16 @@ module _ (c : ReplayNow) where
   end_in_world : (n : ℕ) (r : Reading) (w : WorldNow) (x : Result (Unit {0}) LineFault)
       → after_text (closing_by (in_world c r w) x).text (closing_answer (n + 1) (closing_by (in_world c r w) x).closed)
       ≡ run_scenario w (stops (finish_outcome (n + 1) x))
-  unfolding run_after told_after
+  unfolding run_after outcomes_after
   end_in_world n r w (Ok done) = ap (λ t. record { text = t; status = status.Done }) (append-nil (end_text w))
   end_in_world n r w (Err fault) = refl
 
   -- an event, by whether it is one too many
   event_in_world : (n : ℕ) (s : Settings) (w : WorldNow) (rest : Lines) (e : Event) → Continues (n + 1) rest → (b : Bool)
-      → (let t : Took ReplayNow = cond b (record { text = []; verdict = refuses (codes "TooMuch") status.TooMuch; after = in_world c (record { phase = phase.Events; settings = s }) w }) (goes_with (in_world c (record { phase = phase.Events; settings = s }) w) (told_text c.names (world_step w e).told) (world_step w e).after) in
+      → (let t : Took ReplayNow = cond b (record { text = []; verdict = refuses (codes "TooMuch") status.TooMuch; after = in_world c (record { phase = phase.Events; settings = s }) w }) (goes_with (in_world c (record { phase = phase.Events; settings = s }) w) (outcome_text c.names (world_step w e)) (world_step w e).after) in
       after_text t.text (after_verdict (n + 1) t.verdict (answers (n + 1) t.after rest)))
       ≡ run_scenario w (cond b (stops (too_much_at (n + 1))) (adds (item.Event e) (scenario_from (n + 1) (w.counts.events + 1) (record { phase = phase.Events; settings = s }) rest)))
-  unfolding run_after told_after
+  unfolding run_after outcomes_after
   event_in_world n s w rest e ih true = refl
   event_in_world n s w rest e ih false =
       let r : Reading = record { phase = phase.Events; settings = s } in
@@ -77,7 +77,7 @@ module _ (c : ReplayNow) where
       let goes_on : answers (n + 1) (in_world c r next) rest ≡ run_scenario next (scenario_from (n + 1) next.counts.events r rest) = ih r next (AtEvents refl) in
       let P : ℕ → Type 0 = λ k. answers (n + 1) (in_world c r next) rest ≡ run_scenario next (scenario_from (n + 1) k r rest) in
       let counted : answers (n + 1) (in_world c r next) rest ≡ run_scenario next (scenario_from (n + 1) (w.counts.events + 1) r rest) = subst P (world_step-events w e) goes_on in
-      ap (after_text (told_text c.names (world_step w e).told)) counted ∙ ap (λ t. record { text = t; status = (run_scenario next (scenario_from (n + 1) (w.counts.events + 1) r rest)).status }) (sym (append_assoc (told_text c.names (world_step w e).told) _ _))
+      ap (after_text (outcome_text c.names (world_step w e))) counted ∙ ap (λ t. record { text = t; status = (run_scenario next (scenario_from (n + 1) (w.counts.events + 1) r rest)).status }) (sym (append_assoc (outcome_text c.names (world_step w e)) _ _))
 
   line_at_events : (n : ℕ) (s : Settings) (r : Reading) (w : WorldNow) (rest : Lines) → Continues (n + 1) rest → (out : ReadLine) → FromEvents s out
       → line_answer n (in_world c r w) rest (Ok out) ≡ run_scenario w (line_scenario n w.counts.events r rest (Ok out))
@@ -93,14 +93,14 @@ module _ (c : ReplayNow) where
 
   line_in_world : (n : ℕ) (r : Reading) (w : WorldNow) (l : List ℕ) (rest : Lines) → InRun r.phase → Continues (n + 1) rest → (x : Result ReadLine LineFault) → read_line r l ≡ x
       → line_answer n (in_world c r w) rest x ≡ run_scenario w (line_scenario n w.counts.events r rest x)
-  unfolding run_after told_after
+  unfolding run_after outcomes_after
   line_in_world n r w l rest h ih (Err fault) e = refl
   line_in_world n r w l rest (AtEvents p) ih (Ok out) e = line_at_events n r.settings r w rest ih out (read_line-from_events r l out p e)
   line_in_world n r w l rest (AtEnded p) ih (Ok out) e = line_at_end n r w rest ih out (read_line-from_ended r l out p e)
 
   -- in a world the command answers the run of the events to come
   pub answers_in_world : (ls : Lines) (n : ℕ) → Continues n ls
-  unfolding answer scenario_from replay_took replay_closing run_after told_after
+  unfolding answer scenario_from replay_took replay_closing run_after outcomes_after
   answers_in_world ended n r w h = end_in_world n r w (finish_of r)
   answers_in_world too_long n r w h = refl
   answers_in_world too_much n r w h = refl
@@ -122,7 +122,7 @@ module _ (c : ReplayNow) where
   line_at_settings n s r rest ih _ PassedBefore = ih (record { phase = phase.Settings; settings = s }) (AtSettings refl)
   line_at_settings n s r rest ih _ (NewSetting v new) = ih (record { phase = phase.Settings; settings = with_setting s v }) (AtSettings refl)
   line_at_settings n s r rest ih _ (AllSet setup set) =
-      ap (after_text (start_text c.names (world_start (world_made setup)).told))
+      ap (after_text (begin_text c.names (world_start (world_made setup))))
       (answers_in_world rest (n + 1) (record { phase = phase.Events; settings = s }) (world_start (world_made setup)).after (AtEvents refl))
 
   line_at_first : (n : ℕ) (r : Reading) (rest : Lines) → Waits (n + 1) rest → (out : ReadLine) → out ≡ said item.Nothing phase.Settings no_settings

@@ -1,9 +1,7 @@
 -- Facts on runs.
 use Rattle.std.proofs.Common.{◌≡◌, ◌+◌, true, refl, sym, ap}
 use Rattle.eap_base.specs.declared.event.Event.{Event}
-use Rattle.eap_world.specs.World.{WorldNow, WorldOutcome, counted, world_start, world_step, world_outcome, act}
-use Rattle.eap_world.specs.declared.act.Action.{Action}
-use Rattle.eap_world.specs.declared.act.Action.TheVariants.{Skipped, Called}
+use Rattle.eap_world.specs.World.{Action, Called, Skipped, WorldNow, WorldOutcome, counted, world_start, world_step, world_outcome, act}
 use Rattle.eap_world.specs.declared.told.Counts.{Counts}
 use Rattle.eap_world.specs.declared.told.Told.{Told}
 

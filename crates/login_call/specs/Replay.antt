@@ -12,7 +12,7 @@ use Rattle.scenario_text.specs.Reading.{Reading, ReadLine, read_line, finish_of}
 use Rattle.scenario_text.specs.declared.fault.LineFault.{LineFault}
 use Rattle.scenario_text.specs.Items.{Item}
 use Rattle.scenario_text.specs.Items as item
-use Rattle.trace_text.specs.Run.{start_text, told_text, end_text}
+use Rattle.trace_text.specs.Run.{begin_text, outcome_text, end_text}
 use Rattle.login_call.specs.Commands.{Took, Closing, goes, refuses, ends, misses}
 use Rattle.login_call.specs.declared.replay.Replay.{Replay}
 use Rattle.login_call.specs.declared.status.Status.TheVariants as status
@@ -59,7 +59,7 @@ goes_with c text w = record { text = text; verdict = goes; after = record c { wo
 
 -- the line `events`: the world starts
 abbrev pub starts_in : ReplayNow → Option WorldNow → Setup → Took ReplayNow
-starts_in c None setup = goes_with c (start_text c.names (world_start (world_made setup)).told) (world_start (world_made setup)).after
+starts_in c None setup = goes_with c (begin_text c.names (world_start (world_made setup))) (world_start (world_made setup)).after
 starts_in c (Some w) setup = goes_silently c
 
 abbrev pub starts : ReplayNow → Setup → Took ReplayNow
@@ -71,7 +71,7 @@ steps_in c None e = goes_silently c
 steps_in c (Some w) e =
     if nat_le max_events w.counts.events
     then record { text = []; verdict = refuses (codes "TooMuch") status.TooMuch; after = c }
-    else goes_with c (told_text c.names (world_step w e).told) (world_step w e).after
+    else goes_with c (outcome_text c.names (world_step w e)) (world_step w e).after
 
 abbrev pub steps : ReplayNow → Event → Took ReplayNow
 steps c e = steps_in c c.world e

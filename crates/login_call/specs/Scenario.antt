@@ -4,7 +4,7 @@ use Rattle.std.specs.List.{flat_map}
 use Rattle.eap_base.specs.Lines.{Lines, ended, too_long, too_much, line, lines}
 use Rattle.eap_base.specs.declared.event.Event.{Event}
 use Rattle.eap_base.specs.declared.setup.Setup.{Setup}
-use Rattle.eap_world.specs.World.{WorldNow, world_made, world_start, run_after, told_after}
+use Rattle.eap_world.specs.World.{WorldNow, world_made, world_start, run_after, outcomes_after}
 use Rattle.scenario_text.specs.Words.{fault_word}
 use Rattle.scenario_text.specs.Reading.{Reading, ReadLine, no_settings, read_line, finish_of}
 use Rattle.scenario_text.specs.declared.fault.LineFault.{LineFault}
@@ -12,7 +12,7 @@ use Rattle.scenario_text.specs.Items.{Item}
 use Rattle.scenario_text.specs.Items as item
 use Rattle.scenario_text.specs.declared.scenario.Phase.TheVariants as phase
 use Rattle.trace_text.specs.Lines.{line_text}
-use Rattle.trace_text.specs.Run.{start_text, told_text, end_text}
+use Rattle.trace_text.specs.Run.{begin_text, outcome_text, end_text}
 use Rattle.login_call.specs.Answers.{Answer, after_text, refusal}
 use Rattle.login_call.specs.Replay.{max_events}
 use Rattle.login_call.specs.declared.status.Status.{Status}
@@ -82,7 +82,7 @@ scenario_of octets = scenario_from 0 0 (record { phase = phase.Unread; settings 
 
 -- the lines of what was told of events; with names also the octets of packets and the names of keys
 abbrev pub events_text : Bool → WorldNow → List Event → List ℕ
-events_text names w events = flat_map (told_text names) (told_after w events)
+events_text names w events = flat_map (outcome_text names) (outcomes_after w events)
 
 -- after the events: the lines of the end of the run, or those of a refusal
 abbrev pub outcome_answer : WorldNow → Outcome → Answer
@@ -101,7 +101,7 @@ unset_answer (refused number word s) = refusal number word s
 abbrev pub setup_answer : Bool → Option Setup → List Event → Outcome → Answer
 setup_answer names None events outcome = unset_answer outcome
 setup_answer names (Some setup) events outcome =
-    after_text (start_text names (world_start (world_made setup)).told) (run_answer names (world_start (world_made setup)).after events outcome)
+    after_text (begin_text names (world_start (world_made setup))) (run_answer names (world_start (world_made setup)).after events outcome)
 
 abbrev pub scenario_answer : Bool → Scenario → Answer
 scenario_answer names s = setup_answer names s.setup s.events s.outcome

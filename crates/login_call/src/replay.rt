@@ -79,8 +79,9 @@ impl<P: PeerMethod, S: ServerMethod> Replay<P, S> {
                 let mut world = world_of(self.alloc, setup, methods);
                 match world.start() {
                     Ok(told) => {
+                        let written = write_start(sink, &told, world.octets_of(&told), self.names);
                         self.world = Some(world);
-                        match write_start(sink, &told, self.names) {
+                        match written {
                             Ok(()) => Ok(Next::Goes),
                             Err(_) => Err(Trouble::Write),
                         }
@@ -122,7 +123,7 @@ impl<P: PeerMethod, S: ServerMethod> Replay<P, S> {
                     return Ok(Next::Refuses("TooMuch", Status::TooMuch));
                 }
                 match world.step(event) {
-                    Ok(told) => match write_told(sink, &told, names) {
+                    Ok(told) => match write_told(sink, &told, world.octets_of(&told), names) {
                         Ok(()) => Ok(Next::Goes),
                         Err(_) => Err(Trouble::Write),
                     },

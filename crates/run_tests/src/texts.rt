@@ -2,7 +2,7 @@
 
 ghost use Rattle.scenario_text.specs.Keys.{HasSizes};
 
-use eap_base::{Identity, MemSink, Octets, Packet, Party, Port};
+use eap_base::{Identity, MemSink, Octets, Party, Port};
 use eap_method::Report;
 use eap_packet::{Cause, Path, State};
 use eap_world::{Named, SentPacket, Skip, Told};
@@ -47,13 +47,10 @@ fn told_of(event: u32, party: Option<Party>, states: [State; 2]) -> Told {
     }
 }
 
-fn sent_to_peer(number: u32, octets: &[u8]) -> Option<SentPacket> {
-    let mut packet = Packet::new();
-    packet.append(octets);
+fn sent_to_peer(number: u32) -> Option<SentPacket> {
     Some(SentPacket {
         number,
         port: Port::Peer,
-        packet,
     })
 }
 
@@ -71,7 +68,7 @@ fn report() -> Report {
 /// The server ends with a Success and reports its keys.
 fn success() -> Told {
     let mut told = told_of(8, Some(Party::Server), [State::Received, State::Success]);
-    told.sent = sent_to_peer(9, &[3, 4, 0, 4]);
+    told.sent = sent_to_peer(9);
     told.named = Some(Named {
         party: Party::Server,
         report: report(),
@@ -79,19 +76,19 @@ fn success() -> Told {
     told
 }
 
-/// True where this is written of what came of an event.
+/// True where this is written of what came of an event, whose packet is a Success where it has one.
 fn is_told(alloc: Global, told: &Told, names: bool, want: &[u8]) -> Result<bool, AllocError> {
     let mut sink = MemSink::new(alloc, 200, 100, &[])?;
-    let wrote = write_told(&mut sink, told, names).is_ok();
+    let wrote = write_told(&mut sink, told, &[3, 4, 0, 4], names).is_ok();
     Ok(wrote && sink.written() == want)
 }
 
 #[test]
 fn octets_of_the_start(rt: HostRuntime) -> Result<(), Fail> {
     let mut begun = told_of(0, Some(Party::Server), [State::Initialize, State::Idle]);
-    begun.sent = sent_to_peer(1, &[1, 0, 0, 5, 1]);
+    begun.sent = sent_to_peer(1);
     let mut sink = MemSink::new(rt.alloc(), 200, 100, &[])?;
-    write_start(&mut sink, &begun, true)?;
+    write_start(&mut sink, &begun, &[1, 0, 0, 5, 1], true)?;
     assert!(rt; sink.written() == START);
     Ok(())
 }

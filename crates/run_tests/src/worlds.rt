@@ -71,13 +71,6 @@ fn step(rt: &impl Abort, world: &mut BareWorld, event: &Event) -> Result<Told, F
     Ok(world.step(event)?)
 }
 
-fn sent_octets(sent: &Option<SentPacket>) -> &[u8] {
-    match sent {
-        None => &[],
-        Some(sent) => sent.packet.as_slice(),
-    }
-}
-
 /// True where these are the names of the states entered, parted by spaces.
 fn is_path(told: &Told, names: &str) -> bool {
     let mut rest = names;
@@ -124,12 +117,12 @@ fn has_failed(world: &BareWorld) -> bool {
 fn identity_round(rt: HostRuntime) -> Result<(), Fail> {
     let mut world = alice_at_srv(rt.alloc());
     let begun = start(&rt, &mut world)?;
-    assert!(rt; sent_octets(&begun.sent) == b"\x01\x00\x00\x05\x01".as_slice());
+    assert!(rt; world.octets_of(&begun) == b"\x01\x00\x00\x05\x01".as_slice());
     let mut number: u32 = 0;
     for path in ROUND.split("\n").take(3) {
         number = number.wrapping_add(1);
         let told = step(&rt, &mut world, &Event::Deliver { number })?;
-        let goes = is_path(&told, path) && sent_octets(&told.sent) == sent_after(number);
+        let goes = is_path(&told, path) && world.octets_of(&told) == sent_after(number);
         assert!(rt; goes, "{number}");
     }
     assert!(rt; has_failed(&world));
@@ -163,5 +156,26 @@ fn six_timeouts(rt: HostRuntime) -> Result<(), Fail> {
     assert!(rt; gives_up);
     let told = step(&rt, &mut world, &event)?;
     assert!(rt; told.skip == Some(Skip::Ended) && world.peer_state() == State::Idle);
+    Ok(())
+}
+
+// The server's Request is sent again after the peer's Response, and then that Response: packets 3 and 4 are
+// those of packets 1 and 2, of 5 and 10 octets.
+#[test]
+fn what_is_sent_again_is_stored_once(rt: HostRuntime) -> Result<(), Fail> {
+    let mut world = alice_at_srv(rt.alloc());
+    start(&rt, &mut world)?;
+    step(&rt, &mut world, &Event::Deliver { number: 1 })?;
+    assert!(rt; world.stored() == 15);
+    let timeout = Event::Timeout {
+        party: Party::Server,
+    };
+    let request = step(&rt, &mut world, &timeout)?;
+    let response = step(&rt, &mut world, &Event::Deliver { number: 3 })?;
+    let numbers = sent_number(&request.sent) == 3 && sent_number(&response.sent) == 4;
+    assert!(rt; numbers && world.stored() == 15);
+    let is_first = world.packet(1) == Some(world.octets_of(&request));
+    let is_second = world.packet(2) == Some(world.octets_of(&response));
+    assert!(rt; is_first && is_second && world.packet(5).is_none());
     Ok(())
 }

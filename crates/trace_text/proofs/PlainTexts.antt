@@ -82,26 +82,26 @@ module _ (bad : ℕ → Bool) (no_digit : (o : ℕ) → 48 ≤ o → o ≤ 57 �
   cause_plain event None = refl
   cause_plain event (Some c) = decimal_first bad no_digit event _ (through bad (cause_word c) _ (cause_within c) refl)
 
-  sent_plain : (event : ℕ) (s : Option SentPacket) → plain bad true (sent_text event s) ≡ true
-  sent_plain event None = refl
-  sent_plain event (Some sent) =
+  sent_plain : (event : ℕ) (octets : List ℕ) (s : Option SentPacket) → plain bad true (sent_text event octets s) ≡ true
+  sent_plain event octets None = refl
+  sent_plain event octets (Some sent) =
       decimal_first bad no_digit event _ (through bad (decimal sent.number) _ (decimal_within sent.number)
       (through bad (port_word sent.port) _ (port_within sent.port)
-      (through bad (code_word (slice_index sent.packet 0)) _ (code_within (slice_index sent.packet 0))
-      (through bad (decimal (slice_index sent.packet 1)) _ (decimal_within (slice_index sent.packet 1))
-      (through bad (type_text sent.packet) _ (type_within sent.packet)
-      (through bad (decimal (length sent.packet)) _ (decimal_within (length sent.packet)) refl))))))
+      (through bad (code_word (slice_index octets 0)) _ (code_within (slice_index octets 0))
+      (through bad (decimal (slice_index octets 1)) _ (decimal_within (slice_index octets 1))
+      (through bad (type_text octets) _ (type_within octets)
+      (through bad (decimal (length octets)) _ (decimal_within (length octets)) refl))))))
 
-  octets_line-plain : (event : ℕ) (sent : SentPacket) → plain bad true (octets_line event sent) ≡ true
-  octets_line-plain event sent = decimal_first bad no_digit event _ (through bad (hex_text sent.packet) _ (hex_within sent.packet) refl)
+  line_of_octets_plain : (event : ℕ) (octets : List ℕ) → plain bad true (octets_line event octets) ≡ true
+  line_of_octets_plain event octets = decimal_first bad no_digit event _ (through bad (hex_text octets) _ (hex_within octets) refl)
 
-  octets_plain : (names : Bool) (event : ℕ) (s : Option SentPacket) → plain bad true (octets_text names event s) ≡ true
-  octets_plain names event None = refl
-  octets_plain true event (Some sent) = octets_line-plain event sent
-  octets_plain false event (Some sent) = refl
+  octets_plain : (names : Bool) (event : ℕ) (octets : List ℕ) (s : Option SentPacket) → plain bad true (octets_text names event octets s) ≡ true
+  octets_plain names event octets None = refl
+  octets_plain true event octets (Some sent) = line_of_octets_plain event octets
+  octets_plain false event octets (Some sent) = refl
 
-  keys_line-plain : (event : ℕ) (named : Named) → plain bad true (keys_line event named) ≡ true
-  keys_line-plain event named =
+  line_of_keys_plain : (event : ℕ) (named : Named) → plain bad true (keys_line event named) ≡ true
+  line_of_keys_plain event named =
       let msk = key_name_of named.report.msk in
       let emsk = key_name_of named.report.emsk in
       decimal_first bad no_digit event _ (through bad (party_word named.party) _ (party_within named.party)
@@ -109,28 +109,28 @@ module _ (bad : ℕ → Bool) (no_digit : (o : ℕ) → 48 ≤ o → o ≤ 57 �
 
   keys_plain : (names : Bool) (event : ℕ) (n : Option Named) → plain bad true (keys_text names event n) ≡ true
   keys_plain names event None = refl
-  keys_plain true event (Some named) = keys_line-plain event named
+  keys_plain true event (Some named) = line_of_keys_plain event named
   keys_plain false event (Some named) = refl
 
-  shown_plain : (names : Bool) (told : Told) → plain bad true (shown_text names told) ≡ true
-  shown_plain names told =
-      join bad (sent_text told.event told.sent) _ true (sent_plain told.event told.sent)
-      (join bad (octets_text names told.event told.sent) (keys_text names told.event told.named) true
-      (octets_plain names told.event told.sent) (keys_plain names told.event told.named))
+  shown_plain : (names : Bool) (octets : List ℕ) (told : Told) → plain bad true (shown_text names octets told) ≡ true
+  shown_plain names octets told =
+      join bad (sent_text told.event octets told.sent) _ true (sent_plain told.event octets told.sent)
+      (join bad (octets_text names told.event octets told.sent) (keys_text names told.event told.named) true
+      (octets_plain names told.event octets told.sent) (keys_plain names told.event told.named))
 
-  acted_plain : (names : Bool) (told : Told) → plain bad true (acted_text names told) ≡ true
-  acted_plain names told =
+  acted_plain : (names : Bool) (octets : List ℕ) (told : Told) → plain bad true (acted_text names octets told) ≡ true
+  acted_plain names octets told =
       join bad (party_text told.event told.party told.path) _ true (party_plain told.event told.party told.path)
-      (join bad (cause_text told.event told.cause) (shown_text names told) true (cause_plain told.event told.cause) (shown_plain names told))
+      (join bad (cause_text told.event told.cause) (shown_text names octets told) true (cause_plain told.event told.cause) (shown_plain names octets told))
 
-  told_by-plain : (names : Bool) (told : Told) (s : Option Skip) → plain bad true (told_by names told s) ≡ true
-  told_by-plain names told None = acted_plain names told
-  told_by-plain names told (Some s) = decimal_first bad no_digit told.event _ (through bad (skip_word s) _ (skip_within s) refl)
+  told_by_plain : (names : Bool) (octets : List ℕ) (told : Told) (s : Option Skip) → plain bad true (told_by names octets told s) ≡ true
+  told_by_plain names octets told None = acted_plain names octets told
+  told_by_plain names octets told (Some s) = decimal_first bad no_digit told.event _ (through bad (skip_word s) _ (skip_within s) refl)
 
   -- the lines of an event
-  pub told_plain : (names : Bool) (told : Told) → plain bad true (told_text names told) ≡ true
+  pub told_plain : (names : Bool) (octets : List ℕ) (told : Told) → plain bad true (told_text names octets told) ≡ true
   unfolding told_text
-  told_plain names told = told_by-plain names told told.skip
+  told_plain names octets told = told_by_plain names octets told told.skip
 
 -- ---- the lines of the start and the end
 
@@ -142,9 +142,9 @@ begins_verdict o = o == 116 || o == 114
 pub no_verdict : (o : ℕ) → 48 ≤ o → o ≤ 57 → begins_verdict o ≡ false
 no_verdict o h k = or_from (o == 116) (o == 114) (ne_eqb o 116 (λ e. omega (arith, k, e))) (ne_eqb o 114 (λ e. omega (arith, k, e)))
 
-pub start_plain : (names : Bool) (told : Told) → plain begins_verdict true (start_text names told) ≡ true
+pub start_plain : (names : Bool) (octets : List ℕ) (told : Told) → plain begins_verdict true (start_text names octets told) ≡ true
 unfolding peer_start_text
-start_plain names told = told_plain begins_verdict no_verdict names told
+start_plain names octets told = told_plain begins_verdict no_verdict names octets told
 
 pub ends_plain : (peer server : State) → plain begins_verdict true (ends_text peer server) ≡ true
 unfolding ends_text

@@ -9,8 +9,8 @@ use Rattle.eap_packet.specs.Words.{cause_word, state_word}
 use Rattle.eap_packet.specs.declared.cause.Cause.{Cause}
 use Rattle.eap_packet.specs.declared.state.State.{State}
 use Rattle.eap_world.specs.Book.{tags_verdict}
-use Rattle.eap_world.specs.Verdict.{verdict_of}
-use Rattle.eap_world.specs.World.{WorldNow}
+use Rattle.eap_world.specs.Judgement.{verdict_of}
+use Rattle.eap_world.specs.World.{WorldNow, WorldOutcome, told_octets}
 use Rattle.eap_world.specs.declared.book.TagsVerdict.{TagsVerdict}
 use Rattle.eap_world.specs.declared.book.TagsVerdict.TheVariants as tags
 use Rattle.eap_world.specs.declared.told.Counts.{Counts}
@@ -76,21 +76,21 @@ abbrev pub cause_text : ℕ → Option Cause → List ℕ
 cause_text event None = []
 cause_text event (Some cause) = concat (decimal event ∷ codes " cause " ∷ cause_word cause ∷ codes "\n" ∷ [])
 
--- the line of a packet that was sent
-abbrev pub sent_text : ℕ → Option SentPacket → List ℕ
-sent_text event None = []
-sent_text event (Some sent) = concat (
+-- the line of a packet that was sent, of these octets
+abbrev pub sent_text : ℕ → List ℕ → Option SentPacket → List ℕ
+sent_text event octets None = []
+sent_text event octets (Some sent) = concat (
     decimal event ∷ codes " sent " ∷ decimal sent.number ∷ codes " to " ∷ port_word sent.port ∷ codes " " ∷
-    code_word (slice_index sent.packet 0) ∷ codes " " ∷ decimal (slice_index sent.packet 1) ∷ type_text sent.packet ∷
-    codes " length " ∷ decimal (length sent.packet) ∷ codes "\n" ∷ [])
+    code_word (slice_index octets 0) ∷ codes " " ∷ decimal (slice_index octets 1) ∷ type_text octets ∷
+    codes " length " ∷ decimal (length octets) ∷ codes "\n" ∷ [])
 
 -- the octets of a packet that was sent, which stand only in a trace with names
-abbrev pub octets_line : ℕ → SentPacket → List ℕ
-octets_line event sent = concat (decimal event ∷ codes " octets " ∷ hex_text sent.packet ∷ codes "\n" ∷ [])
+abbrev pub octets_line : ℕ → List ℕ → List ℕ
+octets_line event octets = concat (decimal event ∷ codes " octets " ∷ hex_text octets ∷ codes "\n" ∷ [])
 
-abbrev pub octets_text : Bool → ℕ → Option SentPacket → List ℕ
-octets_text names event None = []
-octets_text names event (Some sent) = if names then octets_line event sent else []
+abbrev pub octets_text : Bool → ℕ → List ℕ → Option SentPacket → List ℕ
+octets_text names event octets None = []
+octets_text names event octets (Some sent) = if names then octets_line event octets else []
 
 -- the names of the keys that a party first reports, which stand only in a trace with names
 abbrev pub keys_line : ℕ → Named → List ℕ
@@ -103,28 +103,36 @@ keys_text names event None = []
 keys_text names event (Some named) = if names then keys_line event named else []
 
 -- the lines of the packet that was sent, of its octets, and of the keys
-abbrev pub shown_text : Bool → Told → List ℕ
-shown_text names told = sent_text told.event told.sent
-    ++ (octets_text names told.event told.sent ++ keys_text names told.event told.named)
+abbrev pub shown_text : Bool → List ℕ → Told → List ℕ
+shown_text names octets told = sent_text told.event octets told.sent
+    ++ (octets_text names told.event octets told.sent ++ keys_text names told.event told.named)
 
 -- the lines of what was told: a skipped event has one alone
-abbrev pub acted_text : Bool → Told → List ℕ
-acted_text names told = party_text told.event told.party told.path ++ (cause_text told.event told.cause ++ shown_text names told)
+abbrev pub acted_text : Bool → List ℕ → Told → List ℕ
+acted_text names octets told = party_text told.event told.party told.path ++ (cause_text told.event told.cause ++ shown_text names octets told)
 
-abbrev pub told_by : Bool → Told → Option Skip → List ℕ
-told_by names told (Some skip) = concat (decimal told.event ∷ codes " skip " ∷ skip_word skip ∷ codes "\n" ∷ [])
-told_by names told None = acted_text names told
+abbrev pub told_by : Bool → List ℕ → Told → Option Skip → List ℕ
+told_by names octets told (Some skip) = concat (decimal told.event ∷ codes " skip " ∷ skip_word skip ∷ codes "\n" ∷ [])
+told_by names octets told None = acted_text names octets told
 
--- the lines of an event, with the octets of packets and the names of keys or without
-unfoldable pub told_text : Bool → Told → List ℕ
-told_text names told = told_by names told told.skip
+-- the lines of an event, with the octets of packets and the names of keys or without; the packet that was
+-- sent has these octets
+unfoldable pub told_text : Bool → List ℕ → Told → List ℕ
+told_text names octets told = told_by names octets told told.skip
+
+-- the lines of what came of an event
+abbrev pub outcome_text : Bool → WorldOutcome → List ℕ
+outcome_text names out = told_text names (told_octets out) out.told
 
 -- the lines of the start, in which the peer begins before the server asks
 unfoldable pub peer_start_text : List ℕ
 peer_start_text = codes "0 peer INITIALIZE IDLE\n"
 
-abbrev pub start_text : Bool → Told → List ℕ
-start_text names told = peer_start_text ++ told_text names told
+abbrev pub start_text : Bool → List ℕ → Told → List ℕ
+start_text names octets told = peer_start_text ++ told_text names octets told
+
+abbrev pub begin_text : Bool → WorldOutcome → List ℕ
+begin_text names out = start_text names (told_octets out) out.told
 
 -- where both ends stand
 unfoldable pub ends_text : State → State → List ℕ

@@ -197,21 +197,30 @@ fn write_cause<W: Sink>(sink: &mut W, event: u32, cause: Option<Cause>) -> Resul
 }
 
 /// Writes the line of the packet that was sent, if there was one.
-fn write_sent<W: Sink>(sink: &mut W, event: u32, sent: &Option<SentPacket>) -> Result<(), Failed>
-    ensures { Appends W.written W.write_faults W.last_write_fault result sink.old sink.new (sent_text event sent.now) }
+fn write_sent<W: Sink>(
+    sink: &mut W,
+    event: u32,
+    octets: &[u8],
+    sent: &Option<SentPacket>,
+) -> Result<(), Failed>
+    ensures { Appends W.written W.write_faults W.last_write_fault result sink.old sink.new (sent_text event octets.now sent.now) }
 {
     match sent {
         None => write_nothing(sink),
-        Some(packet) => write_packet_line(sink, event, packet),
+        Some(packet) => write_packet_line(sink, event, octets, packet),
     }
 }
 
 /// Writes the line of a packet: its number and port, then its Code, Identifier, Type and length in
 /// octets. A Success and a Failure have no Type (RFC 3748 section 4.2).
-fn write_packet_line<W: Sink>(sink: &mut W, event: u32, sent: &SentPacket) -> Result<(), Failed>
-    ensures { Appends W.written W.write_faults W.last_write_fault result sink.old sink.new (sent_text event (Some sent.now)) }
+fn write_packet_line<W: Sink>(
+    sink: &mut W,
+    event: u32,
+    octets: &[u8],
+    sent: &SentPacket,
+) -> Result<(), Failed>
+    ensures { Appends W.written W.write_faults W.last_write_fault result sink.old sink.new (sent_text event octets.now (Some sent.now)) }
 {
-    let octets = sent.packet.as_slice();
     let code = octet_at(octets, 0);
     let has_type = code <= 2;
     let kind = octet_at(octets, 4);
@@ -241,15 +250,15 @@ fn write_packet_line<W: Sink>(sink: &mut W, event: u32, sent: &SentPacket) -> Re
 }
 
 /// Writes all octets of a packet in hex, in one line.
-fn write_octets_line<W: Sink>(sink: &mut W, event: u32, sent: &SentPacket) -> Result<(), Failed>
-    ensures { Appends W.written W.write_faults W.last_write_fault result sink.old sink.new (octets_line event sent.now) }
+fn write_octets_line<W: Sink>(sink: &mut W, event: u32, octets: &[u8]) -> Result<(), Failed>
+    ensures { Appends W.written W.write_faults W.last_write_fault result sink.old sink.new (octets_line event octets.now) }
 {
     write_pieces(
         sink,
         &[
             Number(u64::from(event)),
             Text(b" octets "),
-            Hex(sent.packet.as_slice()),
+            Hex(octets),
             Text(b"\n"),
         ],
     )
@@ -259,16 +268,17 @@ fn write_octets_line<W: Sink>(sink: &mut W, event: u32, sent: &SentPacket) -> Re
 fn write_octets<W: Sink>(
     sink: &mut W,
     event: u32,
+    octets: &[u8],
     sent: &Option<SentPacket>,
     names: bool,
 ) -> Result<(), Failed>
-    ensures { Appends W.written W.write_faults W.last_write_fault result sink.old sink.new (octets_text names event sent.now) }
+    ensures { Appends W.written W.write_faults W.last_write_fault result sink.old sink.new (octets_text names event octets.now sent.now) }
 {
     match sent {
         None => write_nothing(sink),
-        Some(packet) => {
+        Some(_) => {
             if names {
-                write_octets_line(sink, event, packet)
+                write_octets_line(sink, event, octets)
             } else {
                 write_nothing(sink)
             }
@@ -332,16 +342,21 @@ fn write_keys<W: Sink>(
     }
 }
 
-/// Writes the lines of an event: of the party that acted, of a discard, and of the packet that was sent.
-/// Where names are asked for, the octets of that packet follow in hex, and the names of the keys that the
+/// Writes the lines of an event: of the party that acted, of a discard, and of the packet that was sent,
+/// which has these octets. Where names are asked for, they follow in hex, and the names of the keys that the
 /// party first reports. A skipped event has one line alone. `Failed`: a write failed, and a front of the
 /// lines was appended.
 #[tactic(auto, unfolding(crate::specs::Run::told_text))]
-pub fn write_told<W: Sink>(sink: &mut W, told: &Told, names: bool) -> Result<(), Failed>
-    ensures { Appends W.written W.write_faults W.last_write_fault result sink.old sink.new (told_text names told.now) }
+pub fn write_told<W: Sink>(
+    sink: &mut W,
+    told: &Told,
+    octets: &[u8],
+    names: bool,
+) -> Result<(), Failed>
+    ensures { Appends W.written W.write_faults W.last_write_fault result sink.old sink.new (told_text names octets.now told.now) }
 {
     match told.skip {
-        None => write_acted(sink, told, names),
+        None => write_acted(sink, told, octets, names),
         Some(skip) => write_pieces(
             sink,
             &[
@@ -356,21 +371,31 @@ pub fn write_told<W: Sink>(sink: &mut W, told: &Told, names: bool) -> Result<(),
 
 /// Writes the lines of an event that wasn't skipped.
 #[tactic(auto, using(crate::proofs::Fronts::appends_both, crate::proofs::Fronts::appends_front))]
-fn write_acted<W: Sink>(sink: &mut W, told: &Told, names: bool) -> Result<(), Failed>
-    ensures { Appends W.written W.write_faults W.last_write_fault result sink.old sink.new (acted_text names told.now) }
+fn write_acted<W: Sink>(
+    sink: &mut W,
+    told: &Told,
+    octets: &[u8],
+    names: bool,
+) -> Result<(), Failed>
+    ensures { Appends W.written W.write_faults W.last_write_fault result sink.old sink.new (acted_text names octets.now told.now) }
 {
     write_party(sink, told.event, told.party, told.path.as_slice())?;
     write_cause(sink, told.event, told.cause)?;
-    write_shown(sink, told, names)
+    write_shown(sink, told, octets, names)
 }
 
 /// Writes the lines of the packet that was sent, of its octets, and of the keys.
 #[tactic(auto, using(crate::proofs::Fronts::appends_both, crate::proofs::Fronts::appends_front))]
-fn write_shown<W: Sink>(sink: &mut W, told: &Told, names: bool) -> Result<(), Failed>
-    ensures { Appends W.written W.write_faults W.last_write_fault result sink.old sink.new (shown_text names told.now) }
+fn write_shown<W: Sink>(
+    sink: &mut W,
+    told: &Told,
+    octets: &[u8],
+    names: bool,
+) -> Result<(), Failed>
+    ensures { Appends W.written W.write_faults W.last_write_fault result sink.old sink.new (shown_text names octets.now told.now) }
 {
-    write_sent(sink, told.event, &told.sent)?;
-    write_octets(sink, told.event, &told.sent, names)?;
+    write_sent(sink, told.event, octets, &told.sent)?;
+    write_octets(sink, told.event, octets, &told.sent, names)?;
     write_keys(sink, told.event, &told.named, names)
 }
 
@@ -386,11 +411,16 @@ fn write_peer_start<W: Sink>(sink: &mut W) -> Result<(), Failed>
 /// octets of its packet where names are asked for. `Failed`: a write failed, and a front of the lines was
 /// appended.
 #[tactic(auto, using(crate::proofs::Fronts::appends_both, crate::proofs::Fronts::appends_front))]
-pub fn write_start<W: Sink>(sink: &mut W, told: &Told, names: bool) -> Result<(), Failed>
-    ensures { Appends W.written W.write_faults W.last_write_fault result sink.old sink.new (start_text names told.now) }
+pub fn write_start<W: Sink>(
+    sink: &mut W,
+    told: &Told,
+    octets: &[u8],
+    names: bool,
+) -> Result<(), Failed>
+    ensures { Appends W.written W.write_faults W.last_write_fault result sink.old sink.new (start_text names octets.now told.now) }
 {
     write_peer_start(sink)?;
-    write_told(sink, told, names)
+    write_told(sink, told, octets, names)
 }
 
 /// Writes the lines of the end: where both ends stand, the counts, and the verdicts. `Failed`: a write
