@@ -8,7 +8,7 @@ ghost use Rattle.pass_through.specs.PassTable.{answer, to_peer_with, to_server_w
 use crate::variables::PassVariables;
 use eap_base::Packet;
 use eap_method::Step;
-use eap_packet::{Cause, Code, State, decode, encode};
+use eap_packet::{Cause, Code, State, decode, encode_into};
 
 /// Type 1, Identity.
 const IDENTITY: u8 = 1;
@@ -17,7 +17,7 @@ const IDENTITY: u8 = 1;
 pub fn write_identity_request(packet: &mut Packet, id: u8)
     ensures { packet.new ≡ identity_request id }
 {
-    packet.set(encode(Code::Request, id, IDENTITY, &[]).as_slice());
+    encode_into(packet, Code::Request, id, IDENTITY, &[]);
 }
 
 /// IDLE: the Identity Response goes to the server as it came.

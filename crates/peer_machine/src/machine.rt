@@ -17,7 +17,7 @@ use eap_method::{
     Decision, MethodState, PeerMethod, PeerTurn, Report, Step, Tags, begin_peers, hand_to_peer,
     has_ended, peer_report,
 };
-use eap_packet::{Cause, Code, State, View, decode, encode};
+use eap_packet::{Cause, Code, State, View, decode, encode_into};
 use login_policy::{nak_list, peer_allows};
 use std::marker::Model;
 
@@ -346,7 +346,7 @@ fn write_response(packet: &mut Packet, id: u8, kind: u8, body: &[u8])
     requires nak_desires { kind ≡ 3 → body.now ≢ [] }
     ensures { packet.new ≡ spelled (packets.response id kind body.now) }
 {
-    packet.set(encode(Code::Response, id, kind, body).as_slice());
+    encode_into(packet, Code::Response, id, kind, body);
 }
 
 /// SEND_RESPONSE, after the state `entered`: sets lastId and lastRespData.

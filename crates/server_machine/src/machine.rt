@@ -18,7 +18,7 @@ use eap_method::{
     Report, ServerMethod, ServerSide, ServerTurn, Step, Tags, begin_servers, hand_to_server,
     has_ended, offer_method, server_report,
 };
-use eap_packet::{Cause, Code, State, View, decode, encode, encode_end};
+use eap_packet::{Cause, Code, State, View, decode, encode_end_into, encode_into};
 use login_policy::next_method;
 use std::marker::Model;
 
@@ -313,7 +313,7 @@ fn discard(cause: Cause) -> Step
 fn write_identity(packet: &mut Packet, id: u8)
     ensures { packet.new ≡ identity_request id }
 {
-    packet.set(encode(Code::Request, id, IDENTITY, &[]).as_slice());
+    encode_into(packet, Code::Request, id, IDENTITY, &[]);
 }
 
 /// Writes a Success or a Failure in place of what was there.
@@ -321,7 +321,7 @@ fn write_end(packet: &mut Packet, code: Code, id: u8)
     requires { IsTrue (not (has_type code)) }
     ensures { packet.new ≡ spelled (value_with code id 0 []) }
 {
-    packet.set(encode_end(code, id).as_slice());
+    encode_end_into(packet, code, id);
 }
 
 /// The Identifier of the next Request: the first one, or one more modulo 256.
