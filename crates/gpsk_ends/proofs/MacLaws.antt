@@ -174,7 +174,8 @@ tag_of suite sk message octets tag o t =
     ap (with_mac (without_mac message)) same ∙ with_without message tag
 
 pub packet_sealed : (code : Code) (id : ℕ) (suite : Suite) (sk : List ℕ) (message : Message) (octets tag packet : List ℕ) →
-    octets ≡ covered_of message → tag ≡ gpsk_tag_of suite sk octets → packet ≡ packets.spelled (value_with code id 51 (spelled (with_mac message tag))) →
+    octets ≡ covered_of message → tag ≡ gpsk_tag_of suite sk octets →
+    packet ≡ packets.spelled (value_with code id 51 (spelled (with_mac message tag))) →
     packet ≡ packet_of code id suite sk (without_mac message)
 packet_sealed code id suite sk message octets tag packet o t p =
     p ∙ ap (λ m. packets.spelled (value_with code id 51 (spelled m))) (sym (tag_of suite sk message octets tag o t))

@@ -4,7 +4,6 @@ ghost use Rattle.std.specs.Prelude.{◌≡◌, ◌≤◌, ◌+◌, ◌∷◌, []
 ghost use Rattle.eap_base.specs.Suite.{ks_of};
 ghost use Rattle.eap_packet.specs.Packet.{has_type};
 ghost use Rattle.gpsk_messages.specs.Message.{message_of, mac_of, size_of, spelled, without_mac};
-ghost use Rattle.gpsk_ends.specs.Heard.{IsHeard};
 ghost use Rattle.gpsk_ends.specs.Sealed.{packet_of, record_of};
 
 use crate::hearing::{covered_part, mac_part};
@@ -39,7 +38,7 @@ impl Model for Keys {
 
 impl Keys {
     ghost use Rattle.login_keys.specs.Gpsk.{gpsk_keys_of};
-    ghost use Rattle.eap_method.specs.GpskTags.{is_tagged, sk_record};
+    ghost use Rattle.eap_method.specs.GpskTags.{is_tagged};
 
     /// The keys that a peer and a server with the shared key `psk` derive from their nonces and names
     /// (RFC 5433 section 4).
