@@ -8,7 +8,7 @@ use std::test::Fail;
 use std::{io, str};
 
 /// Names of 253 octets, a key of 64, 16 users, the last Identifier and the most retransmissions; and 60
-/// events of every kind, among them 2,000 octets at once, which have 20 packets sent.
+/// events of every kind, among them 2,000 octets at once, by which 20 packets are sent.
 const WIDEST: &str = "\
 eap-scenario 1
 mode alone
@@ -48,9 +48,9 @@ alt-accept
 inject peer OCTETS
 inject server OCTETS
 alter 17 1499 1
-alter 17 30 255
+alter 17 617 255
 cut 17 30
-timeout peer
+cut 17 1500
 deliver 99
 deliver 17
 deliver 18
