@@ -11,13 +11,13 @@ abbrev Filled : List (List ℕ) → Type 0
 Filled [] = ⊥
 Filled (p ∷ ps) = Unit {0}
 
-onto_first-filled : (x : ℕ) (ps : List (List ℕ)) → Filled (onto_first x ps)
-onto_first-filled x [] = tt
-onto_first-filled x (p ∷ ps) = tt
+onto_first_filled : (x : ℕ) (ps : List (List ℕ)) → Filled (onto_first x ps)
+onto_first_filled x [] = tt
+onto_first_filled x (p ∷ ps) = tt
 
 pieces-filled : (octets : List ℕ) → Filled (pieces octets)
 pieces-filled [] = tt
-pieces-filled (x ∷ rest) = cond_both (eqb x 10) ([] ∷ pieces rest) (onto_first x (pieces rest)) Filled (λ e. tt) (λ e. onto_first-filled x (pieces rest))
+pieces-filled (x ∷ rest) = cond_both (eqb x 10) ([] ∷ pieces rest) (onto_first x (pieces rest)) Filled (λ e. tt) (λ e. onto_first_filled x (pieces rest))
 
 -- the pieces of two lists, one behind the other
 abbrev joined : List (List ℕ) → List (List ℕ) → List (List ℕ)
@@ -81,13 +81,13 @@ from_octet taken begun rest x e short few =
     let more : leb 16777216 taken ≡ false = lt-leb 16777216 taken few in
     rw (e, fits, more) refl
 
-whole_lines-cons : (p : List ℕ) (ps : List (List ℕ)) (then_these : Lines) → Filled ps → line (without_cr p) (whole_lines ps then_these) ≡ whole_lines (p ∷ ps) then_these
-whole_lines-cons p [] then_these some = absurd some
-whole_lines-cons p (q ∷ qs) then_these some = refl
+whole_lines_cons : (p : List ℕ) (ps : List (List ℕ)) (then_these : Lines) → Filled ps → line (without_cr p) (whole_lines ps then_these) ≡ whole_lines (p ∷ ps) then_these
+whole_lines_cons p [] then_these some = absurd some
+whole_lines_cons p (q ∷ qs) then_these some = refl
 
-last_of-cons : (p : List ℕ) (ps : List (List ℕ)) → Filled ps → last_of (p ∷ ps) ≡ last_of ps
-last_of-cons p [] some = absurd some
-last_of-cons p (q ∷ qs) some = refl
+last_of_cons : (p : List ℕ) (ps : List (List ℕ)) → Filled ps → last_of (p ∷ ps) ≡ last_of ps
+last_of_cons p [] some = absurd some
+last_of_cons p (q ∷ qs) some = refl
 
 -- octets within the limits are lines, and the last piece is begun where they end
 run : (taken : ℕ) (begun front rest : List ℕ) → pieces begun ≡ begun ∷ [] → taken + length front ≤ 16777216 → pieces_fit (pieces (begun ++ front)) ≡ true → lines_from taken begun (front ++ rest) ≡ whole_lines (pieces (begun ++ front)) (lines_from (taken + length front) (last_of (pieces (begun ++ front))) rest)
@@ -102,7 +102,7 @@ run taken begun (x ∷ front) rest one few fit =
           let some = pieces-filled front in
           let on = run (taken + 1) [] front rest refl (omega arith) ((and_parts (leb (length begun) 4096) (pieces_fit (pieces front)) (rw is at fit)).1) in
           from_lf taken begun (front ++ rest) x e (omega arith) ∙ ap (line (without_cr begun)) on
-          ∙ rw (is, there, last_of-cons begun (pieces front) some) (whole_lines-cons begun (pieces front) _ some)
+          ∙ rw (is, there, last_of_cons begun (pieces front) some) (whole_lines_cons begun (pieces front) _ some)
       | inr e ↦
           let is : (begun ++ x ∷ []) ++ front ≡ begun ++ x ∷ front = append_assoc begun (x ∷ []) front in
           let on = run (taken + 1) (begun ++ x ∷ []) front rest (pieces-more begun x one e) (omega arith) (rw is fit) in

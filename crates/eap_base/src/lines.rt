@@ -213,7 +213,8 @@ impl LineReader {
     /// The answer where nothing is held and the source has nothing left: a line that is begun ends here.
     fn last_answer(&self) -> NextLine
         requires { self.now.held ≡ [] }
-        ensures lines { (left : Option (List ℕ)) → left ≡ nothing_known left → Divides result self.now.line (lines_within self.now left) (lines_left self.now left) }
+        ensures lines { (left : Option (List ℕ)) → left ≡ nothing_known left
+            → Divides result self.now.line (lines_within self.now left) (lines_left self.now left) }
         ensures answer { result ≡ end_answer self.now.line }
     {
         if self.line.is_empty() {

@@ -103,7 +103,14 @@ impl Model for MemSink {
 
     ghost Value = { SinkMemory };
 
-    ghost view = { λ s. record { written = s.octets.items; room = s.room; piece = s.piece; failing = s.calls.failing.items; calls = s.calls.came; faults = s.faults } };
+    ghost view = { λ s. record {
+      written = s.octets.items;
+      room = s.room;
+      piece = s.piece;
+      failing = s.calls.failing.items;
+      calls = s.calls.came;
+      faults = s.faults;
+    } };
 
     ghost invariant = { λ s. (0 < s.piece) × (length s.octets.items ≤ s.room) × (s.room ≤ vec_capacity s.octets) };
 }

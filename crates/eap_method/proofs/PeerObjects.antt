@@ -15,9 +15,9 @@ abbrev pub has_kind : Bool → Bool → PeerShown → Bool
 has_kind has_psk has_gpsk (psk view) = has_psk
 has_kind has_psk has_gpsk (gpsk view) = has_gpsk
 
-pub is_among-has_kind : (allowed : List ℕ) (s : PeerShown) → is_among allowed (peer_kind s) ≡ has_kind (is_among allowed psk_kind) (is_among allowed gpsk_kind) s
-is_among-has_kind allowed (psk view) = refl
-is_among-has_kind allowed (gpsk view) = refl
+pub is_among_has_kind : (allowed : List ℕ) (s : PeerShown) → is_among allowed (peer_kind s) ≡ has_kind (is_among allowed psk_kind) (is_among allowed gpsk_kind) s
+is_among_has_kind allowed (psk view) = refl
+is_among_has_kind allowed (gpsk view) = refl
 
 -- an outcome of the first object, as one of the views
 abbrev with_rest : Bool → Bool → List PeerShown → PeerOutcome PeerShown → PeerOutcome PeerViews
@@ -37,7 +37,7 @@ pub turn_hit : (allowed octets : List ℕ) (kind : ℕ) (s after : PeerShown) (r
     → peer_turn kind (peer_views allowed (s ∷ rest)) octets ≡ record { turn = turn; after = peer_views allowed (after ∷ rest) }
 turn_hit allowed octets kind s after rest turn step is_kind is_allowed =
     let has : has_kind (is_among allowed psk_kind) (is_among allowed gpsk_kind) s ≡ true =
-    sym (is_among-has_kind allowed s) ∙ (ap (is_among allowed) is_kind ∙ is_allowed) in
+    sym (is_among_has_kind allowed s) ∙ (ap (is_among allowed) is_kind ∙ is_allowed) in
     rw (← is_kind)
     (first_turn (is_among allowed psk_kind) (is_among allowed gpsk_kind) s rest octets has
     ∙ ap (with_rest (is_among allowed psk_kind) (is_among allowed gpsk_kind) rest) step)

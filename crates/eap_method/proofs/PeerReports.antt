@@ -7,7 +7,7 @@ use Rattle.eap_method.specs.declared.values.Report.{Report}
 use Rattle.eap_method.specs.PskPeer as psk_peer
 use Rattle.eap_method.specs.GpskPeer as gpsk_peer
 use Rattle.eap_method.specs.Peer.{PeerShown, psk, gpsk, PeerViews, peer_kind, peer_report, peer_report_of, peer_views, views_where}
-use Rattle.eap_method.proofs.PeerObjects.{has_kind, is_among-has_kind, added, views-added}
+use Rattle.eap_method.proofs.PeerObjects.{has_kind, is_among_has_kind, added, views-added}
 
 -- the report by the tests of the Type
 abbrev report_by : Bool → Bool → PeerViews → Option Report
@@ -26,7 +26,7 @@ pub report_hit : (allowed : List ℕ) (kind : ℕ) (s : PeerShown) (rest : List 
     → peer_report s ≡ peer_report_of kind (peer_views allowed (s ∷ rest))
 report_hit allowed kind s rest is_kind is_allowed =
     let has : has_kind (is_among allowed psk_kind) (is_among allowed gpsk_kind) s ≡ true =
-    sym (is_among-has_kind allowed s) ∙ (ap (is_among allowed) is_kind ∙ is_allowed) in
+    sym (is_among_has_kind allowed s) ∙ (ap (is_among allowed) is_kind ∙ is_allowed) in
     rw (← is_kind) (first_report (is_among allowed psk_kind) (is_among allowed gpsk_kind) s rest has)
 
 psk-apart : (has_psk has_gpsk is_psk is_gpsk : Bool) (view : psk_peer.View) (views : PeerViews) → is_psk ≡ false

@@ -16,10 +16,10 @@ abbrev pub has_kind : Bool → Bool → ServerShown → Bool
 has_kind has_psk has_gpsk (psk view) = has_psk
 has_kind has_psk has_gpsk (gpsk view) = has_gpsk
 
-pub is_among-has_kind : (order : List ℕ) (kind : ℕ) (s : ServerShown) → server_kind s ≡ kind → is_among order kind ≡ true
+pub is_among_has_kind : (order : List ℕ) (kind : ℕ) (s : ServerShown) → server_kind s ≡ kind → is_among order kind ≡ true
     → has_kind (is_among order psk_kind) (is_among order gpsk_kind) s ≡ true
-is_among-has_kind order kind (psk view) is_kind has = ap (is_among order) is_kind ∙ has
-is_among-has_kind order kind (gpsk view) is_kind has = ap (is_among order) is_kind ∙ has
+is_among_has_kind order kind (psk view) is_kind has = ap (is_among order) is_kind ∙ has
+is_among_has_kind order kind (gpsk view) is_kind has = ap (is_among order) is_kind ∙ has
 
 -- an outcome of the first object, as one of the views
 abbrev with_rest : Bool → Bool → List ServerShown → ServerOutcome ServerShown → ServerOutcome ServerViews
@@ -41,7 +41,7 @@ pub turn_hit : (users : List User) (next_id : ℕ) (order octets : List ℕ) (ki
     → server_turn users next_id kind (server_views order (s ∷ rest)) octets ≡ record { turn = turn; after = server_views order (after ∷ rest) }
 turn_hit users next_id order octets kind s after rest turn step is_kind is_proposed =
     rw (← is_kind)
-    (first_turn users next_id (is_among order psk_kind) (is_among order gpsk_kind) s rest octets (is_among-has_kind order kind s is_kind is_proposed)
+    (first_turn users next_id (is_among order psk_kind) (is_among order gpsk_kind) s rest octets (is_among_has_kind order kind s is_kind is_proposed)
     ∙ ap (with_rest (is_among order psk_kind) (is_among order gpsk_kind) rest) step)
 
 -- the turn by the tests of its Type
@@ -64,27 +64,27 @@ unfolding views_where
 views-added has_psk has_gpsk (psk view) rest = refl
 views-added has_psk has_gpsk (gpsk view) rest = refl
 
-gpsk_hears-added : (users : List User) (next_id : ℕ) (has_psk has_gpsk : Bool) (view : psk_server.View) (views : ServerViews) (octets : List ℕ) (found : Option gpsk_server.View)
+gpsk_hears_added : (users : List User) (next_id : ℕ) (has_psk has_gpsk : Bool) (view : psk_server.View) (views : ServerViews) (octets : List ℕ) (found : Option gpsk_server.View)
     → gpsk_hears users next_id (added has_psk has_gpsk (psk view) views) octets found ≡ with_added has_psk has_gpsk (psk view) (gpsk_hears users next_id views octets found)
-gpsk_hears-added users next_id has_psk has_gpsk view views octets None = refl
-gpsk_hears-added users next_id has_psk has_gpsk view views octets (Some other) = refl
+gpsk_hears_added users next_id has_psk has_gpsk view views octets None = refl
+gpsk_hears_added users next_id has_psk has_gpsk view views octets (Some other) = refl
 
-psk_hears-added : (users : List User) (next_id : ℕ) (has_psk has_gpsk : Bool) (view : gpsk_server.View) (views : ServerViews) (octets : List ℕ) (found : Option psk_server.View)
+psk_hears_added : (users : List User) (next_id : ℕ) (has_psk has_gpsk : Bool) (view : gpsk_server.View) (views : ServerViews) (octets : List ℕ) (found : Option psk_server.View)
     → psk_hears users next_id (added has_psk has_gpsk (gpsk view) views) octets found ≡ with_added has_psk has_gpsk (gpsk view) (psk_hears users next_id views octets found)
-psk_hears-added users next_id has_psk has_gpsk view views octets None = refl
-psk_hears-added users next_id has_psk has_gpsk view views octets (Some other) = refl
+psk_hears_added users next_id has_psk has_gpsk view views octets None = refl
+psk_hears_added users next_id has_psk has_gpsk view views octets (Some other) = refl
 
 -- an object of another Type has no part in the turn
 psk-apart : (users : List User) (next_id : ℕ) (has_psk has_gpsk is_psk is_gpsk : Bool) (view : psk_server.View) (views : ServerViews) (octets : List ℕ) → is_psk ≡ false
     → turn_by users next_id is_psk is_gpsk (added has_psk has_gpsk (psk view) views) octets ≡ with_added has_psk has_gpsk (psk view) (turn_by users next_id is_psk is_gpsk views octets)
 psk-apart users next_id has_psk has_gpsk true is_gpsk view views octets is_other = cc
-psk-apart users next_id has_psk has_gpsk false true view views octets is_other = gpsk_hears-added users next_id has_psk has_gpsk view views octets views.gpsk
+psk-apart users next_id has_psk has_gpsk false true view views octets is_other = gpsk_hears_added users next_id has_psk has_gpsk view views octets views.gpsk
 psk-apart users next_id has_psk has_gpsk false false view views octets is_other = refl
 
 gpsk-apart : (users : List User) (next_id : ℕ) (has_psk has_gpsk is_psk is_gpsk : Bool) (view : gpsk_server.View) (views : ServerViews) (octets : List ℕ) → is_gpsk ≡ false
     → turn_by users next_id is_psk is_gpsk (added has_psk has_gpsk (gpsk view) views) octets ≡ with_added has_psk has_gpsk (gpsk view) (turn_by users next_id is_psk is_gpsk views octets)
 gpsk-apart users next_id has_psk has_gpsk is_psk true view views octets is_other = cc
-gpsk-apart users next_id has_psk has_gpsk true false view views octets is_other = psk_hears-added users next_id has_psk has_gpsk view views octets views.psk
+gpsk-apart users next_id has_psk has_gpsk true false view views octets is_other = psk_hears_added users next_id has_psk has_gpsk view views octets views.psk
 gpsk-apart users next_id has_psk has_gpsk false false view views octets is_other = refl
 
 turn-apart : (users : List User) (next_id : ℕ) (has_psk has_gpsk : Bool) (kind : ℕ) (s : ServerShown) (views : ServerViews) (octets : List ℕ) → server_kind s ≢ kind

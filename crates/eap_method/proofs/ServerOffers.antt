@@ -8,7 +8,7 @@ use Rattle.eap_method.specs.PskServer as psk_server
 use Rattle.eap_method.specs.GpskServer as gpsk_server
 use Rattle.eap_method.specs.Server.{ServerShown, psk, gpsk, ServerViews, Offer, server_kind, server_begun, server_first_step, server_offer, psk_offer, gpsk_offer, server_views, views_where}
 use Rattle.eap_method.specs.Turns.{FirstOutcome}
-use Rattle.eap_method.proofs.ServerObjects.{has_kind, is_among-has_kind, added, views-added}
+use Rattle.eap_method.proofs.ServerObjects.{has_kind, is_among_has_kind, added, views-added}
 
 -- the first Request of the first object, as an offer
 abbrev with_rest : Bool → Bool → List ServerShown → FirstOutcome ServerShown → Offer
@@ -30,7 +30,7 @@ pub offer_hit : (own : ServerSide) (nonce : List ℕ) (id : ℕ) (order : List �
     → server_offer own nonce kind id (server_views order (s ∷ rest)) ≡ record { packet = Some packet; after = server_views order (after ∷ rest) }
 offer_hit own nonce id order kind s begun after rest packet begins makes is_kind is_proposed =
     rw (← is_kind)
-    (first_offer own nonce id (is_among order psk_kind) (is_among order gpsk_kind) s rest (is_among-has_kind order kind s is_kind is_proposed)
+    (first_offer own nonce id (is_among order psk_kind) (is_among order gpsk_kind) s rest (is_among_has_kind order kind s is_kind is_proposed)
     ∙ ap (with_rest (is_among order psk_kind) (is_among order gpsk_kind) rest) (rw begins at makes))
 
 -- the offer by the tests of its Type
@@ -43,27 +43,27 @@ offer_by own nonce id is_psk is_gpsk views =
 abbrev with_added : Bool → Bool → ServerShown → Offer → Offer
 with_added has_psk has_gpsk s out = record { packet = out.packet; after = added has_psk has_gpsk s out.after }
 
-gpsk_offer-added : (own : ServerSide) (nonce : List ℕ) (id : ℕ) (has_psk has_gpsk : Bool) (view : psk_server.View) (views : ServerViews) (found : Option gpsk_server.View)
+gpsk_offer_added : (own : ServerSide) (nonce : List ℕ) (id : ℕ) (has_psk has_gpsk : Bool) (view : psk_server.View) (views : ServerViews) (found : Option gpsk_server.View)
     → gpsk_offer own nonce id (added has_psk has_gpsk (psk view) views) found ≡ with_added has_psk has_gpsk (psk view) (gpsk_offer own nonce id views found)
-gpsk_offer-added own nonce id has_psk has_gpsk view views None = refl
-gpsk_offer-added own nonce id has_psk has_gpsk view views (Some other) = refl
+gpsk_offer_added own nonce id has_psk has_gpsk view views None = refl
+gpsk_offer_added own nonce id has_psk has_gpsk view views (Some other) = refl
 
-psk_offer-added : (own : ServerSide) (nonce : List ℕ) (id : ℕ) (has_psk has_gpsk : Bool) (view : gpsk_server.View) (views : ServerViews) (found : Option psk_server.View)
+psk_offer_added : (own : ServerSide) (nonce : List ℕ) (id : ℕ) (has_psk has_gpsk : Bool) (view : gpsk_server.View) (views : ServerViews) (found : Option psk_server.View)
     → psk_offer own nonce id (added has_psk has_gpsk (gpsk view) views) found ≡ with_added has_psk has_gpsk (gpsk view) (psk_offer own nonce id views found)
-psk_offer-added own nonce id has_psk has_gpsk view views None = refl
-psk_offer-added own nonce id has_psk has_gpsk view views (Some other) = refl
+psk_offer_added own nonce id has_psk has_gpsk view views None = refl
+psk_offer_added own nonce id has_psk has_gpsk view views (Some other) = refl
 
 -- an object of another Type has no part in the offer
 psk-apart : (own : ServerSide) (nonce : List ℕ) (id : ℕ) (has_psk has_gpsk is_psk is_gpsk : Bool) (view : psk_server.View) (views : ServerViews) → is_psk ≡ false
     → offer_by own nonce id is_psk is_gpsk (added has_psk has_gpsk (psk view) views) ≡ with_added has_psk has_gpsk (psk view) (offer_by own nonce id is_psk is_gpsk views)
 psk-apart own nonce id has_psk has_gpsk true is_gpsk view views is_other = cc
-psk-apart own nonce id has_psk has_gpsk false true view views is_other = gpsk_offer-added own nonce id has_psk has_gpsk view views views.gpsk
+psk-apart own nonce id has_psk has_gpsk false true view views is_other = gpsk_offer_added own nonce id has_psk has_gpsk view views views.gpsk
 psk-apart own nonce id has_psk has_gpsk false false view views is_other = refl
 
 gpsk-apart : (own : ServerSide) (nonce : List ℕ) (id : ℕ) (has_psk has_gpsk is_psk is_gpsk : Bool) (view : gpsk_server.View) (views : ServerViews) → is_gpsk ≡ false
     → offer_by own nonce id is_psk is_gpsk (added has_psk has_gpsk (gpsk view) views) ≡ with_added has_psk has_gpsk (gpsk view) (offer_by own nonce id is_psk is_gpsk views)
 gpsk-apart own nonce id has_psk has_gpsk is_psk true view views is_other = cc
-gpsk-apart own nonce id has_psk has_gpsk true false view views is_other = psk_offer-added own nonce id has_psk has_gpsk view views views.psk
+gpsk-apart own nonce id has_psk has_gpsk true false view views is_other = psk_offer_added own nonce id has_psk has_gpsk view views views.psk
 gpsk-apart own nonce id has_psk has_gpsk false false view views is_other = refl
 
 offer-apart : (own : ServerSide) (nonce : List ℕ) (id : ℕ) (has_psk has_gpsk : Bool) (kind : ℕ) (s : ServerShown) (views : ServerViews) → server_kind s ≢ kind

@@ -7,7 +7,7 @@ use Rattle.eap_method.specs.declared.values.Report.{Report}
 use Rattle.eap_method.specs.PskServer as psk_server
 use Rattle.eap_method.specs.GpskServer as gpsk_server
 use Rattle.eap_method.specs.Server.{ServerShown, psk, gpsk, ServerViews, server_kind, server_report, server_report_of, psk_report, gpsk_report, server_views, views_where}
-use Rattle.eap_method.proofs.ServerObjects.{has_kind, is_among-has_kind, added, views-added}
+use Rattle.eap_method.proofs.ServerObjects.{has_kind, is_among_has_kind, added, views-added}
 
 -- the report by the tests of the Type
 abbrev report_by : Bool → Bool → ServerViews → Option Report
@@ -25,7 +25,7 @@ first_report has_psk false (gpsk view) rest has = cc
 pub report_hit : (order : List ℕ) (kind : ℕ) (s : ServerShown) (rest : List ServerShown) → server_kind s ≡ kind → is_among order kind ≡ true
     → server_report s ≡ server_report_of kind (server_views order (s ∷ rest))
 report_hit order kind s rest is_kind is_proposed =
-    rw (← is_kind) (first_report (is_among order psk_kind) (is_among order gpsk_kind) s rest (is_among-has_kind order kind s is_kind is_proposed))
+    rw (← is_kind) (first_report (is_among order psk_kind) (is_among order gpsk_kind) s rest (is_among_has_kind order kind s is_kind is_proposed))
 
 psk-apart : (has_psk has_gpsk is_psk is_gpsk : Bool) (view : psk_server.View) (views : ServerViews) → is_psk ≡ false
     → report_by is_psk is_gpsk views ≡ report_by is_psk is_gpsk (added has_psk has_gpsk (psk view) views)

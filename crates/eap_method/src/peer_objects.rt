@@ -18,7 +18,8 @@ use login_policy::peer_allows;
 pub fn begin_peers<M: PeerMethod>(methods: &mut [M], setup: &PeerSetup)
     requires sound { IsSoundPeer setup.now }
     requires keys { HasKeys setup.now }
-    ensures views { have_each (peer_kinds (map M.peer_shown methods.old)) setup.now.methods ≡ true → peer_views setup.now.methods (map M.peer_shown methods.new) ≡ views_begun setup.now }
+    ensures views { have_each (peer_kinds (map M.peer_shown methods.old)) setup.now.methods ≡ true
+        → peer_views setup.now.methods (map M.peer_shown methods.new) ≡ views_begun setup.now }
     ensures kinds { peer_kinds (map M.peer_shown methods.new) ≡ peer_kinds (map M.peer_shown methods.old) }
 {
     begin_each(methods, setup);

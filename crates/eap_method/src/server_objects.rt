@@ -17,7 +17,8 @@ use eap_packet::Cause;
 /// Begins each object whose method the settings propose, wherever it stood before.
 pub fn begin_servers<M: ServerMethod>(methods: &mut [M], setup: &ServerSetup)
     requires { IsTrue (are_suites setup.now.suites) }
-    ensures views { have_each (server_kinds (map M.server_shown methods.old)) setup.now.methods ≡ true → server_views setup.now.methods (map M.server_shown methods.new) ≡ views_begun setup.now }
+    ensures views { have_each (server_kinds (map M.server_shown methods.old)) setup.now.methods ≡ true
+        → server_views setup.now.methods (map M.server_shown methods.new) ≡ views_begun setup.now }
     ensures kinds { server_kinds (map M.server_shown methods.new) ≡ server_kinds (map M.server_shown methods.old) }
 {
     begin_each(methods, setup);
@@ -67,7 +68,8 @@ pub fn hand_to_server<M: ServerMethod>(
 ) -> ServerTurn
     requires response { IsResponse kind response.now }
     requires keys { All (λ user. IsTrue (fits_kind user.kind user.psk)) users.now }
-    ensures turn { (order : List ℕ) → is_among order kind ≡ true → server_turn users.now next_id kind (server_views order (map M.server_shown methods.old)) response.now
+    ensures turn { (order : List ℕ) → is_among order kind ≡ true
+        → server_turn users.now next_id kind (server_views order (map M.server_shown methods.old)) response.now
         ≡ record { turn = server_turn_with result packet.new tags.new; after = server_views order (map M.server_shown methods.new) } }
     ensures tags { tags.new ≡ server_tags (server_turn_with result packet.new tags.new) }
     ensures kinds { server_kinds (map M.server_shown methods.new) ≡ server_kinds (map M.server_shown methods.old) }

@@ -125,7 +125,13 @@ impl TagList {
         requires tag { length tag.now ≤ 32 }
         ensures room { IsTrue result ↔ (length self.old < 2) }
         ensures added { length self.old < 2
-            → self.new ≡ self.old ++ (record { method = method; label = label; psk = psk.now; octets = concat (map (λ p. p.now) covered.now); tag = tag.now }) ∷ [] }
+            → self.new ≡ self.old ++ (record {
+              method = method;
+              label = label;
+              psk = psk.now;
+              octets = concat (map (λ p. p.now) covered.now);
+              tag = tag.now;
+            }) ∷ [] }
         ensures unchanged { 2 ≤ length self.old → self.new ≡ self.old }
     {
         if self.count >= 2 {

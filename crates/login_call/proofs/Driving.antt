@@ -4,7 +4,7 @@ use Rattle.std.specs.Prelude.{option_map}
 use Rattle.eap_base.specs.Known.{append_known}
 use Rattle.eap_base.specs.Lines.{Lines, ended, too_long, too_much, line}
 use Rattle.trace_text.specs.Writes.{WritesFront}
-use Rattle.trace_text.proofs.Fronts.{append_known-append, append_known-nil}
+use Rattle.trace_text.proofs.Fronts.{append_known_append, append_known_nil}
 use Rattle.login_call.specs.declared.status.Status.{Status}
 use Rattle.login_call.specs.Answers.{after_text, refusal, overlong, Ends}
 use Rattle.login_call.specs.Commands.{Took, Closing, after_verdict, lacking_after, closing_answer, answer, lacking, GoesOn, Stops}
@@ -55,7 +55,7 @@ module _ {C : Type 0} (took : C → List ℕ → Took C) (closing : C → Closin
 
   pub driving_begins : (before : Option (List ℕ)) (begun : C) (all : Lines) → Driving before before begun all 0 begun all
   driving_begins before begun all = record {
-    progress = record { front = []; split = refl; appended = append_known-nil before };
+    progress = record { front = []; split = refl; appended = append_known_nil before };
     memory = λ e. e;
   }
 
@@ -66,7 +66,7 @@ module _ {C : Type 0} (took : C → List ℕ → Took C) (closing : C → Closin
     progress = record {
       front = d.progress.front ++ (took c l).text;
       split = d.progress.split ∙ ap (after_text d.progress.front) (answer-line n c l rest) ∙ rw (g.verdict, g.after, append_assoc) refl;
-      appended = append_known-append before d.progress.front (took c l).text ∙ ap (λ k. append_known k (took c l).text) d.progress.appended ∙ g.text;
+      appended = append_known_append before d.progress.front (took c l).text ∙ ap (λ k. append_known k (took c l).text) d.progress.appended ∙ g.text;
     };
     memory = λ e. d.memory (lacking-line c l rest ∙ rw (g.verdict, g.after, e) (or-true (lacks c l)));
   }

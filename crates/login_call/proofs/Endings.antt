@@ -2,7 +2,7 @@
 use Rattle.std.proofs.Common.{◌≡◌, ◌≤◌, ℕ, List, [], ◌++◌, Option, refl, sym, ◌∙◌, ap, subst, append_assoc, arith}
 use Rattle.eap_base.specs.Known.{append_known}
 use Rattle.trace_text.specs.Writes.{WritesFront}
-use Rattle.trace_text.proofs.Fronts.{append_known-append, append_known-nil}
+use Rattle.trace_text.proofs.Fronts.{append_known_append, append_known_nil}
 use Rattle.login_call.specs.declared.status.Status.{Status}
 use Rattle.login_call.specs.declared.status.Status.TheVariants as status
 use Rattle.login_call.specs.Answers.{Answer, after_text, Gives, Ends, KeepsReads, KeepsWrites, Finishes}
@@ -11,7 +11,7 @@ use Rattle.login_call.specs.Answers.{Answer, after_text, Gives, Ends, KeepsReads
 pub gives_after : (s : Status) (before mid now : Option (List ℕ)) (front : List ℕ) (a : Answer) → append_known before front ≡ mid
     → Gives mid now a s → Gives before now (after_text front a) s
 gives_after s before mid now front a e g = record {
-  text = append_known-append before front a.text ∙ ap (λ k. append_known k a.text) e ∙ g.text;
+  text = append_known_append before front a.text ∙ ap (λ k. append_known k a.text) e ∙ g.text;
   status = g.status;
 }
 
@@ -21,7 +21,7 @@ front_after before mid now front text e w = record {
   front = front ++ w.front;
   rest = w.rest;
   split = ap (λ t. front ++ t) w.split ∙ sym (append_assoc front w.front w.rest);
-  appended = append_known-append before front w.front ∙ ap (λ k. append_known k w.front) e ∙ w.appended;
+  appended = append_known_append before front w.front ∙ ap (λ k. append_known k w.front) e ∙ w.appended;
 }
 
 pub ends_after : (s : Status) (before mid now : Option (List ℕ)) (front : List ℕ) (a : Answer) → append_known before front ≡ mid
@@ -86,7 +86,7 @@ front_progress before mid now total rest p w =
 
 -- nothing more of a text is written
 pub front_none : (now : Option (List ℕ)) (text : List ℕ) → WritesFront now now text
-front_none now text = record { front = []; rest = text; split = refl; appended = append_known-nil now }
+front_none now text = record { front = []; rest = text; split = refl; appended = append_known_nil now }
 
 -- a front of the first part of a text
 pub front_first : (before now : Option (List ℕ)) (first second : List ℕ) → WritesFront before now first → WritesFront before now (first ++ second)

@@ -4,7 +4,7 @@ use Rattle.std.specs.Prelude.{codes, is_some}
 use Rattle.eap_base.specs.Lines.{Lines, ended, too_long, too_much, line}
 use Rattle.eap_base.specs.declared.event.Event.{Event}
 use Rattle.eap_world.specs.World.{WorldNow, world_made, world_start, world_step, run_after, outcomes_after}
-use Rattle.login_call.proofs.Runs.{world_step-events}
+use Rattle.login_call.proofs.Runs.{world_step_events}
 use Rattle.scenario_text.specs.Reading.{Reading, ReadLine, said, with_setting, no_settings, read_line, finish_of}
 use Rattle.scenario_text.specs.declared.fault.LineFault.{LineFault}
 use Rattle.scenario_text.specs.Items as item
@@ -76,7 +76,7 @@ module _ (c : ReplayNow) where
       let next : WorldNow = (world_step w e).after in
       let goes_on : answers (n + 1) (in_world c r next) rest ≡ run_scenario next (scenario_from (n + 1) next.counts.events r rest) = ih r next (AtEvents refl) in
       let P : ℕ → Type 0 = λ k. answers (n + 1) (in_world c r next) rest ≡ run_scenario next (scenario_from (n + 1) k r rest) in
-      let counted : answers (n + 1) (in_world c r next) rest ≡ run_scenario next (scenario_from (n + 1) (w.counts.events + 1) r rest) = subst P (world_step-events w e) goes_on in
+      let counted : answers (n + 1) (in_world c r next) rest ≡ run_scenario next (scenario_from (n + 1) (w.counts.events + 1) r rest) = subst P (world_step_events w e) goes_on in
       ap (after_text (outcome_text c.names (world_step w e))) counted ∙ ap (λ t. record { text = t; status = (run_scenario next (scenario_from (n + 1) (w.counts.events + 1) r rest)).status }) (sym (append_assoc (outcome_text c.names (world_step w e)) _ _))
 
   line_at_events : (n : ℕ) (s : Settings) (r : Reading) (w : WorldNow) (rest : Lines) → Continues (n + 1) rest → (out : ReadLine) → FromEvents s out

@@ -10,9 +10,9 @@ counted-events c (Skipped skip) = refl
 counted-events c (Called did) = refl
 
 -- each event counts
-pub world_step-events : (w : WorldNow) (e : Event) → (world_step w e).after.counts.events ≡ w.counts.events + 1
+pub world_step_events : (w : WorldNow) (e : Event) → (world_step w e).after.counts.events ≡ w.counts.events + 1
 unfolding world_step
-world_step-events w e = counted-events w.counts (act w.parties w.sent e).action
+world_step_events w e = counted-events w.counts (act w.parties w.sent e).action
 
 -- a world that has started, or taken an event, is one that has started
 pub start_starts : (w after : WorldNow) (told : Told) → world_start w ≡ world_outcome told after → after.started ≡ true

@@ -35,14 +35,14 @@ reads ks message fields mac suites =
 
 -- ---- the list of suites
 
-length-suite_list : (suites : List ℕ) → length (suite_list suites) ≡ 6 * length suites
+length_suite_list : (suites : List ℕ) → length (suite_list suites) ≡ 6 * length suites
 unfolding suite_list
-length-suite_list [] = refl
-length-suite_list (suite ∷ suites) = let rest = length-suite_list suites in omega arith
+length_suite_list [] = refl
+length_suite_list (suite ∷ suites) = let rest = length_suite_list suites in omega arith
 
 is_list : (suites : List ℕ) → 0 < length suites → length suites ≤ 20 → IsSuiteList (suite_list suites)
 is_list suites some few =
-    let size = length-suite_list suites in
+    let size = length_suite_list suites in
     record { some = omega arith; whole = omega arith; size = omega arith }
 
 -- ---- tests
@@ -114,7 +114,7 @@ module _ (ends : Ends) (fit : Fit ends) where
   lists = is_list ends.own.suites fit.some_suites fit.few_suites
 
   few_octets : length (suite_list ends.own.suites) ≤ 6 * 20
-  few_octets = let size = length-suite_list ends.own.suites in let few = fit.few_suites in omega arith
+  few_octets = let size = length_suite_list ends.own.suites in let few = fit.few_suites in omega arith
 
   reads_gpsk1 : read_of None (spelled (server.gpsk1_of ends.own ends.own_nonce)) ≡ Ok (server.gpsk1_of ends.own ends.own_nonce)
   reads_gpsk1 = reads None _ (fit.server_name, fit.server_nonce, lists) tt few_octets

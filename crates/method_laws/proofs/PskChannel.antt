@@ -22,9 +22,9 @@ alone (x ∷ []) size = refl
 alone (x ∷ y ∷ octets) size = absurd (omega arith)
 
 -- the tag has sixteen octets
-pub length-sealed_tag : (tek : List ℕ) (number : ℕ) (header : List ℕ) (r : ℕ) → length (sealed_result tek number header r).tag ≡ 16
+pub length_sealed_tag : (tek : List ℕ) (number : ℕ) (header : List ℕ) (r : ℕ) → length (sealed_result tek number header r).tag ≡ 16
 unfolding sealed_result
-length-sealed_tag tek number header r = length_eax_tag tek (channel_nonce number) header _
+length_sealed_tag tek number header r = length_eax_tag tek (channel_nonce number) header _
 
 -- the octet that was sealed is found under the tag
 pub sealed_accepted : (tek : List ℕ) (number : ℕ) (header : List ℕ) (r : ℕ)

@@ -19,7 +19,7 @@ use Rattle.eap_method.specs.PskPeer as peer
 use Rattle.eap_method.specs.PskServer as server
 use Rattle.method_laws.specs.PskLogin.{Ends, Fit, peer_login, server_login, psk1_of, psk2_records, PskLoginsGoThrough}
 use Rattle.method_laws.proofs.Packets.{request_body, request_id, response_body}
-use Rattle.method_laws.proofs.PskChannel.{length-sealed_tag, sealed_accepted, sealed_opened, psk3_header_is, psk4_header_is}
+use Rattle.method_laws.proofs.PskChannel.{length_sealed_tag, sealed_accepted, sealed_opened, psk3_header_is, psk4_header_is}
 use Rattle.method_laws.proofs.Tests.{bytes_same, no_fault}
 
 length-rand : (nonce : List ℕ) → length nonce ≡ 32 → length (rand_of nonce) ≡ 16
@@ -28,21 +28,21 @@ length-rand nonce size = length-take-le 16 nonce (omega arith)
 bytes_equal : (xs ys : List ℕ) → xs ≡ ys → bytes_eq xs ys ≡ true
 bytes_equal xs ys same = ap (λ octets. bytes_eq octets ys) same ∙ bytes_same ys
 
-length-mac_p : (login : peer.Login) → length (peer.mac_p_of login) ≡ 16
+length_mac_p : (login : peer.Login) → length (peer.mac_p_of login) ≡ 16
 unfolding peer.mac_p_of
-length-mac_p login = length_aes_cmac _ _
+length_mac_p login = length_aes_cmac _ _
 
-length-mac_s : (login : server.Login) → length (server.mac_s_of login) ≡ 16
+length_mac_s : (login : server.Login) → length (server.mac_s_of login) ≡ 16
 unfolding server.mac_s_of
-length-mac_s login = length_aes_cmac _ _
+length_mac_s login = length_aes_cmac _ _
 
-length-psk3_tag : (login : server.Login) (id : ℕ) → length (server.psk3_sealed login id).tag ≡ 16
+length_psk3_tag : (login : server.Login) (id : ℕ) → length (server.psk3_sealed login id).tag ≡ 16
 unfolding server.psk3_sealed
-length-psk3_tag login id = length-sealed_tag _ _ _ _
+length_psk3_tag login id = length_sealed_tag _ _ _ _
 
-length-psk4_tag : (login : peer.Login) (id r : ℕ) → length (peer.psk4_sealed login id r).tag ≡ 16
+length_psk4_tag : (login : peer.Login) (id r : ℕ) → length (peer.psk4_sealed login id r).tag ≡ 16
 unfolding peer.psk4_sealed
-length-psk4_tag login id r = length-sealed_tag _ _ _ _
+length_psk4_tag login id r = length_sealed_tag _ _ _ _
 
 -- ---- each PCHANNEL opens under its own key and header
 
@@ -96,24 +96,24 @@ module _ (ends : Ends) (fit : Fit ends) where
   reads_psk1 = sent_is_read _ (server_rand, fit.server_name)
 
   reads_psk2 : read_of (spelled (peer.psk2_of (peer_login ends))) ≡ Ok (peer.psk2_of (peer_login ends))
-  reads_psk2 = sent_is_read _ (server_rand, peer_rand, length-mac_p (peer_login ends), fit.peer_name)
+  reads_psk2 = sent_is_read _ (server_rand, peer_rand, length_mac_p (peer_login ends), fit.peer_name)
 
   reads_psk3 : (id : ℕ) → read_of (spelled (server.psk3_of (server_login ends) id)) ≡ Ok (server.psk3_of (server_login ends) id)
-  reads_psk3 id = sent_is_read _ (server_rand, length-mac_s (server_login ends), omega arith, length-psk3_tag (server_login ends) id)
+  reads_psk3 id = sent_is_read _ (server_rand, length_mac_s (server_login ends), omega arith, length_psk3_tag (server_login ends) id)
 
   reads_psk4 : (id r : ℕ) → read_of (spelled (peer.psk4_of (peer_login ends) id r)) ≡ Ok (peer.psk4_of (peer_login ends) id r)
-  reads_psk4 id r = sent_is_read _ (server_rand, omega arith, length-psk4_tag (peer_login ends) id r)
+  reads_psk4 id r = sent_is_read _ (server_rand, omega arith, length_psk4_tag (peer_login ends) id r)
 
   psk3_headers : (id : ℕ) → header_of (psk_request id (server.psk3_of (server_login ends) id)) ≡ server.psk3_header (server_login ends) id
   unfolding server.psk3_header
   psk3_headers id =
-      psk3_header_is id (rand_of ends.own_nonce) _ _ _ server_rand (length-mac_s (server_login ends)) (length-psk3_tag (server_login ends) id)
-      ∙ sym (psk3_header_is id (rand_of ends.own_nonce) (server.mac_s_of (server_login ends)) blank_tag 0 server_rand (length-mac_s (server_login ends)) refl)
+      psk3_header_is id (rand_of ends.own_nonce) _ _ _ server_rand (length_mac_s (server_login ends)) (length_psk3_tag (server_login ends) id)
+      ∙ sym (psk3_header_is id (rand_of ends.own_nonce) (server.mac_s_of (server_login ends)) blank_tag 0 server_rand (length_mac_s (server_login ends)) refl)
 
   psk4_headers : (id r : ℕ) → header_of (psk_response id (peer.psk4_of (peer_login ends) id r)) ≡ peer.psk4_header (peer_login ends) id
   unfolding peer.psk4_header
   psk4_headers id r =
-      psk4_header_is id (rand_of ends.own_nonce) _ _ server_rand (length-psk4_tag (peer_login ends) id r)
+      psk4_header_is id (rand_of ends.own_nonce) _ _ server_rand (length_psk4_tag (peer_login ends) id r)
       ∙ sym (psk4_header_is id (rand_of ends.own_nonce) blank_tag 0 server_rand refl)
 
   begins : (id : ℕ) → server.first_step (server.begun ends.own ends.own_nonce) id

@@ -16,6 +16,7 @@ use Rattle.eap_method.specs.Tags.{no_tags}
 use Rattle.server_machine.specs.Inputs.{ServerInput, start, timeout, octets, server_rests, server_takes}
 use Rattle.server_machine.specs.ServerTable.{ServerNow, ServerAnswer, answer, identity, nak, next_id, before_proposal, ends_badly, offers, method_answers, is_awaited, is_proposed, is_started, server_start}
 use Rattle.server_machine.specs.declared.variables.Progress.TheVariants as progress
+use Rattle.server_machine.specs.declared.variables.Way.TheVariants as way
 use Rattle.server_machine.specs.declared.variables.ServerVariables.{ServerVariables}
 
 -- this Response with currentId has come to a server that has not ended
@@ -28,9 +29,9 @@ pub record Hears (now : ServerNow) (bytes : List ℕ) (id kind : ℕ) (body : Li
 -- then, and what the Nak desires
 pub data Selects (now : ServerNow) (kind : ℕ) (body : List ℕ) : List State → ServerVariables → Option (List ℕ) → Type 0 where
   after_identity : (is_identity : kind ≡ identity) (is_current : now.vars.current ≡ Some identity)
-      → Selects now kind body (before_proposal false) (record now.vars { progress = progress.End }) None
+      → Selects now kind body (before_proposal way.AfterResponse) (record now.vars { progress = progress.End }) None
   after_nak : (is_nak : kind ≡ nak) (waits : is_proposed now.vars.progress ≡ true)
-      → Selects now kind body (before_proposal true) now.vars (Some body)
+      → Selects now kind body (before_proposal way.AfterNak) now.vars (Some body)
 
 -- the method that is proposed next, and its offer
 pub record Proposes (now : ServerNow) (vars : ServerVariables) (desired : Option (List ℕ)) (next : ℕ) (offer : Offer) : Type 0 where

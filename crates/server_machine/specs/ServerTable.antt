@@ -21,6 +21,8 @@ use Rattle.eap_method.specs.Tags.{no_tags}
 use Rattle.server_machine.specs.declared.variables.ServerVariables.{ServerVariables}
 use Rattle.server_machine.specs.declared.variables.Progress.{Progress}
 use Rattle.server_machine.specs.declared.variables.Progress.TheVariants as progress
+use Rattle.server_machine.specs.declared.variables.Way.{Way}
+use Rattle.server_machine.specs.declared.variables.Way.TheVariants as way
 
 -- a machine as its fields show it: its variables and its objects
 pub record ServerValue (M : Type 0) : Type 0 where
@@ -146,15 +148,15 @@ proposes entered vars views id (Some kind) =
 unfoldable pub select_action : List State → ServerVariables → ServerViews → ℕ → Option (List ℕ) → ServerAnswer
 select_action entered vars views id desired = proposes entered vars views id (next_kind vars.setup.methods vars.proposed desired)
 
--- the states before a proposal: after a Nak, or after the Identity round
-abbrev pub before_proposal : Bool → List State
-before_proposal true = state.Received ∷ state.Nak ∷ state.SelectAction ∷ []
-before_proposal false = state.Received ∷ state.IntegrityCheck ∷ state.MethodResponse ∷ state.SelectAction ∷ []
+-- the states up to SELECT_ACTION
+abbrev pub before_proposal : Way → List State
+before_proposal way.AfterNak = state.Received ∷ state.Nak ∷ state.SelectAction ∷ []
+before_proposal way.AfterResponse = state.Received ∷ state.IntegrityCheck ∷ state.MethodResponse ∷ state.SelectAction ∷ []
 
 -- the identity has come: the Identity round is over, and the first method is proposed
 abbrev pub hears_identity : ServerNow → ℕ → ServerAnswer
 hears_identity now id =
-    select_action (before_proposal false)
+    select_action (before_proposal way.AfterResponse)
     (record now.vars { progress = progress.End }) now.views id None
 
 -- INTEGRITY_CHECK of the current method's turn
@@ -166,7 +168,7 @@ method_answers now id views (turn.Request octets tags) =
     (sends (state.Received ∷ state.IntegrityCheck ∷ state.MethodResponse ∷ state.MethodRequest ∷ state.SendRequest ∷ state.Idle ∷ []) octets tags)
     (record { vars = record (with_request now.vars octets) { progress = progress.Continue }; views = views })
 method_answers now id views (turn.Done good tags) =
-    let entered = state.Received ∷ state.IntegrityCheck ∷ state.MethodResponse ∷ state.SelectAction ∷ [] in
+    let entered = before_proposal way.AfterResponse in
     let vars = record now.vars { progress = progress.End } in
     if good then ends_well entered vars views id tags else ends_badly entered vars views id tags
 
@@ -194,7 +196,7 @@ is_proposed p = elim p [ progress.Proposed ↦ true | _ ↦ false ]
 abbrev pub current_response : ServerNow → ℕ → ℕ → List ℕ → ServerAnswer
 current_response now id kind body =
     if (kind == nak) && is_proposed now.vars.progress
-    then select_action (before_proposal true) now.vars now.views id (Some body)
+    then select_action (before_proposal way.AfterNak) now.vars now.views id (Some body)
     else if is_awaited now.vars.current kind
     then (if kind == identity then hears_identity now id else server_method now id kind (spelled (response id kind body)))
     else server_discard now cause.WrongMethod

@@ -7,7 +7,7 @@ mod variables;
 
 pub use laws::{answers_are_rows, discards_keep};
 pub use machine::ServerMachine;
-pub use variables::{Progress, ServerVariables};
+pub use variables::{Progress, ServerVariables, Way};
 
 /// What one call of the server does.
 pub type ServerStep = eap_method::Step;

@@ -10,9 +10,10 @@ ghost use Rattle.eap_method.specs.Server.{IsResponse, ServerViews, server_views,
 ghost use Rattle.eap_method.specs.ServerTurn.{server_turn_with, server_tags};
 ghost use Rattle.eap_method.specs.Steps.{step_with};
 ghost use Rattle.eap_method.specs.Tags.{no_tags};
+ghost use Rattle.server_machine.specs.declared.variables.Way.TheVariants.{AfterResponse};
 ghost use Rattle.server_machine.specs.ServerTable.{answer, before_proposal, identity_request, next_id, with_request, ends_well, ends_badly, offers, method_answers, settled, AreInOrder, is_current};
 
-use crate::variables::{Progress, ServerVariables};
+use crate::variables::{Progress, ServerVariables, Way};
 use eap_base::{Kinds, Packet, ServerSetup};
 use eap_method::{
     Report, ServerMethod, ServerSide, ServerTurn, Step, Tags, begin_servers, hand_to_server,
@@ -253,12 +254,12 @@ impl<M: ServerMethod> ServerMachine<M> {
         ensures kinds { server_kinds (map M.server_shown self.new.methods) ≡ server_kinds (map M.server_shown self.old.methods) }
     {
         if view.kind == NAK && self.vars.progress == Progress::Proposed {
-            self.propose(true, view.id, Some(view.body), packet)
+            self.propose(Way::AfterNak, view.id, Some(view.body), packet)
         } else if self.vars.current != Some(view.kind) {
             discard(Cause::WrongMethod)
         } else if view.kind == IDENTITY {
             self.vars.progress = Progress::End;
-            self.propose(false, view.id, None, packet)
+            self.propose(Way::AfterResponse, view.id, None, packet)
         } else {
             self.method(view.id, view.kind, view.whole, packet, tags)
         }
@@ -267,16 +268,16 @@ impl<M: ServerMethod> ServerMachine<M> {
     /// SELECT_ACTION where a method is to be proposed: the first of the order that isn't yet proposed and
     /// that the Nak, where one has come, desires; where there is none, or no object of it, FAILURE.
     #[tactic(auto, using(login_policy::proofs::Choices::next_is_ordered, login_policy::proofs::Choices::next_is_unproposed), unfolding(crate::specs::ServerTable::select_action))]
-    fn propose(&mut self, naked: bool, id: u8, desired: Option<&[u8]>, packet: &mut Packet) -> Step
-        ensures step { select_action (before_proposal naked) (now_of M.server_shown self.old).vars (now_of M.server_shown self.old).views id (option_copied desired.entry)
+    fn propose(&mut self, way: Way, id: u8, desired: Option<&[u8]>, packet: &mut Packet) -> Step
+        ensures step { let now = now_of M.server_shown self.old in select_action (before_proposal way) now.vars now.views id (option_copied desired.entry)
             ≡ answer (step_with result packet.new no_tags) (now_of M.server_shown self.new) }
         ensures kinds { server_kinds (map M.server_shown self.new.methods) ≡ server_kinds (map M.server_shown self.old.methods) }
     {
         match next_method(&self.vars.setup.methods, &self.vars.proposed, desired) {
-            None => end_badly(&mut self.vars, naked, id, packet),
+            None => end_badly(&mut self.vars, way, id, packet),
             Some(kind) => {
                 let has_first = write_first(&mut self.methods, &self.vars, kind, packet);
-                settle_offer(&mut self.vars, naked, id, kind, has_first, packet)
+                settle_offer(&mut self.vars, way, id, kind, has_first, packet)
             }
         }
     }
@@ -401,24 +402,22 @@ fn turn_of<M: ServerMethod>(
 }
 
 /// FAILURE, where a method was to be proposed: a Failure with currentId.
-fn end_badly(vars: &mut ServerVariables, naked: bool, id: u8, packet: &mut Packet) -> Step
-    ensures step { (views : ServerViews) → ends_badly (before_proposal naked) vars.old views id no_tags
+fn end_badly(vars: &mut ServerVariables, way: Way, id: u8, packet: &mut Packet) -> Step
+    ensures step { (views : ServerViews) → ends_badly (before_proposal way) vars.old views id no_tags
         ≡ answer (step_with result packet.new no_tags) (record { vars = vars.new; views = views }) }
     ensures setup { vars.new.setup ≡ vars.old.setup }
     ensures order { AreInOrder vars.old → AreInOrder vars.new }
 {
     vars.state = State::Failure;
     write_end(packet, Code::Failure, id);
-    if naked {
-        let states = [
+    match way {
+        Way::AfterResponse => Step::sending(&FAILING),
+        Way::AfterNak => Step::sending(&[
             State::Received,
             State::Nak,
             State::SelectAction,
             State::Failure,
-        ];
-        Step::sending(&states)
-    } else {
-        Step::sending(&FAILING)
+        ]),
     }
 }
 
@@ -427,7 +426,7 @@ fn end_badly(vars: &mut ServerVariables, naked: bool, id: u8, packet: &mut Packe
 #[tactic(auto, using(crate::proofs::Proposed::proposed_has_room, crate::proofs::Proposed::proposed_grows, crate::proofs::Proposed::order_is_kind))]
 fn settle_offer(
     vars: &mut ServerVariables,
-    naked: bool,
+    way: Way,
     id: u8,
     kind: u8,
     has_first: bool,
@@ -436,7 +435,7 @@ fn settle_offer(
     requires ordered { is_among vars.old.setup.methods kind ≡ true }
     requires unproposed { is_among vars.old.proposed kind ≡ false }
     requires in_order { AreInOrder vars.old }
-    ensures step { (views : ServerViews) → offers (before_proposal naked) vars.old views id kind (if has_first then Some packet.old else None)
+    ensures step { (views : ServerViews) → offers (before_proposal way) vars.old views id kind (if has_first then Some packet.old else None)
         ≡ answer (step_with result packet.new no_tags) (record { vars = vars.new; views = views }) }
     ensures setup { vars.new.setup ≡ vars.old.setup }
     ensures order { AreInOrder vars.new }
@@ -446,29 +445,18 @@ fn settle_offer(
         vars.current = Some(kind);
         vars.progress = Progress::Proposed;
         vars.proposed.push(kind);
-        proposing(naked)
+        proposing(way)
     } else {
-        end_badly(vars, naked, id, packet)
+        end_badly(vars, way, id, packet)
     }
 }
 
 /// The step of a proposal.
-fn proposing(naked: bool) -> Step
-    ensures { result ≡ record { path = before_proposal naked ++ ProposeMethod ∷ MethodRequest ∷ SendRequest ∷ Idle ∷ []; cause = None; sends = true } }
+fn proposing(way: Way) -> Step
+    ensures { result ≡ record { path = before_proposal way ++ ProposeMethod ∷ MethodRequest ∷ SendRequest ∷ Idle ∷ []; cause = None; sends = true } }
 {
-    if naked {
-        let states = [
-            State::Received,
-            State::Nak,
-            State::SelectAction,
-            State::ProposeMethod,
-            State::MethodRequest,
-            State::SendRequest,
-            State::Idle,
-        ];
-        Step::sending(&states)
-    } else {
-        let states = [
+    match way {
+        Way::AfterResponse => Step::sending(&[
             State::Received,
             State::IntegrityCheck,
             State::MethodResponse,
@@ -477,8 +465,16 @@ fn proposing(naked: bool) -> Step
             State::MethodRequest,
             State::SendRequest,
             State::Idle,
-        ];
-        Step::sending(&states)
+        ]),
+        Way::AfterNak => Step::sending(&[
+            State::Received,
+            State::Nak,
+            State::SelectAction,
+            State::ProposeMethod,
+            State::MethodRequest,
+            State::SendRequest,
+            State::Idle,
+        ]),
     }
 }
 
@@ -533,7 +529,7 @@ fn settle(vars: &mut ServerVariables, id: u8, turn: ServerTurn, packet: &mut Pac
 /// SUCCESS or FAILURE after the current method: a Success or a Failure with currentId.
 fn end_method(vars: &mut ServerVariables, id: u8, success: bool, packet: &mut Packet) -> Step
     ensures step { (views : ServerViews) (tags : Tags)
-        → (if success then ends_well (before_proposal false) vars.old views id tags else ends_badly (before_proposal false) vars.old views id tags)
+        → (if success then ends_well (before_proposal AfterResponse) vars.old views id tags else ends_badly (before_proposal AfterResponse) vars.old views id tags)
         ≡ answer (step_with result packet.new tags) (record { vars = vars.new; views = views }) }
     ensures setup { vars.new.setup ≡ vars.old.setup }
     ensures order { AreInOrder vars.old → AreInOrder vars.new }

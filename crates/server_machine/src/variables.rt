@@ -11,6 +11,15 @@ pub enum Progress {
     End,
 }
 
+/// The way to SELECT_ACTION (RFC 4137 section 5.4).
+#[derive(Clone, Copy, PartialEq, Eq, Debug)]
+pub enum Way {
+    /// After a Response of the Identity round or of a method: METHOD_RESPONSE.
+    AfterResponse,
+    /// After a Nak.
+    AfterNak,
+}
+
 /// The server's variables (RFC 4137 section 5.3).
 #[derive(Drop)]
 pub struct ServerVariables {

@@ -7,13 +7,13 @@ use Rattle.eap_base.specs.Known.{append_known}
 use Rattle.eap_base.specs.declared.source.Failed.{Failed}
 use Rattle.trace_text.specs.Writes.{Appended, Appends}
 
-pub append_known-nil : (known : Option (List ℕ)) → append_known known [] ≡ known
-append_known-nil None = refl
-append_known-nil (Some xs) = ap Some (append-nil xs)
+pub append_known_nil : (known : Option (List ℕ)) → append_known known [] ≡ known
+append_known_nil None = refl
+append_known_nil (Some xs) = ap Some (append-nil xs)
 
-pub append_known-append : (known : Option (List ℕ)) (xs ys : List ℕ) → append_known known (xs ++ ys) ≡ append_known (append_known known xs) ys
-append_known-append None xs ys = refl
-append_known-append (Some zs) xs ys = ap Some (sym (append_assoc zs xs ys))
+pub append_known_append : (known : Option (List ℕ)) (xs ys : List ℕ) → append_known known (xs ++ ys) ≡ append_known (append_known known xs) ys
+append_known_append None xs ys = refl
+append_known_append (Some zs) xs ys = ap Some (sym (append_assoc zs xs ys))
 
 module _ {S : Type 0} (written : S → Option (List ℕ)) (faults : S → ℕ) (last : Option ℕ) where
   -- a text in two parts: the first was written, and then the second
@@ -22,7 +22,7 @@ module _ {S : Type 0} (written : S → Option (List ℕ)) (faults : S → ℕ) (
       → Appends written faults last result before after (first ++ second)
   unfolding Appends
   appends_both (Ok all) done before mid after first second a b = record {
-    writes = append_known-append (written before) first second ∙ ap (λ k. append_known k second) a.writes ∙ b.writes;
+    writes = append_known_append (written before) first second ∙ ap (λ k. append_known k second) a.writes ∙ b.writes;
     counted = tt;
     uncounted = b.uncounted ∙ a.uncounted;
     never_falls = omega arith;
@@ -32,7 +32,7 @@ module _ {S : Type 0} (written : S → Option (List ℕ)) (faults : S → ℕ) (
       front = first ++ b.writes.front;
       rest = b.writes.rest;
       split = ap (λ t. first ++ t) b.writes.split ∙ sym (append_assoc first b.writes.front b.writes.rest);
-      appended = append_known-append (written before) first b.writes.front ∙ ap (λ k. append_known k b.writes.front) a.writes ∙ b.writes.appended;
+      appended = append_known_append (written before) first b.writes.front ∙ ap (λ k. append_known k b.writes.front) a.writes ∙ b.writes.appended;
     };
     counted = λ h. b.counted (omega arith);
     uncounted = tt;
@@ -60,7 +60,7 @@ module _ {S : Type 0} (written : S → Option (List ℕ)) (faults : S → ℕ) (
   -- nothing was written
   pub appends_none : (done : Unit {0}) (now : S) → Appends written faults last (Ok done) now now []
   unfolding Appends
-  appends_none done now = record { writes = append_known-nil (written now); counted = tt; uncounted = refl; never_falls = omega arith }
+  appends_none done now = record { writes = append_known_nil (written now); counted = tt; uncounted = refl; never_falls = omega arith }
 
   -- the text has been written up to the rest
   pub record Appending (before now : S) (text rest : List ℕ) : Type 0 where
@@ -117,7 +117,7 @@ module _ {S : Type 0} (written : S → Option (List ℕ)) (faults : S → ℕ) (
   unfolding Appends
   appends_nothing (Ok done) before after text is e h f = absurd cc
   appends_nothing (Err fault) before after text is e h f = record {
-    writes = record { front = []; rest = text; split = refl; appended = append_known-nil (written before) ∙ sym e };
+    writes = record { front = []; rest = text; split = refl; appended = append_known_nil (written before) ∙ sym e };
     counted = h;
     uncounted = tt;
     never_falls = f;

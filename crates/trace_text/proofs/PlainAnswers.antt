@@ -75,29 +75,29 @@ typed_plain number code id kind body whole octets h =
     (within_join code _ h (within_join (decimal id) _ (decimal_within id) (within_join (decimal kind) [] (decimal_within kind) refl)))
     (through begins_result (sizes_text whole octets) _ (sizes_within whole octets) (through begins_result (note_text kind body) line_end (note_within kind body) refl))
 
-end_sizes-plain : (whole octets : ℕ) → plain begins_result false (end_sizes_text whole octets) ≡ true
+end_sizes_plain : (whole octets : ℕ) → plain begins_result false (end_sizes_text whole octets) ≡ true
 unfolding end_sizes_text
-end_sizes-plain whole octets =
+end_sizes_plain whole octets =
     through begins_result (decimal whole) _ (decimal_within whole) (through begins_result (decimal (octets - whole)) _ (decimal_within (octets - whole)) refl)
 
-end_line-plain : (number : ℕ) (code : List ℕ) (id whole octets : ℕ) → is_within code ≡ true → plain begins_result true (end_line_text number code id whole octets) ≡ true
+end_line_plain : (number : ℕ) (code : List ℕ) (id whole octets : ℕ) → is_within code ≡ true → plain begins_result true (end_line_text number code id whole octets) ≡ true
 unfolding end_text
-end_line-plain number code id whole octets h =
-    numbered begins_result no_result number _ (end_sizes_text whole octets) (within_join code _ h (within_join (decimal id) [] (decimal_within id) refl)) (end_sizes-plain whole octets)
+end_line_plain number code id whole octets h =
+    numbered begins_result no_result number _ (end_sizes_text whole octets) (within_join code _ h (within_join (decimal id) [] (decimal_within id) refl)) (end_sizes_plain whole octets)
 
 value_plain : (number : ℕ) (value : PacketValue) (whole octets : ℕ) → plain begins_result true (value_text number value whole octets) ≡ true
 value_plain number (request id kind body) whole octets = typed_plain number (codes "request") id kind body whole octets refl
 value_plain number (response id kind body) whole octets = typed_plain number (codes "response") id kind body whole octets refl
-value_plain number (success id) whole octets = end_line-plain number (codes "success") id whole octets refl
-value_plain number (failure id) whole octets = end_line-plain number (codes "failure") id whole octets refl
+value_plain number (success id) whole octets = end_line_plain number (codes "success") id whole octets refl
+value_plain number (failure id) whole octets = end_line_plain number (codes "failure") id whole octets refl
 
-packet_by-plain : (number : ℕ) (octets : List ℕ) (x : Result PacketValue Cause) → plain begins_result true (packet_text_by number octets x) ≡ true
-packet_by-plain number octets (Err cause) = decimal_first begins_result no_result number _ (through begins_result (cause_word cause) _ (cause_within cause) refl)
-packet_by-plain number octets (Ok value) = value_plain number value (length (spelled value)) (length octets)
+packet_by_plain : (number : ℕ) (octets : List ℕ) (x : Result PacketValue Cause) → plain begins_result true (packet_text_by number octets x) ≡ true
+packet_by_plain number octets (Err cause) = decimal_first begins_result no_result number _ (through begins_result (cause_word cause) _ (cause_within cause) refl)
+packet_by_plain number octets (Ok value) = value_plain number value (length (spelled value)) (length octets)
 
 pub packet_plain : (number : ℕ) (octets : List ℕ) → plain begins_result true (packet_text number octets) ≡ true
 unfolding packet_text
-packet_plain number octets = packet_by-plain number octets (packet_of octets)
+packet_plain number octets = packet_by_plain number octets (packet_of octets)
 
 pub packets_plain : (packets malformed : ℕ) → plain begins_result true (packets_text packets malformed) ≡ true
 unfolding packets_text
@@ -117,9 +117,9 @@ named_plain (o ∷ name) rest h k =
     let parts = after_test (begins_result o) (is_within (o ∷ name)) h in
     skips (begins_result o) (plain begins_result (o == 10) (name ++ rest)) parts.0 (through begins_result (o ∷ name) rest parts.1 k)
 
-hex_line-plain : (name octets : List ℕ) → begins_line name ≡ true → plain begins_result true (hex_line name octets) ≡ true
+hex_line_plain : (name octets : List ℕ) → begins_line name ≡ true → plain begins_result true (hex_line name octets) ≡ true
 unfolding hex_line
-hex_line-plain name octets h = named_plain name _ h (through begins_result (hex_text octets) _ (hex_within octets) refl)
+hex_line_plain name octets h = named_plain name _ h (through begins_result (hex_text octets) _ (hex_within octets) refl)
 
 sealed_plain : (sealed : Sealed) → plain begins_result true (sealed_text sealed) ≡ true
 unfolding sealed_text
@@ -129,31 +129,31 @@ sealed_plain sealed =
 -- lines with a name each, one after the other
 exported_plain : (msk emsk : List ℕ) → plain begins_result true (exported_text msk emsk) ≡ true
 exported_plain msk emsk =
-    join begins_result (hex_line (codes "msk") msk) (hex_line (codes "emsk") emsk) true (hex_line-plain (codes "msk") msk refl) (hex_line-plain (codes "emsk") emsk refl)
+    join begins_result (hex_line (codes "msk") msk) (hex_line (codes "emsk") emsk) true (hex_line_plain (codes "msk") msk refl) (hex_line_plain (codes "emsk") emsk refl)
 
 gpsk_plain : (keys : GpskKeys) → plain begins_result true (gpsk_text keys) ≡ true
 gpsk_plain keys =
-    join begins_result (hex_line (codes "mk") keys.mk) _ true (hex_line-plain (codes "mk") keys.mk refl)
+    join begins_result (hex_line (codes "mk") keys.mk) _ true (hex_line_plain (codes "mk") keys.mk refl)
     (join begins_result (exported_text keys.msk keys.emsk) _ true (exported_plain keys.msk keys.emsk)
-    (join begins_result (hex_line (codes "sk") keys.sk) (hex_line (codes "pk") keys.pk) true (hex_line-plain (codes "sk") keys.sk refl) (hex_line-plain (codes "pk") keys.pk refl)))
+    (join begins_result (hex_line (codes "sk") keys.sk) (hex_line (codes "pk") keys.pk) true (hex_line_plain (codes "sk") keys.sk refl) (hex_line_plain (codes "pk") keys.pk refl)))
 
 long_plain : (long : PskLong) → plain begins_result true (long_text long) ≡ true
 long_plain long =
-    join begins_result (hex_line (codes "ak") long.ak) (hex_line (codes "kdk") long.kdk) true (hex_line-plain (codes "ak") long.ak refl) (hex_line-plain (codes "kdk") long.kdk refl)
+    join begins_result (hex_line (codes "ak") long.ak) (hex_line (codes "kdk") long.kdk) true (hex_line_plain (codes "ak") long.ak refl) (hex_line_plain (codes "kdk") long.kdk refl)
 
 session_plain : (keys : PskKeys) → plain begins_result true (session_text keys) ≡ true
 session_plain keys =
-    join begins_result (hex_line (codes "tek") keys.tek) (exported_text keys.msk keys.emsk) true (hex_line-plain (codes "tek") keys.tek refl) (exported_plain keys.msk keys.emsk)
+    join begins_result (hex_line (codes "tek") keys.tek) (exported_text keys.msk keys.emsk) true (hex_line_plain (codes "tek") keys.tek refl) (exported_plain keys.msk keys.emsk)
 
 pub key_plain : (asked : KeyLine) → plain begins_result true (key_text asked) ≡ true
 unfolding key_text
-key_plain (asked.Aes key block) = hex_line-plain (codes "aes") (aes128 key block) refl
-key_plain (asked.Cmac key text) = hex_line-plain (codes "cmac") (aes_cmac key text) refl
-key_plain (asked.Hmac key text) = hex_line-plain (codes "hmac") (hmac_sha256 key text) refl
+key_plain (asked.Aes key block) = hex_line_plain (codes "aes") (aes128 key block) refl
+key_plain (asked.Cmac key text) = hex_line_plain (codes "cmac") (aes_cmac key text) refl
+key_plain (asked.Hmac key text) = hex_line_plain (codes "hmac") (hmac_sha256 key text) refl
 key_plain (asked.Eax key nonce header text) = sealed_plain (eax_sealed key nonce header text)
 key_plain (asked.Gpsk suite psk rand_p id_p rand_s id_s) = gpsk_plain (gpsk_keys_of suite psk rand_p id_p rand_s id_s)
 key_plain (asked.Psk psk rand_p) =
     let long = psk_long_of psk in
     let keys = psk_keys_of long.kdk rand_p in
     join begins_result (long_text long) (session_text keys) true (long_plain long) (session_plain keys)
-key_plain (asked.Name key) = hex_line-plain (codes "name") (key_name_of key) refl
+key_plain (asked.Name key) = hex_line_plain (codes "name") (key_name_of key) refl

@@ -9,7 +9,7 @@ use Rattle.eap_base.specs.declared.source.Failed.{Failed}
 use Rattle.trace_text.specs.Pieces.{spelled, joined}
 use Rattle.trace_text.specs.Writes.{Appended, Appends, Put, Puts}
 use Rattle.trace_text.specs.declared.pieces.Piece.{Piece}
-use Rattle.trace_text.proofs.Fronts.{append_known-append, append_known-nil}
+use Rattle.trace_text.proofs.Fronts.{append_known_append, append_known_nil}
 
 pub joined-drop : (pieces : List Piece) (i : ℕ) (d : Piece) → i < length pieces
     → joined (drop i pieces) ≡ spelled (get_or pieces i d) ++ joined (drop (i + 1) pieces)
@@ -52,7 +52,7 @@ module _ {S : Type 0} (written : S → Option (List ℕ)) (faults : S → ℕ) (
     front = a.front ++ b.front;
     rest = b.rest;
     split = split_both held first second a.front a.rest between a.split a.holds b.front b.rest b.split;
-    appended = append_known-append (written before) a.front b.front ∙ ap (λ k. append_known k b.front) a.appended ∙ b.appended;
+    appended = append_known_append (written before) a.front b.front ∙ ap (λ k. append_known k b.front) a.appended ∙ b.appended;
     holds = b.holds;
     counted = tt;
     uncounted = b.uncounted ∙ a.uncounted;
@@ -62,7 +62,7 @@ module _ {S : Type 0} (written : S → Option (List ℕ)) (faults : S → ℕ) (
     front = a.front ++ b.front;
     rest = b.rest;
     split = split_both held first second a.front a.rest between a.split a.holds b.front b.rest b.split;
-    appended = append_known-append (written before) a.front b.front ∙ ap (λ k. append_known k b.front) a.appended ∙ b.appended;
+    appended = append_known_append (written before) a.front b.front ∙ ap (λ k. append_known k b.front) a.appended ∙ b.appended;
     holds = tt;
     counted = λ h. b.counted (omega arith);
     uncounted = tt;
@@ -110,7 +110,7 @@ module _ {S : Type 0} (written : S → Option (List ℕ)) (faults : S → ℕ) (
     front = [];
     rest = held ++ text;
     split = refl;
-    appended = append_known-nil (written before);
+    appended = append_known_nil (written before);
     holds = e;
     counted = tt;
     uncounted = refl;

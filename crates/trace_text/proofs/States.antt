@@ -3,6 +3,6 @@ use Rattle.std.proofs.Common.{◌≡◌, ℕ, ◌+◌, ◌<◌, List, ◌++◌, 
 use Rattle.eap_packet.specs.declared.state.State.{State}
 use Rattle.trace_text.specs.Run.{state_text, states_text}
 
-pub states_text-drop : (states : List State) (i : ℕ) (d : State) → i < length states
+pub states_text_drop : (states : List State) (i : ℕ) (d : State) → i < length states
     → states_text (drop i states) ≡ state_text (get_or states i d) ++ states_text (drop (i + 1) states)
-states_text-drop states i d h = rw (add-one, drop-cons states i d h) refl
+states_text_drop states i d h = rw (add-one, drop-cons states i d h) refl

@@ -186,8 +186,8 @@ fn over_cause(login: &Login, good: bool, body: &[u8]) -> Cause
     }
 }
 
-/// The turn for a Request of Type 51 with nothing past its Length. A discard leaves nothing that counts
-/// in `packet` and `tags`.
+/// The turn for the octets of a Request of Type 51. A discard leaves nothing that counts in `packet` and
+/// `tags`.
 #[tactic(auto, unfolding(eap_method::specs::GpskPeer::step))]
 pub fn take(stage: &mut Stage, request: &[u8], packet: &mut Packet, tags: &mut Tags) -> PeerTurn
     requires header { 5 ≤ length request.now }

@@ -201,8 +201,8 @@ fn login_reads(login: &Login, phase: &mut Phase, body: &[u8], tags: &mut Tags) -
     }
 }
 
-/// The turn for a Response of Type 51 with nothing past its Length. A discard leaves nothing that counts
-/// in `packet` and `tags`.
+/// The turn for the octets of a Response of Type 51. A discard leaves nothing that counts in `packet` and
+/// `tags`.
 #[tactic(auto, unfolding(eap_method::specs::GpskServer::step))]
 pub fn take(
     stage: &mut Stage,

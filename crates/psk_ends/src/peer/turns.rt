@@ -216,7 +216,7 @@ fn known_reads(
     }
 }
 
-/// The turn for a Request of Type 47 with nothing past its Length.
+/// The turn for the octets of a Request of Type 47.
 #[tactic(auto, unfolding(eap_method::specs::PskPeer::step))]
 pub fn take(stage: &mut Stage, request: &[u8], packet: &mut Packet, tags: &mut Tags) -> PeerTurn
     requires size { 5 ≤ length request.now }

@@ -190,7 +190,7 @@ fn known_reads(
     }
 }
 
-/// The turn for a Response of Type 47 with nothing past its Length.
+/// The turn for the octets of a Response of Type 47.
 #[tactic(auto, unfolding(eap_method::specs::PskServer::step))]
 pub fn take(
     stage: &mut Stage,

@@ -1,7 +1,7 @@
 use Rattle.std.proofs.Common.{◌≡◌, ◌≤◌, [], arith, refl, drop, length}
 use Rattle.std.proofs.Math.ListN.{drop_of_length-le}
 use Rattle.trace_text.proofs.Putting.{putting_begins, putting_next, putting_cut, putting_over}
-use Rattle.trace_text.proofs.Numbers.{numbers_text-drop}
+use Rattle.trace_text.proofs.Numbers.{numbers_text_drop}
 use Rattle.trace_text.proofs.packet.put_numbers.Goals as goal
 
 pub loop-octet-init : goal.loop-octet-init
@@ -9,11 +9,11 @@ loop-octet-init g c = putting_begins _ _ _ _ _ _
 
 pub loop-octet-preserved : goal.loop-octet-preserved
 loop-octet-preserved g c =
-    putting_next _ _ _ _ _ _ _ _ _ _ _ _ _ (numbers_text-drop _ _ _ c.loop-octet-test.true) c.loop-octet.invariant c.in_ok-put_octet.ensures
+    putting_next _ _ _ _ _ _ _ _ _ _ _ _ _ (numbers_text_drop _ _ _ c.loop-octet-test.true) c.loop-octet.invariant c.in_ok-put_octet.ensures
 
 pub returns-in_err-put_octet : goal.returns-in_err-put_octet
 returns-in_err-put_octet g c =
-    putting_cut _ _ _ _ _ _ _ _ _ _ _ _ _ _ _ _ c.from_residual.ensures.0 refl (numbers_text-drop _ _ _ c.loop-octet-test.true)
+    putting_cut _ _ _ _ _ _ _ _ _ _ _ _ _ _ _ _ c.from_residual.ensures.0 refl (numbers_text_drop _ _ _ c.loop-octet-test.true)
     c.loop-octet.invariant c.in_err-put_octet.ensures
 
 pub returns : goal.returns

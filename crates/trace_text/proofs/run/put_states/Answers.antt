@@ -1,7 +1,7 @@
 use Rattle.std.proofs.Common.{◌≡◌, ◌≤◌, [], arith, refl, drop, length}
 use Rattle.std.proofs.Math.ListN.{drop_of_length-le}
 use Rattle.trace_text.proofs.Putting.{putting_begins, putting_next, putting_cut, putting_ends}
-use Rattle.trace_text.proofs.States.{states_text-drop}
+use Rattle.trace_text.proofs.States.{states_text_drop}
 use Rattle.trace_text.proofs.run.put_states.Goals as goal
 
 pub loop-state-init : goal.loop-state-init
@@ -9,11 +9,11 @@ loop-state-init g c = putting_begins _ _ _ _ _ _
 
 pub loop-state-preserved : goal.loop-state-preserved
 loop-state-preserved g c =
-    putting_next _ _ _ _ _ _ _ _ _ _ _ _ _ (states_text-drop _ _ _ c.loop-state-test.true) c.loop-state.invariant c.in_ok-put_state.ensures
+    putting_next _ _ _ _ _ _ _ _ _ _ _ _ _ (states_text_drop _ _ _ c.loop-state-test.true) c.loop-state.invariant c.in_ok-put_state.ensures
 
 pub returns-in_err-put_state : goal.returns-in_err-put_state
 returns-in_err-put_state g c =
-    putting_cut _ _ _ _ _ _ _ _ _ _ _ _ _ _ _ _ c.from_residual.ensures.0 refl (states_text-drop _ _ _ c.loop-state-test.true)
+    putting_cut _ _ _ _ _ _ _ _ _ _ _ _ _ _ _ _ c.from_residual.ensures.0 refl (states_text_drop _ _ _ c.loop-state-test.true)
     c.loop-state.invariant c.in_err-put_state.ensures
 
 pub returns : goal.returns
