@@ -138,7 +138,7 @@ impl<P: PeerMethod, S: ServerMethod> World<P, S> {
 
     /// The server starts, as event 0: it sends packet 1, the Identity Request. `Memory` comes only for
     /// want of memory for what it sends; the world then is as it was. The world has not started. A world
-    /// that has just been made then is that of the run without events.
+    /// that has just been made then is that of the run without events, with at most eight tags in its book.
     pub fn start(&mut self) -> Result<Told, Memory>
         requires { self.old.started ≡ false }
         ensures told { MatchResult result
@@ -155,7 +155,7 @@ impl<P: PeerMethod, S: ServerMethod> World<P, S> {
     /// server (section 5); an event that has nobody or nothing to act on is skipped and only counted.
     /// `Memory` comes only for want of memory for one more packet and its tags; the world then is as it
     /// was, and the event isn't counted. A world that was that of the run over some events then is that
-    /// of the run over these and this one.
+    /// of the run over these and this one, with at most eight tags in its book.
     pub fn step(&mut self, event: &Event) -> Result<Told, Memory>
         requires started { self.old.started ≡ true }
         requires room { self.old.counts.events < MAX_EVENTS }

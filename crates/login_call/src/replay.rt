@@ -5,13 +5,16 @@ ghost use Rattle.std.specs.Prelude.{◌≡◌, None, Some, Ok, IfOk, IsOk};
 ghost use Rattle.scenario_text.specs.Reading.{setup_of};
 ghost use Rattle.eap_base.specs.declared.setup.Setup.{Setup};
 ghost use Rattle.login_call.specs.Replay.{IsReady, seen_of};
+ghost use Rattle.eap_world.specs.World.{octets_of_sent};
+ghost use Rattle.trace_text.specs.Run.{told_text};
+ghost use Rattle.trace_text.specs.Writes.{Appends};
 
 use crate::beginning::world_of;
 use crate::command::{Close, Command, Next, Trouble};
 use crate::status::Status;
 use eap_base::{Event, Failed, Sink};
 use eap_method::{PeerMethod, ServerMethod};
-use eap_world::{Methods, World};
+use eap_world::{Methods, Told, World};
 use scenario_text::{Item, ScenarioReader};
 use std::alloc::Global;
 use trace_text::{write_end, write_start, write_told};
@@ -123,7 +126,7 @@ impl<P: PeerMethod, S: ServerMethod> Replay<P, S> {
                     return Ok(Next::Refuses("TooMuch", Status::TooMuch));
                 }
                 match world.step(event) {
-                    Ok(told) => match write_told(sink, &told, world.octets_of(&told), names) {
+                    Ok(told) => match write_outcome(sink, world, &told, names) {
                         Ok(()) => Ok(Next::Goes),
                         Err(_) => Err(Trouble::Write),
                     },
@@ -168,4 +171,17 @@ impl<P: PeerMethod, S: ServerMethod> Command for Replay<P, S> {
             Err(fault) => Ok(Close::Misses(fault.word())),
         }
     }
+}
+
+/// Writes the lines of what came of the last event of this world.
+fn write_outcome<W: Sink, P: PeerMethod, S: ServerMethod>(
+    sink: &mut W,
+    world: &World<P, S>,
+    told: &Told,
+    names: bool,
+) -> Result<(), Failed>
+    ensures { Appends W.written W.write_faults W.last_write_fault result sink.old sink.new
+        (told_text names (octets_of_sent world.now.sent told.now.sent) told.now) }
+{
+    write_told(sink, told, world.octets_of(told), names)
 }

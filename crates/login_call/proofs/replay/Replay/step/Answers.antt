@@ -4,8 +4,8 @@ use Rattle.login_call.proofs.Ready.{ready_in}
 use Rattle.login_call.proofs.Runs.{step_starts}
 use Rattle.login_call.proofs.replay.Replay.step.Goals as goal
 
-pub returns-in-Ok-write_told-clause-ready_after : goal.returns-in-Ok-write_told-clause-ready_after
-returns-in-Ok-write_told-clause-ready_after g c =
+pub returns-in-Ok-write_outcome-clause-ready_after : goal.returns-in-Ok-write_outcome-clause-ready_after
+returns-in-Ok-write_outcome-clause-ready_after g c =
     let peer_shown = g.P.PeerMethod.peer_shown in
     let server_shown = g.S.ServerMethod.server_shown in
     ready_in peer_shown server_shown _ c.step.new.self refl
