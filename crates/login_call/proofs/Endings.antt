@@ -1,5 +1,5 @@
 -- How a run ends after a part of its text has been written.
-use Rattle.std.proofs.Common.{◌≡◌, ◌≤◌, ℕ, List, [], ◌++◌, Option, refl, sym, ◌∙◌, ap, subst, append_assoc, arith}
+use Rattle.std.proofs.Common.{◌≡◌, ℕ, List, [], ◌++◌, Option, refl, sym, ◌∙◌, ap, subst, append_assoc, arith}
 use Rattle.eap_base.specs.Known.{append_known}
 use Rattle.trace_text.specs.Writes.{WritesFront}
 use Rattle.trace_text.proofs.Fronts.{append_known_append, append_known_nil}

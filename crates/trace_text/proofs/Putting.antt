@@ -1,13 +1,13 @@
 -- Writing a line part by part, of which the last octets are held.
-use Rattle.std.proofs.Common.{◌≡◌, ℕ, ◌≤◌, ◌+◌, ◌-◌, ◌<◌, List, [], ◌∷◌, ◌++◌, length, take, drop, get_or, Option}
+use Rattle.std.proofs.Common.{◌≡◌, ℕ, ◌+◌, ◌-◌, ◌<◌, List, [], ◌∷◌, ◌++◌, length, take, drop, get_or, Option}
 use Rattle.std.specs.Prelude.{Result, Ok, Err, IsErr, OnOk}
 use Rattle.std.proofs.Common.{refl, sym, ◌∙◌, ap, subst, arith, append_assoc, append-nil, take-append-drop, add-one, drop-cons}
 use Rattle.std.proofs.lemmas.Grind.{common_steps}
-use Rattle.hex.specs.Hex.{encode_with, encode_lower, lower_digits}
+use Rattle.hex.specs.Hex.{encode_with, encode_lower}
 use Rattle.eap_base.specs.Known.{append_known}
 use Rattle.eap_base.specs.declared.source.Failed.{Failed}
 use Rattle.trace_text.specs.Pieces.{spelled, joined}
-use Rattle.trace_text.specs.Writes.{Appended, Appends, Put, Puts}
+use Rattle.trace_text.specs.Writes.{Appends, Puts}
 use Rattle.trace_text.specs.declared.pieces.Piece.{Piece}
 use Rattle.trace_text.proofs.Fronts.{append_known_append, append_known_nil}
 

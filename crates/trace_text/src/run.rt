@@ -371,12 +371,7 @@ pub fn write_told<W: Sink>(
 
 /// Writes the lines of an event that wasn't skipped.
 #[tactic(auto, using(crate::proofs::Fronts::appends_both, crate::proofs::Fronts::appends_front))]
-fn write_acted<W: Sink>(
-    sink: &mut W,
-    told: &Told,
-    octets: &[u8],
-    names: bool,
-) -> Result<(), Failed>
+fn write_acted<W: Sink>(sink: &mut W, told: &Told, octets: &[u8], names: bool) -> Result<(), Failed>
     ensures { Appends W.written W.write_faults W.last_write_fault result sink.old sink.new (acted_text names octets.now told.now) }
 {
     write_party(sink, told.event, told.party, told.path.as_slice())?;
@@ -386,12 +381,7 @@ fn write_acted<W: Sink>(
 
 /// Writes the lines of the packet that was sent, of its octets, and of the keys.
 #[tactic(auto, using(crate::proofs::Fronts::appends_both, crate::proofs::Fronts::appends_front))]
-fn write_shown<W: Sink>(
-    sink: &mut W,
-    told: &Told,
-    octets: &[u8],
-    names: bool,
-) -> Result<(), Failed>
+fn write_shown<W: Sink>(sink: &mut W, told: &Told, octets: &[u8], names: bool) -> Result<(), Failed>
     ensures { Appends W.written W.write_faults W.last_write_fault result sink.old sink.new (shown_text names octets.now told.now) }
 {
     write_sent(sink, told.event, octets, &told.sent)?;
