@@ -1,5 +1,5 @@
 -- What one more digit, or one more pair of hex digits, adds.
-use Rattle.std.proofs.Common.{◌≡◌, ℕ, ◌+◌, ◌-◌, ◌*◌, ◌<◌, List, [], ◌∷◌, ◌++◌, length, get_or, take, drop, refl, ap, ◌∙◌, arith, length-drop}
+use Rattle.std.proofs.Common.{◌≡◌, ℕ, ◌+◌, ◌-◌, ◌*◌, ◌<◌, List, [], ◌∷◌, ◌++◌, ◌/◌, length, get_or, take, drop, refl, ap, ◌∙◌, arith, length-drop}
 use Rattle.std.proofs.lemmas.List.{take_more, drop_more}
 use Rattle.scenario_text.specs.Fields.{number_after, octets_of, hex_value}
 
@@ -29,3 +29,9 @@ octets_of-short (d ∷ e ∷ ds) h = absurd (omega arith)
 -- less than a pair is left
 pub octets_of_all : (ds : List ℕ) (i : ℕ) → length ds < i + 2 → octets_of (drop i ds) ≡ []
 octets_of_all ds i h = octets_of-short (drop i ds) (omega (arith, length-drop i ds))
+
+-- how many octets digits spell
+pub octets_of_count : (ds : List ℕ) → length ds / 2 ≡ length (octets_of ds)
+octets_of_count [] = refl
+octets_of_count (d ∷ []) = refl
+octets_of_count (d ∷ e ∷ ds) = omega (arith, octets_of_count ds)

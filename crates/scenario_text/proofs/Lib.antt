@@ -1,9 +1,12 @@
-mod Samples
+pub mod FaultLists
 pub mod FieldLemmas
+pub mod Fitting
+pub mod Judging
+pub mod KeySizes
+pub mod LineFaults
 pub mod ReadLine
+mod Samples
 pub mod Steps
 pub mod UserLists
-pub mod ValidMethods
-pub mod ValidLines
+pub mod ValidEntries
 pub mod ValidReading
-pub mod KeySizes

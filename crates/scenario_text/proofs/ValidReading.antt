@@ -1,13 +1,16 @@
 -- What has been read is within its limits, line by line.
-use Rattle.std.proofs.Common.{◌≡◌, ℕ, ◌≤◌, ◌<◌, List, length, Option, Some, None, IfSome, IsSome, Ok, Err, IfOk, refl, lit<, lit≤, IsTrue}
+use Rattle.std.proofs.Common.{◌≡◌, ℕ, ◌≤◌, ◌<◌, List, length, Option, Some, None, IfSome, IsSome, Result, Ok, Err, IfOk, IsOk, is_err, false, refl, lit<, lit≤, IsTrue}
 use Rattle.std.specs.Str.{bytes_eq}
 use Rattle.eap_base.specs.Setup.{psk_kind, gpsk_kind, is_kind, are_kinds, are_suites, fits_kind, is_among}
 use Rattle.eap_base.specs.declared.setup.Mode.TheVariants as mode
-use Rattle.scenario_text.specs.Words.{is_passed_over}
-use Rattle.scenario_text.specs.Entries.{entry_of}
-use Rattle.scenario_text.specs.Reading.{Reading, reads, has_setting, with_setting, no_settings, both_suites, needed, key_for, peer_setup_of, server_setup_of, setup_of, header, is_crowded, read_setting, read_event, read_late, late_setting, read_entry, read_body, read_at, read_line}
-use Rattle.scenario_text.specs.Valid.{IsName, AcceptsName, IsValidUser, IsValidSetting, IsValidEntry, AreValid, IsValidPeer, IsValidServer, IsValidSetup, IsValidReadLine}
-use Rattle.scenario_text.specs.declared.fault.LineFault.TheVariants.{NoHeader, BadCount, Repeated, Missing, Order}
+use Rattle.scenario_text.specs.Words.{words}
+use Rattle.scenario_text.specs.Entries.{entry_for}
+use Rattle.scenario_text.specs.Reading.{Reading, reads, with_setting, no_settings, both_suites, needed, key_for, peer_setup_of, server_setup_of, setup_of, header, fault_of_entry, ready, taken, take, read_body, read_at, read_line}
+use Rattle.scenario_text.specs.Fits.{IsName}
+use Rattle.eap_base.specs.declared.setup.Setup.{Setup}
+use Rattle.scenario_text.specs.Valid.{AcceptsName, IsValidUser, IsValidSetting, IsValidEntry, AreValid, IsValidPeer, IsValidServer, IsValidSetup, IsValidItem, IsValidReadLine}
+use Rattle.scenario_text.specs.declared.fault.LineFault.{LineFault}
+use Rattle.scenario_text.specs.declared.fault.LineFault.TheVariants.{NoHeader, Missing}
 use Rattle.scenario_text.specs.declared.entry.Setting.{Setting}
 use Rattle.scenario_text.specs.declared.entry.Setting.TheVariants as setting
 use Rattle.scenario_text.specs.Contents.{Entry}
@@ -20,7 +23,8 @@ use Rattle.scenario_text.specs.declared.scenario.Phase.TheVariants as phase
 use Rattle.std.proofs.lemmas.List.Elements.{All-nil, All-weaker}
 use Rattle.scenario_text.proofs.UserLists.{with_user-valid}
 use Rattle.scenario_text.proofs.Steps.{IfOk-bind, IfOk-test, IfOk-needed, unwrap_or-holds}
-use Rattle.scenario_text.proofs.ValidLines.{entry_of-valid}
+use Rattle.scenario_text.proofs.ValidEntries.{entry_for-valid}
+use Rattle.scenario_text.proofs.ReadLine.{IfOk-unless, read_body-cases}
 
 pub no_settings-valid : AreValid no_settings
 no_settings-valid = record { mode = tt; first_id = tt; max_retrans = tt; peer_name = tt; peer_server = tt; peer_methods = tt; peer_suites = tt; peer_psk47 = tt; peer_psk51 = tt; peer_nonce = tt; server_name = tt; server_methods = tt; server_suites = tt; server_nonce = tt; users = All-nil IsValidUser }
@@ -104,40 +108,24 @@ setup_of-valid s h =
       server = c;
     })))
 
-read_setting-valid : (s : Settings) (e : Entry) → AreValid s → IsValidEntry e → IfOk (read_setting s e) IsValidReadLine
-read_setting-valid s (entry.Set v) h k =
-    IfOk-test (has_setting s v) (Err Repeated) (reads item.Nothing phase.Settings (with_setting s v)) IsValidReadLine (λ e. tt)
-    (λ e. record { item = tt; settings = with_setting-valid s v h k })
-read_setting-valid s entry.Events h k = IfOk-bind (setup_of s) (λ setup. reads (item.Ready setup) phase.Events s) IsValidSetup IsValidReadLine (setup_of-valid s h) (λ setup a. record { item = a; settings = h })
-read_setting-valid s (entry.Happens event) h k = tt
-read_setting-valid s entry.End h k = tt
+ready-valid : (r : Result Setup LineFault) → IfOk r IsValidSetup → IsValidItem (ready r)
+ready-valid (Ok setup) h = h
+ready-valid (Err f) h = tt
 
-late_setting-valid : (s : Settings) (v : Setting) → IfOk (late_setting s v) IsValidReadLine
-late_setting-valid s v = IfOk-test (has_setting s v) (Err Repeated) (Err Order) IsValidReadLine (λ e. tt) (λ e. tt)
+taken-valid : (p : Phase) (s : Settings) (e : Entry) → AreValid s → IsValidEntry e → IsValidReadLine (taken p s e)
+taken-valid p s (entry.Set v) h k = record { item = tt; settings = with_setting-valid s v h k }
+taken-valid p s entry.Events h k = record { item = ready-valid (setup_of s) (setup_of-valid s h); settings = h }
+taken-valid p s (entry.Happens event) h k = record { item = tt; settings = h }
+taken-valid p s entry.End h k = record { item = tt; settings = h }
 
-read_event-valid : (s : Settings) (e : Entry) → AreValid s → IfOk (read_event s e) IsValidReadLine
-read_event-valid s (entry.Set v) h = late_setting-valid s v
-read_event-valid s entry.Events h = tt
-read_event-valid s (entry.Happens event) h = record { item = tt; settings = h }
-read_event-valid s entry.End h = record { item = tt; settings = h }
-
-read_late-valid : (s : Settings) (e : Entry) → IfOk (read_late s e) IsValidReadLine
-read_late-valid s (entry.Set v) = late_setting-valid s v
-read_late-valid s entry.Events = tt
-read_late-valid s (entry.Happens event) = tt
-read_late-valid s entry.End = tt
-
-pub read_entry-valid : (p : Phase) (s : Settings) (e : Entry) → AreValid s → IsValidEntry e → IfOk (read_entry p s e) IsValidReadLine
-read_entry-valid phase.Unread s e h k = tt
-read_entry-valid phase.Settings s e h k = read_setting-valid s e h k
-read_entry-valid phase.Events s e h k = read_event-valid s e h
-read_entry-valid phase.Ended s e h k = read_late-valid s e
+take-valid : (p : Phase) (s : Settings) (e : Entry) → AreValid s → IsValidEntry e → IfOk (take p s e) IsValidReadLine
+unfolding take
+take-valid p s e h k = IfOk-unless (fault_of_entry p s e) (taken p s e) IsValidReadLine (λ none. taken-valid p s e h k)
 
 read_body-valid : (p : Phase) (s : Settings) (line : List ℕ) → AreValid s → IfOk (read_body p s line) IsValidReadLine
 read_body-valid p s line h =
-    IfOk-test (is_passed_over line) (reads item.Nothing p s) _ IsValidReadLine (λ e. record { item = tt; settings = h })
-    (λ e. IfOk-test (is_crowded s line) (Err BadCount) _ IsValidReadLine (λ c. tt)
-    (λ c. IfOk-bind (entry_of line) (read_entry p s) IsValidEntry IsValidReadLine (entry_of-valid line) (λ x k. read_entry-valid p s x h k)))
+    read_body-cases p s line IsValidReadLine (record { item = tt; settings = h }) (λ k.
+    IfOk-bind (entry_for k (words line)) (take p s) IsValidEntry IsValidReadLine (entry_for-valid k (words line)) (λ e v. take-valid p s e h v))
 
 read_at-valid : (p : Phase) (s : Settings) (line : List ℕ) → AreValid s → IfOk (read_at p s line) IsValidReadLine
 read_at-valid phase.Unread s line h = IfOk-test (bytes_eq line header) (reads item.Nothing phase.Settings no_settings) (Err NoHeader) IsValidReadLine (λ e. record { item = tt; settings = no_settings-valid }) (λ e. tt)
@@ -149,3 +137,8 @@ read_at-valid phase.Ended s line h = read_body-valid phase.Ended s line h
 pub read_line-valid : (r : Reading) (line : List ℕ) → AreValid r.settings → IfOk (read_line r line) IsValidReadLine
 unfolding read_line
 read_line-valid r line h = read_at-valid r.phase r.settings line h
+
+-- settings that none is missing of
+pub whole : (r : Result Setup LineFault) → is_err r ≡ false → IsOk r
+whole (Ok setup) e = refl
+whole (Err f) e = absurd cc

@@ -1,108 +1,57 @@
--- The lines of a list of requests for ciphers, MACs and keys.
-use Rattle.std.specs.Prelude.{ℕ, ◌≤◌, List, length, ◌==◌, ◌&&◌, nat_lt, nat_le, if◌then◌else◌, codes, Option, Some, None, Result, Ok, Err, slice_get}
+-- The table of requests for ciphers, MACs and keys, and what each asks for.
+use Rattle.std.specs.Prelude.{ℕ, ◌≤◌, List, Bool, [], ◌∷◌, length, if◌then◌else◌, codes, Option, Some, None, find, unwrap_or, Result, Ok}
 use Rattle.std.specs.Str.{bytes_eq}
 use Rattle.eap_base.specs.declared.setup.Suite.{Suite}
 use Rattle.eap_base.specs.declared.setup.Suite.TheVariants as suite
-use Rattle.scenario_text.specs.Words.{words, is_printable, is_passed_over}
-use Rattle.scenario_text.specs.Fields.{◌>>=◌, word_in, number_of, hex_of, octets_at}
+use Rattle.scenario_text.specs.Words.{words, is_passed_over}
+use Rattle.scenario_text.specs.Fields.{◌>>=◌, word_in, octets_of}
+use Rattle.scenario_text.specs.Rows.{Row, row, faults, unless, keyword_in, line_has}
 use Rattle.scenario_text.specs.declared.fault.LineFault.{LineFault}
-use Rattle.scenario_text.specs.declared.fault.LineFault.TheVariants.{NoHeader, BadWord, BadCount, BadChoice, BadNumber, BadHex, BadSize, Repeated, Missing, Order}
+use Rattle.scenario_text.specs.declared.rows.Field.TheVariants as field
 use Rattle.scenario_text.specs.declared.key_line.Request.{Request}
 use Rattle.scenario_text.specs.declared.key_line.Request.TheVariants as request
 use Rattle.scenario_text.specs.declared.key_line.KeyLine.{KeyLine}
 use Rattle.scenario_text.specs.declared.key_line.KeyLine.TheVariants as key
 
--- the order of the faults
-abbrev pub fault_rank : LineFault → ℕ
-fault_rank NoHeader = 0
-fault_rank BadWord = 1
-fault_rank BadCount = 2
-fault_rank BadChoice = 3
-fault_rank BadNumber = 4
-fault_rank BadHex = 5
-fault_rank BadSize = 6
-fault_rank Repeated = 7
-fault_rank Missing = 8
-fault_rank Order = 9
+abbrev pub row_of : Request → Row
+row_of request.Aes = row (codes "aes") 2 (field.Hex 16 16 ∷ field.Hex 16 16 ∷ [])
+row_of request.Cmac = row (codes "cmac") 2 (field.Hex 16 16 ∷ field.Hex 0 2000 ∷ [])
+row_of request.Hmac = row (codes "hmac") 2 (field.Hex 0 2000 ∷ field.Hex 0 2000 ∷ [])
+row_of request.Eax = row (codes "eax") 4 (field.Hex 16 16 ∷ field.Hex 0 2000 ∷ field.Hex 0 2000 ∷ field.Hex 0 2000 ∷ [])
+row_of request.Gpsk = row (codes "gpsk") 6 (field.Suite ∷ field.Hex 32 64 ∷ field.Hex 32 32 ∷ field.Hex 0 253 ∷ field.Hex 32 32 ∷ field.Hex 0 253 ∷ [])
+row_of request.Psk = row (codes "psk") 2 (field.Hex 16 16 ∷ field.Hex 16 16 ∷ [])
+row_of request.Name = row (codes "name") 1 (field.Hex 0 2000 ∷ [])
 
--- of two faults the one that comes first in their order
-abbrev pub earlier : LineFault → LineFault → LineFault
-earlier e f = if nat_lt (fault_rank f) (fault_rank e) then f else e
+abbrev pub requests : List Request
+requests = request.Aes ∷ request.Cmac ∷ request.Hmac ∷ request.Eax ∷ request.Gpsk ∷ request.Psk ∷ request.Name ∷ []
 
--- what two words say; the fault decides which is answered, and not the word that has it
-unfoldable pub both : {A B : Type 0} → Result A LineFault → Result B LineFault → Result (A × B) LineFault
-both (Ok a) (Ok b) = Ok (a, b)
-both (Ok a) (Err f) = Err f
-both (Err e) (Ok b) = Err e
-both (Err e) (Err f) = Err (earlier e f)
+-- the ciphersuite of EAP-GPSK whose specifier a word is (RFC 5433, section 6)
+abbrev pub ciphersuite_of : List ℕ → Suite
+ciphersuite_of word = if bytes_eq word (codes "1") then suite.Cmac else suite.Hmac
 
--- the first word of a request
-unfoldable pub request_of : List ℕ → Option Request
-request_of word =
-    if bytes_eq word (codes "aes") then Some request.Aes
-    else if bytes_eq word (codes "cmac") then Some request.Cmac
-    else if bytes_eq word (codes "hmac") then Some request.Hmac
-    else if bytes_eq word (codes "eax") then Some request.Eax
-    else if bytes_eq word (codes "gpsk") then Some request.Gpsk
-    else if bytes_eq word (codes "psk") then Some request.Psk
-    else if bytes_eq word (codes "name") then Some request.Name
-    else None
+-- the octets that a word spells in hex
+abbrev octets_in : List (List ℕ) → ℕ → List ℕ
+octets_in ws place = octets_of (word_in ws place)
 
--- the number of words of a request, its first word among them
-abbrev pub total_of : Request → ℕ
-total_of request.Aes = 3
-total_of request.Cmac = 3
-total_of request.Hmac = 3
-total_of request.Eax = 5
-total_of request.Gpsk = 7
-total_of request.Psk = 3
-total_of request.Name = 2
+-- what a request asks for with the words of its line
+unfoldable pub asked_of : Request → List (List ℕ) → KeyLine
+asked_of request.Aes ws = key.Aes (octets_in ws 1) (octets_in ws 2)
+asked_of request.Cmac ws = key.Cmac (octets_in ws 1) (octets_in ws 2)
+asked_of request.Hmac ws = key.Hmac (octets_in ws 1) (octets_in ws 2)
+asked_of request.Eax ws = key.Eax (octets_in ws 1) (octets_in ws 2) (octets_in ws 3) (octets_in ws 4)
+asked_of request.Gpsk ws =
+    key.Gpsk (ciphersuite_of (word_in ws 1)) (octets_in ws 2) (octets_in ws 3) (octets_in ws 4) (octets_in ws 5) (octets_in ws 6)
+asked_of request.Psk ws = key.Psk (octets_in ws 1) (octets_in ws 2)
+asked_of request.Name ws = key.Name (octets_in ws 1)
 
--- low to high octets, which a word has in hex
-unfoldable pub sized_of : List ℕ → ℕ → ℕ → Result (List ℕ) LineFault
-sized_of word low high = hex_of word >>= λ octets. if nat_le low (length octets) && nat_le (length octets) high then Ok octets else Err BadSize
+-- the line has this fault
+abbrev pub has_fault : List ℕ → LineFault → Bool
+has_fault line e = line_has row_of requests line e
 
--- the octets of the word at a place: low to high of them
-abbrev pub sized_at : List (List ℕ) → ℕ → ℕ → ℕ → Result (List ℕ) LineFault
-sized_at ws place low high = word_in ws place >>= λ word. sized_of word low high
-
--- the ciphersuite of EAP-GPSK whose specifier a number is (RFC 5433, section 6)
-abbrev pub suite_numbered : ℕ → Suite
-suite_numbered n = if n == 1 then suite.Cmac else suite.Hmac
-
-abbrev pub suite_at : List (List ℕ) → ℕ → Result Suite LineFault
-suite_at ws place = word_in ws place >>= λ word. number_of word 1 2 >>= λ n. Ok (suite_numbered n)
-
--- the words after the first of a request for EAX, and of one for the key schedule of EAP-GPSK
-unfoldable pub eax_words : List (List ℕ) → Result ((List ℕ × List ℕ) × (List ℕ × List ℕ)) LineFault
-eax_words ws = both (both (sized_at ws 1 16 16) (octets_at ws 2)) (both (octets_at ws 3) (octets_at ws 4))
-
-unfoldable pub gpsk_words : List (List ℕ) → Result ((Suite × List ℕ) × ((List ℕ × List ℕ) × (List ℕ × List ℕ))) LineFault
-gpsk_words ws =
-    both (both (suite_at ws 1) (sized_at ws 2 32 64))
-    (both (both (sized_at ws 3 32 32) (sized_at ws 4 0 253)) (both (sized_at ws 5 32 32) (sized_at ws 6 0 253)))
-
--- what the words after the first say
-unfoldable pub fields_of : Request → List (List ℕ) → Result KeyLine LineFault
-fields_of request.Aes ws = both (sized_at ws 1 16 16) (sized_at ws 2 16 16) >>= λ (k, block). Ok (key.Aes k block)
-fields_of request.Cmac ws = both (sized_at ws 1 16 16) (octets_at ws 2) >>= λ (k, text). Ok (key.Cmac k text)
-fields_of request.Hmac ws = both (octets_at ws 1) (octets_at ws 2) >>= λ (k, text). Ok (key.Hmac k text)
-fields_of request.Eax ws = eax_words ws >>= λ ((k, nonce), (header, text)). Ok (key.Eax k nonce header text)
-fields_of request.Gpsk ws = gpsk_words ws >>= λ ((s, psk), ((randp, idp), (rands, ids))). Ok (key.Gpsk s psk randp idp rands ids)
-fields_of request.Psk ws = both (sized_at ws 1 16 16) (sized_at ws 2 16 16) >>= λ (psk, randp). Ok (key.Psk psk randp)
-fields_of request.Name ws = octets_at ws 1 >>= λ k. Ok (key.Name k)
-
-abbrev pub request_by : Option Request → List (List ℕ) → Result KeyLine LineFault
-request_by None ws = Err BadWord
-request_by (Some r) ws = if length ws == total_of r then fields_of r ws else Err BadCount
-
-abbrev pub first_request : Option (List ℕ) → Option Request
-first_request None = None
-first_request (Some word) = request_of word
-
--- what a line that isn't passed over asks for, or the first fault of its words
+-- what a line that isn't passed over asks for, or its first fault
 unfoldable pub asked_by : List ℕ → Result KeyLine LineFault
-asked_by line = if is_printable line then request_by (first_request (slice_get (words line) 0)) (words line) else Err BadWord
+asked_by line =
+    unless (find (has_fault line) faults) (asked_of (unwrap_or (keyword_in row_of requests (words line)) request.Name) (words line))
 
 -- a line is one request; an empty line and one that begins with # are passed over
 unfoldable pub key_line : List ℕ → Result (Option KeyLine) LineFault

@@ -1,5 +1,5 @@
 -- A scenario, line by line: what has been read, and what each line adds.
-use Rattle.std.specs.Prelude.{ℕ, List, [], ◌∷◌, ◌++◌, length, nat_lt, nat_le, not, ◌&&◌, Bool, if◌then◌else◌, codes, Option, Some, None, Result, Ok, Err, IsOk, ok_or, is_some, unwrap_or}
+use Rattle.std.specs.Prelude.{ℕ, List, [], ◌∷◌, ◌++◌, length, nat_lt, nat_le, not, ◌&&◌, ◌||◌, Bool, true, false, if◌then◌else◌, codes, Option, Some, None, find, Result, Ok, Err, IsOk, ok_or, is_err, is_some, unwrap_or}
 use Rattle.std.specs.Str.{bytes_eq}
 use Rattle.eap_base.specs.Setup.{psk_kind, gpsk_kind, is_among}
 use Rattle.eap_base.specs.Users.{user_of}
@@ -10,9 +10,12 @@ use Rattle.eap_base.specs.declared.setup.Setup.{Setup}
 use Rattle.eap_base.specs.declared.event.Event.{Event}
 use Rattle.scenario_text.specs.Words.{is_passed_over}
 use Rattle.scenario_text.specs.Fields.{◌>>=◌}
-use Rattle.scenario_text.specs.Entries.{entry_of, is_user_line}
+use Rattle.scenario_text.specs.Rows.{faults, unless}
+use Rattle.scenario_text.specs.Entries.{keyword_of, has_fault, said_by, entry_for}
+use Rattle.scenario_text.specs.declared.keyword.Keyword.{Keyword}
+use Rattle.scenario_text.specs.declared.keyword.Keyword.TheVariants as key
 use Rattle.scenario_text.specs.declared.fault.LineFault.{LineFault}
-use Rattle.scenario_text.specs.declared.fault.LineFault.TheVariants.{NoHeader, BadCount, Repeated, Missing, Order}
+use Rattle.scenario_text.specs.declared.fault.LineFault.TheVariants as fault
 use Rattle.scenario_text.specs.declared.entry.Setting.{Setting}
 use Rattle.scenario_text.specs.declared.entry.Setting.TheVariants as setting
 use Rattle.scenario_text.specs.Contents.{Entry}
@@ -71,7 +74,7 @@ with_setting s (setting.User user) = record s { users = with_user s.users user }
 
 -- a needed setting
 abbrev pub needed : {A : Type 0} → Option A → Result A LineFault
-needed slot = ok_or slot Missing
+needed slot = ok_or slot fault.Missing
 
 -- both suites, which is the default
 abbrev pub both_suites : List ℕ
@@ -80,7 +83,7 @@ both_suites = 1 ∷ 2 ∷ []
 -- the peer's key for a method, which is needed where the method is among these
 abbrev pub key_for : List ℕ → ℕ → Option (List ℕ) → Result (Option (List ℕ)) LineFault
 key_for methods kind (Some key) = Ok (Some key)
-key_for methods kind None = if is_among methods kind then Err Missing else Ok None
+key_for methods kind None = if is_among methods kind then Err fault.Missing else Ok None
 
 -- the settings of the peer, of the server, of the run, where none that is needed is missing
 unfoldable pub peer_setup_of : Settings → Result PeerSetup LineFault
@@ -130,7 +133,7 @@ answered (Ok answer.TheVariants.Nothing) after event = Ok (record { item = item.
 answered (Ok answer.TheVariants.Ready) after event = setup_of after.settings >>= λ setup. Ok (record { item = item.Ready setup; after = after })
 answered (Ok answer.TheVariants.Event) after event = Ok (record { item = item.Event event; after = after })
 answered (Ok answer.TheVariants.End) after event = Ok (record { item = item.End; after = after })
-answered (Err fault) after event = Err fault
+answered (Err f) after event = Err f
 
 -- the settings are whole where the answer says so
 abbrev pub HasSetup : answer.Item → Reading → Type 0
@@ -139,55 +142,77 @@ HasSetup answer.TheVariants.Ready after = IsOk (setup_of after.settings)
 HasSetup answer.TheVariants.Event after = Unit {0}
 HasSetup answer.TheVariants.End after = Unit {0}
 
--- a line before the line `events`
-abbrev pub read_setting : Settings → Entry → Result ReadLine LineFault
-read_setting s (entry.Set v) =
-    if has_setting s v then Err Repeated else reads item.Nothing phase.Settings (with_setting s v)
-read_setting s entry.Events = setup_of s >>= λ setup. reads (item.Ready setup) phase.Events s
-read_setting s (entry.Happens event) = Err Order
-read_setting s entry.End = Err Order
+-- the faults of a line where it stands
 
--- a setting where none may stand any more
-abbrev pub late_setting : Settings → Setting → Result ReadLine LineFault
-late_setting s v = if has_setting s v then Err Repeated else Err Order
+-- BadCount: a 17th user
+abbrev pub is_crowded : Settings → Keyword → Bool
+is_crowded s key.User = nat_le 16 (length s.users)
+is_crowded s k = false
 
--- a line after the line `events`
-abbrev pub read_event : Settings → Entry → Result ReadLine LineFault
-read_event s (entry.Set v) = late_setting s v
-read_event s entry.Events = Err Order
-read_event s (entry.Happens event) = reads (item.Event event) phase.Events s
-read_event s entry.End = reads item.End phase.Ended s
+-- Repeated: a setting that came before
+abbrev pub came_before : Settings → Entry → Bool
+came_before s (entry.Set v) = has_setting s v
+came_before s e = false
 
--- a line after the line `end`
-abbrev pub read_late : Settings → Entry → Result ReadLine LineFault
-read_late s (entry.Set v) = late_setting s v
-read_late s entry.Events = Err Order
-read_late s (entry.Happens event) = Err Order
-read_late s entry.End = Err Order
+-- Missing: the line `events`, and a needed setting isn't there
+abbrev pub is_missing : Settings → Entry → Bool
+is_missing s entry.Events = is_err (setup_of s)
+is_missing s e = false
 
-abbrev pub read_entry : Phase → Settings → Entry → Result ReadLine LineFault
-read_entry phase.Unread s e = Err NoHeader
-read_entry phase.Settings s e = read_setting s e
-read_entry phase.Events s e = read_event s e
-read_entry phase.Ended s e = read_late s e
+-- Order: settings stand before the line `events`, events and the line `end` after it
+abbrev pub may_stand : Phase → Entry → Bool
+may_stand phase.Settings (entry.Set v) = true
+may_stand phase.Settings entry.Events = true
+may_stand phase.Events (entry.Happens event) = true
+may_stand phase.Events entry.End = true
+may_stand p e = false
+
+abbrev pub entry_has : Phase → Settings → Entry → LineFault → Bool
+entry_has p s e fault.Repeated = came_before s e
+entry_has p s e fault.Missing = is_missing s e
+entry_has p s e fault.Order = not (may_stand p e)
+entry_has p s e other = false
+
+unfoldable pub fault_of_entry : Phase → Settings → Entry → Option LineFault
+fault_of_entry p s e = find (entry_has p s e) faults
+
+abbrev pub place_has : Phase → Settings → Keyword → Entry → LineFault → Bool
+place_has p s k e fault.BadCount = is_crowded s k
+place_has p s k e other = entry_has p s e other
+
+-- a line after the first that isn't passed over has the fault, by its words or by its place
+unfoldable pub body_has : Phase → Settings → List ℕ → LineFault → Bool
+body_has p s line f = has_fault line f || place_has p s (keyword_of line) (said_by line) f
+
+-- what it says and adds, where it has none
+abbrev pub ready : Result Setup LineFault → Item
+ready (Ok setup) = item.Ready setup
+ready (Err f) = item.Nothing
+
+abbrev pub taken : Phase → Settings → Entry → ReadLine
+taken p s (entry.Set v) = said item.Nothing p (with_setting s v)
+taken p s entry.Events = said (ready (setup_of s)) phase.Events s
+taken p s (entry.Happens event) = said (item.Event event) p s
+taken p s entry.End = said item.End phase.Ended s
+
+unfoldable pub take : Phase → Settings → Entry → Result ReadLine LineFault
+take p s e = unless (fault_of_entry p s e) (taken p s e)
+
+abbrev pub read_words : Phase → Settings → Keyword → List (List ℕ) → Result ReadLine LineFault
+read_words p s k ws = if is_crowded s k then Err fault.BadCount else entry_for k ws >>= take p s
+
+-- a line after the first
+unfoldable pub read_body : Phase → Settings → List ℕ → Result ReadLine LineFault
+read_body p s line =
+    if is_passed_over line then reads item.Nothing p s
+    else unless (find (body_has p s line) faults) (taken p s (said_by line))
 
 -- the first line
 abbrev pub header : List ℕ
 header = codes "eap-scenario 1"
 
 abbrev pub read_header : List ℕ → Result ReadLine LineFault
-read_header line = if bytes_eq line header then reads item.Nothing phase.Settings no_settings else Err NoHeader
-
--- a line that gives a user where 16 are there
-abbrev pub is_crowded : Settings → List ℕ → Bool
-is_crowded s line = nat_le 16 (length s.users) && is_user_line line
-
--- a line after the first
-abbrev pub read_body : Phase → Settings → List ℕ → Result ReadLine LineFault
-read_body p s line =
-    if is_passed_over line then reads item.Nothing p s
-    else if is_crowded s line then Err BadCount
-    else entry_of line >>= λ e. read_entry p s e
+read_header line = if bytes_eq line header then reads item.Nothing phase.Settings no_settings else Err fault.NoHeader
 
 -- a line of a scenario that has come so far
 abbrev pub read_at : Phase → Settings → List ℕ → Result ReadLine LineFault
@@ -202,9 +227,9 @@ read_line r line = read_at r.phase r.settings line
 
 -- the end of the input: nothing was read, or the line `end` was not
 abbrev pub finish_at : Phase → Result (Unit {0}) LineFault
-finish_at phase.Unread = Err NoHeader
-finish_at phase.Settings = Err Missing
-finish_at phase.Events = Err Missing
+finish_at phase.Unread = Err fault.NoHeader
+finish_at phase.Settings = Err fault.Missing
+finish_at phase.Events = Err fault.Missing
 finish_at phase.Ended = Ok tt
 
 abbrev pub finish_of : Reading → Result (Unit {0}) LineFault

@@ -1,5 +1,5 @@
 -- What every setting that was read keeps: its number, its name or its nonce is within its limits.
-use Rattle.std.specs.Prelude.{◌≡◌, ℕ, ◌≤◌, ◌<◌, List, length, IfSome, IsTrue, All}
+use Rattle.std.specs.Prelude.{◌≡◌, ◌≤◌, ◌<◌, length, IfSome, IsTrue, All}
 use Rattle.eap_base.specs.Setup.{psk_kind, gpsk_kind, is_kind, are_kinds, are_suites, fits_kind, IsSoundPeer, IsSoundServer, HasKeys}
 use Rattle.eap_base.specs.declared.users.User.{User}
 use Rattle.eap_base.specs.declared.setup.Mode.TheVariants as mode
@@ -8,6 +8,7 @@ use Rattle.eap_base.specs.declared.setup.Accepts.TheVariants.{Any, One}
 use Rattle.eap_base.specs.declared.setup.PeerSetup.{PeerSetup}
 use Rattle.eap_base.specs.declared.setup.ServerSetup.{ServerSetup}
 use Rattle.eap_base.specs.declared.setup.Setup.{Setup}
+use Rattle.scenario_text.specs.Fits.{IsName}
 use Rattle.scenario_text.specs.Reading.{ReadLine}
 use Rattle.scenario_text.specs.declared.entry.Setting.{Setting}
 use Rattle.scenario_text.specs.declared.entry.Setting.TheVariants as setting
@@ -17,11 +18,6 @@ use Rattle.scenario_text.specs.declared.entry.Entry as told
 use Rattle.scenario_text.specs.declared.settings.Settings.{Settings}
 use Rattle.scenario_text.specs.Items.{Item}
 use Rattle.scenario_text.specs.Items as item
-
--- a name has 1 to 253 octets
-pub record IsName (name : List ℕ) : Type 0 where
-  pub some : 1 ≤ length name
-  pub few : length name ≤ 253
 
 -- the one name that is accepted, if it is one
 abbrev pub AcceptsName : Accepts → Type 0

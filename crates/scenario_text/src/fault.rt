@@ -2,7 +2,6 @@
 
 ghost use Rattle.std.specs.Prelude.{◌≡◌};
 ghost use Rattle.scenario_text.specs.Words.{fault_word};
-ghost use Rattle.scenario_text.specs.Keys.{fault_rank, earlier};
 
 use thiserror::Error;
 
@@ -57,35 +56,6 @@ impl LineFault {
             LineFault::Repeated => "Repeated",
             LineFault::Missing => "Missing",
             LineFault::Order => "Order",
-        }
-    }
-
-    /// Its place in the order of the faults, from 0.
-    fn rank(&self) -> u8
-        ensures { result ≡ fault_rank self.now }
-    {
-        match self {
-            LineFault::NoHeader => 0,
-            LineFault::BadWord => 1,
-            LineFault::BadCount => 2,
-            LineFault::BadChoice => 3,
-            LineFault::BadNumber => 4,
-            LineFault::BadHex => 5,
-            LineFault::BadSize => 6,
-            LineFault::Repeated => 7,
-            LineFault::Missing => 8,
-            LineFault::Order => 9,
-        }
-    }
-
-    /// Of two faults the one that comes first in their order.
-    pub(crate) fn earlier(self, other: LineFault) -> LineFault
-        ensures { result ≡ earlier self other }
-    {
-        if other.rank() < self.rank() {
-            other
-        } else {
-            self
         }
     }
 }

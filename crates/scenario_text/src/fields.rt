@@ -1,30 +1,44 @@
-//! What the words of a line stand for.
+//! What a word spells.
 
-ghost use Rattle.std.specs.Prelude.{◌≡◌, ◌≤◌, ◌<◌, ◌+◌, ◌*◌, ◌^◌, [], length, min, IsTrue, IfOk};
+ghost use Rattle.std.specs.Prelude.{◌≡◌, ◌≤◌, ◌<◌, ◌+◌, ◌*◌, ◌/◌, ◌^◌, length, min, IsTrue, IfOk};
 ghost use Rattle.std.specs.List.{list_all};
-ghost use Rattle.scenario_text.specs.Fields.{number_of, number_after, is_digit, is_decimal, hex_of, hex_value, is_hex_digit, is_hex, octets_of, name_of, number_at, octets_at};
-ghost use Rattle.scenario_text.specs.Words.{words};
+ghost use Rattle.scenario_text.specs.Fields.{number, spells_number, number_of, number_after, is_digit, is_decimal, hex_of, hex_value, is_hex_digit, is_hex, octets_of, spells_octets, spells_kind, kind_of, spells_suite, suite_of};
 
 use crate::fault::LineFault;
-use crate::words::word_at;
-use eap_base::{Identity, Octets};
+use eap_base::Octets;
 
 /// The number that the word spells in decimal digits without a leading zero. `BadNumber` comes where
 /// it spells none, or one outside `low` to `high`.
-#[tactic(auto, unfolding(crate::specs::Fields::number_of))]
+#[tactic(auto, unfolding(crate::specs::Fields::number_of, crate::specs::Fields::spells_number))]
 pub fn read_number(word: &[u8], low: u32, high: u32) -> Result<u32, LineFault>
     ensures value { result ≡ number_of word.now low high }
     ensures in_range { IfOk result (λ number. (low ≤ number) × (number ≤ high)) }
 {
-    if !is_decimal_word(word) {
-        return Err(LineFault::BadNumber);
-    }
-    let number = number_up_to(word, high);
-    if u64::from(low) <= number && number <= u64::from(high) {
-        Ok(number as u32)
+    if spells_number(word, low, high) {
+        Ok(number(word))
     } else {
         Err(LineFault::BadNumber)
     }
+}
+
+/// True where the word spells a number from `low` to `high` in decimal digits without a leading zero.
+#[tactic(auto, unfolding(crate::specs::Fields::spells_number))]
+pub(crate) fn spells_number(word: &[u8], low: u32, high: u32) -> bool
+    ensures { result ≡ spells_number word.now low high }
+{
+    if !is_decimal_word(word) {
+        return false;
+    }
+    let number = number_up_to(word, high);
+    u64::from(low) <= number && number <= u64::from(high)
+}
+
+/// The number that the digits spell.
+pub(crate) fn number(digits: &[u8]) -> u32
+    requires { number digits.now < 2 ^ 32 }
+    ensures { result ≡ number digits.now }
+{
+    number_up_to(digits, u32::MAX) as u32
 }
 
 /// True where the word is decimal digits without a leading zero; 0 itself is one zero.
@@ -64,19 +78,23 @@ fn number_up_to(digits: &[u8], high: u32) -> u64
 pub fn read_hex(word: &[u8]) -> Result<Octets<2000>, LineFault>
     ensures { result ≡ hex_of word.now }
 {
-    if word == b"-".as_slice() {
-        return Ok(Octets::new());
-    }
-    if !is_hex_word(word) {
+    if !spells_octets(word) {
         return Err(LineFault::BadHex);
     }
-    if word.len() > 4000 {
+    if octet_count(word) > 2000 {
         return Err(LineFault::BadSize);
     }
-    Ok(hex_octets(word))
+    Ok(octets(word))
 }
 
-/// True where the word is an even number of hex digits, at least two.
+/// True where the word is `-`, or an even number of hex digits, at least two.
+#[tactic(auto, unfolding(crate::specs::Fields::spells_octets))]
+pub(crate) fn spells_octets(word: &[u8]) -> bool
+    ensures { result ≡ spells_octets word.now }
+{
+    word == b"-".as_slice() || is_hex_word(word)
+}
+
 fn is_hex_word(word: &[u8]) -> bool
     ensures { result ≡ is_hex word.now }
 {
@@ -90,10 +108,44 @@ fn all_hex_digits(word: &[u8]) -> bool
         .all(|b| matches!(*b, b'0'..=b'9' | b'a'..=b'f' | b'A'..=b'F'))
 }
 
+/// How many octets the word spells.
+#[tactic(auto, using(crate::proofs::FieldLemmas::octets_of_count))]
+pub(crate) fn octet_count(word: &[u8]) -> usize
+    ensures { result ≡ length (octets_of word.now) }
+{
+    word.len() / 2
+}
+
+/// The octets that the word spells.
+#[tactic(auto, unfolding(crate::specs::Fields::spells_octets))]
+pub(crate) fn octets<const N: usize>(word: &[u8]) -> Octets<N>
+    requires hex { IsTrue (spells_octets word.now) }
+    requires fits { length (octets_of word.now) ≤ N }
+    ensures { result ≡ octets_of word.now }
+{
+    if word == b"-".as_slice() {
+        return Octets::new();
+    }
+    hex_octets(word)
+}
+
+/// The `N` octets that the word spells.
+pub(crate) fn array<const N: usize>(word: &[u8]) -> [u8; N]
+    requires small { N ≤ 2000 }
+    requires hex { IsTrue (spells_octets word.now) }
+    requires size { length (octets_of word.now) ≡ N }
+    ensures { result ≡ octets_of word.now }
+{
+    let octets: Octets<N> = octets(word);
+    let mut array = [0u8; N];
+    array.copy_from_slice(octets.as_slice());
+    array
+}
+
 /// The octets that pairs of hex digits spell.
-fn hex_octets(digits: &[u8]) -> Octets<2000>
+fn hex_octets<const N: usize>(digits: &[u8]) -> Octets<N>
     requires hex { IsTrue (list_all is_hex_digit digits.now) }
-    requires fits { length digits.now ≤ 4000 }
+    requires fits { length (octets_of digits.now) ≤ N }
     ensures { result ≡ octets_of digits.now }
 {
     let mut octets = Octets::new();
@@ -118,29 +170,30 @@ fn hex_digit(digit: u8) -> u8
     }
 }
 
-/// A name of 1 to 253 octets.
-pub(crate) fn read_name(word: &[u8]) -> Result<Identity, LineFault>
-    ensures { result ≡ name_of word.now }
+/// True where the word is the Type of a method: 47 (EAP-PSK) or 51 (EAP-GPSK).
+pub(crate) fn spells_kind(word: &[u8]) -> bool
+    ensures { result ≡ spells_kind word.now }
 {
-    if word.is_empty() {
-        return Err(LineFault::BadSize);
-    }
-    Identity::from_slice(word).ok_or(LineFault::BadSize)
+    word == b"47".as_slice() || word == b"51".as_slice()
 }
 
-/// The number that the word at a place spells.
-pub(crate) fn number_at(line: &[u8], place: usize, low: u32, high: u32) -> Result<u32, LineFault>
-    ensures value { result ≡ number_at (words line.now) place low high }
-    ensures in_range { IfOk result (λ number. (low ≤ number) × (number ≤ high)) }
+/// The Type that the word spells.
+pub(crate) fn kind_of(word: &[u8]) -> u8
+    ensures { result ≡ kind_of word.now }
 {
-    let word = word_at(line, place).ok_or(LineFault::BadCount)?;
-    read_number(word, low, high)
+    if word == b"47".as_slice() { 47 } else { 51 }
 }
 
-/// The octets of the word at a place.
-pub(crate) fn octets_at(line: &[u8], place: usize) -> Result<Octets<2000>, LineFault>
-    ensures { result ≡ octets_at (words line.now) place }
+/// True where the word is the specifier of a ciphersuite of EAP-GPSK, 1 or 2.
+pub(crate) fn spells_suite(word: &[u8]) -> bool
+    ensures { result ≡ spells_suite word.now }
 {
-    let word = word_at(line, place).ok_or(LineFault::BadCount)?;
-    read_hex(word)
+    word == b"1".as_slice() || word == b"2".as_slice()
+}
+
+/// The specifier that the word spells.
+pub(crate) fn suite_of(word: &[u8]) -> u8
+    ensures { result ≡ suite_of word.now }
+{
+    if word == b"1".as_slice() { 1 } else { 2 }
 }

@@ -2,12 +2,13 @@
 #![tactic(auto)]
 
 mod entry;
-mod event_words;
 mod fault;
 mod fields;
 mod key_line;
-mod method_words;
+mod keyword;
+mod laws;
 mod packet_line;
+mod rows;
 mod scenario;
 mod settings;
 mod words;
@@ -15,6 +16,7 @@ mod words;
 pub use fault::LineFault;
 pub use fields::{read_hex, read_number};
 pub use key_line::{KeyLine, read_key_line};
+pub use laws::{lines_are_judged, requests_are_judged};
 pub use packet_line::read_packet_line;
 pub use scenario::{Item, ScenarioReader};
 pub use words::{word_at, word_count};

@@ -1,16 +1,17 @@
 //! Reading a scenario, line by line: its header, its settings, the line `events`, its events, the
 //! line `end`. After the header an empty line and one that begins with `#` are passed over.
 
-ghost use Rattle.std.specs.Prelude.{◌≡◌, IfOk, OnErr};
-ghost use Rattle.scenario_text.specs.Reading.{no_settings, answered, setup_of, finish_of, HasSetup};
+ghost use Rattle.std.specs.Prelude.{◌≡◌, false, IfOk, OnErr, Ok};
+ghost use Rattle.scenario_text.specs.Reading.{no_settings, answered, read_words, taken, fault_of_entry, is_missing, may_stand, setup_of, finish_of, HasSetup};
 ghost use Rattle.scenario_text.specs.Reading as reading;
-ghost use Rattle.scenario_text.specs.Contents as contents;
+ghost use Rattle.scenario_text.specs.Words.{words};
 ghost use Rattle.scenario_text.specs.Contents.{entry_with};
 ghost use Rattle.eap_base.specs.declared.event.Event.{Event};
-ghost use Rattle.scenario_text.specs.Valid.{IsValidSetting, IsValidTold, IsValidSetup};
+ghost use Rattle.scenario_text.specs.Valid.{IsValidTold, IsValidSetup};
 
-use crate::entry::{Entry, Setting, read_entry};
+use crate::entry::{Entry, read_entry, read_keyword};
 use crate::fault::LineFault;
+use crate::keyword::Keyword;
 use crate::settings::Settings;
 use crate::words::is_comment;
 use eap_base::{Event, Setup};
@@ -128,91 +129,94 @@ impl ScenarioReader {
         if is_comment(line) {
             return Ok(Item::Nothing);
         }
-        if self.settings.is_crowded(line) {
+        match read_keyword(line) {
+            Err(fault) => Err(fault),
+            Ok(keyword) => self.read_words(keyword, line, event),
+        }
+    }
+
+    /// Reads what follows a keyword.
+    fn read_words(
+        &mut self,
+        keyword: Keyword,
+        line: &[u8],
+        event: &mut Event,
+    ) -> Result<Item, LineFault>
+        ensures read { read_words self.old.phase self.old.settings keyword (words line.now) ≡ answered result self.new event.new }
+        ensures ready { IfOk result (λ item. HasSetup item self.new) }
+        ensures unchanged { OnErr result (self.new ≡ self.old) }
+    {
+        if self.settings.is_crowded(keyword) {
             return Err(LineFault::BadCount);
         }
-        let entry = read_entry(line, event)?;
-        self.take(entry)
+        match read_entry(keyword, line, event) {
+            Err(fault) => Err(fault),
+            Ok(entry) => self.take(entry),
+        }
     }
 
-    /// Takes what a line says.
+    /// Takes what a line says, unless it may not stand where it does.
+    #[tactic(auto, unfolding(crate::specs::Reading::take))]
     fn take(&mut self, entry: Entry) -> Result<Item, LineFault>
         requires { IsValidTold entry }
-        ensures read { (event : Event) → reading.read_entry self.old.phase self.old.settings (entry_with entry event) ≡ answered result self.new event }
+        ensures read { (event : Event) → reading.take self.old.phase self.old.settings (entry_with entry event) ≡ answered result self.new event }
         ensures ready { IfOk result (λ item. HasSetup item self.new) }
         ensures unchanged { OnErr result (self.new ≡ self.old) }
+    {
+        match self.fault_of(&entry) {
+            Some(fault) => Err(fault),
+            None => Ok(self.add(entry)),
+        }
+    }
+
+    /// The fault of what a line says where it stands: a setting that came before is `Repeated`, also where
+    /// no setting may stand.
+    #[tactic(auto, unfolding(crate::specs::Reading::fault_of_entry))]
+    fn fault_of(&self, entry: &Entry) -> Option<LineFault>
+        ensures { (event : Event) → result ≡ fault_of_entry self.now.phase self.now.settings (entry_with entry.now event) }
+    {
+        if self.settings.came_before(entry) {
+            Some(LineFault::Repeated)
+        } else if self.settings.is_missing(entry) {
+            Some(LineFault::Missing)
+        } else if self.may_stand(entry) {
+            None
+        } else {
+            Some(LineFault::Order)
+        }
+    }
+
+    /// Whether settings, or events, may stand here.
+    fn may_stand(&self, entry: &Entry) -> bool
+        ensures { (event : Event) → result ≡ may_stand self.now.phase (entry_with entry.now event) }
     {
         match entry {
-            Entry::Set(setting) => self.take_setting(setting),
-            Entry::Events => self.take_events(),
-            Entry::Happens => self.take_event(),
-            Entry::End => self.take_end(),
+            Entry::Set(_) | Entry::Events => self.phase == Phase::Settings,
+            Entry::Happens | Entry::End => self.phase == Phase::Events,
         }
     }
 
-    /// Takes a setting. One that came before is `Repeated`, also where no setting may come any more.
-    fn take_setting(&mut self, setting: Setting) -> Result<Item, LineFault>
-        requires { IsValidSetting setting }
-        ensures read { (event : Event) → reading.read_entry self.old.phase self.old.settings (contents.Set setting) ≡ answered result self.new event }
-        ensures ready { IfOk result (λ item. HasSetup item self.new) }
-        ensures unchanged { OnErr result (self.new ≡ self.old) }
+    /// Adds what a line says.
+    fn add(&mut self, entry: Entry) -> Item
+        requires valid { IsValidTold entry }
+        requires whole { (event : Event) → is_missing self.old.settings (entry_with entry event) ≡ false }
+        ensures read { (event : Event) → Ok (taken self.old.phase self.old.settings (entry_with entry event)) ≡ answered (Ok result) self.new event }
+        ensures ready { HasSetup result self.new }
     {
-        if self.phase == Phase::Unread {
-            return Err(LineFault::NoHeader);
-        }
-        if self.settings.has(&setting) {
-            return Err(LineFault::Repeated);
-        }
-        if self.phase != Phase::Settings {
-            return Err(LineFault::Order);
-        }
-        self.settings.set(setting);
-        Ok(Item::Nothing)
-    }
-
-    /// Takes the line `events`, which makes the settings whole.
-    fn take_events(&mut self) -> Result<Item, LineFault>
-        ensures read { (event : Event) → reading.read_entry self.old.phase self.old.settings contents.Events ≡ answered result self.new event }
-        ensures ready { IfOk result (λ item. HasSetup item self.new) }
-        ensures unchanged { OnErr result (self.new ≡ self.old) }
-    {
-        match self.phase {
-            Phase::Unread => Err(LineFault::NoHeader),
-            Phase::Settings => {
-                self.settings.check()?;
+        match entry {
+            Entry::Set(setting) => {
+                self.settings.set(setting);
+                Item::Nothing
+            }
+            Entry::Events => {
                 self.phase = Phase::Events;
-                Ok(Item::Ready)
+                Item::Ready
             }
-            Phase::Events | Phase::Ended => Err(LineFault::Order),
-        }
-    }
-
-    /// Takes an event, which comes after the line `events` and before the line `end`.
-    fn take_event(&mut self) -> Result<Item, LineFault>
-        ensures read { (event : Event) → reading.read_entry self.old.phase self.old.settings (contents.Happens event) ≡ answered result self.new event }
-        ensures ready { IfOk result (λ item. HasSetup item self.new) }
-        ensures unchanged { OnErr result (self.new ≡ self.old) }
-    {
-        match self.phase {
-            Phase::Unread => Err(LineFault::NoHeader),
-            Phase::Events => Ok(Item::Event),
-            Phase::Settings | Phase::Ended => Err(LineFault::Order),
-        }
-    }
-
-    /// Takes the line `end`.
-    fn take_end(&mut self) -> Result<Item, LineFault>
-        ensures read { (event : Event) → reading.read_entry self.old.phase self.old.settings contents.End ≡ answered result self.new event }
-        ensures ready { IfOk result (λ item. HasSetup item self.new) }
-        ensures unchanged { OnErr result (self.new ≡ self.old) }
-    {
-        match self.phase {
-            Phase::Unread => Err(LineFault::NoHeader),
-            Phase::Events => {
+            Entry::Happens => Item::Event,
+            Entry::End => {
                 self.phase = Phase::Ended;
-                Ok(Item::End)
+                Item::End
             }
-            Phase::Settings | Phase::Ended => Err(LineFault::Order),
         }
     }
 }

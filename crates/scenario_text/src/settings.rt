@@ -2,10 +2,13 @@
 
 ghost use Rattle.std.specs.Prelude.{◌≡◌, ◌∷◌, [], unwrap_or, MatchResult, IsOk, Err};
 ghost use Rattle.eap_base.specs.Setup.{is_among};
-ghost use Rattle.scenario_text.specs.Reading.{no_settings, has_setting, with_user, with_setting, both_suites, key_for, peer_setup_of, server_setup_of, setup_of, is_crowded};
+ghost use Rattle.eap_base.specs.declared.event.Event.{Event};
+ghost use Rattle.scenario_text.specs.Contents.{entry_with};
+ghost use Rattle.scenario_text.specs.Reading.{no_settings, has_setting, with_user, with_setting, both_suites, key_for, peer_setup_of, server_setup_of, setup_of, is_crowded, came_before, is_missing};
 
-use crate::entry::{Setting, is_user_line};
+use crate::entry::{Entry, Setting};
 use crate::fault::LineFault;
+use crate::keyword::Keyword;
 use eap_base::{
     Accepts, Identity, Kinds, Mode, Nonce, PeerSetup, Secret, ServerSetup, Setup, Suites, User,
     Users,
@@ -56,14 +59,37 @@ impl Settings {
     }
 
     /// True where the line gives a user and 16 are there.
-    pub fn is_crowded(&self, line: &[u8]) -> bool
-        ensures { result ≡ is_crowded self.now line.now }
+    pub fn is_crowded(&self, keyword: Keyword) -> bool
+        ensures { result ≡ is_crowded self.now keyword }
     {
-        self.users.as_slice().len() >= 16 && is_user_line(line)
+        match keyword {
+            Keyword::User => self.users.as_slice().len() >= 16,
+            _ => false,
+        }
+    }
+
+    /// True for a setting that has come before.
+    pub fn came_before(&self, entry: &Entry) -> bool
+        ensures { (event : Event) → result ≡ came_before self.now (entry_with entry.now event) }
+    {
+        match entry {
+            Entry::Set(setting) => self.has(setting),
+            _ => false,
+        }
+    }
+
+    /// True for the line `events` where a needed setting has not come.
+    pub fn is_missing(&self, entry: &Entry) -> bool
+        ensures { (event : Event) → result ≡ is_missing self.now (entry_with entry.now event) }
+    {
+        match entry {
+            Entry::Events => self.check().is_err(),
+            _ => false,
+        }
     }
 
     /// True where the setting has come before.
-    pub fn has(&self, setting: &Setting) -> bool
+    fn has(&self, setting: &Setting) -> bool
         ensures { result ≡ has_setting self.now setting.now }
     {
         match setting {
@@ -110,7 +136,7 @@ impl Settings {
 
     /// Whether the settings of the run are whole, or `Missing` where a needed one has not come.
     #[tactic(auto, unfolding(crate::specs::Reading::setup_of))]
-    pub fn check(&self) -> Result<(), LineFault>
+    fn check(&self) -> Result<(), LineFault>
         ensures { MatchResult result (λ _. IsOk (setup_of self.now)) (λ fault. setup_of self.now ≡ Err fault) }
     {
         self.mode.ok_or(LineFault::Missing)?;

@@ -2,6 +2,7 @@
 
 ghost use Rattle.std.specs.Prelude.{◌≡◌, ◌≤◌, length, slice_get, option_copied};
 ghost use Rattle.scenario_text.specs.Words.{words, is_printable, is_passed_over};
+ghost use Rattle.scenario_text.specs.Fields.{word_in};
 
 /// The number of words of a line. One space separates words, so two spaces make an empty word, and
 /// the empty line has one empty word.
@@ -16,6 +17,16 @@ pub fn word_at<'a>(line: &'a [u8], place: usize) -> Option<&'a [u8]>
     ensures { option_copied result ≡ slice_get (words line.now) place }
 {
     line.split(|b| *b == b' ').nth(place)
+}
+
+/// The same, or no octets where the line has no such word.
+pub(crate) fn word_in<'a>(line: &'a [u8], place: usize) -> &'a [u8]
+    ensures { result.now ≡ word_in (words line.now) place }
+{
+    match word_at(line, place) {
+        Some(word) => word,
+        None => b"",
+    }
 }
 
 /// True where every octet is a printable character, 20 to 7e.

@@ -1,0 +1,40 @@
+-- A line asks for nothing, or for what its request makes of its words.
+use Rattle.std.proofs.Common.{◌≡◌, false, not, Some, None, Ok, refl, ap, ◌∙◌, sym}
+use Rattle.std.proofs.lemmas.Bool.{or_right}
+use Rattle.scenario_text.specs.Words.{words, is_printable}
+use Rattle.scenario_text.specs.Rows.{keyword_in, fault_of_words}
+use Rattle.scenario_text.specs.Keys.{row_of, requests}
+use Rattle.scenario_text.proofs.Fitting.{fits}
+use Rattle.scenario_text.proofs.LineFaults.{Begins}
+use Rattle.scenario_text.proofs.KeySizes.{asked_by-known, asked_by-unknown}
+use Rattle.scenario_text.proofs.key_line.read_request.Goals as goal
+
+pub returns-then-not-is_printable_line : goal.returns-then-not-is_printable_line
+returns-then-not-is_printable_line c =
+    let p : is_printable c.args.line.now ≡ false = cc in
+    sym (asked_by-unknown c.args.line.now (rw p refl))
+
+pub asked_of-requires : goal.asked_of-requires
+asked_of-requires c =
+    let r = c.in-Some.request in
+    let none : fault_of_words (row_of r).least (row_of r).fields (words c.args.line.now) ≡ None = cc in
+    fits (row_of r) (words c.args.line.now) none
+
+pub returns-in-None : goal.returns-in-None
+returns-in-None c =
+    let q : keyword_in row_of requests (words c.args.line.now) ≡ None = cc in
+    sym (asked_by-unknown c.args.line.now (or_right (not (is_printable c.args.line.now)) _ (rw q refl)))
+
+pub returns-in-Some-fault_of_words : goal.returns-in-Some-fault_of_words
+returns-in-Some-fault_of_words c =
+    let r = c.in-Some.request in
+    let begins : Begins row_of requests c.args.line.now r = record { printable = cc; found = cc } in
+    let first : fault_of_words (row_of r).least (row_of r).fields (words c.args.line.now) ≡ Some c.in-Some-fault_of_words.fault = cc in
+    sym (asked_by-known c.args.line.now r begins ∙ rw first refl)
+
+pub returns-in-None-fault_of_words : goal.returns-in-None-fault_of_words
+returns-in-None-fault_of_words c =
+    let r = c.in-Some.request in
+    let begins : Begins row_of requests c.args.line.now r = record { printable = cc; found = cc } in
+    let none : fault_of_words (row_of r).least (row_of r).fields (words c.args.line.now) ≡ None = cc in
+    ap Ok c.asked_of.ensures ∙ sym (asked_by-known c.args.line.now r begins ∙ rw none refl)
