@@ -54,7 +54,7 @@ impl<R: Read + Drop> Source for StdSource<R> {
         ensures never_falls { self.old.faults ≤ self.new.faults }
         ensures never_passes { self.new.faults ≤ last_fault }
 
-        // Every error of the reader is counted, and nothing else.
+        // At an error the count rises, and only then. That the reader was asked is shown by a test.
         ensures read { OnOk result (self.new.faults ≡ self.old.faults) }
         ensures failed { OnErr result (self.new.faults ≡ next_fault self.old.faults) }
 
@@ -117,7 +117,7 @@ impl<W: Write + Drop> Sink for StdSink<W> {
         ensures never_falls { self.old.faults ≤ self.new.faults }
         ensures never_passes { self.new.faults ≤ last_fault }
 
-        // Every error of the writer is counted, and every write that takes nothing of something.
+        // At an error the count rises, and only then. That the writer was asked is shown by a test.
         ensures wrote { OnOk result (self.new.faults ≡ self.old.faults) }
         ensures failed { OnErr result (self.new.faults ≡ next_fault self.old.faults) }
 
