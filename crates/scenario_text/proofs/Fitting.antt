@@ -1,10 +1,10 @@
 -- The words of a line without a fault fit their row.
-use Rattle.std.proofs.Common.{◌≡◌, ℕ, ◌+◌, ◌-◌, ◌<◌, ◌≤◌, Bool, true, false, not, ◌&&◌, List, [], ◌∷◌, length, None, leb, ltb, refl, sym, ◌∙◌, arith, drop, get_or}
-use Rattle.std.proofs.lemmas.Bool.{leb-true, leb-false, ltb-false, lt-ltb, and_parts, or_parts, or_left, not-false}
-use Rattle.std.proofs.lemmas.List.{at_drop_more, at_drop_all}
+use Rattle.std.proofs.Common.{◌≡◌, ℕ, ◌+◌, ◌-◌, ◌<◌, ◌≤◌, Bool, true, false, not, ◌&&◌, List, [], ◌∷◌, length, None, leb, ltb, refl, sym, subst, ◌∙◌, arith, drop, get_or}
+use Rattle.std.proofs.lemmas.Bool.{leb-true, leb-false, ltb-true, ltb-false, lt-ltb, and_parts, or_parts, or_left, or_from, not-false}
+use Rattle.std.proofs.lemmas.List.{at_drop_more, at_drop_all, drop_more}
 use Rattle.scenario_text.specs.Fields.{word_in, number, is_decimal, spells_number, octets_of}
-use Rattle.scenario_text.specs.Rows.{Row, is_within, field_has, word_has, any_has, words_have, fault_of_words}
-use Rattle.scenario_text.specs.Fits.{IsNumber, FieldFits, Where, FieldsFit, Fits}
+use Rattle.scenario_text.specs.Rows.{Row, is_within, word_has, any_has, words_have, fault_of_words}
+use Rattle.scenario_text.specs.Fits.{Faultless, AllFaultless, IsNumber, FieldFits, Where, FieldsFit, Fits}
 use Rattle.scenario_text.specs.declared.fault.LineFault.{LineFault}
 use Rattle.scenario_text.specs.declared.fault.LineFault.TheVariants as fault
 use Rattle.scenario_text.specs.declared.rows.Field.{Field}
@@ -27,14 +27,6 @@ number-fits low high word e =
     let parts = and_parts (is_decimal word && leb low n) (leb n high) (not-false (is_decimal word && leb low n && leb n high) e) in
     record { least = leb-true low n ((and_parts (is_decimal word) (leb low n) (parts.0)).1); most = leb-true n high (parts.1) }
 
--- none of the faults of a word
-record Faultless (f : Field) (place : ℕ) (ws : List (List ℕ)) : Type 0 where
-  pub choice : field_has fault.BadChoice f place ws ≡ false
-  pub number : field_has fault.BadNumber f place ws ≡ false
-  pub hex : field_has fault.BadHex f place ws ≡ false
-  pub size : field_has fault.BadSize f place ws ≡ false
-  pub repeated : field_has fault.Repeated f place ws ≡ false
-
 field-fits : (f : Field) (place : ℕ) (ws : List (List ℕ)) → Faultless f place ws → FieldFits f place ws
 field-fits (field.Choice c) place ws h = not-false _ (h.choice)
 field-fits (field.Number low high) place ws h = number-fits low high (word_in ws place) (h.number)
@@ -48,14 +40,6 @@ field-fits (field.Hex low high) place ws h =
     let b = within (length (octets_of (word_in ws place))) low high (h.size) in
     record { hex = not-false _ (h.hex); least = b.least; most = b.most }
 field-fits (field.Key p) place ws h = record { hex = not-false _ (h.hex); fits = not-false _ (h.size) }
-
--- the same of the words after a place
-record AllFaultless (fields : List Field) (place : ℕ) (ws : List (List ℕ)) : Type 0 where
-  pub choice : any_has fault.BadChoice place fields ws ≡ false
-  pub number : any_has fault.BadNumber place fields ws ≡ false
-  pub hex : any_has fault.BadHex place fields ws ≡ false
-  pub size : any_has fault.BadSize place fields ws ≡ false
-  pub repeated : any_has fault.Repeated place fields ws ≡ false
 
 there : (place count : ℕ) (b : Bool) → place < count → (ltb place count && b) ≡ false → b ≡ false
 there place count b h e = let is : ltb place count ≡ true = lt-ltb place count h in rw is at e
@@ -118,3 +102,42 @@ any_has-after e fields place d ws result h is f =
 
 pub any_has-none : (e : LineFault) (fields : List Field) (place : ℕ) (ws : List (List ℕ)) → length fields ≤ place → any_has e (place + 1) (drop place fields) ws ≡ false
 any_has-none e fields place ws h = at_drop_all (λ rest. any_has e (place + 1) rest ws) fields place h
+
+-- no fault in one more word, and none after the last
+one-more : (f : Field) (rest : List Field) (place : ℕ) (ws : List (List ℕ)) → AllFaultless (f ∷ []) place ws → AllFaultless rest (place + 1) ws → AllFaultless (f ∷ rest) place ws
+one-more f rest place ws h k = record {
+  choice = or_from _ _ ((or_parts _ _ (h.choice)).0) (k.choice);
+  number = or_from _ _ ((or_parts _ _ (h.number)).0) (k.number);
+  hex = or_from _ _ ((or_parts _ _ (h.hex)).0) (k.hex);
+  size = or_from _ _ ((or_parts _ _ (h.size)).0) (k.size);
+  repeated = or_from _ _ ((or_parts _ _ (h.repeated)).0) (k.repeated);
+}
+
+pub all_faultless-more : (fields : List Field) (place : ℕ) (d : Field) (ws : List (List ℕ)) → place < length fields → AllFaultless (get_or fields place d ∷ []) (place + 1) ws → AllFaultless (drop (place + 1) fields) (place + 1 + 1) ws → AllFaultless (drop place fields) (place + 1) ws
+all_faultless-more fields place d ws h here rest =
+    let IsFaultless : List Field → Type 0 = λ l. AllFaultless l (place + 1) ws in
+    subst IsFaultless (sym (drop_more fields place d h)) (one-more (get_or fields place d) (drop (place + 1) fields) (place + 1) ws here rest)
+
+pub all_faultless-none : (fields : List Field) (place : ℕ) (ws : List (List ℕ)) → length fields ≤ place → AllFaultless (drop place fields) (place + 1) ws
+all_faultless-none fields place ws h = record {
+  choice = any_has-none fault.BadChoice fields place ws h;
+  number = any_has-none fault.BadNumber fields place ws h;
+  hex = any_has-none fault.BadHex fields place ws h;
+  size = any_has-none fault.BadSize fields place ws h;
+  repeated = any_has-none fault.Repeated fields place ws h;
+}
+
+-- a word that isn't there has none, and one that is there has those that it has
+one-by : (there : Bool) (f : Field) (place : ℕ) (ws : List (List ℕ)) → ltb place (length ws) ≡ there → (there ≡ true → Faultless f place ws) → AllFaultless (f ∷ []) place ws
+one-by false f place ws e h = record { choice = rw e refl; number = rw e refl; hex = rw e refl; size = rw e refl; repeated = rw e refl }
+one-by true f place ws e h =
+    let k = h refl in
+    let choice = k.choice in
+    let number = k.number in
+    let hex = k.hex in
+    let size = k.size in
+    let repeated = k.repeated in
+    record { choice = rw (e, choice) refl; number = rw (e, number) refl; hex = rw (e, hex) refl; size = rw (e, size) refl; repeated = rw (e, repeated) refl }
+
+pub one-faultless : (f : Field) (place : ℕ) (ws : List (List ℕ)) → (place < length ws → Faultless f place ws) → AllFaultless (f ∷ []) place ws
+one-faultless f place ws h = one-by (ltb place (length ws)) f place ws refl (λ e. h (ltb-true place (length ws) e))

@@ -1,6 +1,7 @@
 //! The rows of a text's table: a keyword, and what the words after it stand for.
 
-ghost use Rattle.std.specs.Prelude.{◌≡◌, length};
+ghost use Rattle.std.specs.Prelude.{◌≡◌, [], ◌∷◌, length, true};
+ghost use Rattle.scenario_text.specs.Fits.{Faultless, AllFaultless};
 ghost use Rattle.scenario_text.specs.Words.{words};
 ghost use Rattle.eap_base.specs.Setup.{fits_kind};
 ghost use Rattle.scenario_text.specs.Fields.{octets_of};
@@ -85,6 +86,9 @@ pub(crate) fn fault_of_words(least: usize, fields: &[Field], line: &[u8]) -> Opt
     if count <= least || fields.len() < count - 1 {
         return Some(LineFault::BadCount);
     }
+    if all_fit(fields, line, count) {
+        return None;
+    }
     if any_has(LineFault::BadChoice, fields, line, count) {
         Some(LineFault::BadChoice)
     } else if any_has(LineFault::BadNumber, fields, line, count) {
@@ -97,6 +101,49 @@ pub(crate) fn fault_of_words(least: usize, fields: &[Field], line: &[u8]) -> Opt
         Some(LineFault::Repeated)
     } else {
         None
+    }
+}
+
+/// True where no word that is there has a fault, as in most lines.
+fn all_fit(fields: &[Field], line: &[u8], count: usize) -> bool
+    requires { count ≡ length (words line.now) }
+    ensures { result ≡ true → AllFaultless fields.now 1 (words line.now) }
+{
+    for place in 0..fields.len() {
+        if !word_fits(fields[place], place + 1, line, count) {
+            return false;
+        }
+    }
+    true
+}
+
+/// True where the word at a place isn't there, or has no fault.
+fn word_fits(field: Field, place: usize, line: &[u8], count: usize) -> bool
+    requires { count ≡ length (words line.now) }
+    ensures { result ≡ true → AllFaultless (field ∷ []) place (words line.now) }
+{
+    count <= place || fits(field, place, line, count)
+}
+
+/// True where the word at a place has no fault.
+fn fits(field: Field, place: usize, line: &[u8], count: usize) -> bool
+    requires { count ≡ length (words line.now) }
+    ensures { result ≡ true → Faultless field place (words line.now) }
+{
+    let word = word_in(line, place);
+    match field {
+        Field::Choice(choices) => is_choice(choices, word),
+        Field::Number { low, high } => spells_number(word, low, high),
+        Field::Kind => spells_kind(word),
+        Field::KindOrNone => is_kind_or_none(line, place, count),
+        Field::OtherKind { place: other } => spells_kind(word) && word != word_in(line, other),
+        Field::Suite => spells_suite(word),
+        Field::OtherSuite { place: other } => spells_suite(word) && word != word_in(line, other),
+        Field::Name => is_within(word.len(), 1, 253),
+        Field::Hex { low, high } => spells_octets(word) && is_within(octet_count(word), low, high),
+        Field::Key { place: method } => {
+            spells_octets(word) && fits_kind(kind_of(word_in(line, method)), word)
+        }
     }
 }
 
