@@ -1,11 +1,9 @@
 -- The words of a line without a fault fit their row.
-use Rattle.std.proofs.Common.{◌≡◌, ℕ, ◌+◌, ◌-◌, ◌<◌, ◌≤◌, Bool, true, false, not, ◌&&◌, List, [], ◌∷◌, length, None, leb, ltb, refl, sym, subst, ◌∙◌, arith, drop, get_or}
-use Rattle.std.proofs.lemmas.Bool.{leb-true, leb-false, ltb-true, ltb-false, lt-ltb, and_parts, or_parts, or_left, or_from, not-false}
-use Rattle.std.proofs.lemmas.List.{at_drop_more, at_drop_all, drop_more}
+use Rattle.std.proofs.Common.{◌≡◌, ℕ, ◌+◌, ◌-◌, ◌<◌, ◌≤◌, Bool, true, false, not, ◌&&◌, List, [], ◌∷◌, length, None, leb, ltb, refl, arith}
+use Rattle.std.proofs.lemmas.Bool.{leb-true, leb-false, ltb-false, lt-ltb, and_parts, or_parts, not-false}
 use Rattle.scenario_text.specs.Fields.{word_in, number, is_decimal, spells_number, octets_of}
-use Rattle.scenario_text.specs.Rows.{Row, is_within, word_has, any_has, words_have, fault_of_words}
+use Rattle.scenario_text.specs.Rows.{Row, is_within, words_have, fault_of_words}
 use Rattle.scenario_text.specs.Fits.{Faultless, AllFaultless, IsNumber, FieldFits, Where, FieldsFit, Fits}
-use Rattle.scenario_text.specs.declared.fault.LineFault.{LineFault}
 use Rattle.scenario_text.specs.declared.fault.LineFault.TheVariants as fault
 use Rattle.scenario_text.specs.declared.rows.Field.{Field}
 use Rattle.scenario_text.specs.declared.rows.Field.TheVariants as field
@@ -89,55 +87,3 @@ fits r ws e =
         repeated = none fault.Repeated;
       });
     }
-
--- the words after a place, one by one
-pub any_has-here : (e : LineFault) (fields : List Field) (place : ℕ) (d : Field) (ws : List (List ℕ)) (result : Bool) → place < length fields → result ≡ word_has e (get_or fields place d) (place + 1) ws → result ≡ true → any_has e (place + 1) (drop place fields) ws ≡ true
-any_has-here e fields place d ws result h is t =
-    at_drop_more (λ rest. any_has e (place + 1) rest ws) fields place d h ∙ or_left (word_has e (get_or fields place d) (place + 1) ws) _ (sym is ∙ t)
-
-pub any_has-after : (e : LineFault) (fields : List Field) (place : ℕ) (d : Field) (ws : List (List ℕ)) (result : Bool) → place < length fields → result ≡ word_has e (get_or fields place d) (place + 1) ws → result ≡ false → any_has e (place + 1) (drop place fields) ws ≡ any_has e (place + 1 + 1) (drop (place + 1) fields) ws
-any_has-after e fields place d ws result h is f =
-    let here : word_has e (get_or fields place d) (place + 1) ws ≡ false = sym is ∙ f in
-    at_drop_more (λ rest. any_has e (place + 1) rest ws) fields place d h ∙ rw here refl
-
-pub any_has-none : (e : LineFault) (fields : List Field) (place : ℕ) (ws : List (List ℕ)) → length fields ≤ place → any_has e (place + 1) (drop place fields) ws ≡ false
-any_has-none e fields place ws h = at_drop_all (λ rest. any_has e (place + 1) rest ws) fields place h
-
--- no fault in one more word, and none after the last
-one-more : (f : Field) (rest : List Field) (place : ℕ) (ws : List (List ℕ)) → AllFaultless (f ∷ []) place ws → AllFaultless rest (place + 1) ws → AllFaultless (f ∷ rest) place ws
-one-more f rest place ws h k = record {
-  choice = or_from _ _ ((or_parts _ _ (h.choice)).0) (k.choice);
-  number = or_from _ _ ((or_parts _ _ (h.number)).0) (k.number);
-  hex = or_from _ _ ((or_parts _ _ (h.hex)).0) (k.hex);
-  size = or_from _ _ ((or_parts _ _ (h.size)).0) (k.size);
-  repeated = or_from _ _ ((or_parts _ _ (h.repeated)).0) (k.repeated);
-}
-
-pub all_faultless-more : (fields : List Field) (place : ℕ) (d : Field) (ws : List (List ℕ)) → place < length fields → AllFaultless (get_or fields place d ∷ []) (place + 1) ws → AllFaultless (drop (place + 1) fields) (place + 1 + 1) ws → AllFaultless (drop place fields) (place + 1) ws
-all_faultless-more fields place d ws h here rest =
-    let IsFaultless : List Field → Type 0 = λ l. AllFaultless l (place + 1) ws in
-    subst IsFaultless (sym (drop_more fields place d h)) (one-more (get_or fields place d) (drop (place + 1) fields) (place + 1) ws here rest)
-
-pub all_faultless-none : (fields : List Field) (place : ℕ) (ws : List (List ℕ)) → length fields ≤ place → AllFaultless (drop place fields) (place + 1) ws
-all_faultless-none fields place ws h = record {
-  choice = any_has-none fault.BadChoice fields place ws h;
-  number = any_has-none fault.BadNumber fields place ws h;
-  hex = any_has-none fault.BadHex fields place ws h;
-  size = any_has-none fault.BadSize fields place ws h;
-  repeated = any_has-none fault.Repeated fields place ws h;
-}
-
--- a word that isn't there has none, and one that is there has those that it has
-one-by : (there : Bool) (f : Field) (place : ℕ) (ws : List (List ℕ)) → ltb place (length ws) ≡ there → (there ≡ true → Faultless f place ws) → AllFaultless (f ∷ []) place ws
-one-by false f place ws e h = record { choice = rw e refl; number = rw e refl; hex = rw e refl; size = rw e refl; repeated = rw e refl }
-one-by true f place ws e h =
-    let k = h refl in
-    let choice = k.choice in
-    let number = k.number in
-    let hex = k.hex in
-    let size = k.size in
-    let repeated = k.repeated in
-    record { choice = rw (e, choice) refl; number = rw (e, number) refl; hex = rw (e, hex) refl; size = rw (e, size) refl; repeated = rw (e, repeated) refl }
-
-pub one-faultless : (f : Field) (place : ℕ) (ws : List (List ℕ)) → (place < length ws → Faultless f place ws) → AllFaultless (f ∷ []) place ws
-one-faultless f place ws h = one-by (ltb place (length ws)) f place ws refl (λ e. h (ltb-true place (length ws) e))

@@ -1,3 +1,4 @@
+pub mod Earliest
 pub mod FaultLists
 pub mod FieldLemmas
 pub mod Fitting

@@ -1,6 +1,7 @@
 pub mod Contents
 pub mod Entries
 pub mod Fields
+pub mod Firsts
 pub mod Fits
 pub mod Items
 pub mod Keys

@@ -35,8 +35,8 @@ abbrev pub is_within : ℕ → ℕ → ℕ → Bool
 is_within count low high = nat_le low count && nat_le count high
 
 -- BadCount: fewer words than the keyword has at least, or more than it has fields
-abbrev pub has_bad_count : ℕ → List Field → List (List ℕ) → Bool
-has_bad_count least fields ws = nat_le (length ws) least || nat_lt (length fields) (length ws - 1)
+abbrev pub has_bad_count : ℕ → ℕ → ℕ → Bool
+has_bad_count least most count = nat_le count least || nat_lt most (count - 1)
 
 -- BadChoice: none of its choices
 abbrev pub has_bad_choice : Field → ℕ → List (List ℕ) → Bool
@@ -102,7 +102,7 @@ faults =
 abbrev pub words_have : ℕ → List Field → List (List ℕ) → LineFault → Bool
 words_have least fields ws fault.NoHeader = false
 words_have least fields ws fault.BadWord = false
-words_have least fields ws fault.BadCount = has_bad_count least fields ws
+words_have least fields ws fault.BadCount = has_bad_count least (length fields) (length ws)
 words_have least fields ws fault.BadChoice = any_has fault.BadChoice 1 fields ws
 words_have least fields ws fault.BadNumber = any_has fault.BadNumber 1 fields ws
 words_have least fields ws fault.BadHex = any_has fault.BadHex 1 fields ws

@@ -2,6 +2,7 @@
 
 ghost use Rattle.std.specs.Prelude.{◌≡◌};
 ghost use Rattle.scenario_text.specs.Words.{fault_word};
+ghost use Rattle.scenario_text.specs.Firsts.{rank_of};
 
 use thiserror::Error;
 
@@ -56,6 +57,24 @@ impl LineFault {
             LineFault::Repeated => "Repeated",
             LineFault::Missing => "Missing",
             LineFault::Order => "Order",
+        }
+    }
+
+    /// Its place in the order of the faults, from 0.
+    pub(crate) fn rank(&self) -> u8
+        ensures { result ≡ rank_of self.now }
+    {
+        match self {
+            LineFault::NoHeader => 0,
+            LineFault::BadWord => 1,
+            LineFault::BadCount => 2,
+            LineFault::BadChoice => 3,
+            LineFault::BadNumber => 4,
+            LineFault::BadHex => 5,
+            LineFault::BadSize => 6,
+            LineFault::Repeated => 7,
+            LineFault::Missing => 8,
+            LineFault::Order => 9,
         }
     }
 }

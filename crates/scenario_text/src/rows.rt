@@ -1,11 +1,11 @@
 //! The rows of a text's table: a keyword, and what the words after it stand for.
 
-ghost use Rattle.std.specs.Prelude.{◌≡◌, [], ◌∷◌, length, true};
-ghost use Rattle.scenario_text.specs.Fits.{Faultless, AllFaultless};
+ghost use Rattle.std.specs.Prelude.{◌≡◌, length, if◌then◌else◌, Some, None};
 ghost use Rattle.scenario_text.specs.Words.{words};
 ghost use Rattle.eap_base.specs.Setup.{fits_kind};
 ghost use Rattle.scenario_text.specs.Fields.{octets_of};
-ghost use Rattle.scenario_text.specs.Rows.{is_choice, is_kind_or_none, is_within, has_bad_choice, has_bad_number, has_bad_hex, has_bad_size, comes_twice, field_has, word_has, any_has, fault_of_words};
+ghost use Rattle.scenario_text.specs.Rows.{is_choice, is_kind_or_none, is_within, has_bad_count, fault_of_words};
+ghost use Rattle.scenario_text.specs.Firsts.{earlier, first_fault, fault_at, fault_of_word};
 
 use crate::fault::LineFault;
 use crate::fields::{
@@ -76,119 +76,120 @@ impl Row {
     }
 }
 
-/// The first fault of the words after a keyword, in their order: a wrong number of words, a word that is
-/// no choice, no number, no hex, of a wrong length, or the same again.
-#[tactic(auto, unfolding(crate::specs::Rows::fault_of_words))]
+/// The first fault of the words after a keyword, in the order of the faults: a wrong number of words, a
+/// word that is no choice, no number, no hex, of a wrong length, or the same again.
 pub(crate) fn fault_of_words(least: usize, fields: &[Field], line: &[u8]) -> Option<LineFault>
     ensures { result ≡ fault_of_words least fields.now (words line.now) }
 {
     let count = word_count(line);
-    if count <= least || fields.len() < count - 1 {
+    if has_bad_count(least, fields.len(), count) {
         return Some(LineFault::BadCount);
     }
-    if all_fit(fields, line, count) {
-        return None;
+    first_fault(fields, line, count)
+}
+
+/// True where there are no more words than `least`, the keyword among them, or more than `most` after it.
+fn has_bad_count(least: usize, most: usize, count: usize) -> bool
+    ensures { result ≡ has_bad_count least most count }
+{
+    count <= least || most < count - 1
+}
+
+/// The first fault that one of the words has.
+fn first_fault(fields: &[Field], line: &[u8], count: usize) -> Option<LineFault>
+    requires { count ≡ length (words line.now) }
+    ensures { result ≡ first_fault 1 fields.now (words line.now) }
+{
+    let mut first = None;
+    for place in 0..fields.len() {
+        let fault = fault_at(fields[place], place + 1, line, count);
+        first = earlier(first, fault);
     }
-    if any_has(LineFault::BadChoice, fields, line, count) {
-        Some(LineFault::BadChoice)
-    } else if any_has(LineFault::BadNumber, fields, line, count) {
-        Some(LineFault::BadNumber)
-    } else if any_has(LineFault::BadHex, fields, line, count) {
-        Some(LineFault::BadHex)
-    } else if any_has(LineFault::BadSize, fields, line, count) {
-        Some(LineFault::BadSize)
-    } else if any_has(LineFault::Repeated, fields, line, count) {
-        Some(LineFault::Repeated)
+    first
+}
+
+/// The first fault of the word at a place, if it is there.
+fn fault_at(field: Field, place: usize, line: &[u8], count: usize) -> Option<LineFault>
+    requires { count ≡ length (words line.now) }
+    ensures { result ≡ fault_at field place (words line.now) }
+{
+    if place < count {
+        fault_of_word(field, place, line, count)
     } else {
         None
     }
 }
 
-/// True where no word that is there has a fault, as in most lines.
-fn all_fit(fields: &[Field], line: &[u8], count: usize) -> bool
+/// The first fault of the word at a place.
+fn fault_of_word(field: Field, place: usize, line: &[u8], count: usize) -> Option<LineFault>
     requires { count ≡ length (words line.now) }
-    ensures { result ≡ true → AllFaultless fields.now 1 (words line.now) }
-{
-    for place in 0..fields.len() {
-        if !word_fits(fields[place], place + 1, line, count) {
-            return false;
-        }
-    }
-    true
-}
-
-/// True where the word at a place isn't there, or has no fault.
-fn word_fits(field: Field, place: usize, line: &[u8], count: usize) -> bool
-    requires { count ≡ length (words line.now) }
-    ensures { result ≡ true → AllFaultless (field ∷ []) place (words line.now) }
-{
-    count <= place || fits(field, place, line, count)
-}
-
-/// True where the word at a place has no fault.
-fn fits(field: Field, place: usize, line: &[u8], count: usize) -> bool
-    requires { count ≡ length (words line.now) }
-    ensures { result ≡ true → Faultless field place (words line.now) }
+    ensures { result ≡ fault_of_word field place (words line.now) }
 {
     let word = word_in(line, place);
     match field {
-        Field::Choice(choices) => is_choice(choices, word),
-        Field::Number { low, high } => spells_number(word, low, high),
-        Field::Kind => spells_kind(word),
-        Field::KindOrNone => is_kind_or_none(line, place, count),
-        Field::OtherKind { place: other } => spells_kind(word) && word != word_in(line, other),
-        Field::Suite => spells_suite(word),
-        Field::OtherSuite { place: other } => spells_suite(word) && word != word_in(line, other),
-        Field::Name => is_within(word.len(), 1, 253),
-        Field::Hex { low, high } => spells_octets(word) && is_within(octet_count(word), low, high),
+        Field::Choice(choices) => unless(is_choice(choices, word), LineFault::BadChoice),
+        Field::Number { low, high } => unless(spells_number(word, low, high), LineFault::BadNumber),
+        Field::Kind => unless(spells_kind(word), LineFault::BadNumber),
+        Field::KindOrNone => unless(is_kind_or_none(line, place, count), LineFault::BadNumber),
+        Field::OtherKind { place: other } => {
+            if spells_kind(word) {
+                unless(word != word_in(line, other), LineFault::Repeated)
+            } else {
+                Some(LineFault::BadNumber)
+            }
+        }
+        Field::Suite => unless(spells_suite(word), LineFault::BadNumber),
+        Field::OtherSuite { place: other } => {
+            if spells_suite(word) {
+                unless(word != word_in(line, other), LineFault::Repeated)
+            } else {
+                Some(LineFault::BadNumber)
+            }
+        }
+        Field::Name => unless(is_within(word.len(), 1, 253), LineFault::BadSize),
+        Field::Hex { low, high } => {
+            if spells_octets(word) {
+                unless(is_within(octet_count(word), low, high), LineFault::BadSize)
+            } else {
+                Some(LineFault::BadHex)
+            }
+        }
         Field::Key { place: method } => {
-            spells_octets(word) && fits_kind(kind_of(word_in(line, method)), word)
+            if spells_octets(word) {
+                unless(
+                    fits_kind(kind_of(word_in(line, method)), word),
+                    LineFault::BadSize,
+                )
+            } else {
+                Some(LineFault::BadHex)
+            }
         }
     }
 }
 
-/// Whether one of the words that are there has the fault.
-fn any_has(fault: LineFault, fields: &[Field], line: &[u8], count: usize) -> bool
-    requires { count ≡ length (words line.now) }
-    ensures { result ≡ any_has fault 1 fields.now (words line.now) }
+/// The fault, unless the test holds.
+fn unless(holds: bool, fault: LineFault) -> Option<LineFault>
+    ensures { result ≡ (if holds then None else Some fault) }
 {
-    for place in 0..fields.len() {
-        if word_has(fault, fields[place], place + 1, line, count) {
-            return true;
-        }
-    }
-    false
+    if holds { None } else { Some(fault) }
 }
 
-/// Whether the word at a place is there and has the fault.
-fn word_has(fault: LineFault, field: Field, place: usize, line: &[u8], count: usize) -> bool
-    requires { count ≡ length (words line.now) }
-    ensures { result ≡ word_has fault field place (words line.now) }
+/// Of two faults the one that comes first in their order.
+fn earlier(one: Option<LineFault>, other: Option<LineFault>) -> Option<LineFault>
+    ensures { result ≡ earlier one other }
 {
-    place < count && field_has(fault, field, place, line, count)
-}
-
-/// Whether the word at a place has the fault.
-fn field_has(fault: LineFault, field: Field, place: usize, line: &[u8], count: usize) -> bool
-    requires { count ≡ length (words line.now) }
-    ensures { result ≡ field_has fault field place (words line.now) }
-{
-    match fault {
-        LineFault::BadChoice => has_bad_choice(field, place, line),
-        LineFault::BadNumber => has_bad_number(field, place, line, count),
-        LineFault::BadHex => has_bad_hex(field, place, line),
-        LineFault::BadSize => has_bad_size(field, place, line),
-        LineFault::Repeated => comes_twice(field, place, line),
-        _ => false,
-    }
-}
-
-fn has_bad_choice(field: Field, place: usize, line: &[u8]) -> bool
-    ensures { result ≡ has_bad_choice field place (words line.now) }
-{
-    match field {
-        Field::Choice(choices) => !is_choice(choices, word_in(line, place)),
-        _ => false,
+    match one {
+        None => other,
+        Some(first) => match other {
+            None => one,
+            Some(second) => {
+                if second.rank() < first.rank() {
+                    other
+                } else {
+                    one
+                }
+            }
+        },
     }
 }
 
@@ -203,21 +204,6 @@ fn is_choice(choices: Choices, word: &[u8]) -> bool
     }
 }
 
-fn has_bad_number(field: Field, place: usize, line: &[u8], count: usize) -> bool
-    requires { count ≡ length (words line.now) }
-    ensures { result ≡ has_bad_number field place (words line.now) }
-{
-    match field {
-        Field::Number { low, high } => !spells_number(word_in(line, place), low, high),
-        Field::Kind => !spells_kind(word_in(line, place)),
-        Field::KindOrNone => !is_kind_or_none(line, place, count),
-        Field::OtherKind { place: _ } => !spells_kind(word_in(line, place)),
-        Field::Suite => !spells_suite(word_in(line, place)),
-        Field::OtherSuite { place: _ } => !spells_suite(word_in(line, place)),
-        _ => false,
-    }
-}
-
 /// Whether the word at a place is a method, or `-` with no word after it.
 fn is_kind_or_none(line: &[u8], place: usize, count: usize) -> bool
     requires { count ≡ length (words line.now) }
@@ -225,29 +211,6 @@ fn is_kind_or_none(line: &[u8], place: usize, count: usize) -> bool
 {
     let word = word_in(line, place);
     spells_kind(word) || (word == b"-".as_slice() && count - 1 <= place)
-}
-
-fn has_bad_hex(field: Field, place: usize, line: &[u8]) -> bool
-    ensures { result ≡ has_bad_hex field place (words line.now) }
-{
-    match field {
-        Field::Hex { low: _, high: _ } => !spells_octets(word_in(line, place)),
-        Field::Key { place: _ } => !spells_octets(word_in(line, place)),
-        _ => false,
-    }
-}
-
-fn has_bad_size(field: Field, place: usize, line: &[u8]) -> bool
-    ensures { result ≡ has_bad_size field place (words line.now) }
-{
-    match field {
-        Field::Name => !is_within(word_in(line, place).len(), 1, 253),
-        Field::Hex { low, high } => !is_within(octet_count(word_in(line, place)), low, high),
-        Field::Key { place: method } => {
-            !fits_kind(kind_of(word_in(line, method)), word_in(line, place))
-        }
-        _ => false,
-    }
 }
 
 fn is_within(count: usize, low: usize, high: usize) -> bool
@@ -265,15 +228,5 @@ fn fits_kind(kind: u8, word: &[u8]) -> bool
         count == 16
     } else {
         kind == 51 && (32 <= count && count <= 64)
-    }
-}
-
-fn comes_twice(field: Field, place: usize, line: &[u8]) -> bool
-    ensures { result ≡ comes_twice field place (words line.now) }
-{
-    match field {
-        Field::OtherKind { place: other } => word_in(line, place) == word_in(line, other),
-        Field::OtherSuite { place: other } => word_in(line, place) == word_in(line, other),
-        _ => false,
     }
 }

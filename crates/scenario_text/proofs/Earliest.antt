@@ -1,0 +1,125 @@
+-- The first fault of many words is the earliest of their first faults.
+use Rattle.std.proofs.Common.{◌≡◌, ℕ, ◌+◌, ◌<◌, ◌≤◌, Bool, true, false, ◌&&◌, ◌||◌, List, [], ◌∷◌, length, Option, Some, None, find, inl, inr, leb, ltb, refl, sym, ap, ◌∙◌, arith, drop, get_or}
+use Rattle.std.proofs.lemmas.Bool.{leb-true, ltb-true, ltb-false, lt-ltb, le-ltb, and_parts, cases_Bool, cond-true, cond-false}
+use Rattle.std.proofs.lemmas.List.{at_drop_more, at_drop_all}
+use Rattle.scenario_text.specs.Rows.{any_has, word_has, has_bad_count, fault_of_words}
+use Rattle.scenario_text.specs.Firsts.{rank_of, earlier, word_faults, fault_at, first_fault}
+use Rattle.scenario_text.specs.declared.fault.LineFault.{LineFault}
+use Rattle.scenario_text.specs.declared.fault.LineFault.TheVariants as fault
+use Rattle.scenario_text.specs.declared.rows.Field.{Field}
+
+-- the faults stand in their order
+abbrev ascends : ℕ → List LineFault → Bool
+ascends n [] = true
+ascends n (x ∷ rest) = leb n (rank_of x) && ascends (rank_of x + 1) rest
+
+-- an earlier one goes before
+keeps : (a b : LineFault) → rank_of a ≤ rank_of b → earlier (Some a) (Some b) ≡ Some a
+keeps a b h = cond-false (ltb (rank_of b) (rank_of a)) (Some b) (Some a) (le-ltb (rank_of b) (rank_of a) h)
+
+yields : (a b : LineFault) → rank_of b < rank_of a → earlier (Some a) (Some b) ≡ Some b
+yields a b h = cond-true (ltb (rank_of b) (rank_of a)) (Some b) (Some a) (lt-ltb (rank_of b) (rank_of a) h)
+
+pub earlier-none : (a : Option LineFault) → earlier a None ≡ a
+earlier-none None = refl
+earlier-none (Some a) = refl
+
+-- what is found has at least the rank at which the list begins
+abbrev Least : ℕ → Option LineFault → Type 0
+Least n None = Unit {0}
+Least n (Some b) = n ≤ rank_of b
+
+least-more : (n m : ℕ) (b : Option LineFault) → n ≤ m → Least m b → Least n b
+least-more n m None h k = tt
+least-more n m (Some b) h k = omega arith
+
+find-least : (q : LineFault → Bool) (n : ℕ) (xs : List LineFault) → ascends n xs ≡ true → Least n (find q xs)
+find-least q n [] up = tt
+find-least q n (x ∷ rest) up =
+    let parts = and_parts (leb n (rank_of x)) (ascends (rank_of x + 1) rest) up in
+    let low = leb-true n (rank_of x) (parts.0) in
+    elim (cases_Bool (q x)) [
+      | inl e ↦ rw e low
+      | inr e ↦ rw e (least-more n (rank_of x + 1) (find q rest) (omega arith) (find-least q (rank_of x + 1) rest (parts.1)))
+    ]
+
+first-is : (x : LineFault) (b : Option LineFault) → Least (rank_of x + 1) b → earlier (Some x) b ≡ Some x
+first-is x None h = refl
+first-is x (Some b) h = keeps x b (omega arith)
+
+second-is : (x : LineFault) (a : Option LineFault) → Least (rank_of x + 1) a → earlier a (Some x) ≡ Some x
+second-is x None h = refl
+second-is x (Some a) h = yields a x (omega arith)
+
+-- the first that passes one of two tests
+find-or : (p q : LineFault → Bool) (n : ℕ) (xs : List LineFault) → ascends n xs ≡ true → find (λ e. p e || q e) xs ≡ earlier (find p xs) (find q xs)
+find-or p q n [] up = refl
+find-or p q n (x ∷ rest) up =
+    let parts = and_parts (leb n (rank_of x)) (ascends (rank_of x + 1) rest) up in
+    let ups = parts.1 in
+    elim (cases_Bool (p x)) [
+      | inl e ↦ elim (cases_Bool (q x)) [
+        | inl k ↦ rw (e, k) (sym (keeps x x (omega arith)))
+        | inr k ↦ rw (e, k) (sym (first-is x (find q rest) (find-least q (rank_of x + 1) rest ups)))
+      ]
+      | inr e ↦ elim (cases_Bool (q x)) [
+        | inl k ↦ rw (e, k) (sym (second-is x (find p rest) (find-least p (rank_of x + 1) rest ups)))
+        | inr k ↦ rw (e, k) (find-or p q (rank_of x + 1) rest ups)
+      ]
+    ]
+
+-- of three the earliest
+three : (a b c : LineFault) → earlier (earlier (Some a) (Some b)) (Some c) ≡ earlier (Some a) (earlier (Some b) (Some c))
+three a b c =
+    elim (cases_Bool (ltb (rank_of b) (rank_of a))) [
+      | inl e ↦ elim (cases_Bool (ltb (rank_of c) (rank_of b))) [
+        | inl k ↦
+            let far : ltb (rank_of c) (rank_of a) ≡ true = lt-ltb (rank_of c) (rank_of a) (omega (arith, ltb-true (rank_of b) (rank_of a) e, ltb-true (rank_of c) (rank_of b) k)) in
+            rw (e, k, far) refl
+        | inr k ↦ rw (e, k, e) refl
+      ]
+      | inr e ↦ elim (cases_Bool (ltb (rank_of c) (rank_of b))) [
+        | inl k ↦ rw (e, k) refl
+        | inr k ↦
+            let far : ltb (rank_of c) (rank_of a) ≡ false = le-ltb (rank_of c) (rank_of a) (omega (arith, ltb-false (rank_of b) (rank_of a) e, ltb-false (rank_of c) (rank_of b) k)) in
+            rw (e, k, far, e) refl
+      ]
+    ]
+
+earlier-assoc : (a b c : Option LineFault) → earlier (earlier a b) c ≡ earlier a (earlier b c)
+earlier-assoc None b c = refl
+earlier-assoc (Some a) None c = refl
+earlier-assoc (Some a) (Some b) None = earlier-none (earlier (Some a) (Some b))
+earlier-assoc (Some a) (Some b) (Some c) = three a b c
+
+word-first : (f : Field) (place : ℕ) (ws : List (List ℕ)) → find (λ e. word_has e f place ws) word_faults ≡ fault_at f place ws
+word-first f place ws =
+    elim (cases_Bool (ltb place (length ws))) [
+      | inl e ↦ rw e refl
+      | inr e ↦ rw e refl
+    ]
+
+-- one more word, and none after the last
+pub first_fault-cons : (f : Field) (rest : List Field) (place : ℕ) (ws : List (List ℕ)) → first_fault place (f ∷ rest) ws ≡ earlier (fault_at f place ws) (first_fault (place + 1) rest ws)
+unfolding first_fault
+first_fault-cons f rest place ws =
+    find-or (λ e. word_has e f place ws) (λ e. any_has e (place + 1) rest ws) 3 word_faults refl
+    ∙ ap (λ here. earlier here (find (λ e. any_has e (place + 1) rest ws) word_faults)) (word-first f place ws)
+
+pub first_fault-more : (fields : List Field) (place : ℕ) (d : Field) (ws : List (List ℕ)) (first here : Option LineFault) → place < length fields → here ≡ fault_at (get_or fields place d) (place + 1) ws → earlier first (first_fault (place + 1) (drop place fields) ws) ≡ earlier (earlier first here) (first_fault (place + 1 + 1) (drop (place + 1) fields) ws)
+first_fault-more fields place d ws first here h is =
+    ap (earlier first) (at_drop_more (λ l. first_fault (place + 1) l ws) fields place d h ∙ first_fault-cons (get_or fields place d) (drop (place + 1) fields) (place + 1) ws)
+    ∙ rw (← is) (sym (earlier-assoc first here (first_fault (place + 1 + 1) (drop (place + 1) fields) ws)))
+
+pub first_fault-end : (fields : List Field) (place : ℕ) (ws : List (List ℕ)) (first : Option LineFault) → length fields ≤ place → earlier first (first_fault (place + 1) (drop place fields) ws) ≡ first
+unfolding first_fault
+first_fault-end fields place ws first h = ap (earlier first) (at_drop_all (λ l. first_fault (place + 1) l ws) fields place h) ∙ earlier-none first
+
+-- behind the number of words
+pub fault_of_words-count : (least : ℕ) (fields : List Field) (ws : List (List ℕ)) → has_bad_count least (length fields) (length ws) ≡ true → fault_of_words least fields ws ≡ Some fault.BadCount
+unfolding fault_of_words
+fault_of_words-count least fields ws e = rw e refl
+
+pub fault_of_words-first : (least : ℕ) (fields : List Field) (ws : List (List ℕ)) → has_bad_count least (length fields) (length ws) ≡ false → fault_of_words least fields ws ≡ first_fault 1 fields ws
+unfolding fault_of_words first_fault
+fault_of_words-first least fields ws e = rw e refl
