@@ -15,4 +15,4 @@ mod status;
 pub use beginning::world_of;
 pub use login::eap_login;
 pub use objects::{both_peers, both_servers};
-pub use status::{Status, exit_number, failure_number};
+pub use status::Status;

@@ -1,12 +1,7 @@
 //! How the program ends.
 
 ghost use Rattle.std.specs.Prelude.{◌≡◌};
-ghost use Rattle.login_call.specs.Statuses.{number_of, exit_number_of, failure_number_of};
-
-use std::io;
-
-/// The exit status where the words could not be taken, for another cause than want of memory.
-const NO_WORDS: u8 = 8;
+ghost use Rattle.login_call.specs.Statuses.{number_of};
 
 /// How a run ends. Its number is the exit status of the program.
 #[derive(Clone, Copy, PartialEq, Eq, Debug)]
@@ -44,25 +39,5 @@ impl Status {
             Status::TooMuch => 6,
             Status::Findings => 7,
         }
-    }
-}
-
-/// The exit status where the words could not be taken.
-pub fn failure_number(kind: io::ErrorKind) -> u8
-    ensures { result ≡ failure_number_of kind }
-{
-    match kind {
-        io::ErrorKind::OutOfMemory => Status::Memory.number(),
-        _ => NO_WORDS,
-    }
-}
-
-/// The exit status where the words were taken.
-pub fn exit_number(answered: io::Result<Status>) -> u8
-    ensures { result ≡ exit_number_of answered }
-{
-    match answered {
-        Ok(status) => status.number(),
-        Err(_) => Status::Memory.number(),
     }
 }

@@ -1,0 +1,68 @@
+//! The run of the program.
+
+ghost use Rattle.std.specs.Prelude.{◌≡◌, map, string_bytes, IfOk, IfErr, OnErr};
+ghost use Rattle.std.specs.IoError.{error_kind};
+ghost use Rattle.std.specs.Vec.Iter.{into_iter_items};
+ghost use Rattle.std.specs.declared.io.ErrorKind.TheVariants.{OutOfMemory};
+ghost use Rattle.login_run.specs.Exit.{failure_number_of};
+ghost use Rattle.login_run.specs.Runs.{after_name, Answers, Exits};
+
+use crate::exit::{exit_number, failure_number};
+use crate::words::words_after_name;
+use eap_base::{Sink, Source};
+use eap_method::{PeerMethod, ServerMethod};
+use eap_world::Methods;
+use gpsk_ends::{GpskPeer, GpskServer};
+use login_call::{Status, both_peers, both_servers, eap_login};
+use psk_ends::{PskPeer, PskServer};
+use std::alloc::Global;
+use std::env::Args;
+use std::io;
+
+/// Answers to the arguments that the program was started with, of which the first is its name, over `source`
+/// and `sink`, and gives the exit status: the number of the status that the words are answered with, 5 where
+/// memory is wanting, or 8 where the arguments could not be taken for another cause.
+pub fn run<S: Source, W: Sink>(
+    alloc: Global,
+    args: io::Result<Args>,
+    source: &mut S,
+    sink: &mut W,
+) -> u8
+    ensures answers { IfOk args (λ args. Exits S.left S.read_faults S.last_read_fault W.written W.write_faults W.last_write_fault
+        (map string_bytes (after_name (into_iter_items args))) source.old source.new sink.old sink.new result) }
+
+    // Where the arguments could not be taken, nothing is read or written.
+    ensures no_words { IfErr args (λ error. result ≡ failure_number_of (error_kind error)) }
+    ensures unread { IfErr args (λ error. source.new ≡ source.old) }
+    ensures unwritten { IfErr args (λ error. sink.new ≡ sink.old) }
+{
+    match args {
+        Ok(args) => exit_number(answer(alloc, args, source, sink)),
+        Err(error) => failure_number(error.kind()),
+    }
+}
+
+/// Makes the objects of both methods for both ends, and answers to the words after the program's name. An
+/// error comes only for want of memory, before anything is read or written.
+fn answer<S: Source, W: Sink>(
+    alloc: Global,
+    args: Args,
+    source: &mut S,
+    sink: &mut W,
+) -> io::Result<Status>
+    ensures answers { IfOk result (λ status. Answers S.left S.read_faults S.last_read_fault W.written W.write_faults W.last_write_fault
+        (map string_bytes (after_name (into_iter_items args))) source.old source.new sink.old sink.new status) }
+    ensures memory { IfErr result (λ error. error_kind error ≡ OutOfMemory) }
+    ensures unread { OnErr result (source.new ≡ source.old) }
+    ensures unwritten { OnErr result (sink.new ≡ sink.old) }
+{
+    let words = words_after_name(alloc, args)?;
+    let psk_peer: Box<dyn PeerMethod> = Box::new(alloc, PskPeer::new())?;
+    let gpsk_peer: Box<dyn PeerMethod> = Box::new(alloc, GpskPeer::new())?;
+    let psk_server: Box<dyn ServerMethod> = Box::new(alloc, PskServer::new())?;
+    let gpsk_server: Box<dyn ServerMethod> = Box::new(alloc, GpskServer::new())?;
+    let peer = both_peers(alloc, psk_peer, gpsk_peer)?;
+    let server = both_servers(alloc, psk_server, gpsk_server)?;
+    let methods = Methods { peer, server };
+    Ok(eap_login(alloc, &words, source, sink, methods))
+}
