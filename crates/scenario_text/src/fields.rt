@@ -2,7 +2,8 @@
 
 ghost use Rattle.std.specs.Prelude.{◌≡◌, ◌≤◌, ◌<◌, ◌+◌, ◌*◌, ◌/◌, ◌^◌, length, min, IsTrue, IfOk};
 ghost use Rattle.std.specs.List.{list_all};
-ghost use Rattle.scenario_text.specs.Fields.{number, spells_number, number_of, number_after, is_digit, is_decimal, hex_of, hex_value, is_hex_digit, is_hex, octets_of, spells_octets, spells_kind, kind_of, spells_suite, suite_of};
+ghost use Rattle.scenario_text.specs.Fields.{number, spells_number, number_of, number_after, is_digit, is_decimal, hex_of, hex_value};
+ghost use Rattle.scenario_text.specs.Fields.{is_hex_digit, is_hex, octets_of, spells_octets, spells_kind, kind_of, spells_suite, suite_of};
 
 use crate::fault::LineFault;
 use eap_base::Octets;

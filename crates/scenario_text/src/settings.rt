@@ -4,7 +4,8 @@ ghost use Rattle.std.specs.Prelude.{◌≡◌, ◌∷◌, [], unwrap_or, MatchRe
 ghost use Rattle.eap_base.specs.Setup.{is_among};
 ghost use Rattle.eap_base.specs.declared.event.Event.{Event};
 ghost use Rattle.scenario_text.specs.Contents.{entry_with};
-ghost use Rattle.scenario_text.specs.Reading.{no_settings, has_setting, with_user, with_setting, both_suites, key_for, peer_setup_of, server_setup_of, setup_of, is_crowded, came_before, is_missing};
+ghost use Rattle.scenario_text.specs.Reading.{no_settings, has_setting, with_user, with_setting, both_suites, key_for};
+ghost use Rattle.scenario_text.specs.Reading.{peer_setup_of, server_setup_of, setup_of, is_crowded, came_before, is_missing};
 
 use crate::entry::{Entry, Setting};
 use crate::fault::LineFault;
