@@ -153,7 +153,7 @@ fn lengths(alloc: Global, trace: &str) -> Result<String, AllocError> {
 }
 
 /// The words of a command, which a space parts; none where the text is empty.
-fn words_of(alloc: Global, command: &str) -> io::Result<Vec<String>> {
+pub(crate) fn words_of(alloc: Global, command: &str) -> io::Result<Vec<String>> {
     let mut words = Vec::new(alloc);
     for word in command.split(" ") {
         if !word.is_empty() {
@@ -193,10 +193,15 @@ pub(crate) fn answered_to(
     answered(alloc, command, source, sink)
 }
 
+/// True where this number, of one digit, stands after `= ` in the block.
+pub(crate) fn has_number(block: &str, number: u8) -> bool {
+    let digit = b'0' + number % 10;
+    first_rest(block, "= ").is_some_and(|wanted| wanted.as_bytes() == [digit].as_slice())
+}
+
 /// True where the number after `= ` in the block is the status's.
 fn has_status(block: &str, status: Status) -> bool {
-    let digit = b'0' + status.number() % 10;
-    first_rest(block, "= ").is_some_and(|number| number.as_bytes() == [digit].as_slice())
+    has_number(block, status.number())
 }
 
 /// True where the call answers the block's whole output and status to its input.

@@ -112,6 +112,46 @@ fn each_write_may_fail(rt: HostRuntime) -> Result<(), Fail> {
     Ok(())
 }
 
+/// The front of the text that ends with its LF of this number.
+fn first_lines(text: &[u8], count: u32) -> &[u8] {
+    let mut lines: u32 = 0;
+    for place in 0..text.len() {
+        if lines == count {
+            return &text[..place];
+        }
+        if text[place] == b'\n' {
+            lines = lines.saturating_add(1);
+        }
+    }
+    text
+}
+
+/// True where a run whose sink takes 2,000 octets a write, and fails at the write of this number, wrote exactly
+/// the lines before it.
+fn holds_the_lines_before(alloc: Global, call: u32, text: &[u8]) -> io::Result<bool>
+    requires { 0 < call }
+{
+    let input = scenario(alloc, LOGIN)?;
+    let source = MemSource::new(alloc, input.as_bytes(), 4096, &[])?;
+    let sink = MemSink::new(alloc, 10_000, 2000, &[call])?;
+    let (status, sink) = answered(alloc, "replay", source, sink)?;
+    Ok(status == Status::WriteFault && sink.written() == first_lines(text, call - 1))
+}
+
+// The trace has 25 lines: each is one write, and nothing is held past it.
+#[test]
+fn each_line_is_one_write(rt: HostRuntime) -> Result<(), Fail> {
+    let text = whole(rt.alloc(), LOGIN)?;
+    for call in 1..26 {
+        assert!(rt;
+            holds_the_lines_before(rt.alloc(), call, text.written())?,
+            "call {call}"
+        );
+    }
+    assert!(rt; text.written().ends_with(b"result agree\nend\n"));
+    Ok(())
+}
+
 /// True where a scenario whose second line is a comment of so many octets is answered so.
 fn comment_is_answered(alloc: Global, octets: u32, text: &str, wanted: Status) -> io::Result<bool> {
     let mut input = String::from_str(alloc, "eap-scenario 1\n")?;

@@ -1,4 +1,3 @@
-use Rattle.std.proofs.Common.{Global}
 use Rattle.login_run.proofs.Exiting.{exits}
 use Rattle.login_run.proofs.program.run.Goals as goal
 
