@@ -73,14 +73,15 @@ fn setup_of(methods: &str, suites: &str) -> Option<Setup>
     ensures { IfSome result IsValidSetup }
 {
     let mut reader = ScenarioReader::new();
+    let mut event = Event::Idle;
     for line in SCENARIO.lines() {
         let line = match line {
             "server-methods METHOD" => methods,
             "server-suites SUITE" => suites,
             other => other,
         };
-        match reader.line(line.as_bytes()) {
-            Ok(Item::Ready(setup)) => return Some(setup),
+        match reader.line(line.as_bytes(), &mut event) {
+            Ok(Item::Ready) => return reader.setup().ok(),
             Ok(_) => {}
             Err(_) => return None,
         }

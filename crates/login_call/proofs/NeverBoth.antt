@@ -109,7 +109,7 @@ module _ (names : Bool) (setup : Setup) (events : List Event) where
       let shown = end_text (run_of setup events) in
       let lines = events_text names begun.after events in
       over begins_verdict m mark bad trace_header (begin_text names begun ++ (lines ++ shown)) true header_plain
-      ∙ (over begins_verdict m mark bad (begin_text names begun) (lines ++ shown) true (start_plain names (told_octets begun) begun.told)
+      ∙ (over begins_verdict m mark bad (begin_text names begun) (lines ++ shown) true (start_plain begun.after.parties.mode names (told_octets begun) begun.told)
       ∙ over begins_verdict m mark bad lines shown true (outcomes_plain names (outcomes_after begun.after events)))
 
   tells : (mark text : List ℕ) → has_mark mark true text ≡ has_mark mark true (end_text (run_of setup events)) → has_mark mark true text ≡ true

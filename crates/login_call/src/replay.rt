@@ -82,7 +82,9 @@ impl<P: PeerMethod, S: ServerMethod> Replay<P, S> {
                 let mut world = world_of(self.alloc, setup, methods);
                 match world.start() {
                     Ok(told) => {
-                        let written = write_start(sink, &told, world.octets_of(&told), self.names);
+                        let mode = world.mode();
+                        let octets = world.octets_of(&told);
+                        let written = write_start(sink, mode, &told, octets, self.names);
                         self.world = Some(world);
                         match written {
                             Ok(()) => Ok(Next::Goes),

@@ -2,7 +2,7 @@
 
 ghost use Rattle.scenario_text.specs.Keys.{HasSizes};
 
-use eap_base::{Identity, MemSink, Octets, Party, Port};
+use eap_base::{Identity, MemSink, Mode, Octets, Party, Port};
 use eap_method::Report;
 use eap_packet::{Cause, Path, State};
 use eap_world::{Named, SentPacket, Skip, Told};
@@ -88,7 +88,7 @@ fn octets_of_the_start(rt: HostRuntime) -> Result<(), Fail> {
     let mut begun = told_of(0, Some(Party::Server), [State::Initialize, State::Idle]);
     begun.sent = sent_to_peer(1);
     let mut sink = MemSink::new(rt.alloc(), 200, 100, &[])?;
-    write_start(&mut sink, &begun, &[1, 0, 0, 5, 1], true)?;
+    write_start(&mut sink, Mode::Alone, &begun, &[1, 0, 0, 5, 1], true)?;
     assert!(rt; sink.written() == START);
     Ok(())
 }

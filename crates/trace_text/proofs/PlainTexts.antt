@@ -2,6 +2,8 @@
 use Rattle.std.proofs.Common.{◌≡◌, ℕ, ◌≤◌, ◌==◌, ◌||◌, List, [], ◌∷◌, ◌++◌, length, Bool, true, false, cond, Option, Some, None, refl, codes, decimal, slice_index, arith}
 use Rattle.std.proofs.lemmas.Bool.{or_from, ne_eqb}
 use Rattle.std.specs.List.{concat}
+use Rattle.eap_base.specs.declared.setup.Mode.{Mode}
+use Rattle.eap_base.specs.declared.setup.Mode.TheVariants as mode
 use Rattle.eap_base.specs.declared.setup.Party.{Party}
 use Rattle.eap_base.specs.declared.setup.Party.TheVariants as party
 use Rattle.eap_base.specs.declared.setup.Port.{Port}
@@ -19,7 +21,7 @@ use Rattle.eap_world.specs.declared.told.Skip.TheVariants as skip
 use Rattle.eap_world.specs.declared.told.Told.{Told}
 use Rattle.login_keys.specs.KeyName.{key_name_of}
 use Rattle.trace_text.specs.Pieces.{hex_text}
-use Rattle.trace_text.specs.Run.{party_word, port_word, skip_word, code_word, type_text, states_text, path_text, party_text, cause_text, sent_text, octets_line, octets_text, keys_line, keys_text, shown_text, acted_text, told_by, told_text, peer_start_text, start_text, ends_text, counts_text}
+use Rattle.trace_text.specs.Run.{party_word, port_word, skip_word, code_word, type_text, states_text, path_text, party_text, cause_text, sent_text, octets_line, octets_text, keys_line, keys_text, shown_text, acted_text, told_by, told_text, peer_start_text, server_start_text, start_text, ends_text, counts_text}
 use Rattle.trace_text.proofs.Plain.{is_within, plain, join, through, within_join, encoded_within, decimal_within, decimal_first, numbered}
 
 -- ---- words
@@ -142,9 +144,15 @@ begins_verdict o = o == 116 || o == 114
 pub no_verdict : (o : ℕ) → 48 ≤ o → o ≤ 57 → begins_verdict o ≡ false
 no_verdict o h k = or_from (o == 116) (o == 114) (ne_eqb o 116 (λ e. omega (arith, k, e))) (ne_eqb o 114 (λ e. omega (arith, k, e)))
 
-pub start_plain : (names : Bool) (octets : List ℕ) (told : Told) → plain begins_verdict true (start_text names octets told) ≡ true
+server_start_plain : (m : Mode) → plain begins_verdict true (server_start_text m) ≡ true
+unfolding server_start_text
+server_start_plain mode.Alone = refl
+server_start_plain mode.Through = refl
+
+pub start_plain : (m : Mode) (names : Bool) (octets : List ℕ) (told : Told) → plain begins_verdict true (start_text m names octets told) ≡ true
 unfolding peer_start_text
-start_plain names octets told = told_plain begins_verdict no_verdict names octets told
+start_plain m names octets told =
+    join begins_verdict (told_text names octets told) (server_start_text m) true (told_plain begins_verdict no_verdict names octets told) (server_start_plain m)
 
 pub ends_plain : (peer server : State) → plain begins_verdict true (ends_text peer server) ≡ true
 unfolding ends_text

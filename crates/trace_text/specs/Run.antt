@@ -1,6 +1,8 @@
 -- The trace of a run: the lines of its start, of each event, and of its end.
 use Rattle.std.specs.Prelude.{ℕ, List, [], ◌∷◌, ◌++◌, length, Bool, ◌==◌, nat_le, if◌then◌else◌, Option, Some, None, codes, decimal, slice_index}
 use Rattle.std.specs.List.{concat}
+use Rattle.eap_base.specs.declared.setup.Mode.{Mode}
+use Rattle.eap_base.specs.declared.setup.Mode.TheVariants as mode
 use Rattle.eap_base.specs.declared.setup.Party.{Party}
 use Rattle.eap_base.specs.declared.setup.Party.TheVariants as party
 use Rattle.eap_base.specs.declared.setup.Port.{Port}
@@ -128,11 +130,16 @@ outcome_text names out = told_text names (told_octets out) out.told
 unfoldable pub peer_start_text : List ℕ
 peer_start_text = codes "0 peer INITIALIZE IDLE\n"
 
-abbrev pub start_text : Bool → List ℕ → Told → List ℕ
-start_text names octets told = peer_start_text ++ told_text names octets told
+-- a server behind a pass-through waits
+unfoldable pub server_start_text : Mode → List ℕ
+server_start_text mode.Alone = []
+server_start_text mode.Through = codes "0 server INITIALIZE\n"
+
+abbrev pub start_text : Mode → Bool → List ℕ → Told → List ℕ
+start_text m names octets told = peer_start_text ++ (told_text names octets told ++ server_start_text m)
 
 abbrev pub begin_text : Bool → WorldOutcome → List ℕ
-begin_text names out = start_text names (told_octets out) out.told
+begin_text names out = start_text out.after.parties.mode names (told_octets out) out.told
 
 -- where both ends stand
 unfoldable pub ends_text : State → State → List ℕ

@@ -7,14 +7,14 @@ ghost use Rattle.trace_text.specs.Writes.{Appends, Puts};
 ghost use Rattle.trace_text.specs.Pieces.{hex_text};
 ghost use Rattle.trace_text.specs.Run.{state_text, party_word, port_word, skip_word, code_word, states_text, path_text, party_text};
 ghost use Rattle.trace_text.specs.Run.{cause_text, sent_text, octets_line, octets_text, keys_line, keys_text, shown_text, acted_text};
-ghost use Rattle.trace_text.specs.Run.{told_text, peer_start_text, start_text, ends_text, counts_text, tags_text, verdict_word};
+ghost use Rattle.trace_text.specs.Run.{told_text, peer_start_text, server_start_text, start_text, ends_text, counts_text, tags_text, verdict_word};
 ghost use Rattle.trace_text.specs.Run.{result_text, end_text_of, end_text};
 ghost use Rattle.eap_world.specs.World.{now_of};
 
 use crate::line_buffer::LineBuffer;
 use crate::pieces::Piece::{Hex, Number, Text};
 use crate::pieces::{put_pieces, send, write_nothing, write_pieces};
-use eap_base::{Failed, Party, Port, Sink};
+use eap_base::{Failed, Mode, Party, Port, Sink};
 use eap_method::{PeerMethod, ServerMethod};
 use eap_packet::{Cause, State};
 use eap_world::{Counts, Named, SentPacket, Skip, TagsVerdict, Told, Verdict, World};
@@ -397,20 +397,34 @@ fn write_peer_start<W: Sink>(sink: &mut W) -> Result<(), Failed>
     write_pieces(sink, &[Text(b"0 peer INITIALIZE IDLE\n")])
 }
 
-/// Writes the lines of the start, event 0: the peer begins, then what is told of the server, with the
-/// octets of its packet where names are asked for. `Failed`: a write failed, and a front of the lines was
-/// appended.
+/// Writes the line of a server behind a pass-through, which stands in INITIALIZE (RFC 4137 section 6); none
+/// of one that answers by itself.
+#[tactic(auto, using(crate::proofs::Fronts::appends_none), unfolding(crate::specs::Run::server_start_text))]
+fn write_server_start<W: Sink>(sink: &mut W, mode: Mode) -> Result<(), Failed>
+    ensures { Appends W.written W.write_faults W.last_write_fault result sink.old sink.new (server_start_text mode) }
+{
+    match mode {
+        Mode::Alone => Ok(()),
+        Mode::Through => write_pieces(sink, &[Text(b"0 server INITIALIZE\n")]),
+    }
+}
+
+/// Writes the lines of the start, event 0, in this mode: the peer begins, then what is told of who asks for
+/// the identity, with the octets of the packet where names are asked for; through a pass-through the server
+/// waits. `Failed`: a write failed, and a front of the lines was appended.
 #[tactic(auto, using(crate::proofs::Fronts::appends_both, crate::proofs::Fronts::appends_front))]
 pub fn write_start<W: Sink>(
     sink: &mut W,
+    mode: Mode,
     told: &Told,
     octets: &[u8],
     names: bool,
 ) -> Result<(), Failed>
-    ensures { Appends W.written W.write_faults W.last_write_fault result sink.old sink.new (start_text names octets.now told.now) }
+    ensures { Appends W.written W.write_faults W.last_write_fault result sink.old sink.new (start_text mode names octets.now told.now) }
 {
     write_peer_start(sink)?;
-    write_told(sink, told, octets, names)
+    write_told(sink, told, octets, names)?;
+    write_server_start(sink, mode)
 }
 
 /// Writes the lines of the end: where both ends stand, the counts, and the verdicts. `Failed`: a write
