@@ -11,4 +11,3 @@ mod server;
 
 pub use peer::PskPeer;
 pub use server::PskServer;
-
