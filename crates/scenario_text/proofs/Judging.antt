@@ -41,7 +41,7 @@ first-found : (has : LineFault → Bool) (before after : List LineFault) (f : Li
 first-found has [] after f met none = rw met refl
 first-found has (x ∷ before) after f met none = let h = none.0 in rw h (first-found has before after f met (none.1))
 
-none-found : (has : LineFault → Bool) (list : List LineFault) → ((f : LineFault) → has f ≡ false) → find has list ≡ None
+pub none-found : (has : LineFault → Bool) (list : List LineFault) → ((f : LineFault) → has f ≡ false) → find has list ≡ None
 none-found has [] none = refl
 none-found has (x ∷ rest) none = let h = none x in rw h (none-found has rest none)
 

@@ -1,4 +1,5 @@
 pub mod Earliest
+pub mod Entering
 pub mod FaultLists
 pub mod FieldLemmas
 pub mod Fitting
@@ -7,7 +8,9 @@ pub mod KeySizes
 pub mod LineFaults
 pub mod ReadLine
 mod Samples
+pub mod Settling
 pub mod Steps
+pub mod Telling
 pub mod UserLists
 pub mod ValidEntries
 pub mod ValidReading

@@ -11,4 +11,5 @@ pub mod Packets
 pub mod Reading
 pub mod Rows
 pub mod Valid
+pub mod Whole
 pub mod Words

@@ -1,6 +1,7 @@
 //! Laws of the lines of a text, over its table. Each is the contract of a function that does nothing.
 
 ghost use Rattle.scenario_text.specs.Laws.{LinesAreJudged, RequestsAreJudged};
+ghost use Rattle.scenario_text.specs.Whole.{ScenariosAreRead};
 
 /// A line of a scenario is refused with exactly the first fault that it has where it stands, and taken
 /// exactly where it has none; then it says what its keyword says with its words.
@@ -14,4 +15,13 @@ pub fn lines_are_judged()
 #[tactic(auto, using(crate::proofs::Judging::requests_are_judged))]
 pub fn requests_are_judged()
     ensures { RequestsAreJudged }
+{}
+
+/// All lines are read without a fault exactly where they are a scenario: the header, settings, the line
+/// `events`, events and the line `end`, each line without a fault of its own, no setting given twice and
+/// none missing that is needed. Each setting then has the value of its line, else its default, and the
+/// events are those of their lines, in order.
+#[tactic(auto, using(crate::proofs::Telling::scenarios_are_read))]
+pub fn scenarios_are_read()
+    ensures { ScenariosAreRead }
 {}

@@ -1,0 +1,178 @@
+-- What a scenario is, by all its lines: its settings, its events, and what reading it makes of them.
+use Rattle.std.specs.Prelude.{◌≡◌, ℕ, ◌≤◌, List, [], ◌∷◌, ◌++◌, length, map, filter, not, All, Option, Some, None, IsSome, IsTrue, false, Result, Ok}
+use Rattle.eap_base.specs.Setup.{psk_kind, gpsk_kind, is_among}
+use Rattle.eap_base.specs.Users.{AreDistinct}
+use Rattle.eap_base.specs.declared.users.User.{User}
+use Rattle.eap_base.specs.declared.setup.Mode.{Mode}
+use Rattle.eap_base.specs.declared.setup.Accepts.{Accepts}
+use Rattle.eap_base.specs.declared.setup.PeerSetup.{PeerSetup}
+use Rattle.eap_base.specs.declared.setup.ServerSetup.{ServerSetup}
+use Rattle.eap_base.specs.declared.setup.Setup.{Setup}
+use Rattle.eap_base.specs.declared.event.Event.{Event}
+use Rattle.scenario_text.specs.Words.{is_passed_over}
+use Rattle.scenario_text.specs.Fields.{◌>>=◌}
+use Rattle.scenario_text.specs.Entries.{has_fault, said_by}
+use Rattle.scenario_text.specs.Contents.{Set, Events, Happens, End}
+use Rattle.scenario_text.specs.Reading.{Reading, no_settings, header, read_line, finish_of, both_suites}
+use Rattle.scenario_text.specs.Items.{Item}
+use Rattle.scenario_text.specs.Items as item
+use Rattle.scenario_text.specs.declared.fault.LineFault.{LineFault}
+use Rattle.scenario_text.specs.declared.entry.Setting.{Setting}
+use Rattle.scenario_text.specs.declared.entry.Setting.TheVariants as setting
+use Rattle.scenario_text.specs.declared.scenario.Phase.TheVariants as phase
+
+-- the values of each setting, one for each line that gives it, in the order of the lines
+pub record Values : Type 0 where
+  pub mode : List Mode
+  pub first_id : List ℕ
+  pub max_retrans : List ℕ
+  pub peer_name : List (List ℕ)
+  pub peer_server : List Accepts
+  pub peer_methods : List (List ℕ)
+  pub peer_suites : List (List ℕ)
+  pub peer_psk47 : List (List ℕ)
+  pub peer_psk51 : List (List ℕ)
+  pub peer_nonce : List (List ℕ)
+  pub server_name : List (List ℕ)
+  pub server_methods : List (List ℕ)
+  pub server_suites : List (List ℕ)
+  pub server_nonce : List (List ℕ)
+  pub users : List User
+
+abbrev pub no_values : Values
+no_values = record {
+  mode = [];
+  first_id = [];
+  max_retrans = [];
+  peer_name = [];
+  peer_server = [];
+  peer_methods = [];
+  peer_suites = [];
+  peer_psk47 = [];
+  peer_psk51 = [];
+  peer_nonce = [];
+  server_name = [];
+  server_methods = [];
+  server_suites = [];
+  server_nonce = [];
+  users = [];
+}
+
+abbrev pub with_value : Setting → Values → Values
+with_value (setting.Mode v) rest = record rest { mode = v ∷ rest.mode }
+with_value (setting.FirstId v) rest = record rest { first_id = v ∷ rest.first_id }
+with_value (setting.MaxRetrans v) rest = record rest { max_retrans = v ∷ rest.max_retrans }
+with_value (setting.PeerName v) rest = record rest { peer_name = v ∷ rest.peer_name }
+with_value (setting.PeerServer v) rest = record rest { peer_server = v ∷ rest.peer_server }
+with_value (setting.PeerMethods v) rest = record rest { peer_methods = v ∷ rest.peer_methods }
+with_value (setting.PeerSuites v) rest = record rest { peer_suites = v ∷ rest.peer_suites }
+with_value (setting.PeerPsk47 v) rest = record rest { peer_psk47 = v ∷ rest.peer_psk47 }
+with_value (setting.PeerPsk51 v) rest = record rest { peer_psk51 = v ∷ rest.peer_psk51 }
+with_value (setting.PeerNonce v) rest = record rest { peer_nonce = v ∷ rest.peer_nonce }
+with_value (setting.ServerName v) rest = record rest { server_name = v ∷ rest.server_name }
+with_value (setting.ServerMethods v) rest = record rest { server_methods = v ∷ rest.server_methods }
+with_value (setting.ServerSuites v) rest = record rest { server_suites = v ∷ rest.server_suites }
+with_value (setting.ServerNonce v) rest = record rest { server_nonce = v ∷ rest.server_nonce }
+with_value (setting.User v) rest = record rest { users = v ∷ rest.users }
+
+abbrev pub values_of : List Setting → Values
+values_of [] = no_values
+values_of (v ∷ rest) = with_value v (values_of rest)
+
+-- a needed setting: exactly one line gives it
+abbrev pub IsGiven : {A : Type 0} → List A → A → Type 0
+IsGiven values value = values ≡ value ∷ []
+
+-- a setting that has a default: one line gives it, or none
+abbrev pub IsGivenOr : {A : Type 0} → A → List A → A → Type 0
+IsGivenOr default [] value = value ≡ default
+IsGivenOr default (given ∷ []) value = value ≡ given
+IsGivenOr default (given ∷ again ∷ rest) value = ⊥
+
+abbrev pub IsGivenOrNone : {A : Type 0} → List A → Option A → Type 0
+IsGivenOrNone [] slot = slot ≡ None
+IsGivenOrNone (given ∷ []) slot = slot ≡ Some given
+IsGivenOrNone (given ∷ again ∷ rest) slot = ⊥
+
+-- the key for a method: one line gives it, or none, and then the method isn't among these
+pub record IsKeyFor (methods : List ℕ) (kind : ℕ) (values : List (List ℕ)) (key : Option (List ℕ)) : Type 0 where
+  pub given : IsGivenOrNone values key
+  pub needed : IsTrue (is_among methods kind) → IsSome key
+
+-- the settings of each end and of a run are those that the lines give
+pub record MakesPeer (v : Values) (peer : PeerSetup) : Type 0 where
+  pub name : IsGiven v.peer_name peer.name
+  pub accepts : IsGiven v.peer_server peer.accepts
+  pub methods : IsGiven v.peer_methods peer.methods
+  pub suites : IsGivenOr both_suites v.peer_suites peer.suites
+  pub psk47 : IsKeyFor peer.methods psk_kind v.peer_psk47 peer.psk47
+  pub psk51 : IsKeyFor peer.methods gpsk_kind v.peer_psk51 peer.psk51
+  pub nonce : IsGiven v.peer_nonce peer.nonce
+
+pub record MakesServer (v : Values) (server : ServerSetup) : Type 0 where
+  pub name : IsGiven v.server_name server.name
+  pub methods : IsGiven v.server_methods server.methods
+  pub suites : IsGivenOr both_suites v.server_suites server.suites
+  pub nonce : IsGiven v.server_nonce server.nonce
+  pub users : v.users ≡ server.users
+  pub few_users : length server.users ≤ 16
+  pub distinct_users : AreDistinct server.users
+
+pub record MakesSetup (v : Values) (setup : Setup) : Type 0 where
+  pub mode : IsGiven v.mode setup.mode
+  pub first_id : IsGivenOr 0 v.first_id setup.first_id
+  pub max_retrans : IsGivenOr 4 v.max_retrans setup.max_retrans
+  pub peer : MakesPeer v setup.peer
+  pub server : MakesServer v setup.server
+
+-- the lines that aren't passed over
+abbrev pub told : List (List ℕ) → List (List ℕ)
+told lines = filter (λ line. not (is_passed_over line)) lines
+
+-- no fault of its own
+abbrev pub IsFaultless : List ℕ → Type 0
+IsFaultless line = (f : LineFault) → has_fault line f ≡ false
+
+-- a scenario: the header, and then, but for lines that are passed over, settings, the line `events`,
+-- events and the line `end`
+pub record IsScenario (lines : List (List ℕ)) (setup : Setup) (events : List Event) : Type 0 where
+  pub body : List (List ℕ)
+  pub settings : List Setting
+  pub begins : lines ≡ header ∷ body
+  pub faultless : All IsFaultless (told body)
+  pub order : map said_by (told body) ≡ map Set settings ++ Events ∷ (map Happens events ++ End ∷ [])
+  pub made : MakesSetup (values_of settings) setup
+
+-- what reading lines makes: the setup, where the line `events` came, and the events
+pub record Script : Type 0 where
+  pub setup : Option Setup
+  pub events : List Event
+
+abbrev pub no_script : Script
+no_script = record { setup = None; events = [] }
+
+abbrev pub with_item : Item → Script → Script
+with_item item.Nothing s = s
+with_item (item.Ready setup) s = record s { setup = Some setup }
+with_item (item.Event e) s = record s { events = e ∷ s.events }
+with_item item.End s = s
+
+-- the lines read in their order up to the end of the input, or the first fault
+unfoldable pub read_lines : Reading → List (List ℕ) → Result Script LineFault
+read_lines r [] = finish_of r >>= λ done. Ok no_script
+read_lines r (line ∷ rest) = read_line r line >>= λ x. read_lines x.after rest >>= λ s. Ok (with_item x.item s)
+
+abbrev pub read_all : List (List ℕ) → Result Script LineFault
+read_all lines = read_lines (record { phase = phase.Unread; settings = no_settings }) lines
+
+-- what was read is that of a scenario
+pub record IsScript (lines : List (List ℕ)) (script : Script) : Type 0 where
+  pub setup : Setup
+  pub whole : script.setup ≡ Some setup
+  pub scenario : IsScenario lines setup script.events
+
+-- lines are read without a fault exactly where they are a scenario, and then give its setup and its events
+pub record ScenariosAreRead : Type 0 where
+  pub taken : (lines : List (List ℕ)) (setup : Setup) (events : List Event) → IsScenario lines setup events →
+      read_all lines ≡ Ok (record { setup = Some setup; events = events })
+  pub only : (lines : List (List ℕ)) (script : Script) → read_all lines ≡ Ok script → IsScript lines script
