@@ -14,3 +14,4 @@ pub mod Telling
 pub mod UserLists
 pub mod ValidEntries
 pub mod ValidReading
+mod WholeSamples
