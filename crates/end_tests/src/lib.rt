@@ -1,4 +1,4 @@
-//! Tests of both methods' ends and of the two machines, by their public calls.
+//! Tests of both methods' ends and of the three machines, by their public calls.
 #![tactic(auto)]
 
 #[cfg(test)]
@@ -7,5 +7,7 @@ mod gpsk;
 mod login;
 #[cfg(test)]
 mod machines;
+#[cfg(test)]
+mod pass;
 #[cfg(test)]
 mod psk;

@@ -10,7 +10,7 @@ use std::alloc::Global;
 
 /// Whether the step sends the row's octets, as they stand in `packet`, discards for its cause and goes
 /// through its states; a dash stands for no octets and for no cause.
-fn is_step(step: &Step, packet: &Packet, row: &mut Row) -> bool {
+pub fn is_step(step: &Step, packet: &Packet, row: &mut Row) -> bool {
     let sent = if step.sends { packet.as_slice() } else { &[] };
     let is_sent = sent == row.octets().as_slice();
     let cause = match step.cause {
