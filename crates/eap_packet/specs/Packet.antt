@@ -1,6 +1,6 @@
 -- EAP packets (RFC 3748 section 4): packet values and their one spelling.
 use Rattle.std.specs.Prelude.{◌≡◌, ◌≢◌, ℕ, ◌+◌, ◌/◌, ◌%◌, ◌<◌, ◌≤◌, List, [], ◌∷◌, ◌++◌, length, All, Bool, true, false, Result, Ok, Err}
-use Rattle.eap_packet.specs.declared.packet.View.{View}
+use Rattle.eap_packet.specs.declared.packet.PacketView.{PacketView}
 use Rattle.eap_packet.specs.declared.packet.Code.{Code}
 use Rattle.eap_packet.specs.declared.cause.Cause.{Cause}
 use Rattle.eap_packet.specs.declared.packet.Code.TheVariants.{Request, Response, Success, Failure}
@@ -75,10 +75,10 @@ IsPlain Success kind body = (kind ≡ 0) × (body ≡ [])
 IsPlain Failure kind body = (kind ≡ 0) × (body ≡ [])
 
 -- the packet value that a view shows
-abbrev pub value_of : View → PacketValue
+abbrev pub value_of : PacketView → PacketValue
 value_of view = value_with view.code view.id view.kind view.body.now
 
 -- a decoder's answer, with the packet value in place of the view
-abbrev pub heard : Result View Cause → Result PacketValue Cause
+abbrev pub heard : Result PacketView Cause → Result PacketValue Cause
 heard (Ok view) = Ok (value_of view)
 heard (Err cause) = Err cause

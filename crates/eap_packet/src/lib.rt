@@ -10,7 +10,7 @@ mod state;
 pub use cause::Cause;
 pub use laws::{faultless_is_spelled, reads_the_spelling, spellings_are_apart, spellings_are_read};
 pub use packet::{
-    Code, View, begin_into, decode, encode, encode_end, encode_end_into, encode_into,
+    Code, PacketView, begin_into, decode, encode, encode_end, encode_end_into, encode_into,
 };
 pub use path::Path;
 pub use state::State;

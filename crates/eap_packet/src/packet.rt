@@ -19,7 +19,7 @@ pub enum Code {
 
 /// A packet, as its octets show it.
 #[derive(Clone, Copy)]
-pub struct View<'a> {
+pub struct PacketView<'a> {
     pub code: Code,
     /// The Identifier.
     pub id: u8,
@@ -74,7 +74,7 @@ fn first_fault(octets: &[u8]) -> Option<Cause>
 }
 
 /// The Request or the Response that the octets begin with.
-fn typed_view<'a>(code: Code, octets: &'a [u8]) -> View<'a>
+fn typed_view<'a>(code: Code, octets: &'a [u8]) -> PacketView<'a>
     requires typed { 5 ≤ length_of octets.now }
     requires whole { length_of octets.now ≤ length octets.now }
     requires fits { length_of octets.now ≤ 1500 }
@@ -87,7 +87,7 @@ fn typed_view<'a>(code: Code, octets: &'a [u8]) -> View<'a>
     ensures body_size { length result.body.now ≤ 1495 }
 {
     let length = length_field(octets);
-    View {
+    PacketView {
         code,
         id: octets[1],
         kind: octets[4],
@@ -97,7 +97,7 @@ fn typed_view<'a>(code: Code, octets: &'a [u8]) -> View<'a>
 }
 
 /// The Success or the Failure that the octets begin with.
-fn end_view<'a>(code: Code, octets: &'a [u8]) -> View<'a>
+fn end_view<'a>(code: Code, octets: &'a [u8]) -> PacketView<'a>
     requires { 4 ≤ length octets.now }
     ensures same_code { result.code ≡ code }
     ensures id { result.id ≡ slice_index octets.now 1 }
@@ -106,7 +106,7 @@ fn end_view<'a>(code: Code, octets: &'a [u8]) -> View<'a>
     ensures whole { result.whole.now ≡ take 4 octets.now }
     ensures size { length result.whole.now ≤ 1500 }
 {
-    View {
+    PacketView {
         code,
         id: octets[1],
         kind: 0,
@@ -117,7 +117,7 @@ fn end_view<'a>(code: Code, octets: &'a [u8]) -> View<'a>
 
 /// The packet that the octets begin with.
 #[tactic(auto, using(crate::proofs::Faults::begins_if_none))]
-fn view_of<'a>(octets: &'a [u8]) -> View<'a>
+fn view_of<'a>(octets: &'a [u8]) -> PacketView<'a>
     requires { fault octets.now ≡ None }
     ensures value { value_of result ≡ fields_of (code_of octets.now) octets.now }
     ensures whole { result.whole.now ≡ take (length_of octets.now) octets.now }
@@ -136,7 +136,7 @@ fn view_of<'a>(octets: &'a [u8]) -> View<'a>
 /// The packet that the octets begin with; the octets past its Length are padding. Else the first
 /// cause, in the order of `Cause`, that keeps them from beginning with one (RFC 3748 section 4).
 #[tactic(auto, unfolding(crate::specs::Fault::packet_of))]
-pub fn decode<'a>(octets: &'a [u8]) -> Result<View<'a>, Cause>
+pub fn decode<'a>(octets: &'a [u8]) -> Result<PacketView<'a>, Cause>
     ensures packet { heard result ≡ packet_of octets.now }
     ensures sound { IfOk result (λ view. IsPacket (value_of view)) }
     ensures whole { IfOk result (λ view. view.whole.now ≡ spelled (value_of view)) }

@@ -17,7 +17,7 @@ use eap_method::{
     Decision, MethodState, PeerMethod, PeerTurn, Report, Step, Tags, begin_peers, hand_to_peer,
     has_ended, peer_report,
 };
-use eap_packet::{Cause, Code, State, View, decode, encode_into};
+use eap_packet::{Cause, Code, State, PacketView, decode, encode_into};
 use login_policy::{nak_list, peer_allows};
 use std::marker::Model;
 
@@ -182,7 +182,7 @@ impl<M: PeerMethod> PeerMachine<M> {
 
     /// RECEIVED, of a packet; `tags` has no record yet.
     #[tactic(auto, using(crate::proofs::Requests::is_request))]
-    fn take(&mut self, view: &View, packet: &mut Packet, tags: &mut Tags) -> Step
+    fn take(&mut self, view: &PacketView, packet: &mut Packet, tags: &mut Tags) -> Step
         requires packet { IsPacket (value_of view.now) }
         requires whole { view.now.whole.now ≡ spelled (value_of view.now) }
         requires tags { tags.old ≡ no_tags }

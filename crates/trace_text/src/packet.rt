@@ -17,7 +17,7 @@ use crate::line_buffer::LineBuffer;
 use crate::pieces::Piece::{Hex, Number, Text};
 use crate::pieces::{put_pieces, send, write_pieces};
 use eap_base::{Failed, Sink};
-use eap_packet::{Cause, Code, View, decode};
+use eap_packet::{Cause, Code, PacketView, decode};
 use gpsk_messages::{GpskView, read_gpsk};
 use psk_messages::{PskView, read_psk};
 
@@ -203,7 +203,7 @@ fn put_typed<W: Sink>(
     line: &mut LineBuffer,
     number: u32,
     code: &str,
-    view: &View,
+    view: &PacketView,
     octets: usize,
 ) -> Result<(), Failed>
     requires whole { length view.now.whole.now ≤ octets }
@@ -272,7 +272,7 @@ fn put_end_line<W: Sink>(
     line: &mut LineBuffer,
     number: u32,
     code: &str,
-    view: &View,
+    view: &PacketView,
     octets: usize,
 ) -> Result<(), Failed>
     requires { length view.now.whole.now ≤ octets }
@@ -308,7 +308,7 @@ fn put_view<W: Sink>(
     sink: &mut W,
     line: &mut LineBuffer,
     number: u32,
-    view: &View,
+    view: &PacketView,
     octets: usize,
 ) -> Result<(), Failed>
     requires whole { length view.now.whole.now ≤ octets }
