@@ -19,7 +19,7 @@ use eap_method::{
     Report, ServerMethod, ServerSide, ServerTurn, Step, Tags, begin_servers, hand_to_server,
     has_ended, offer_method, server_report,
 };
-use eap_packet::{Cause, Code, State, View, decode, encode_end_into, encode_into};
+use eap_packet::{Cause, Code, State, PacketView, decode, encode_end_into, encode_into};
 use login_policy::next_method;
 use std::marker::Model;
 
@@ -223,7 +223,7 @@ impl<M: ServerMethod> ServerMachine<M> {
 
     /// RECEIVED, of a packet; `tags` has no record yet.
     #[tactic(auto, using(crate::proofs::Responses::is_response))]
-    fn take(&mut self, view: &View, packet: &mut Packet, tags: &mut Tags) -> Step
+    fn take(&mut self, view: &PacketView, packet: &mut Packet, tags: &mut Tags) -> Step
         requires packet { IsPacket (value_of view.now) }
         requires whole { view.now.whole.now ≡ spelled (value_of view.now) }
         requires tags { tags.old ≡ no_tags }
@@ -245,7 +245,7 @@ impl<M: ServerMethod> ServerMachine<M> {
 
     /// A Response with currentId; `tags` has no record yet. With the identity the Identity round is over,
     /// and the first method is proposed.
-    fn take_current(&mut self, view: &View, packet: &mut Packet, tags: &mut Tags) -> Step
+    fn take_current(&mut self, view: &PacketView, packet: &mut Packet, tags: &mut Tags) -> Step
         requires response { IsResponse view.now.kind view.now.whole.now }
         requires whole { view.now.whole.now ≡ spelled (packets.response view.now.id view.now.kind view.now.body.now) }
         requires tags { tags.old ≡ no_tags }
