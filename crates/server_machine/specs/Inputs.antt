@@ -1,4 +1,5 @@
--- What comes to the server, and what it makes of it (RFC 4137 section 5).
+-- What comes to the server, and what it makes of it (RFC 4137 sections 5 and 6). A backend gets octets
+-- alone: its pass-through starts, and has the timer.
 use Rattle.std.specs.Prelude.{ℕ, List, [], if◌then◌else◌}
 use Rattle.eap_method.specs.Steps.{enters, is_end}
 use Rattle.eap_method.specs.Tags.{no_tags}

@@ -1,4 +1,4 @@
--- The rows of the server's table (RFC 4137 section 5), each with all that is then known.
+-- The rows of the server's table (RFC 4137 sections 5 and 6), each with all that is then known.
 use Rattle.std.specs.Prelude.{◌≡◌, ℕ, ◌+◌, List, [], ◌∷◌, true, false, ◌==◌, ◌&&◌, nat_le, Option, Some, None, Ok, Err}
 use Rattle.eap_packet.specs.Fault.{packet_of}
 use Rattle.eap_packet.specs.Packet.{PacketValue, response, spelled}
@@ -14,24 +14,29 @@ use Rattle.eap_method.specs.Server.{ServerViews, Offer, side_of, server_offer, s
 use Rattle.eap_method.specs.Steps.{sends, enters, discards, is_end}
 use Rattle.eap_method.specs.Tags.{no_tags}
 use Rattle.server_machine.specs.Inputs.{ServerInput, start, timeout, octets, server_rests, server_takes}
-use Rattle.server_machine.specs.ServerTable.{ServerNow, ServerAnswer, answer, identity, nak, next_id, before_proposal, ends_badly, offers, method_answers, is_awaited, is_proposed, is_started, server_start}
+use Rattle.server_machine.specs.ServerTable.{ServerNow, ServerAnswer, answer, identity, nak, next_id, before_proposal, ends_badly, offers, method_answers, is_awaited, is_proposed, is_started, awaits_first, picked_up, server_start}
 use Rattle.server_machine.specs.declared.variables.Progress.TheVariants as progress
 use Rattle.server_machine.specs.declared.variables.Way.TheVariants as way
 use Rattle.server_machine.specs.declared.variables.ServerVariables.{ServerVariables}
 
--- this Response with currentId has come to a server that has not ended
+-- this Response has come to a server that has not ended
 pub record Hears (now : ServerNow) (bytes : List ℕ) (id kind : ℕ) (body : List ℕ) : Type 0 where
   pub going : is_end now.vars.state ≡ false
   pub is_packet : packet_of bytes ≡ Ok (response id kind body)
-  pub is_current : now.vars.current_id ≡ Some id
 
--- a method is to be proposed, after the Identity round or a Nak: the states before it, the variables
--- then, and what the Nak desires
-pub data Selects (now : ServerNow) (kind : ℕ) (body : List ℕ) : List State → ServerVariables → Option (List ℕ) → Type 0 where
-  after_identity : (is_identity : kind ≡ identity) (is_current : now.vars.current ≡ Some identity)
-      → Selects now kind body (before_proposal way.AfterResponse) (record now.vars { progress = progress.End }) None
-  after_nak : (is_nak : kind ≡ nak) (waits : is_proposed now.vars.progress ≡ true)
-      → Selects now kind body (before_proposal way.AfterNak) now.vars (Some body)
+-- a method is to be proposed, after the Identity round, a Nak or a backend's first Response: the states
+-- before it, the variables then, and what the Nak desires
+pub data Selects (now : ServerNow) (id kind : ℕ) (body : List ℕ) : List State → ServerVariables → Option (List ℕ) → Type 0 where
+  after_identity : (is_id : now.vars.current_id ≡ Some id) (is_identity : kind ≡ identity) (is_current : now.vars.current ≡ Some identity)
+      → Selects now id kind body (before_proposal way.AfterResponse) (record now.vars { progress = progress.End }) None
+  after_nak : (is_id : now.vars.current_id ≡ Some id) (is_nak : kind ≡ nak) (waits : is_proposed now.vars.progress ≡ true)
+      → Selects now id kind body (before_proposal way.AfterNak) now.vars (Some body)
+  first_identity : (awaited : awaits_first now.vars ≡ true) (is_identity : kind ≡ identity)
+      → Selects now id kind body (before_proposal way.FirstIdentity) (record (picked_up now.vars id) { progress = progress.End }) None
+  first_nak : (awaited : awaits_first now.vars ≡ true) (is_nak : kind ≡ nak)
+      → Selects now id kind body (before_proposal way.FirstNak) (picked_up now.vars id) (Some body)
+  first_other : (awaited : awaits_first now.vars ≡ true) (no_nak : (kind == nak) ≡ false) (no_identity : (kind == identity) ≡ false)
+      → Selects now id kind body (before_proposal way.FirstOther) (picked_up now.vars id) None
 
 -- the method that is proposed next, and its offer
 pub record Proposes (now : ServerNow) (vars : ServerVariables) (desired : Option (List ℕ)) (next : ℕ) (offer : Offer) : Type 0 where
@@ -40,6 +45,7 @@ pub record Proposes (now : ServerNow) (vars : ServerVariables) (desired : Option
 
 -- the current method has this turn, and both views are these after it
 pub record Turns (now : ServerNow) (id kind : ℕ) (body : List ℕ) (turn : ServerTurn) (views : ServerViews) : Type 0 where
+  pub is_id : now.vars.current_id ≡ Some id
   pub is_current : now.vars.current ≡ Some kind
   pub no_identity : (kind == identity) ≡ false
   pub no_nak : ((kind == nak) && is_proposed now.vars.progress) ≡ false
@@ -52,7 +58,7 @@ pub data Drops (now : ServerNow) (bytes : List ℕ) : Cause → Type 0 where
       → Drops now bytes cause.WrongRole
   other_id : (id kind : ℕ) (body : List ℕ) (is_packet : packet_of bytes ≡ Ok (response id kind body)) (other : is_awaited now.vars.current_id id ≡ false)
       → Drops now bytes cause.IdMismatch
-  other_method : (id kind : ℕ) (body : List ℕ) (heard : Hears now bytes id kind body) (other : is_awaited now.vars.current kind ≡ false)
+  other_method : (id kind : ℕ) (body : List ℕ) (heard : Hears now bytes id kind body) (is_id : now.vars.current_id ≡ Some id) (other : is_awaited now.vars.current kind ≡ false)
       (no_nak : ((kind == nak) && is_proposed now.vars.progress) ≡ false) → Drops now bytes cause.WrongMethod
   by_method : (id kind : ℕ) (body : List ℕ) (c : Cause) (views : ServerViews) (heard : Hears now bytes id kind body)
       (turned : Turns now id kind body (turn.Discard c) views) → Drops now bytes c
@@ -80,16 +86,16 @@ pub data ServerRow (now : ServerNow) : ServerInput → ServerAnswer → Type 0 w
   -- SELECT_ACTION with a method that is offered, with one that can't be, and with none
   proposes : (bytes : List ℕ) (id kind : ℕ) (body : List ℕ) (entered : List State) (vars : ServerVariables) (desired : Option (List ℕ))
       (next : ℕ) (packet : List ℕ) (views : ServerViews)
-      (heard : Hears now bytes id kind body) (selects : Selects now kind body entered vars desired)
+      (heard : Hears now bytes id kind body) (selects : Selects now id kind body entered vars desired)
       (next_is : Proposes now vars desired next (record { packet = Some packet; after = views }))
       → ServerRow now (octets bytes) (offers entered vars views id next (Some packet))
   proposes_without : (bytes : List ℕ) (id kind : ℕ) (body : List ℕ) (entered : List State) (vars : ServerVariables) (desired : Option (List ℕ))
       (next : ℕ) (views : ServerViews)
-      (heard : Hears now bytes id kind body) (selects : Selects now kind body entered vars desired)
+      (heard : Hears now bytes id kind body) (selects : Selects now id kind body entered vars desired)
       (next_is : Proposes now vars desired next (record { packet = None; after = views }))
       → ServerRow now (octets bytes) (ends_badly entered vars views id no_tags)
   proposes_none : (bytes : List ℕ) (id kind : ℕ) (body : List ℕ) (entered : List State) (vars : ServerVariables) (desired : Option (List ℕ))
-      (heard : Hears now bytes id kind body) (selects : Selects now kind body entered vars desired)
+      (heard : Hears now bytes id kind body) (selects : Selects now id kind body entered vars desired)
       (none : next_kind vars.setup.methods vars.proposed desired ≡ None)
       → ServerRow now (octets bytes) (ends_badly entered vars now.views id no_tags)
   -- METHOD_REQUEST after the method's turn; SUCCESS and FAILURE where it is over

@@ -1,6 +1,6 @@
--- The stand-alone server of RFC 4137 section 5, over the views of its methods: each call as a
--- function.
-use Rattle.std.specs.Prelude.{◌≡◌, ◌≤◌, ℕ, ◌+◌, ◌%◌, List, [], ◌∷◌, ◌++◌, Bool, true, false, ◌==◌, ◌&&◌, ◌||◌, nat_le, if◌then◌else◌, Option, Some, None, Result, Ok, Err, map}
+-- The stand-alone server of RFC 4137 section 5 and the backend of section 6, over the views of their
+-- methods: each call as a function. The backend is the same table behind another door: its first Response.
+use Rattle.std.specs.Prelude.{◌≡◌, ◌≤◌, ℕ, ◌+◌, ◌%◌, List, [], ◌∷◌, ◌++◌, Bool, true, false, ◌==◌, ◌&&◌, ◌||◌, not, nat_le, if◌then◌else◌, Option, Some, None, Result, Ok, Err, map}
 use Rattle.eap_base.specs.declared.setup.ServerSetup.{ServerSetup}
 use Rattle.eap_base.specs.Setup.{is_among, are_kinds, IsSoundServer}
 use Rattle.eap_packet.specs.Packet.{PacketValue, request, response, success, failure, spelled}
@@ -21,6 +21,8 @@ use Rattle.eap_method.specs.Tags.{no_tags}
 use Rattle.server_machine.specs.declared.variables.ServerVariables.{ServerVariables}
 use Rattle.server_machine.specs.declared.variables.Progress.{Progress}
 use Rattle.server_machine.specs.declared.variables.Progress.TheVariants as progress
+use Rattle.server_machine.specs.declared.variables.Role.{Role}
+use Rattle.server_machine.specs.declared.variables.Role.TheVariants as role
 use Rattle.server_machine.specs.declared.variables.Way.{Way}
 use Rattle.server_machine.specs.declared.variables.Way.TheVariants as way
 
@@ -47,8 +49,9 @@ abbrev pub answer : Step → ServerNow → ServerAnswer
 answer step after = record { step = step; after = after }
 
 -- a server that has not started; the methods that it proposes have begun
-abbrev pub vars_made : ServerSetup → ℕ → ℕ → ServerVariables
-vars_made setup first_id max_retrans = record {
+abbrev pub vars_made : Role → ServerSetup → ℕ → ℕ → ServerVariables
+vars_made of setup first_id max_retrans = record {
+  role = of;
   setup = setup;
   first_id = first_id;
   max_retrans = max_retrans;
@@ -61,8 +64,12 @@ vars_made setup first_id max_retrans = record {
   proposed = [];
 }
 
-abbrev pub server_made : ServerSetup → ℕ → ℕ → ServerNow
-server_made setup first_id max_retrans = record { vars = vars_made setup first_id max_retrans; views = views_begun setup }
+abbrev pub server_made : Role → ServerSetup → ℕ → ℕ → ServerNow
+server_made of setup first_id max_retrans = record { vars = vars_made of setup first_id max_retrans; views = views_begun setup }
+
+-- a backend before its first Response; it has no first Identifier of its own, and sends nothing again
+abbrev pub backend_made : ServerSetup → ServerNow
+backend_made setup = server_made role.Backend setup 0 0
 
 -- Type 1, Identity
 abbrev pub identity : ℕ
@@ -152,6 +159,9 @@ select_action entered vars views id desired = proposes entered vars views id (ne
 abbrev pub before_proposal : Way → List State
 before_proposal way.AfterNak = state.Received ∷ state.Nak ∷ state.SelectAction ∷ []
 before_proposal way.AfterResponse = state.Received ∷ state.IntegrityCheck ∷ state.MethodResponse ∷ state.SelectAction ∷ []
+before_proposal way.FirstIdentity = state.PickUpMethod ∷ state.MethodResponse ∷ state.SelectAction ∷ []
+before_proposal way.FirstNak = state.Nak ∷ state.SelectAction ∷ []
+before_proposal way.FirstOther = state.PickUpMethod ∷ state.SelectAction ∷ []
 
 -- the identity has come: the Identity round is over, and the first method is proposed
 abbrev pub hears_identity : ServerNow → ℕ → ServerAnswer
@@ -209,10 +219,50 @@ server_row now (Ok (response id kind body)) =
 server_row now (Ok (success id)) = server_discard now cause.WrongRole
 server_row now (Ok (failure id)) = server_discard now cause.WrongRole
 
+-- ---- the backend's first Response (RFC 4137 section 6.4)
+
+-- it sets currentId, from which the Requests go on
+abbrev pub picked_up : ServerVariables → ℕ → ServerVariables
+picked_up vars id = record vars { state = state.Idle; current_id = Some id }
+
+-- PICK_UP_METHOD or NAK: the Identity round is over before it, and the first method is proposed, or the first
+-- that a Nak desires
+abbrev pub first_response : ServerNow → ℕ → ℕ → List ℕ → ServerAnswer
+first_response now id kind body =
+    if kind == nak
+    then select_action (before_proposal way.FirstNak) (picked_up now.vars id) now.views id (Some body)
+    else if kind == identity
+    then select_action (before_proposal way.FirstIdentity) (record (picked_up now.vars id) { progress = progress.End }) now.views id None
+    else select_action (before_proposal way.FirstOther) (picked_up now.vars id) now.views id None
+
+-- all else is discarded with an empty path
+abbrev pub first_discard : ServerNow → Cause → ServerAnswer
+first_discard now c = answer (discards [] c) now
+
+abbrev pub pick_up : ServerNow → Result PacketValue Cause → ServerAnswer
+pick_up now (Err c) = first_discard now c
+pick_up now (Ok (request id kind body)) = first_discard now cause.WrongRole
+pick_up now (Ok (response id kind body)) = first_response now id kind body
+pick_up now (Ok (success id)) = first_discard now cause.WrongRole
+pick_up now (Ok (failure id)) = first_discard now cause.WrongRole
+
+-- whether the server has started
+abbrev pub is_started : ServerVariables → Bool
+is_started vars = elim vars.state [ state.Initialize ↦ false | _ ↦ true ]
+
+abbrev pub is_backend : ServerVariables → Bool
+is_backend vars = elim vars.role [ role.Backend ↦ true | role.StandAlone ↦ false ]
+
+-- whether a backend still waits for its first Response
+abbrev pub awaits_first : ServerVariables → Bool
+awaits_first vars = is_backend vars && not (is_started vars)
+
 -- a delivery; after the end it is discarded with an empty path
 unfoldable pub server_deliver : ServerNow → List ℕ → ServerAnswer
 server_deliver now octets =
-    if is_end now.vars.state then answer (discards [] cause.Ended) now else server_row now (packet_of octets)
+    if is_end now.vars.state then answer (discards [] cause.Ended) now
+    else if awaits_first now.vars then pick_up now (packet_of octets)
+    else server_row now (packet_of octets)
 
 -- the retransmission timer ends: the Request is sent again, at most MaxRetrans times
 unfoldable pub server_timeout : ServerNow → ServerAnswer
@@ -232,10 +282,6 @@ current_report views (Some kind) = server_report_of kind views
 -- what the server reports
 abbrev pub server_reports : ServerNow → Option Report
 server_reports now = current_report now.views now.vars.current
-
--- whether the server has started
-abbrev pub is_started : ServerVariables → Bool
-is_started vars = elim vars.state [ state.Initialize ↦ false | _ ↦ true ]
 
 -- whether a current method is Identity or one that the server proposes
 abbrev pub is_current : List ℕ → Option ℕ → Bool

@@ -1,13 +1,16 @@
-//! The stand-alone server of EAP (RFC 4137 section 5) over the objects of its methods.
+//! The servers of EAP over the objects of their methods: stand-alone (RFC 4137 section 5), and the backend
+//! behind a pass-through (section 6).
 #![tactic(auto)]
 
+mod backend;
 mod laws;
 mod machine;
 mod variables;
 
+pub use backend::Backend;
 pub use laws::{answers_are_rows, discards_keep};
 pub use machine::ServerMachine;
-pub use variables::{Progress, ServerVariables, Way};
+pub use variables::{Progress, Role, ServerVariables, Way};
 
 /// What one call of the server does.
 pub type ServerStep = eap_method::Step;

@@ -1,25 +1,26 @@
-//! The stand-alone server of RFC 4137 section 5 over the objects of its methods.
+//! The server of RFC 4137 over the objects of its methods: stand-alone (section 5), or a backend (section
+//! 6).
 
 ghost use Rattle.std.specs.Prelude.{◌≡◌, ◌≤◌, ◌<◌, [], ◌∷◌, ◌++◌, ℕ, List, true, false, not, map, length, Some, None, Ok, option_copied, All, IsTrue, if◌then◌else◌};
 ghost use Rattle.eap_base.specs.Setup.{IsSoundServer, is_among, are_suites, fits_kind};
 ghost use Rattle.eap_packet.specs.Packet.{spelled, value_of, value_with, has_type, IsPacket};
 ghost use Rattle.eap_packet.specs.Packet as packets;
-ghost use Rattle.eap_packet.specs.declared.state.State.TheVariants.{ProposeMethod, MethodRequest, SendRequest, Received, Discard, Idle};
+ghost use Rattle.eap_packet.specs.declared.state.State.TheVariants.{ProposeMethod, MethodRequest, SendRequest, Received, Discard, Idle, Failure};
 ghost use Rattle.eap_method.specs.Peer.{have_each};
 ghost use Rattle.eap_method.specs.Server.{IsResponse, ServerViews, server_views, server_kinds, server_offer, server_turn, side_of};
 ghost use Rattle.eap_method.specs.ServerTurn.{server_turn_with, server_tags};
 ghost use Rattle.eap_method.specs.Steps.{step_with};
 ghost use Rattle.eap_method.specs.Tags.{no_tags};
 ghost use Rattle.server_machine.specs.declared.variables.Way.TheVariants.{AfterResponse};
-ghost use Rattle.server_machine.specs.ServerTable.{answer, before_proposal, identity_request, next_id, with_request, ends_well, ends_badly, offers, method_answers, settled, AreInOrder, is_current};
+ghost use Rattle.server_machine.specs.ServerTable.{answer, before_proposal, identity_request, next_id, with_request, ends_well, ends_badly, offers, method_answers, settled, awaits_first, AreInOrder, is_current};
 
-use crate::variables::{Progress, ServerVariables, Way};
+use crate::variables::{Progress, Role, ServerVariables, Way};
 use eap_base::{Kinds, Packet, ServerSetup};
 use eap_method::{
     Report, ServerMethod, ServerSide, ServerTurn, Step, Tags, begin_servers, hand_to_server,
     has_ended, offer_method, server_report,
 };
-use eap_packet::{Cause, Code, State, PacketView, decode, encode_end_into, encode_into};
+use eap_packet::{Cause, Code, PacketView, State, decode, encode_end_into, encode_into};
 use login_policy::next_method;
 use std::marker::Model;
 
@@ -47,8 +48,9 @@ const SUCCEEDING: [State; 5] = [
     State::Success,
 ];
 
-/// The stand-alone server of RFC 4137 section 5: its variables, and the objects of its methods.
-/// Contracts see both; what an object shows is its ghost member `server_shown`.
+/// The server of RFC 4137, stand-alone (section 5) or, for a world with a pass-through, in the role of the
+/// backend (section 6): its variables, and the objects of its methods. Contracts see both; what an object
+/// shows is its ghost member `server_shown`. [`Backend`](crate::Backend) is the backend by itself.
 #[derive(Drop)]
 pub struct ServerMachine<M> {
     vars: ServerVariables,
@@ -68,9 +70,11 @@ impl<M> Model for ServerMachine<M> {
 impl<M: ServerMethod> ServerMachine<M> {
     ghost use Rattle.eap_method.specs.Steps.{is_end};
     ghost use Rattle.server_machine.specs.ServerTable.{ServerAnswer, now_of, server_made, server_start, server_deliver, server_timeout, server_reports, is_started, server_row, select_action, server_method, current_response};
+    ghost use Rattle.server_machine.specs.ServerTable.{first_response, pick_up};
+    ghost use Rattle.server_machine.specs.declared.variables.Role.TheVariants.{StandAlone};
 
-    /// A server that has not started: begins the objects of the methods that the setup proposes. Each of
-    /// these methods has an object; `max_retrans` is at most 10.
+    /// A stand-alone server that has not started: begins the objects of the methods that the setup
+    /// proposes. Each of these methods has an object; `max_retrans` is at most 10.
     pub fn new(
         setup: ServerSetup,
         first_id: u8,
@@ -80,13 +84,32 @@ impl<M: ServerMethod> ServerMachine<M> {
         requires sound { IsSoundServer setup }
         requires few { max_retrans ≤ 10 }
         requires objects { have_each (server_kinds (map M.server_shown methods.items)) setup.methods ≡ true }
-        ensures made { now_of M.server_shown result ≡ server_made setup first_id max_retrans }
+        ensures made { now_of M.server_shown result ≡ server_made StandAlone setup first_id max_retrans }
+        ensures kinds { server_kinds (map M.server_shown result.methods) ≡ server_kinds (map M.server_shown methods.items) }
+    {
+        ServerMachine::in_role(Role::StandAlone, setup, first_id, max_retrans, methods)
+    }
+
+    /// A server in either role, before its start or, of a backend, its first Response: as
+    /// [`ServerMachine::new`]. A backend uses neither `first_id` nor `max_retrans`.
+    pub fn in_role(
+        role: Role,
+        setup: ServerSetup,
+        first_id: u8,
+        max_retrans: u8,
+        methods: Vec<M>,
+    ) -> ServerMachine<M>
+        requires sound { IsSoundServer setup }
+        requires few { max_retrans ≤ 10 }
+        requires objects { have_each (server_kinds (map M.server_shown methods.items)) setup.methods ≡ true }
+        ensures made { now_of M.server_shown result ≡ server_made role setup first_id max_retrans }
         ensures kinds { server_kinds (map M.server_shown result.methods) ≡ server_kinds (map M.server_shown methods.items) }
     {
         let mut methods = methods;
         begin_servers(methods.as_mut_slice(), &setup);
         ServerMachine {
             vars: ServerVariables {
+                role,
                 setup,
                 first_id,
                 max_retrans,
@@ -130,8 +153,8 @@ impl<M: ServerMethod> ServerMachine<M> {
     }
 
     /// Octets come from the peer. The packet that they begin with is taken through RECEIVED (RFC 4137
-    /// section 5.5). Octets that begin with no packet are discarded, and so are all once the server has
-    /// ended. The packet that is sent is written into `packet`, the records of the turn's tags into `tags`,
+    /// section 5.5); the first Response to a backend goes to PICK_UP_METHOD or NAK (section 6.5). Octets that
+    /// begin with no packet are discarded, and so are all once the server has ended. The packet that is sent is written into `packet`, the records of the turn's tags into `tags`,
     /// in place of what was there. A discard changes neither a variable nor a method's view, and leaves
     /// no record. Without a packet that is sent, nothing counts in `packet`.
     #[tactic(auto, unfolding(crate::specs::ServerTable::server_deliver))]
@@ -144,9 +167,22 @@ impl<M: ServerMethod> ServerMachine<M> {
         if self.ended() {
             return Step::discarding(&[], Cause::Ended);
         }
+        let is_first = awaits_first(&self.vars);
         match decode(octets) {
-            Err(cause) => discard(cause),
-            Ok(view) => self.take(&view, packet, tags),
+            Err(cause) => {
+                if is_first {
+                    Step::discarding(&[], cause)
+                } else {
+                    discard(cause)
+                }
+            }
+            Ok(view) => {
+                if is_first {
+                    self.pick_up(&view, packet)
+                } else {
+                    self.take(&view, packet, tags)
+                }
+            }
         }
     }
 
@@ -219,6 +255,41 @@ impl<M: ServerMethod> ServerMachine<M> {
         ensures { result.items ≡ self.methods }
     {
         self.methods
+    }
+
+    /// A packet comes to a backend that waits for the first Response; all else is discarded with an empty
+    /// path.
+    fn pick_up(&mut self, view: &PacketView, packet: &mut Packet) -> Step
+        requires going { is_end self.old.vars.state ≡ false }
+        ensures step { pick_up (now_of M.server_shown self.old) (Ok (value_of view.now))
+            ≡ answer (step_with result packet.new no_tags) (now_of M.server_shown self.new) }
+        ensures kinds { server_kinds (map M.server_shown self.new.methods) ≡ server_kinds (map M.server_shown self.old.methods) }
+    {
+        match view.code {
+            Code::Response => self.pick_up_response(view.id, view.kind, view.body, packet),
+            Code::Request | Code::Success | Code::Failure => {
+                Step::discarding(&[], Cause::WrongRole)
+            }
+        }
+    }
+
+    /// The first Response sets currentId, and the first method is proposed, or the first that a Nak desires.
+    fn pick_up_response(&mut self, id: u8, kind: u8, body: &[u8], packet: &mut Packet) -> Step
+        requires going { is_end self.old.vars.state ≡ false }
+        ensures step { first_response (now_of M.server_shown self.old) id kind body.now
+            ≡ answer (step_with result packet.new no_tags) (now_of M.server_shown self.new) }
+        ensures kinds { server_kinds (map M.server_shown self.new.methods) ≡ server_kinds (map M.server_shown self.old.methods) }
+    {
+        self.vars.state = State::Idle;
+        self.vars.current_id = Some(id);
+        if kind == NAK {
+            self.propose(Way::FirstNak, id, Some(body), packet)
+        } else if kind == IDENTITY {
+            self.vars.progress = Progress::End;
+            self.propose(Way::FirstIdentity, id, None, packet)
+        } else {
+            self.propose(Way::FirstOther, id, None, packet)
+        }
     }
 
     /// RECEIVED, of a packet; `tags` has no record yet.
@@ -301,6 +372,13 @@ impl<M: ServerMethod> ServerMachine<M> {
         let turn = turn_of(&mut self.methods, &self.vars, kind, response, packet, tags);
         settle(&mut self.vars, id, turn, packet)
     }
+}
+
+/// True for a backend that still waits for its first Response.
+fn awaits_first(vars: &ServerVariables) -> bool
+    ensures { result ≡ awaits_first vars.now }
+{
+    matches!(vars.role, Role::Backend) && matches!(vars.state, State::Initialize)
 }
 
 /// DISCARD: nothing changes.
@@ -410,6 +488,13 @@ fn end_badly(vars: &mut ServerVariables, way: Way, id: u8, packet: &mut Packet) 
 {
     vars.state = State::Failure;
     write_end(packet, Code::Failure, id);
+    failing(way)
+}
+
+/// The step of a proposal that nothing is left for.
+fn failing(way: Way) -> Step
+    ensures { result ≡ record { path = before_proposal way ++ Failure ∷ []; cause = None; sends = true } }
+{
     match way {
         Way::AfterResponse => Step::sending(&FAILING),
         Way::AfterNak => Step::sending(&[
@@ -418,6 +503,16 @@ fn end_badly(vars: &mut ServerVariables, way: Way, id: u8, packet: &mut Packet) 
             State::SelectAction,
             State::Failure,
         ]),
+        Way::FirstIdentity => Step::sending(&[
+            State::PickUpMethod,
+            State::MethodResponse,
+            State::SelectAction,
+            State::Failure,
+        ]),
+        Way::FirstNak => Step::sending(&[State::Nak, State::SelectAction, State::Failure]),
+        Way::FirstOther => {
+            Step::sending(&[State::PickUpMethod, State::SelectAction, State::Failure])
+        }
     }
 }
 
@@ -469,6 +564,31 @@ fn proposing(way: Way) -> Step
         Way::AfterNak => Step::sending(&[
             State::Received,
             State::Nak,
+            State::SelectAction,
+            State::ProposeMethod,
+            State::MethodRequest,
+            State::SendRequest,
+            State::Idle,
+        ]),
+        Way::FirstIdentity => Step::sending(&[
+            State::PickUpMethod,
+            State::MethodResponse,
+            State::SelectAction,
+            State::ProposeMethod,
+            State::MethodRequest,
+            State::SendRequest,
+            State::Idle,
+        ]),
+        Way::FirstNak => Step::sending(&[
+            State::Nak,
+            State::SelectAction,
+            State::ProposeMethod,
+            State::MethodRequest,
+            State::SendRequest,
+            State::Idle,
+        ]),
+        Way::FirstOther => Step::sending(&[
+            State::PickUpMethod,
             State::SelectAction,
             State::ProposeMethod,
             State::MethodRequest,

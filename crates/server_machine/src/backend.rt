@@ -1,0 +1,88 @@
+//! The backend of RFC 4137 section 6 over the objects of its methods.
+
+ghost use Rattle.std.specs.Prelude.{◌≡◌, map, true};
+ghost use Rattle.eap_base.specs.Setup.{IsSoundServer};
+ghost use Rattle.eap_method.specs.Peer.{have_each};
+ghost use Rattle.eap_method.specs.Server.{server_kinds};
+ghost use Rattle.eap_method.specs.Steps.{is_end, step_with};
+ghost use Rattle.server_machine.specs.ServerTable.{answer, backend_made, now_of, server_deliver, server_reports};
+
+use crate::machine::ServerMachine;
+use crate::variables::Role;
+use eap_base::{Packet, ServerSetup};
+use eap_method::{Report, ServerMethod, Step, Tags};
+use eap_packet::State;
+use std::marker::Model;
+
+/// The backend authenticator of RFC 4137 section 6: a login server behind a pass-through, which asks for
+/// the identity and sends again in its place. It begins with the first Response; from then on its rows are
+/// those of the stand-alone server. Contracts see it as that machine.
+#[derive(Drop)]
+pub struct Backend<M> {
+    machine: ServerMachine<M>,
+}
+
+impl<M> Model for Backend<M> {
+    ghost use Rattle.server_machine.specs.ServerTable.{ServerValue};
+
+    ghost Value = { ServerValue M };
+
+    ghost view = { λ b. b.machine };
+}
+
+impl<M: ServerMethod> Backend<M> {
+    /// A backend that waits for its first Response: begins the objects of the methods that the setup
+    /// proposes. Each of these methods has an object.
+    pub fn new(setup: ServerSetup, methods: Vec<M>) -> Backend<M>
+        requires sound { IsSoundServer setup }
+        requires objects { have_each (server_kinds (map M.server_shown methods.items)) setup.methods ≡ true }
+        ensures made { now_of M.server_shown result ≡ backend_made setup }
+        ensures kinds { server_kinds (map M.server_shown result.methods) ≡ server_kinds (map M.server_shown methods.items) }
+    {
+        Backend {
+            machine: ServerMachine::in_role(Role::Backend, setup, 0, 0, methods),
+        }
+    }
+
+    /// Octets come from the pass-through. The first Response goes to PICK_UP_METHOD or NAK (RFC 4137 section
+    /// 6.5), and before it all else is discarded with an empty path; afterwards, and after the end, the rows are
+    /// those of [`ServerMachine::deliver`]. The packet that is sent is written into `packet`, the records of the
+    /// turn's tags into `tags`, in place of what was there. A discard changes neither a variable nor a method's
+    /// view, and leaves no record.
+    pub fn deliver(&mut self, octets: &[u8], packet: &mut Packet, tags: &mut Tags) -> Step
+        ensures step { server_deliver (now_of M.server_shown self.old) octets.now
+            ≡ answer (step_with result packet.new tags.new) (now_of M.server_shown self.new) }
+        ensures kinds { server_kinds (map M.server_shown self.new.methods) ≡ server_kinds (map M.server_shown self.old.methods) }
+    {
+        self.machine.deliver(octets, packet, tags)
+    }
+
+    /// The state in which the backend stands: INITIALIZE before the first Response, then IDLE, SUCCESS or
+    /// FAILURE.
+    pub fn state(&self) -> State
+        ensures { result ≡ self.now.vars.state }
+    {
+        self.machine.state()
+    }
+
+    /// True in SUCCESS and FAILURE.
+    pub fn ended(&self) -> bool
+        ensures { result ≡ is_end self.now.vars.state }
+    {
+        self.machine.ended()
+    }
+
+    /// What the current method reports; None where none is current or it holds no report.
+    pub fn report(&self) -> Option<Report>
+        ensures { result ≡ server_reports (now_of M.server_shown self.now) }
+    {
+        self.machine.report()
+    }
+
+    /// The objects, in the order in which they were handed in, with the views that they have.
+    pub fn into_methods(self) -> Vec<M>
+        ensures { result.items ≡ self.methods }
+    {
+        self.machine.into_methods()
+    }
+}
