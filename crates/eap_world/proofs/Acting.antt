@@ -4,8 +4,10 @@ use Rattle.eap_base.specs.declared.event.Event.{Event}
 use Rattle.eap_base.specs.declared.event.Event.TheVariants as event
 use Rattle.eap_base.specs.declared.setup.Port.{Port}
 use Rattle.eap_base.specs.declared.setup.Port.TheVariants as port
+use Rattle.eap_base.specs.declared.setup.Party.{Party}
+use Rattle.eap_base.specs.declared.setup.Party.TheVariants as party
 use Rattle.server_machine.specs.Inputs.{start}
-use Rattle.eap_world.specs.World.{Acted, Call, Skipped, WorldNow, WorldOutcome, act, call_at, call_of, call_with, called, called_unless, counted, first_skip, run_after, skip_table, skipped, to_server, told_of, world_acted, world_outcome, world_step}
+use Rattle.eap_world.specs.World.{Acted, Call, Skipped, WorldNow, WorldOutcome, act, call_at, call_of, call_with, called, called_unless, counted, first_skip, run_after, skip_table, skipped, timer_call, to_server, told_of, world_acted, world_outcome, world_step}
 use Rattle.eap_world.specs.Sent.{Sent, packet_numbered}
 use Rattle.eap_world.specs.declared.told.Skip.{Skip}
 
@@ -18,7 +20,10 @@ pub data Steps (w : WorldNow) : WorldOutcome → Type 0 where
       (record w { counts = record w.counts { events = w.counts.events + 1 }; started = true }))
   calls : (call : Call) (later : call ≡ to_server start → ⊥) → Steps w (counted_acted w (called w.parties call))
 
-at_later : (to : Port) (octets : List ℕ) → call_at to octets ≡ Some (to_server start) → ⊥
+held : {A : Type 0} {one other : A} → Some one ≡ Some other → one ≡ other
+held e = cc e
+
+at_later : (to : Port) (octets : List ℕ) → call_at to octets ≡ to_server start → ⊥
 at_later port.Peer octets e = cc e
 at_later port.Server octets e = cc e
 at_later port.PassPeer octets e = cc e
@@ -26,14 +31,19 @@ at_later port.PassServer octets e = cc e
 
 with_later : (packet : Option Sent) (octets : List ℕ) → call_with packet octets ≡ Some (to_server start) → ⊥
 with_later None octets e = cc e
-with_later (Some packet) octets e = at_later packet.port octets e
+with_later (Some packet) octets e = at_later packet.port octets (held e)
+
+timer_later : (of : Party) → timer_call of ≡ to_server start → ⊥
+timer_later party.Peer e = cc e
+timer_later party.Pass e = cc e
+timer_later party.Server e = cc e
 
 of_later : (sent : List Sent) (e : Event) → call_of sent e ≡ Some (to_server start) → ⊥
 of_later sent (event.Deliver n) is = with_later (packet_numbered sent n) _ is
 of_later sent (event.Alter n place mask) is = with_later (packet_numbered sent n) _ is
 of_later sent (event.Cut n keep) is = with_later (packet_numbered sent n) _ is
-of_later sent (event.Inject to octets) is = at_later to octets is
-of_later sent (event.Timeout of) is = cc is
+of_later sent (event.Inject to octets) is = at_later to octets (held is)
+of_later sent (event.Timeout of) is = timer_later of (held is)
 of_later sent event.AaaTimeout is = cc is
 of_later sent event.AaaNoReq is = cc is
 of_later sent event.Idle is = cc is

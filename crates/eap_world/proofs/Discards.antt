@@ -11,11 +11,15 @@ use Rattle.peer_machine.specs.Inputs.{peer_takes}
 use Rattle.peer_machine.proofs.Discards as peer_discards
 use Rattle.server_machine.specs.Inputs.{server_takes}
 use Rattle.server_machine.proofs.Discards as server_discards
+use Rattle.pass_through.specs.Inputs.{PassInput, pass_takes, start, timeout, aaa_timeout, aaa_noreq, from_peer, from_backend}
+use Rattle.pass_through.specs.Laws.{KeepsThePassThrough}
+use Rattle.pass_through.specs.PassTable.{PassAnswer}
+use Rattle.pass_through.specs.declared.variables.PassVariables.{PassVariables}
+use Rattle.pass_through.proofs.Carrying as pass_discards
 use Rattle.eap_world.specs.Laws.{HasToldReports, KeepsBothEnds, DiscardsKeep, RunsTellReports}
-use Rattle.eap_world.specs.World.{Call, Called, Did, Parties, WorldNow, WorldOutcome, acted, booked_of, called, did_by, end_of, first_report, has_held, held_after, held_by, is_delivery, named_by, report_of, sent_to, to_peer, to_server, world_made, world_start, world_step}
+use Rattle.eap_world.specs.World.{Call, Called, Did, Parties, WorldNow, WorldOutcome, acted, booked_of, called, did_by, did_pass, end_of, first_report, has_held, held_after, held_by, is_delivery, named_by, pass_sent, report_of, sent_to, start_call, to_pass, to_peer, to_server, world_made, world_start, world_step}
 use Rattle.eap_world.specs.declared.book.End.{End}
 use Rattle.eap_world.specs.declared.world.Held.{Held}
-use Rattle.server_machine.specs.Inputs.{start}
 use Rattle.eap_world.proofs.Acting.{Steps, skips, calls, counted_acted, run_keeps, step_steps}
 
 -- a report that was told of isn't told of again
@@ -40,6 +44,14 @@ call_keeps w did after same unsent untagged = record {
       (tells_once (has_held w.held did.party) did.party (report_of w.parties did.party) (told.each did.party)));
 }
 
+unsent : (input : PassInput) (vars : PassVariables) (out : PassAnswer) → KeepsThePassThrough vars out → pass_sent input out.step ≡ None
+unsent start vars out same = same.to_peer
+unsent timeout vars out same = same.to_peer
+unsent aaa_timeout vars out same = same.to_peer
+unsent aaa_noreq vars out same = same.to_peer
+unsent (from_peer octets) vars out same = same.to_server
+unsent (from_backend octets) vars out same = same.to_peer
+
 steps_keep : (w : WorldNow) (out : WorldOutcome) → Steps w out → IsSome out.told.cause → KeepsBothEnds w out.after
 steps_keep w _ (skips skip) is_discard = cc is_discard
 steps_keep w _ (calls (to_peer input) later) is_discard =
@@ -51,6 +63,11 @@ steps_keep w _ (calls (to_server input) later) is_discard =
     let same = server_discards.discards_keep w.parties.server input is_discard in
     call_keeps w (did_by w.parties.mode party.Server (is_delivery (to_server input)) out.step) _
     (ap (λ server. record w.parties { server = server }) same.all) same.sent same.tags
+
+steps_keep w _ (calls (to_pass input) later) is_discard =
+    let out = pass_takes w.parties.pass input in
+    let same = pass_discards.discards_keep w.parties.pass input is_discard in
+    call_keeps w (did_pass input out.step) _ (ap (λ pass. record w.parties { pass = pass }) same.all) (unsent input w.parties.pass out same) refl
 
 pub discards_keep : DiscardsKeep
 discards_keep w e = steps_keep w (world_step w e) (step_steps w e)
@@ -86,6 +103,9 @@ each_told held parties (to_peer input) told party.Server is = stays held _ party
 each_told held parties (to_server input) told party.Peer is = stays held _ party.Server party.Peer _ (told.each party.Peer is)
 each_told held parties (to_server input) told party.Pass is = cc is
 each_told held parties (to_server input) told party.Server is = names held _ party.Server _ refl refl is
+each_told held parties (to_pass input) told party.Peer is = told.each party.Peer is
+each_told held parties (to_pass input) told party.Pass is = cc is
+each_told held parties (to_pass input) told party.Server is = told.each party.Server is
 
 -- the held reports of both ends stay told of
 steps_tell : (w : WorldNow) (out : WorldOutcome) → Steps w out → HasToldReports w.held w.parties → HasToldReports out.after.held out.after.parties
@@ -103,4 +123,4 @@ unfolding world_start
 runs_tell_reports setup events =
     let w = world_made setup in
     run_keeps (λ (w : WorldNow). HasToldReports w.held w.parties) steps_tell (world_start w).after events
-    (record { each = each_told w.held w.parties (to_server start) (record { each = none_made setup }) })
+    (record { each = each_told w.held w.parties (start_call setup.mode) (record { each = none_made setup }) })

@@ -1,10 +1,10 @@
 -- In every run both ends stand as their views tell.
-use Rattle.std.proofs.Common.{List, ap}
+use Rattle.std.proofs.Common.{List, ap, append-nil}
 use Rattle.eap_base.specs.declared.event.Event.{Event}
 use Rattle.eap_base.specs.declared.setup.Setup.{Setup}
 use Rattle.peer_machine.specs.Inputs.{peer_takes}
 use Rattle.server_machine.specs.Inputs.{server_takes}
-use Rattle.eap_world.specs.World.{WorldNow, WorldOutcome, Parties, run_after, to_peer, to_server}
+use Rattle.eap_world.specs.World.{WorldNow, WorldOutcome, Parties, run_after, to_peer, to_server, to_pass}
 use Rattle.eap_world.specs.declared.book.End.TheVariants as end
 use Rattle.eap_world.specs.declared.book.Entry.{Entry}
 use Rattle.eap_world.specs.declared.book.Use.TheVariants.{Accepted, Made}
@@ -33,6 +33,8 @@ steps_stand setup w _ (calls (to_server input) later) both = let out = server_ta
   server_stands = grows end.Server (ServerStands setup.server out.after) w.book _ out.step.tags
       (server_keeps setup.server w.parties.server _ _ input (λ e. later (ap to_server e)) both.server_stands);
 }
+-- the pass-through changes neither end, and books nothing
+steps_stand setup w _ (calls (to_pass input) later) both = rw (append-nil w.book) (record { peer_stands = both.peer_stands; server_stands = both.server_stands })
 
 pub run_stands : (setup : Setup) (w : WorldNow) (events : List Event) → BothStand setup w.parties w.book
     → (let last = run_after w events in BothStand setup last.parties last.book)

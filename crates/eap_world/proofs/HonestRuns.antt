@@ -9,7 +9,9 @@ use Rattle.eap_world.specs.declared.book.TagsVerdict.TheVariants.{Honest}
 use Rattle.eap_world.specs.Judgement.{verdict_of, is_success, judged}
 use Rattle.eap_world.specs.declared.verdict.Verdict.{Verdict}
 use Rattle.eap_world.specs.declared.verdict.Verdict.TheVariants.{Agree, Apart, Unfinished}
-use Rattle.eap_world.specs.World.{WorldNow, world_made, world_start}
+use Rattle.eap_base.specs.declared.setup.Mode.{Mode}
+use Rattle.eap_base.specs.declared.setup.Mode.TheVariants as mode
+use Rattle.eap_world.specs.World.{WorldNow, booked_by, called, start_call, world_made, world_start}
 use Rattle.eap_world.specs.declared.book.End.TheVariants as end
 use Rattle.eap_world.specs.Agreement.{IsWhole, IsOfRun, AgreesWhereHonest, HonestEndsAgree, run_of}
 use Rattle.eap_world.specs.Records.{tags_by}
@@ -40,13 +42,22 @@ stand_agree setup whole w both honest p_in s_in =
 
 -- ---- every run
 
--- the start makes no tag
-start_stands : (setup : Setup) → (let w = (world_start (world_made setup)).after in BothStand setup w.parties w.book)
-unfolding world_start server_start tags_by
-start_stands setup = record {
+-- the start makes no tag: the server starts, or the pass-through in its place
+start_in : (runs : Mode) (setup : Setup) → setup.mode ≡ runs → (let w = world_made setup in
+    BothStand setup (called w.parties (start_call runs)).after (booked_by 0 (called w.parties (start_call runs)).action))
+unfolding server_start tags_by
+start_in mode.Alone setup is = record {
   peer_stands = peer_calls.peer_begins setup.peer;
-  server_stands = server_calls.started_stands setup.server setup.first_id setup.max_retrans;
+  server_stands = server_calls.started_stands _ setup.server setup.first_id setup.max_retrans;
 }
+start_in mode.Through setup is = record {
+  peer_stands = peer_calls.peer_begins setup.peer;
+  server_stands = server_calls.server_begins _ setup.server setup.first_id setup.max_retrans;
+}
+
+start_stands : (setup : Setup) → (let w = (world_start (world_made setup)).after in BothStand setup w.parties w.book)
+unfolding world_start
+start_stands setup = start_in setup.mode setup refl
 
 pub every_run_stands : (setup : Setup) (events : List Event)
     → (let w = run_of setup events in BothStand setup w.parties w.book)

@@ -7,7 +7,7 @@ use Rattle.eap_packet.specs.declared.state.State.TheVariants as state
 use Rattle.eap_method.specs.Steps.{is_end}
 use Rattle.eap_world.specs.Judgement.{is_success}
 
-some_same : (one other : ℕ) → Some one ≡ Some other → one ≡ other
+pub some_same : (one other : ℕ) → Some one ≡ Some other → one ≡ other
 some_same one other same = cc
 
 -- a method isn't two

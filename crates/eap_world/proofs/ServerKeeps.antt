@@ -1,7 +1,7 @@
 -- Every input of the server after its start keeps what stands of it.
 use Rattle.std.proofs.Common.{◌≡◌, ℕ, List, [], ◌∷◌, ◌++◌, Bool, true, false, Option, Some, None, Ok, refl, ap, sym, subst, ◌∙◌, arith, append-nil}
-use Rattle.std.specs.Prelude.{◌==◌}
-use Rattle.std.proofs.lemmas.Bool.{cond_both, eqb-true, false≢true}
+use Rattle.std.specs.Prelude.{◌==◌, not}
+use Rattle.std.proofs.lemmas.Bool.{and_parts, cond_both, eqb-true, false≢true, not-true}
 use Rattle.eap_base.specs.declared.setup.ServerSetup.{ServerSetup}
 use Rattle.eap_base.specs.declared.setup.Suite.{Suite}
 use Rattle.eap_base.specs.declared.users.User.{User}
@@ -36,28 +36,39 @@ use Rattle.method_laws.proofs.GpskServerCases.{gpsk_server_steps_are_rows}
 use Rattle.method_laws.proofs.PskServerCases.{psk_server_steps_are_rows}
 use Rattle.server_machine.specs.Inputs.{ServerInput, start, server_takes}
 use Rattle.server_machine.specs.Rows as rows
-use Rattle.server_machine.specs.Rows.{Selects, after_identity, after_nak}
-use Rattle.server_machine.specs.ServerTable.{ServerNow, ServerAnswer, identity, server_made, next_id, with_request, offers, is_proposed, server_start}
+use Rattle.server_machine.specs.Rows.{Selects, after_identity, after_nak, first_identity, first_nak, first_other}
+use Rattle.server_machine.specs.ServerTable.{ServerNow, ServerAnswer, identity, server_made, next_id, with_request, offers, is_proposed, is_started, awaits_first, is_backend, picked_up, server_start}
+use Rattle.server_machine.specs.declared.variables.Role.{Role}
 use Rattle.server_machine.proofs.ServerRows.{server_answers_are_rows}
 use Rattle.server_machine.specs.declared.variables.Progress.{Progress}
 use Rattle.server_machine.specs.declared.variables.Progress.TheVariants as progress
 use Rattle.server_machine.specs.declared.variables.ServerVariables.{ServerVariables}
 use Rattle.eap_world.specs.Judgement.{is_success}
 use Rattle.eap_world.specs.Records.{AreFew, AreNone, untagged}
-use Rattle.eap_world.specs.ServerStands.{psk2_record, GpskChecked, gpsk2_taken, PskServerTags, psk_asked, psk_checked, psk_refused, psk_over, GpskServerTags, gpsk_asked, gpsk_refusing, gpsk_refused, gpsk_barring, gpsk_checked, gpsk_barred, gpsk_confirmed, ServerTags, none_current, identity_current, psk_current, gpsk_current, HasSucceeded, psk_succeeded, gpsk_succeeded, ServerStands}
+use Rattle.eap_world.specs.ServerStands.{psk2_record, GpskChecked, gpsk2_taken, PskServerTags, psk_asked, psk_checked, psk_refused, psk_over, GpskServerTags, gpsk_asked, gpsk_refusing, gpsk_refused, gpsk_barring, gpsk_checked, gpsk_barred, gpsk_confirmed, ServerTags, none_current, identity_current, psk_current, gpsk_current, HasSucceeded, psk_succeeded, gpsk_succeeded, IsUntouched, ServerStands}
 use Rattle.eap_world.proofs.OneMethod.{apart, goes_on}
 
 -- ---- the begin
 
-pub server_begins : (setup : ServerSetup) (first_id max_retrans : ℕ) → ServerStands setup (server_made setup first_id max_retrans) [] []
-server_begins setup first_id max_retrans =
-    record { own = refl; tags = none_current refl; proposed = λ _. untagged; sure = λ e. absurd (false≢true e) }
+pub server_begins : (of : Role) (setup : ServerSetup) (first_id max_retrans : ℕ) → ServerStands setup (server_made of setup first_id max_retrans) [] []
+server_begins of setup first_id max_retrans = record {
+  own = refl;
+  tags = none_current refl;
+  unstarted = λ _. record { no_method = refl; no_id = refl };
+  proposed = λ _. untagged;
+  sure = λ e. absurd (false≢true e);
+}
 
-pub started_stands : (setup : ServerSetup) (first_id max_retrans : ℕ)
-    → (let out = server_start (server_made setup first_id max_retrans) in ServerStands setup out.after [] [])
+pub started_stands : (of : Role) (setup : ServerSetup) (first_id max_retrans : ℕ)
+    → (let out = server_start (server_made of setup first_id max_retrans) in ServerStands setup out.after [] [])
 unfolding server_start
-started_stands setup first_id max_retrans =
-    record { own = refl; tags = identity_current refl; proposed = λ _. untagged; sure = λ e. absurd (false≢true e) }
+started_stands of setup first_id max_retrans = record {
+  own = refl;
+  tags = identity_current refl;
+  unstarted = λ e. absurd (false≢true (sym e));
+  proposed = λ _. untagged;
+  sure = λ e. absurd (false≢true e);
+}
 
 -- ---- the turns of the methods
 
@@ -280,6 +291,13 @@ module _ (setup : ServerSetup) (current : Option ℕ) (views : ServerViews) wher
   in_identity _ _ asks (psk_current view accepted made is_current in_view told) = apart current psk_kind identity refl is_current asks
   in_identity _ _ asks (gpsk_current view accepted made is_current in_view told) = apart current gpsk_kind identity refl is_current asks
 
+  -- nor has a server without a current method
+  in_none : (accepted made : List TagRecord) → current ≡ None → ServerTags setup current views accepted made → AreNone accepted made
+  in_none _ _ none (none_current _) = untagged
+  in_none _ _ none (identity_current is_current) = untagged
+  in_none _ _ none (psk_current view accepted made is_current in_view told) = absurd cc
+  in_none _ _ none (gpsk_current view accepted made is_current in_view told) = absurd cc
+
 -- the offer of a method: its view then says that it has asked; without an object of it all views stay
 data Offers (setup : ServerSetup) (kind : ℕ) (views : ServerViews) : Offer → Type 0 where
   asks : (packet : List ℕ) (after : ServerViews) (tags : ServerTags setup (Some kind) after [] [])
@@ -326,11 +344,24 @@ quiet setup accepted made out is_quiet stands = record {
 }
 
 module _ (setup : ServerSetup) (now : ServerNow) (accepted made : List TagRecord) (stands : ServerStands setup now accepted made) where
-  -- another state, progress and count of retransmissions
-  remains : (s : State) (p : Progress) (count : ℕ) → (is_proposed p ≡ true → AreNone accepted made)
+  -- another state, Identifier, progress and count of retransmissions
+  remains : (s : State) (id : Option ℕ) (p : Progress) (count : ℕ)
+      → (is_started (record now.vars { state = s }) ≡ false → IsUntouched (record now.vars { current_id = id }))
+      → (is_proposed p ≡ true → AreNone accepted made)
       → (is_success s ≡ true → HasSucceeded now.vars.current now.views)
-      → ServerStands setup (record { vars = record now.vars { state = s; progress = p; retrans_count = count }; views = now.views }) accepted made
-  remains s p count proposed sure = record { own = stands.own; tags = stands.tags; proposed = proposed; sure = sure }
+      → ServerStands setup (record { vars = record now.vars { state = s; current_id = id; progress = p; retrans_count = count }; views = now.views })
+      accepted made
+  remains s id p count unstarted proposed sure = record {
+    own = stands.own;
+    tags = stands.tags;
+    unstarted = λ e. let untouched = unstarted e in record { no_method = untouched.no_method; no_id = untouched.no_id };
+    proposed = proposed;
+    sure = sure;
+  }
+
+  -- a server with a current Identifier has started
+  started_by : (id : ℕ) → now.vars.current_id ≡ Some id → is_started now.vars ≡ false → ⊥
+  started_by id is_id before = let none : now.vars.current_id ≡ None = (stands.unstarted before).no_id in cc
 
   -- the current method has its turn
   abbrev MethodTurned : ServerOutcome ServerViews → Type 0
@@ -384,40 +415,69 @@ module _ (setup : ServerSetup) (now : ServerNow) (accepted made : List TagRecord
         (λ _. drops now.views _))
 
   after_request : (packet : List ℕ) (tags : Tags) (views : ServerViews) → MethodTurned (record { turn = turn.Request packet tags; after = views })
-      → (is_success now.vars.state ≡ true → ⊥)
+      → (is_started now.vars ≡ false → ⊥) → (is_success now.vars.state ≡ true → ⊥)
       → ServerStands setup (record { vars = record (with_request now.vars packet) { progress = progress.Continue }; views = views })
       (accepted ++ tags.accepted) (made ++ tags.made)
-  after_request _ _ _ (requests _ _ _ told) unsure =
-      record { own = stands.own; tags = told; proposed = λ e. absurd (false≢true e); sure = λ e. absurd (unsure e) }
+  after_request _ _ _ (requests _ _ _ told) begun unsure = record {
+    own = stands.own;
+    tags = told;
+    unstarted = λ e. absurd (begun e);
+    proposed = λ e. absurd (false≢true e);
+    sure = λ e. absurd (unsure e);
+  }
 
   after_end : (good : Bool) (tags : Tags) (views : ServerViews) → MethodTurned (record { turn = turn.Done good tags; after = views })
-      → (s : State) → (is_success s ≡ true → good ≡ true)
+      → (s : State) → is_started (record now.vars { state = s }) ≡ true → (is_success s ≡ true → good ≡ true)
       → ServerStands setup (record { vars = record now.vars { progress = progress.End; state = s }; views = views })
       (accepted ++ tags.accepted) (made ++ tags.made)
-  after_end _ _ _ (ends _ _ _ told well) s sure =
-      record { own = stands.own; tags = told; proposed = λ e. absurd (false≢true e); sure = λ e. well (sure e) }
+  after_end _ _ _ (ends _ _ _ told well) s begun sure = record {
+    own = stands.own;
+    tags = told;
+    unstarted = λ e. absurd (false≢true (sym e ∙ begun));
+    proposed = λ e. absurd (false≢true e);
+    sure = λ e. well (sure e);
+  }
 
   -- a server that is to propose a method
   record Proposing (vars : ServerVariables) : Type 0 where
     pub own : vars.setup ≡ setup
     pub none : AreNone accepted made
+    pub begun : is_started vars ≡ false → ⊥
     pub unsure : is_success vars.state ≡ true → ⊥
     pub gives_up : ServerStands setup (record { vars = record vars { state = state.Failure }; views = now.views }) accepted made
 
-  proposing : (is_success now.vars.state ≡ true → ⊥) → (kind : ℕ) (body : List ℕ) (entered : List State) (vars : ServerVariables) (desired : Option (List ℕ))
-      → Selects now kind body entered vars desired → Proposing vars
-  proposing unsure kind body _ _ _ (after_identity is_identity is_current) = record {
+  -- after a backend's first Response, before which it has made no tag
+  picks_up : (id : ℕ) (p : Progress) → awaits_first now.vars ≡ true → (is_proposed p ≡ true → AreNone accepted made)
+      → Proposing (record (picked_up now.vars id) { progress = p })
+  picks_up id p awaited proposed =
+      let before = not-true (is_started now.vars) (and_parts (is_backend now.vars) (not (is_started now.vars)) awaited).1 in
+      record {
+        own = stands.own;
+        none = in_none setup now.vars.current now.views accepted made (stands.unstarted before).no_method stands.tags;
+        begun = λ e. false≢true (sym e);
+        unsure = λ e. false≢true e;
+        gives_up = remains _ _ _ _ (λ e. absurd (false≢true (sym e))) proposed (λ e. absurd (false≢true e));
+      }
+
+  proposing : (is_success now.vars.state ≡ true → ⊥) → (id kind : ℕ) (body : List ℕ) (entered : List State) (vars : ServerVariables)
+      (desired : Option (List ℕ)) → Selects now id kind body entered vars desired → Proposing vars
+  proposing unsure id kind body _ _ _ (after_identity is_id is_identity is_current) = record {
     own = stands.own;
     none = in_identity setup now.vars.current now.views accepted made is_current stands.tags;
+    begun = started_by id is_id;
     unsure = unsure;
-    gives_up = remains _ _ _ (λ e. absurd (false≢true e)) (λ e. absurd (false≢true e));
+    gives_up = remains _ _ _ _ (λ e. absurd (false≢true (sym e))) (λ e. absurd (false≢true e)) (λ e. absurd (false≢true e));
   }
-  proposing unsure kind body _ _ _ (after_nak is_nak waits) = record {
+  proposing unsure id kind body _ _ _ (after_nak is_id is_nak waits) = record {
     own = stands.own;
     none = stands.proposed waits;
+    begun = started_by id is_id;
     unsure = unsure;
-    gives_up = remains _ _ _ stands.proposed (λ e. absurd (false≢true e));
+    gives_up = remains _ _ _ _ (λ e. absurd (false≢true (sym e))) stands.proposed (λ e. absurd (false≢true e));
   }
+  proposing unsure id kind body _ _ _ (first_identity awaited is_identity) = picks_up id progress.End awaited (λ e. absurd (false≢true e))
+  proposing unsure id kind body _ _ _ (first_nak awaited is_nak) = picks_up id now.vars.progress awaited stands.proposed
+  proposing unsure id kind body _ _ _ (first_other awaited no_nak no_identity) = picks_up id now.vars.progress awaited stands.proposed
 
   -- a method is offered, or there is no object of it
   offered : (entered : List State) (vars : ServerVariables) (id kind : ℕ) → Proposing vars → (offer : Offer) → Offers setup kind now.views offer
@@ -425,6 +485,7 @@ module _ (setup : ServerSetup) (now : ServerNow) (accepted made : List TagRecord
   offered entered vars id kind at _ (asks packet after tags) = quiet setup accepted made _ refl (record {
     own = at.own;
     tags = none_told at.none tags;
+    unstarted = λ e. absurd (at.begun e);
     proposed = λ _. at.none;
     sure = λ e. absurd (at.unsure e);
   })
@@ -446,20 +507,23 @@ module _ (setup : ServerSetup) (now : ServerNow) (accepted made : List TagRecord
   row_keeps _ _ later (rows.goes_on is_begun) = absurd (later refl)
   row_keeps _ _ later (rows.drops bytes path c going why) = quiet setup accepted made _ refl stands
   row_keeps _ _ later (rows.starts unstarted) = absurd (later refl)
-  row_keeps _ _ later (rows.resends going in_time) = quiet setup accepted made _ refl (remains _ _ _ stands.proposed stands.sure)
-  row_keeps _ _ later (rows.times_out going late) = quiet setup accepted made _ refl (remains _ _ _ stands.proposed (λ e. absurd (false≢true e)))
+  row_keeps _ _ later (rows.resends going in_time) = quiet setup accepted made _ refl (remains _ _ _ _ stands.unstarted stands.proposed stands.sure)
+  row_keeps _ _ later (rows.times_out going late) = quiet setup accepted made _ refl
+      (remains _ _ _ _ (λ e. absurd (false≢true (sym e))) stands.proposed (λ e. absurd (false≢true e)))
   row_keeps _ _ later (rows.proposes bytes id kind body entered vars desired next packet views heard selects next_is) =
-      offer_keeps entered vars desired id next _ (proposing (goes_on now.vars.state heard.going) kind body entered vars desired selects) next_is
+      offer_keeps entered vars desired id next _ (proposing (goes_on now.vars.state heard.going) id kind body entered vars desired selects) next_is
   row_keeps _ _ later (rows.proposes_without bytes id kind body entered vars desired next views heard selects next_is) =
-      offer_keeps entered vars desired id next _ (proposing (goes_on now.vars.state heard.going) kind body entered vars desired selects) next_is
+      offer_keeps entered vars desired id next _ (proposing (goes_on now.vars.state heard.going) id kind body entered vars desired selects) next_is
   row_keeps _ _ later (rows.proposes_none bytes id kind body entered vars desired heard selects none) =
-      quiet setup accepted made _ refl (proposing (goes_on now.vars.state heard.going) kind body entered vars desired selects).gives_up
+      quiet setup accepted made _ refl (proposing (goes_on now.vars.state heard.going) id kind body entered vars desired selects).gives_up
   row_keeps _ _ later (rows.requests bytes id kind body packet tags views heard turned) =
-      record { stands = after_request packet tags views (turned_to id kind body _ views turned) (goes_on now.vars.state heard.going) }
+      record {
+        stands = after_request packet tags views (turned_to id kind body _ views turned) (started_by id turned.is_id) (goes_on now.vars.state heard.going);
+      }
   row_keeps _ _ later (rows.succeeds bytes id kind body tags views heard turned) =
-      record { stands = after_end true tags views (turned_to id kind body _ views turned) _ (λ _. refl) }
+      record { stands = after_end true tags views (turned_to id kind body _ views turned) _ refl (λ _. refl) }
   row_keeps _ _ later (rows.method_fails bytes id kind body tags views heard turned) =
-      record { stands = after_end false tags views (turned_to id kind body _ views turned) _ (λ e. e) }
+      record { stands = after_end false tags views (turned_to id kind body _ views turned) _ refl (λ e. e) }
 
 -- every input after the start keeps what stands
 pub server_keeps : (setup : ServerSetup) (now : ServerNow) (accepted made : List TagRecord) (input : ServerInput) → (input ≡ start → ⊥)

@@ -21,6 +21,8 @@ use Rattle.eap_method.specs.declared.values.Decision.TheVariants.{Fail}
 use Rattle.peer_machine.specs.PeerTable.{peer_deliver}
 use Rattle.server_machine.specs.ServerTable.{server_start, server_deliver, select_action}
 use Rattle.server_machine.specs.declared.variables.Progress.TheVariants.{End}
+use Rattle.server_machine.specs.declared.variables.Role.TheVariants.{StandAlone}
+use Rattle.pass_through.specs.PassTable.{pass_made}
 use Rattle.eap_world.specs.World.{world_made, world_start, act, world_step, outcomes_after, run_after}
 
 -- alice logs in at the server srv, which sends a Request again four times; no end has a method
@@ -55,6 +57,7 @@ identity_round : run_after (world_start (world_made example_setup)).after three
         };
         server = record {
           vars = record {
+            role = StandAlone;
             setup = example_setup.server;
             first_id = 0;
             max_retrans = 4;
@@ -68,6 +71,7 @@ identity_round : run_after (world_start (world_made example_setup)).after three
           };
           views = record { psk = None; gpsk = None };
         };
+        pass = pass_made 0 4;
       };
       sent = record { port = port.Peer; octets = 1 ∷ 0 ∷ 0 ∷ 5 ∷ 1 ∷ [] }
           ∷ record { port = port.Server; octets = 2 ∷ 0 ∷ 0 ∷ 10 ∷ 1 ∷ codes "alice" }

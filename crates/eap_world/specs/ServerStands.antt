@@ -17,7 +17,8 @@ use Rattle.eap_method.specs.GpskTags.{sk_record, suite_list, tagged}
 use Rattle.eap_method.specs.PskServer as psk
 use Rattle.eap_method.specs.PskTags.{ak_record, tek_record, channel_nonce, done_success}
 use Rattle.eap_method.specs.Server.{ServerViews, side_of}
-use Rattle.server_machine.specs.ServerTable.{ServerNow, identity, is_proposed}
+use Rattle.server_machine.specs.ServerTable.{ServerNow, identity, is_proposed, is_started}
+use Rattle.server_machine.specs.declared.variables.ServerVariables.{ServerVariables}
 use Rattle.eap_world.specs.Judgement.{is_success}
 use Rattle.eap_world.specs.Records.{AreNone}
 
@@ -114,10 +115,16 @@ pub data HasSucceeded (current : Option ℕ) (views : ServerViews) : Type 0 wher
   gpsk_succeeded : (login : gpsk.Login) (is_current : current ≡ Some gpsk_kind) (in_view : views.gpsk ≡ Some (gpsk.over login true))
       → HasSucceeded current views
 
+-- a server that has not started: neither a method nor an Identifier is current
+pub record IsUntouched (vars : ServerVariables) : Type 0 where
+  pub no_method : vars.current ≡ None
+  pub no_id : vars.current_id ≡ None
+
 -- what holds of a server with the tags that it has accepted and made
 pub record ServerStands (setup : ServerSetup) (now : ServerNow) (accepted made : List TagRecord) : Type 0 where
   pub own : now.vars.setup ≡ setup
   pub tags : ServerTags setup now.vars.current now.views accepted made
+  pub unstarted : is_started now.vars ≡ false → IsUntouched now.vars
   -- a method that is only proposed has none
   pub proposed : is_proposed now.vars.progress ≡ true → AreNone accepted made
   -- SUCCESS comes of a success

@@ -1,5 +1,6 @@
--- Both ends over events: what was sent, the book of tags, what each event does, and the run.
-use Rattle.std.specs.Prelude.{◌≡◌, ◌≤◌, ℕ, ◌+◌, ◌*◌, List, [], ◌∷◌, ◌++◌, length, take, drop, Bool, true, false, nat_lt, nat_le, if◌then◌else◌, Option, Some, None, slice_index, bit_xor, is_some, is_none, map, option_map}
+-- Both ends over events, alone or with a pass-through between them: what was sent, the book of tags, what
+-- each event does, and the run.
+use Rattle.std.specs.Prelude.{◌≡◌, ◌≤◌, ℕ, ◌+◌, ◌*◌, List, [], ◌∷◌, ◌++◌, length, take, drop, Bool, true, false, not, nat_lt, nat_le, if◌then◌else◌, Option, Some, None, slice_index, bit_xor, is_some, is_none, map, option_map}
 use Rattle.eap_base.specs.declared.setup.Setup.{Setup}
 use Rattle.eap_base.specs.declared.setup.Mode.{Mode}
 use Rattle.eap_base.specs.declared.setup.Mode.TheVariants as mode
@@ -13,6 +14,7 @@ use Rattle.eap_packet.specs.declared.state.State.{State}
 use Rattle.eap_method.specs.Peer.{PeerShown, peer_kinds}
 use Rattle.eap_method.specs.Server.{ServerShown, server_kinds}
 use Rattle.eap_method.specs.Steps.{Step, step_with, is_end}
+use Rattle.eap_method.specs.Tags.{no_tags}
 use Rattle.eap_method.specs.declared.tags.Tags.{Tags}
 use Rattle.eap_method.specs.declared.values.Report.{Report}
 use Rattle.peer_machine.specs.Inputs as peer_inputs
@@ -23,7 +25,14 @@ use Rattle.server_machine.specs.Inputs as server_inputs
 use Rattle.server_machine.specs.Inputs.{ServerInput, server_takes}
 use Rattle.server_machine.specs.ServerTable as servers
 use Rattle.server_machine.specs.ServerTable.{ServerValue, ServerNow, server_made, server_reports, is_started}
+use Rattle.server_machine.specs.declared.variables.Role.{Role}
+use Rattle.server_machine.specs.declared.variables.Role.TheVariants as role
 use Rattle.server_machine.specs.declared.variables.ServerVariables.{ServerVariables}
+use Rattle.pass_through.specs.Inputs as pass_inputs
+use Rattle.pass_through.specs.Inputs.{PassInput, pass_takes}
+use Rattle.pass_through.specs.PassTable as passes
+use Rattle.pass_through.specs.PassTable.{PassStep, pass_made, is_over, has_timer, is_aaa_idle}
+use Rattle.pass_through.specs.declared.variables.PassVariables.{PassVariables}
 use Rattle.eap_world.specs.Book.{booked}
 use Rattle.eap_world.specs.Sent.{Sent, packet_numbered}
 use Rattle.eap_world.specs.declared.act.Action as brief_action
@@ -41,13 +50,14 @@ use Rattle.eap_world.specs.declared.told.Skip.{Skip}
 use Rattle.eap_world.specs.declared.told.Skip.TheVariants.{NoParty, Unsent, Place, Ended, NoTimer}
 use Rattle.eap_world.specs.declared.world.Held.{Held}
 
--- a world as its fields show it: its mode, both machines, the packets sent so far in order and how many octets
+-- a world as its fields show it: its mode, its machines, the packets sent so far in order and how many octets
 -- are stored for them, the book of tags, the counts, which ends have held a report, and whether the world has
 -- started
 pub record WorldValue (P S : Type 0) : Type 0 where
   pub mode : Mode
   pub peer : PeerValue P
   pub server : ServerValue S
+  pub pass : PassVariables
   pub sent : List Sent
   pub stored : ℕ
   pub book : List Entry
@@ -55,11 +65,13 @@ pub record WorldValue (P S : Type 0) : Type 0 where
   pub held : Held
   pub started : Bool
 
--- in which mode the parties run, and what they are, where the objects show their methods and views
+-- in which mode the parties run, and what they are, where the objects show their methods and views; in mode
+-- alone nothing comes to the pass-through
 pub record Parties : Type 0 where
   pub mode : Mode
   pub peer : PeerNow
   pub server : ServerNow
+  pub pass : PassVariables
 
 -- the same of a whole world
 pub record WorldNow : Type 0 where
@@ -71,12 +83,13 @@ pub record WorldNow : Type 0 where
   pub started : Bool
 
 abbrev pub parties_of : {P S : Type 0} → (P → PeerShown) → (S → ServerShown) → Machines P S → Parties
-parties_of peer_shown server_shown m = record { mode = m.mode; peer = peers.now_of peer_shown m.peer; server = servers.now_of server_shown m.server }
+parties_of peer_shown server_shown m =
+    record { mode = m.mode; peer = peers.now_of peer_shown m.peer; server = servers.now_of server_shown m.server; pass = m.pass }
 
 -- what a world is, where the objects show their methods and views
 abbrev pub now_of : {P S : Type 0} → (P → PeerShown) → (S → ServerShown) → WorldValue P S → WorldNow
 now_of peer_shown server_shown w = record {
-  parties = parties_of peer_shown server_shown (record { mode = w.mode; peer = w.peer; server = w.server });
+  parties = parties_of peer_shown server_shown (record { mode = w.mode; peer = w.peer; server = w.server; pass = w.pass });
   sent = w.sent;
   book = w.book;
   counts = w.counts;
@@ -107,10 +120,20 @@ pub record RunAlike {P S : Type 0} (peer_shown : P → PeerShown) (server_shown 
   pub mode : after.mode ≡ before.mode
   pub kinds : HaveSameKinds peer_shown server_shown before.peer.methods before.server.methods after.peer.methods after.server.methods
 
+-- the server answers by itself, or behind the pass-through
+abbrev pub role_in : Mode → Role
+role_in mode.Alone = role.StandAlone
+role_in mode.Through = role.Backend
+
 -- the world before its start
 abbrev pub world_made : Setup → WorldNow
 world_made setup = record {
-  parties = record { mode = setup.mode; peer = peer_made setup.peer; server = server_made setup.server setup.first_id setup.max_retrans };
+  parties = record {
+    mode = setup.mode;
+    peer = peer_made setup.peer;
+    server = server_made (role_in setup.mode) setup.server setup.first_id setup.max_retrans;
+    pass = pass_made setup.first_id setup.max_retrans;
+  };
   sent = [];
   book = [];
   counts = record { events = 0; deliveries = 0; discards = 0 };
@@ -118,10 +141,14 @@ world_made setup = record {
   started = false;
 }
 
--- where a party stands, and what it reports; no pass-through is there
+-- where a party stands, and what it reports; the pass-through is there in its mode alone, and reports nothing
+abbrev pub pass_state : Mode → PassVariables → Option State
+pass_state mode.Alone pass = None
+pass_state mode.Through pass = Some pass.state
+
 abbrev pub state_of : Parties → Party → Option State
 state_of parties party.Peer = Some parties.peer.vars.state
-state_of parties party.Pass = None
+state_of parties party.Pass = pass_state parties.mode parties.pass
 state_of parties party.Server = Some parties.server.vars.state
 
 abbrev pub report_of : Parties → Party → Option Report
@@ -130,7 +157,7 @@ report_of parties party.Pass = None
 report_of parties party.Server = server_reports parties.server
 
 -- where a party's packets go: from end to end alone, through the pass-through else. What the pass-through
--- itself sends to the peer is all that is here of it
+-- sends of its own goes to the peer
 abbrev pub goes_to : Party → Mode → Port
 goes_to party.Peer mode.Alone = port.Server
 goes_to party.Peer mode.Through = port.PassPeer
@@ -152,10 +179,13 @@ is_absent mode.Alone port.PassServer = true
 pub data Call : Type 0 where
   to_peer : PeerInput → Call
   to_server : ServerInput → Call
+  to_pass : PassInput → Call
 
 abbrev pub is_delivery : Call → Bool
 is_delivery (to_peer (peer_inputs.octets octets)) = true
 is_delivery (to_server (server_inputs.octets octets)) = true
+is_delivery (to_pass (pass_inputs.from_peer octets)) = true
+is_delivery (to_pass (pass_inputs.from_backend octets)) = true
 is_delivery _ = false
 
 abbrev pub octets_of : Option Sent → List ℕ
@@ -175,10 +205,22 @@ goes_nowhere mode (Some packet) = is_absent mode packet.port
 abbrev pub packet_skips : Mode → Option Sent → Bool → List (Bool × Skip)
 packet_skips mode packet is_misplaced = (goes_nowhere mode packet, NoParty) ∷ (is_none packet, Unsent) ∷ (is_misplaced, Place) ∷ []
 
+abbrev pub is_alone : Mode → Bool
+is_alone mode.Alone = true
+is_alone mode.Through = false
+
+-- an input of the pass-through, which stands so, that has a place where a test holds
+abbrev pub pass_skips : Mode → State → Bool → List (Bool × Skip)
+pass_skips runs state is_placed = (is_alone runs, NoParty) ∷ (is_over state, Ended) ∷ (not is_placed, NoTimer) ∷ []
+
 abbrev pub timer_skips : Parties → Party → List (Bool × Skip)
 timer_skips parties party.Peer = (is_end parties.peer.vars.state, Ended) ∷ (true, NoTimer) ∷ []
-timer_skips parties party.Pass = (true, NoParty) ∷ []
-timer_skips parties party.Server = (is_end parties.server.vars.state, Ended) ∷ []
+timer_skips parties party.Pass = pass_skips parties.mode parties.pass.state (has_timer parties.pass.state)
+timer_skips parties party.Server = (is_end parties.server.vars.state, Ended) ∷ (not (is_alone parties.mode), NoTimer) ∷ []
+
+-- of the server behind it: it is lost, or has nothing to ask
+abbrev pub aaa_skips : Parties → List (Bool × Skip)
+aaa_skips parties = pass_skips parties.mode parties.pass.state (is_aaa_idle parties.pass.state)
 
 abbrev pub skip_table : Parties → List Sent → Event → List (Bool × Skip)
 skip_table parties sent (event.Deliver n) = packet_skips parties.mode (packet_numbered sent n) false
@@ -188,8 +230,8 @@ skip_table parties sent (event.Cut n keep) =
     let packet = packet_numbered sent n in packet_skips parties.mode packet (nat_lt (length (octets_of packet)) keep)
 skip_table parties sent (event.Inject port octets) = (is_absent parties.mode port, NoParty) ∷ []
 skip_table parties sent (event.Timeout party) = timer_skips parties party
-skip_table parties sent event.AaaTimeout = (true, NoParty) ∷ []
-skip_table parties sent event.AaaNoReq = (true, NoParty) ∷ []
+skip_table parties sent event.AaaTimeout = aaa_skips parties
+skip_table parties sent event.AaaNoReq = aaa_skips parties
 skip_table parties sent _ = (is_end parties.peer.vars.state, Ended) ∷ []
 
 -- the first skip whose condition holds
@@ -198,14 +240,19 @@ first_skip [] = None
 first_skip ((test, skip) ∷ rest) = if test then Some skip else first_skip rest
 
 -- the call that an event is where none of them holds; None where nobody is to be called
-abbrev pub call_at : Port → List ℕ → Option Call
-call_at port.Peer octets = Some (to_peer (peer_inputs.octets octets))
-call_at port.Server octets = Some (to_server (server_inputs.octets octets))
-call_at _ octets = None
+abbrev pub call_at : Port → List ℕ → Call
+call_at port.Peer octets = to_peer (peer_inputs.octets octets)
+call_at port.Server octets = to_server (server_inputs.octets octets)
+call_at port.PassPeer octets = to_pass (pass_inputs.from_peer octets)
+call_at port.PassServer octets = to_pass (pass_inputs.from_backend octets)
 
 abbrev pub call_with : Option Sent → List ℕ → Option Call
 call_with None octets = None
-call_with (Some packet) octets = call_at packet.port octets
+call_with (Some packet) octets = Some (call_at packet.port octets)
+
+abbrev pub timer_call : Party → Call
+timer_call party.Pass = to_pass pass_inputs.timeout
+timer_call _ = to_server server_inputs.timeout
 
 abbrev pub reported : Event → Option Call
 reported event.Idle = Some (to_peer peer_inputs.idle)
@@ -217,8 +264,10 @@ abbrev pub call_of : List Sent → Event → Option Call
 call_of sent (event.Deliver n) = let packet = packet_numbered sent n in call_with packet (octets_of packet)
 call_of sent (event.Alter n place mask) = let packet = packet_numbered sent n in call_with packet (altered (octets_of packet) place mask)
 call_of sent (event.Cut n keep) = let packet = packet_numbered sent n in call_with packet (take keep (octets_of packet))
-call_of sent (event.Inject port octets) = call_at port octets
-call_of sent (event.Timeout party) = Some (to_server server_inputs.timeout)
+call_of sent (event.Inject port octets) = Some (call_at port octets)
+call_of sent (event.Timeout party) = Some (timer_call party)
+call_of sent event.AaaTimeout = Some (to_pass pass_inputs.aaa_timeout)
+call_of sent event.AaaNoReq = Some (to_pass pass_inputs.aaa_noreq)
 call_of sent e = reported e
 
 -- what a call of a party did, with what it wrote: the party, whether octets were handed to it, where what it
@@ -258,9 +307,25 @@ skipped parties skip = acted (Skipped skip) parties
 abbrev pub acted_with : {P S : Type 0} → (P → PeerShown) → (S → ServerShown) → brief_action.Action → List ℕ → Tags → Machines P S → Acted
 acted_with peer_shown server_shown action packet tags after = acted (action_with action packet tags) (parties_of peer_shown server_shown after)
 
+abbrev pub did_at : Party → Port → Bool → Step → Did
+did_at party port is_delivery step = record { party = party; is_delivery = is_delivery; port = port; step = step }
+
 abbrev pub did_by : Mode → Party → Bool → Step → Did
-did_by mode party is_delivery step =
-    record { party = party; is_delivery = is_delivery; port = goes_to party mode; step = step }
+did_by mode party is_delivery step = did_at party (goes_to party mode) is_delivery step
+
+-- what the pass-through does: what comes from the peer it sends on to the server, all else to the peer
+abbrev pub pass_port : PassInput → Port
+pass_port (pass_inputs.from_peer octets) = port.Server
+pass_port _ = port.Peer
+
+abbrev pub pass_sent : PassInput → PassStep → Option (List ℕ)
+pass_sent (pass_inputs.from_peer octets) step = step.to_server
+pass_sent _ step = step.to_peer
+
+abbrev pub did_pass : PassInput → PassStep → Did
+did_pass input step =
+    did_at party.Pass (pass_port input) (is_delivery (to_pass input))
+    (record { path = step.path; cause = step.cause; sent = pass_sent input step; tags = no_tags })
 
 abbrev pub called : Parties → Call → Acted
 called parties (to_peer input) =
@@ -269,6 +334,9 @@ called parties (to_peer input) =
 called parties (to_server input) =
     let out = server_takes parties.server input in
     acted (Called (did_by parties.mode party.Server (is_delivery (to_server input)) out.step)) (record parties { server = out.after })
+called parties (to_pass input) =
+    let out = pass_takes parties.pass input in
+    acted (Called (did_pass input out.step)) (record parties { pass = out.after })
 
 abbrev pub called_unless : Parties → Option Skip → Option Call → Acted
 called_unless parties (Some skip) call = skipped parties skip
@@ -291,10 +359,14 @@ abbrev pub delivered_cut : Parties → Option Sent → ℕ → Acted
 delivered_cut parties packet keep = handed parties packet (nat_lt (length (octets_of packet)) keep) (take keep (octets_of packet))
 
 abbrev pub injected : Parties → Port → List ℕ → Acted
-injected parties port octets = called_unless parties (first_skip ((is_absent parties.mode port, NoParty) ∷ [])) (call_at port octets)
+injected parties port octets = called_unless parties (first_skip ((is_absent parties.mode port, NoParty) ∷ [])) (Some (call_at port octets))
 
 abbrev pub timed_out : Parties → Party → Acted
-timed_out parties party = called_unless parties (first_skip (timer_skips parties party)) (Some (to_server server_inputs.timeout))
+timed_out parties party = called_unless parties (first_skip (timer_skips parties party)) (Some (timer_call party))
+
+-- the server behind the pass-through is lost, or has nothing to ask
+abbrev pub unanswered : Parties → PassInput → Acted
+unanswered parties input = called_unless parties (first_skip (aaa_skips parties)) (Some (to_pass input))
 
 abbrev pub told_peer : Parties → Event → Acted
 told_peer parties e = called_unless parties (first_skip ((is_end parties.peer.vars.state, Ended) ∷ [])) (reported e)
@@ -417,9 +489,13 @@ world_acted w event counts out =
       started = true;
     })
 
--- the start: the server asks for the identity; it is event 0
+-- the start: the server, or the pass-through, asks for the identity; it is event 0
+abbrev pub start_call : Mode → Call
+start_call mode.Alone = to_server server_inputs.start
+start_call mode.Through = to_pass pass_inputs.start
+
 unfoldable pub world_start : WorldNow → WorldOutcome
-world_start w = world_acted w 0 w.counts (called w.parties (to_server server_inputs.start))
+world_start w = world_acted w 0 w.counts (called w.parties (start_call w.parties.mode))
 
 -- the next event
 unfoldable pub world_step : WorldNow → Event → WorldOutcome
@@ -449,14 +525,15 @@ octets_of_sent sent (Some packet) = octets_of (packet_numbered sent packet.numbe
 abbrev pub told_octets : WorldOutcome → List ℕ
 told_octets out = octets_of_sent out.after.sent out.told.sent
 
--- what holds in every world: the server answers by itself; it has sent at most one packet an event and one
--- more, has booked at most four tags for each of these, counts no more deliveries and discards than events,
--- and its server starts with it
-pub record IsInRange (runs : Mode) (server : ServerVariables) (sent : List Sent) (book : List Entry) (counts : Counts) (started : Bool) : Type 0 where
-  pub alone : runs ≡ mode.Alone
+-- what holds in every world: it has sent at most one packet an event and one more, has booked at most four
+-- tags for each of these, counts no more deliveries and discards than events, and whoever asks for the
+-- identity starts with it
+pub record IsInRange (server : ServerVariables) (pass : PassVariables) (sent : List Sent) (book : List Entry) (counts : Counts) (started : Bool)
+    : Type 0 where
   pub few_events : counts.events ≤ 1000000
   pub few_sent : length sent ≤ counts.events + one_if started
   pub few_booked : length book ≤ 4 * (counts.events + one_if started)
   pub few_deliveries : counts.deliveries ≤ counts.events
   pub few_discards : counts.discards ≤ counts.events
   pub unstarted : started ≡ false → is_started server ≡ false
+  pub waits : started ≡ false → passes.is_started pass.state ≡ false

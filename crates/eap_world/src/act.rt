@@ -1,20 +1,27 @@
 //! What an event makes of the parties: it is skipped, or is a call of one of them. What a call sends and
 //! the records of its tags are written where the caller lends the room.
 
-ghost use Rattle.std.specs.Prelude.{◌≡◌, ◌≤◌, ◌<◌, ℕ, List, IfSome, if◌then◌else◌, length};
+ghost use Rattle.std.specs.Prelude.{◌≡◌, ◌≤◌, ◌<◌, ℕ, List, IfSome, if◌then◌else◌, length, false};
 ghost use Rattle.eap_method.specs.Steps.{step_with};
+ghost use Rattle.pass_through.specs.PassTable as passes;
+ghost use Rattle.server_machine.specs.ServerTable as servers;
 ghost use Rattle.eap_method.specs.declared.tags.Tags.{Tags};
 ghost use Rattle.eap_world.specs.Store.{lent};
-ghost use Rattle.eap_world.specs.World.{RunAlike, act, acted_with, action_with, altered, delivered, delivered_altered, delivered_cut};
-ghost use Rattle.eap_world.specs.World.{did_by, goes_to, injected, is_absent, parties_of, timed_out, told_peer};
+ghost use Rattle.eap_world.specs.World.{RunAlike, act, acted_with, action_with, altered, called, delivered, delivered_altered, delivered_cut};
+ghost use Rattle.eap_world.specs.World.{did_at, did_by, goes_to, injected, is_absent, parties_of, start_call, timed_out, told_peer, unanswered};
 ghost use Rattle.eap_world.specs.World as worlds;
 ghost use Rattle.eap_world.specs.declared.act.Action.TheVariants.{Skipped};
+ghost use Rattle.eap_world.specs.World.{first_skip, pass_skips};
+ghost use Rattle.pass_through.specs.Inputs.{aaa_timeout, aaa_noreq};
+ghost use Rattle.eap_base.specs.declared.setup.Party.TheVariants.{Pass, Server};
+ghost use Rattle.eap_base.specs.declared.setup.Port.TheVariants.{PassPeer, PassServer};
 ghost use Rattle.eap_world.specs.declared.told.Skip.TheVariants.{NoParty, Place};
 
 use crate::store::{Store, Stored};
 use crate::told::Skip;
 use eap_base::{Event, Mode, Packet, Party, Port};
 use eap_method::{PeerMethod, ServerMethod, Step, Tags};
+use pass_through::PassThrough;
 use peer_machine::PeerMachine;
 use server_machine::ServerMachine;
 
@@ -37,12 +44,15 @@ pub enum Action {
     Called(Did),
 }
 
-/// The machines of a run: the peer (RFC 4137 section 4) and the stand-alone server (section 5).
+/// The machines of a run: the peer (RFC 4137 section 4), the server, stand-alone (section 5) or a backend
+/// (section 6), and the pass-through before a backend (section 7). In mode alone nothing comes to the
+/// pass-through.
 #[derive(Drop)]
 pub struct Machines<P, S> {
     pub mode: Mode,
     pub peer: PeerMachine<P>,
     pub server: ServerMachine<S>,
+    pub pass: PassThrough,
 }
 
 /// An event comes to the machines, where these packets were sent before it. What is sent is written into
@@ -70,8 +80,8 @@ pub fn act<P: PeerMethod, S: ServerMethod>(
         Event::Cut { number, keep } => cut(machines, *keep, sent.get(*number), packet, tags),
         Event::Inject { port, octets } => hand(machines, *port, octets.as_slice(), packet, tags),
         Event::Timeout { party } => end_timer(machines, *party, packet, tags),
-        Event::AaaTimeout => Action::Skipped(Skip::NoParty),
-        Event::AaaNoReq => Action::Skipped(Skip::NoParty),
+        Event::AaaTimeout => lose_server(machines, packet, tags),
+        Event::AaaNoReq => ask_nothing(machines, packet, tags),
         Event::Idle => report(machines, event, packet, tags),
         Event::AltAccept => report(machines, event, packet, tags),
         Event::AltReject => report(machines, event, packet, tags),
@@ -83,15 +93,48 @@ pub fn does(mode: Mode, party: Party, is_delivery: bool, step: Step) -> Action
     ensures { (packet : List ℕ) (tags : Tags)
         → action_with result packet tags ≡ worlds.Called (did_by mode party is_delivery (step_with step packet tags)) }
 {
+    does_at(party, goes_to(party, mode), is_delivery, step)
+}
+
+/// What a call of a party did whose packet goes to this port.
+fn does_at(party: Party, port: Port, is_delivery: bool, step: Step) -> Action
+    ensures { (packet : List ℕ) (tags : Tags)
+        → action_with result packet tags ≡ worlds.Called (did_at party port is_delivery (step_with step packet tags)) }
+{
     Action::Called(Did {
         party,
         is_delivery,
-        port: goes_to(party, mode),
+        port,
         step,
     })
 }
 
-/// Where a party's packets go. What the pass-through itself sends to the peer is all that is here of it.
+/// The start: the server asks for the identity, or the pass-through before it. Neither has started.
+pub fn start<P: PeerMethod, S: ServerMethod>(
+    machines: &mut Machines<P, S>,
+    packet: &mut Packet,
+    tags: &mut Tags,
+) -> Action
+    requires server { servers.is_started machines.old.server.vars ≡ false }
+    requires pass { passes.is_started machines.old.pass.state ≡ false }
+    ensures acts { called (parties_of P.peer_shown S.server_shown machines.old) (start_call machines.old.mode)
+        ≡ acted_with P.peer_shown S.server_shown result packet.new tags.new machines.new }
+    ensures alike { RunAlike P.peer_shown S.server_shown machines.old machines.new }
+{
+    tags.clear();
+    match machines.mode {
+        Mode::Alone => {
+            let step = machines.server.start(packet);
+            does_at(Party::Server, Port::Peer, false, step)
+        }
+        Mode::Through => {
+            let step = machines.pass.start(packet);
+            does_at(Party::Pass, Port::Peer, false, step)
+        }
+    }
+}
+
+/// Where a party's packets go; the pass-through's own go to the peer.
 fn goes_to(party: Party, mode: Mode) -> Port
     ensures { result ≡ goes_to party mode }
 {
@@ -146,8 +189,50 @@ fn hand<P: PeerMethod, S: ServerMethod>(
             let step = machines.server.deliver(octets, packet, tags);
             does(mode, Party::Server, true, step)
         }
-        Port::PassPeer => Action::Skipped(Skip::NoParty),
-        Port::PassServer => Action::Skipped(Skip::NoParty),
+        Port::PassPeer => hand_from_peer(machines, octets, packet, tags),
+        Port::PassServer => hand_from_server(machines, octets, packet, tags),
+    }
+}
+
+/// Octets come from the peer to the pass-through, which sends on to the server.
+fn hand_from_peer<P: PeerMethod, S: ServerMethod>(
+    machines: &mut Machines<P, S>,
+    octets: &[u8],
+    packet: &mut Packet,
+    tags: &mut Tags,
+) -> Action
+    ensures acts { injected (parties_of P.peer_shown S.server_shown machines.old) PassPeer octets.now
+        ≡ acted_with P.peer_shown S.server_shown result packet.new tags.new machines.new }
+    ensures alike { RunAlike P.peer_shown S.server_shown machines.old machines.new }
+{
+    tags.clear();
+    match machines.mode {
+        Mode::Alone => Action::Skipped(Skip::NoParty),
+        Mode::Through => {
+            let step = machines.pass.from_peer(octets, packet);
+            does_at(Party::Pass, Port::Server, true, step)
+        }
+    }
+}
+
+/// Octets come from the server to the pass-through, which sends on to the peer.
+fn hand_from_server<P: PeerMethod, S: ServerMethod>(
+    machines: &mut Machines<P, S>,
+    octets: &[u8],
+    packet: &mut Packet,
+    tags: &mut Tags,
+) -> Action
+    ensures acts { injected (parties_of P.peer_shown S.server_shown machines.old) PassServer octets.now
+        ≡ acted_with P.peer_shown S.server_shown result packet.new tags.new machines.new }
+    ensures alike { RunAlike P.peer_shown S.server_shown machines.old machines.new }
+{
+    tags.clear();
+    match machines.mode {
+        Mode::Alone => Action::Skipped(Skip::NoParty),
+        Mode::Through => {
+            let step = machines.pass.from_backend(octets, packet);
+            does_at(Party::Pass, Port::Peer, true, step)
+        }
     }
 }
 
@@ -263,7 +348,7 @@ fn misplaced(mode: Mode, port: Port) -> Action
     }
 }
 
-/// The retransmission timer of a party ends; only the server has one.
+/// The retransmission timer of a party ends: the stand-alone server's, or the pass-through's.
 fn end_timer<P: PeerMethod, S: ServerMethod>(
     machines: &mut Machines<P, S>,
     party: Party,
@@ -280,14 +365,109 @@ fn end_timer<P: PeerMethod, S: ServerMethod>(
         } else {
             Skip::NoTimer
         }),
-        Party::Pass => Action::Skipped(Skip::NoParty),
-        Party::Server => {
-            if machines.server.ended() {
-                Action::Skipped(Skip::Ended)
+        Party::Pass => end_pass_timer(machines, packet, tags),
+        Party::Server => end_server_timer(machines, packet, tags),
+    }
+}
+
+/// The server's retransmission timer ends; behind the pass-through it has none.
+fn end_server_timer<P: PeerMethod, S: ServerMethod>(
+    machines: &mut Machines<P, S>,
+    packet: &mut Packet,
+    tags: &mut Tags,
+) -> Action
+    ensures acts { timed_out (parties_of P.peer_shown S.server_shown machines.old) Server
+        ≡ acted_with P.peer_shown S.server_shown result packet.new tags.new machines.new }
+    ensures alike { RunAlike P.peer_shown S.server_shown machines.old machines.new }
+{
+    if machines.server.ended() {
+        return Action::Skipped(Skip::Ended);
+    }
+    match machines.mode {
+        Mode::Through => Action::Skipped(Skip::NoTimer),
+        Mode::Alone => {
+            tags.clear();
+            let step = machines.server.timeout(packet);
+            does_at(Party::Server, Port::Peer, false, step)
+        }
+    }
+}
+
+/// The pass-through's retransmission timer ends, which runs in IDLE and IDLE2.
+fn end_pass_timer<P: PeerMethod, S: ServerMethod>(
+    machines: &mut Machines<P, S>,
+    packet: &mut Packet,
+    tags: &mut Tags,
+) -> Action
+    ensures acts { timed_out (parties_of P.peer_shown S.server_shown machines.old) Pass
+        ≡ acted_with P.peer_shown S.server_shown result packet.new tags.new machines.new }
+    ensures alike { RunAlike P.peer_shown S.server_shown machines.old machines.new }
+{
+    match pass_skip(machines, machines.pass.has_timer()) {
+        Some(skip) => Action::Skipped(skip),
+        None => {
+            tags.clear();
+            let step = machines.pass.timeout(packet);
+            does_at(Party::Pass, Port::Peer, false, step)
+        }
+    }
+}
+
+/// No answer of the server behind the pass-through comes any more.
+fn lose_server<P: PeerMethod, S: ServerMethod>(
+    machines: &mut Machines<P, S>,
+    packet: &mut Packet,
+    tags: &mut Tags,
+) -> Action
+    ensures acts { unanswered (parties_of P.peer_shown S.server_shown machines.old) aaa_timeout
+        ≡ acted_with P.peer_shown S.server_shown result packet.new tags.new machines.new }
+    ensures alike { RunAlike P.peer_shown S.server_shown machines.old machines.new }
+{
+    packet.clear();
+    tags.clear();
+    match pass_skip(machines, machines.pass.waits_for_server()) {
+        Some(skip) => Action::Skipped(skip),
+        None => {
+            let step = machines.pass.aaa_timeout();
+            does_at(Party::Pass, Port::Peer, false, step)
+        }
+    }
+}
+
+/// The server behind the pass-through has nothing to ask.
+fn ask_nothing<P: PeerMethod, S: ServerMethod>(
+    machines: &mut Machines<P, S>,
+    packet: &mut Packet,
+    tags: &mut Tags,
+) -> Action
+    ensures acts { unanswered (parties_of P.peer_shown S.server_shown machines.old) aaa_noreq
+        ≡ acted_with P.peer_shown S.server_shown result packet.new tags.new machines.new }
+    ensures alike { RunAlike P.peer_shown S.server_shown machines.old machines.new }
+{
+    packet.clear();
+    tags.clear();
+    match pass_skip(machines, machines.pass.waits_for_server()) {
+        Some(skip) => Action::Skipped(skip),
+        None => {
+            let step = machines.pass.aaa_noreq();
+            does_at(Party::Pass, Port::Peer, false, step)
+        }
+    }
+}
+
+/// Why an event of the pass-through is skipped, where `is_placed` says that its state has a place for it.
+fn pass_skip<P, S>(machines: &Machines<P, S>, is_placed: bool) -> Option<Skip>
+    ensures { result ≡ first_skip (pass_skips machines.now.mode machines.now.pass.state is_placed) }
+{
+    match machines.mode {
+        Mode::Alone => Some(Skip::NoParty),
+        Mode::Through => {
+            if machines.pass.ended() {
+                Some(Skip::Ended)
+            } else if is_placed {
+                None
             } else {
-                tags.clear();
-                let step = machines.server.timeout(packet);
-                does(machines.mode, Party::Server, false, step)
+                Some(Skip::NoTimer)
             }
         }
     }

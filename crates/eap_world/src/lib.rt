@@ -1,5 +1,6 @@
-//! Both ends of a login over events: the peer of RFC 4137 section 4, the stand-alone server of section
-//! 5, what they have sent, the book of their tags, what each event does, and whether the ends agree.
+//! Both ends of a login over events: the peer of RFC 4137 section 4 and the server of section 5, or of section
+//! 6 behind the pass-through of section 7; what they have sent, the book of the ends' tags, what each event
+//! does, and whether the ends agree.
 #![tactic(auto)]
 
 mod act;

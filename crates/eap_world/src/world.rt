@@ -3,12 +3,11 @@
 ghost use Rattle.std.specs.Prelude.{◌≡◌, ◌≤◌, ◌<◌, ◌+◌, ◌-◌, ◌^◌, ◌++◌, ℕ, List, true, false, map, length};
 ghost use Rattle.std.specs.Prelude.{MatchResult, IfOk, option_copied, vec_len, vec_capacity};
 ghost use Rattle.eap_base.specs.Setup.{IsSoundPeer, IsSoundServer, HasKeys};
-ghost use Rattle.eap_base.specs.declared.setup.Mode.TheVariants.{Alone};
 ghost use Rattle.eap_method.specs.declared.tags.Tags.{Tags};
 ghost use Rattle.eap_world.specs.World.{action_with, parties_of, sent_by, booked_by, counted, end_of, has_held, named_by};
-ghost use Rattle.eap_world.specs.World.{first_report, held_by, held_after, held_with, report_of, told_of, told_with};
+ghost use Rattle.eap_world.specs.World.{first_report, held_by, held_after, held_with, report_of, role_in, told_of, told_with};
 
-use crate::act::{Action, Did, Machines, act, does};
+use crate::act::{Action, Did, Machines, act, start};
 use crate::book::{End, Entry, TagsVerdict, book_tags, judge_tags};
 use crate::store::Store;
 use crate::told::{Counts, Named, SentPacket, Told};
@@ -16,8 +15,9 @@ use crate::verdict::{Verdict, judge_reports};
 use eap_base::{Event, Mode, Packet, Party, Setup};
 use eap_method::{PeerMethod, Report, ServerMethod, Tags};
 use eap_packet::{Path, State};
+use pass_through::PassThrough;
 use peer_machine::PeerMachine;
-use server_machine::ServerMachine;
+use server_machine::{Role, ServerMachine};
 use std::alloc::Global;
 use std::marker::Model;
 use thiserror::Error;
@@ -47,9 +47,10 @@ pub struct Held {
     pub server: bool,
 }
 
-/// The peer (RFC 4137 section 4) and the stand-alone server (section 5) with their methods, the packets
-/// that they have sent, the book of their tags, and the counts. Contracts see all of it; what an object
-/// shows is its ghost member.
+/// The peer (RFC 4137 section 4) and the server with their methods, the packets that were sent, the book of
+/// the ends' tags, and the counts. In mode alone the server is the stand-alone one (section 5), in mode through
+/// the backend (section 6) with the pass-through (section 7) before it. Contracts see all of it; what an
+/// object shows is its ghost member.
 #[derive(Drop)]
 pub struct World<P, S> {
     machines: Machines<P, S>,
@@ -73,6 +74,7 @@ impl<P, S> Model for World<P, S> {
       mode = w.machines.mode;
       peer = w.machines.peer;
       server = w.machines.server;
+      pass = w.machines.pass;
       sent = w.sent.packets;
       stored = w.sent.stored;
       book = w.book.items;
@@ -81,7 +83,7 @@ impl<P, S> Model for World<P, S> {
       started = w.started;
     } };
 
-    ghost invariant = { λ w. IsInRange w.machines.mode w.machines.server.vars w.sent.packets w.book.items w.counts w.started };
+    ghost invariant = { λ w. IsInRange w.machines.server.vars w.machines.pass w.sent.packets w.book.items w.counts w.started };
 }
 
 impl<P: PeerMethod, S: ServerMethod> World<P, S> {
@@ -93,12 +95,11 @@ impl<P: PeerMethod, S: ServerMethod> World<P, S> {
     ghost use Rattle.eap_world.specs.declared.verdict.Verdict.TheVariants.{Agree, Apart};
     ghost use Rattle.eap_world.specs.Judgement.{verdict_of};
     ghost use Rattle.eap_world.specs.World.{HaveSameKinds, KeepsKinds, Tells, world_made, world_start, world_step, now_of};
-    ghost use Rattle.eap_world.specs.World.{octets_numbered, octets_of_sent, state_of};
+    ghost use Rattle.eap_world.specs.World.{octets_numbered, octets_of_sent, pass_state, state_of};
 
-    /// The world of a setup, in which the peer has begun and the server hasn't started. The server
-    /// answers by itself; each method that an end allows or proposes has an object. It takes no memory.
+    /// The world of a setup, in which the peer has begun and the server, or the pass-through, hasn't started.
+    /// Each method that an end allows or proposes has an object. It takes no memory.
     pub fn new(alloc: Global, setup: Setup, methods: Methods<P, S>) -> World<P, S>
-        requires alone { setup.mode ≡ Alone }
         requires few { setup.max_retrans ≤ 10 }
         requires sound_peer { IsSoundPeer setup.peer }
         requires keys { HasKeys setup.peer }
@@ -112,7 +113,9 @@ impl<P: PeerMethod, S: ServerMethod> World<P, S> {
             machines: Machines {
                 mode: setup.mode,
                 peer: PeerMachine::new(setup.peer, methods.peer),
-                server: ServerMachine::new(
+                pass: PassThrough::new(setup.first_id, setup.max_retrans),
+                server: ServerMachine::in_role(
+                    role_in(setup.mode),
                     setup.server,
                     setup.first_id,
                     setup.max_retrans,
@@ -136,7 +139,8 @@ impl<P: PeerMethod, S: ServerMethod> World<P, S> {
         }
     }
 
-    /// The server starts, as event 0: it sends packet 1, the Identity Request. `Memory` comes only for
+    /// The server starts, or in mode through the pass-through, as event 0: it sends packet 1, the Identity
+    /// Request. `Memory` comes only for
     /// want of memory for what it sends; the world then is as it was. The world has not started. A world
     /// that has just been made then is that of the run without events, with at most eight tags in its book.
     pub fn start(&mut self) -> Result<Told, Memory>
@@ -151,8 +155,8 @@ impl<P: PeerMethod, S: ServerMethod> World<P, S> {
         self.begin()
     }
 
-    /// The next event, numbered from 1. A delivery hands octets to the peer (RFC 4137 section 4) or the
-    /// server (section 5); an event that has nobody or nothing to act on is skipped and only counted.
+    /// The next event, numbered from 1. A delivery hands octets to the peer (RFC 4137 section 4), the server
+    /// (sections 5 and 6) or the pass-through (section 7); an event that has nobody or nothing to act on is skipped and only counted.
     /// `Memory` comes only for want of memory for one more packet and its tags; the world then is as it
     /// was, and the event isn't counted. A world that was that of the run over some events then is that
     /// of the run over these and this one, with at most eight tags in its book.
@@ -181,9 +185,7 @@ impl<P: PeerMethod, S: ServerMethod> World<P, S> {
         if !make_room(&mut self.sent, &mut self.book) {
             return Err(Memory);
         }
-        self.tags.clear();
-        let step = self.machines.server.start(&mut self.packet);
-        let action = does(self.machines.mode, Party::Server, false, step);
+        let action = start(&mut self.machines, &mut self.packet, &mut self.tags);
         self.started = true;
         Ok(keep(
             &self.machines,
@@ -237,10 +239,9 @@ impl<P: PeerMethod, S: ServerMethod> World<P, S> {
         self.started
     }
 
-    /// The mode: the server answers by itself.
+    /// The mode: the server answers by itself, or through the pass-through.
     pub fn mode(&self) -> Mode
-        ensures value { result ≡ self.now.mode }
-        ensures alone { result ≡ Alone }
+        ensures { result ≡ self.now.mode }
     {
         self.machines.mode
     }
@@ -277,14 +278,25 @@ impl<P: PeerMethod, S: ServerMethod> World<P, S> {
         self.sent.stored()
     }
 
-    /// The state of a party (RFC 4137 sections 4.5 and 5.5); None for the pass-through, which isn't there.
+    /// The state of a party (RFC 4137 sections 4.5, 5.5, 6.5 and 7.5); None exactly for the pass-through in
+    /// mode alone, where it isn't there.
     pub fn state(&self, party: Party) -> Option<State>
         ensures { result ≡ state_of (now_of P.peer_shown S.server_shown self.now).parties party }
     {
         match party {
             Party::Peer => Some(self.peer_state()),
-            Party::Pass => None,
+            Party::Pass => self.pass_state(),
             Party::Server => Some(self.server_state()),
+        }
+    }
+
+    /// The state of the pass-through (RFC 4137 section 7.5); None in mode alone, where it isn't there.
+    pub fn pass_state(&self) -> Option<State>
+        ensures { result ≡ pass_state self.now.mode self.now.pass }
+    {
+        match self.machines.mode {
+            Mode::Alone => None,
+            Mode::Through => Some(self.machines.pass.state()),
         }
     }
 
@@ -295,7 +307,7 @@ impl<P: PeerMethod, S: ServerMethod> World<P, S> {
         self.machines.peer.state()
     }
 
-    /// The state of the server (RFC 4137 section 5.5).
+    /// The state of the server (RFC 4137 sections 5.5 and 6.5).
     pub fn server_state(&self) -> State
         ensures { result ≡ self.now.server.vars.state }
     {
@@ -365,6 +377,16 @@ impl<P: PeerMethod, S: ServerMethod> World<P, S> {
             peer: self.machines.peer.into_methods(),
             server: self.machines.server.into_methods(),
         }
+    }
+}
+
+/// The server's role in a mode.
+fn role_in(mode: Mode) -> Role
+    ensures { result ≡ role_in mode }
+{
+    match mode {
+        Mode::Alone => Role::StandAlone,
+        Mode::Through => Role::Backend,
     }
 }
 
@@ -444,7 +466,7 @@ fn first_report<P: PeerMethod, S: ServerMethod>(
     }
 }
 
-/// What a party reports; the pass-through isn't there.
+/// What a party reports; the pass-through reports nothing.
 fn report_of<P: PeerMethod, S: ServerMethod>(
     machines: &Machines<P, S>,
     party: Party,

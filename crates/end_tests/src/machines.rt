@@ -1,11 +1,14 @@
 //! A peer and a server with no method, stepped by hand.
 
+ghost use Rattle.std.specs.Prelude.{◌≡◌, []};
+ghost use Rattle.eap_base.specs.Setup.{IsSoundServer};
+
 use eap_base::{Accepts, Identity, Kinds, Packet, PeerSetup, ServerSetup, Suites, Users};
 use eap_method::{PeerMethod, ServerMethod, Step, Tags};
 use eap_packet::State;
 use low_tests::row::Row;
 use peer_machine::PeerMachine;
-use server_machine::ServerMachine;
+use server_machine::{Backend, ServerMachine};
 use std::alloc::Global;
 
 /// Whether the step sends the row's octets, as they stand in `packet`, discards for its cause and goes
@@ -91,18 +94,25 @@ fn peer_without_methods(rt: HostRuntime) {
 
 type Server = ServerMachine<Box<dyn ServerMethod>>;
 
-/// A server that has not started, has no method and sends a Request again four times.
-fn bare_server(alloc: Global) -> Server {
+/// A server without methods.
+fn bare_setup() -> ServerSetup
+    ensures sound { IsSoundServer result }
+    ensures none { result.methods ≡ [] }
+{
     let mut suites = Suites::new();
     suites.push(1);
-    let setup = ServerSetup {
+    ServerSetup {
         name: Identity::new(),
         methods: Kinds::new(),
         suites,
         users: Users::new(),
         nonce: [34; 32],
-    };
-    ServerMachine::new(setup, 0, 4, Vec::new(alloc))
+    }
+}
+
+/// A server that has not started, has no method and sends a Request again four times.
+fn bare_server(alloc: Global) -> Server {
+    ServerMachine::new(bare_setup(), 0, 4, Vec::new(alloc))
 }
 
 /// What the server does at the row's call: `start`, `timeout`, or `deliver` with what is delivered.
@@ -164,6 +174,40 @@ fn five_timeouts(rt: HostRuntime) {
     let wrong = wrong_row(&mut server, TIMEOUTS);
     assert!(rt;
         wrong.is_empty() && server.state() == State::TimeoutFailure,
+        "{wrong}"
+    );
+}
+
+// What comes to a backend, what it sends, why it discards, and the states that it enters (RFC 4137 section 6):
+// no Response, no packet, the identity, which is too much for a server without methods, and the same again.
+const FIRST: &str = "\
+0100000501 - WrongRole
+0200 - Short
+0205000a01616c696365 04050004 - PICK_UP_METHOD METHOD_RESPONSE SELECT_ACTION FAILURE
+0205000a01616c696365 - Ended";
+
+/// The first row that isn't as the backend does, empty where each is.
+fn wrong_response(backend: &mut Backend<Box<dyn ServerMethod>>, rows: &'static str) -> &'static str {
+    let mut packet = Packet::new();
+    let mut tags = Tags::new();
+    for line in rows.lines() {
+        let mut row = Row::new(line);
+        let step = backend.deliver(row.octets().as_slice(), &mut packet, &mut tags);
+        if !is_step(&step, &packet, &mut row) {
+            return line;
+        }
+    }
+    ""
+}
+
+#[test]
+fn first_response(rt: HostRuntime) {
+    let mut backend: Backend<Box<dyn ServerMethod>> =
+        Backend::new(bare_setup(), Vec::new(rt.alloc()));
+    assert!(rt; backend.state() == State::Initialize);
+    let wrong = wrong_response(&mut backend, FIRST);
+    assert!(rt;
+        wrong.is_empty() && backend.ended() && backend.report().is_none() && backend.into_methods().is_empty(),
         "{wrong}"
     );
 }

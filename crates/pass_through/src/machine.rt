@@ -175,6 +175,20 @@ impl PassThrough {
         !matches!(self.vars.state, State::Initialize)
     }
 
+    /// True in IDLE and IDLE2, where the retransmission timer runs.
+    pub fn has_timer(&self) -> bool
+        ensures { result ≡ has_timer self.now.state }
+    {
+        is_idle(self.vars.state) || is_idle2(self.vars.state)
+    }
+
+    /// True in AAA_IDLE, where the server is waited for.
+    pub fn waits_for_server(&self) -> bool
+        ensures { result ≡ is_aaa_idle self.now.state }
+    {
+        is_aaa_idle(self.vars.state)
+    }
+
     /// True in SUCCESS2, FAILURE2, TIMEOUT_FAILURE and TIMEOUT_FAILURE2.
     pub fn ended(&self) -> bool
         ensures { result ≡ is_over self.now.state }

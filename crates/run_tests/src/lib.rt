@@ -18,4 +18,6 @@ mod runs;
 #[cfg(test)]
 mod texts;
 #[cfg(test)]
+mod through;
+#[cfg(test)]
 mod worlds;

@@ -1,5 +1,5 @@
 -- Which lines of the end tell the verdicts.
-use Rattle.std.proofs.Common.{◌≡◌, ℕ, List, [], ◌∷◌, ◌++◌, true, false, refl, sym, ap, ◌∙◌, codes, decimal, append_assoc}
+use Rattle.std.proofs.Common.{◌≡◌, ℕ, List, [], ◌∷◌, ◌++◌, Option, true, false, refl, sym, ap, ◌∙◌, codes, decimal, append_assoc}
 use Rattle.std.proofs.lemmas.Bool.{true≢false}
 use Rattle.eap_packet.specs.declared.state.State.{State}
 use Rattle.eap_world.specs.declared.book.TagsVerdict.{TagsVerdict}
@@ -7,9 +7,9 @@ use Rattle.eap_world.specs.declared.book.TagsVerdict.TheVariants as tags
 use Rattle.eap_world.specs.declared.told.Counts.{Counts}
 use Rattle.eap_world.specs.declared.verdict.Verdict.{Verdict}
 use Rattle.eap_world.specs.declared.verdict.Verdict.TheVariants as verdict
-use Rattle.trace_text.specs.Run.{tags_text, result_text, ends_text, counts_text, end_text_of}
+use Rattle.trace_text.specs.Run.{tags_text, result_text, stands_text, counts_text, end_text_of}
 use Rattle.trace_text.proofs.Plain.{over, has_through, decimal_within}
-use Rattle.trace_text.proofs.PlainTexts.{begins_verdict, ends_plain, counts_plain}
+use Rattle.trace_text.proofs.PlainTexts.{begins_verdict, stands_plain, counts_plain}
 use Rattle.trace_text.proofs.Scanning.{has_mark}
 
 -- the two lines
@@ -48,18 +48,18 @@ tells_apart verdict.Agree h = absurd (true≢false (sym h))
 tells_apart verdict.Apart h = refl
 tells_apart verdict.Unfinished h = absurd (true≢false (sym h))
 
-module _ (peer server : State) (counts : Counts) (t : TagsVerdict) (v : Verdict) where
+module _ (peer : State) (pass : Option State) (server : State) (counts : Counts) (t : TagsVerdict) (v : Verdict) where
   over_states : (m : ℕ) (mark : List ℕ) → begins_verdict m ≡ true
-      → has_mark (m ∷ mark) true (end_text_of peer server counts t v) ≡ has_mark (m ∷ mark) true (tags_text t ++ result_text v)
+      → has_mark (m ∷ mark) true (end_text_of peer pass server counts t v) ≡ has_mark (m ∷ mark) true (tags_text t ++ result_text v)
   unfolding end_text_of
   over_states m mark bad =
-      over begins_verdict m mark bad (ends_text peer server) (counts_text counts ++ (tags_text t ++ result_text v)) true (ends_plain peer server)
+      over begins_verdict m mark bad (stands_text peer pass server) (counts_text counts ++ (tags_text t ++ result_text v)) true (stands_plain peer pass server)
       ∙ over begins_verdict m mark bad (counts_text counts) (tags_text t ++ result_text v) true (counts_plain counts)
 
   -- only honest tags are told by this line
-  pub end_tells_honest : has_mark honest_line true (end_text_of peer server counts t v) ≡ true → t ≡ tags.Honest
+  pub end_tells_honest : has_mark honest_line true (end_text_of peer pass server counts t v) ≡ true → t ≡ tags.Honest
   end_tells_honest h = tells_honest t v (sym (over_states 116 (codes "ags honest\n") refl) ∙ h)
 
   -- only ends that are apart are told by this line
-  pub end_tells_apart : has_mark apart_line true (end_text_of peer server counts t v) ≡ true → v ≡ verdict.Apart
+  pub end_tells_apart : has_mark apart_line true (end_text_of peer pass server counts t v) ≡ true → v ≡ verdict.Apart
   end_tells_apart h = tells_apart v (sym (over_tags t v) ∙ (sym (over_states 114 (codes "esult apart\n") refl) ∙ h))

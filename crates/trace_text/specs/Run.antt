@@ -12,7 +12,7 @@ use Rattle.eap_packet.specs.declared.cause.Cause.{Cause}
 use Rattle.eap_packet.specs.declared.state.State.{State}
 use Rattle.eap_world.specs.Book.{tags_verdict}
 use Rattle.eap_world.specs.Judgement.{verdict_of}
-use Rattle.eap_world.specs.World.{WorldNow, WorldOutcome, told_octets}
+use Rattle.eap_world.specs.World.{WorldNow, WorldOutcome, pass_state, told_octets}
 use Rattle.eap_world.specs.declared.book.TagsVerdict.{TagsVerdict}
 use Rattle.eap_world.specs.declared.book.TagsVerdict.TheVariants as tags
 use Rattle.eap_world.specs.declared.told.Counts.{Counts}
@@ -141,9 +141,23 @@ start_text m names octets told = peer_start_text ++ (told_text names octets told
 abbrev pub begin_text : Bool → WorldOutcome → List ℕ
 begin_text names out = start_text out.after.parties.mode names (told_octets out) out.told
 
--- where both ends stand
-unfoldable pub ends_text : State → State → List ℕ
-ends_text peer server = concat (codes "state peer " ∷ state_word peer ∷ codes "\nstate server " ∷ state_word server ∷ codes "\n" ∷ [])
+-- where each party stands
+abbrev pub state_line : List ℕ → State → List ℕ
+state_line of state = concat (of ∷ state_word state ∷ codes "\n" ∷ [])
+
+unfoldable pub peer_state_line : State → List ℕ
+peer_state_line state = state_line (codes "state peer ") state
+
+unfoldable pub server_state_line : State → List ℕ
+server_state_line state = state_line (codes "state server ") state
+
+-- the pass-through where there is one
+unfoldable pub pass_state_line : Option State → List ℕ
+pass_state_line None = []
+pass_state_line (Some state) = state_line (codes "state pass ") state
+
+abbrev pub stands_text : State → Option State → State → List ℕ
+stands_text peer pass server = peer_state_line peer ++ (pass_state_line pass ++ server_state_line server)
 
 -- how many events, deliveries and discards there were
 unfoldable pub counts_text : Counts → List ℕ
@@ -166,9 +180,11 @@ unfoldable pub result_text : Verdict → List ℕ
 result_text v = concat (codes "result " ∷ verdict_word v ∷ codes "\nend\n" ∷ [])
 
 -- the lines of the end
-unfoldable pub end_text_of : State → State → Counts → TagsVerdict → Verdict → List ℕ
-end_text_of peer server counts tags verdict =
-    ends_text peer server ++ (counts_text counts ++ (tags_text tags ++ result_text verdict))
+unfoldable pub end_text_of : State → Option State → State → Counts → TagsVerdict → Verdict → List ℕ
+end_text_of peer pass server counts tags verdict =
+    stands_text peer pass server ++ (counts_text counts ++ (tags_text tags ++ result_text verdict))
 
 abbrev pub end_text : WorldNow → List ℕ
-end_text w = end_text_of w.parties.peer.vars.state w.parties.server.vars.state w.counts (tags_verdict w.book) (verdict_of w)
+end_text w =
+    end_text_of w.parties.peer.vars.state (pass_state w.parties.mode w.parties.pass) w.parties.server.vars.state
+    w.counts (tags_verdict w.book) (verdict_of w)

@@ -7,8 +7,8 @@ ghost use Rattle.trace_text.specs.Writes.{Appends, Puts};
 ghost use Rattle.trace_text.specs.Pieces.{hex_text};
 ghost use Rattle.trace_text.specs.Run.{state_text, party_word, port_word, skip_word, code_word, states_text, path_text, party_text};
 ghost use Rattle.trace_text.specs.Run.{cause_text, sent_text, octets_line, octets_text, keys_line, keys_text, shown_text, acted_text};
-ghost use Rattle.trace_text.specs.Run.{told_text, peer_start_text, server_start_text, start_text, ends_text, counts_text, tags_text, verdict_word};
-ghost use Rattle.trace_text.specs.Run.{result_text, end_text_of, end_text};
+ghost use Rattle.trace_text.specs.Run.{told_text, peer_start_text, server_start_text, start_text, stands_text, counts_text, tags_text, verdict_word};
+ghost use Rattle.trace_text.specs.Run.{result_text, end_text_of, end_text, peer_state_line, pass_state_line, server_state_line};
 ghost use Rattle.eap_world.specs.World.{now_of};
 
 use crate::line_buffer::LineBuffer;
@@ -427,29 +427,45 @@ pub fn write_start<W: Sink>(
     write_server_start(sink, mode)
 }
 
-/// Writes the lines of the end: where both ends stand, the counts, and the verdicts. `Failed`: a write
+/// Writes the lines of the end: where each party stands, the counts, and the verdicts. `Failed`: a write
 /// failed, and a front of the lines was appended.
 #[tactic(auto, unfolding(crate::specs::Run::end_text_of), using(crate::proofs::Fronts::appends_both, crate::proofs::Fronts::appends_front))]
 pub fn write_end_of<W: Sink>(
     sink: &mut W,
     peer: State,
+    pass: Option<State>,
     server: State,
     counts: Counts,
     tags: TagsVerdict,
     verdict: Verdict,
 ) -> Result<(), Failed>
-    ensures { Appends W.written W.write_faults W.last_write_fault result sink.old sink.new (end_text_of peer server counts tags verdict) }
+    ensures { Appends W.written W.write_faults W.last_write_fault result sink.old sink.new (end_text_of peer pass server counts tags verdict) }
 {
-    write_ends(sink, peer, server)?;
+    write_stands(sink, peer, pass, server)?;
     write_counts(sink, counts)?;
     write_tags(sink, tags)?;
     write_result(sink, verdict)
 }
 
-/// Writes the states of both ends.
-#[tactic(auto, unfolding(crate::specs::Run::ends_text))]
-fn write_ends<W: Sink>(sink: &mut W, peer: State, server: State) -> Result<(), Failed>
-    ensures { Appends W.written W.write_faults W.last_write_fault result sink.old sink.new (ends_text peer server) }
+/// Writes the states of the parties.
+#[tactic(auto, using(crate::proofs::Fronts::appends_both, crate::proofs::Fronts::appends_front))]
+fn write_stands<W: Sink>(
+    sink: &mut W,
+    peer: State,
+    pass: Option<State>,
+    server: State,
+) -> Result<(), Failed>
+    ensures { Appends W.written W.write_faults W.last_write_fault result sink.old sink.new (stands_text peer pass server) }
+{
+    write_peer_state(sink, peer)?;
+    write_pass_state(sink, pass)?;
+    write_server_state(sink, server)
+}
+
+/// Writes the state of the peer.
+#[tactic(auto, unfolding(crate::specs::Run::peer_state_line))]
+fn write_peer_state<W: Sink>(sink: &mut W, peer: State) -> Result<(), Failed>
+    ensures { Appends W.written W.write_faults W.last_write_fault result sink.old sink.new (peer_state_line peer) }
 {
     write_pieces(
         sink,
@@ -457,6 +473,36 @@ fn write_ends<W: Sink>(sink: &mut W, peer: State, server: State) -> Result<(), F
             Text(b"state peer "),
             Text(peer.word().as_bytes()),
             Text(b"\n"),
+        ],
+    )
+}
+
+/// Writes the state of the pass-through, where there is one.
+#[tactic(auto, using(crate::proofs::Fronts::appends_none), unfolding(crate::specs::Run::pass_state_line))]
+fn write_pass_state<W: Sink>(sink: &mut W, pass: Option<State>) -> Result<(), Failed>
+    ensures { Appends W.written W.write_faults W.last_write_fault result sink.old sink.new (pass_state_line pass) }
+{
+    match pass {
+        None => Ok(()),
+        Some(pass) => write_pieces(
+            sink,
+            &[
+                Text(b"state pass "),
+                Text(pass.word().as_bytes()),
+                Text(b"\n"),
+            ],
+        ),
+    }
+}
+
+/// Writes the state of the server.
+#[tactic(auto, unfolding(crate::specs::Run::server_state_line))]
+fn write_server_state<W: Sink>(sink: &mut W, server: State) -> Result<(), Failed>
+    ensures { Appends W.written W.write_faults W.last_write_fault result sink.old sink.new (server_state_line server) }
+{
+    write_pieces(
+        sink,
+        &[
             Text(b"state server "),
             Text(server.word().as_bytes()),
             Text(b"\n"),
@@ -516,7 +562,7 @@ fn write_result<W: Sink>(sink: &mut W, verdict: Verdict) -> Result<(), Failed>
     )
 }
 
-/// Writes the lines of the end: where both ends stand, the counts, and the two verdicts. `Failed`: a write
+/// Writes the lines of the end: where each party stands, the counts, and the two verdicts. `Failed`: a write
 /// failed, and a front of the lines was appended.
 pub fn write_end<W: Sink, P: PeerMethod, S: ServerMethod>(
     sink: &mut W,
@@ -527,6 +573,7 @@ pub fn write_end<W: Sink, P: PeerMethod, S: ServerMethod>(
     write_end_of(
         sink,
         world.peer_state(),
+        world.pass_state(),
         world.server_state(),
         world.counts(),
         world.tags(),
