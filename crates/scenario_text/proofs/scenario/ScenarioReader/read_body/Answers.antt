@@ -1,11 +1,11 @@
 -- A line is passed over, or begins with no keyword, or is what its words and its place make of it.
 use Rattle.std.proofs.Common.{◌∙◌, sym}
 use Rattle.scenario_text.proofs.LineFaults.{read_body-bad, read_body-words}
-use Rattle.scenario_text.proofs.ReadLine.{passed-over}
+use Rattle.scenario_text.proofs.ReadLine.{passes}
 use Rattle.scenario_text.proofs.scenario.ScenarioReader.read_body.Goals as goal
 
 pub returns-then-is_comment-clause-read : goal.returns-then-is_comment-clause-read
-returns-then-is_comment-clause-read c = passed-over c.args.self.now.phase c.args.self.now.settings c.args.line.now (sym c.is_comment.ensures ∙ c.if-is_comment.true)
+returns-then-is_comment-clause-read c = passes c.args.self.now.phase c.args.self.now.settings c.args.line.now (sym c.is_comment.ensures ∙ c.if-is_comment.true)
 
 pub returns-in-Err-clause-read : goal.returns-in-Err-clause-read
 returns-in-Err-clause-read c =
