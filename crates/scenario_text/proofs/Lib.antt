@@ -10,4 +10,3 @@ mod Samples
 pub mod Settling
 pub mod Telling
 pub mod ValidReading
-mod WholeSamples

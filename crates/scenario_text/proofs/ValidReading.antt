@@ -9,7 +9,6 @@ use Rattle.std.specs.Str.{bytes_eq}
 use Rattle.eap_base.specs.Setup.{psk_kind, gpsk_kind, is_kind, are_kinds, are_suites, fits_kind}
 use Rattle.eap_base.specs.declared.event.Event.{Event}
 use Rattle.eap_base.specs.declared.setup.Accepts.TheVariants.{Any, One}
-use Rattle.eap_base.specs.declared.setup.Mode.TheVariants as mode
 use Rattle.eap_base.specs.declared.setup.PeerSetup.{PeerSetup}
 use Rattle.eap_base.specs.declared.setup.ServerSetup.{ServerSetup}
 use Rattle.eap_base.specs.declared.setup.Setup.{Setup}
@@ -115,7 +114,6 @@ key-valid word key h =
 
 pub item_of-valid : (k : Keyword) (ws : List (List ℕ)) → Fits (row_of k) ws → IsValidEntry (item_of k ws)
 unfolding item_of
-item_of-valid key.Mode ws h = refl
 item_of-valid key.FirstId ws h = omega (arith, h.fields.0.most)
 item_of-valid key.MaxRetrans ws h = h.fields.0.most
 item_of-valid key.PeerName ws h = h.fields.0
@@ -147,7 +145,7 @@ valid_told (told.TheVariants.Set v) e h = h
 valid_told other e h = tt
 
 pub no_settings-valid : AreValid no_settings
-no_settings-valid = record { mode = tt; first_id = tt; max_retrans = tt; peer_name = tt; peer_server = tt; peer_methods = tt; peer_suites = tt; peer_psk47 = tt; peer_psk51 = tt; peer_nonce = tt; server_name = tt; server_methods = tt; server_suites = tt; server_nonce = tt; users = All-nil IsValidUser; kept = no-users }
+no_settings-valid = record { first_id = tt; max_retrans = tt; peer_name = tt; peer_server = tt; peer_methods = tt; peer_suites = tt; peer_psk47 = tt; peer_psk51 = tt; peer_nonce = tt; server_name = tt; server_methods = tt; server_suites = tt; server_nonce = tt; users = All-nil IsValidUser; kept = no-users }
 
 -- one more setting
 pub with_setting-valid : (s : Settings) (v : Setting) → AreValid s → IsValidSetting v → AreValid (with_setting s v)
@@ -202,7 +200,6 @@ pub setup_of-valid : (s : Settings) → AreValid s → IfOk (setup_of s) IsValid
 setup_of-valid s h =
     IfOk-weaker (setup_of s) (MakesSetup (joined s no_values)) IsValidSetup
     (λ setup m. record {
-      alone = held (λ m. m ≡ mode.Alone) s.mode setup.mode h.mode m.mode;
       first_id = held-or (λ id. id < 256) s.first_id 0 setup.first_id h.first_id (lit< tt) m.first_id;
       few_retrans = held-or (λ count. count ≤ 10) s.max_retrans 4 setup.max_retrans h.max_retrans (lit≤ tt) m.max_retrans;
       peer = valid-peer s setup.peer h m.peer;

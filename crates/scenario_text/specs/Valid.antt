@@ -3,7 +3,6 @@ use Rattle.std.specs.Prelude.{◌≡◌, ◌≤◌, ◌<◌, length, IfSome, IsT
 use Rattle.eap_base.specs.Setup.{psk_kind, gpsk_kind, is_kind, are_kinds, are_suites, fits_kind, IsSoundPeer, IsSoundServer, HasKeys}
 use Rattle.eap_base.specs.Users.{AreDistinct}
 use Rattle.eap_base.specs.declared.users.User.{User}
-use Rattle.eap_base.specs.declared.setup.Mode.TheVariants as mode
 use Rattle.eap_base.specs.declared.setup.Accepts.{Accepts}
 use Rattle.eap_base.specs.declared.setup.Accepts.TheVariants.{Any, One}
 use Rattle.eap_base.specs.declared.setup.PeerSetup.{PeerSetup}
@@ -32,7 +31,7 @@ pub record IsValidUser (user : User) : Type 0 where
   pub psk : IsTrue (fits_kind user.kind user.psk)
 
 abbrev pub IsValidSetting : Setting → Type 0
-IsValidSetting (setting.Mode m) = m ≡ mode.Alone
+IsValidSetting (setting.Mode m) = Unit {0}
 IsValidSetting (setting.FirstId id) = id < 256
 IsValidSetting (setting.MaxRetrans count) = count ≤ 10
 IsValidSetting (setting.PeerName name) = IsName name
@@ -64,7 +63,6 @@ pub record AreUsers (users : List User) : Type 0 where
 
 -- each setting that has come is valid
 pub record AreValid (s : Settings) : Type 0 where
-  pub mode : IfSome s.mode (λ m. m ≡ mode.Alone)
   pub first_id : IfSome s.first_id (λ id. id < 256)
   pub max_retrans : IfSome s.max_retrans (λ count. count ≤ 10)
   pub peer_name : IfSome s.peer_name IsName
@@ -96,7 +94,6 @@ pub record IsValidServer (server : ServerSetup) : Type 0 where
   pub nonce : length server.nonce ≡ 32
 
 pub record IsValidSetup (setup : Setup) : Type 0 where
-  pub alone : setup.mode ≡ mode.Alone
   pub first_id : setup.first_id < 256
   pub few_retrans : setup.max_retrans ≤ 10
   pub peer : IsValidPeer setup.peer

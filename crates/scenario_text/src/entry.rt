@@ -5,7 +5,7 @@ ghost use Rattle.scenario_text.specs.Words.{words};
 ghost use Rattle.scenario_text.specs.Contents.{entry_with, entered};
 ghost use Rattle.scenario_text.specs.Fits.{Fits};
 ghost use Rattle.scenario_text.specs.Keywords.{row_of};
-ghost use Rattle.scenario_text.specs.Entries.{accepts_of, kinds_of, suites_of, key_setting, port_of, item_of, first_keyword, entry_for};
+ghost use Rattle.scenario_text.specs.Entries.{accepts_of, kinds_of, suites_of, key_setting, port_of, party_of, mode_of, item_of, first_keyword, entry_for};
 
 use crate::fault::LineFault;
 use crate::fields::{array, kind_of, number, octets, suite_of};
@@ -76,7 +76,7 @@ fn item_of(keyword: Keyword, line: &[u8], event: &mut Event) -> Entry
 {
     let first = word_in(line, 1);
     match keyword {
-        Keyword::Mode => Entry::Set(Setting::Mode(Mode::Alone)),
+        Keyword::Mode => Entry::Set(Setting::Mode(mode_of(first))),
         Keyword::FirstId => Entry::Set(Setting::FirstId(number(first) as u8)),
         Keyword::MaxRetrans => Entry::Set(Setting::MaxRetrans(number(first) as u8)),
         Keyword::PeerName => Entry::Set(Setting::PeerName(name(first))),
@@ -127,8 +127,16 @@ fn item_of(keyword: Keyword, line: &[u8], event: &mut Event) -> Entry
         }
         Keyword::Timeout => {
             *event = Event::Timeout {
-                party: Party::Server,
+                party: party_of(first),
             };
+            Entry::Happens
+        }
+        Keyword::AaaTimeout => {
+            *event = Event::AaaTimeout;
+            Entry::Happens
+        }
+        Keyword::AaaNoReq => {
+            *event = Event::AaaNoReq;
             Entry::Happens
         }
         Keyword::Idle => {
@@ -212,7 +220,33 @@ fn port_of(word: &[u8]) -> Port
 {
     if word == b"peer".as_slice() {
         Port::Peer
-    } else {
+    } else if word == b"server".as_slice() {
         Port::Server
+    } else if word == b"pass-peer".as_slice() {
+        Port::PassPeer
+    } else {
+        Port::PassServer
+    }
+}
+
+/// A party that has a timer.
+fn party_of(word: &[u8]) -> Party
+    ensures { result ≡ party_of word.now }
+{
+    if word == b"pass".as_slice() {
+        Party::Pass
+    } else {
+        Party::Server
+    }
+}
+
+/// Whether the server answers by itself.
+fn mode_of(word: &[u8]) -> Mode
+    ensures { result ≡ mode_of word.now }
+{
+    if word == b"through".as_slice() {
+        Mode::Through
+    } else {
+        Mode::Alone
     }
 }

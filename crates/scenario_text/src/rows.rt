@@ -41,11 +41,11 @@ pub enum Field {
 /// The words of a choice.
 #[derive(Clone, Copy, PartialEq, Eq, Debug)]
 pub enum Choices {
-    /// `alone`.
+    /// `alone` or `through`.
     Mode,
-    /// `peer` or `server`.
+    /// `peer`, `server`, `pass-peer` or `pass-server`.
     Port,
-    /// `server`.
+    /// `server` or `pass`.
     Timer,
     /// `allowed` or `barred`.
     Access,
@@ -197,11 +197,20 @@ fn is_choice(choices: Choices, word: &[u8]) -> bool
     ensures { result ≡ is_choice choices word.now }
 {
     match choices {
-        Choices::Mode => word == b"alone".as_slice(),
-        Choices::Port => word == b"peer".as_slice() || word == b"server".as_slice(),
-        Choices::Timer => word == b"server".as_slice(),
+        Choices::Mode => word == b"alone".as_slice() || word == b"through".as_slice(),
+        Choices::Port => is_port(word),
+        Choices::Timer => word == b"server".as_slice() || word == b"pass".as_slice(),
         Choices::Access => word == b"allowed".as_slice() || word == b"barred".as_slice(),
     }
+}
+
+fn is_port(word: &[u8]) -> bool
+    ensures { result ≡ is_choice Choices.Port word.now }
+{
+    word == b"peer".as_slice()
+        || word == b"server".as_slice()
+        || word == b"pass-peer".as_slice()
+        || word == b"pass-server".as_slice()
 }
 
 /// Whether the word at a place is a method, or `-` with no word after it.
