@@ -55,19 +55,19 @@ bound : {A B : Type 0} (x : Result A LineFault) (f : A → Result B LineFault) (
 bound (Ok a) f b h = (a, refl, h)
 bound (Err e) f b h = absurd cc
 
-both : (r : Reading) (line : List ℕ) (rest : List (List ℕ)) (out : ReadLine) (more : Script) →
+pub both : (r : Reading) (line : List ℕ) (rest : List (List ℕ)) (out : ReadLine) (more : Script) →
     read_line r line ≡ Ok out → read_lines out.after rest ≡ Ok more → read_lines r (line ∷ rest) ≡ Ok (with_item out.item more)
 unfolding read_lines
 both r line rest out more a b = rw (a, b) refl
 
-record Goes (r : Reading) (line : List ℕ) (rest : List (List ℕ)) (script : Script) : Type 0 where
+pub record Goes (r : Reading) (line : List ℕ) (rest : List (List ℕ)) (script : Script) : Type 0 where
   pub out : ReadLine
   pub read : read_line r line ≡ Ok out
   pub more : Script
   pub rests : read_lines out.after rest ≡ Ok more
   pub is : with_item out.item more ≡ script
 
-goes : (r : Reading) (line : List ℕ) (rest : List (List ℕ)) (script : Script) → read_lines r (line ∷ rest) ≡ Ok script → Goes r line rest script
+pub goes : (r : Reading) (line : List ℕ) (rest : List (List ℕ)) (script : Script) → read_lines r (line ∷ rest) ≡ Ok script → Goes r line rest script
 unfolding read_lines
 goes r line rest script h =
     let a = bound (read_line r line) _ script h in

@@ -102,9 +102,6 @@ keyword_of line = unwrap_or (keyword_in row_of keywords (words line)) key.End
 abbrev pub said_by : List ℕ → Entry
 said_by line = item_of (keyword_of line) (words line)
 
--- the same in two steps, the keyword and its words
-unfoldable pub first_keyword : List ℕ → Result Keyword LineFault
-first_keyword line = if is_printable line then ok_or (keyword_in row_of keywords (words line)) BadWord else Err BadWord
-
+-- the same of a keyword and its words
 unfoldable pub entry_for : Keyword → List (List ℕ) → Result Entry LineFault
 entry_for k ws = unless (fault_of_words (row_of k).least (row_of k).fields ws) (item_of k ws)

@@ -5,13 +5,13 @@ ghost use Rattle.scenario_text.specs.Words.{words};
 ghost use Rattle.scenario_text.specs.Contents.{entry_with, entered};
 ghost use Rattle.scenario_text.specs.Fits.{Fits};
 ghost use Rattle.scenario_text.specs.Keywords.{row_of};
-ghost use Rattle.scenario_text.specs.Entries.{accepts_of, kinds_of, suites_of, key_setting, port_of, party_of, mode_of, item_of, first_keyword, entry_for};
+ghost use Rattle.scenario_text.specs.Entries.{accepts_of, kinds_of, suites_of, key_setting, port_of, party_of, mode_of, item_of, entry_for};
 
 use crate::fault::LineFault;
 use crate::fields::{array, kind_of, number, octets, suite_of};
 use crate::keyword::Keyword;
 use crate::rows::fault_of_words;
-use crate::words::{is_printable_line, word_count, word_in};
+use crate::words::{word_count, word_in};
 use eap_base::{Accepts, Event, Identity, Kinds, Mode, Nonce, Party, Port, Secret, Suites, User};
 
 /// A setting with its value.
@@ -42,18 +42,6 @@ pub enum Entry {
     /// The event that was written.
     Happens,
     End,
-}
-
-/// The keyword that a line begins with; `BadWord` where it is none, or an octet isn't printable.
-#[tactic(auto, unfolding(crate::specs::Entries::first_keyword))]
-pub fn read_keyword(line: &[u8]) -> Result<Keyword, LineFault>
-    ensures { result ≡ first_keyword line.now }
-{
-    if is_printable_line(line) {
-        Keyword::of_line(line).ok_or(LineFault::BadWord)
-    } else {
-        Err(LineFault::BadWord)
-    }
 }
 
 /// What a keyword says with the words of its line, or their first fault. An event is written to `event`.
