@@ -4,4 +4,5 @@ pub mod Replaying
 pub mod Runs
 pub mod Ready
 pub mod Headline
+pub mod Inputs
 pub mod NeverBoth

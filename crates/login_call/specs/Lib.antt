@@ -6,4 +6,5 @@ pub mod Login
 pub mod Replay
 pub mod Scenario
 pub mod Statuses
+pub mod Whole
 pub mod Headline

@@ -7,12 +7,14 @@ mod command;
 mod decode;
 mod drive;
 mod keys;
+mod laws;
 mod login;
 mod objects;
 mod replay;
 mod status;
 
 pub use beginning::world_of;
+pub use laws::inputs_are_scenarios;
 pub use login::eap_login;
 pub use objects::{both_peers, both_servers};
 pub use status::Status;

@@ -1,6 +1,6 @@
 //! Lines read from outside: a whole scenario, and the fault of each refused line.
 
-use eap_base::{Accepts, Event, Mode, Port, Setup};
+use eap_base::{Accepts, Event, Mode, Party, Port, Setup};
 use scenario_text::{
     Item, KeyLine, LineFault, ScenarioReader, read_hex, read_key_line, read_number, word_at,
     word_count,
@@ -74,7 +74,8 @@ const REFUSED_SETTINGS: &str = "\
 1| mode alone|BadWord
 1|mode|BadCount
 1|mode sideways|BadChoice
-1|mode through|BadChoice
+1|mode through|
+1|mode pass|BadChoice
 1|events|Missing
 2|first-id 256|BadNumber
 2|first-id 255|
@@ -130,7 +131,9 @@ const REFUSED_EVENTS: &str = "\
 18|timeout both|BadChoice
 18|inject peer 0g|BadHex
 18|inject peer|BadCount
-18|inject pass-peer 0g|BadChoice
+18|inject pass-peer 0g|BadHex
+18|inject pass 0g|BadChoice
+18|aaa-timeout 1|BadCount
 18|inject server -|
 18|alter 1 0 0|BadNumber
 18|alter 1 1500 1|BadNumber
@@ -282,7 +285,12 @@ fn event_read(line: &str) -> &'static str {
 fn event_name(event: &Event) -> &'static str {
     match event {
         Event::Deliver { number: 1_000_000 } => "a million",
-        Event::Timeout { .. } => "timer",
+        Event::Timeout {
+            party: Party::Server,
+        } => "timer",
+        Event::Timeout { party: Party::Pass } => "pass timer",
+        Event::AaaTimeout => "no answer",
+        Event::AaaNoReq => "no request",
         Event::Idle => "idle",
         Event::Alter {
             number: 3,
@@ -301,6 +309,14 @@ fn event_name(event: &Event) -> &'static str {
         } else {
             ""
         },
+        Event::Inject {
+            port: Port::PassPeer,
+            ..
+        } => "to the peer's side",
+        Event::Inject {
+            port: Port::PassServer,
+            ..
+        } => "to the backend's side",
         _ => "",
     }
 }
@@ -308,10 +324,15 @@ fn event_name(event: &Event) -> &'static str {
 const EVENTS: &str = "\
 deliver 1000000|a million
 timeout server|timer
+timeout pass|pass timer
+aaa-timeout|no answer
+aaa-noreq|no request
 idle|idle
 alter 3 20 1|altered
 cut 3 20|cut
 inject server 0304|injected
+inject pass-peer -|to the peer's side
+inject pass-server 01|to the backend's side
 end|end";
 
 #[test]

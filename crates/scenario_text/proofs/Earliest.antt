@@ -20,10 +20,6 @@ keeps a b h = cond-false (ltb (rank_of b) (rank_of a)) (Some b) (Some a) (le-ltb
 yields : (a b : LineFault) → rank_of b < rank_of a → earlier (Some a) (Some b) ≡ Some b
 yields a b h = cond-true (ltb (rank_of b) (rank_of a)) (Some b) (Some a) (lt-ltb (rank_of b) (rank_of a) h)
 
-pub earlier-none : (a : Option LineFault) → earlier a None ≡ a
-earlier-none None = refl
-earlier-none (Some a) = refl
-
 -- what is found has at least the rank at which the list begins
 abbrev Least : ℕ → Option LineFault → Type 0
 Least n None = Unit {0}
@@ -68,30 +64,6 @@ find-or p q n (x ∷ rest) up =
       ]
     ]
 
--- of three the earliest
-three : (a b c : LineFault) → earlier (earlier (Some a) (Some b)) (Some c) ≡ earlier (Some a) (earlier (Some b) (Some c))
-three a b c =
-    elim (cases_Bool (ltb (rank_of b) (rank_of a))) [
-      | inl e ↦ elim (cases_Bool (ltb (rank_of c) (rank_of b))) [
-        | inl k ↦
-            let far : ltb (rank_of c) (rank_of a) ≡ true = lt-ltb (rank_of c) (rank_of a) (omega (arith, ltb-true (rank_of b) (rank_of a) e, ltb-true (rank_of c) (rank_of b) k)) in
-            rw (e, k, far) refl
-        | inr k ↦ rw (e, k, e) refl
-      ]
-      | inr e ↦ elim (cases_Bool (ltb (rank_of c) (rank_of b))) [
-        | inl k ↦ rw (e, k) refl
-        | inr k ↦
-            let far : ltb (rank_of c) (rank_of a) ≡ false = le-ltb (rank_of c) (rank_of a) (omega (arith, ltb-false (rank_of b) (rank_of a) e, ltb-false (rank_of c) (rank_of b) k)) in
-            rw (e, k, far, e) refl
-      ]
-    ]
-
-earlier-assoc : (a b c : Option LineFault) → earlier (earlier a b) c ≡ earlier a (earlier b c)
-earlier-assoc None b c = refl
-earlier-assoc (Some a) None c = refl
-earlier-assoc (Some a) (Some b) None = earlier-none (earlier (Some a) (Some b))
-earlier-assoc (Some a) (Some b) (Some c) = three a b c
-
 word-first : (f : Field) (place : ℕ) (ws : List (List ℕ)) → find (λ e. word_has e f place ws) word_faults ≡ fault_at f place ws
 word-first f place ws =
     elim (cases_Bool (ltb place (length ws))) [
@@ -100,20 +72,11 @@ word-first f place ws =
     ]
 
 -- one more word, and none after the last
-pub first_fault-cons : (f : Field) (rest : List Field) (place : ℕ) (ws : List (List ℕ)) → first_fault place (f ∷ rest) ws ≡ earlier (fault_at f place ws) (first_fault (place + 1) rest ws)
+pub first_fault_cons : (f : Field) (rest : List Field) (place : ℕ) (ws : List (List ℕ)) → first_fault place (f ∷ rest) ws ≡ earlier (fault_at f place ws) (first_fault (place + 1) rest ws)
 unfolding first_fault
-first_fault-cons f rest place ws =
+first_fault_cons f rest place ws =
     find-or (λ e. word_has e f place ws) (λ e. any_has e (place + 1) rest ws) 3 word_faults refl
     ∙ ap (λ here. earlier here (find (λ e. any_has e (place + 1) rest ws) word_faults)) (word-first f place ws)
-
-pub first_fault-more : (fields : List Field) (place : ℕ) (d : Field) (ws : List (List ℕ)) (first here : Option LineFault) → place < length fields → here ≡ fault_at (get_or fields place d) (place + 1) ws → earlier first (first_fault (place + 1) (drop place fields) ws) ≡ earlier (earlier first here) (first_fault (place + 1 + 1) (drop (place + 1) fields) ws)
-first_fault-more fields place d ws first here h is =
-    ap (earlier first) (at_drop_more (λ l. first_fault (place + 1) l ws) fields place d h ∙ first_fault-cons (get_or fields place d) (drop (place + 1) fields) (place + 1) ws)
-    ∙ rw (← is) (sym (earlier-assoc first here (first_fault (place + 1 + 1) (drop (place + 1) fields) ws)))
-
-pub first_fault-end : (fields : List Field) (place : ℕ) (ws : List (List ℕ)) (first : Option LineFault) → length fields ≤ place → earlier first (first_fault (place + 1) (drop place fields) ws) ≡ first
-unfolding first_fault
-first_fault-end fields place ws first h = ap (earlier first) (at_drop_all (λ l. first_fault (place + 1) l ws) fields place h) ∙ earlier-none first
 
 -- behind the number of words
 pub fault_of_words-count : (least : ℕ) (fields : List Field) (ws : List (List ℕ)) → has_bad_count least (length fields) (length ws) ≡ true → fault_of_words least fields ws ≡ Some fault.BadCount

@@ -1,6 +1,6 @@
 -- The first of a list of faults, and what it means that there is none.
-use Rattle.std.proofs.Common.{◌≡◌, Bool, true, false, List, [], ◌∷◌, Option, Some, None, find, cond, refl}
-use Rattle.scenario_text.specs.Rows.{faults}
+use Rattle.std.proofs.Common.{◌≡◌, Bool, true, false, List, [], ◌∷◌, Option, Some, None, find, cond, Ok, refl}
+use Rattle.scenario_text.specs.Rows.{faults, unless}
 use Rattle.scenario_text.specs.declared.fault.LineFault.{LineFault}
 use Rattle.scenario_text.specs.declared.fault.LineFault.TheVariants as fault
 
@@ -19,12 +19,13 @@ find-none p (x ∷ xs) e = fail_from (p x) x (find p xs) (AllFail p xs) (find-no
 -- no fault at all
 pub no_fault : (p : LineFault → Bool) → find p faults ≡ None → (f : LineFault) → p f ≡ false
 no_fault p e fault.NoHeader = (find-none p faults e).0
-no_fault p e fault.BadWord = (find-none p faults e).1.0
-no_fault p e fault.BadCount = (find-none p faults e).1.1.0
-no_fault p e fault.BadChoice = (find-none p faults e).1.1.1.0
-no_fault p e fault.BadNumber = (find-none p faults e).1.1.1.1.0
-no_fault p e fault.BadHex = (find-none p faults e).1.1.1.1.1.0
-no_fault p e fault.BadSize = (find-none p faults e).1.1.1.1.1.1.0
-no_fault p e fault.Repeated = (find-none p faults e).1.1.1.1.1.1.1.0
-no_fault p e fault.Missing = (find-none p faults e).1.1.1.1.1.1.1.1.0
-no_fault p e fault.Order = (find-none p faults e).1.1.1.1.1.1.1.1.1.0
+no_fault p e other = assumption (find-none p faults e)
+
+pub none-found : (p : LineFault → Bool) (list : List LineFault) → ((f : LineFault) → p f ≡ false) → find p list ≡ None
+none-found p [] none = refl
+none-found p (x ∷ rest) none = let h = none x in rw h (none-found p rest none)
+
+-- a value that no fault keeps back
+pub unless-ok : {A : Type 0} (first : Option LineFault) (value out : A) → unless first value ≡ Ok out → (first ≡ None) × (value ≡ out)
+unless-ok None value out e = (refl, cc)
+unless-ok (Some f) value out e = absurd cc

@@ -1,5 +1,4 @@
 pub mod Earliest
-pub mod Entering
 pub mod FaultLists
 pub mod FieldLemmas
 pub mod Fitting
@@ -9,9 +8,5 @@ pub mod LineFaults
 pub mod ReadLine
 mod Samples
 pub mod Settling
-pub mod Steps
 pub mod Telling
-pub mod UserLists
-pub mod ValidEntries
 pub mod ValidReading
-mod WholeSamples

@@ -6,7 +6,7 @@ use Rattle.scenario_text.specs.Words.{words, is_printable, is_passed_over}
 use Rattle.scenario_text.specs.Fields.{◌>>=◌}
 use Rattle.scenario_text.specs.Rows.{Row, faults, unless, fault_of_words, keyword_in, has_bad_word, line_has}
 use Rattle.scenario_text.specs.Keywords.{row_of, keywords}
-use Rattle.scenario_text.specs.Entries.{first_keyword, entry_for, item_of}
+use Rattle.scenario_text.specs.Entries.{entry_for, item_of}
 use Rattle.scenario_text.specs.Contents.{Entry}
 use Rattle.scenario_text.specs.Reading.{is_crowded, fault_of_entry, body_has, taken, take, read_words, read_body}
 use Rattle.scenario_text.specs.declared.fault.LineFault.{LineFault}
@@ -30,37 +30,6 @@ module _ {K : Type 0} (row : K → Row) (keywords : List K) (line : List ℕ) wh
   pub known : (k : K) → Begins row keywords line k → find (line_has row keywords line) faults ≡ fault_of_words (row k).least (row k).fields (words line)
   unfolding line_has fault_of_words
   known k b = let p = b.printable in let q = b.found in rw (p, q) refl
-
-ok_or-ok : {A : Type 0} (found : Option A) (f : LineFault) (a : A) → ok_or found f ≡ Ok a → found ≡ Some a
-ok_or-ok None f a e = absurd cc
-ok_or-ok (Some b) f a e = cc
-
-ok_or-err : {A : Type 0} (found : Option A) (f e : LineFault) → ok_or found f ≡ Err e → (found ≡ None) × (e ≡ f)
-ok_or-err None f e h = (refl, cc)
-ok_or-err (Some b) f e h = absurd cc
-
-begins : (line : List ℕ) (k : Keyword) → first_keyword line ≡ Ok k → Begins row_of keywords line k
-unfolding first_keyword
-begins line k e =
-    elim (cases_Bool (is_printable line)) [
-      | inl p ↦ record { printable = p; found = ok_or-ok (keyword_in row_of keywords (words line)) fault.BadWord k (rw p at e) }
-      | inr p ↦ let bad = rw p at e in absurd cc
-    ]
-
-record IsBad (line : List ℕ) (f : LineFault) : Type 0 where
-  pub bad : has_bad_word row_of keywords line ≡ true
-  pub is : f ≡ fault.BadWord
-
-bad_word : (line : List ℕ) (f : LineFault) → first_keyword line ≡ Err f → IsBad line f
-unfolding first_keyword
-bad_word line f e =
-    elim (cases_Bool (is_printable line)) [
-      | inl p ↦
-          let none = ok_or-err (keyword_in row_of keywords (words line)) fault.BadWord f (rw p at e) in
-          let found = none.0 in
-          record { bad = rw (p, found) refl; is = none.1 }
-      | inr p ↦ let bad = rw p at e in record { bad = rw p refl; is = cc }
-    ]
 
 -- the first of ten faults, of which the words have six and the place four
 join : (bc c bch bn bh bs again before lacks out : Bool) →
@@ -95,20 +64,15 @@ module _ (p : Phase) (s : Settings) (line : List ℕ) where
   unfolding line_has body_has fault_of_words fault_of_entry
   body-known k b = let e = b.printable in let q = b.found in rw (e, q) (join _ _ _ _ _ _ _ _ _ _)
 
-  -- the keyword is none
-  pub read_body-bad : (f : LineFault) → is_passed_over line ≡ false → first_keyword line ≡ Err f → read_body p s line ≡ Err f
+  -- no keyword
+  pub read_body-bad : is_passed_over line ≡ false → has_bad_word row_of keywords line ≡ true → read_body p s line ≡ Err fault.BadWord
   unfolding read_body
-  read_body-bad f not_passed e =
-      let b = bad_word line f e in
-      let first = body-unknown (b.bad) in
-      let is = b.is in
-      rw (not_passed, first, is) refl
+  read_body-bad not_passed bad = let first = body-unknown bad in rw (not_passed, first) refl
 
   -- else its words, and then its place
-  pub read_body-words : (k : Keyword) → is_passed_over line ≡ false → first_keyword line ≡ Ok k → read_body p s line ≡ read_words p s k (words line)
+  pub read_body-words : (k : Keyword) → is_passed_over line ≡ false → Begins row_of keywords line k → read_body p s line ≡ read_words p s k (words line)
   unfolding entry_for read_body take
-  read_body-words k not_passed e =
-      let b = begins line k e in
+  read_body-words k not_passed b =
       let first = body-known k b in
       let q = b.found in
       rw (not_passed, first, q)

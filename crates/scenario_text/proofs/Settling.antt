@@ -1,7 +1,7 @@
--- Settings that come one after another, and the values that their lines give.
-use Rattle.std.proofs.Common.{◌≡◌, ℕ, zero, suc, ◌<◌, ◌≤◌, List, [], ◌∷◌, ◌++◌, length, get_or, Bool, true, false, nat_le, Option, Some, None, find}
-use Rattle.std.proofs.Common.{is_some, unwrap_or, Ok, Err, IfOk, refl, sym, ap, subst, ◌∙◌, inl, inr, arith, append_assoc, append-nil, length-append}
-use Rattle.std.proofs.lemmas.Bool.{cases_Bool, leb-false, lt-leb}
+-- Settings that come one after another, the values that their lines give, and the users among them.
+use Rattle.std.proofs.Common.{◌≡◌, ℕ, zero, suc, ◌<◌, ◌≤◌, List, [], ◌∷◌, ◌++◌, length, get_or, Bool, true, false, cond, ◌&&◌, not, nat_lt, nat_le, Option, Some, None, find}
+use Rattle.std.proofs.Common.{is_some, unwrap_or, Result, Ok, Err, IfOk, refl, sym, ap, subst, ◌∙◌, inl, inr, arith, append_assoc, append-nil, length-append, lit≤, not-suc-le-zero}
+use Rattle.std.proofs.lemmas.Bool.{cases_Bool, cond_both, and_parts, not-true, ltb-true, lt-ltb, leb-false, lt-leb}
 use Rattle.std.proofs.lemmas.List.{get_or_append_left}
 use Rattle.std.proofs.Math.Seq.{get_or-append_seam}
 use Rattle.eap_base.specs.Setup.{psk_kind, gpsk_kind, is_among}
@@ -11,17 +11,60 @@ use Rattle.eap_base.specs.declared.setup.PeerSetup.{PeerSetup}
 use Rattle.eap_base.specs.declared.setup.ServerSetup.{ServerSetup}
 use Rattle.eap_base.specs.declared.setup.Setup.{Setup}
 use Rattle.eap_base.proofs.UserLists.{AreDistinct-push}
+use Rattle.scenario_text.specs.Fields.{◌>>=◌}
 use Rattle.scenario_text.specs.Reading.{has_setting, with_user, with_setting, both_suites, needed, key_for, peer_setup_of, server_setup_of, setup_of}
+use Rattle.scenario_text.specs.Valid.{AreUsers}
 use Rattle.scenario_text.specs.Whole.{Values, no_values, with_value, values_of, IsGivenOr, IsGivenOrNone, IsKeyFor, MakesPeer, MakesServer, MakesSetup}
+use Rattle.scenario_text.specs.declared.fault.LineFault.{LineFault}
 use Rattle.scenario_text.specs.declared.fault.LineFault.TheVariants.{Missing}
 use Rattle.scenario_text.specs.declared.entry.Setting.{Setting}
 use Rattle.scenario_text.specs.declared.entry.Setting.TheVariants as setting
 use Rattle.scenario_text.specs.declared.settings.Settings.{Settings}
-use Rattle.scenario_text.proofs.Steps.{IfOk-bind, IfOk-test}
-use Rattle.scenario_text.proofs.UserLists.{with_user-is}
+
+-- the users with one more
+abbrev has_room : List User → User → Bool
+has_room users user = nat_lt (length users) 16 && not (is_some (user_of users user.name user.kind))
+
+-- a slot that is empty
+empty : {A : Type 0} (slot : Option A) → is_some slot ≡ false → slot ≡ None
+empty None e = refl
+empty (Some a) e = absurd cc
+
+room-there : (users : List User) (user : User) → has_room users user ≡ true → HasRoom users user
+room-there users user e =
+    let found = user_of users user.name user.kind in
+    let parts = and_parts (nat_lt (length users) 16) (not (is_some found)) e in
+    record { few = ltb-true (length users) 16 (parts.0); absent = empty found (not-true (is_some found) (parts.1)) }
+
+room-test : (users : List User) (user : User) → HasRoom users user → has_room users user ≡ true
+room-test users user h =
+    let few : nat_lt (length users) 16 ≡ true = lt-ltb (length users) 16 h.few in
+    let absent : user_of users user.name user.kind ≡ None = h.absent in
+    rw (few, absent) refl
+
+-- what a call that adds a user leaves
+pub with_user-is : (users now : List User) (user : User) → (HasRoom users user → now ≡ users ++ user ∷ []) → ((HasRoom users user → ⊥) → now ≡ users) → now ≡ with_user users user
+unfolding with_user
+with_user-is users now user added unchanged =
+    cond_both (has_room users user) (users ++ user ∷ []) users (λ then. now ≡ then) (λ e. added (room-there users user e))
+    (λ e. unchanged (λ h. let t : has_room users user ≡ true = room-test users user h in absurd cc))
+
+-- what holds of the users holds with one more
+pub with_user-holds : (P : List User → Type 0) (users : List User) (user : User) → P users → (HasRoom users user → P (users ++ user ∷ [])) → P (with_user users user)
+unfolding with_user
+with_user-holds P users user h more = cond_both (has_room users user) (users ++ user ∷ []) users P (λ e. more (room-there users user e)) (λ e. h)
+
+pub no-users : AreUsers []
+no-users = record { few = lit≤ tt; distinct = λ i j d low high. absurd (not-suc-le-zero high) }
+
+pub users-kept : (s : Settings) (x : Setting) → AreUsers s.users → AreUsers ((with_setting s x).users)
+users-kept s (setting.User user) h =
+    with_user-holds AreUsers s.users user h (λ r.
+    record { few = omega (arith, length-append s.users (user ∷ []), r.few); distinct = AreDistinct-push s.users user (h.distinct) (r.absent) })
+users-kept s other h = h
 
 -- the values that come to what is set
-abbrev plus : {A : Type 0} → Option A → List A → List A
+abbrev pub plus : {A : Type 0} → Option A → List A → List A
 plus None xs = xs
 plus (Some a) xs = a ∷ xs
 
@@ -58,11 +101,6 @@ abbrev pub settings_after : Settings → List Setting → Settings
 settings_after s [] = s
 settings_after s (v ∷ rest) = settings_after (with_setting s v) rest
 
--- a slot that is empty
-empty : {A : Type 0} (slot : Option A) → is_some slot ≡ false → slot ≡ None
-empty None e = refl
-empty (Some a) e = absurd cc
-
 fresh : {A : Type 0} (slot : Option A) (a : A) (xs : List A) → is_some slot ≡ false → plus slot (a ∷ xs) ≡ a ∷ xs
 fresh None a xs e = refl
 fresh (Some b) a xs e = absurd cc
@@ -78,48 +116,26 @@ added users user rest h = sym (append_assoc users (user ∷ []) rest) ∙ ap (λ
 
 -- a new setting goes from what comes to what is set
 moves : (s : Settings) (x : Setting) (v : Values) → is_full s x ≡ false → has_setting s x ≡ false → joined s (with_value x v) ≡ joined (with_setting s x) v
-moves s (setting.Mode a) v f n = ap (λ l. record (joined s v) { mode = l }) (fresh s.mode a v.mode n)
-moves s (setting.FirstId a) v f n = ap (λ l. record (joined s v) { first_id = l }) (fresh s.first_id a v.first_id n)
-moves s (setting.MaxRetrans a) v f n = ap (λ l. record (joined s v) { max_retrans = l }) (fresh s.max_retrans a v.max_retrans n)
-moves s (setting.PeerName a) v f n = ap (λ l. record (joined s v) { peer_name = l }) (fresh s.peer_name a v.peer_name n)
-moves s (setting.PeerServer a) v f n = ap (λ l. record (joined s v) { peer_server = l }) (fresh s.peer_server a v.peer_server n)
-moves s (setting.PeerMethods a) v f n = ap (λ l. record (joined s v) { peer_methods = l }) (fresh s.peer_methods a v.peer_methods n)
-moves s (setting.PeerSuites a) v f n = ap (λ l. record (joined s v) { peer_suites = l }) (fresh s.peer_suites a v.peer_suites n)
-moves s (setting.PeerPsk47 a) v f n = ap (λ l. record (joined s v) { peer_psk47 = l }) (fresh s.peer_psk47 a v.peer_psk47 n)
-moves s (setting.PeerPsk51 a) v f n = ap (λ l. record (joined s v) { peer_psk51 = l }) (fresh s.peer_psk51 a v.peer_psk51 n)
-moves s (setting.PeerNonce a) v f n = ap (λ l. record (joined s v) { peer_nonce = l }) (fresh s.peer_nonce a v.peer_nonce n)
-moves s (setting.ServerName a) v f n = ap (λ l. record (joined s v) { server_name = l }) (fresh s.server_name a v.server_name n)
-moves s (setting.ServerMethods a) v f n = ap (λ l. record (joined s v) { server_methods = l }) (fresh s.server_methods a v.server_methods n)
-moves s (setting.ServerSuites a) v f n = ap (λ l. record (joined s v) { server_suites = l }) (fresh s.server_suites a v.server_suites n)
-moves s (setting.ServerNonce a) v f n = ap (λ l. record (joined s v) { server_nonce = l }) (fresh s.server_nonce a v.server_nonce n)
 moves s (setting.User a) v f n = ap (λ l. record (joined s v) { users = l }) (added s.users a v.users (room s.users a f n))
+moves s other v f n = rw fresh refl
 
 pub gathers : (s : Settings) (settings : List Setting) → AllNew s settings → joined s (values_of settings) ≡ joined (settings_after s settings) no_values
 gathers s [] h = refl
 gathers s (x ∷ rest) h = moves s x (values_of rest) (h.0) (h.1) ∙ gathers (with_setting s x) rest (h.2)
 
--- users that are few and distinct
-pub record AreUsers (users : List User) : Type 0 where
-  pub few : length users ≤ 16
-  pub distinct : AreDistinct users
-
-with_one : (users : List User) (user : User) → AreUsers users → HasRoom users user → AreUsers (with_user users user)
-with_one users user h r =
-    let longer = length-append users (user ∷ []) in
-    subst AreUsers (pushed users user r) (record { few = omega (arith, longer, r.few); distinct = AreDistinct-push users user (h.distinct) (r.absent) })
-
-one-kept : (s : Settings) (x : Setting) → is_full s x ≡ false → has_setting s x ≡ false → AreUsers s.users → AreUsers ((with_setting s x).users)
-one-kept s (setting.User a) f n h = with_one s.users a h (room s.users a f n)
-one-kept s other f n h = h
-
-pub users-kept : (s : Settings) (settings : List Setting) → AllNew s settings → AreUsers s.users → AreUsers ((settings_after s settings).users)
-users-kept s [] h k = k
-users-kept s (x ∷ rest) h k = users-kept (with_setting s x) rest (h.2) (one-kept s x (h.0) (h.1) k)
+pub users-after : (s : Settings) (settings : List Setting) → AreUsers s.users → AreUsers ((settings_after s settings).users)
+users-after s [] k = k
+users-after s (x ∷ rest) k = users-after (with_setting s x) rest (users-kept s x k)
 
 -- whole settings are those that the lines give
-given : {A : Type 0} (slot : Option A) → IfOk (needed slot) (λ a. plus slot [] ≡ a ∷ [])
-given None = tt
-given (Some a) = refl
+module _ {A B : Type 0} (Q : B → Type 0) where
+  with_needed : (slot : Option A) (f : A → Result B LineFault) → ((a : A) → plus slot [] ≡ a ∷ [] → IfOk (f a) Q) → IfOk (needed slot >>= f) Q
+  with_needed None f h = tt
+  with_needed (Some a) f h = h a refl
+
+  with_made : (x : Result A LineFault) (P : A → Type 0) (f : A → Result B LineFault) → IfOk x P → ((a : A) → P a → IfOk (f a) Q) → IfOk (x >>= f) Q
+  with_made (Ok a) P f p h = h a p
+  with_made (Err e) P f p h = tt
 
 given-or : {A : Type 0} (slot : Option A) (d : A) → IsGivenOr d (plus slot []) (unwrap_or slot d)
 given-or None d = refl
@@ -128,43 +144,38 @@ given-or (Some a) d = refl
 key-given : (methods : List ℕ) (kind : ℕ) (slot : Option (List ℕ)) → IfOk (key_for methods kind slot) (IsKeyFor methods kind (plus slot []))
 key-given methods kind (Some key) = record { given = refl; needed = λ k. refl }
 key-given methods kind None =
-    IfOk-test (is_among methods kind) (Err Missing) (Ok None) (IsKeyFor methods kind []) (λ e. tt) (λ e. record { given = refl; needed = λ k. absurd cc })
+    cond_both (is_among methods kind) (Err Missing) (Ok None) (λ x. IfOk x (IsKeyFor methods kind [])) (λ e. tt)
+    (λ e. record { given = refl; needed = λ k. absurd cc })
 
 peers-given : (s : Settings) → IfOk (peer_setup_of s) (MakesPeer (joined s no_values))
 unfolding peer_setup_of
 peers-given s =
-    IfOk-bind (needed s.peer_name) _ (λ a. plus s.peer_name [] ≡ a ∷ []) (MakesPeer (joined s no_values)) (given s.peer_name) (λ name a.
-    IfOk-bind (needed s.peer_server) _ (λ a. plus s.peer_server [] ≡ a ∷ []) (MakesPeer (joined s no_values)) (given s.peer_server) (λ accepts b.
-    IfOk-bind (needed s.peer_methods) _ (λ a. plus s.peer_methods [] ≡ a ∷ []) (MakesPeer (joined s no_values)) (given s.peer_methods) (λ methods c.
-    IfOk-bind (needed s.peer_nonce) _ (λ a. plus s.peer_nonce [] ≡ a ∷ []) (MakesPeer (joined s no_values)) (given s.peer_nonce) (λ nonce d.
-    IfOk-bind (key_for methods psk_kind s.peer_psk47) _ (IsKeyFor methods psk_kind (plus s.peer_psk47 [])) (MakesPeer (joined s no_values))
-    (key-given methods psk_kind s.peer_psk47) (λ psk47 f.
-    IfOk-bind (key_for methods gpsk_kind s.peer_psk51) _ (IsKeyFor methods gpsk_kind (plus s.peer_psk51 [])) (MakesPeer (joined s no_values))
-    (key-given methods gpsk_kind s.peer_psk51) (λ psk51 g.
+    let Q = MakesPeer (joined s no_values) in
+    with_needed Q s.peer_name _ (λ name a.
+    with_needed Q s.peer_server _ (λ accepts b.
+    with_needed Q s.peer_methods _ (λ methods c.
+    with_needed Q s.peer_nonce _ (λ nonce d.
+    with_made Q (key_for methods psk_kind s.peer_psk47) _ _ (key-given methods psk_kind s.peer_psk47) (λ psk47 f.
+    with_made Q (key_for methods gpsk_kind s.peer_psk51) _ _ (key-given methods gpsk_kind s.peer_psk51) (λ psk51 g.
     record { name = a; accepts = b; methods = c; suites = given-or s.peer_suites both_suites; psk47 = f; psk51 = g; nonce = d }))))))
 
 servers-given : (s : Settings) → AreUsers s.users → IfOk (server_setup_of s) (MakesServer (joined s no_values))
 unfolding server_setup_of
 servers-given s h =
-    IfOk-bind (needed s.server_name) _ (λ a. plus s.server_name [] ≡ a ∷ []) (MakesServer (joined s no_values)) (given s.server_name) (λ name a.
-    IfOk-bind (needed s.server_methods) _ (λ a. plus s.server_methods [] ≡ a ∷ []) (MakesServer (joined s no_values)) (given s.server_methods) (λ methods b.
-    IfOk-bind (needed s.server_nonce) _ (λ a. plus s.server_nonce [] ≡ a ∷ []) (MakesServer (joined s no_values)) (given s.server_nonce) (λ nonce c.
-    record {
-      name = a;
-      methods = b;
-      suites = given-or s.server_suites both_suites;
-      nonce = c;
-      users = append-nil s.users;
-      few_users = h.few;
-      distinct_users = h.distinct;
-    })))
+    let Q = MakesServer (joined s no_values) in
+    let suites = given-or s.server_suites both_suites in
+    with_needed Q s.server_name _ (λ name a.
+    with_needed Q s.server_methods _ (λ methods b.
+    with_needed Q s.server_nonce _ (λ nonce c.
+    record { name = a; methods = b; suites = suites; nonce = c; users = append-nil s.users; few_users = h.few; distinct_users = h.distinct })))
 
 pub all-given : (s : Settings) → AreUsers s.users → IfOk (setup_of s) (MakesSetup (joined s no_values))
 unfolding setup_of
 all-given s h =
-    IfOk-bind (needed s.mode) _ (λ a. plus s.mode [] ≡ a ∷ []) (MakesSetup (joined s no_values)) (given s.mode) (λ mode a.
-    IfOk-bind (peer_setup_of s) _ (MakesPeer (joined s no_values)) (MakesSetup (joined s no_values)) (peers-given s) (λ peer b.
-    IfOk-bind (server_setup_of s) _ (MakesServer (joined s no_values)) (MakesSetup (joined s no_values)) (servers-given s h) (λ server c.
+    let Q = MakesSetup (joined s no_values) in
+    with_needed Q s.mode _ (λ mode a.
+    with_made Q (peer_setup_of s) (MakesPeer (joined s no_values)) _ (peers-given s) (λ peer b.
+    with_made Q (server_setup_of s) (MakesServer (joined s no_values)) _ (servers-given s h) (λ server c.
     record { mode = a; first_id = given-or s.first_id 0; max_retrans = given-or s.max_retrans 4; peer = b; server = c })))
 
 -- a setting that comes where it is set would be given twice
@@ -192,21 +203,8 @@ unique users user rest h =
     rw (first, second) at (h k (length users) d below (omega (arith, length-append users (user ∷ rest)))))
 
 new-of : (s : Settings) (x : Setting) (v : Values) (setup : Setup) → MakesSetup (joined s (with_value x v)) setup → has_setting s x ≡ false
-new-of s (setting.Mode a) v setup h = once s.mode a _ v.mode (h.mode)
-new-of s (setting.FirstId a) v setup h = once-or s.first_id 0 a _ v.first_id (h.first_id)
-new-of s (setting.MaxRetrans a) v setup h = once-or s.max_retrans 4 a _ v.max_retrans (h.max_retrans)
-new-of s (setting.PeerName a) v setup h = once s.peer_name a _ v.peer_name (h.peer.name)
-new-of s (setting.PeerServer a) v setup h = once s.peer_server a _ v.peer_server (h.peer.accepts)
-new-of s (setting.PeerMethods a) v setup h = once s.peer_methods a _ v.peer_methods (h.peer.methods)
-new-of s (setting.PeerSuites a) v setup h = once-or s.peer_suites both_suites a setup.peer.suites v.peer_suites (h.peer.suites)
-new-of s (setting.PeerPsk47 a) v setup h = once-or-none s.peer_psk47 a setup.peer.psk47 v.peer_psk47 (h.peer.psk47.given)
-new-of s (setting.PeerPsk51 a) v setup h = once-or-none s.peer_psk51 a setup.peer.psk51 v.peer_psk51 (h.peer.psk51.given)
-new-of s (setting.PeerNonce a) v setup h = once s.peer_nonce a _ v.peer_nonce (h.peer.nonce)
-new-of s (setting.ServerName a) v setup h = once s.server_name a _ v.server_name (h.server.name)
-new-of s (setting.ServerMethods a) v setup h = once s.server_methods a _ v.server_methods (h.server.methods)
-new-of s (setting.ServerSuites a) v setup h = once-or s.server_suites both_suites a setup.server.suites v.server_suites (h.server.suites)
-new-of s (setting.ServerNonce a) v setup h = once s.server_nonce a _ v.server_nonce (h.server.nonce)
 new-of s (setting.User a) v setup h = unique s.users a v.users (subst AreDistinct (sym (h.server.users)) (h.server.distinct_users))
+new-of s other v setup h = search (once, once-or, once-or-none)
 
 few-left : (users : List User) (user : User) (rest all : List User) → users ++ user ∷ rest ≡ all → length all ≤ 16 → nat_le 16 (length users) ≡ false
 few-left users user rest all e h = lt-leb 16 (length users) (omega (arith, length-append users (user ∷ rest), ap length e))

@@ -1,112 +1,211 @@
 -- What has been read is within its limits, line by line.
-use Rattle.std.proofs.Common.{◌≡◌, ℕ, ◌≤◌, ◌<◌, List, length, Option, Some, None, IfSome, IsSome, Result, Ok, Err, IfOk, IsOk, is_err, false, refl, lit<, lit≤, IsTrue}
+use Rattle.std.proofs.Common.{◌≡◌, ℕ, ◌≤◌, ◌<◌, ◌⊎◌, inl, inr, Bool, true, false, ◌||◌, ◌&&◌, List, [], ◌∷◌, length, Option, Some, None, IfSome, Result, Ok, Err, IfOk, IsOk, is_err}
+use Rattle.std.proofs.Common.{refl, sym, subst, ◌∙◌, lit<, lit≤, append-nil, IsTrue, codes, leb, arith, All}
+use Rattle.std.proofs.lemmas.Bool.{leb-false, cond_both, cases_Bool}
+use Rattle.std.proofs.lemmas.List.Elements.{All-nil, All-push, All-weaker}
+use Rattle.std.proofs.lemmas.Result.{IfOk-weaker}
+use Rattle.std.proofs.lemmas.Slice.Eq.{bytes_eq-Decides}
 use Rattle.std.specs.Str.{bytes_eq}
-use Rattle.eap_base.specs.Setup.{psk_kind, gpsk_kind, is_kind, are_kinds, are_suites, fits_kind, is_among}
-use Rattle.eap_base.specs.declared.setup.Mode.TheVariants as mode
-use Rattle.scenario_text.specs.Words.{words}
-use Rattle.scenario_text.specs.Entries.{entry_for}
-use Rattle.scenario_text.specs.Reading.{Reading, reads, with_setting, no_settings, both_suites, needed, key_for, peer_setup_of, server_setup_of, setup_of, header, fault_of_entry, ready, taken, take, read_body, read_at, read_line}
-use Rattle.scenario_text.specs.Fits.{IsName}
+use Rattle.eap_base.specs.Setup.{psk_kind, gpsk_kind, is_kind, are_kinds, are_suites, fits_kind}
+use Rattle.eap_base.specs.declared.event.Event.{Event}
+use Rattle.eap_base.specs.declared.setup.Accepts.TheVariants.{Any, One}
+use Rattle.eap_base.specs.declared.setup.PeerSetup.{PeerSetup}
+use Rattle.eap_base.specs.declared.setup.ServerSetup.{ServerSetup}
 use Rattle.eap_base.specs.declared.setup.Setup.{Setup}
-use Rattle.scenario_text.specs.Valid.{AcceptsName, IsValidUser, IsValidSetting, IsValidEntry, AreValid, IsValidPeer, IsValidServer, IsValidSetup, IsValidItem, IsValidReadLine}
-use Rattle.scenario_text.specs.declared.fault.LineFault.{LineFault}
-use Rattle.scenario_text.specs.declared.fault.LineFault.TheVariants.{NoHeader, Missing}
+use Rattle.scenario_text.specs.Words.{words}
+use Rattle.scenario_text.specs.Fields.{word_in, is_dash, octets_of, spells_kind, kind_of, spells_suite, suite_of}
+use Rattle.scenario_text.specs.Rows.{is_kind_or_none, fault_of_words}
+use Rattle.scenario_text.specs.Fits.{IsName, IsOther, Fits}
+use Rattle.scenario_text.specs.Keywords.{row_of, keywords}
+use Rattle.scenario_text.specs.Entries.{accepts_of, kinds_of, suites_of, key_setting, item_of, entry_for, keyword_of, said_by}
+use Rattle.scenario_text.specs.Contents.{Entry, entry_with}
+use Rattle.scenario_text.specs.Contents as entry
+use Rattle.scenario_text.specs.Reading.{Reading, ReadLine, with_setting, no_settings, both_suites, setup_of, ready, taken, read_body, read_at, read_line}
+use Rattle.scenario_text.specs.Valid.{AcceptsName, IsValidUser, IsValidSetting, IsValidEntry, IsValidTold, AreValid, IsValidPeer, IsValidServer, IsValidSetup, IsValidItem, IsValidReadLine}
+use Rattle.scenario_text.specs.Whole.{IsFaultless, no_values, IsGivenOr, IsGivenOrNone, MakesPeer, MakesServer, MakesSetup}
+use Rattle.scenario_text.specs.declared.entry.Entry as told
 use Rattle.scenario_text.specs.declared.entry.Setting.{Setting}
 use Rattle.scenario_text.specs.declared.entry.Setting.TheVariants as setting
-use Rattle.scenario_text.specs.Contents.{Entry}
-use Rattle.scenario_text.specs.Contents as entry
-use Rattle.scenario_text.specs.declared.settings.Settings.{Settings}
-use Rattle.scenario_text.specs.Items.{Item}
-use Rattle.scenario_text.specs.Items as item
+use Rattle.scenario_text.specs.declared.fault.LineFault.{LineFault}
+use Rattle.scenario_text.specs.declared.keyword.Keyword.{Keyword}
+use Rattle.scenario_text.specs.declared.keyword.Keyword.TheVariants as key
 use Rattle.scenario_text.specs.declared.scenario.Phase.{Phase}
 use Rattle.scenario_text.specs.declared.scenario.Phase.TheVariants as phase
-use Rattle.std.proofs.lemmas.List.Elements.{All-nil, All-weaker}
-use Rattle.scenario_text.proofs.UserLists.{with_user-valid}
-use Rattle.scenario_text.proofs.Steps.{IfOk-bind, IfOk-test, IfOk-needed, unwrap_or-holds}
-use Rattle.scenario_text.proofs.ValidEntries.{entry_for-valid}
-use Rattle.scenario_text.proofs.ReadLine.{IfOk-unless, read_body-cases}
+use Rattle.scenario_text.specs.declared.settings.Settings.{Settings}
+use Rattle.scenario_text.proofs.FaultLists.{unless-ok}
+use Rattle.scenario_text.proofs.Fitting.{fits, faultless-fits}
+use Rattle.scenario_text.proofs.ReadLine.{stepped, step-cases, starts}
+use Rattle.scenario_text.proofs.Settling.{plus, joined, with_user-holds, no-users, users-kept, all-given}
+
+accepts-valid : (word : List ℕ) → IsName word → AcceptsName (accepts_of word)
+accepts-valid word h = cond_both (bytes_eq word (codes "any")) Any (One word) AcceptsName (λ e. tt) (λ e. h)
+
+kind-valid : (word : List ℕ) → IsTrue (is_kind (kind_of word))
+kind-valid word = cond_both (bytes_eq word (codes "47")) psk_kind gpsk_kind (λ kind. IsTrue (is_kind kind)) (λ e. refl) (λ e. refl)
+
+-- of two words, each of which is one of two, that aren't the same, one is the first
+record FirstAlone (v w a : List ℕ) : Type 0 where
+  pub is : bytes_eq v a ≡ true
+  pub other : bytes_eq w a ≡ false
+
+apart : (v w a b : List ℕ) → (bytes_eq v a || bytes_eq v b) ≡ true → (bytes_eq w a || bytes_eq w b) ≡ true → bytes_eq w v ≡ false → FirstAlone v w a ⊎ FirstAlone w v a
+apart v w a b h k e =
+    elim (cases_Bool (bytes_eq v a)) [
+      | inl p ↦ elim (cases_Bool (bytes_eq w a)) [
+        | inl q ↦
+            let same : w ≡ v = (bytes_eq-Decides w a).0 q ∙ sym ((bytes_eq-Decides v a).0 p) in
+            let eq = (bytes_eq-Decides w v).1 same in
+            absurd cc
+        | inr q ↦ inl (record { is = p; other = q })
+      ]
+      | inr p ↦ elim (cases_Bool (bytes_eq w a)) [
+        | inl q ↦ inr (record { is = q; other = p })
+        | inr q ↦
+            let same : w ≡ v = (bytes_eq-Decides w b).0 (rw q at k) ∙ sym ((bytes_eq-Decides v b).0 (rw p at h)) in
+            let eq = (bytes_eq-Decides w v).1 same in
+            absurd cc
+      ]
+    ]
+
+two-kinds : (v w : List ℕ) → spells_kind v ≡ true → IsOther spells_kind w v → IsTrue (are_kinds (kind_of v ∷ kind_of w ∷ []))
+two-kinds v w h k =
+    elim (apart v w (codes "47") (codes "51") h (k.spelled) (k.differs)) [
+      | inl f ↦ let p = f.is in let q = f.other in rw (p, q) refl
+      | inr f ↦ let p = f.is in let q = f.other in rw (p, q) refl
+    ]
+
+two-suites : (v w : List ℕ) → spells_suite v ≡ true → IsOther spells_suite w v → IsTrue (are_suites (suite_of v ∷ suite_of w ∷ []))
+two-suites v w h k =
+    elim (apart v w (codes "1") (codes "2") h (k.spelled) (k.differs)) [
+      | inl f ↦ let p = f.is in let q = f.other in rw (p, q) refl
+      | inr f ↦ let p = f.is in let q = f.other in rw (p, q) refl
+    ]
+
+one-kind : (v : List ℕ) → IsTrue (are_kinds (kind_of v ∷ []))
+one-kind v = cond_both (bytes_eq v (codes "47")) psk_kind gpsk_kind (λ kind. IsTrue (are_kinds (kind ∷ []))) (λ e. refl) (λ e. refl)
+
+one-suite : (v : List ℕ) → IsTrue (are_suites (suite_of v ∷ []))
+one-suite v = cond_both (bytes_eq v (codes "1")) 1 2 (λ suite. IsTrue (are_suites (suite ∷ []))) (λ e. refl) (λ e. refl)
+
+spelled : (a b c : Bool) → (a || (b && c)) ≡ true → b ≡ false → a ≡ true
+spelled true b c h e = refl
+spelled false true c h e = absurd cc
+spelled false false c h e = absurd cc
+
+kinds-valid : (ws : List (List ℕ)) → IsTrue (is_kind_or_none 1 ws) → (2 < length ws → IsOther spells_kind (word_in ws 2) (word_in ws 1)) → IsTrue (are_kinds (kinds_of ws))
+kinds-valid ws h k =
+    cond_both (is_dash (word_in ws 1)) [] _ (λ kinds. IsTrue (are_kinds kinds)) (λ e. refl)
+    (λ e. cond_both (leb (length ws) 2) (kind_of (word_in ws 1) ∷ []) (kind_of (word_in ws 1) ∷ kind_of (word_in ws 2) ∷ []) (λ kinds. IsTrue (are_kinds kinds))
+    (λ one. one-kind (word_in ws 1))
+    (λ two. two-kinds (word_in ws 1) (word_in ws 2) (spelled _ (is_dash (word_in ws 1)) _ h e) (k (leb-false (length ws) 2 two))))
+
+suites-valid : (ws : List (List ℕ)) → IsTrue (spells_suite (word_in ws 1)) → (2 < length ws → IsOther spells_suite (word_in ws 2) (word_in ws 1)) → IsTrue (are_suites (suites_of ws))
+suites-valid ws h k =
+    cond_both (leb (length ws) 2) (suite_of (word_in ws 1) ∷ []) (suite_of (word_in ws 1) ∷ suite_of (word_in ws 2) ∷ []) (λ suites. IsTrue (are_suites suites))
+    (λ one. one-suite (word_in ws 1))
+    (λ two. two-suites (word_in ws 1) (word_in ws 2) h (k (leb-false (length ws) 2 two)))
+
+key-valid : (word key : List ℕ) → IsTrue (fits_kind (kind_of word) key) → IsValidSetting (key_setting (kind_of word) key)
+key-valid word key h =
+    elim (cases_Bool (bytes_eq word (codes "47"))) [
+      | inl e ↦ rw e (rw e at h)
+      | inr e ↦ rw e (rw e at h)
+    ]
+
+pub item_of-valid : (k : Keyword) (ws : List (List ℕ)) → Fits (row_of k) ws → IsValidEntry (item_of k ws)
+unfolding item_of
+item_of-valid key.FirstId ws h = omega (arith, h.fields.0.most)
+item_of-valid key.MaxRetrans ws h = h.fields.0.most
+item_of-valid key.PeerName ws h = h.fields.0
+item_of-valid key.PeerServer ws h = accepts-valid (word_in ws 1) (h.fields.0)
+item_of-valid key.PeerMethods ws h = kinds-valid ws (h.fields.0) (h.fields.1.0)
+item_of-valid key.PeerSuites ws h = suites-valid ws (h.fields.0) (h.fields.1.0)
+item_of-valid key.PeerPsk ws h = key-valid (word_in ws 1) (octets_of (word_in ws 2)) (h.fields.1.0.fits)
+item_of-valid key.PeerNonce ws h = omega (arith, h.fields.0.least, h.fields.0.most)
+item_of-valid key.ServerName ws h = h.fields.0
+item_of-valid key.ServerMethods ws h = kinds-valid ws (h.fields.0) (h.fields.1.0)
+item_of-valid key.ServerSuites ws h = suites-valid ws (h.fields.0) (h.fields.1.0)
+item_of-valid key.ServerNonce ws h = omega (arith, h.fields.0.least, h.fields.0.most)
+item_of-valid key.User ws h = record { name = h.fields.0; kind = kind-valid (word_in ws 2); psk = h.fields.1.1.0.fits }
+item_of-valid other ws h = tt
+
+-- what a line says is within its limits
+pub valid_entry : (k : Keyword) (ws : List (List ℕ)) (e : Entry) → Ok e ≡ entry_for k ws → IsValidEntry e
+unfolding entry_for
+valid_entry k ws e h =
+    let u = unless-ok (fault_of_words (row_of k).least (row_of k).fields ws) (item_of k ws) e (sym h) in
+    subst IsValidEntry (u.1) (item_of-valid k ws (fits (row_of k) ws (u.0)))
+
+pub said_by-valid : (line : List ℕ) → IsFaultless line → IsValidEntry (said_by line)
+said_by-valid line own = item_of-valid (keyword_of line) (words line) (faultless-fits row_of keywords key.End line own)
+
+-- and of what is told of it
+pub valid_told : (it : told.Entry) (e : Event) → IsValidEntry (entry_with it e) → IsValidTold it
+valid_told (told.TheVariants.Set v) e h = h
+valid_told other e h = tt
 
 pub no_settings-valid : AreValid no_settings
-no_settings-valid = record { mode = tt; first_id = tt; max_retrans = tt; peer_name = tt; peer_server = tt; peer_methods = tt; peer_suites = tt; peer_psk47 = tt; peer_psk51 = tt; peer_nonce = tt; server_name = tt; server_methods = tt; server_suites = tt; server_nonce = tt; users = All-nil IsValidUser }
+no_settings-valid = record { first_id = tt; max_retrans = tt; peer_name = tt; peer_server = tt; peer_methods = tt; peer_suites = tt; peer_psk47 = tt; peer_psk51 = tt; peer_nonce = tt; server_name = tt; server_methods = tt; server_suites = tt; server_nonce = tt; users = All-nil IsValidUser; kept = no-users }
 
 -- one more setting
 pub with_setting-valid : (s : Settings) (v : Setting) → AreValid s → IsValidSetting v → AreValid (with_setting s v)
-with_setting-valid s (setting.Mode m) h k = assumption
-with_setting-valid s (setting.FirstId id) h k = assumption
-with_setting-valid s (setting.MaxRetrans count) h k = assumption
-with_setting-valid s (setting.PeerName name) h k = assumption
-with_setting-valid s (setting.PeerServer accepts) h k = assumption
-with_setting-valid s (setting.PeerMethods kinds) h k = assumption
-with_setting-valid s (setting.PeerSuites suites) h k = assumption
-with_setting-valid s (setting.PeerPsk47 key) h k = assumption
-with_setting-valid s (setting.PeerPsk51 key) h k = assumption
-with_setting-valid s (setting.PeerNonce nonce) h k = assumption
-with_setting-valid s (setting.ServerName name) h k = assumption
-with_setting-valid s (setting.ServerMethods kinds) h k = assumption
-with_setting-valid s (setting.ServerSuites suites) h k = assumption
-with_setting-valid s (setting.ServerNonce nonce) h k = assumption
-with_setting-valid s (setting.User user) h k = assumption (with_user-valid s.users user h.users k)
+with_setting-valid s (setting.User user) h k =
+    assumption (with_user-holds (All IsValidUser) s.users user h.users (λ r. All-push IsValidUser s.users user h.users k), users-kept s (setting.User user) h.kept)
+with_setting-valid s other h k = assumption
 
--- the key for a method
-record KeyFor (methods : List ℕ) (kind : ℕ) (found : Option (List ℕ)) : Type 0 where
-  pub there : IsTrue (is_among methods kind) → IsSome found
-  pub fits : IfSome found (λ key. IsTrue (fits_kind kind key))
+-- what holds of a slot holds of the value that is given, or else of the default
+held : {A : Type 0} (P : A → Type 0) (slot : Option A) (a : A) → IfSome slot P → plus slot [] ≡ a ∷ [] → P a
+held P None a h e = absurd cc
+held P (Some b) a h e = let same : b ≡ a = cc in subst P same h
 
-key_for-valid : (methods : List ℕ) (kind : ℕ) (slot : Option (List ℕ)) → IfSome slot (λ key. IsTrue (fits_kind kind key)) → IfOk (key_for methods kind slot) (KeyFor methods kind)
-key_for-valid methods kind (Some key) h = record { there = λ k. refl; fits = h }
-key_for-valid methods kind None h =
-    IfOk-test (is_among methods kind) (Err Missing) (Ok None) (KeyFor methods kind) (λ e. tt)
-    (λ e. record { there = λ k. absurd cc; fits = tt })
+held-or : {A : Type 0} (P : A → Type 0) (slot : Option A) (d a : A) → IfSome slot P → P d → IsGivenOr d (plus slot []) a → P a
+held-or P None d a h k e = subst P (sym e) k
+held-or P (Some b) d a h k e = subst P (sym e) h
 
-peer_setup_of-valid : (s : Settings) → AreValid s → IfOk (peer_setup_of s) IsValidPeer
-unfolding peer_setup_of
-peer_setup_of-valid s h =
-    IfOk-bind (needed s.peer_name) _ IsName IsValidPeer (IfOk-needed s.peer_name IsName h.peer_name) (λ name a.
-    IfOk-bind (needed s.peer_server) _ AcceptsName IsValidPeer (IfOk-needed s.peer_server AcceptsName h.peer_server) (λ accepts b.
-    IfOk-bind (needed s.peer_methods) _ (λ kinds. IsTrue (are_kinds kinds)) IsValidPeer (IfOk-needed s.peer_methods (λ kinds. IsTrue (are_kinds kinds)) h.peer_methods) (λ methods c.
-    IfOk-bind (needed s.peer_nonce) _ (λ nonce. length nonce ≡ 32) IsValidPeer (IfOk-needed s.peer_nonce (λ nonce. length nonce ≡ 32) h.peer_nonce) (λ nonce d.
-    IfOk-bind (key_for methods psk_kind s.peer_psk47) _ (KeyFor methods psk_kind) IsValidPeer (key_for-valid methods psk_kind s.peer_psk47 h.peer_psk47) (λ psk47 f.
-    IfOk-bind (key_for methods gpsk_kind s.peer_psk51) _ (KeyFor methods gpsk_kind) IsValidPeer (key_for-valid methods gpsk_kind s.peer_psk51 h.peer_psk51) (λ psk51 g.
-    record {
-      sound = record { methods = c; suites = unwrap_or-holds s.peer_suites both_suites (λ suites. IsTrue (are_suites suites)) h.peer_suites refl; psk47 = f.fits; psk51 = g.fits };
-      keys = record { psk47 = f.there; psk51 = g.there };
-      name = a;
-      accepts = b;
-      nonce = d;
-    }))))))
+held-key : {A : Type 0} (P : A → Type 0) (slot key : Option A) → IfSome slot P → IsGivenOrNone (plus slot []) key → IfSome key P
+held-key P None key h e = rw e tt
+held-key P (Some b) key h e = rw e h
 
-server_setup_of-valid : (s : Settings) → AreValid s → IfOk (server_setup_of s) IsValidServer
-unfolding server_setup_of
-server_setup_of-valid s h =
-    IfOk-bind (needed s.server_name) _ IsName IsValidServer (IfOk-needed s.server_name IsName h.server_name) (λ name a.
-    IfOk-bind (needed s.server_methods) _ (λ kinds. IsTrue (are_kinds kinds)) IsValidServer (IfOk-needed s.server_methods (λ kinds. IsTrue (are_kinds kinds)) h.server_methods) (λ methods c.
-    IfOk-bind (needed s.server_nonce) _ (λ nonce. length nonce ≡ 32) IsValidServer (IfOk-needed s.server_nonce (λ nonce. length nonce ≡ 32) h.server_nonce) (λ nonce d.
+valid-peer : (s : Settings) (peer : PeerSetup) → AreValid s → MakesPeer (joined s no_values) peer → IsValidPeer peer
+valid-peer s peer h m = record {
+  sound = record {
+    methods = held (λ kinds. IsTrue (are_kinds kinds)) s.peer_methods peer.methods h.peer_methods m.methods;
+    suites = held-or (λ suites. IsTrue (are_suites suites)) s.peer_suites both_suites peer.suites h.peer_suites refl m.suites;
+    psk47 = held-key (λ key. IsTrue (fits_kind psk_kind key)) s.peer_psk47 peer.psk47 h.peer_psk47 m.psk47.given;
+    psk51 = held-key (λ key. IsTrue (fits_kind gpsk_kind key)) s.peer_psk51 peer.psk51 h.peer_psk51 m.psk51.given;
+  };
+  keys = record { psk47 = m.psk47.needed; psk51 = m.psk51.needed };
+  name = held IsName s.peer_name peer.name h.peer_name m.name;
+  accepts = held AcceptsName s.peer_server peer.accepts h.peer_server m.accepts;
+  nonce = held (λ nonce. length nonce ≡ 32) s.peer_nonce peer.nonce h.peer_nonce m.nonce;
+}
+
+valid-server : (s : Settings) (server : ServerSetup) → AreValid s → MakesServer (joined s no_values) server → IsValidServer server
+valid-server s server h m =
+    let users : All IsValidUser server.users = subst (All IsValidUser) (sym (append-nil s.users) ∙ m.users) h.users in
     record {
       sound = record {
-        methods = c;
-        suites = unwrap_or-holds s.server_suites both_suites (λ suites. IsTrue (are_suites suites)) h.server_suites refl;
-        kinds = All-weaker IsValidUser (λ user. IsTrue (is_kind user.kind)) (λ user v. v.kind) s.users h.users;
-        keys = All-weaker IsValidUser (λ user. IsTrue (fits_kind user.kind user.psk)) (λ user v. v.psk) s.users h.users;
+        methods = held (λ kinds. IsTrue (are_kinds kinds)) s.server_methods server.methods h.server_methods m.methods;
+        suites = held-or (λ suites. IsTrue (are_suites suites)) s.server_suites both_suites server.suites h.server_suites refl m.suites;
+        kinds = All-weaker IsValidUser (λ user. IsTrue (is_kind user.kind)) (λ user v. v.kind) server.users users;
+        keys = All-weaker IsValidUser (λ user. IsTrue (fits_kind user.kind user.psk)) (λ user v. v.psk) server.users users;
       };
-      name = a;
-      users = h.users;
-      nonce = d;
-    })))
+      name = held IsName s.server_name server.name h.server_name m.name;
+      users = users;
+      nonce = held (λ nonce. length nonce ≡ 32) s.server_nonce server.nonce h.server_nonce m.nonce;
+    }
 
 -- the settings of a run
 pub setup_of-valid : (s : Settings) → AreValid s → IfOk (setup_of s) IsValidSetup
-unfolding setup_of
 setup_of-valid s h =
-    IfOk-bind (needed s.mode) _ (λ m. m ≡ mode.Alone) IsValidSetup (IfOk-needed s.mode (λ m. m ≡ mode.Alone) h.mode) (λ m a.
-    IfOk-bind (peer_setup_of s) _ IsValidPeer IsValidSetup (peer_setup_of-valid s h) (λ peer b.
-    IfOk-bind (server_setup_of s) _ IsValidServer IsValidSetup (server_setup_of-valid s h) (λ server c.
-    record {
-      alone = a;
-      first_id = unwrap_or-holds s.first_id 0 (λ id. id < 256) h.first_id (lit< tt);
-      few_retrans = unwrap_or-holds s.max_retrans 4 (λ count. count ≤ 10) h.max_retrans (lit≤ tt);
-      peer = b;
-      server = c;
-    })))
+    IfOk-weaker (setup_of s) (MakesSetup (joined s no_values)) IsValidSetup
+    (λ setup m. record {
+      first_id = held-or (λ id. id < 256) s.first_id 0 setup.first_id h.first_id (lit< tt) m.first_id;
+      few_retrans = held-or (λ count. count ≤ 10) s.max_retrans 4 setup.max_retrans h.max_retrans (lit≤ tt) m.max_retrans;
+      peer = valid-peer s setup.peer h m.peer;
+      server = valid-server s setup.server h m.server;
+    })
+    (all-given s h.kept)
 
 ready-valid : (r : Result Setup LineFault) → IfOk r IsValidSetup → IsValidItem (ready r)
 ready-valid (Ok setup) h = h
@@ -115,28 +214,27 @@ ready-valid (Err f) h = tt
 taken-valid : (p : Phase) (s : Settings) (e : Entry) → AreValid s → IsValidEntry e → IsValidReadLine (taken p s e)
 taken-valid p s (entry.Set v) h k = record { item = tt; settings = with_setting-valid s v h k }
 taken-valid p s entry.Events h k = record { item = ready-valid (setup_of s) (setup_of-valid s h); settings = h }
-taken-valid p s (entry.Happens event) h k = record { item = tt; settings = h }
-taken-valid p s entry.End h k = record { item = tt; settings = h }
+taken-valid p s other h k = record { item = tt; settings = h }
 
-take-valid : (p : Phase) (s : Settings) (e : Entry) → AreValid s → IsValidEntry e → IfOk (take p s e) IsValidReadLine
-unfolding take
-take-valid p s e h k = IfOk-unless (fault_of_entry p s e) (taken p s e) IsValidReadLine (λ none. taken-valid p s e h k)
-
-read_body-valid : (p : Phase) (s : Settings) (line : List ℕ) → AreValid s → IfOk (read_body p s line) IsValidReadLine
-read_body-valid p s line h =
-    read_body-cases p s line IsValidReadLine (record { item = tt; settings = h }) (λ k.
-    IfOk-bind (entry_for k (words line)) (take p s) IsValidEntry IsValidReadLine (entry_for-valid k (words line)) (λ e v. take-valid p s e h v))
-
-read_at-valid : (p : Phase) (s : Settings) (line : List ℕ) → AreValid s → IfOk (read_at p s line) IsValidReadLine
-read_at-valid phase.Unread s line h = IfOk-test (bytes_eq line header) (reads item.Nothing phase.Settings no_settings) (Err NoHeader) IsValidReadLine (λ e. record { item = tt; settings = no_settings-valid }) (λ e. tt)
-read_at-valid phase.Settings s line h = read_body-valid phase.Settings s line h
-read_at-valid phase.Events s line h = read_body-valid phase.Events s line h
-read_at-valid phase.Ended s line h = read_body-valid phase.Ended s line h
+step-valid : (p : Phase) (s : Settings) (line : List ℕ) (out : ReadLine) → AreValid s → read_body p s line ≡ Ok out → IsValidReadLine out
+step-valid p s line out h e =
+    step-cases p s line IsValidReadLine (record { item = tt; settings = h }) (λ own may. taken-valid p s (said_by line) h (said_by-valid line own)) out
+    (stepped p s line out e)
 
 -- what a line says and adds
+line-valid : (p : Phase) (s : Settings) (line : List ℕ) (out : ReadLine) → AreValid s → read_at p s line ≡ Ok out → IsValidReadLine out
+unfolding read_line
+line-valid phase.Unread s line out h e =
+    rw ((starts (record { phase = phase.Unread; settings = s }) line out refl e).1) (record { item = tt; settings = no_settings-valid })
+line-valid other s line out h e = step-valid other s line out h e
+
+if-ok : (x : Result ReadLine LineFault) → ((out : ReadLine) → x ≡ Ok out → IsValidReadLine out) → IfOk x IsValidReadLine
+if-ok (Ok out) h = h out refl
+if-ok (Err f) h = tt
+
 pub read_line-valid : (r : Reading) (line : List ℕ) → AreValid r.settings → IfOk (read_line r line) IsValidReadLine
 unfolding read_line
-read_line-valid r line h = read_at-valid r.phase r.settings line h
+read_line-valid r line h = if-ok (read_line r line) (λ out. line-valid r.phase r.settings line out h)
 
 -- settings that none is missing of
 pub whole : (r : Result Setup LineFault) → is_err r ≡ false → IsOk r

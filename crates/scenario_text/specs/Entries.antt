@@ -2,9 +2,11 @@
 use Rattle.std.specs.Prelude.{ℕ, List, [], ◌∷◌, length, Bool, ◌==◌, nat_le, if◌then◌else◌, codes, unwrap_or, Result, Err, ok_or}
 use Rattle.std.specs.Str.{bytes_eq}
 use Rattle.eap_base.specs.Setup.{psk_kind}
+use Rattle.eap_base.specs.declared.setup.Mode.{Mode}
 use Rattle.eap_base.specs.declared.setup.Mode.TheVariants as mode
 use Rattle.eap_base.specs.declared.setup.Accepts.{Accepts}
 use Rattle.eap_base.specs.declared.setup.Accepts.TheVariants.{Any, One}
+use Rattle.eap_base.specs.declared.setup.Party.{Party}
 use Rattle.eap_base.specs.declared.setup.Party.TheVariants as party
 use Rattle.eap_base.specs.declared.setup.Port.{Port}
 use Rattle.eap_base.specs.declared.setup.Port.TheVariants as port
@@ -21,6 +23,9 @@ use Rattle.scenario_text.specs.declared.entry.Setting.{Setting}
 use Rattle.scenario_text.specs.declared.entry.Setting.TheVariants as setting
 use Rattle.scenario_text.specs.Contents.{Entry}
 use Rattle.scenario_text.specs.Contents.{Set, Events, Happens, End}
+
+abbrev pub mode_of : List ℕ → Mode
+mode_of word = if bytes_eq word (codes "through") then mode.Through else mode.Alone
 
 -- the server names that a peer accepts
 abbrev pub accepts_of : List ℕ → Accepts
@@ -44,14 +49,21 @@ abbrev pub key_setting : ℕ → List ℕ → Setting
 key_setting kind key = if kind == psk_kind then setting.PeerPsk47 key else setting.PeerPsk51 key
 
 abbrev pub port_of : List ℕ → Port
-port_of word = if bytes_eq word (codes "peer") then port.Peer else port.Server
+port_of word =
+    if bytes_eq word (codes "peer") then port.Peer
+    else if bytes_eq word (codes "server") then port.Server
+    else if bytes_eq word (codes "pass-peer") then port.PassPeer
+    else port.PassServer
+
+abbrev pub party_of : List ℕ → Party
+party_of word = if bytes_eq word (codes "pass") then party.Pass else party.Server
 
 abbrev pub is_barred : List ℕ → Bool
 is_barred word = bytes_eq word (codes "barred")
 
 -- what a keyword says with the words of its line
 unfoldable pub item_of : Keyword → List (List ℕ) → Entry
-item_of key.Mode ws = Set (setting.Mode mode.Alone)
+item_of key.Mode ws = Set (setting.Mode (mode_of (word_in ws 1)))
 item_of key.FirstId ws = Set (setting.FirstId (number (word_in ws 1)))
 item_of key.MaxRetrans ws = Set (setting.MaxRetrans (number (word_in ws 1)))
 item_of key.PeerName ws = Set (setting.PeerName (word_in ws 1))
@@ -71,7 +83,9 @@ item_of key.Deliver ws = Happens (event.Deliver (number (word_in ws 1)))
 item_of key.Alter ws = Happens (event.Alter (number (word_in ws 1)) (number (word_in ws 2)) (number (word_in ws 3)))
 item_of key.Cut ws = Happens (event.Cut (number (word_in ws 1)) (number (word_in ws 2)))
 item_of key.Inject ws = Happens (event.Inject (port_of (word_in ws 1)) (octets_of (word_in ws 2)))
-item_of key.Timeout ws = Happens (event.Timeout party.Server)
+item_of key.Timeout ws = Happens (event.Timeout (party_of (word_in ws 1)))
+item_of key.AaaTimeout ws = Happens event.AaaTimeout
+item_of key.AaaNoReq ws = Happens event.AaaNoReq
 item_of key.Idle ws = Happens event.Idle
 item_of key.AltAccept ws = Happens event.AltAccept
 item_of key.AltReject ws = Happens event.AltReject
@@ -88,9 +102,6 @@ keyword_of line = unwrap_or (keyword_in row_of keywords (words line)) key.End
 abbrev pub said_by : List ℕ → Entry
 said_by line = item_of (keyword_of line) (words line)
 
--- the same in two steps, the keyword and its words
-unfoldable pub first_keyword : List ℕ → Result Keyword LineFault
-first_keyword line = if is_printable line then ok_or (keyword_in row_of keywords (words line)) BadWord else Err BadWord
-
+-- the same of a keyword and its words
 unfoldable pub entry_for : Keyword → List (List ℕ) → Result Entry LineFault
 entry_for k ws = unless (fault_of_words (row_of k).least (row_of k).fields ws) (item_of k ws)

@@ -4,7 +4,7 @@ use Rattle.eap_base.specs.Setup.{fits_kind}
 use Rattle.std.specs.Str.{bytes_eq}
 use Rattle.scenario_text.specs.Fields.{word_in, number, spells_octets, octets_of, spells_kind, kind_of, spells_suite}
 use Rattle.scenario_text.specs.Rows.{Row, field_has, any_has, is_choice, is_kind_or_none}
-use Rattle.scenario_text.specs.declared.fault.LineFault.TheVariants as fault
+use Rattle.scenario_text.specs.declared.fault.LineFault.{LineFault}
 use Rattle.scenario_text.specs.declared.rows.Field.{Field}
 use Rattle.scenario_text.specs.declared.rows.Field.TheVariants as field
 
@@ -56,18 +56,9 @@ pub record Fits (row : Row) (ws : List (List ℕ)) : Type 0 where
   pub most : length ws ≤ length row.fields + 1
   pub fields : FieldsFit row.least 1 row.fields ws
 
--- none of the faults of a word
-pub record Faultless (f : Field) (place : ℕ) (ws : List (List ℕ)) : Type 0 where
-  pub choice : field_has fault.BadChoice f place ws ≡ false
-  pub number : field_has fault.BadNumber f place ws ≡ false
-  pub hex : field_has fault.BadHex f place ws ≡ false
-  pub size : field_has fault.BadSize f place ws ≡ false
-  pub repeated : field_has fault.Repeated f place ws ≡ false
+-- none of the faults of a word, and of the words from a place on
+abbrev pub IsFaultlessAt : Field → ℕ → List (List ℕ) → Type 0
+IsFaultlessAt f place ws = (e : LineFault) → field_has e f place ws ≡ false
 
--- the same of the words after a place
-pub record AllFaultless (fields : List Field) (place : ℕ) (ws : List (List ℕ)) : Type 0 where
-  pub choice : any_has fault.BadChoice place fields ws ≡ false
-  pub number : any_has fault.BadNumber place fields ws ≡ false
-  pub hex : any_has fault.BadHex place fields ws ≡ false
-  pub size : any_has fault.BadSize place fields ws ≡ false
-  pub repeated : any_has fault.Repeated place fields ws ≡ false
+abbrev pub AreFaultless : List Field → ℕ → List (List ℕ) → Type 0
+AreFaultless fields place ws = (e : LineFault) → any_has e place fields ws ≡ false

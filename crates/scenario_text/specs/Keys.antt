@@ -65,10 +65,5 @@ pub record HasGpskSizes (psk idp ids : List ℕ) : Type 0 where
   pub ids_high : length ids ≤ 253
 
 abbrev pub HasSizes : KeyLine → Type 0
-HasSizes (key.Aes k block) = Unit {0}
-HasSizes (key.Cmac k text) = Unit {0}
-HasSizes (key.Hmac k text) = Unit {0}
-HasSizes (key.Eax k nonce header text) = Unit {0}
 HasSizes (key.Gpsk s psk randp idp rands ids) = HasGpskSizes psk idp ids
-HasSizes (key.Psk psk randp) = Unit {0}
-HasSizes (key.Name k) = Unit {0}
+HasSizes other = Unit {0}

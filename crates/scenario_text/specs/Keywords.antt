@@ -27,6 +27,8 @@ row_of key.Alter = row (codes "alter") 3 (Number 1 1000000 ∷ Number 0 1499 ∷
 row_of key.Cut = row (codes "cut") 2 (Number 1 1000000 ∷ Number 0 1500 ∷ [])
 row_of key.Inject = row (codes "inject") 2 (Choice choices.Port ∷ Hex 0 2000 ∷ [])
 row_of key.Timeout = row (codes "timeout") 1 (Choice choices.Timer ∷ [])
+row_of key.AaaTimeout = row (codes "aaa-timeout") 0 []
+row_of key.AaaNoReq = row (codes "aaa-noreq") 0 []
 row_of key.Idle = row (codes "idle") 0 []
 row_of key.AltAccept = row (codes "alt-accept") 0 []
 row_of key.AltReject = row (codes "alt-reject") 0 []
@@ -36,4 +38,5 @@ abbrev pub keywords : List Keyword
 keywords =
     key.Mode ∷ key.FirstId ∷ key.MaxRetrans ∷ key.PeerName ∷ key.PeerServer ∷ key.PeerMethods ∷ key.PeerSuites ∷ key.PeerPsk
     ∷ key.PeerNonce ∷ key.ServerName ∷ key.ServerMethods ∷ key.ServerSuites ∷ key.ServerNonce ∷ key.User ∷ key.Events
-    ∷ key.Deliver ∷ key.Alter ∷ key.Cut ∷ key.Inject ∷ key.Timeout ∷ key.Idle ∷ key.AltAccept ∷ key.AltReject ∷ key.End ∷ []
+    ∷ key.Deliver ∷ key.Alter ∷ key.Cut ∷ key.Inject ∷ key.Timeout ∷ key.AaaTimeout ∷ key.AaaNoReq ∷ key.Idle
+    ∷ key.AltAccept ∷ key.AltReject ∷ key.End ∷ []

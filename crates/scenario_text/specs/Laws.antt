@@ -14,13 +14,16 @@ use Rattle.scenario_text.specs.declared.settings.Settings.{Settings}
 use Rattle.scenario_text.specs.declared.scenario.Phase.{Phase}
 use Rattle.scenario_text.specs.declared.scenario.Phase.TheVariants as phase
 
--- a fault that is met, and none before it in the list of faults
-pub record IsFirst (has : LineFault → Bool) (f : LineFault) : Type 0 where
+-- a fault that is met, and none before it in the list
+pub record IsFirstOf (list : List LineFault) (has : LineFault → Bool) (f : LineFault) : Type 0 where
   pub before : List LineFault
   pub after : List LineFault
-  pub order : faults ≡ before ++ f ∷ after
+  pub order : list ≡ before ++ f ∷ after
   pub met : has f ≡ true
   pub none_before : All (λ e. has e ≡ false) before
+
+abbrev pub IsFirst : (LineFault → Bool) → LineFault → Type 0
+IsFirst has f = IsFirstOf faults has f
 
 -- a line is refused with exactly the first fault that it has, and taken exactly where it has none
 pub record Judges {A : Type 0} (answer : Result A LineFault) (has : LineFault → Bool) (value : A) : Type 0 where
@@ -37,9 +40,7 @@ header_has line f = false
 -- a line of a scenario that has come so far has the fault
 abbrev pub line_has : Phase → Settings → List ℕ → LineFault → Bool
 line_has phase.Unread s line f = header_has line f
-line_has phase.Settings s line f = not (is_passed_over line) && body_has phase.Settings s line f
-line_has phase.Events s line f = not (is_passed_over line) && body_has phase.Events s line f
-line_has phase.Ended s line f = not (is_passed_over line) && body_has phase.Ended s line f
+line_has p s line f = not (is_passed_over line) && body_has p s line f
 
 -- what it says and adds
 abbrev pub body_says : Phase → Settings → List ℕ → ReadLine
@@ -47,9 +48,7 @@ body_says p s line = if is_passed_over line then said item.Nothing p s else take
 
 abbrev pub line_says : Phase → Settings → List ℕ → ReadLine
 line_says phase.Unread s line = said item.Nothing phase.Settings no_settings
-line_says phase.Settings s line = body_says phase.Settings s line
-line_says phase.Events s line = body_says phase.Events s line
-line_says phase.Ended s line = body_says phase.Ended s line
+line_says p s line = body_says p s line
 
 abbrev pub LinesAreJudged : Type 0
 LinesAreJudged = (r : Reading) (line : List ℕ) → Judges (read_line r line) (line_has r.phase r.settings line) (line_says r.phase r.settings line)

@@ -137,10 +137,8 @@ answered (Err f) after event = Err f
 
 -- the settings are whole where the answer says so
 abbrev pub HasSetup : answer.Item → Reading → Type 0
-HasSetup answer.TheVariants.Nothing after = Unit {0}
 HasSetup answer.TheVariants.Ready after = IsOk (setup_of after.settings)
-HasSetup answer.TheVariants.Event after = Unit {0}
-HasSetup answer.TheVariants.End after = Unit {0}
+HasSetup other after = Unit {0}
 
 -- the faults of a line where it stands
 
@@ -217,9 +215,7 @@ read_header line = if bytes_eq line header then reads item.Nothing phase.Setting
 -- a line of a scenario that has come so far
 abbrev pub read_at : Phase → Settings → List ℕ → Result ReadLine LineFault
 read_at phase.Unread s line = read_header line
-read_at phase.Settings s line = read_body phase.Settings s line
-read_at phase.Events s line = read_body phase.Events s line
-read_at phase.Ended s line = read_body phase.Ended s line
+read_at p s line = read_body p s line
 
 -- what a line says and adds, or its first fault
 unfoldable pub read_line : Reading → List ℕ → Result ReadLine LineFault
@@ -228,9 +224,8 @@ read_line r line = read_at r.phase r.settings line
 -- the end of the input: nothing was read, or the line `end` was not
 abbrev pub finish_at : Phase → Result (Unit {0}) LineFault
 finish_at phase.Unread = Err fault.NoHeader
-finish_at phase.Settings = Err fault.Missing
-finish_at phase.Events = Err fault.Missing
 finish_at phase.Ended = Ok tt
+finish_at other = Err fault.Missing
 
 abbrev pub finish_of : Reading → Result (Unit {0}) LineFault
 finish_of r = finish_at r.phase

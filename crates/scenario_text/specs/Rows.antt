@@ -23,9 +23,9 @@ row word least fields = record { word = word; least = least; fields = fields }
 
 -- the words of each choice
 abbrev pub choices_of : Choices → List (List ℕ)
-choices_of choices.Mode = codes "alone" ∷ []
-choices_of choices.Port = codes "peer" ∷ codes "server" ∷ []
-choices_of choices.Timer = codes "server" ∷ []
+choices_of choices.Mode = codes "alone" ∷ codes "through" ∷ []
+choices_of choices.Port = codes "peer" ∷ codes "server" ∷ codes "pass-peer" ∷ codes "pass-server" ∷ []
+choices_of choices.Timer = codes "server" ∷ codes "pass" ∷ []
 choices_of choices.Access = codes "allowed" ∷ codes "barred" ∷ []
 
 abbrev pub is_choice : Choices → List ℕ → Bool

@@ -1,8 +1,8 @@
 -- What every setting that was read keeps: its number, its name or its nonce is within its limits.
-use Rattle.std.specs.Prelude.{◌≡◌, ◌≤◌, ◌<◌, length, IfSome, IsTrue, All}
+use Rattle.std.specs.Prelude.{◌≡◌, ◌≤◌, ◌<◌, length, IfSome, IsTrue, All, List}
 use Rattle.eap_base.specs.Setup.{psk_kind, gpsk_kind, is_kind, are_kinds, are_suites, fits_kind, IsSoundPeer, IsSoundServer, HasKeys}
+use Rattle.eap_base.specs.Users.{AreDistinct}
 use Rattle.eap_base.specs.declared.users.User.{User}
-use Rattle.eap_base.specs.declared.setup.Mode.TheVariants as mode
 use Rattle.eap_base.specs.declared.setup.Accepts.{Accepts}
 use Rattle.eap_base.specs.declared.setup.Accepts.TheVariants.{Any, One}
 use Rattle.eap_base.specs.declared.setup.PeerSetup.{PeerSetup}
@@ -31,7 +31,7 @@ pub record IsValidUser (user : User) : Type 0 where
   pub psk : IsTrue (fits_kind user.kind user.psk)
 
 abbrev pub IsValidSetting : Setting → Type 0
-IsValidSetting (setting.Mode m) = m ≡ mode.Alone
+IsValidSetting (setting.Mode m) = Unit {0}
 IsValidSetting (setting.FirstId id) = id < 256
 IsValidSetting (setting.MaxRetrans count) = count ≤ 10
 IsValidSetting (setting.PeerName name) = IsName name
@@ -49,20 +49,20 @@ IsValidSetting (setting.User user) = IsValidUser user
 
 abbrev pub IsValidEntry : Entry → Type 0
 IsValidEntry (entry.Set v) = IsValidSetting v
-IsValidEntry entry.Events = Unit {0}
-IsValidEntry (entry.Happens event) = Unit {0}
-IsValidEntry entry.End = Unit {0}
+IsValidEntry other = Unit {0}
 
 -- the same of what is told of a line
 abbrev pub IsValidTold : told.Entry → Type 0
 IsValidTold (told.TheVariants.Set v) = IsValidSetting v
-IsValidTold told.TheVariants.Events = Unit {0}
-IsValidTold told.TheVariants.Happens = Unit {0}
-IsValidTold told.TheVariants.End = Unit {0}
+IsValidTold other = Unit {0}
+
+-- users that are few and distinct
+pub record AreUsers (users : List User) : Type 0 where
+  pub few : length users ≤ 16
+  pub distinct : AreDistinct users
 
 -- each setting that has come is valid
 pub record AreValid (s : Settings) : Type 0 where
-  pub mode : IfSome s.mode (λ m. m ≡ mode.Alone)
   pub first_id : IfSome s.first_id (λ id. id < 256)
   pub max_retrans : IfSome s.max_retrans (λ count. count ≤ 10)
   pub peer_name : IfSome s.peer_name IsName
@@ -77,6 +77,7 @@ pub record AreValid (s : Settings) : Type 0 where
   pub server_suites : IfSome s.server_suites (λ suites. IsTrue (are_suites suites))
   pub server_nonce : IfSome s.server_nonce (λ nonce. length nonce ≡ 32)
   pub users : All IsValidUser s.users
+  pub kept : AreUsers s.users
 
 -- the settings of each end and of a run, within their limits
 pub record IsValidPeer (peer : PeerSetup) : Type 0 where
@@ -93,17 +94,14 @@ pub record IsValidServer (server : ServerSetup) : Type 0 where
   pub nonce : length server.nonce ≡ 32
 
 pub record IsValidSetup (setup : Setup) : Type 0 where
-  pub alone : setup.mode ≡ mode.Alone
   pub first_id : setup.first_id < 256
   pub few_retrans : setup.max_retrans ≤ 10
   pub peer : IsValidPeer setup.peer
   pub server : IsValidServer setup.server
 
 abbrev pub IsValidItem : Item → Type 0
-IsValidItem item.Nothing = Unit {0}
 IsValidItem (item.Ready setup) = IsValidSetup setup
-IsValidItem (item.Event event) = Unit {0}
-IsValidItem item.End = Unit {0}
+IsValidItem other = Unit {0}
 
 -- what a line says is valid, and the settings after it are
 pub record IsValidReadLine (out : ReadLine) : Type 0 where

@@ -5,13 +5,13 @@ ghost use Rattle.scenario_text.specs.Words.{words};
 ghost use Rattle.scenario_text.specs.Contents.{entry_with, entered};
 ghost use Rattle.scenario_text.specs.Fits.{Fits};
 ghost use Rattle.scenario_text.specs.Keywords.{row_of};
-ghost use Rattle.scenario_text.specs.Entries.{accepts_of, kinds_of, suites_of, key_setting, port_of, item_of, first_keyword, entry_for};
+ghost use Rattle.scenario_text.specs.Entries.{accepts_of, kinds_of, suites_of, key_setting, port_of, party_of, mode_of, item_of, entry_for};
 
 use crate::fault::LineFault;
 use crate::fields::{array, kind_of, number, octets, suite_of};
 use crate::keyword::Keyword;
 use crate::rows::fault_of_words;
-use crate::words::{is_printable_line, word_count, word_in};
+use crate::words::{word_count, word_in};
 use eap_base::{Accepts, Event, Identity, Kinds, Mode, Nonce, Party, Port, Secret, Suites, User};
 
 /// A setting with its value.
@@ -44,18 +44,6 @@ pub enum Entry {
     End,
 }
 
-/// The keyword that a line begins with; `BadWord` where it is none, or an octet isn't printable.
-#[tactic(auto, unfolding(crate::specs::Entries::first_keyword))]
-pub fn read_keyword(line: &[u8]) -> Result<Keyword, LineFault>
-    ensures { result ≡ first_keyword line.now }
-{
-    if is_printable_line(line) {
-        Keyword::of_line(line).ok_or(LineFault::BadWord)
-    } else {
-        Err(LineFault::BadWord)
-    }
-}
-
 /// What a keyword says with the words of its line, or their first fault. An event is written to `event`.
 #[tactic(auto, unfolding(crate::specs::Entries::entry_for), using(crate::proofs::Fitting::fits))]
 pub fn read_entry(keyword: Keyword, line: &[u8], event: &mut Event) -> Result<Entry, LineFault>
@@ -76,7 +64,7 @@ fn item_of(keyword: Keyword, line: &[u8], event: &mut Event) -> Entry
 {
     let first = word_in(line, 1);
     match keyword {
-        Keyword::Mode => Entry::Set(Setting::Mode(Mode::Alone)),
+        Keyword::Mode => Entry::Set(Setting::Mode(mode_of(first))),
         Keyword::FirstId => Entry::Set(Setting::FirstId(number(first) as u8)),
         Keyword::MaxRetrans => Entry::Set(Setting::MaxRetrans(number(first) as u8)),
         Keyword::PeerName => Entry::Set(Setting::PeerName(name(first))),
@@ -127,8 +115,16 @@ fn item_of(keyword: Keyword, line: &[u8], event: &mut Event) -> Entry
         }
         Keyword::Timeout => {
             *event = Event::Timeout {
-                party: Party::Server,
+                party: party_of(first),
             };
+            Entry::Happens
+        }
+        Keyword::AaaTimeout => {
+            *event = Event::AaaTimeout;
+            Entry::Happens
+        }
+        Keyword::AaaNoReq => {
+            *event = Event::AaaNoReq;
             Entry::Happens
         }
         Keyword::Idle => {
@@ -212,7 +208,33 @@ fn port_of(word: &[u8]) -> Port
 {
     if word == b"peer".as_slice() {
         Port::Peer
-    } else {
+    } else if word == b"server".as_slice() {
         Port::Server
+    } else if word == b"pass-peer".as_slice() {
+        Port::PassPeer
+    } else {
+        Port::PassServer
+    }
+}
+
+/// A party that has a timer.
+fn party_of(word: &[u8]) -> Party
+    ensures { result ≡ party_of word.now }
+{
+    if word == b"pass".as_slice() {
+        Party::Pass
+    } else {
+        Party::Server
+    }
+}
+
+/// Whether the server answers by itself.
+fn mode_of(word: &[u8]) -> Mode
+    ensures { result ≡ mode_of word.now }
+{
+    if word == b"through".as_slice() {
+        Mode::Through
+    } else {
+        Mode::Alone
     }
 }

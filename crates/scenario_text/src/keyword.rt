@@ -31,13 +31,15 @@ pub enum Keyword {
     Cut,
     Inject,
     Timeout,
+    AaaTimeout,
+    AaaNoReq,
     Idle,
     AltAccept,
     AltReject,
     End,
 }
 
-const KEYWORDS: [Keyword; 24] = [
+const KEYWORDS: [Keyword; 26] = [
     Keyword::Mode,
     Keyword::FirstId,
     Keyword::MaxRetrans,
@@ -58,6 +60,8 @@ const KEYWORDS: [Keyword; 24] = [
     Keyword::Cut,
     Keyword::Inject,
     Keyword::Timeout,
+    Keyword::AaaTimeout,
+    Keyword::AaaNoReq,
     Keyword::Idle,
     Keyword::AltAccept,
     Keyword::AltReject,
@@ -131,6 +135,8 @@ impl Keyword {
                 ],
             ),
             Keyword::Timeout => Row::new(b"timeout", 1, &[Field::Choice(Choices::Timer)]),
+            Keyword::AaaTimeout => Row::new(b"aaa-timeout", 0, &[]),
+            Keyword::AaaNoReq => Row::new(b"aaa-noreq", 0, &[]),
             Keyword::Idle => Row::new(b"idle", 0, &[]),
             Keyword::AltAccept => Row::new(b"alt-accept", 0, &[]),
             Keyword::AltReject => Row::new(b"alt-reject", 0, &[]),

@@ -1,6 +1,6 @@
 //! The rows of a text's table: a keyword, and what the words after it stand for.
 
-ghost use Rattle.std.specs.Prelude.{◌≡◌, length, if◌then◌else◌, Some, None};
+ghost use Rattle.std.specs.Prelude.{◌≡◌, ◌+◌, ◌<◌, ◌^◌, length, if◌then◌else◌, Some, None};
 ghost use Rattle.scenario_text.specs.Words.{words};
 ghost use Rattle.eap_base.specs.Setup.{fits_kind};
 ghost use Rattle.scenario_text.specs.Fields.{octets_of};
@@ -41,11 +41,11 @@ pub enum Field {
 /// The words of a choice.
 #[derive(Clone, Copy, PartialEq, Eq, Debug)]
 pub enum Choices {
-    /// `alone`.
+    /// `alone` or `through`.
     Mode,
-    /// `peer` or `server`.
+    /// `peer`, `server`, `pass-peer` or `pass-server`.
     Port,
-    /// `server`.
+    /// `server` or `pass`.
     Timer,
     /// `allowed` or `barred`.
     Access,
@@ -85,7 +85,7 @@ pub(crate) fn fault_of_words(least: usize, fields: &[Field], line: &[u8]) -> Opt
     if has_bad_count(least, fields.len(), count) {
         return Some(LineFault::BadCount);
     }
-    first_fault(fields, line, count)
+    first_fault(fields, 1, line, count)
 }
 
 /// True where there are no more words than `least`, the keyword among them, or more than `most` after it.
@@ -95,17 +95,20 @@ fn has_bad_count(least: usize, most: usize, count: usize) -> bool
     count <= least || most < count - 1
 }
 
-/// The first fault that one of the words has.
-fn first_fault(fields: &[Field], line: &[u8], count: usize) -> Option<LineFault>
-    requires { count ≡ length (words line.now) }
-    ensures { result ≡ first_fault 1 fields.now (words line.now) }
+/// The first fault that one of the words from a place on has.
+#[tactic(auto, unfolding(crate::specs::Firsts::first_fault), using(crate::proofs::Earliest::first_fault_cons))]
+fn first_fault(fields: &[Field], place: usize, line: &[u8], count: usize) -> Option<LineFault>
+    requires words { count ≡ length (words line.now) }
+    requires few { place + length fields.now < 2 ^ 64 }
+    ensures { result ≡ first_fault place fields.now (words line.now) }
 {
-    let mut first = None;
-    for place in 0..fields.len() {
-        let fault = fault_at(fields[place], place + 1, line, count);
-        first = earlier(first, fault);
+    match fields.split_first() {
+        None => None,
+        Some((field, rest)) => {
+            let fault = fault_at(*field, place, line, count);
+            earlier(fault, first_fault(rest, place + 1, line, count))
+        }
     }
-    first
 }
 
 /// The first fault of the word at a place, if it is there.
@@ -197,11 +200,20 @@ fn is_choice(choices: Choices, word: &[u8]) -> bool
     ensures { result ≡ is_choice choices word.now }
 {
     match choices {
-        Choices::Mode => word == b"alone".as_slice(),
-        Choices::Port => word == b"peer".as_slice() || word == b"server".as_slice(),
-        Choices::Timer => word == b"server".as_slice(),
+        Choices::Mode => word == b"alone".as_slice() || word == b"through".as_slice(),
+        Choices::Port => is_port(word),
+        Choices::Timer => word == b"server".as_slice() || word == b"pass".as_slice(),
         Choices::Access => word == b"allowed".as_slice() || word == b"barred".as_slice(),
     }
+}
+
+fn is_port(word: &[u8]) -> bool
+    ensures { result ≡ is_choice Choices.Port word.now }
+{
+    word == b"peer".as_slice()
+        || word == b"server".as_slice()
+        || word == b"pass-peer".as_slice()
+        || word == b"pass-server".as_slice()
 }
 
 /// Whether the word at a place is a method, or `-` with no word after it.

@@ -9,11 +9,11 @@ ghost use Rattle.scenario_text.specs.Contents.{entry_with};
 ghost use Rattle.eap_base.specs.declared.event.Event.{Event};
 ghost use Rattle.scenario_text.specs.Valid.{IsValidTold, IsValidSetup};
 
-use crate::entry::{Entry, read_entry, read_keyword};
+use crate::entry::{Entry, read_entry};
 use crate::fault::LineFault;
 use crate::keyword::Keyword;
 use crate::settings::Settings;
-use crate::words::is_comment;
+use crate::words::{is_comment, is_printable_line};
 use eap_base::{Event, Setup};
 use std::marker::Model;
 
@@ -129,9 +129,12 @@ impl ScenarioReader {
         if is_comment(line) {
             return Ok(Item::Nothing);
         }
-        match read_keyword(line) {
-            Err(fault) => Err(fault),
-            Ok(keyword) => self.read_words(keyword, line, event),
+        if !is_printable_line(line) {
+            return Err(LineFault::BadWord);
+        }
+        match Keyword::of_line(line) {
+            None => Err(LineFault::BadWord),
+            Some(keyword) => self.read_words(keyword, line, event),
         }
     }
 

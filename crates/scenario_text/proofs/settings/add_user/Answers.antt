@@ -1,5 +1,5 @@
 -- A call that adds a user adds it exactly where there is room.
-use Rattle.scenario_text.proofs.UserLists.{with_user-is}
+use Rattle.scenario_text.proofs.Settling.{with_user-is}
 use Rattle.scenario_text.proofs.settings.add_user.Goals as goal
 
 pub returns : goal.returns

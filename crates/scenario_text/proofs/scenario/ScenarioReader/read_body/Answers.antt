@@ -1,17 +1,30 @@
 -- A line is passed over, or begins with no keyword, or is what its words and its place make of it.
-use Rattle.std.proofs.Common.{◌∙◌, sym}
+use Rattle.std.proofs.Common.{◌≡◌, true, false, not, None, refl, ◌∙◌, sym}
+use Rattle.std.proofs.lemmas.Bool.{or_right}
+use Rattle.scenario_text.specs.Words.{words, is_printable, is_passed_over}
+use Rattle.scenario_text.specs.Rows.{keyword_in}
+use Rattle.scenario_text.specs.Keywords.{row_of, keywords}
 use Rattle.scenario_text.proofs.LineFaults.{read_body-bad, read_body-words}
-use Rattle.scenario_text.proofs.ReadLine.{passed-over}
+use Rattle.scenario_text.proofs.ReadLine.{passes}
 use Rattle.scenario_text.proofs.scenario.ScenarioReader.read_body.Goals as goal
 
 pub returns-then-is_comment-clause-read : goal.returns-then-is_comment-clause-read
-returns-then-is_comment-clause-read c = passed-over c.args.self.now.phase c.args.self.now.settings c.args.line.now (sym c.is_comment.ensures ∙ c.if-is_comment.true)
+returns-then-is_comment-clause-read c = passes c.args.self.now.phase c.args.self.now.settings c.args.line.now (sym c.is_comment.ensures ∙ c.if-is_comment.true)
 
-pub returns-in-Err-clause-read : goal.returns-in-Err-clause-read
-returns-in-Err-clause-read c =
-    read_body-bad c.args.self.now.phase c.args.self.now.settings c.args.line.now c.in-Err.fault (sym c.is_comment.ensures ∙ c.if-is_comment.false) (sym c.read_keyword.ensures ∙ c.in-Err.is)
+pub returns-then-not-is_printable_line-clause-read : goal.returns-then-not-is_printable_line-clause-read
+returns-then-not-is_printable_line-clause-read c =
+    let p : is_printable c.args.line.now ≡ false = cc in
+    let on : is_passed_over c.args.line.now ≡ false = cc in
+    read_body-bad c.args.self.now.phase c.args.self.now.settings c.args.line.now on (rw p refl)
 
-pub returns-in-Ok-clause-read : goal.returns-in-Ok-clause-read
-returns-in-Ok-clause-read c =
-    read_body-words c.args.self.now.phase c.args.self.now.settings c.args.line.now c.in-Ok.keyword (sym c.is_comment.ensures ∙ c.if-is_comment.false) (sym c.read_keyword.ensures ∙ c.in-Ok.is)
+pub returns-in-None-clause-read : goal.returns-in-None-clause-read
+returns-in-None-clause-read c =
+    let q : keyword_in row_of keywords (words c.args.line.now) ≡ None = cc in
+    let on : is_passed_over c.args.line.now ≡ false = cc in
+    read_body-bad c.args.self.now.phase c.args.self.now.settings c.args.line.now on (or_right (not (is_printable c.args.line.now)) _ (rw q refl))
+
+pub returns-in-Some-clause-read : goal.returns-in-Some-clause-read
+returns-in-Some-clause-read c =
+    let on : is_passed_over c.args.line.now ≡ false = cc in
+    read_body-words c.args.self.now.phase c.args.self.now.settings c.args.line.now c.in-Some.keyword on (record { printable = cc; found = cc })
     ∙ c.read_words.ensures.read

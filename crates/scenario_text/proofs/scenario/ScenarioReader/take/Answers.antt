@@ -2,9 +2,11 @@
 use Rattle.std.proofs.Common.{◌∙◌, sym}
 use Rattle.scenario_text.specs.Contents.{entry_with}
 use Rattle.scenario_text.specs.declared.fault.LineFault.TheVariants as fault
-use Rattle.scenario_text.proofs.ReadLine.{no_fault_of}
+use Rattle.scenario_text.specs.Reading.{fault_of_entry, entry_has}
+use Rattle.scenario_text.proofs.FaultLists.{no_fault}
 use Rattle.scenario_text.proofs.scenario.ScenarioReader.take.Goals as goal
 
 pub add-requires-clause-whole : goal.add-requires-clause-whole
+unfolding fault_of_entry
 add-requires-clause-whole c = λ event.
-    no_fault_of c.args.self.now.phase c.args.self.now.settings (entry_with c.args.entry event) (sym (c.fault_of.ensures event) ∙ c.in-None.is) fault.Missing
+    no_fault (entry_has c.args.self.now.phase c.args.self.now.settings (entry_with c.args.entry event)) (sym (c.fault_of.ensures event) ∙ c.in-None.is) fault.Missing
