@@ -63,7 +63,6 @@ steps_keep w _ (calls (to_server input) later) is_discard =
     let same = server_discards.discards_keep w.parties.server input is_discard in
     call_keeps w (did_by w.parties.mode party.Server (is_delivery (to_server input)) out.step) _
     (ap (λ server. record w.parties { server = server }) same.all) same.sent same.tags
-
 steps_keep w _ (calls (to_pass input) later) is_discard =
     let out = pass_takes w.parties.pass input in
     let same = pass_discards.discards_keep w.parties.pass input is_discard in

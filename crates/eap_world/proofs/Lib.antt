@@ -9,11 +9,16 @@ pub mod Fields
 pub mod FirstBroken
 pub mod GpskAgrees
 pub mod HonestRuns
+pub mod LastSent
 pub mod OneMethod
+pub mod PassSpeaks
 pub mod PeerKeeps
+pub mod PeerSpeaks
 pub mod PskAgrees
 pub mod PskFields
 pub mod ServerKeeps
+pub mod ServerSpeaks
+pub mod SingleSteps
 pub mod Storing
 pub mod SucceedingEnds
 pub mod TagsOfEnds

@@ -48,7 +48,7 @@ pub data BothSucceed (peer_setup : PeerSetup) (server_setup : ServerSetup) (p : 
       (same : gpsk.IsSame login list other) → BothSucceed peer_setup server_setup p s
 
 -- a peer, or a server, that has succeeded, with its tags
-data PeerSucceeds (setup : PeerSetup) (now : PeerNow) : List TagRecord → List TagRecord → Type 0 where
+pub data PeerSucceeds (setup : PeerSetup) (now : PeerNow) : List TagRecord → List TagRecord → Type 0 where
   with_psk : (login : psk_peer.Login) (header : List ℕ) (sealed id : ℕ)
       (is_selected : now.vars.selected ≡ Some psk_kind) (in_view : now.views.psk ≡ psk_peer.over login true) (facts : peers.PskBegun setup login)
       → PeerSucceeds setup now (peers.psk3_taken login header sealed) (peers.psk2_record login ∷ psk_peer.psk4_record login id 2)
@@ -57,7 +57,7 @@ data PeerSucceeds (setup : PeerSetup) (now : PeerNow) : List TagRecord → List 
       → PeerSucceeds setup now (sk_record login.cred.psk (peers.gpsk3_taken login pd) ∷ [])
       (peers.gpsk2_record login list ∷ sk_record login.cred.psk (gpsk_peer.gpsk4_of login) ∷ [])
 
-data ServerSucceeds (setup : ServerSetup) (now : ServerNow) : List TagRecord → List TagRecord → Type 0 where
+pub data ServerSucceeds (setup : ServerSetup) (now : ServerNow) : List TagRecord → List TagRecord → Type 0 where
   of_psk : (login : psk_server.Login) (header : List ℕ) (sealed id : ℕ) (is_current : now.vars.current ≡ Some psk_kind)
       (in_view : now.views.psk ≡ Some (psk_server.over login true)) (facts : servers.PskChecked setup login) (r_sent : login.r ≡ 2)
       → ServerSucceeds setup now (servers.psk2_record login ∷ servers.psk4_taken login header sealed ∷ []) (psk_server.psk3_records login id)
@@ -75,7 +75,7 @@ module _ (setup : PeerSetup) (now : PeerNow) where
       → (accepted made : List TagRecord) → peers.GpskPeerTags setup (gpsk_peer.over login true) accepted made → PeerSucceeds setup now accepted made
   peer_gpsk login is_selected in_view _ _ (peers.gpsk_confirmed _ list pd facts) = with_gpsk login list pd is_selected in_view facts
 
-  peer_succeeds : (accepted made : List TagRecord) → peers.PeerTags setup now.vars.selected now.views accepted made
+  pub peer_succeeds : (accepted made : List TagRecord) → peers.PeerTags setup now.vars.selected now.views accepted made
       → peers.HasSucceeded now.vars.selected now.views → PeerSucceeds setup now accepted made
   peer_succeeds accepted made tags (peers.psk_succeeded login is_selected in_view) =
       peer_psk login is_selected in_view accepted made
@@ -97,7 +97,7 @@ module _ (setup : ServerSetup) (now : ServerNow) where
   server_gpsk login is_current in_view _ _ (servers.gpsk_confirmed _ pd last_pd facts) =
       of_gpsk login pd last_pd is_current in_view facts
 
-  server_succeeds : (accepted made : List TagRecord) → servers.ServerTags setup now.vars.current now.views accepted made
+  pub server_succeeds : (accepted made : List TagRecord) → servers.ServerTags setup now.vars.current now.views accepted made
       → servers.HasSucceeded now.vars.current now.views → ServerSucceeds setup now accepted made
   server_succeeds accepted made tags (servers.psk_succeeded login is_current in_view) =
       server_psk login is_current in_view accepted made (server_calls.told_by_psk setup now.vars.current now.views _ accepted made is_current in_view tags)

@@ -2,6 +2,7 @@
 
 ghost use Rattle.eap_world.specs.Agreement.{HonestEndsAgree, HonestNamesAreTheirs, FewTags};
 ghost use Rattle.eap_world.specs.Laws.{DiscardsKeep, RunsTellReports};
+ghost use Rattle.eap_world.specs.SingleSteps.{StepsAreLawful};
 
 /// An event that an end discards changes nothing but the counts: no variable and no method's view at
 /// either end, nothing sent and nothing in the book. Where each report that an end holds was told of,
@@ -38,4 +39,13 @@ pub fn honest_names_are_theirs()
 /// book holds at most eight.
 pub fn few_tags()
     ensures { FewTags }
+{}
+
+/// Each step of a run is lawful, seen from outside: what the peer sends is a Response with the Identifier of
+/// what was handed to it (RFC 3748 section 4.1); what is sent again is the last packet to its port; in mode
+/// alone a Request that the server sends in a delivery has the next Identifier; a party that has ended sends
+/// nothing; an end that stands in SUCCESS has accepted a tag.
+#[tactic(auto, using(crate::proofs::SingleSteps::steps_are_lawful))]
+pub fn steps_are_lawful()
+    ensures { StepsAreLawful }
 {}

@@ -94,6 +94,7 @@ impl<P: PeerMethod, S: ServerMethod> World<P, S> {
     ghost use Rattle.eap_world.specs.declared.book.TagsVerdict.TheVariants.{Honest};
     ghost use Rattle.eap_world.specs.declared.verdict.Verdict.TheVariants.{Agree, Apart};
     ghost use Rattle.eap_world.specs.Judgement.{verdict_of};
+    ghost use Rattle.eap_world.specs.SingleSteps.{StepsLawfully};
     ghost use Rattle.eap_world.specs.World.{HaveSameKinds, KeepsKinds, Tells, world_made, world_start, world_step, now_of};
     ghost use Rattle.eap_world.specs.World.{octets_numbered, octets_of_sent, pass_state, state_of};
 
@@ -159,7 +160,8 @@ impl<P: PeerMethod, S: ServerMethod> World<P, S> {
     /// (sections 5 and 6) or the pass-through (section 7); an event that has nobody or nothing to act on is skipped and only counted.
     /// `Memory` comes only for want of memory for one more packet and its tags; the world then is as it
     /// was, and the event isn't counted. A world that was that of the run over some events then is that
-    /// of the run over these and this one, with at most eight tags in its book.
+    /// of the run over these and this one, with at most eight tags in its book, and the step is lawful as
+    /// [`steps_are_lawful`](crate::steps_are_lawful) says.
     pub fn step(&mut self, event: &Event) -> Result<Told, Memory>
         requires started { self.old.started ≡ true }
         requires room { self.old.counts.events < MAX_EVENTS }
@@ -168,6 +170,7 @@ impl<P: PeerMethod, S: ServerMethod> World<P, S> {
             (λ _. self.new ≡ self.old) }
         ensures run { IfOk result (λ told. GoesOn P.peer_shown S.server_shown event.now self.old self.new) }
         ensures few { IfOk result (λ told. StaysSmall P.peer_shown S.server_shown self.old self.new) }
+        ensures lawful { IfOk result (λ told. StepsLawfully P.peer_shown S.server_shown event.now self.old told self.new) }
         ensures kinds { KeepsKinds P.peer_shown S.server_shown self.old self.new }
     {
         self.take(event)
