@@ -64,17 +64,20 @@ covers_more : (id_p id_s rand_p rand_s list suite pd : List ℕ)
     → sized id_p ++ (sized id_s ++ (rand_p ++ (rand_s ++ (sized list ++ (suite ++ sized pd))))) ≡ rand_p ++ (rand_s ++ (sized id_s ++ (suite ++ sized []))) → ⊥
 covers_more id_p id_s rand_p rand_s list suite pd e =
     let sizes : length (sized id_p ++ (sized id_s ++ (rand_p ++ (rand_s ++ (sized list ++ (suite ++ sized pd))))))
-        ≡ length (rand_p ++ (rand_s ++ (sized id_s ++ (suite ++ sized [])))) = ap length e in
-    absurd (omega (arith, length-append id_p (sized id_s ++ (rand_p ++ (rand_s ++ (sized list ++ (suite ++ sized pd))))),
-    length-append id_s (rand_p ++ (rand_s ++ (sized list ++ (suite ++ sized pd)))),
-    length-append rand_p (rand_s ++ (sized list ++ (suite ++ sized pd))),
-    length-append rand_s (sized list ++ (suite ++ sized pd)),
-    length-append list (suite ++ sized pd),
-    length-append suite (sized pd),
-    length-append rand_p (rand_s ++ (sized id_s ++ (suite ++ sized []))),
-    length-append rand_s (sized id_s ++ (suite ++ sized [])),
-    length-append id_s (suite ++ sized []),
-    length-append suite (sized [])))
+    ≡ length (rand_p ++ (rand_s ++ (sized id_s ++ (suite ++ sized [])))) = ap length e in
+    absurd (omega (
+      arith,
+      length-append id_p (sized id_s ++ (rand_p ++ (rand_s ++ (sized list ++ (suite ++ sized pd))))),
+      length-append id_s (rand_p ++ (rand_s ++ (sized list ++ (suite ++ sized pd)))),
+      length-append rand_p (rand_s ++ (sized list ++ (suite ++ sized pd))),
+      length-append rand_s (sized list ++ (suite ++ sized pd)),
+      length-append list (suite ++ sized pd),
+      length-append suite (sized pd),
+      length-append rand_p (rand_s ++ (sized id_s ++ (suite ++ sized []))),
+      length-append rand_s (sized id_s ++ (suite ++ sized [])),
+      length-append id_s (suite ++ sized []),
+      length-append suite (sized []),
+    ))
 
 -- the GPSK-2 that the server accepted isn't the GPSK-3 that it made itself
 pub not_own : (s : server.Login) (pd : List ℕ) → IsIn (sk_record s.psk (gpsk2_taken s pd)) (sk_record s.psk (server.gpsk3_of s) ∷ []) → ⊥
