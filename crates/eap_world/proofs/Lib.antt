@@ -8,6 +8,7 @@ pub mod Few
 pub mod Fields
 pub mod FirstBroken
 pub mod GpskAgrees
+pub mod HonestOfEither
 pub mod HonestRuns
 pub mod LastSent
 pub mod OneMethod

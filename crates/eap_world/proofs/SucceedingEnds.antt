@@ -1,5 +1,7 @@
--- Two ends in SUCCESS agree, where each accepted tag is one that the other end made.
+-- Two ends in SUCCESS agree, where each accepted tag is one that either end made: an end in SUCCESS can't have made
+-- the tag itself that the login rests on.
 use Rattle.std.proofs.Common.{◌≡◌, ℕ, true, false, List, [], ◌∷◌, length, Some, refl, sym, ap, subst, arith, inl, inr}
+use Rattle.std.specs.Prelude.{◌⊎◌}
 use Rattle.eap_base.specs.declared.setup.PeerSetup.{PeerSetup}
 use Rattle.eap_base.specs.declared.setup.ServerSetup.{ServerSetup}
 use Rattle.eap_base.specs.Setup.{psk_kind, gpsk_kind}
@@ -12,7 +14,7 @@ use Rattle.eap_method.specs.GpskTags.{sk_record}
 use Rattle.peer_machine.specs.PeerTable.{PeerNow, peer_reports}
 use Rattle.server_machine.specs.ServerTable.{ServerNow, server_reports}
 use Rattle.eap_world.specs.Judgement.{judged, is_success}
-use Rattle.eap_world.specs.Records.{IsIn, AreIn, here}
+use Rattle.eap_world.specs.Records.{IsIn, AreInEither, here}
 use Rattle.eap_world.specs.PeerStands as peers
 use Rattle.eap_world.specs.PeerStands.{PeerStands}
 use Rattle.eap_world.specs.ServerStands as servers
@@ -34,6 +36,11 @@ other_method tag one other is_in not_one not_other =
       | inl e ↦ not_one (ap (λ (t : TagRecord). t.method) e)
       | inr e ↦ not_other (ap (λ (t : TagRecord). t.method) e)
     ]
+
+-- a tag that an end didn't make itself is one of the other's
+of_other : (tag : TagRecord) (others own : List TagRecord) → IsIn tag others ⊎ IsIn tag own → (IsIn tag own → ⊥) → IsIn tag others
+of_other tag others own (inl is_in) not_own = is_in
+of_other tag others own (inr is_in) not_own = absurd (not_own is_in)
 
 -- both ends have succeeded by one method, and speak of the same login
 pub data BothSucceed (peer_setup : PeerSetup) (server_setup : ServerSetup) (p : PeerNow) (s : ServerNow) : Type 0 where
@@ -108,31 +115,34 @@ module _ (peer_setup : PeerSetup) (server_setup : ServerSetup) (p : PeerNow) (s 
     (peer_nonce : length peer_setup.nonce ≡ 32) (server_nonce : length server_setup.nonce ≡ 32) where
   both_succeed : (peer_accepted peer_made server_accepted server_made : List TagRecord)
       → PeerSucceeds peer_setup p peer_accepted peer_made → ServerSucceeds server_setup s server_accepted server_made
-      → AreIn peer_accepted server_made → AreIn server_accepted peer_made → BothSucceed peer_setup server_setup p s
+      → AreInEither peer_accepted server_made peer_made → AreInEither server_accepted peer_made server_made → BothSucceed peer_setup server_setup p s
   both_succeed _ _ _ _ (with_psk login header sealed id is_selected in_view facts) (of_psk other _ _ other_id is_current in_other checked r_sent)
-      in_server in_peer =
+      of_peer of_server =
+      let of_mac_p = of_other _ _ _ (of_server.each _ (here _)) (psk.server_not_own server_setup other checked server_nonce other_id) in
+      let of_mac_s = of_other _ _ _ (of_peer.each _ (here _)) (psk.peer_not_own peer_setup login facts id) in
       by_psk login facts other checked is_selected in_view is_current in_other r_sent
-      (psk.same_login peer_setup server_setup login facts other checked peer_nonce server_nonce id other_id
-      (in_peer.each _ (here _)) (in_server.each _ (here _)))
-  both_succeed _ _ _ _ (with_psk login header sealed id is_selected in_view facts) (of_gpsk other pd _ is_current in_other checked) in_server in_peer =
-      absurd (other_method _ _ _ (in_peer.each _ (here _)) (λ e. apart (sym e)) (λ e. apart (sym e)))
-  both_succeed _ _ _ _ (with_gpsk login list pd is_selected in_view facts) (of_psk other _ _ _ is_current in_other checked r_sent) in_server in_peer =
-      absurd (other_method _ _ _ (in_peer.each _ (here _)) apart apart)
-  both_succeed _ _ _ _ (with_gpsk login list _ is_selected in_view facts) (of_gpsk other pd _ is_current in_other checked) in_server in_peer =
+      (psk.same_login peer_setup server_setup login facts other checked peer_nonce server_nonce id other_id of_mac_p of_mac_s)
+  both_succeed _ _ _ _ (with_psk login header sealed id is_selected in_view facts) (of_gpsk other pd _ is_current in_other checked) of_peer of_server =
+      absurd (other_method _ _ _ (of_other _ _ _ (of_server.each _ (here _)) (gpsk.not_own other pd)) (λ e. apart (sym e)) (λ e. apart (sym e)))
+  both_succeed _ _ _ _ (with_gpsk login list pd is_selected in_view facts) (of_psk other _ _ other_id is_current in_other checked r_sent) of_peer of_server =
+      absurd
+      (other_method _ _ _ (of_other _ _ _ (of_server.each _ (here _)) (psk.server_not_own server_setup other checked server_nonce other_id)) apart apart)
+  both_succeed _ _ _ _ (with_gpsk login list _ is_selected in_view facts) (of_gpsk other pd _ is_current in_other checked) of_peer of_server =
       by_gpsk login list facts other pd checked is_selected in_view is_current in_other
-      (gpsk.same_login peer_setup server_setup login list facts other pd checked peer_nonce server_nonce (in_peer.each _ (here _)))
+      (gpsk.same_login peer_setup server_setup login list facts other pd checked peer_nonce server_nonce
+      (of_other _ _ _ (of_server.each _ (here _)) (gpsk.not_own other pd)))
 
 pub ends_succeed : (peer_setup : PeerSetup) (server_setup : ServerSetup) (p : PeerNow) (s : ServerNow)
     (peer_accepted peer_made server_accepted server_made : List TagRecord)
     → length peer_setup.nonce ≡ 32 → length server_setup.nonce ≡ 32
     → PeerStands peer_setup p peer_accepted peer_made → ServerStands server_setup s server_accepted server_made
-    → AreIn peer_accepted server_made → AreIn server_accepted peer_made
+    → AreInEither peer_accepted server_made peer_made → AreInEither server_accepted peer_made server_made
     → is_success p.vars.state ≡ true → is_success s.vars.state ≡ true
     → BothSucceed peer_setup server_setup p s
-ends_succeed peer_setup server_setup p s _ _ _ _ peer_nonce server_nonce p_in s_in in_server in_peer sure other_sure =
+ends_succeed peer_setup server_setup p s _ _ _ _ peer_nonce server_nonce p_in s_in of_peer of_server sure other_sure =
     both_succeed peer_setup server_setup p s peer_nonce server_nonce _ _ _ _
     (peer_succeeds peer_setup p _ _ p_in.tags (p_in.decided (p_in.sure sure))) (server_succeeds server_setup s _ _ s_in.tags (s_in.sure other_sure))
-    in_server in_peer
+    of_peer of_server
 
 -- what both ends report is judged to agree
 pub both_agree : (peer_setup : PeerSetup) (server_setup : ServerSetup) (p : PeerNow) (s : ServerNow)

@@ -1,6 +1,6 @@
 //! Laws of both ends over events. Each is the contract of a function that does nothing.
 
-ghost use Rattle.eap_world.specs.Agreement.{HonestEndsAgree, HonestNamesAreTheirs, FewTags};
+ghost use Rattle.eap_world.specs.Agreement.{HonestOfEither, HonestEndsAgree, HonestNamesAreTheirs, FewTags};
 ghost use Rattle.eap_world.specs.Laws.{DiscardsKeep, RunsTellReports};
 ghost use Rattle.eap_world.specs.SingleSteps.{StepsAreLawful};
 
@@ -17,8 +17,17 @@ pub fn discards_keep()
 pub fn runs_tell_reports()
     ensures { RunsTellReports }
 {}
-/// Whatever is delivered, lost, repeated, reordered, altered or injected: where each tag that an end
-/// accepted was made earlier by the other end, two ends that both stand in SUCCESS agree in method,
+
+/// A book in which each accepted tag was made earlier by the other end is one in which each was made
+/// earlier by either end. So what is promised where a book is honest of either end is promised also where
+/// it is honest.
+#[tactic(auto, using(crate::proofs::HonestOfEither::honest_of_either))]
+pub fn honest_of_either()
+    ensures { HonestOfEither }
+{}
+
+/// Whatever is delivered, lost, repeated, reordered, altered, reflected or injected: where each tag that an
+/// end accepted was made earlier by either end, two ends that both stand in SUCCESS agree in method,
 /// identities, suite, MSK and EMSK, which both policies allow.
 #[tactic(auto, using(crate::proofs::HonestRuns::honest_ends_agree))]
 pub fn honest_ends_agree()
