@@ -5,7 +5,9 @@ use Rattle.eap_base.specs.declared.setup.Setup.{Setup}
 use Rattle.eap_world.specs.Agreement.{HasFewTags, run_of}
 use Rattle.eap_world.specs.World.{WorldNow, WorldOutcome, world_outcome, world_made, world_start, world_step, run_after}
 use Rattle.eap_world.specs.declared.told.Told.{Told}
+use Rattle.eap_world.specs.SingleSteps.{IsLawful}
 use Rattle.eap_world.proofs.Few.{few_tags}
+use Rattle.eap_world.proofs.SingleSteps.{steps_are_lawful}
 
 one_more : (w : WorldNow) (events : List Event) (e : Event) → (world_step (run_after w events) e).after ≡ run_after w (events ++ (e ∷ []))
 unfolding run_after
@@ -43,3 +45,10 @@ module _ {E : Type 0} (before after : WorldNow) (same : Type 0) where
       → IfOk result (λ told. (setup : Setup) (events : List Event) → before ≡ run_of setup events → HasFewTags after.book)
   stays_small e (Err error) h = tt
   stays_small e (Ok told) h = λ setup events is. subst (λ (w : WorldNow). HasFewTags w.book) (sym (h setup events is)) (few_tags setup (events ++ (e ∷ [])))
+
+  -- the step of a world of a run is lawful
+  pub goes_lawfully : (e : Event) (result : Result Told E) → MatchResult result (λ told. world_step before e ≡ world_outcome told after) (λ error. same)
+      → IfOk result (λ told. (setup : Setup) (events : List Event) → before ≡ run_of setup events → IsLawful before e (world_outcome told after))
+  goes_lawfully e (Err error) h = tt
+  goes_lawfully e (Ok told) h = λ setup events is.
+      subst (IsLawful before e) h (subst (λ (w : WorldNow). IsLawful w e (world_step w e)) (sym is) (steps_are_lawful setup events e))

@@ -21,7 +21,7 @@ use Rattle.eap_world.specs.Records.{IsIn}
 use Rattle.eap_world.specs.PeerStands.{GpskBegun, gpsk2_record}
 use Rattle.eap_world.specs.ServerStands.{GpskChecked, gpsk2_taken}
 use Rattle.eap_world.proofs.Fields.{fronts, sized_fronts, suite_fronts, read_rands}
-use Rattle.eap_world.proofs.Among.{among_two}
+use Rattle.eap_world.proofs.Among.{among_one, among_two}
 use Rattle.eap_world.proofs.EqualReports.{reports_agree}
 
 -- both ends speak of the same login
@@ -57,6 +57,34 @@ unfolding covered_of
 not_gpsk4 p s pd e =
     let rest : s.id_p ++ (sized s.own.id_s ++ (s.rand_p ++ (s.nonce ++ (sized (suite_list s.own.suites) ++ (suite_octets s.suite ++ sized pd))))) ≡ [] = cc in
     longer s.id_p s.own.id_s _ (sym rest)
+
+-- what the MAC of GPSK-3 covers is shorter than what that of GPSK-2 with the same names, nonces and suite covers, by
+-- ID_Peer with its length, CSuite_List with its length, and the PD block
+covers_more : (id_p id_s rand_p rand_s list suite pd : List ℕ)
+    → sized id_p ++ (sized id_s ++ (rand_p ++ (rand_s ++ (sized list ++ (suite ++ sized pd))))) ≡ rand_p ++ (rand_s ++ (sized id_s ++ (suite ++ sized []))) → ⊥
+covers_more id_p id_s rand_p rand_s list suite pd e =
+    let sizes : length (sized id_p ++ (sized id_s ++ (rand_p ++ (rand_s ++ (sized list ++ (suite ++ sized pd))))))
+    ≡ length (rand_p ++ (rand_s ++ (sized id_s ++ (suite ++ sized [])))) = ap length e in
+    absurd (omega (
+      arith,
+      length-append id_p (sized id_s ++ (rand_p ++ (rand_s ++ (sized list ++ (suite ++ sized pd))))),
+      length-append id_s (rand_p ++ (rand_s ++ (sized list ++ (suite ++ sized pd)))),
+      length-append rand_p (rand_s ++ (sized list ++ (suite ++ sized pd))),
+      length-append rand_s (sized list ++ (suite ++ sized pd)),
+      length-append list (suite ++ sized pd),
+      length-append suite (sized pd),
+      length-append rand_p (rand_s ++ (sized id_s ++ (suite ++ sized []))),
+      length-append rand_s (sized id_s ++ (suite ++ sized [])),
+      length-append id_s (suite ++ sized []),
+      length-append suite (sized []),
+    ))
+
+-- the GPSK-2 that the server accepted isn't the GPSK-3 that it made itself
+pub not_own : (s : server.Login) (pd : List ℕ) → IsIn (sk_record s.psk (gpsk2_taken s pd)) (sk_record s.psk (server.gpsk3_of s) ∷ []) → ⊥
+unfolding covered_of
+not_own s pd is_in =
+    covers_more s.id_p s.own.id_s s.rand_p s.nonce (suite_list s.own.suites) (suite_octets s.suite) pd
+    (ap (λ (tag : TagRecord). tag.octets) (among_one _ _ is_in))
 
 pub same_reports : (p : peer.Login) (list : List ℕ) (s : server.Login) → IsSame p list s → peer.report_of p ≡ server.report_of s
 unfolding peer.report_of server.report_of peer.keys_of server.keys_of

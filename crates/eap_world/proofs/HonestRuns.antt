@@ -1,10 +1,11 @@
--- Two ends that both succeed over an honest book agree.
-use Rattle.std.proofs.Common.{◌≡◌, ℕ, List, [], Bool, true, false, Option, Some, None, refl, sym, subst}
+-- Two ends that both succeed over a book that is honest of either end agree.
+use Rattle.std.proofs.Common.{◌≡◌, List, [], Bool, true, false, refl, sym, subst}
 use Rattle.std.specs.Prelude.{if◌then◌else◌, ◌&&◌}
 use Rattle.eap_base.specs.declared.event.Event.{Event}
 use Rattle.eap_base.specs.declared.setup.Setup.{Setup}
 use Rattle.server_machine.specs.ServerTable.{server_start}
-use Rattle.eap_world.specs.Book.{first_broken, verdict_on, tags_verdict}
+use Rattle.eap_world.specs.Book.{first_broken, tags_verdict_either}
+use Rattle.eap_world.specs.declared.book.Makers.TheVariants.{Either}
 use Rattle.eap_world.specs.declared.book.TagsVerdict.TheVariants.{Honest}
 use Rattle.eap_world.specs.Judgement.{verdict_of, is_success, judged}
 use Rattle.eap_world.specs.declared.verdict.Verdict.{Verdict}
@@ -17,24 +18,21 @@ use Rattle.eap_world.specs.Agreement.{IsWhole, IsOfRun, AgreesWhereHonest, Hones
 use Rattle.eap_world.specs.Records.{tags_by}
 use Rattle.eap_world.proofs.TagsOfEnds.{honest_tags}
 use Rattle.eap_world.proofs.EndsStand.{BothStand, run_stands}
+use Rattle.eap_world.proofs.HonestOfEither.{none_if_honest}
 use Rattle.eap_world.proofs.PeerKeeps as peer_calls
 use Rattle.eap_world.proofs.ServerKeeps as server_calls
 use Rattle.eap_world.proofs.SucceedingEnds.{both_agree, ends_succeed}
-
-pub none_if_honest : (o : Option ℕ) → verdict_on o ≡ Honest → o ≡ None
-none_if_honest None e = refl
-none_if_honest (Some event) e = cc
 
 agree_if : (one other same : Bool) → one ≡ true → other ≡ true → same ≡ true
     → (let verdict : Verdict = if one && other then (if same then Agree else Apart) else Unfinished in verdict) ≡ Agree
 agree_if one other same a b c = rw (a, b, c) refl
 
--- a world whose ends stand so, whose book is honest and whose ends both succeed, agrees
+-- a world whose ends stand so, whose book is honest of either end and whose ends both succeed, agrees
 pub stand_agree : (setup : Setup) → IsWhole setup → (w : WorldNow) → BothStand setup w.parties w.book
-    → tags_verdict w.book ≡ Honest → is_success w.parties.peer.vars.state ≡ true → is_success w.parties.server.vars.state ≡ true → verdict_of w ≡ Agree
+    → tags_verdict_either w.book ≡ Honest → is_success w.parties.peer.vars.state ≡ true → is_success w.parties.server.vars.state ≡ true → verdict_of w ≡ Agree
 unfolding verdict_of
 stand_agree setup whole w both honest p_in s_in =
-    let none = none_if_honest (first_broken [] w.book) honest in
+    let none = none_if_honest (first_broken Either [] w.book) honest in
     let succeed = ends_succeed setup.peer setup.server w.parties.peer w.parties.server _ _ _ _ whole.peer_nonce whole.server_nonce both.peer_stands both.server_stands
     (honest_tags end.Peer w.book none) (honest_tags end.Server w.book none) p_in s_in in
     let same = both_agree setup.peer setup.server w.parties.peer w.parties.server whole.peer_nonce whole.server_nonce succeed in
@@ -99,5 +97,5 @@ honest_ends_agree setup events whole =
 world_agrees : (w : WorldNow) → IsOfRun w → AgreesWhereHonest w
 world_agrees w run = subst AgreesWhereHonest (sym run.is_after) (honest_ends_agree run.setup run.events run.whole)
 
-pub never_apart : (w : WorldNow) (verdict : Verdict) → verdict ≡ verdict_of w → IsOfRun w → tags_verdict w.book ≡ Honest → verdict ≡ Apart → ⊥
+pub never_apart : (w : WorldNow) (verdict : Verdict) → verdict ≡ verdict_of w → IsOfRun w → tags_verdict_either w.book ≡ Honest → verdict ≡ Apart → ⊥
 never_apart w verdict is run honest apart = (world_agrees w run).never_apart honest cc

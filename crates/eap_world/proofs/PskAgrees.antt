@@ -1,5 +1,5 @@
 -- Two ends that have succeeded by EAP-PSK agree.
-use Rattle.std.proofs.Common.{◌≡◌, ℕ, true, false, Bool, ◌∷◌, length, Some, refl, sym, ap, subst, ◌∙◌, arith, inl, inr}
+use Rattle.std.proofs.Common.{◌≡◌, ℕ, true, false, Bool, List, ◌∷◌, ◌++◌, length, Some, refl, sym, ap, subst, ◌∙◌, length-append, arith, inl, inr}
 use Rattle.std.proofs.lemmas.Bool.{and_from, not_from_false}
 use Rattle.eap_base.specs.declared.setup.PeerSetup.{PeerSetup}
 use Rattle.eap_base.specs.declared.setup.ServerSetup.{ServerSetup}
@@ -50,6 +50,36 @@ same_reports p s same = rw (same.psk, same.id_p, same.id_s, same.rand_p) refl
 
 other_label : Ak ≡ Tek → ⊥
 other_label e = absurd cc
+
+-- MAC_P covers more than MAC_S of the same names and nonces, by ID_P and RAND_S
+covers_more : (id_p id_s rand_s rand_p : List ℕ) → length rand_s ≡ 16 → mac_p_octets id_p id_s rand_s rand_p ≡ mac_s_octets id_s rand_p → ⊥
+unfolding mac_p_octets mac_s_octets
+covers_more id_p id_s rand_s rand_p size e =
+    let sizes : length (((id_p ++ id_s) ++ rand_s) ++ rand_p) ≡ length (id_s ++ rand_p) = ap length e in
+    absurd
+    (omega (arith, length-append ((id_p ++ id_s) ++ rand_s) rand_p, length-append (id_p ++ id_s) rand_s, length-append id_p id_s, length-append id_s rand_p, size))
+
+-- the MAC_S that the peer accepted is none of the tags that it made itself
+pub peer_not_own : (setup : PeerSetup) (p : peer.Login) → PskBegun setup p → (id : ℕ)
+    → IsIn (ak_record p.cred.psk (peer.mac_s_covers p) (peer.mac_s_of p)) (peer_stands.psk2_record p ∷ peer.psk4_record p id 2) → ⊥
+unfolding peer.mac_p_covers peer.mac_s_covers
+peer_not_own setup p begun id is_in =
+    elim (among_two _ _ _ is_in) [
+      | inl one ↦ covers_more p.cred.id_p p.id_s p.rand_s (rand_of p.nonce) (read_rand begun.body _ begun.is_read)
+          (sym (ap (λ (tag : TagRecord). tag.octets) one))
+      | inr other ↦ other_label (ap (λ (tag : TagRecord). tag.label) other)
+    ]
+
+-- the MAC_P that the server accepted is none of the tags that it made itself
+pub server_not_own : (setup : ServerSetup) (s : server.Login) → PskChecked setup s → length setup.nonce ≡ 32 → (id : ℕ)
+    → IsIn (server_stands.psk2_record s) (server.psk3_records s id) → ⊥
+unfolding server.mac_p_covers server.mac_s_covers
+server_not_own setup s checked nonce id is_in =
+    elim (among_two _ _ _ is_in) [
+      | inl one ↦ covers_more s.id_p s.own.id_s (rand_of s.nonce) s.rand_p (front_size s.nonce (omega (arith, ap length checked.nonce, nonce)))
+          (ap (λ (tag : TagRecord). tag.octets) one)
+      | inr other ↦ other_label (ap (λ (tag : TagRecord). tag.label) other)
+    ]
 
 -- only a user who is not barred is sent a success
 pub not_barred : (barred : Bool) (r : ℕ) → r ≡ server.r_for barred → r ≡ 2 → barred ≡ false

@@ -1,5 +1,7 @@
--- Two ends in SUCCESS agree, where each accepted tag is one that the other end made.
+-- Two ends in SUCCESS agree, where each accepted tag is one that either end made: an end in SUCCESS can't have made
+-- the tag itself that the login rests on.
 use Rattle.std.proofs.Common.{◌≡◌, ℕ, true, false, List, [], ◌∷◌, length, Some, refl, sym, ap, subst, arith, inl, inr}
+use Rattle.std.specs.Prelude.{◌⊎◌}
 use Rattle.eap_base.specs.declared.setup.PeerSetup.{PeerSetup}
 use Rattle.eap_base.specs.declared.setup.ServerSetup.{ServerSetup}
 use Rattle.eap_base.specs.Setup.{psk_kind, gpsk_kind}
@@ -12,7 +14,7 @@ use Rattle.eap_method.specs.GpskTags.{sk_record}
 use Rattle.peer_machine.specs.PeerTable.{PeerNow, peer_reports}
 use Rattle.server_machine.specs.ServerTable.{ServerNow, server_reports}
 use Rattle.eap_world.specs.Judgement.{judged, is_success}
-use Rattle.eap_world.specs.Records.{IsIn, AreIn, here}
+use Rattle.eap_world.specs.Records.{IsIn, AreInEither, here}
 use Rattle.eap_world.specs.PeerStands as peers
 use Rattle.eap_world.specs.PeerStands.{PeerStands}
 use Rattle.eap_world.specs.ServerStands as servers
@@ -35,6 +37,11 @@ other_method tag one other is_in not_one not_other =
       | inr e ↦ not_other (ap (λ (t : TagRecord). t.method) e)
     ]
 
+-- a tag that an end didn't make itself is one of the other's
+of_other : (tag : TagRecord) (others own : List TagRecord) → IsIn tag others ⊎ IsIn tag own → (IsIn tag own → ⊥) → IsIn tag others
+of_other tag others own (inl is_in) not_own = is_in
+of_other tag others own (inr is_in) not_own = absurd (not_own is_in)
+
 -- both ends have succeeded by one method, and speak of the same login
 pub data BothSucceed (peer_setup : PeerSetup) (server_setup : ServerSetup) (p : PeerNow) (s : ServerNow) : Type 0 where
   by_psk : (login : psk_peer.Login) (facts : peers.PskBegun peer_setup login) (other : psk_server.Login) (checked : servers.PskChecked server_setup other)
@@ -48,7 +55,7 @@ pub data BothSucceed (peer_setup : PeerSetup) (server_setup : ServerSetup) (p : 
       (same : gpsk.IsSame login list other) → BothSucceed peer_setup server_setup p s
 
 -- a peer, or a server, that has succeeded, with its tags
-data PeerSucceeds (setup : PeerSetup) (now : PeerNow) : List TagRecord → List TagRecord → Type 0 where
+pub data PeerSucceeds (setup : PeerSetup) (now : PeerNow) : List TagRecord → List TagRecord → Type 0 where
   with_psk : (login : psk_peer.Login) (header : List ℕ) (sealed id : ℕ)
       (is_selected : now.vars.selected ≡ Some psk_kind) (in_view : now.views.psk ≡ psk_peer.over login true) (facts : peers.PskBegun setup login)
       → PeerSucceeds setup now (peers.psk3_taken login header sealed) (peers.psk2_record login ∷ psk_peer.psk4_record login id 2)
@@ -57,7 +64,7 @@ data PeerSucceeds (setup : PeerSetup) (now : PeerNow) : List TagRecord → List 
       → PeerSucceeds setup now (sk_record login.cred.psk (peers.gpsk3_taken login pd) ∷ [])
       (peers.gpsk2_record login list ∷ sk_record login.cred.psk (gpsk_peer.gpsk4_of login) ∷ [])
 
-data ServerSucceeds (setup : ServerSetup) (now : ServerNow) : List TagRecord → List TagRecord → Type 0 where
+pub data ServerSucceeds (setup : ServerSetup) (now : ServerNow) : List TagRecord → List TagRecord → Type 0 where
   of_psk : (login : psk_server.Login) (header : List ℕ) (sealed id : ℕ) (is_current : now.vars.current ≡ Some psk_kind)
       (in_view : now.views.psk ≡ Some (psk_server.over login true)) (facts : servers.PskChecked setup login) (r_sent : login.r ≡ 2)
       → ServerSucceeds setup now (servers.psk2_record login ∷ servers.psk4_taken login header sealed ∷ []) (psk_server.psk3_records login id)
@@ -75,7 +82,7 @@ module _ (setup : PeerSetup) (now : PeerNow) where
       → (accepted made : List TagRecord) → peers.GpskPeerTags setup (gpsk_peer.over login true) accepted made → PeerSucceeds setup now accepted made
   peer_gpsk login is_selected in_view _ _ (peers.gpsk_confirmed _ list pd facts) = with_gpsk login list pd is_selected in_view facts
 
-  peer_succeeds : (accepted made : List TagRecord) → peers.PeerTags setup now.vars.selected now.views accepted made
+  pub peer_succeeds : (accepted made : List TagRecord) → peers.PeerTags setup now.vars.selected now.views accepted made
       → peers.HasSucceeded now.vars.selected now.views → PeerSucceeds setup now accepted made
   peer_succeeds accepted made tags (peers.psk_succeeded login is_selected in_view) =
       peer_psk login is_selected in_view accepted made
@@ -97,7 +104,7 @@ module _ (setup : ServerSetup) (now : ServerNow) where
   server_gpsk login is_current in_view _ _ (servers.gpsk_confirmed _ pd last_pd facts) =
       of_gpsk login pd last_pd is_current in_view facts
 
-  server_succeeds : (accepted made : List TagRecord) → servers.ServerTags setup now.vars.current now.views accepted made
+  pub server_succeeds : (accepted made : List TagRecord) → servers.ServerTags setup now.vars.current now.views accepted made
       → servers.HasSucceeded now.vars.current now.views → ServerSucceeds setup now accepted made
   server_succeeds accepted made tags (servers.psk_succeeded login is_current in_view) =
       server_psk login is_current in_view accepted made (server_calls.told_by_psk setup now.vars.current now.views _ accepted made is_current in_view tags)
@@ -108,31 +115,34 @@ module _ (peer_setup : PeerSetup) (server_setup : ServerSetup) (p : PeerNow) (s 
     (peer_nonce : length peer_setup.nonce ≡ 32) (server_nonce : length server_setup.nonce ≡ 32) where
   both_succeed : (peer_accepted peer_made server_accepted server_made : List TagRecord)
       → PeerSucceeds peer_setup p peer_accepted peer_made → ServerSucceeds server_setup s server_accepted server_made
-      → AreIn peer_accepted server_made → AreIn server_accepted peer_made → BothSucceed peer_setup server_setup p s
+      → AreInEither peer_accepted server_made peer_made → AreInEither server_accepted peer_made server_made → BothSucceed peer_setup server_setup p s
   both_succeed _ _ _ _ (with_psk login header sealed id is_selected in_view facts) (of_psk other _ _ other_id is_current in_other checked r_sent)
-      in_server in_peer =
+      of_peer of_server =
+      let of_mac_p = of_other _ _ _ (of_server.each _ (here _)) (psk.server_not_own server_setup other checked server_nonce other_id) in
+      let of_mac_s = of_other _ _ _ (of_peer.each _ (here _)) (psk.peer_not_own peer_setup login facts id) in
       by_psk login facts other checked is_selected in_view is_current in_other r_sent
-      (psk.same_login peer_setup server_setup login facts other checked peer_nonce server_nonce id other_id
-      (in_peer.each _ (here _)) (in_server.each _ (here _)))
-  both_succeed _ _ _ _ (with_psk login header sealed id is_selected in_view facts) (of_gpsk other pd _ is_current in_other checked) in_server in_peer =
-      absurd (other_method _ _ _ (in_peer.each _ (here _)) (λ e. apart (sym e)) (λ e. apart (sym e)))
-  both_succeed _ _ _ _ (with_gpsk login list pd is_selected in_view facts) (of_psk other _ _ _ is_current in_other checked r_sent) in_server in_peer =
-      absurd (other_method _ _ _ (in_peer.each _ (here _)) apart apart)
-  both_succeed _ _ _ _ (with_gpsk login list _ is_selected in_view facts) (of_gpsk other pd _ is_current in_other checked) in_server in_peer =
+      (psk.same_login peer_setup server_setup login facts other checked peer_nonce server_nonce id other_id of_mac_p of_mac_s)
+  both_succeed _ _ _ _ (with_psk login header sealed id is_selected in_view facts) (of_gpsk other pd _ is_current in_other checked) of_peer of_server =
+      absurd (other_method _ _ _ (of_other _ _ _ (of_server.each _ (here _)) (gpsk.not_own other pd)) (λ e. apart (sym e)) (λ e. apart (sym e)))
+  both_succeed _ _ _ _ (with_gpsk login list pd is_selected in_view facts) (of_psk other _ _ other_id is_current in_other checked r_sent) of_peer of_server =
+      absurd
+      (other_method _ _ _ (of_other _ _ _ (of_server.each _ (here _)) (psk.server_not_own server_setup other checked server_nonce other_id)) apart apart)
+  both_succeed _ _ _ _ (with_gpsk login list _ is_selected in_view facts) (of_gpsk other pd _ is_current in_other checked) of_peer of_server =
       by_gpsk login list facts other pd checked is_selected in_view is_current in_other
-      (gpsk.same_login peer_setup server_setup login list facts other pd checked peer_nonce server_nonce (in_peer.each _ (here _)))
+      (gpsk.same_login peer_setup server_setup login list facts other pd checked peer_nonce server_nonce
+      (of_other _ _ _ (of_server.each _ (here _)) (gpsk.not_own other pd)))
 
 pub ends_succeed : (peer_setup : PeerSetup) (server_setup : ServerSetup) (p : PeerNow) (s : ServerNow)
     (peer_accepted peer_made server_accepted server_made : List TagRecord)
     → length peer_setup.nonce ≡ 32 → length server_setup.nonce ≡ 32
     → PeerStands peer_setup p peer_accepted peer_made → ServerStands server_setup s server_accepted server_made
-    → AreIn peer_accepted server_made → AreIn server_accepted peer_made
+    → AreInEither peer_accepted server_made peer_made → AreInEither server_accepted peer_made server_made
     → is_success p.vars.state ≡ true → is_success s.vars.state ≡ true
     → BothSucceed peer_setup server_setup p s
-ends_succeed peer_setup server_setup p s _ _ _ _ peer_nonce server_nonce p_in s_in in_server in_peer sure other_sure =
+ends_succeed peer_setup server_setup p s _ _ _ _ peer_nonce server_nonce p_in s_in of_peer of_server sure other_sure =
     both_succeed peer_setup server_setup p s peer_nonce server_nonce _ _ _ _
     (peer_succeeds peer_setup p _ _ p_in.tags (p_in.decided (p_in.sure sure))) (server_succeeds server_setup s _ _ s_in.tags (s_in.sure other_sure))
-    in_server in_peer
+    of_peer of_server
 
 -- what both ends report is judged to agree
 pub both_agree : (peer_setup : PeerSetup) (server_setup : ServerSetup) (p : PeerNow) (s : ServerNow)

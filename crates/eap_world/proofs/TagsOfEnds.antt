@@ -1,6 +1,6 @@
 -- The tags of each end in a book that grows, and what its honesty says of them.
 use Rattle.std.proofs.Common.{◌≡◌, ℕ, List, [], ◌∷◌, ◌++◌, Bool, true, false, map, Some, None, refl, sym, ap, subst, ◌∙◌, append_assoc, append-nil, inl, inr}
-use Rattle.std.specs.Prelude.{◌==◌, ◌&&◌, not, if◌then◌else◌}
+use Rattle.std.specs.Prelude.{◌==◌, ◌&&◌, ◌⊎◌, not, if◌then◌else◌}
 use Rattle.std.specs.List.{list_any}
 use Rattle.std.specs.Str.{bytes_eq}
 use Rattle.std.proofs.lemmas.Bool.{and_parts, and_from, or_cases, eqb-true}
@@ -15,7 +15,9 @@ use Rattle.eap_world.specs.declared.book.End.TheVariants.{Peer, Server}
 use Rattle.eap_world.specs.declared.book.Use.{Use}
 use Rattle.eap_world.specs.declared.book.Use.TheVariants.{Accepted, Made}
 use Rattle.eap_world.specs.declared.book.Entry.{Entry}
-use Rattle.eap_world.specs.Records.{same_use, tags_by, IsIn, here, later, AreIn}
+use Rattle.eap_world.specs.declared.book.Makers.{Makers}
+use Rattle.eap_world.specs.declared.book.Makers.TheVariants.{Either}
+use Rattle.eap_world.specs.Records.{same_use, tags_by, IsIn, here, later, AreInEither}
 
 -- ---- the lists of a longer book
 
@@ -139,12 +141,6 @@ not_true : (b : Bool) → not b ≡ true → b ≡ false
 not_true true e = cc
 not_true false e = refl
 
-other_is : (made accepted : End) → same_end made accepted ≡ false → same_end made (other_end accepted) ≡ true
-other_is Peer Peer e = cc
-other_is Peer Server e = refl
-other_is Server Peer e = refl
-other_is Server Server e = cc
-
 use_is : (how : Use) → (elim how [ Accepted ↦ true | Made ↦ false ]) ≡ false → same_use how Made ≡ true
 use_is Accepted e = cc
 use_is Made e = refl
@@ -152,33 +148,40 @@ use_is Made e = refl
 made_is : (m : Entry) → is_accepted m ≡ false → same_use m.used Made ≡ true
 made_is m e = use_is m.used e
 
-further : (e m : Entry) (rest : List Entry) → IsIn e.tag (tags_by (other_end e.end) Made rest) → IsIn e.tag (tags_by (other_end e.end) Made (m ∷ rest))
-unfolding tags_by
-further e m rest is = skip_if (same_end m.end (other_end e.end) && same_use m.used Made) e.tag m.tag (tags_by (other_end e.end) Made rest) is
+same_self : (end : End) → same_end end end ≡ true
+same_self Peer = refl
+same_self Server = refl
 
--- an entry that vouches has its tag among those that the other end made
-vouched : (e m : Entry) (rest : List Entry) → vouches e m ≡ true → IsIn e.tag (tags_by (other_end e.end) Made (m ∷ rest))
+-- one of the ends made a tag
+data IsMade (book : List Entry) (tag : TagRecord) : Type 0 where
+  made_by : (maker : End) (is_in : IsIn tag (tags_by maker Made book)) → IsMade book tag
+
+further : (e m : Entry) (rest : List Entry) → IsMade rest e.tag → IsMade (m ∷ rest) e.tag
+unfolding tags_by
+further e m rest (made_by maker is_in) = made_by maker (skip_if (same_end m.end maker && same_use m.used Made) e.tag m.tag (tags_by maker Made rest) is_in)
+
+-- an entry that vouches has its tag among those that its end made
+vouched : (e m : Entry) (rest : List Entry) → vouches Either e m ≡ true → IsMade (m ∷ rest) e.tag
 unfolding tags_by
 vouched e m rest v =
     let a = and_parts (not (is_accepted m)) _ v in
-    let b = and_parts (not (same_end m.end e.end)) _ a.1 in
-    let same = tags_equal m.tag e.tag b.1 in
+    let same = tags_equal m.tag e.tag a.1 in
     let is_made = made_is m (not_true (is_accepted m) a.0) in
-    let is_other = other_is m.end e.end (not_true (same_end m.end e.end) b.0) in
-    let test : (same_end m.end (other_end e.end) && same_use m.used Made) ≡ true = and_from (same_end m.end (other_end e.end)) (same_use m.used Made) is_other is_made in
-    subst (λ t. IsIn t (if same_end m.end (other_end e.end) && same_use m.used Made then m.tag ∷ tags_by (other_end e.end) Made rest else tags_by (other_end e.end) Made rest)) same
-    (in_if (same_end m.end (other_end e.end) && same_use m.used Made) m.tag (tags_by (other_end e.end) Made rest) test)
+    let test : (same_end m.end m.end && same_use m.used Made) ≡ true = and_from (same_end m.end m.end) (same_use m.used Made) (same_self m.end) is_made in
+    made_by m.end
+    (subst (λ t. IsIn t (if same_end m.end m.end && same_use m.used Made then m.tag ∷ tags_by m.end Made rest else tags_by m.end Made rest)) same
+    (in_if (same_end m.end m.end && same_use m.used Made) m.tag (tags_by m.end Made rest) test))
 
--- where some entry vouches, the tag is among those that the other end made
-pub some_vouches : (e : Entry) (earlier : List Entry) → list_any (vouches e) earlier ≡ true → IsIn e.tag (tags_by (other_end e.end) Made earlier)
+-- where some entry vouches, one of the ends made the tag
+some_vouches : (e : Entry) (earlier : List Entry) → list_any (vouches Either e) earlier ≡ true → IsMade earlier e.tag
 some_vouches e [] v = cc
 some_vouches e (m ∷ rest) v =
-    elim (or_cases (vouches e m) (list_any (vouches e) rest) v) [
+    elim (or_cases (vouches Either e m) (list_any (vouches Either e) rest) v) [
       | inl this ↦ vouched e m rest this
       | inr other ↦ further e m rest (some_vouches e rest other)
     ]
 
--- ---- where the book is honest, each accepted tag of an end is among those that the other made
+-- ---- where the book is honest of either end, each accepted tag of an end is among those that it or the other made
 
 none_in : (tag : TagRecord) (xs : List TagRecord) → IsIn tag xs → xs ≡ [] → ⊥
 none_in tag _ (here rest) e = cc
@@ -192,12 +195,6 @@ by_test_in : (b : Bool) (tag u : TagRecord) (xs : List TagRecord) (P : Type 0) �
 by_test_in true tag u xs P first behind is = by_place tag u xs (u ∷ xs) P (first refl) behind is refl
 by_test_in false tag u xs P first behind is = behind is
 
-ends_equal : (one other : End) → same_end one other ≡ true → one ≡ other
-ends_equal Peer Peer e = refl
-ends_equal Peer Server e = cc
-ends_equal Server Peer e = cc
-ends_equal Server Server e = refl
-
 use_accepted : (how : Use) → same_use how Accepted ≡ true → (elim how [ Accepted ↦ true | Made ↦ false ]) ≡ true
 use_accepted Accepted e = refl
 use_accepted Made e = cc
@@ -207,43 +204,52 @@ test_true true x is e = e
 test_true false x is e = cc
 
 -- an honest accepted entry is vouched for
-pub honest_vouched : (e : Entry) (earlier : List Entry) → is_accepted e ≡ true → is_honest earlier e ≡ true → list_any (vouches e) earlier ≡ true
-honest_vouched e earlier is honest = test_true (is_accepted e) (list_any (vouches e) earlier) is honest
+pub honest_vouched : (makers : Makers) (e : Entry) (earlier : List Entry) → is_accepted e ≡ true → is_honest makers earlier e ≡ true
+    → list_any (vouches makers e) earlier ≡ true
+honest_vouched makers e earlier is honest = test_true (is_accepted e) (list_any (vouches makers e) earlier) is honest
 
 -- the first entry is honest, and the rest is where it stands behind it
-record Unbroken (earlier : List Entry) (e : Entry) (rest : List Entry) : Type 0 where
-  pub honest : is_honest earlier e ≡ true
-  pub behind : first_broken (earlier ++ e ∷ []) rest ≡ None
+pub record Unbroken (makers : Makers) (earlier : List Entry) (e : Entry) (rest : List Entry) : Type 0 where
+  pub honest : is_honest makers earlier e ≡ true
+  pub behind : first_broken makers (earlier ++ e ∷ []) rest ≡ None
 
-unbroken_by : (b : Bool) (earlier : List Entry) (e : Entry) (rest : List Entry) → is_honest earlier e ≡ b
-    → (if b then first_broken (earlier ++ e ∷ []) rest else Some e.event) ≡ None → Unbroken earlier e rest
-unbroken_by true earlier e rest is none = record { honest = is; behind = none }
-unbroken_by false earlier e rest is none = cc
+unbroken_by : (makers : Makers) (b : Bool) (earlier : List Entry) (e : Entry) (rest : List Entry) → is_honest makers earlier e ≡ b
+    → (if b then first_broken makers (earlier ++ e ∷ []) rest else Some e.event) ≡ None → Unbroken makers earlier e rest
+unbroken_by makers true earlier e rest is none = record { honest = is; behind = none }
+unbroken_by makers false earlier e rest is none = cc
 
-unbroken : (earlier : List Entry) (e : Entry) (rest : List Entry) → first_broken earlier (e ∷ rest) ≡ None → Unbroken earlier e rest
+pub unbroken : (makers : Makers) (earlier : List Entry) (e : Entry) (rest : List Entry) → first_broken makers earlier (e ∷ rest) ≡ None
+    → Unbroken makers earlier e rest
 unfolding first_broken
-unbroken earlier e rest none = unbroken_by (is_honest earlier e) earlier e rest refl none
+unbroken makers earlier e rest none = unbroken_by makers (is_honest makers earlier e) earlier e rest refl none
 
-in_longer : (end : End) (tag : TagRecord) (one other : List Entry) → IsIn tag (tags_by end Made one) → IsIn tag (tags_by end Made (one ++ other))
-in_longer end tag one other is = subst (IsIn tag) (sym (tags_append end Made one other)) (is_in_front tag (tags_by end Made one) (tags_by end Made other) is)
+in_longer : (tag : TagRecord) (one other : List Entry) → IsMade one tag → IsMade (one ++ other) tag
+in_longer tag one other (made_by maker is_in) =
+    made_by maker (subst (IsIn tag) (sym (tags_append maker Made one other)) (is_in_front tag (tags_by maker Made one) (tags_by maker Made other) is_in))
 
-honest_each : (end : End) (earlier rest : List Entry) → first_broken earlier rest ≡ None → (tag : TagRecord) → IsIn tag (tags_by end Accepted rest)
-    → IsIn tag (tags_by (other_end end) Made (earlier ++ rest))
+honest_each : (end : End) (earlier rest : List Entry) → first_broken Either earlier rest ≡ None → (tag : TagRecord) → IsIn tag (tags_by end Accepted rest)
+    → IsMade (earlier ++ rest) tag
 unfolding tags_by
 honest_each end earlier [] none tag is = absurd (none_in tag [] is refl)
 honest_each end earlier (e ∷ rest) none tag is =
-    let u = unbroken earlier e rest none in
-    by_test_in (same_end e.end end && same_use e.used Accepted) tag e.tag (tags_by end Accepted rest) (IsIn tag (tags_by (other_end end) Made (earlier ++ e ∷ rest)))
+    let u = unbroken Either earlier e rest none in
+    by_test_in (same_end e.end end && same_use e.used Accepted) tag e.tag (tags_by end Accepted rest) (IsMade (earlier ++ e ∷ rest) tag)
     (λ test same.
     let parts = and_parts (same_end e.end end) (same_use e.used Accepted) test in
-    let its_end = ends_equal e.end end parts.0 in
-    let vouch = some_vouches e earlier (honest_vouched e earlier (use_accepted e.used parts.1) u.honest) in
-    subst (λ t. IsIn t (tags_by (other_end end) Made (earlier ++ e ∷ rest))) (sym same)
-    (in_longer (other_end end) e.tag earlier (e ∷ rest) (subst (λ f. IsIn e.tag (tags_by (other_end f) Made earlier)) its_end vouch)))
+    let vouch = some_vouches e earlier (honest_vouched Either e earlier (use_accepted e.used parts.1) u.honest) in
+    subst (IsMade (earlier ++ e ∷ rest)) (sym same) (in_longer e.tag earlier (e ∷ rest) vouch))
     (λ behind.
-    subst (λ all. IsIn tag (tags_by (other_end end) Made all)) (append_assoc earlier (e ∷ []) rest)
+    subst (λ all. IsMade all tag) (append_assoc earlier (e ∷ []) rest)
     (honest_each end (earlier ++ e ∷ []) rest u.behind tag behind))
     is
 
-pub honest_tags : (end : End) (book : List Entry) → first_broken [] book ≡ None → AreIn (tags_by end Accepted book) (tags_by (other_end end) Made book)
-honest_tags end book none = record { each = honest_each end [] book none }
+-- seen from an end, the maker is the other or itself
+from_end : (end : End) (book : List Entry) (tag : TagRecord) → IsMade book tag → IsIn tag (tags_by (other_end end) Made book) ⊎ IsIn tag (tags_by end Made book)
+from_end Peer book tag (made_by Peer is_in) = inr is_in
+from_end Peer book tag (made_by Server is_in) = inl is_in
+from_end Server book tag (made_by Peer is_in) = inl is_in
+from_end Server book tag (made_by Server is_in) = inr is_in
+
+pub honest_tags : (end : End) (book : List Entry) → first_broken Either [] book ≡ None
+    → AreInEither (tags_by end Accepted book) (tags_by (other_end end) Made book) (tags_by end Made book)
+honest_tags end book none = record { each = λ tag is. from_end end book tag (honest_each end [] book none tag is) }

@@ -1,4 +1,4 @@
--- What two ends in SUCCESS report over an honest book is their own: names, key and suite.
+-- What two ends in SUCCESS report over a book that is honest of either end is their own: names, key and suite.
 use Rattle.std.proofs.Common.{◌≡◌, ℕ, List, [], true, false, Some, refl, sym, ap, subst, ◌∙◌, arith}
 use Rattle.eap_base.specs.declared.setup.PeerSetup.{PeerSetup}
 use Rattle.eap_base.specs.declared.setup.Setup.{Setup}
@@ -14,7 +14,8 @@ use Rattle.eap_method.specs.Peer.{credential_for, key_for}
 use Rattle.eap_method.specs.PskPeer as psk_peer
 use Rattle.eap_method.specs.PskServer as psk_server
 use Rattle.eap_method.specs.Server.{side_of}
-use Rattle.eap_world.specs.Book.{first_broken, tags_verdict}
+use Rattle.eap_world.specs.Book.{first_broken, tags_verdict_either}
+use Rattle.eap_world.specs.declared.book.Makers.TheVariants.{Either}
 use Rattle.eap_world.specs.declared.book.TagsVerdict.TheVariants.{Honest}
 use Rattle.eap_world.specs.Judgement.{verdict_of}
 use Rattle.eap_world.specs.declared.verdict.Verdict.{Verdict}
@@ -25,7 +26,8 @@ use Rattle.eap_world.specs.Agreement.{IsWhole, AreTheirs, TakesFirstSuite, Their
 use Rattle.eap_world.specs.PeerStands.{PskBegun, GpskBegun}
 use Rattle.eap_world.specs.ServerStands.{PskChecked, GpskChecked}
 use Rattle.eap_world.proofs.SucceedingEnds.{BothSucceed, by_psk, by_gpsk, ends_succeed}
-use Rattle.eap_world.proofs.HonestRuns.{none_if_honest, every_run_stands, agree_in}
+use Rattle.eap_world.proofs.HonestOfEither.{none_if_honest}
+use Rattle.eap_world.proofs.HonestRuns.{every_run_stands, agree_in}
 use Rattle.eap_world.proofs.TagsOfEnds.{honest_tags}
 use Rattle.eap_world.proofs.GpskAgrees as gpsk
 use Rattle.eap_world.proofs.PskAgrees as psk
@@ -112,16 +114,16 @@ pub honest_names_are_theirs : HonestNamesAreTheirs
 honest_names_are_theirs setup events whole honest p_in s_in =
     let w = run_of setup events in
     let both = every_run_stands setup events in
-    let none = none_if_honest (first_broken [] w.book) honest in
+    let none = none_if_honest (first_broken Either [] w.book) honest in
     both_theirs setup w
     (ends_succeed setup.peer setup.server w.parties.peer w.parties.server _ _ _ _ whole.peer_nonce whole.server_nonce both.peer_stands both.server_stands
     (honest_tags end.Peer w.book none) (honest_tags end.Server w.book none) p_in s_in)
 
-agreed_theirs : (setup : Setup) (w : WorldNow) → TheirsWhereHonest setup w → tags_verdict w.book ≡ Honest → verdict_of w ≡ Agree → AreTheirs setup w
+agreed_theirs : (setup : Setup) (w : WorldNow) → TheirsWhereHonest setup w → tags_verdict_either w.book ≡ Honest → verdict_of w ≡ Agree → AreTheirs setup w
 agreed_theirs setup w theirs honest agrees = let both = agree_in w agrees in theirs honest both.one_in both.other_in
 
 -- so it is with a verdict
 pub theirs_if_agreed : (setup : Setup) (events : List Event) (w : WorldNow) (verdict : Verdict) → verdict ≡ verdict_of w → IsWhole setup → w ≡ run_of setup events
-    → tags_verdict w.book ≡ Honest → verdict ≡ Agree → AreTheirs setup w
+    → tags_verdict_either w.book ≡ Honest → verdict ≡ Agree → AreTheirs setup w
 theirs_if_agreed setup events w verdict is whole after honest agrees =
     agreed_theirs setup w (subst (TheirsWhereHonest setup) (sym after) (honest_names_are_theirs setup events whole)) honest (sym is ∙ agrees)

@@ -14,7 +14,7 @@ use Rattle.eap_method.specs.Peer.{PeerShown, key_for}
 use Rattle.eap_method.specs.Server.{ServerShown}
 use Rattle.peer_machine.specs.PeerTable.{peer_reports}
 use Rattle.server_machine.specs.ServerTable.{server_reports}
-use Rattle.eap_world.specs.Book.{tags_verdict}
+use Rattle.eap_world.specs.Book.{tags_verdict, tags_verdict_either}
 use Rattle.eap_world.specs.declared.book.TagsVerdict.TheVariants.{Honest}
 use Rattle.eap_world.specs.declared.book.End.{End}
 use Rattle.eap_world.specs.declared.book.Entry.{Entry}
@@ -43,13 +43,19 @@ pub record IsOfRun (w : WorldNow) : Type 0 where
   pub whole : IsWhole setup
   pub is_after : w ≡ run_of setup events
 
--- over an honest book two ends that both stand in SUCCESS agree, and the verdict is never that they don't
-pub record AgreesWhereHonest (w : WorldNow) : Type 0 where
-  pub agrees : tags_verdict w.book ≡ Honest → is_success w.parties.peer.vars.state ≡ true → is_success w.parties.server.vars.state ≡ true → verdict_of w ≡ Agree
-  pub never_apart : tags_verdict w.book ≡ Honest → verdict_of w ≡ Apart → ⊥
+-- a book that is honest by the other end's tags alone is honest by those of either end
+abbrev pub HonestOfEither : Type 0
+HonestOfEither = (book : List Entry) → tags_verdict book ≡ Honest → tags_verdict_either book ≡ Honest
 
--- whatever is delivered, lost, repeated, reordered, altered or injected: where each accepted tag was made
--- earlier by the other end, two ends that both stand in SUCCESS agree
+-- over a book that is honest of either end, two ends that both stand in SUCCESS agree, and the verdict is never
+-- that they don't
+pub record AgreesWhereHonest (w : WorldNow) : Type 0 where
+  pub agrees : tags_verdict_either w.book ≡ Honest
+      → is_success w.parties.peer.vars.state ≡ true → is_success w.parties.server.vars.state ≡ true → verdict_of w ≡ Agree
+  pub never_apart : tags_verdict_either w.book ≡ Honest → verdict_of w ≡ Apart → ⊥
+
+-- whatever is delivered, lost, repeated, reordered, altered, reflected or injected: where each accepted tag was
+-- made earlier by either end, two ends that both stand in SUCCESS agree
 abbrev pub HonestEndsAgree : Type 0
 HonestEndsAgree =
     (setup : Setup) (events : List Event) → IsWhole setup → AgreesWhereHonest (run_of setup events)
@@ -74,10 +80,10 @@ pub record AreTheirs (setup : Setup) (w : WorldNow) : Type 0 where
   pub welcome : user.barred ≡ false
   pub first_suite : report.method ≡ gpsk_kind → TakesFirstSuite setup report
 
--- over an honest book what two ends that both stand in SUCCESS report is their own
+-- over a book that is honest of either end, what two ends that both stand in SUCCESS report is their own
 abbrev pub TheirsWhereHonest : Setup → WorldNow → Type 0
 TheirsWhereHonest setup w =
-    tags_verdict w.book ≡ Honest → is_success w.parties.peer.vars.state ≡ true → is_success w.parties.server.vars.state ≡ true → AreTheirs setup w
+    tags_verdict_either w.book ≡ Honest → is_success w.parties.peer.vars.state ≡ true → is_success w.parties.server.vars.state ≡ true → AreTheirs setup w
 
 -- under the premises of agreement, what both ends report is their own: names, key and suite
 abbrev pub HonestNamesAreTheirs : Type 0

@@ -1,5 +1,5 @@
 -- The book of tags: which tags each end made and accepted, in their order, and whether each accepted tag
--- was made earlier by the other end.
+-- was made earlier: by the other end, or by either.
 use Rattle.std.specs.Prelude.{ℕ, List, [], ◌∷◌, ◌++◌, Bool, true, false, ◌==◌, ◌&&◌, not, if◌then◌else◌, Option, Some, None, map}
 use Rattle.std.specs.Str.{bytes_eq}
 use Rattle.std.specs.List.{list_any}
@@ -12,6 +12,8 @@ use Rattle.eap_world.specs.declared.book.End.TheVariants.{Peer, Server}
 use Rattle.eap_world.specs.declared.book.Use.{Use}
 use Rattle.eap_world.specs.declared.book.Use.TheVariants.{Accepted, Made}
 use Rattle.eap_world.specs.declared.book.Entry.{Entry}
+use Rattle.eap_world.specs.declared.book.Makers.{Makers}
+use Rattle.eap_world.specs.declared.book.Makers.TheVariants.{Other, Either}
 use Rattle.eap_world.specs.declared.book.TagsVerdict.{TagsVerdict}
 use Rattle.eap_world.specs.declared.book.TagsVerdict.TheVariants.{Honest, Broken}
 
@@ -45,18 +47,23 @@ same_tag one other =
 abbrev pub is_accepted : Entry → Bool
 is_accepted e = elim e.used [ Accepted ↦ true | Made ↦ false ]
 
--- whether an entry is that of the same tag, made by the other end
-abbrev pub vouches : Entry → Entry → Bool
-vouches accepted made = not (is_accepted made) && (not (same_end made.end accepted.end) && same_tag made.tag accepted.tag)
+-- whether a tag that the one end made vouches for one that the other accepted
+abbrev pub may_make : Makers → End → End → Bool
+may_make Other made accepted = not (same_end made accepted)
+may_make Either made accepted = true
 
--- whether an entry is no accepted tag, or one that the other end made earlier
-abbrev pub is_honest : List Entry → Entry → Bool
-is_honest earlier e = if is_accepted e then list_any (vouches e) earlier else true
+-- whether an entry is that of the same tag, made by such an end
+abbrev pub vouches : Makers → Entry → Entry → Bool
+vouches makers accepted made = not (is_accepted made) && (may_make makers made.end accepted.end && same_tag made.tag accepted.tag)
 
--- the event of the first accepted tag which the other end hasn't made earlier
-unfoldable pub first_broken : List Entry → List Entry → Option ℕ
-first_broken earlier [] = None
-first_broken earlier (e ∷ rest) = if is_honest earlier e then first_broken (earlier ++ e ∷ []) rest else Some e.event
+-- whether an entry is no accepted tag, or one that such an end made earlier
+abbrev pub is_honest : Makers → List Entry → Entry → Bool
+is_honest makers earlier e = if is_accepted e then list_any (vouches makers e) earlier else true
+
+-- the event of the first accepted tag which no such end made earlier
+unfoldable pub first_broken : Makers → List Entry → List Entry → Option ℕ
+first_broken makers earlier [] = None
+first_broken makers earlier (e ∷ rest) = if is_honest makers earlier e then first_broken makers (earlier ++ e ∷ []) rest else Some e.event
 
 abbrev pub verdict_on : Option ℕ → TagsVerdict
 verdict_on None = Honest
@@ -64,4 +71,8 @@ verdict_on (Some event) = Broken event
 
 -- whether each accepted tag was made earlier by the other end
 abbrev pub tags_verdict : List Entry → TagsVerdict
-tags_verdict book = verdict_on (first_broken [] book)
+tags_verdict book = verdict_on (first_broken Other [] book)
+
+-- whether each accepted tag was made earlier by either end: also by the one that accepts it, to which it came back
+abbrev pub tags_verdict_either : List Entry → TagsVerdict
+tags_verdict_either book = verdict_on (first_broken Either [] book)

@@ -4,6 +4,7 @@ pub mod Store
 pub mod World
 pub mod Judgement
 pub mod Laws
+pub mod SingleSteps
 pub mod Records
 pub mod PeerStands
 pub mod ServerStands

@@ -1,5 +1,5 @@
 -- The tags of each end, taken out of the book in their order.
-use Rattle.std.specs.Prelude.{◌≤◌, List, [], ◌∷◌, length, Bool, true, false, ◌&&◌, if◌then◌else◌}
+use Rattle.std.specs.Prelude.{◌≤◌, ◌⊎◌, List, [], ◌∷◌, length, Bool, true, false, ◌&&◌, if◌then◌else◌}
 use Rattle.eap_method.specs.declared.tags.TagRecord.{TagRecord}
 use Rattle.eap_world.specs.Book.{same_end}
 use Rattle.eap_world.specs.declared.book.End.{End}
@@ -23,9 +23,9 @@ pub data IsIn (tag : TagRecord) : List TagRecord → Type 0 where
   here : (rest : List TagRecord) → IsIn tag (tag ∷ rest)
   later : (other : TagRecord) (rest : List TagRecord) → IsIn tag rest → IsIn tag (other ∷ rest)
 
--- each record of the first list is among the second
-pub record AreIn (some all : List TagRecord) : Type 0 where
-  pub each : (tag : TagRecord) → IsIn tag some → IsIn tag all
+-- each tag that an end accepted is among those that the other made, or among its own
+pub record AreInEither (accepted others own : List TagRecord) : Type 0 where
+  pub each : (tag : TagRecord) → IsIn tag accepted → IsIn tag others ⊎ IsIn tag own
 
 -- at most two accepted and two made
 pub record AreFew (accepted made : List TagRecord) : Type 0 where

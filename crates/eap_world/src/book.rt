@@ -2,7 +2,7 @@
 
 ghost use Rattle.std.specs.Prelude.{◌≡◌, ◌≤◌, ◌+◌, ◌++◌, ◌∷◌, [], map, vec_len, vec_capacity};
 ghost use Rattle.std.specs.List.{list_any};
-ghost use Rattle.eap_world.specs.Book.{entry, booked, tags_verdict, is_honest, vouches, same_tag};
+ghost use Rattle.eap_world.specs.Book.{entry, booked, first_broken, verdict_on, is_honest, may_make, vouches, same_tag};
 
 use eap_method::{TagList, TagRecord, Tags};
 
@@ -32,7 +32,16 @@ pub struct Entry {
     pub tag: TagRecord,
 }
 
-/// Whether each accepted tag was made earlier by the other end.
+/// Whose record vouches for an accepted tag.
+#[derive(Clone, Copy, PartialEq, Eq, Debug)]
+pub enum Makers {
+    /// That of the other end.
+    Other,
+    /// That of either end, the one that accepted the tag among them.
+    Either,
+}
+
+/// Whether each accepted tag was made earlier.
 #[derive(Clone, Copy, PartialEq, Eq, Debug)]
 pub enum TagsVerdict {
     /// Each was.
@@ -78,41 +87,53 @@ fn book_one(book: &mut Vec<Entry>, event: u32, end: End, used: Use, tag: &TagRec
     });
 }
 
-/// Whether each accepted tag of a book was made earlier by the other end.
+/// Whether each accepted tag of a book was made earlier by such an end.
 #[tactic(auto, using(crate::proofs::FirstBroken::broken_more, crate::proofs::FirstBroken::broken_here, crate::proofs::FirstBroken::broken_all))]
-pub fn judge_tags(book: &[Entry]) -> TagsVerdict
-    ensures { result ≡ tags_verdict book.now }
+pub fn judge_tags(book: &[Entry], makers: Makers) -> TagsVerdict
+    ensures { result ≡ verdict_on (first_broken makers [] book.now) }
 {
     for place in 0..book.len() {
-        if !is_honest(&book[..place], &book[place]) {
+        if !is_honest(&book[..place], &book[place], makers) {
             return TagsVerdict::Broken(book[place].event);
         }
     }
     TagsVerdict::Honest
 }
 
-/// Whether an entry is no accepted tag, or one that the other end made earlier.
-fn is_honest(earlier: &[Entry], entry: &Entry) -> bool
-    ensures { result ≡ is_honest earlier.now entry.now }
+/// Whether an entry is no accepted tag, or one that such an end made earlier.
+fn is_honest(earlier: &[Entry], entry: &Entry, makers: Makers) -> bool
+    ensures { result ≡ is_honest makers earlier.now entry.now }
 {
     match entry.used {
         Use::Made => true,
-        Use::Accepted => is_vouched(earlier, entry),
+        Use::Accepted => is_vouched(earlier, entry, makers),
     }
 }
 
-/// Whether the other end made this tag earlier.
-fn is_vouched(earlier: &[Entry], accepted: &Entry) -> bool
-    ensures { result ≡ list_any (vouches accepted.now) earlier.now }
+/// Whether such an end made this tag earlier.
+fn is_vouched(earlier: &[Entry], accepted: &Entry, makers: Makers) -> bool
+    ensures { result ≡ list_any (vouches makers accepted.now) earlier.now }
 {
-    earlier.iter().any(|made| vouches(accepted, made))
+    earlier.iter().any(|made| vouches(accepted, made, makers))
 }
 
-/// Whether an entry is that of the same tag, made by the other end.
-fn vouches(accepted: &Entry, made: &Entry) -> bool
-    ensures { result ≡ vouches accepted.now made.now }
+/// Whether an entry is that of the same tag, made by such an end.
+fn vouches(accepted: &Entry, made: &Entry, makers: Makers) -> bool
+    ensures { result ≡ vouches makers accepted.now made.now }
 {
-    made.used == Use::Made && made.end != accepted.end && is_same(&made.tag, &accepted.tag)
+    made.used == Use::Made
+        && may_make(makers, made.end, accepted.end)
+        && is_same(&made.tag, &accepted.tag)
+}
+
+/// Whether a tag that the one end made vouches for one that the other accepted.
+fn may_make(makers: Makers, made: End, accepted: End) -> bool
+    ensures { result ≡ may_make makers made accepted }
+{
+    match makers {
+        Makers::Other => made != accepted,
+        Makers::Either => true,
+    }
 }
 
 /// Whether two records are equal.

@@ -1,7 +1,8 @@
 //! Laws of both ends over events. Each is the contract of a function that does nothing.
 
-ghost use Rattle.eap_world.specs.Agreement.{HonestEndsAgree, HonestNamesAreTheirs, FewTags};
+ghost use Rattle.eap_world.specs.Agreement.{HonestOfEither, HonestEndsAgree, HonestNamesAreTheirs, FewTags};
 ghost use Rattle.eap_world.specs.Laws.{DiscardsKeep, RunsTellReports};
+ghost use Rattle.eap_world.specs.SingleSteps.{StepsAreLawful};
 
 /// An event that an end discards changes nothing but the counts: no variable and no method's view at
 /// either end, nothing sent and nothing in the book. Where each report that an end holds was told of,
@@ -16,8 +17,17 @@ pub fn discards_keep()
 pub fn runs_tell_reports()
     ensures { RunsTellReports }
 {}
-/// Whatever is delivered, lost, repeated, reordered, altered or injected: where each tag that an end
-/// accepted was made earlier by the other end, two ends that both stand in SUCCESS agree in method,
+
+/// A book in which each accepted tag was made earlier by the other end is one in which each was made
+/// earlier by either end. So what is promised where a book is honest of either end is promised also where
+/// it is honest.
+#[tactic(auto, using(crate::proofs::HonestOfEither::honest_of_either))]
+pub fn honest_of_either()
+    ensures { HonestOfEither }
+{}
+
+/// Whatever is delivered, lost, repeated, reordered, altered, reflected or injected: where each tag that an
+/// end accepted was made earlier by either end, two ends that both stand in SUCCESS agree in method,
 /// identities, suite, MSK and EMSK, which both policies allow.
 #[tactic(auto, using(crate::proofs::HonestRuns::honest_ends_agree))]
 pub fn honest_ends_agree()
@@ -38,4 +48,13 @@ pub fn honest_names_are_theirs()
 /// book holds at most eight.
 pub fn few_tags()
     ensures { FewTags }
+{}
+
+/// Each step of a run is lawful, seen from outside: what the peer sends is a Response with the Identifier of
+/// what was handed to it (RFC 3748 section 4.1); what is sent again is the last packet to its port; in mode
+/// alone a Request that the server sends in a delivery has the next Identifier; a party that has ended sends
+/// nothing; an end that stands in SUCCESS has accepted a tag.
+#[tactic(auto, using(crate::proofs::SingleSteps::steps_are_lawful))]
+pub fn steps_are_lawful()
+    ensures { StepsAreLawful }
 {}

@@ -12,9 +12,10 @@ mod verdict;
 mod world;
 
 pub use act::{Action, Did, Machines};
-pub use book::{End, Entry, TagsVerdict, Use};
+pub use book::{End, Entry, Makers, TagsVerdict, Use};
 pub use laws::{
-    discards_keep, few_tags, honest_ends_agree, honest_names_are_theirs, runs_tell_reports,
+    discards_keep, few_tags, honest_ends_agree, honest_names_are_theirs, honest_of_either,
+    runs_tell_reports, steps_are_lawful,
 };
 pub use store::{Slot, Store, Stored};
 pub use told::{Counts, Named, SentPacket, Skip, Told};

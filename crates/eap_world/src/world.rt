@@ -8,7 +8,7 @@ ghost use Rattle.eap_world.specs.World.{action_with, parties_of, sent_by, booked
 ghost use Rattle.eap_world.specs.World.{first_report, held_by, held_after, held_with, report_of, role_in, told_of, told_with};
 
 use crate::act::{Action, Did, Machines, act, start};
-use crate::book::{End, Entry, TagsVerdict, book_tags, judge_tags};
+use crate::book::{End, Entry, Makers, TagsVerdict, book_tags, judge_tags};
 use crate::store::Store;
 use crate::told::{Counts, Named, SentPacket, Told};
 use crate::verdict::{Verdict, judge_reports};
@@ -90,10 +90,11 @@ impl<P: PeerMethod, S: ServerMethod> World<P, S> {
     ghost use Rattle.eap_method.specs.Peer.{peer_kinds, have_each};
     ghost use Rattle.eap_method.specs.Server.{server_kinds};
     ghost use Rattle.eap_world.specs.Agreement.{BeginsRun, BeginsSmall, GoesOn, StaysSmall, IsOfRun, IsWhole, AreTheirs, run_of};
-    ghost use Rattle.eap_world.specs.Book.{tags_verdict};
+    ghost use Rattle.eap_world.specs.Book.{tags_verdict, tags_verdict_either};
     ghost use Rattle.eap_world.specs.declared.book.TagsVerdict.TheVariants.{Honest};
     ghost use Rattle.eap_world.specs.declared.verdict.Verdict.TheVariants.{Agree, Apart};
     ghost use Rattle.eap_world.specs.Judgement.{verdict_of};
+    ghost use Rattle.eap_world.specs.SingleSteps.{StepsLawfully};
     ghost use Rattle.eap_world.specs.World.{HaveSameKinds, KeepsKinds, Tells, world_made, world_start, world_step, now_of};
     ghost use Rattle.eap_world.specs.World.{octets_numbered, octets_of_sent, pass_state, state_of};
 
@@ -159,7 +160,8 @@ impl<P: PeerMethod, S: ServerMethod> World<P, S> {
     /// (sections 5 and 6) or the pass-through (section 7); an event that has nobody or nothing to act on is skipped and only counted.
     /// `Memory` comes only for want of memory for one more packet and its tags; the world then is as it
     /// was, and the event isn't counted. A world that was that of the run over some events then is that
-    /// of the run over these and this one, with at most eight tags in its book.
+    /// of the run over these and this one, with at most eight tags in its book, and the step is lawful as
+    /// [`steps_are_lawful`](crate::steps_are_lawful) says.
     pub fn step(&mut self, event: &Event) -> Result<Told, Memory>
         requires started { self.old.started ≡ true }
         requires room { self.old.counts.events < MAX_EVENTS }
@@ -168,6 +170,7 @@ impl<P: PeerMethod, S: ServerMethod> World<P, S> {
             (λ _. self.new ≡ self.old) }
         ensures run { IfOk result (λ told. GoesOn P.peer_shown S.server_shown event.now self.old self.new) }
         ensures few { IfOk result (λ told. StaysSmall P.peer_shown S.server_shown self.old self.new) }
+        ensures lawful { IfOk result (λ told. StepsLawfully P.peer_shown S.server_shown event.now self.old told self.new) }
         ensures kinds { KeepsKinds P.peer_shown S.server_shown self.old self.new }
     {
         self.take(event)
@@ -326,19 +329,28 @@ impl<P: PeerMethod, S: ServerMethod> World<P, S> {
     pub fn tags(&self) -> TagsVerdict
         ensures { result ≡ tags_verdict self.now.book }
     {
-        judge_tags(self.book.as_slice())
+        judge_tags(self.book.as_slice(), Makers::Other)
+    }
+
+    /// Whether each accepted tag was made earlier by either end, with the same method, label, key, octets
+    /// and tag: also by the end that accepted it, to which it came back. Else the first event in which an
+    /// end accepted one that wasn't. It is Honest wherever [`World::tags`] is.
+    pub fn tags_either(&self) -> TagsVerdict
+        ensures { result ≡ tags_verdict_either self.now.book }
+    {
+        judge_tags(self.book.as_slice(), Makers::Either)
     }
 
     /// Whether both ends agree. In every run of a setup whose ends are sound, with a key of the peer for
-    /// each of its methods and nonces of 32 octets, it is never Apart where [`World::tags`] is Honest; and
-    /// where both ends then agree, what they report is their own: the names of their setups, a user of the
+    /// each of its methods and nonces of 32 octets, it is never Apart where [`World::tags_either`] is Honest,
+    /// so neither where [`World::tags`] is; and where both ends then agree, what they report is their own: the names of their setups, a user of the
     /// server with the peer's key, by EAP-GPSK the first suite of the server's that the peer allows.
     #[tactic(auto, using(crate::proofs::HonestRuns::never_apart, crate::proofs::Whose::theirs_if_agreed))]
     pub fn result(&self) -> Verdict
         ensures value { result ≡ verdict_of (now_of P.peer_shown S.server_shown self.now) }
-        ensures never_apart { IsOfRun (now_of P.peer_shown S.server_shown self.now) → tags_verdict self.now.book ≡ Honest → result ≡ Apart → ⊥ }
+        ensures never_apart { IsOfRun (now_of P.peer_shown S.server_shown self.now) → tags_verdict_either self.now.book ≡ Honest → result ≡ Apart → ⊥ }
         ensures theirs { (setup : Setup) (events : List Event) → IsWhole setup → now_of P.peer_shown S.server_shown self.now ≡ run_of setup events
-            → tags_verdict self.now.book ≡ Honest → result ≡ Agree → AreTheirs setup (now_of P.peer_shown S.server_shown self.now) }
+            → tags_verdict_either self.now.book ≡ Honest → result ≡ Agree → AreTheirs setup (now_of P.peer_shown S.server_shown self.now) }
     {
         self.verdict()
     }

@@ -5,6 +5,7 @@ use Rattle.eap_base.specs.declared.event.Event.{Event}
 use Rattle.eap_base.specs.declared.setup.Setup.{Setup}
 use Rattle.eap_base.specs.Lines.{Lines, ended, too_long, too_much, line, lines}
 use Rattle.eap_world.specs.Agreement.{IsWhole}
+use Rattle.eap_world.proofs.HonestOfEither.{honest_of_either}
 use Rattle.eap_world.proofs.HonestRuns.{honest_ends_agree}
 use Rattle.eap_world.proofs.Few.{few_tags}
 use Rattle.eap_world.proofs.Whose.{honest_names_are_theirs}
@@ -67,6 +68,7 @@ headline octets setup is =
     let events = (scenario_of octets).events in
     let whole = whole_if_valid setup (setup_valid (lines octets) 0 0 (record { phase = phase.Unread; settings = no_settings }) setup no_settings-valid is) in
     record {
+      of_either = honest_of_either _;
       agrees = honest_ends_agree setup events whole;
       theirs = honest_names_are_theirs setup events whole;
       few_tags = few_tags setup events;

@@ -11,6 +11,7 @@ use Rattle.eap_base.specs.declared.setup.Setup.{Setup}
 use Rattle.eap_world.specs.Agreement.{run_of, AgreesWhereHonest}
 use Rattle.eap_world.specs.Book.{tags_verdict}
 use Rattle.eap_world.specs.Judgement.{verdict_of}
+use Rattle.eap_world.proofs.HonestOfEither.{honest_of_either}
 use Rattle.eap_world.specs.World.{WorldOutcome, outcomes_after, pass_state, told_octets, world_made, world_start}
 use Rattle.scenario_text.specs.Reading.{Reading, ReadLine, read_line, finish_of}
 use Rattle.scenario_text.specs.Packets.{packet_line}
@@ -120,9 +121,12 @@ module _ (names : Bool) (setup : Setup) (events : List Event) where
   never_run agrees honest apart =
       let w = run_of setup events in
       agrees.never_apart
-      (end_tells_honest w.parties.peer.vars.state (pass_state w.parties.mode w.parties.pass) w.parties.server.vars.state w.counts (tags_verdict w.book) (verdict_of w)
-      (tells honest_line run_text (over_events 116 (codes "ags honest\n") refl) (found (codes "tags honest") run_text honest)))
-      (end_tells_apart w.parties.peer.vars.state (pass_state w.parties.mode w.parties.pass) w.parties.server.vars.state w.counts (tags_verdict w.book) (verdict_of w)
+      (honest_of_either w.book
+      (end_tells_honest w.parties.peer.vars.state (pass_state w.parties.mode w.parties.pass) w.parties.server.vars.state w.counts
+      (tags_verdict w.book) (verdict_of w)
+      (tells honest_line run_text (over_events 116 (codes "ags honest\n") refl) (found (codes "tags honest") run_text honest))))
+      (end_tells_apart w.parties.peer.vars.state (pass_state w.parties.mode w.parties.pass) w.parties.server.vars.state w.counts
+      (tags_verdict w.book) (verdict_of w)
       (tells apart_line run_text (over_events 114 (codes "esult apart\n") refl) (found (codes "result apart") run_text apart)))
 
 never_setup : (names : Bool) (x : Option Setup) (events : List Event) (o : Outcome)

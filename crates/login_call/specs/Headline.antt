@@ -1,17 +1,21 @@
--- What holds of the run of every scenario: whatever is delivered, lost, repeated, reordered, altered or
--- injected, two ends that both succeed agree, where each accepted tag was made earlier by the other end.
+-- What holds of the run of every scenario: whatever is delivered, lost, repeated, reordered, altered, reflected
+-- or injected, two ends that both succeed agree, where each accepted tag was made earlier by either end. So it is
+-- where each was made earlier by the other end, which the trace tells.
 use Rattle.std.specs.Prelude.{◌≡◌, ℕ, List, ◌++◌, Option, Some, codes}
 use Rattle.eap_base.specs.declared.setup.Setup.{Setup}
 use Rattle.eap_world.specs.Agreement.{run_of, AgreesWhereHonest, TheirsWhereHonest, HasFewTags}
+use Rattle.eap_world.specs.Book.{tags_verdict, tags_verdict_either}
+use Rattle.eap_world.specs.declared.book.TagsVerdict.TheVariants.{Honest}
 use Rattle.eap_world.specs.World.{WorldNow}
 use Rattle.trace_text.specs.Lines.{HasLine}
 use Rattle.login_call.specs.Scenario.{scenario_of}
 use Rattle.login_call.specs.declared.status.Status.{Status}
 use Rattle.login_call.specs.declared.status.Status.TheVariants.{Done}
 
--- after the events: over an honest book two ends that both succeed agree, and what they report is their own;
--- and the book is small
+-- after the events: over a book that is honest of either end two ends that both succeed agree, and what they
+-- report is their own; a book that the trace calls honest is such a book; and it is small
 pub record KeepsAgreement (setup : Setup) (w : WorldNow) : Type 0 where
+  pub of_either : tags_verdict w.book ≡ Honest → tags_verdict_either w.book ≡ Honest
   pub agrees : AgreesWhereHonest w
   pub theirs : TheirsWhereHonest setup w
   pub few_tags : HasFewTags w.book

@@ -47,11 +47,11 @@ pub fn eap_login<P: PeerMethod, M: ServerMethod, S: Source, W: Sink>(
         → Ends result (W.written sink.old) (W.written sink.new) (login_answer (map string_bytes words.now.items) octets) }
     ensures drains { Drains result (S.left source.new) }
 
-    // Whatever the scenario has delivered, lost, repeated, reordered, altered or injected: where each tag
-    // that an end accepted was made earlier by the other end, two ends that both stand in SUCCESS at the
-    // end of its run agree in method, identities, suite, MSK and EMSK, which both policies allow; the
-    // identities are their own names, the server's user has the peer's key, and by EAP-GPSK the suite is
-    // the first of the server's that the peer allows.
+    // Whatever the scenario has delivered, lost, repeated, reordered, altered, reflected or injected: where
+    // each tag that an end accepted was made earlier by either end, as it is where the trace says `tags
+    // honest`, two ends that both stand in SUCCESS at the end of its run agree in method, identities, suite,
+    // MSK and EMSK, which both policies allow; the identities are their own names, the server's user has
+    // the peer's key, and by EAP-GPSK the suite is the first of the server's that the peer allows.
     ensures honest_ends_agree { (octets : List ℕ) → HonestEndsAgree octets }
 
     // On octets alone: no text written with status 0 has both the line `tags honest` and the line

@@ -3,4 +3,4 @@ use Rattle.eap_world.specs.Book.{first_broken}
 use Rattle.eap_world.proofs.book.judge_tags.Given as goal
 
 abbrev pub invariant-loop-place : goal.invariant-loop-place
-invariant-loop-place l = first_broken [] l.book ≡ first_broken (take l.place l.book) (drop l.place l.book)
+invariant-loop-place l = first_broken l.makers [] l.book ≡ first_broken l.makers (take l.place l.book) (drop l.place l.book)

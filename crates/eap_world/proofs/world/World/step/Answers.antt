@@ -1,6 +1,6 @@
 use Rattle.std.proofs.Common.{◌≡◌}
 use Rattle.eap_world.specs.World.{now_of}
-use Rattle.eap_world.proofs.EventByEvent.{run_goes_on, stays_small}
+use Rattle.eap_world.proofs.EventByEvent.{goes_lawfully, run_goes_on, stays_small}
 use Rattle.eap_world.proofs.world.World.step.Goals as goal
 
 pub returns-clause-run : goal.returns-clause-run
@@ -14,3 +14,9 @@ returns-clause-few g c =
     stays_small (now_of g.P.PeerMethod.peer_shown g.S.ServerMethod.server_shown c.args.self.now)
     (now_of g.P.PeerMethod.peer_shown g.S.ServerMethod.server_shown c.take.new.self) (c.take.new.self ≡ c.args.self.now) c.args.event.now c.take.result
     (returns-clause-run g c)
+
+pub returns-clause-lawful : goal.returns-clause-lawful
+returns-clause-lawful g c =
+    goes_lawfully (now_of g.P.PeerMethod.peer_shown g.S.ServerMethod.server_shown c.args.self.now)
+    (now_of g.P.PeerMethod.peer_shown g.S.ServerMethod.server_shown c.take.new.self) (c.take.new.self ≡ c.args.self.now) c.args.event.now c.take.result
+    c.take.ensures.told
