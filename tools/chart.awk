@@ -291,6 +291,7 @@ function draw_svg(    r, y, top, height, tall, at, x1, x2, low, high, class, wid
     height = (parties == 2 ? y : y + 40) + 34
     printf "<svg xmlns=\"http://www.w3.org/2000/svg\" viewBox=\"0 0 %d %d\" width=\"%d\" height=\"%d\"", width, height, width, height
     print " font-family=\"Helvetica, Arial, 'DejaVu Sans', sans-serif\">"
+    print "<title>" safe(title) "</title>"
     print "<style>"
     print "text { fill: #1f2933; } .title { font-size: 15px; } .label { font-size: 13.5px; } .gone, .note { fill: #7b8794; font-size: 13px; }"
     print ".state { font-size: 10px; fill: #616e7c; } .cause { font-size: 11.5px; font-weight: bold; fill: #c22f2f; } .key { font-size: 10.5px; fill: #18794e; }"

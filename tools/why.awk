@@ -7,7 +7,7 @@ file == 1 && /^##/ { section = $0 }
 file == 1 && /^\| / {
     split($0, cell, / *\| */)
     if (section ~ /Faults/) meaning[cell[2]] = cell[3]
-    if (command == "replay" && section ~ /Settings|Events/ || command == "keys" && section ~ /`keys`/) {
+    if (command == "replay" && section ~ /Settings|Events/ || command ~ /keys|check/ && section ~ "`" command "`") {
         count = split(cell[2], form, "`")
         for (at = 2; at <= count; at += 2) {
             keyword = form[at]
