@@ -104,6 +104,8 @@ class Scenario:
             body = self.nonce_p + self.nonce_s + sized(self.id_s) + suite(self.suite) + sized(b"")
         elif kind == 4:
             body = sized(b"")
+        elif kind == 5:
+            return packet(code, number, bytes([51, 5]) + struct.pack(">I", 1))
         else:
             assert kind == 6 and self.users[self.id_p.decode(), "51"][1] == "barred"
             body = struct.pack(">I", 3)
