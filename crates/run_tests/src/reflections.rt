@@ -121,15 +121,15 @@ fn run(rt: &impl Abort, world: &mut BoxedWorld, scenario: &str) -> Result<(), Fa
 /// True where the block names the events of both verdicts on the world of its scenario.
 fn is_judged(rt: &impl Abort, alloc: Global, block: &str) -> Result<bool, Fail> {
     let text = scenario(alloc, block)?;
-    let Ok(setup) = settings_in(&text) else {
-        return Ok(false);
-    };
     let psk_peer: Box<dyn PeerMethod> = Box::new(alloc, PskPeer::new())?;
     let gpsk_peer: Box<dyn PeerMethod> = Box::new(alloc, GpskPeer::new())?;
     let psk_server: Box<dyn ServerMethod> = Box::new(alloc, PskServer::new())?;
     let gpsk_server: Box<dyn ServerMethod> = Box::new(alloc, GpskServer::new())?;
     let peer = both_peers(alloc, psk_peer, gpsk_peer)?;
     let server = both_servers(alloc, psk_server, gpsk_server)?;
+    let Ok(setup) = settings_in(&text) else {
+        return Ok(false);
+    };
     let mut world = world_of(alloc, setup, Methods { peer, server });
     start(rt, &mut world)?;
     run(rt, &mut world, &text)?;
