@@ -14,6 +14,8 @@ mod lines;
 #[cfg(test)]
 mod logins;
 #[cfg(test)]
+mod reflections;
+#[cfg(test)]
 mod runs;
 #[cfg(test)]
 mod texts;

@@ -294,8 +294,7 @@ fn packets_of_the_identity_round(rt: HostRuntime) -> Result<(), Fail> {
 }
 
 /// Packets that are altered, cut, injected, repeated and lost. After a cut the border of two names has
-/// moved: the server `bb` is `b`, and the peer `ab` is `a`. The GPSK-2 that is injected is one of `alice` to
-/// the server whose nonce is 32 octets 33: this peer hasn't made its tag.
+/// moved: the server `bb` is `b`, and the peer `ab` is `a`.
 const SCHEDULES: &str = "\
 case GPSK-2 altered on its way
 run deliver 1;deliver 2;deliver 3;alter 4 119 1;deliver 4;deliver 5;deliver 6;deliver 7;end
@@ -335,23 +334,6 @@ case an Identity Request with a text
 run inject peer 01000005010102030405060708;end
 sent 5 10
 | 1 peer RECEIVED IDENTITY SEND_RESPONSE IDLE
-case a GPSK-2 of another conversation
-run deliver 1;deliver 2
-run inject server 0201007833020005616c6963650003737276\
-3333333333333333333333333333333333333333333333333333333333333333\
-2222222222222222222222222222222222222222222222222222222222222222\
-000c000000000001000000000002000000000001\
-00000c8b3f9d1d9e2fc2eef761d905605153
-run end
-sent 5 10 57 99
-| state peer IDLE
-| state server IDLE
-| events 3
-| deliveries 3
-| discards 0
-| tags broken 3
-| result open
-| end
 case GPSK-1 comes twice
 run deliver 1;deliver 2;deliver 3;deliver 3;deliver 4;deliver 5;deliver 6;deliver 7;deliver 8;end
 sent 5 10 57 120 120 99 24 4

@@ -12,8 +12,8 @@ use std::alloc::Global;
 use std::process::Abort;
 use std::test::Fail;
 
-/// A world whose ends have no method.
-type BareWorld = World<Box<dyn PeerMethod>, Box<dyn ServerMethod>>;
+/// A world over boxed objects.
+pub(crate) type BoxedWorld = World<Box<dyn PeerMethod>, Box<dyn ServerMethod>>;
 
 fn name(octets: &[u8]) -> Identity {
     let mut list = Identity::new();
@@ -30,7 +30,7 @@ fn one_suite() -> Suites
 }
 
 /// Alice logs in at the server srv, which sends a Request again four times; no end has a method.
-fn alice_at_srv(alloc: Global) -> BareWorld {
+fn alice_at_srv(alloc: Global) -> BoxedWorld {
     let setup = Setup {
         mode: Mode::Alone,
         first_id: 0,
@@ -60,13 +60,13 @@ fn alice_at_srv(alloc: Global) -> BareWorld {
 }
 
 /// What came of the start.
-fn start(rt: &impl Abort, world: &mut BareWorld) -> Result<Told, Fail> {
+pub(crate) fn start(rt: &impl Abort, world: &mut BoxedWorld) -> Result<Told, Fail> {
     assert!(rt; !world.started());
     Ok(world.start()?)
 }
 
 /// What came of the next event.
-fn step(rt: &impl Abort, world: &mut BareWorld, event: &Event) -> Result<Told, Fail> {
+pub(crate) fn step(rt: &impl Abort, world: &mut BoxedWorld, event: &Event) -> Result<Told, Fail> {
     assert!(rt; world.started() && world.counts().events < MAX_EVENTS);
     Ok(world.step(event)?)
 }
@@ -98,7 +98,7 @@ fn sent_after(deliveries: u32) -> &'static [u8] {
     }
 }
 
-fn has_failed(world: &BareWorld) -> bool {
+fn has_failed(world: &BoxedWorld) -> bool {
     let counts = Counts {
         events: 3,
         deliveries: 3,
