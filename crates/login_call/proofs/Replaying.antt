@@ -11,7 +11,7 @@ use Rattle.scenario_text.specs.Items as item
 use Rattle.scenario_text.specs.declared.scenario.Phase.{Phase}
 use Rattle.scenario_text.specs.declared.scenario.Phase.TheVariants as phase
 use Rattle.scenario_text.specs.declared.settings.Settings.{Settings}
-use Rattle.scenario_text.proofs.ReadLine.{FromSettings, FromEvents, PassedBefore, NewSetting, AllSet, PassedBetween, NewEvent, AllRead, read_line-from_unread, read_line-from_settings, read_line-from_events, read_line-from_ended}
+use Rattle.scenario_text.proofs.ReadLine.{FromSettings, FromEvents, PassedBefore, NewSetting, AllSet, PassedBetween, NewEvent, AllRead, read_line_from_unread, read_line_from_settings, read_line_from_events, read_line_from_ended}
 use Rattle.trace_text.specs.Run.{begin_text, outcome_text, end_text}
 use Rattle.login_call.specs.Answers.{Answer, after_text}
 use Rattle.login_call.specs.Commands.{Took, refuses, after_verdict, lacking_after, closing_answer, answer, lacking}
@@ -95,8 +95,8 @@ module _ (c : ReplayNow) where
       → line_answer n (in_world c r w) rest x ≡ run_scenario w (line_scenario n w.counts.events r rest x)
   unfolding run_after outcomes_after
   line_in_world n r w l rest h ih (Err fault) e = refl
-  line_in_world n r w l rest (AtEvents p) ih (Ok out) e = line_at_events n r.settings r w rest ih out (read_line-from_events r l out p e)
-  line_in_world n r w l rest (AtEnded p) ih (Ok out) e = line_at_end n r w rest ih out (read_line-from_ended r l out p e)
+  line_in_world n r w l rest (AtEvents p) ih (Ok out) e = line_at_events n r.settings r w rest ih out (read_line_from_events r l out p e)
+  line_in_world n r w l rest (AtEnded p) ih (Ok out) e = line_at_end n r w rest ih out (read_line_from_ended r l out p e)
 
   -- in a world the command answers the run of the events to come
   pub answers_in_world : (ls : Lines) (n : ℕ) → Continues n ls
@@ -134,8 +134,8 @@ module _ (c : ReplayNow) where
   line_before : (n : ℕ) (r : Reading) (l : List ℕ) (rest : Lines) → BeforeRun r.phase → Waits (n + 1) rest → (x : Result ReadLine LineFault) → read_line r l ≡ x
       → line_answer n (in_none c r) rest x ≡ scenario_answer c.names (line_scenario n 0 r rest x)
   line_before n r l rest h ih (Err fault) e = refl
-  line_before n r l rest (AtUnread p) ih (Ok out) e = line_at_first n r rest ih out (read_line-from_unread r l out p e)
-  line_before n r l rest (AtSettings p) ih (Ok out) e = line_at_settings n r.settings r rest ih out (read_line-from_settings r l out p e)
+  line_before n r l rest (AtUnread p) ih (Ok out) e = line_at_first n r rest ih out (read_line_from_unread r l out p e)
+  line_before n r l rest (AtSettings p) ih (Ok out) e = line_at_settings n r.settings r rest ih out (read_line_from_settings r l out p e)
 
   -- before the run the command answers what the scenario does
   pub answers_before : (ls : Lines) (n : ℕ) → Waits n ls
@@ -167,8 +167,8 @@ module _ (c : ReplayNow) where
   lacks_before : (n : ℕ) (r : Reading) (l : List ℕ) (rest : Lines) → BeforeRun r.phase → Lacks (n + 1) rest → (x : Result ReadLine LineFault) → read_line r l ≡ x
       → line_lacks (in_none c r) rest x ≡ true → is_some (line_scenario n 0 r rest x).setup ≡ true
   lacks_before n r l rest h ih (Err fault) e lack = absurd cc
-  lacks_before n r l rest (AtUnread p) ih (Ok out) e lack = lacks_at_first n r rest ih out (read_line-from_unread r l out p e) lack
-  lacks_before n r l rest (AtSettings p) ih (Ok out) e lack = lacks_at_settings n r.settings r rest ih out (read_line-from_settings r l out p e) lack
+  lacks_before n r l rest (AtUnread p) ih (Ok out) e lack = lacks_at_first n r rest ih out (read_line_from_unread r l out p e) lack
+  lacks_before n r l rest (AtSettings p) ih (Ok out) e lack = lacks_at_settings n r.settings r rest ih out (read_line_from_settings r l out p e) lack
 
   pub lacks_only_with_setup : (ls : Lines) (n : ℕ) → Lacks n ls
   unfolding lacking scenario_from replay_took replay_lacks

@@ -100,26 +100,26 @@ word-first f place ws =
     ]
 
 -- one more word, and none after the last
-pub first_fault-cons : (f : Field) (rest : List Field) (place : ℕ) (ws : List (List ℕ)) → first_fault place (f ∷ rest) ws ≡ earlier (fault_at f place ws) (first_fault (place + 1) rest ws)
+pub first_fault_cons : (f : Field) (rest : List Field) (place : ℕ) (ws : List (List ℕ)) → first_fault place (f ∷ rest) ws ≡ earlier (fault_at f place ws) (first_fault (place + 1) rest ws)
 unfolding first_fault
-first_fault-cons f rest place ws =
+first_fault_cons f rest place ws =
     find-or (λ e. word_has e f place ws) (λ e. any_has e (place + 1) rest ws) 3 word_faults refl
     ∙ ap (λ here. earlier here (find (λ e. any_has e (place + 1) rest ws) word_faults)) (word-first f place ws)
 
-pub first_fault-more : (fields : List Field) (place : ℕ) (d : Field) (ws : List (List ℕ)) (first here : Option LineFault) → place < length fields → here ≡ fault_at (get_or fields place d) (place + 1) ws → earlier first (first_fault (place + 1) (drop place fields) ws) ≡ earlier (earlier first here) (first_fault (place + 1 + 1) (drop (place + 1) fields) ws)
-first_fault-more fields place d ws first here h is =
-    ap (earlier first) (at_drop_more (λ l. first_fault (place + 1) l ws) fields place d h ∙ first_fault-cons (get_or fields place d) (drop (place + 1) fields) (place + 1) ws)
+pub first_fault_more : (fields : List Field) (place : ℕ) (d : Field) (ws : List (List ℕ)) (first here : Option LineFault) → place < length fields → here ≡ fault_at (get_or fields place d) (place + 1) ws → earlier first (first_fault (place + 1) (drop place fields) ws) ≡ earlier (earlier first here) (first_fault (place + 1 + 1) (drop (place + 1) fields) ws)
+first_fault_more fields place d ws first here h is =
+    ap (earlier first) (at_drop_more (λ l. first_fault (place + 1) l ws) fields place d h ∙ first_fault_cons (get_or fields place d) (drop (place + 1) fields) (place + 1) ws)
     ∙ rw (← is) (sym (earlier-assoc first here (first_fault (place + 1 + 1) (drop (place + 1) fields) ws)))
 
-pub first_fault-end : (fields : List Field) (place : ℕ) (ws : List (List ℕ)) (first : Option LineFault) → length fields ≤ place → earlier first (first_fault (place + 1) (drop place fields) ws) ≡ first
+pub first_fault_end : (fields : List Field) (place : ℕ) (ws : List (List ℕ)) (first : Option LineFault) → length fields ≤ place → earlier first (first_fault (place + 1) (drop place fields) ws) ≡ first
 unfolding first_fault
-first_fault-end fields place ws first h = ap (earlier first) (at_drop_all (λ l. first_fault (place + 1) l ws) fields place h) ∙ earlier-none first
+first_fault_end fields place ws first h = ap (earlier first) (at_drop_all (λ l. first_fault (place + 1) l ws) fields place h) ∙ earlier-none first
 
 -- behind the number of words
-pub fault_of_words-count : (least : ℕ) (fields : List Field) (ws : List (List ℕ)) → has_bad_count least (length fields) (length ws) ≡ true → fault_of_words least fields ws ≡ Some fault.BadCount
+pub fault_of_words_count : (least : ℕ) (fields : List Field) (ws : List (List ℕ)) → has_bad_count least (length fields) (length ws) ≡ true → fault_of_words least fields ws ≡ Some fault.BadCount
 unfolding fault_of_words
-fault_of_words-count least fields ws e = rw e refl
+fault_of_words_count least fields ws e = rw e refl
 
-pub fault_of_words-first : (least : ℕ) (fields : List Field) (ws : List (List ℕ)) → has_bad_count least (length fields) (length ws) ≡ false → fault_of_words least fields ws ≡ first_fault 1 fields ws
+pub fault_of_words_first : (least : ℕ) (fields : List Field) (ws : List (List ℕ)) → has_bad_count least (length fields) (length ws) ≡ false → fault_of_words least fields ws ≡ first_fault 1 fields ws
 unfolding fault_of_words first_fault
-fault_of_words-first least fields ws e = rw e refl
+fault_of_words_first least fields ws e = rw e refl

@@ -31,19 +31,19 @@ module _ {K : Type 0} (row : K → Row) (keywords : List K) (line : List ℕ) wh
   unfolding line_has fault_of_words
   known k b = let p = b.printable in let q = b.found in rw (p, q) refl
 
-ok_or-ok : {A : Type 0} (found : Option A) (f : LineFault) (a : A) → ok_or found f ≡ Ok a → found ≡ Some a
-ok_or-ok None f a e = absurd cc
-ok_or-ok (Some b) f a e = cc
+ok_or_ok : {A : Type 0} (found : Option A) (f : LineFault) (a : A) → ok_or found f ≡ Ok a → found ≡ Some a
+ok_or_ok None f a e = absurd cc
+ok_or_ok (Some b) f a e = cc
 
-ok_or-err : {A : Type 0} (found : Option A) (f e : LineFault) → ok_or found f ≡ Err e → (found ≡ None) × (e ≡ f)
-ok_or-err None f e h = (refl, cc)
-ok_or-err (Some b) f e h = absurd cc
+ok_or_err : {A : Type 0} (found : Option A) (f e : LineFault) → ok_or found f ≡ Err e → (found ≡ None) × (e ≡ f)
+ok_or_err None f e h = (refl, cc)
+ok_or_err (Some b) f e h = absurd cc
 
 begins : (line : List ℕ) (k : Keyword) → first_keyword line ≡ Ok k → Begins row_of keywords line k
 unfolding first_keyword
 begins line k e =
     elim (cases_Bool (is_printable line)) [
-      | inl p ↦ record { printable = p; found = ok_or-ok (keyword_in row_of keywords (words line)) fault.BadWord k (rw p at e) }
+      | inl p ↦ record { printable = p; found = ok_or_ok (keyword_in row_of keywords (words line)) fault.BadWord k (rw p at e) }
       | inr p ↦ let bad = rw p at e in absurd cc
     ]
 
@@ -56,7 +56,7 @@ unfolding first_keyword
 bad_word line f e =
     elim (cases_Bool (is_printable line)) [
       | inl p ↦
-          let none = ok_or-err (keyword_in row_of keywords (words line)) fault.BadWord f (rw p at e) in
+          let none = ok_or_err (keyword_in row_of keywords (words line)) fault.BadWord f (rw p at e) in
           let found = none.0 in
           record { bad = rw (p, found) refl; is = none.1 }
       | inr p ↦ let bad = rw p at e in record { bad = rw p refl; is = cc }
@@ -96,18 +96,18 @@ module _ (p : Phase) (s : Settings) (line : List ℕ) where
   body-known k b = let e = b.printable in let q = b.found in rw (e, q) (join _ _ _ _ _ _ _ _ _ _)
 
   -- the keyword is none
-  pub read_body-bad : (f : LineFault) → is_passed_over line ≡ false → first_keyword line ≡ Err f → read_body p s line ≡ Err f
+  pub read_body_bad : (f : LineFault) → is_passed_over line ≡ false → first_keyword line ≡ Err f → read_body p s line ≡ Err f
   unfolding read_body
-  read_body-bad f not_passed e =
+  read_body_bad f not_passed e =
       let b = bad_word line f e in
       let first = body-unknown (b.bad) in
       let is = b.is in
       rw (not_passed, first, is) refl
 
   -- else its words, and then its place
-  pub read_body-words : (k : Keyword) → is_passed_over line ≡ false → first_keyword line ≡ Ok k → read_body p s line ≡ read_words p s k (words line)
+  pub read_body_words : (k : Keyword) → is_passed_over line ≡ false → first_keyword line ≡ Ok k → read_body p s line ≡ read_words p s k (words line)
   unfolding entry_for read_body take
-  read_body-words k not_passed e =
+  read_body_words k not_passed e =
       let b = begins line k e in
       let first = body-known k b in
       let q = b.found in

@@ -11,7 +11,7 @@ use Rattle.scenario_text.specs.Rows.{unless}
 use Rattle.scenario_text.specs.Entries.{first_keyword, entry_for}
 use Rattle.scenario_text.specs.declared.keyword.Keyword.{Keyword}
 use Rattle.scenario_text.proofs.FaultLists.{no_fault}
-use Rattle.scenario_text.proofs.LineFaults.{read_body-bad, read_body-words}
+use Rattle.scenario_text.proofs.LineFaults.{read_body_bad, read_body_words}
 use Rattle.scenario_text.specs.Reading.{Reading, ReadLine, said, reads, has_setting, with_setting, no_settings, setup_of, header, is_crowded, may_stand, entry_has, fault_of_entry, ready, taken, take, read_body, read_at, read_line}
 use Rattle.scenario_text.specs.declared.fault.LineFault.{LineFault}
 use Rattle.scenario_text.specs.declared.fault.LineFault.TheVariants as fault
@@ -76,51 +76,51 @@ take-from p s e P h = IfOk-unless (fault_of_entry p s e) (taken p s e) P (λ non
 
 -- a line after the first: passed over, or a keyword with its words
 words-cases : (p : Phase) (s : Settings) (line : List ℕ) (P : ReadLine → Type 0) (first : Result Keyword LineFault) → is_passed_over line ≡ false → first_keyword line ≡ first → ((k : Keyword) → IfOk (entry_for k (words line) >>= take p s) P) → IfOk (read_body p s line) P
-words-cases p s line P (Err f) not_passed e entered = rw (read_body-bad p s line f not_passed e) tt
-words-cases p s line P (Ok k) not_passed e entered = rw (read_body-words p s line k not_passed e) (IfOk-test (is_crowded s k) (Err fault.BadCount) _ P (λ c. tt) (λ c. entered k))
+words-cases p s line P (Err f) not_passed e entered = rw (read_body_bad p s line f not_passed e) tt
+words-cases p s line P (Ok k) not_passed e entered = rw (read_body_words p s line k not_passed e) (IfOk-test (is_crowded s k) (Err fault.BadCount) _ P (λ c. tt) (λ c. entered k))
 
 pub passed-over : (p : Phase) (s : Settings) (line : List ℕ) → is_passed_over line ≡ true → read_body p s line ≡ reads item.Nothing p s
 unfolding read_body
 passed-over p s line e = rw e refl
 
-pub read_body-cases : (p : Phase) (s : Settings) (line : List ℕ) (P : ReadLine → Type 0) → P (said item.Nothing p s) → ((k : Keyword) → IfOk (entry_for k (words line) >>= take p s) P) → IfOk (read_body p s line) P
-read_body-cases p s line P passed entered =
+pub read_body_cases : (p : Phase) (s : Settings) (line : List ℕ) (P : ReadLine → Type 0) → P (said item.Nothing p s) → ((k : Keyword) → IfOk (entry_for k (words line) >>= take p s) P) → IfOk (read_body p s line) P
+read_body_cases p s line P passed entered =
     elim (cases_Bool (is_passed_over line)) [
       | inl e ↦ rw (passed-over p s line e) passed
       | inr e ↦ words-cases p s line P (first_keyword line) e refl entered
     ]
 
 -- passed over, or one of its entries
-read_body-from : (p : Phase) (s : Settings) (line : List ℕ) (P : ReadLine → Type 0) → P (said item.Nothing p s) → ((e : Entry) → ((f : LineFault) → entry_has p s e f ≡ false) → P (taken p s e)) → IfOk (read_body p s line) P
-read_body-from p s line P passed entered =
-    read_body-cases p s line P passed (λ k.
+read_body_from : (p : Phase) (s : Settings) (line : List ℕ) (P : ReadLine → Type 0) → P (said item.Nothing p s) → ((e : Entry) → ((f : LineFault) → entry_has p s e f ≡ false) → P (taken p s e)) → IfOk (read_body p s line) P
+read_body_from p s line P passed entered =
+    read_body_cases p s line P passed (λ k.
     IfOk-bind (entry_for k (words line)) (take p s) (λ e. Unit {0}) P (IfOk-any (entry_for k (words line))) (λ e h. take-from p s e P (entered e)))
 
 -- the reading at a known place
-read_line-at : (r : Reading) (p : Phase) (line : List ℕ) → r.phase ≡ p → read_line r line ≡ read_at p r.settings line
+read_line_at : (r : Reading) (p : Phase) (line : List ℕ) → r.phase ≡ p → read_line r line ≡ read_at p r.settings line
 unfolding read_line
-read_line-at r p line e = ap (λ q. read_at q r.settings line) e
+read_line_at r p line e = ap (λ q. read_at q r.settings line) e
 
 -- the first line is the header, and there are no settings then
-pub read_line-from_unread : (r : Reading) (line : List ℕ) (out : ReadLine) → r.phase ≡ phase.Unread → read_line r line ≡ Ok out → out ≡ said item.Nothing phase.Settings no_settings
-read_line-from_unread r line out at h =
-    IfOk-at_ok (λ o. o ≡ said item.Nothing phase.Settings no_settings) (sym (read_line-at r phase.Unread line at) ∙ h)
+pub read_line_from_unread : (r : Reading) (line : List ℕ) (out : ReadLine) → r.phase ≡ phase.Unread → read_line r line ≡ Ok out → out ≡ said item.Nothing phase.Settings no_settings
+read_line_from_unread r line out at h =
+    IfOk-at_ok (λ o. o ≡ said item.Nothing phase.Settings no_settings) (sym (read_line_at r phase.Unread line at) ∙ h)
     (IfOk-test (bytes_eq line header) (reads item.Nothing phase.Settings no_settings) (Err fault.NoHeader) (λ o. o ≡ said item.Nothing phase.Settings no_settings) (λ e. refl) (λ e. tt))
 
 -- a line before `events`
-pub read_line-from_settings : (r : Reading) (line : List ℕ) (out : ReadLine) → r.phase ≡ phase.Settings → read_line r line ≡ Ok out → FromSettings r.settings out
-read_line-from_settings r line out at h =
-    IfOk-at_ok (FromSettings r.settings) (sym (read_line-at r phase.Settings line at) ∙ h)
-    (read_body-from phase.Settings r.settings line (FromSettings r.settings) PassedBefore (settings-from r.settings))
+pub read_line_from_settings : (r : Reading) (line : List ℕ) (out : ReadLine) → r.phase ≡ phase.Settings → read_line r line ≡ Ok out → FromSettings r.settings out
+read_line_from_settings r line out at h =
+    IfOk-at_ok (FromSettings r.settings) (sym (read_line_at r phase.Settings line at) ∙ h)
+    (read_body_from phase.Settings r.settings line (FromSettings r.settings) PassedBefore (settings-from r.settings))
 
 -- a line before `end`
-pub read_line-from_events : (r : Reading) (line : List ℕ) (out : ReadLine) → r.phase ≡ phase.Events → read_line r line ≡ Ok out → FromEvents r.settings out
-read_line-from_events r line out at h =
-    IfOk-at_ok (FromEvents r.settings) (sym (read_line-at r phase.Events line at) ∙ h)
-    (read_body-from phase.Events r.settings line (FromEvents r.settings) PassedBetween (events-from r.settings))
+pub read_line_from_events : (r : Reading) (line : List ℕ) (out : ReadLine) → r.phase ≡ phase.Events → read_line r line ≡ Ok out → FromEvents r.settings out
+read_line_from_events r line out at h =
+    IfOk-at_ok (FromEvents r.settings) (sym (read_line_at r phase.Events line at) ∙ h)
+    (read_body_from phase.Events r.settings line (FromEvents r.settings) PassedBetween (events-from r.settings))
 
 -- a line after `end` is passed over
-pub read_line-from_ended : (r : Reading) (line : List ℕ) (out : ReadLine) → r.phase ≡ phase.Ended → read_line r line ≡ Ok out → out ≡ said item.Nothing phase.Ended r.settings
-read_line-from_ended r line out at h =
-    IfOk-at_ok (λ o. o ≡ said item.Nothing phase.Ended r.settings) (sym (read_line-at r phase.Ended line at) ∙ h)
-    (read_body-from phase.Ended r.settings line (λ o. o ≡ said item.Nothing phase.Ended r.settings) refl (late-from r.settings))
+pub read_line_from_ended : (r : Reading) (line : List ℕ) (out : ReadLine) → r.phase ≡ phase.Ended → read_line r line ≡ Ok out → out ≡ said item.Nothing phase.Ended r.settings
+read_line_from_ended r line out at h =
+    IfOk-at_ok (λ o. o ≡ said item.Nothing phase.Ended r.settings) (sym (read_line_at r phase.Ended line at) ∙ h)
+    (read_body_from phase.Ended r.settings line (λ o. o ≡ said item.Nothing phase.Ended r.settings) refl (late-from r.settings))

@@ -18,7 +18,7 @@ use Rattle.scenario_text.specs.declared.entry.Setting.{Setting}
 use Rattle.scenario_text.specs.declared.entry.Setting.TheVariants as setting
 use Rattle.scenario_text.specs.declared.settings.Settings.{Settings}
 use Rattle.scenario_text.proofs.Steps.{IfOk-bind, IfOk-test}
-use Rattle.scenario_text.proofs.UserLists.{with_user-is}
+use Rattle.scenario_text.proofs.UserLists.{with_user_is}
 
 -- the values that come to what is set
 abbrev plus : {A : Type 0} → Option A → List A → List A
@@ -71,7 +71,7 @@ room : (users : List User) (user : User) → nat_le 16 (length users) ≡ false 
 room users user f n = record { few = leb-false 16 (length users) f; absent = empty (user_of users user.name user.kind) n }
 
 pushed : (users : List User) (user : User) → HasRoom users user → users ++ user ∷ [] ≡ with_user users user
-pushed users user h = with_user-is users (users ++ user ∷ []) user (λ k. refl) (λ no. absurd (no h))
+pushed users user h = with_user_is users (users ++ user ∷ []) user (λ k. refl) (λ no. absurd (no h))
 
 added : (users : List User) (user : User) (rest : List User) → HasRoom users user → users ++ user ∷ rest ≡ with_user users user ++ rest
 added users user rest h = sym (append_assoc users (user ∷ []) rest) ∙ ap (λ l. l ++ rest) (pushed users user h)

@@ -28,9 +28,9 @@ pub IfOk-needed : {A : Type 0} (slot : Option A) (P : A → Type 0) → IfSome s
 IfOk-needed (Some a) P p = p
 IfOk-needed None P p = tt
 
-pub unwrap_or-holds : {A : Type 0} (slot : Option A) (d : A) (P : A → Type 0) → IfSome slot P → P d → P (unwrap_or slot d)
-unwrap_or-holds (Some a) d P p q = p
-unwrap_or-holds None d P p q = q
+pub unwrap_or_holds : {A : Type 0} (slot : Option A) (d : A) (P : A → Type 0) → IfSome slot P → P d → P (unwrap_or slot d)
+unwrap_or_holds (Some a) d P p q = p
+unwrap_or_holds None d P p q = q
 
 -- both tests hold
 pub and-left : (a b : Bool) → (a && b) ≡ true → a ≡ true

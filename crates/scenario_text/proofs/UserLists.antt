@@ -35,9 +35,9 @@ cond-same true x y z on_true on_false = on_true refl
 cond-same false x y z on_true on_false = on_false refl
 
 -- what a call that adds a user leaves
-pub with_user-is : (users now : List User) (user : User) → (HasRoom users user → now ≡ users ++ user ∷ []) → ((HasRoom users user → ⊥) → now ≡ users) → now ≡ with_user users user
+pub with_user_is : (users now : List User) (user : User) → (HasRoom users user → now ≡ users ++ user ∷ []) → ((HasRoom users user → ⊥) → now ≡ users) → now ≡ with_user users user
 unfolding with_user
-with_user-is users now user added unchanged =
+with_user_is users now user added unchanged =
     cond-same (has_room users user) (users ++ user ∷ []) users now
     (λ e. added (room-there users user e))
     (λ e. unchanged (λ h. let t : has_room users user ≡ true = room-test users user h in absurd cc))
@@ -47,7 +47,7 @@ cond-holds true x y P p q = p
 cond-holds false x y P p q = q
 
 -- each user is valid, if the one more is
-pub with_user-valid : (users : List User) (user : User) → All IsValidUser users → IsValidUser user → All IsValidUser (with_user users user)
+pub with_user_valid : (users : List User) (user : User) → All IsValidUser users → IsValidUser user → All IsValidUser (with_user users user)
 unfolding with_user
-with_user-valid users user h k =
+with_user_valid users user h k =
     cond-holds (has_room users user) (users ++ user ∷ []) users (All IsValidUser) (All-push IsValidUser users user h k) h

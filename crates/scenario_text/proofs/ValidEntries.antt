@@ -95,46 +95,46 @@ key-valid word key h =
       | inr e ↦ rw e (rw e at h)
     ]
 
-pub item_of-valid : (k : Keyword) (ws : List (List ℕ)) → Fits (row_of k) ws → IsValidEntry (item_of k ws)
+pub item_of_valid : (k : Keyword) (ws : List (List ℕ)) → Fits (row_of k) ws → IsValidEntry (item_of k ws)
 unfolding item_of
-item_of-valid key.Mode ws h = refl
-item_of-valid key.FirstId ws h = omega (arith, h.fields.0.most)
-item_of-valid key.MaxRetrans ws h = h.fields.0.most
-item_of-valid key.PeerName ws h = h.fields.0
-item_of-valid key.PeerServer ws h = accepts-valid (word_in ws 1) (h.fields.0)
-item_of-valid key.PeerMethods ws h = kinds-valid ws (h.fields.0) (h.fields.1.0)
-item_of-valid key.PeerSuites ws h = suites-valid ws (h.fields.0) (h.fields.1.0)
-item_of-valid key.PeerPsk ws h = key-valid (word_in ws 1) (octets_of (word_in ws 2)) (h.fields.1.0.fits)
-item_of-valid key.PeerNonce ws h = omega (arith, h.fields.0.least, h.fields.0.most)
-item_of-valid key.ServerName ws h = h.fields.0
-item_of-valid key.ServerMethods ws h = kinds-valid ws (h.fields.0) (h.fields.1.0)
-item_of-valid key.ServerSuites ws h = suites-valid ws (h.fields.0) (h.fields.1.0)
-item_of-valid key.ServerNonce ws h = omega (arith, h.fields.0.least, h.fields.0.most)
-item_of-valid key.User ws h = record { name = h.fields.0; kind = kind-valid (word_in ws 2); psk = h.fields.1.1.0.fits }
-item_of-valid key.Events ws h = tt
-item_of-valid key.Deliver ws h = tt
-item_of-valid key.Alter ws h = tt
-item_of-valid key.Cut ws h = tt
-item_of-valid key.Inject ws h = tt
-item_of-valid key.Timeout ws h = tt
-item_of-valid key.Idle ws h = tt
-item_of-valid key.AltAccept ws h = tt
-item_of-valid key.AltReject ws h = tt
-item_of-valid key.End ws h = tt
+item_of_valid key.Mode ws h = refl
+item_of_valid key.FirstId ws h = omega (arith, h.fields.0.most)
+item_of_valid key.MaxRetrans ws h = h.fields.0.most
+item_of_valid key.PeerName ws h = h.fields.0
+item_of_valid key.PeerServer ws h = accepts-valid (word_in ws 1) (h.fields.0)
+item_of_valid key.PeerMethods ws h = kinds-valid ws (h.fields.0) (h.fields.1.0)
+item_of_valid key.PeerSuites ws h = suites-valid ws (h.fields.0) (h.fields.1.0)
+item_of_valid key.PeerPsk ws h = key-valid (word_in ws 1) (octets_of (word_in ws 2)) (h.fields.1.0.fits)
+item_of_valid key.PeerNonce ws h = omega (arith, h.fields.0.least, h.fields.0.most)
+item_of_valid key.ServerName ws h = h.fields.0
+item_of_valid key.ServerMethods ws h = kinds-valid ws (h.fields.0) (h.fields.1.0)
+item_of_valid key.ServerSuites ws h = suites-valid ws (h.fields.0) (h.fields.1.0)
+item_of_valid key.ServerNonce ws h = omega (arith, h.fields.0.least, h.fields.0.most)
+item_of_valid key.User ws h = record { name = h.fields.0; kind = kind-valid (word_in ws 2); psk = h.fields.1.1.0.fits }
+item_of_valid key.Events ws h = tt
+item_of_valid key.Deliver ws h = tt
+item_of_valid key.Alter ws h = tt
+item_of_valid key.Cut ws h = tt
+item_of_valid key.Inject ws h = tt
+item_of_valid key.Timeout ws h = tt
+item_of_valid key.Idle ws h = tt
+item_of_valid key.AltAccept ws h = tt
+item_of_valid key.AltReject ws h = tt
+item_of_valid key.End ws h = tt
 
 unless-valid : (found : Option LineFault) (e : Entry) → (found ≡ None → IsValidEntry e) → IfOk (unless found e) IsValidEntry
 unless-valid None e h = h refl
 unless-valid (Some f) e h = tt
 
 -- what a line says is within its limits
-pub entry_for-valid : (k : Keyword) (ws : List (List ℕ)) → IfOk (entry_for k ws) IsValidEntry
+pub entry_for_valid : (k : Keyword) (ws : List (List ℕ)) → IfOk (entry_for k ws) IsValidEntry
 unfolding entry_for
-entry_for-valid k ws =
-    unless-valid (fault_of_words (row_of k).least (row_of k).fields ws) (item_of k ws) (λ e. item_of-valid k ws (fits (row_of k) ws e))
+entry_for_valid k ws =
+    unless-valid (fault_of_words (row_of k).least (row_of k).fields ws) (item_of k ws) (λ e. item_of_valid k ws (fits (row_of k) ws e))
 
 -- the same of a line that was read
 pub valid_entry : (k : Keyword) (ws : List (List ℕ)) (e : Entry) → Ok e ≡ entry_for k ws → IsValidEntry e
-valid_entry k ws e h = IfOk-at_ok IsValidEntry (sym h) (entry_for-valid k ws)
+valid_entry k ws e h = IfOk-at_ok IsValidEntry (sym h) (entry_for_valid k ws)
 
 -- and of what is told of it
 pub valid_told : (it : told.Entry) (e : Event) → IsValidEntry (entry_with it e) → IsValidTold it
