@@ -12,9 +12,9 @@ use Rattle.login_call.specs.declared.keys.Keys.{Keys}
 use Rattle.login_call.specs.declared.status.Status.TheVariants as status
 
 abbrev pub took_request : Keys → Result (Option KeyLine) LineFault → Took Keys
-took_request c (Err fault) = record { text = []; verdict = refuses (fault_word fault) status.Refused; after = c }
-took_request c (Ok None) = record { text = []; verdict = goes; after = c }
-took_request c (Ok (Some asked)) = record { text = key_text asked; verdict = goes; after = c }
+took_request c (Err fault) = record { text = []; ruling = refuses (fault_word fault) status.Refused; after = c }
+took_request c (Ok None) = record { text = []; ruling = goes; after = c }
+took_request c (Ok (Some asked)) = record { text = key_text asked; ruling = goes; after = c }
 
 -- what a line brings
 unfoldable pub keys_took : Keys → List ℕ → Took Keys
