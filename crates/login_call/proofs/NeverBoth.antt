@@ -28,10 +28,9 @@ use Rattle.trace_text.proofs.Verdicts.{honest_line, apart_line, end_tells_honest
 use Rattle.login_call.specs.Answers.{Answer, after_text, IsRefusal, Ends, Gives}
 use Rattle.login_call.specs.Commands.{Took, Closing, Ruling, goes, refuses, Closed, ends, misses, after_ruling, closing_answer, answer}
 use Rattle.login_call.specs.Decode.{took_packet, decode_took, decode_closing, nothing_decoded, decode_answer}
-use Rattle.login_call.specs.Keys.{took_request, keys_took, keys_closing, all_asked, keys_answer}
+use Rattle.login_call.specs.Keys.{Asking, took_request, keys_took, keys_closing, all_asked, keys_answer}
 use Rattle.login_call.specs.Login.{usage_answer}
 use Rattle.login_call.specs.declared.decode.Decode.{Decode}
-use Rattle.login_call.specs.declared.keys.Keys.{Keys}
 use Rattle.login_call.specs.Headline.{NeverBoth, WritesNeverBoth}
 use Rattle.login_call.specs.Scenario.{Outcome, whole, refused, Scenario, stops, adds, is_event, with_line, events_after, read_after, scenario_from, scenario_of, too_much_at, finish_outcome, events_text, setup_answer, trace_header, replay_answer}
 use Rattle.login_call.specs.Replay.{max_events}
@@ -189,16 +188,16 @@ never_decode : (octets : List ℕ) → Never (decode_answer octets)
 never_decode octets =
     never_if_plain _ (plain_answer decode_took decode_closing (λ c l. (line_decoded c l).0) (λ c l. (line_decoded c l).1) all_decoded (lines octets) 0 nothing_decoded)
 
-request_took : (c : Keys) (x : Result (Option KeyLine) LineFault) → (plain begins_result true (took_request c x).text ≡ true) × Refuses (took_request c x).ruling
+request_took : (c : Asking) (x : Result (Option KeyLine) LineFault) → (plain begins_result true (took_request c x).text ≡ true) × Refuses (took_request c x).ruling
 request_took c (Err fault) = (refl, tt)
 request_took c (Ok None) = (refl, tt)
 request_took c (Ok (Some asked)) = (key_plain asked, tt)
 
-line_asked : (c : Keys) (l : List ℕ) → (plain begins_result true (keys_took c l).text ≡ true) × Refuses (keys_took c l).ruling
+line_asked : (c : Asking) (l : List ℕ) → (plain begins_result true (keys_took c l).text ≡ true) × Refuses (keys_took c l).ruling
 unfolding keys_took
 line_asked c l = request_took c (key_line l)
 
-all_answered : (c : Keys) → plain begins_result true (keys_closing c).text ≡ true
+all_answered : (c : Asking) → plain begins_result true (keys_closing c).text ≡ true
 unfolding keys_closing
 all_answered c = refl
 
