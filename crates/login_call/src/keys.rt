@@ -1,7 +1,5 @@
 //! The command `keys`: answers requests for ciphers, MACs and keys.
 
-ghost use Rattle.std.specs.Prelude.{◌≡◌};
-
 use crate::command::{Close, Command, Next, Trouble};
 use crate::status::Status;
 use eap_base::{Failed, Sink};
