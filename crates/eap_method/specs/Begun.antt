@@ -13,9 +13,13 @@ use Rattle.eap_method.specs.Server as server
 use Rattle.eap_method.specs.Server.{ServerShown, side_of}
 
 unfoldable pub peer_begun_in : PeerSetup → PeerShown → PeerShown
-peer_begun_in setup (peer.psk view) = peer.psk (if is_among setup.methods psk_kind then psk_peer.fresh (credential_for setup psk_kind) setup.nonce else view)
-peer_begun_in setup (peer.gpsk view) = peer.gpsk (if is_among setup.methods gpsk_kind then gpsk_peer.fresh (credential_for setup gpsk_kind) setup.nonce else view)
+peer_begun_in setup (peer.psk view) =
+    peer.psk (if is_among setup.methods psk_kind then psk_peer.fresh (credential_for setup psk_kind) setup.nonce else view)
+peer_begun_in setup (peer.gpsk view) =
+    peer.gpsk (if is_among setup.methods gpsk_kind then gpsk_peer.fresh (credential_for setup gpsk_kind) setup.nonce else view)
 
 unfoldable pub server_begun_in : ServerSetup → ServerShown → ServerShown
-server_begun_in setup (server.psk view) = server.psk (if is_among setup.methods psk_kind then psk_server.begun (side_of setup) setup.nonce else view)
-server_begun_in setup (server.gpsk view) = server.gpsk (if is_among setup.methods gpsk_kind then gpsk_server.begun (side_of setup) setup.nonce else view)
+server_begun_in setup (server.psk view) =
+    server.psk (if is_among setup.methods psk_kind then psk_server.begun (side_of setup) setup.nonce else view)
+server_begun_in setup (server.gpsk view) =
+    server.gpsk (if is_among setup.methods gpsk_kind then gpsk_server.begun (side_of setup) setup.nonce else view)

@@ -1,6 +1,9 @@
 -- Where the covered octets of a message stand in its Type-Data.
-use Rattle.std.proofs.Common.{◌≡◌, ℕ, ◌+◌, ◌-◌, ◌≤◌, List, [], ◌∷◌, ◌++◌, length, take, drop, ap, sym, ◌∙◌, arith, length-append, append-nil}
+use Rattle.std.proofs.Common.{◌≡◌, ℕ, ◌+◌, ◌-◌, ◌≤◌, ◌<◌, List, [], ◌∷◌, ◌++◌, length, take, drop, ap, sym, ◌∙◌, arith, length-append, append-nil}
 use Rattle.std.proofs.lemmas.List.{take_at}
+use Rattle.eap_base.specs.Suite.{ks_of}
+use Rattle.eap_base.specs.declared.setup.Suite.{Suite}
+use Rattle.eap_base.specs.declared.setup.Suite.TheVariants.{Cmac, Hmac}
 use Rattle.gpsk_messages.specs.Message.{Message, op_code, covered_of, mac_of, spelled}
 
 -- the octets after the OP-Code
@@ -33,3 +36,8 @@ covered_middle message body mac e m =
 -- one piece, joined with none
 pub one_piece : (octets : List ℕ) → octets ++ [] ≡ octets
 one_piece octets = append-nil octets
+
+-- KS is told in one octet
+pub ks_small : (suite : Suite) → ks_of suite < 256
+ks_small Cmac = omega arith
+ks_small Hmac = omega arith

@@ -10,17 +10,8 @@ use eap_base::Suite;
 use eap_packet::Cause;
 use gpsk_messages::{GpskView, read_gpsk};
 
-/// KS of a suite, 16 or 32, in one octet.
-fn ks_octet(suite: Suite) -> u8
-    ensures { result ≡ ks_of suite }
-{
-    match suite {
-        Suite::Cmac => 16,
-        Suite::Hmac => 32,
-    }
-}
-
 /// The message that the Type-Data spells, where `suite` is the login's once that is chosen.
+#[tactic(auto, using(crate::proofs::Covered::ks_small))]
 pub(crate) fn hear<'a>(body: &'a [u8], suite: Option<Suite>) -> Result<GpskView<'a>, Cause>
     requires { length body.now ≤ 1495 }
     ensures message { heard result ≡ read_of (option_map ks_of suite) body.now }
@@ -28,7 +19,7 @@ pub(crate) fn hear<'a>(body: &'a [u8], suite: Option<Suite>) -> Result<GpskView<
 {
     match suite {
         None => read_gpsk(body, None),
-        Some(suite) => read_gpsk(body, Some(ks_octet(suite))),
+        Some(suite) => read_gpsk(body, Some(suite.ks() as u8)),
     }
 }
 

@@ -7,7 +7,7 @@ use Rattle.trace_text.specs.Writes.{WritesFront}
 use Rattle.trace_text.proofs.Fronts.{append_known_append, append_known_nil}
 use Rattle.login_call.specs.declared.status.Status.{Status}
 use Rattle.login_call.specs.Answers.{after_text, refusal, overlong, Ends}
-use Rattle.login_call.specs.Commands.{Took, Closing, after_verdict, lacking_after, closing_answer, answer, lacking, GoesOn, Stops}
+use Rattle.login_call.specs.Commands.{Took, Closing, after_ruling, lacking_after, closing_answer, answer, lacking, GoesOn, Stops}
 use Rattle.login_call.proofs.Endings.{Progress, ends_progress, front_progress, front_none, front_first, ends_after}
 
 -- an option that is made of another
@@ -27,7 +27,7 @@ or-true false = refl
 module _ {C : Type 0} (took : C → List ℕ → Took C) (closing : C → Closing) (lacks : C → List ℕ → Bool) where
   answer-line : (n : ℕ) (c : C) (l : List ℕ) (rest : Lines)
       → answer took closing n c (line l rest)
-      ≡ after_text (took c l).text (after_verdict (n + 1) (took c l).verdict (answer took closing (n + 1) (took c l).after rest))
+      ≡ after_text (took c l).text (after_ruling (n + 1) (took c l).ruling (answer took closing (n + 1) (took c l).after rest))
   unfolding answer
   answer-line n c l rest = refl
 
@@ -35,16 +35,16 @@ module _ {C : Type 0} (took : C → List ℕ → Took C) (closing : C → Closin
   unfolding answer
   answer-ended n c = refl
 
-  answer-too_long : (n : ℕ) (c : C) → answer took closing n c too_long ≡ overlong (n + 1)
+  answer_too_long : (n : ℕ) (c : C) → answer took closing n c too_long ≡ overlong (n + 1)
   unfolding answer
-  answer-too_long n c = refl
+  answer_too_long n c = refl
 
-  answer-too_much : (n : ℕ) (c : C) → answer took closing n c too_much ≡ overlong (n + 1)
+  answer_too_much : (n : ℕ) (c : C) → answer took closing n c too_much ≡ overlong (n + 1)
   unfolding answer
-  answer-too_much n c = refl
+  answer_too_much n c = refl
 
   lacking-line : (c : C) (l : List ℕ) (rest : Lines)
-      → lacking took lacks c (line l rest) ≡ (lacks c l || lacking_after (took c l).verdict (lacking took lacks (took c l).after rest))
+      → lacking took lacks c (line l rest) ≡ (lacks c l || lacking_after (took c l).ruling (lacking took lacks (took c l).after rest))
   unfolding lacking
   lacking-line c l rest = refl
 
@@ -65,10 +65,10 @@ module _ {C : Type 0} (took : C → List ℕ → Took C) (closing : C → Closin
   driving_goes before mid now begun all n c new l rest d g = record {
     progress = record {
       front = d.progress.front ++ (took c l).text;
-      split = d.progress.split ∙ ap (after_text d.progress.front) (answer-line n c l rest) ∙ rw (g.verdict, g.after, append_assoc) refl;
+      split = d.progress.split ∙ ap (after_text d.progress.front) (answer-line n c l rest) ∙ rw (g.ruling, g.after, append_assoc) refl;
       appended = append_known_append before d.progress.front (took c l).text ∙ ap (λ k. append_known k (took c l).text) d.progress.appended ∙ g.text;
     };
-    memory = λ e. d.memory (lacking-line c l rest ∙ rw (g.verdict, g.after, e) (or-true (lacks c l)));
+    memory = λ e. d.memory (lacking-line c l rest ∙ rw (g.ruling, g.after, e) (or-true (lacks c l)));
   }
 
   -- a line is refused
@@ -76,7 +76,7 @@ module _ {C : Type 0} (took : C → List ℕ → Took C) (closing : C → Closin
       → Driving before mid begun all n c (line l rest) → Stops (took c l) mid now word s
       → Ends result now after (refusal (n + 1) word s) → Ends result before after (answer took closing 0 begun all)
   driving_stops before mid now after begun all n c l rest word s result d g w =
-      ends_progress result before mid after _ _ d.progress (rw (answer-line n c l rest, g.verdict) (ends_after result mid now after (took c l).text (refusal (n + 1) word s) g.text w))
+      ends_progress result before mid after _ _ d.progress (rw (answer-line n c l rest, g.ruling) (ends_after result mid now after (took c l).text (refusal (n + 1) word s) g.text w))
 
   -- the answer to a line is cut short
   pub driving_cut : (before mid now : Option (List ℕ)) (begun : C) (all : Lines) (n : ℕ) (c : C) (l : List ℕ) (rest : Lines)
@@ -104,11 +104,11 @@ module _ {C : Type 0} (took : C → List ℕ → Took C) (closing : C → Closin
   -- a line or the input is too long
   pub driving_too_long : (before mid now : Option (List ℕ)) (begun : C) (all : Lines) (n : ℕ) (c : C) (result : Status)
       → Driving before mid begun all n c too_long → Ends result mid now (overlong (n + 1)) → Ends result before now (answer took closing 0 begun all)
-  driving_too_long before mid now begun all n c result d w = ends_progress result before mid now _ _ d.progress (rw (answer-too_long n c) w)
+  driving_too_long before mid now begun all n c result d w = ends_progress result before mid now _ _ d.progress (rw (answer_too_long n c) w)
 
   pub driving_too_much : (before mid now : Option (List ℕ)) (begun : C) (all : Lines) (n : ℕ) (c : C) (result : Status)
       → Driving before mid begun all n c too_much → Ends result mid now (overlong (n + 1)) → Ends result before now (answer took closing 0 begun all)
-  driving_too_much before mid now begun all n c result d w = ends_progress result before mid now _ _ d.progress (rw (answer-too_much n c) w)
+  driving_too_much before mid now begun all n c result d w = ends_progress result before mid now _ _ d.progress (rw (answer_too_much n c) w)
 
   -- the same, where the lines that are left are those of a reader
   pub record Underway (before now : Option (List ℕ)) (begun : C) (all : Lines) (n : ℕ) (c : C) (left : Option Lines) : Type 0 where

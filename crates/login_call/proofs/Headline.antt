@@ -15,7 +15,7 @@ use Rattle.scenario_text.specs.declared.fault.LineFault.{LineFault}
 use Rattle.scenario_text.specs.Items.{Item}
 use Rattle.scenario_text.specs.Items as item
 use Rattle.scenario_text.specs.declared.scenario.Phase.TheVariants as phase
-use Rattle.scenario_text.proofs.ValidReading.{no_settings-valid, read_line-valid}
+use Rattle.scenario_text.proofs.ValidReading.{no_settings_valid, read_line_valid}
 use Rattle.login_call.specs.Headline.{HonestEndsAgree}
 use Rattle.login_call.specs.Replay.{max_events}
 use Rattle.login_call.specs.Scenario.{Scenario, stops, too_much_at, adds, is_event, with_line, events_after, read_after, scenario_from, scenario_of}
@@ -49,7 +49,7 @@ setup_valid ended n k r setup valid same = cc
 setup_valid too_long n k r setup valid same = cc
 setup_valid too_much n k r setup valid same = cc
 setup_valid (line l rest) n k r setup valid same =
-    let read = read_line-valid r l valid in
+    let read = read_line_valid r l valid in
     of_line (n + 1) k (read_line r l) (scenario_from (n + 1) (events_after k (read_line r l)) (read_after r (read_line r l)) rest) setup read
     (λ out is. setup_valid rest (n + 1) (events_after k (read_line r l)) (read_after r (read_line r l)) setup (after_valid r (read_line r l) out read is))
     same
@@ -66,7 +66,7 @@ whole_if_valid setup valid = record {
 pub headline : (octets : List ℕ) → HonestEndsAgree octets
 headline octets setup is =
     let events = (scenario_of octets).events in
-    let whole = whole_if_valid setup (setup_valid (lines octets) 0 0 (record { phase = phase.Unread; settings = no_settings }) setup no_settings-valid is) in
+    let whole = whole_if_valid setup (setup_valid (lines octets) 0 0 (record { phase = phase.Unread; settings = no_settings }) setup no_settings_valid is) in
     record {
       of_either = honest_of_either _;
       agrees = honest_ends_agree setup events whole;

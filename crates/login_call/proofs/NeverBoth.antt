@@ -27,12 +27,11 @@ use Rattle.trace_text.proofs.PlainTexts.{begins_verdict, no_verdict, told_plain,
 use Rattle.trace_text.proofs.Scanning.{has_mark, found}
 use Rattle.trace_text.proofs.Verdicts.{honest_line, apart_line, end_tells_honest, end_tells_apart}
 use Rattle.login_call.specs.Answers.{Answer, after_text, IsRefusal, Ends, Gives}
-use Rattle.login_call.specs.Commands.{Took, Closing, Verdict, goes, refuses, Closed, ends, misses, after_verdict, closing_answer, answer}
+use Rattle.login_call.specs.Commands.{Took, Closing, Ruling, goes, refuses, Closed, ends, misses, after_ruling, closing_answer, answer}
 use Rattle.login_call.specs.Decode.{took_packet, decode_took, decode_closing, nothing_decoded, decode_answer}
-use Rattle.login_call.specs.Keys.{took_request, keys_took, keys_closing, all_asked, keys_answer}
+use Rattle.login_call.specs.Keys.{Asking, took_request, keys_took, keys_closing, all_asked, keys_answer}
 use Rattle.login_call.specs.Login.{usage_answer}
 use Rattle.login_call.specs.declared.decode.Decode.{Decode}
-use Rattle.login_call.specs.declared.keys.Keys.{Keys}
 use Rattle.login_call.specs.Headline.{NeverBoth, WritesNeverBoth}
 use Rattle.login_call.specs.Scenario.{Outcome, whole, refused, Scenario, stops, adds, is_event, with_line, events_after, read_after, scenario_from, scenario_of, too_much_at, finish_outcome, events_text, setup_answer, trace_header, replay_answer}
 use Rattle.login_call.specs.Replay.{max_events}
@@ -147,8 +146,8 @@ never_replay names octets =
 record IsPlain (a : Answer) : Type 0 where
   pub holds : a.status ≡ status.Done → plain begins_result true a.text ≡ true
 
--- a refusing verdict never has status 0
-abbrev Refuses : Verdict → Type 0
+-- a refusing ruling never has status 0
+abbrev Refuses : Ruling → Type 0
 Refuses goes = Unit {0}
 Refuses (refuses word s) = IsRefusal s
 
@@ -156,19 +155,19 @@ plain_closing : (number : ℕ) (text : List ℕ) (x : Closed) → plain begins_r
 plain_closing number text (ends s) h = record { holds = λ done. join begins_result text [] true h refl }
 plain_closing number text (misses word) h = record { holds = λ done. absurd (refusal_is_not status.Refused tt done) }
 
-plain_after : (number : ℕ) (text : List ℕ) (v : Verdict) (a : Answer) → plain begins_result true text ≡ true → Refuses v → IsPlain a → IsPlain (after_text text (after_verdict number v a))
+plain_after : (number : ℕ) (text : List ℕ) (v : Ruling) (a : Answer) → plain begins_result true text ≡ true → Refuses v → IsPlain a → IsPlain (after_text text (after_ruling number v a))
 plain_after number text goes a h k rest = record { holds = λ done. join begins_result text a.text true h (rest.holds done) }
 plain_after number text (refuses word s) a h k rest = record { holds = λ done. absurd (refusal_is_not s k done) }
 
 module _ {C : Type 0} (took : C → List ℕ → Took C) (closing : C → Closing) (plain_took : (c : C) (l : List ℕ) → plain begins_result true (took c l).text ≡ true)
-    (refusing : (c : C) (l : List ℕ) → Refuses (took c l).verdict) (plain_end : (c : C) → plain begins_result true (closing c).text ≡ true) where
+    (refusing : (c : C) (l : List ℕ) → Refuses (took c l).ruling) (plain_end : (c : C) → plain begins_result true (closing c).text ≡ true) where
   plain_answer : (ls : Lines) (n : ℕ) (c : C) → IsPlain (answer took closing n c ls)
   unfolding answer
   plain_answer ended n c = plain_closing (n + 1) (closing c).text (closing c).closed (plain_end c)
   plain_answer too_long n c = record { holds = λ done. absurd (refusal_is_not status.TooMuch tt done) }
   plain_answer too_much n c = record { holds = λ done. absurd (refusal_is_not status.TooMuch tt done) }
   plain_answer (line l rest) n c =
-      plain_after (n + 1) (took c l).text (took c l).verdict (answer took closing (n + 1) (took c l).after rest) (plain_took c l) (refusing c l)
+      plain_after (n + 1) (took c l).text (took c l).ruling (answer took closing (n + 1) (took c l).after rest) (plain_took c l) (refusing c l)
       (plain_answer rest (n + 1) (took c l).after)
 
 never_if_plain : (a : Answer) → IsPlain a → Never a
@@ -176,12 +175,12 @@ never_if_plain a p = record {
   holds = λ done honest apart. true≢false (sym (found (codes "result apart") a.text apart) ∙ none begins_result 114 (codes "esult apart\n") refl a.text true (p.holds done));
 }
 
-packet_took : (c : Decode) (x : Result (Option (List ℕ)) LineFault) → (plain begins_result true (took_packet c x).text ≡ true) × Refuses (took_packet c x).verdict
+packet_took : (c : Decode) (x : Result (Option (List ℕ)) LineFault) → (plain begins_result true (took_packet c x).text ≡ true) × Refuses (took_packet c x).ruling
 packet_took c (Err fault) = (refl, tt)
 packet_took c (Ok None) = (refl, tt)
 packet_took c (Ok (Some octets)) = (packet_plain (c.packets + 1) octets, tt)
 
-line_decoded : (c : Decode) (l : List ℕ) → (plain begins_result true (decode_took c l).text ≡ true) × Refuses (decode_took c l).verdict
+line_decoded : (c : Decode) (l : List ℕ) → (plain begins_result true (decode_took c l).text ≡ true) × Refuses (decode_took c l).ruling
 unfolding decode_took
 line_decoded c l = packet_took c (packet_line l)
 
@@ -193,16 +192,16 @@ never_decode : (octets : List ℕ) → Never (decode_answer octets)
 never_decode octets =
     never_if_plain _ (plain_answer decode_took decode_closing (λ c l. (line_decoded c l).0) (λ c l. (line_decoded c l).1) all_decoded (lines octets) 0 nothing_decoded)
 
-request_took : (c : Keys) (x : Result (Option KeyLine) LineFault) → (plain begins_result true (took_request c x).text ≡ true) × Refuses (took_request c x).verdict
+request_took : (c : Asking) (x : Result (Option KeyLine) LineFault) → (plain begins_result true (took_request c x).text ≡ true) × Refuses (took_request c x).ruling
 request_took c (Err fault) = (refl, tt)
 request_took c (Ok None) = (refl, tt)
 request_took c (Ok (Some asked)) = (key_plain asked, tt)
 
-line_asked : (c : Keys) (l : List ℕ) → (plain begins_result true (keys_took c l).text ≡ true) × Refuses (keys_took c l).verdict
+line_asked : (c : Asking) (l : List ℕ) → (plain begins_result true (keys_took c l).text ≡ true) × Refuses (keys_took c l).ruling
 unfolding keys_took
 line_asked c l = request_took c (key_line l)
 
-all_answered : (c : Keys) → plain begins_result true (keys_closing c).text ≡ true
+all_answered : (c : Asking) → plain begins_result true (keys_closing c).text ≡ true
 unfolding keys_closing
 all_answered c = refl
 

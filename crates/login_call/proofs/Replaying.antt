@@ -11,10 +11,10 @@ use Rattle.scenario_text.specs.Items as item
 use Rattle.scenario_text.specs.declared.scenario.Phase.{Phase}
 use Rattle.scenario_text.specs.declared.scenario.Phase.TheVariants as phase
 use Rattle.scenario_text.specs.declared.settings.Settings.{Settings}
-use Rattle.scenario_text.proofs.ReadLine.{FromSettings, FromEvents, PassedBefore, NewSetting, AllSet, PassedBetween, NewEvent, AllRead, read_line-from_unread, read_line-from_settings, read_line-from_events, read_line-from_ended}
+use Rattle.scenario_text.proofs.ReadLine.{FromSettings, FromEvents, PassedBefore, NewSetting, AllSet, PassedBetween, NewEvent, AllRead, read_line_from_unread, read_line_from_settings, read_line_from_events, read_line_from_ended}
 use Rattle.trace_text.specs.Run.{begin_text, outcome_text, end_text}
 use Rattle.login_call.specs.Answers.{Answer, after_text}
-use Rattle.login_call.specs.Commands.{Took, refuses, after_verdict, lacking_after, closing_answer, answer, lacking}
+use Rattle.login_call.specs.Commands.{Took, refuses, after_ruling, lacking_after, closing_answer, answer, lacking}
 use Rattle.login_call.specs.Replay.{ReplayNow, max_events, goes_with, replay_took, replay_closing, replay_lacks, reading_lacks, took_reading, closing_by}
 use Rattle.login_call.specs.Scenario.{Scenario, stops, too_much_at, finish_outcome, adds, with_line, events_after, read_after, scenario_from, run_answer, scenario_answer}
 use Rattle.login_call.specs.declared.status.Status.TheVariants as status
@@ -42,7 +42,7 @@ pub data BeforeRun (p : Phase) : Type 0 where
 -- what the command answers from a line on, by what the reader answers
 abbrev line_answer : ℕ → ReplayNow → Lines → Result ReadLine LineFault → Answer
 line_answer n c rest x =
-    after_text (took_reading c x).text (after_verdict (n + 1) (took_reading c x).verdict (answers (n + 1) (took_reading c x).after rest))
+    after_text (took_reading c x).text (after_ruling (n + 1) (took_reading c x).ruling (answers (n + 1) (took_reading c x).after rest))
 
 -- the scenario from a line on, by what the reader answers
 abbrev line_scenario : ℕ → ℕ → Reading → Lines → Result ReadLine LineFault → Scenario
@@ -66,8 +66,8 @@ module _ (c : ReplayNow) where
 
   -- an event, by whether it is one too many
   event_in_world : (n : ℕ) (s : Settings) (w : WorldNow) (rest : Lines) (e : Event) → Continues (n + 1) rest → (b : Bool)
-      → (let t : Took ReplayNow = cond b (record { text = []; verdict = refuses (codes "TooMuch") status.TooMuch; after = in_world c (record { phase = phase.Events; settings = s }) w }) (goes_with (in_world c (record { phase = phase.Events; settings = s }) w) (outcome_text c.names (world_step w e)) (world_step w e).after) in
-      after_text t.text (after_verdict (n + 1) t.verdict (answers (n + 1) t.after rest)))
+      → (let t : Took ReplayNow = cond b (record { text = []; ruling = refuses (codes "TooMuch") status.TooMuch; after = in_world c (record { phase = phase.Events; settings = s }) w }) (goes_with (in_world c (record { phase = phase.Events; settings = s }) w) (outcome_text c.names (world_step w e)) (world_step w e).after) in
+      after_text t.text (after_ruling (n + 1) t.ruling (answers (n + 1) t.after rest)))
       ≡ run_scenario w (cond b (stops (too_much_at (n + 1))) (adds (item.Event e) (scenario_from (n + 1) (w.counts.events + 1) (record { phase = phase.Events; settings = s }) rest)))
   unfolding run_after outcomes_after
   event_in_world n s w rest e ih true = refl
@@ -95,8 +95,8 @@ module _ (c : ReplayNow) where
       → line_answer n (in_world c r w) rest x ≡ run_scenario w (line_scenario n w.counts.events r rest x)
   unfolding run_after outcomes_after
   line_in_world n r w l rest h ih (Err fault) e = refl
-  line_in_world n r w l rest (AtEvents p) ih (Ok out) e = line_at_events n r.settings r w rest ih out (read_line-from_events r l out p e)
-  line_in_world n r w l rest (AtEnded p) ih (Ok out) e = line_at_end n r w rest ih out (read_line-from_ended r l out p e)
+  line_in_world n r w l rest (AtEvents p) ih (Ok out) e = line_at_events n r.settings r w rest ih out (read_line_from_events r l out p e)
+  line_in_world n r w l rest (AtEnded p) ih (Ok out) e = line_at_end n r w rest ih out (read_line_from_ended r l out p e)
 
   -- in a world the command answers the run of the events to come
   pub answers_in_world : (ls : Lines) (n : ℕ) → Continues n ls
@@ -134,8 +134,8 @@ module _ (c : ReplayNow) where
   line_before : (n : ℕ) (r : Reading) (l : List ℕ) (rest : Lines) → BeforeRun r.phase → Waits (n + 1) rest → (x : Result ReadLine LineFault) → read_line r l ≡ x
       → line_answer n (in_none c r) rest x ≡ scenario_answer c.names (line_scenario n 0 r rest x)
   line_before n r l rest h ih (Err fault) e = refl
-  line_before n r l rest (AtUnread p) ih (Ok out) e = line_at_first n r rest ih out (read_line-from_unread r l out p e)
-  line_before n r l rest (AtSettings p) ih (Ok out) e = line_at_settings n r.settings r rest ih out (read_line-from_settings r l out p e)
+  line_before n r l rest (AtUnread p) ih (Ok out) e = line_at_first n r rest ih out (read_line_from_unread r l out p e)
+  line_before n r l rest (AtSettings p) ih (Ok out) e = line_at_settings n r.settings r rest ih out (read_line_from_settings r l out p e)
 
   -- before the run the command answers what the scenario does
   pub answers_before : (ls : Lines) (n : ℕ) → Waits n ls
@@ -150,7 +150,7 @@ module _ (c : ReplayNow) where
   Lacks n rest = (r : Reading) → BeforeRun r.phase → lacking replay_took replay_lacks (in_none c r) rest ≡ true → is_some (scenario_from n 0 r rest).setup ≡ true
 
   abbrev line_lacks : ReplayNow → Lines → Result ReadLine LineFault → Bool
-  line_lacks d rest x = reading_lacks x || lacking_after (took_reading d x).verdict (lacking replay_took replay_lacks (took_reading d x).after rest)
+  line_lacks d rest x = reading_lacks x || lacking_after (took_reading d x).ruling (lacking replay_took replay_lacks (took_reading d x).after rest)
 
   lacks_at_settings : (n : ℕ) (s : Settings) (r : Reading) (rest : Lines) → Lacks (n + 1) rest → (out : ReadLine) → FromSettings s out
       → line_lacks (in_none c r) rest (Ok out) ≡ true → is_some (line_scenario n 0 r rest (Ok out)).setup ≡ true
@@ -167,8 +167,8 @@ module _ (c : ReplayNow) where
   lacks_before : (n : ℕ) (r : Reading) (l : List ℕ) (rest : Lines) → BeforeRun r.phase → Lacks (n + 1) rest → (x : Result ReadLine LineFault) → read_line r l ≡ x
       → line_lacks (in_none c r) rest x ≡ true → is_some (line_scenario n 0 r rest x).setup ≡ true
   lacks_before n r l rest h ih (Err fault) e lack = absurd cc
-  lacks_before n r l rest (AtUnread p) ih (Ok out) e lack = lacks_at_first n r rest ih out (read_line-from_unread r l out p e) lack
-  lacks_before n r l rest (AtSettings p) ih (Ok out) e lack = lacks_at_settings n r.settings r rest ih out (read_line-from_settings r l out p e) lack
+  lacks_before n r l rest (AtUnread p) ih (Ok out) e lack = lacks_at_first n r rest ih out (read_line_from_unread r l out p e) lack
+  lacks_before n r l rest (AtSettings p) ih (Ok out) e lack = lacks_at_settings n r.settings r rest ih out (read_line_from_settings r l out p e) lack
 
   pub lacks_only_with_setup : (ls : Lines) (n : ℕ) → Lacks n ls
   unfolding lacking scenario_from replay_took replay_lacks

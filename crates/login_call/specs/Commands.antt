@@ -15,14 +15,14 @@ use Rattle.login_call.specs.declared.command.Trouble.{Trouble}
 use Rattle.login_call.specs.declared.command.Trouble.TheVariants as trouble
 
 -- after a line the command goes on, or refuses it with a word and a status
-pub data Verdict : Type 0 where
-  goes : Verdict
-  refuses : List ℕ → Status → Verdict
+pub data Ruling : Type 0 where
+  goes : Ruling
+  refuses : List ℕ → Status → Ruling
 
--- what a line brings: a text, a verdict, and the command after it
+-- what a line brings: a text, a ruling, and the command after it
 pub record Took (C : Type 0) : Type 0 where
   pub text : List ℕ
-  pub verdict : Verdict
+  pub ruling : Ruling
   pub after : C
 
 -- at the end of the input the command ends with a status, or misses something
@@ -35,16 +35,16 @@ pub record Closing : Type 0 where
   pub closed : Closed
 
 -- what follows a line, whose number is given
-abbrev pub after_verdict : ℕ → Verdict → Answer → Answer
-after_verdict number goes a = a
-after_verdict number (refuses word s) a = refusal number word s
+abbrev pub after_ruling : ℕ → Ruling → Answer → Answer
+after_ruling number goes a = a
+after_ruling number (refuses word s) a = refusal number word s
 
 -- what the end of the input brings, where the next line would have the number
 abbrev pub closing_answer : ℕ → Closed → Answer
 closing_answer number (ends s) = record { text = []; status = s }
 closing_answer number (misses word) = refusal number word status.Refused
 
-abbrev pub lacking_after : Verdict → Bool → Bool
+abbrev pub lacking_after : Ruling → Bool → Bool
 lacking_after goes b = b
 lacking_after (refuses word s) b = false
 
@@ -55,7 +55,7 @@ module _ {C : Type 0} (took : C → List ℕ → Took C) (closing : C → Closin
   answer n c too_long = overlong (n + 1)
   answer n c too_much = overlong (n + 1)
   answer n c (line l rest) =
-      after_text (took c l).text (after_verdict (n + 1) (took c l).verdict (answer (n + 1) (took c l).after rest))
+      after_text (took c l).text (after_ruling (n + 1) (took c l).ruling (answer (n + 1) (took c l).after rest))
 
 -- whether some line that the command comes to may find memory wanting
 module _ {C : Type 0} (took : C → List ℕ → Took C) (lacks : C → List ℕ → Bool) where
@@ -63,17 +63,17 @@ module _ {C : Type 0} (took : C → List ℕ → Took C) (lacks : C → List ℕ
   lacking c ended = false
   lacking c too_long = false
   lacking c too_much = false
-  lacking c (line l rest) = lacks c l || lacking_after (took c l).verdict (lacking (took c l).after rest)
+  lacking c (line l rest) = lacks c l || lacking_after (took c l).ruling (lacking (took c l).after rest)
 
 -- a line was taken, its text written, and the command is as it is after it
 pub record GoesOn {C : Type 0} (t : Took C) (before now : Option (List ℕ)) (new : C) : Type 0 where
-  pub verdict : t.verdict ≡ goes
+  pub ruling : t.ruling ≡ goes
   pub text : append_known before t.text ≡ now
   pub after : t.after ≡ new
 
 -- a line was refused
 pub record Stops {C : Type 0} (t : Took C) (before now : Option (List ℕ)) (word : List ℕ) (s : Status) : Type 0 where
-  pub verdict : t.verdict ≡ refuses word s
+  pub ruling : t.ruling ≡ refuses word s
   pub text : append_known before t.text ≡ now
   pub refusal : IsRefusal s
 

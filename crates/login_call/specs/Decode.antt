@@ -20,9 +20,9 @@ abbrev pub with_packet : Decode → List ℕ → Decode
 with_packet c octets = record { packets = c.packets + 1; malformed = c.malformed + (if is_malformed octets then 1 else 0) }
 
 abbrev pub took_packet : Decode → Result (Option (List ℕ)) LineFault → Took Decode
-took_packet c (Err fault) = record { text = []; verdict = refuses (fault_word fault) status.Refused; after = c }
-took_packet c (Ok None) = record { text = []; verdict = goes; after = c }
-took_packet c (Ok (Some octets)) = record { text = packet_text (c.packets + 1) octets; verdict = goes; after = with_packet c octets }
+took_packet c (Err fault) = record { text = []; ruling = refuses (fault_word fault) status.Refused; after = c }
+took_packet c (Ok None) = record { text = []; ruling = goes; after = c }
+took_packet c (Ok (Some octets)) = record { text = packet_text (c.packets + 1) octets; ruling = goes; after = with_packet c octets }
 
 -- what a line brings
 unfoldable pub decode_took : Decode → List ℕ → Took Decode

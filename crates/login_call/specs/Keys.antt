@@ -8,27 +8,29 @@ use Rattle.scenario_text.specs.declared.key_line.KeyLine.{KeyLine}
 use Rattle.trace_text.specs.Keys.{key_text}
 use Rattle.login_call.specs.Answers.{Answer}
 use Rattle.login_call.specs.Commands.{Took, Closing, goes, refuses, ends, answer}
-use Rattle.login_call.specs.declared.keys.Keys.{Keys}
 use Rattle.login_call.specs.declared.status.Status.TheVariants as status
 
-abbrev pub took_request : Keys → Result (Option KeyLine) LineFault → Took Keys
-took_request c (Err fault) = record { text = []; verdict = refuses (fault_word fault) status.Refused; after = c }
-took_request c (Ok None) = record { text = []; verdict = goes; after = c }
-took_request c (Ok (Some asked)) = record { text = key_text asked; verdict = goes; after = c }
+-- each request is answered by itself: nothing of the command decides what a line brings
+pub record Asking : Type 0 where
+
+abbrev pub took_request : Asking → Result (Option KeyLine) LineFault → Took Asking
+took_request c (Err fault) = record { text = []; ruling = refuses (fault_word fault) status.Refused; after = c }
+took_request c (Ok None) = record { text = []; ruling = goes; after = c }
+took_request c (Ok (Some asked)) = record { text = key_text asked; ruling = goes; after = c }
 
 -- what a line brings
-unfoldable pub keys_took : Keys → List ℕ → Took Keys
+unfoldable pub keys_took : Asking → List ℕ → Took Asking
 keys_took c line = took_request c (key_line line)
 
 -- the end of the input
-unfoldable pub keys_closing : Keys → Closing
+unfoldable pub keys_closing : Asking → Closing
 keys_closing c = record { text = []; closed = ends status.Done }
 
 -- no line finds memory wanting
-abbrev pub keys_lacks : Keys → List ℕ → Bool
+abbrev pub keys_lacks : Asking → List ℕ → Bool
 keys_lacks c line = false
 
-abbrev pub all_asked : Keys
+abbrev pub all_asked : Asking
 all_asked = record {}
 
 -- what an input answers

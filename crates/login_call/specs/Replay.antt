@@ -48,14 +48,14 @@ module _ {P S : Type 0} (peer_shown : P → PeerShown) (server_shown : S → Ser
 
 -- a line that brings nothing to write
 abbrev pub goes_silently : ReplayNow → Took ReplayNow
-goes_silently c = record { text = []; verdict = goes; after = c }
+goes_silently c = record { text = []; ruling = goes; after = c }
 
 abbrev pub is_refused : ReplayNow → List ℕ → Took ReplayNow
-is_refused c word = record { text = []; verdict = refuses word status.Refused; after = c }
+is_refused c word = record { text = []; ruling = refuses word status.Refused; after = c }
 
 -- the world has started or has taken an event, and its lines are written
 abbrev pub goes_with : ReplayNow → List ℕ → WorldNow → Took ReplayNow
-goes_with c text w = record { text = text; verdict = goes; after = record c { world = Some w } }
+goes_with c text w = record { text = text; ruling = goes; after = record c { world = Some w } }
 
 -- the line `events`: the world starts
 abbrev pub starts_in : ReplayNow → Option WorldNow → Setup → Took ReplayNow
@@ -70,7 +70,7 @@ abbrev pub steps_in : ReplayNow → Option WorldNow → Event → Took ReplayNow
 steps_in c None e = goes_silently c
 steps_in c (Some w) e =
     if nat_le max_events w.counts.events
-    then record { text = []; verdict = refuses (codes "TooMuch") status.TooMuch; after = c }
+    then record { text = []; ruling = refuses (codes "TooMuch") status.TooMuch; after = c }
     else goes_with c (outcome_text c.names (world_step w e)) (world_step w e).after
 
 abbrev pub steps : ReplayNow → Event → Took ReplayNow

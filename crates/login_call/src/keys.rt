@@ -1,35 +1,32 @@
 //! The command `keys`: answers requests for ciphers, MACs and keys.
 
-ghost use Rattle.std.specs.Prelude.{◌≡◌};
-
 use crate::command::{Close, Command, Next, Trouble};
 use crate::status::Status;
 use eap_base::{Failed, Sink};
-use scenario_text::read_key_line;
+use scenario_text::{KeyLine, read_key_line};
 use trace_text::write_key_line;
 
-/// The requests, each of which is answered by itself.
-#[derive(Clone, Copy, PartialEq, Eq, Debug)]
-pub struct Keys {}
+/// The requests, each of which is answered by itself, and the place into which they are read.
+#[derive(Drop)]
+pub struct Keys {
+    asked: KeyLine,
+}
 
 impl Keys {
-    ghost use Rattle.login_call.specs.Keys.{all_asked};
-
     /// No request so far.
-    pub fn new() -> Keys
-        ensures { result ≡ all_asked }
-    {
-        Keys {}
+    pub fn new() -> Keys {
+        Keys {
+            asked: KeyLine::new(),
+        }
     }
 }
 
 impl Command for Keys {
-    ghost use Rattle.login_call.specs.declared.keys.Keys.{Keys};
-    ghost use Rattle.login_call.specs.Keys.{keys_took, keys_closing, keys_lacks};
+    ghost use Rattle.login_call.specs.Keys.{Asking, all_asked, keys_took, keys_closing, keys_lacks};
 
-    ghost Seen = { Keys };
+    ghost Seen = { Asking };
 
-    ghost seen = { λ c. c };
+    ghost seen = { λ _. all_asked };
 
     ghost took = { keys_took };
 
@@ -41,9 +38,9 @@ impl Command for Keys {
 
     #[tactic(auto, unfolding(crate::specs::Keys::keys_took, trace_text::specs::Writes::Appends))]
     fn take<W: Sink>(&mut self, sink: &mut W, line: &[u8]) -> Result<Next, Trouble> {
-        match read_key_line(line) {
-            Ok(None) => Ok(Next::Goes),
-            Ok(Some(asked)) => match write_key_line(sink, &asked) {
+        match read_key_line(line, &mut self.asked) {
+            Ok(false) => Ok(Next::Goes),
+            Ok(true) => match write_key_line(sink, &self.asked) {
                 Ok(()) => Ok(Next::Goes),
                 Err(_) => Err(Trouble::Write),
             },

@@ -1,4 +1,4 @@
-//! The choices that the ends' policies make (RFC 3748 section 5.3, RFC 5433 section 7): each is the
+//! The choices that the ends' policies make (RFC 3748 section 5.3, RFC 5433 section 3): each is the
 //! first choice that is allowed.
 #![tactic(auto)]
 

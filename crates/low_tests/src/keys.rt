@@ -1,5 +1,5 @@
 //! Key schedules computed with Python: hashlib and hmac of its library, and AES and CMAC of the package
-//! cryptography, put together as RFC 5433, section 4, and RFC 4764, section 3, say.
+//! cryptography, put together as RFC 5433, sections 4, 7 and 8, and RFC 4764, section 3, say.
 
 use crate::row::Row;
 use eap_base::{Octets, Suite};

@@ -46,7 +46,8 @@ pub data GpskServerRow (users : List User) (next_id : ℕ) (view : View) (octets
       (known : user_of users id_p gpsk_kind ≡ Some user)
       (is_barred : user.barred ≡ true)
       (is_tagged : is_tagged_by (login_from own nonce id_p user rand_p suite) (gpsk2 id_p id_s rand_p rand_s list suite pd mac) ≡ true)
-      (has_mac : gpsk_tag_of suite (keys_of (login_from own nonce id_p user rand_p suite)).sk (covered_of (gpsk2 id_p id_s rand_p rand_s list suite pd mac)) ≡ mac)
+      (has_mac : gpsk_tag_of suite (keys_of (login_from own nonce id_p user rand_p suite)).sk
+      (covered_of (gpsk2 id_p id_s rand_p rand_s list suite pd mac)) ≡ mac)
       → GpskServerRow users next_id view octets
       (requested (barring (login_from own nonce id_p user rand_p suite))
       (gpsk_request next_id (bars_with (login_from own nonce id_p user rand_p suite)))
@@ -64,7 +65,8 @@ pub data GpskServerRow (users : List User) (next_id : ℕ) (view : View) (octets
       (known : user_of users id_p gpsk_kind ≡ Some user)
       (not_barred : user.barred ≡ false)
       (is_tagged : is_tagged_by (login_from own nonce id_p user rand_p suite) (gpsk2 id_p id_s rand_p rand_s list suite pd mac) ≡ true)
-      (has_mac : gpsk_tag_of suite (keys_of (login_from own nonce id_p user rand_p suite)).sk (covered_of (gpsk2 id_p id_s rand_p rand_s list suite pd mac)) ≡ mac)
+      (has_mac : gpsk_tag_of suite (keys_of (login_from own nonce id_p user rand_p suite)).sk
+      (covered_of (gpsk2 id_p id_s rand_p rand_s list suite pd mac)) ≡ mac)
       → GpskServerRow users next_id view octets
       (requested (checked (login_from own nonce id_p user rand_p suite))
       (gpsk_request next_id (gpsk3_of (login_from own nonce id_p user rand_p suite)))

@@ -17,7 +17,7 @@ use eap_method::{
     Decision, MethodState, PeerMethod, PeerTurn, Report, Step, Tags, begin_peers, hand_to_peer,
     has_ended, peer_report,
 };
-use eap_packet::{Cause, Code, State, PacketView, decode, encode_into};
+use eap_packet::{Cause, Code, PacketView, State, decode, encode_into};
 use login_policy::{nak_list, peer_allows};
 use std::marker::Model;
 

@@ -372,16 +372,23 @@ fn fields_are_read(rt: HostRuntime) {
 
 /// The form of a request, `passed over`, or the name of the line's fault.
 fn request_form(line: &str) -> &'static str {
-    match read_key_line(line.as_bytes()) {
-        Ok(None) => "passed over",
-        Ok(Some(KeyLine::Aes { .. })) => "aes",
-        Ok(Some(KeyLine::Cmac { .. })) => "cmac",
-        Ok(Some(KeyLine::Hmac { .. })) => "hmac",
-        Ok(Some(KeyLine::Eax { .. })) => "eax",
-        Ok(Some(KeyLine::Gpsk { .. })) => "gpsk",
-        Ok(Some(KeyLine::Psk { .. })) => "psk",
-        Ok(Some(KeyLine::Name { .. })) => "name",
+    let mut asked = KeyLine::new();
+    match read_key_line(line.as_bytes(), &mut asked) {
+        Ok(true) => form_of(&asked),
+        Ok(false) => "passed over",
         Err(fault) => fault.word(),
+    }
+}
+
+fn form_of(asked: &KeyLine) -> &'static str {
+    match asked {
+        KeyLine::Aes { .. } => "aes",
+        KeyLine::Cmac { .. } => "cmac",
+        KeyLine::Hmac { .. } => "hmac",
+        KeyLine::Eax { .. } => "eax",
+        KeyLine::Gpsk { .. } => "gpsk",
+        KeyLine::Psk { .. } => "psk",
+        KeyLine::Name { .. } => "name",
     }
 }
 

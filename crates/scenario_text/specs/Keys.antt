@@ -1,5 +1,5 @@
 -- The table of requests for ciphers, MACs and keys, and what each asks for.
-use Rattle.std.specs.Prelude.{ℕ, ◌≤◌, List, Bool, [], ◌∷◌, length, if◌then◌else◌, codes, Option, Some, None, find, unwrap_or, Result, Ok}
+use Rattle.std.specs.Prelude.{ℕ, ◌≤◌, List, Bool, [], ◌∷◌, length, if◌then◌else◌, codes, Option, Some, None, find, unwrap_or, Result, Ok, Err}
 use Rattle.std.specs.Str.{bytes_eq}
 use Rattle.eap_base.specs.declared.setup.Suite.{Suite}
 use Rattle.eap_base.specs.declared.setup.Suite.TheVariants as suite
@@ -56,6 +56,15 @@ asked_by line =
 -- a line is one request; an empty line and one that begins with # are passed over
 unfoldable pub key_line : List ℕ → Result (Option KeyLine) LineFault
 key_line line = if is_passed_over line then Ok None else asked_by line >>= λ asked. Ok (Some asked)
+
+-- what a line asks for, where the request is read into a place, and what comes of the line is told apart
+abbrev pub asked_into : Result (Unit {0}) LineFault → KeyLine → Result KeyLine LineFault
+asked_into (Ok done) asked = Ok asked
+asked_into (Err fault) asked = Err fault
+
+abbrev pub read_into : Result Bool LineFault → KeyLine → Result (Option KeyLine) LineFault
+read_into (Ok is_request) asked = Ok (if is_request then Some asked else None)
+read_into (Err fault) asked = Err fault
 
 -- what a request has beyond the types of its fields: the sizes of the key and of the two names for EAP-GPSK
 pub record HasGpskSizes (psk idp ids : List ℕ) : Type 0 where

@@ -12,7 +12,9 @@ use crate::fields::{array, kind_of, number, octets, suite_of};
 use crate::keyword::Keyword;
 use crate::rows::fault_of_words;
 use crate::words::{word_count, word_in};
-use eap_base::{Accepts, Event, Identity, Kinds, Mode, Nonce, Party, Port, Secret, Suites, User};
+use eap_base::{
+    Accepts, Event, Identity, Kinds, Mode, Nonce, PSK_KIND, Party, Port, Secret, Suites, User,
+};
 
 /// A setting with its value.
 #[derive(Drop)]
@@ -195,7 +197,7 @@ fn suites_of(line: &[u8]) -> Suites
 fn key_setting(kind: u8, key: Secret) -> Setting
     ensures { result ≡ key_setting kind key }
 {
-    if kind == 47 {
+    if kind == PSK_KIND {
         Setting::PeerPsk47(key)
     } else {
         Setting::PeerPsk51(key)

@@ -6,7 +6,7 @@ ghost use Rattle.scenario_text.specs.Fields.{number, spells_number, number_of, n
 ghost use Rattle.scenario_text.specs.Fields.{is_hex_digit, is_hex, octets_of, spells_octets, spells_kind, kind_of, spells_suite, suite_of};
 
 use crate::fault::LineFault;
-use eap_base::Octets;
+use eap_base::{GPSK_KIND, Octets, PSK_KIND};
 
 /// The number that the word spells in decimal digits without a leading zero. `BadNumber` comes where
 /// it spells none, or one outside `low` to `high`.
@@ -182,7 +182,11 @@ pub(crate) fn spells_kind(word: &[u8]) -> bool
 pub(crate) fn kind_of(word: &[u8]) -> u8
     ensures { result ≡ kind_of word.now }
 {
-    if word == b"47".as_slice() { 47 } else { 51 }
+    if word == b"47".as_slice() {
+        PSK_KIND
+    } else {
+        GPSK_KIND
+    }
 }
 
 /// True where the word is the specifier of a ciphersuite of EAP-GPSK, 1 or 2.

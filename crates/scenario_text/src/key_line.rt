@@ -1,10 +1,11 @@
 //! Requests for ciphers, MACs and keys.
 
-ghost use Rattle.std.specs.Prelude.{◌≡◌, IfOk, IfSome};
+ghost use Rattle.std.specs.Prelude.{◌≡◌, ◌≢◌, [], true, Ok, IfErr};
 ghost use Rattle.scenario_text.specs.Words.{words};
+ghost use Rattle.scenario_text.specs.declared.key_line.KeyLine.TheVariants as key;
 ghost use Rattle.scenario_text.specs.Fits.{Fits};
 ghost use Rattle.scenario_text.specs.Rows.{keyword_in};
-ghost use Rattle.scenario_text.specs.Keys.{row_of, requests, ciphersuite_of, asked_of, asked_by, key_line, HasSizes};
+ghost use Rattle.scenario_text.specs.Keys.{row_of, requests, ciphersuite_of, asked_of, asked_by, key_line, read_into, asked_into, HasSizes};
 
 use crate::fault::LineFault;
 use crate::fields::{array, octets};
@@ -130,24 +131,35 @@ pub enum KeyLine {
     },
 }
 
-/// The request that a line is, or the first fault of its words: `BadWord`, `BadCount`, `BadNumber`,
-/// `BadHex`, `BadSize`. The fault decides, whichever word has it. None for an empty line and for one
-/// that begins with `#`.
+impl KeyLine {
+    /// A request into which others are read: the name of a key without octets.
+    pub fn new() -> KeyLine
+        ensures { result ≡ key.Name [] }
+    {
+        KeyLine::Name { key: Octets::new() }
+    }
+}
+
+/// Reads the request that a line is into `asked`, and answers true; or the first fault of its words:
+/// `BadWord`, `BadCount`, `BadNumber`, `BadHex`, `BadSize`. The fault decides, whichever word has it. False
+/// for an empty line and for one that begins with `#`. Without a request, `asked` stays as it was.
 #[tactic(auto, unfolding(crate::specs::Keys::key_line), using(crate::proofs::KeySizes::request_sizes))]
-pub fn read_key_line(line: &[u8]) -> Result<Option<KeyLine>, LineFault>
-    ensures value { result ≡ key_line line.now }
-    ensures sizes { IfOk result (λ asked. IfSome asked HasSizes) }
+pub fn read_key_line(line: &[u8], asked: &mut KeyLine) -> Result<bool, LineFault>
+    ensures value { read_into result asked.new ≡ key_line line.now }
+    ensures sizes { result ≡ Ok true → HasSizes asked.new }
+    ensures kept { result ≢ Ok true → asked.new ≡ asked.old }
 {
     if is_comment(line) {
-        return Ok(None);
+        return Ok(false);
     }
-    let asked = read_request(line)?;
-    Ok(Some(asked))
+    read_request(line, asked)?;
+    Ok(true)
 }
 
 #[tactic(auto, unfolding(crate::specs::Keys::asked_by), using(crate::proofs::Fitting::fits))]
-fn read_request(line: &[u8]) -> Result<KeyLine, LineFault>
-    ensures { result ≡ asked_by line.now }
+fn read_request(line: &[u8], asked: &mut KeyLine) -> Result<(), LineFault>
+    ensures value { asked_into result asked.new ≡ asked_by line.now }
+    ensures kept { IfErr result (λ fault. asked.new ≡ asked.old) }
 {
     if !is_printable_line(line) {
         return Err(LineFault::BadWord);
@@ -158,21 +170,24 @@ fn read_request(line: &[u8]) -> Result<KeyLine, LineFault>
             let row = request.row();
             match fault_of_words(row.least, row.fields, line) {
                 Some(fault) => Err(fault),
-                None => Ok(asked_of(request, line)),
+                None => {
+                    ask(request, line, asked);
+                    Ok(())
+                }
             }
         }
     }
 }
 
-/// What a request asks for with the words of its line.
+/// Writes what a request asks for with the words of its line.
 #[tactic(auto, unfolding(crate::specs::Keys::asked_of))]
-fn asked_of(request: Request, line: &[u8]) -> KeyLine
+fn ask(request: Request, line: &[u8], asked: &mut KeyLine)
     requires { Fits (row_of request) (words line.now) }
-    ensures { result ≡ asked_of request (words line.now) }
+    ensures { asked.new ≡ asked_of request (words line.now) }
 {
     let first = word_in(line, 1);
     let second = word_in(line, 2);
-    match request {
+    *asked = match request {
         Request::Aes => KeyLine::Aes {
             key: array(first),
             block: array(second),
@@ -204,7 +219,7 @@ fn asked_of(request: Request, line: &[u8]) -> KeyLine
             randp: array(second),
         },
         Request::Name => KeyLine::Name { key: octets(first) },
-    }
+    };
 }
 
 /// The ciphersuite that the word spells.

@@ -12,6 +12,7 @@ use crate::fields::{
     kind_of, octet_count, spells_kind, spells_number, spells_octets, spells_suite,
 };
 use crate::words::{word_count, word_in};
+use eap_base::{GPSK_KIND, PSK_KIND};
 
 /// What a word after a keyword stands for. A place is that of a word in the line, 0 for the keyword.
 #[derive(Clone, Copy, PartialEq, Eq, Debug)]
@@ -236,9 +237,9 @@ fn fits_kind(kind: u8, word: &[u8]) -> bool
     ensures { result ≡ fits_kind kind (octets_of word.now) }
 {
     let count = octet_count(word);
-    if kind == 47 {
+    if kind == PSK_KIND {
         count == 16
     } else {
-        kind == 51 && (32 <= count && count <= 64)
+        kind == GPSK_KIND && (32 <= count && count <= 64)
     }
 }

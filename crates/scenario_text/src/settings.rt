@@ -1,7 +1,6 @@
 //! The settings of a scenario that have been read so far.
 
 ghost use Rattle.std.specs.Prelude.{◌≡◌, ◌∷◌, [], unwrap_or, MatchResult, IsOk, Err};
-ghost use Rattle.eap_base.specs.Setup.{is_among};
 ghost use Rattle.eap_base.specs.declared.event.Event.{Event};
 ghost use Rattle.scenario_text.specs.Contents.{entry_with};
 ghost use Rattle.scenario_text.specs.Reading.{no_settings, has_setting, with_user, with_setting, both_suites, key_for};
@@ -11,8 +10,8 @@ use crate::entry::{Entry, Setting};
 use crate::fault::LineFault;
 use crate::keyword::Keyword;
 use eap_base::{
-    Accepts, Identity, Kinds, Mode, Nonce, PeerSetup, Secret, ServerSetup, Setup, Suites, User,
-    Users,
+    Accepts, GPSK_KIND, Identity, Kinds, Mode, Nonce, PSK_KIND, PeerSetup, Secret, ServerSetup,
+    Setup, Suites, User, Users, is_among,
 };
 
 /// The settings so far; each is None until it has come.
@@ -154,8 +153,8 @@ impl Settings {
         self.peer_server.as_ref().ok_or(LineFault::Missing)?;
         let methods = self.peer_methods.as_ref().ok_or(LineFault::Missing)?;
         self.peer_nonce.ok_or(LineFault::Missing)?;
-        key_for(methods, 47, &self.peer_psk47)?;
-        key_for(methods, 51, &self.peer_psk51)?;
+        key_for(methods, PSK_KIND, &self.peer_psk47)?;
+        key_for(methods, GPSK_KIND, &self.peer_psk51)?;
         Ok(())
     }
 
@@ -196,8 +195,8 @@ impl Settings {
         let accepts = self.peer_server.as_ref().ok_or(LineFault::Missing)?;
         let methods = self.peer_methods.as_ref().ok_or(LineFault::Missing)?;
         let nonce = self.peer_nonce.ok_or(LineFault::Missing)?;
-        let psk47 = key_for(methods, 47, &self.peer_psk47)?;
-        let psk51 = key_for(methods, 51, &self.peer_psk51)?;
+        let psk47 = key_for(methods, PSK_KIND, &self.peer_psk47)?;
+        let psk51 = key_for(methods, GPSK_KIND, &self.peer_psk51)?;
         Ok(PeerSetup {
             name: name.copy(),
             accepts: accepts.copy(),
@@ -248,12 +247,6 @@ fn key_for(methods: &Kinds, kind: u8, slot: &Option<Secret>) -> Result<Option<Se
             }
         }
     }
-}
-
-fn is_among(kinds: &[u8], kind: u8) -> bool
-    ensures { result ≡ is_among kinds.now kind }
-{
-    kinds.iter().any(|other| *other == kind)
 }
 
 /// The suites that were set, or else both.

@@ -1,6 +1,7 @@
 -- No line of `decode` or `keys` begins as the line of the verdict does.
 use Rattle.std.proofs.Common.{◌≡◌, ℕ, ◌≤◌, ◌-◌, ◌==◌, List, [], ◌∷◌, ◌++◌, length, Bool, true, false, if◌then◌else◌, None, Result, Ok, Err, refl, codes, decimal, arith}
 use Rattle.std.proofs.lemmas.Bool.{ne_eqb, false≢true}
+use Rattle.eap_base.specs.Setup.{psk_kind, gpsk_kind}
 use Rattle.eap_packet.specs.Fault.{packet_of}
 use Rattle.eap_packet.specs.Words.{cause_word}
 use Rattle.eap_packet.specs.Packet.{PacketValue, request, response, success, failure, spelled}
@@ -60,8 +61,8 @@ unfolding note_text identity_word nak_word
 note_within kind body =
     either_within (kind == 1) (identity_word ++ hex_text body) _ (hex_within body)
     (either_within (kind == 3) (nak_word ++ numbers_text body) _ (numbers_within body)
-    (either_within (kind == 47) (psk_note (psk_reading.read_of body)) _ (psk_within (psk_reading.read_of body))
-    (either_within (kind == 51) (gpsk_note (gpsk_reading.read_of None body)) (codes "-") (gpsk_within (gpsk_reading.read_of None body)) refl)))
+    (either_within (kind == psk_kind) (psk_note (psk_reading.read_of body)) _ (psk_within (psk_reading.read_of body))
+    (either_within (kind == gpsk_kind) (gpsk_note (gpsk_reading.read_of None body)) (codes "-") (gpsk_within (gpsk_reading.read_of None body)) refl)))
 
 sizes_within : (whole octets : ℕ) → is_within (sizes_text whole octets) ≡ true
 unfolding sizes_text

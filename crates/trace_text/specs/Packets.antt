@@ -1,6 +1,7 @@
 -- What a packet is, in one line.
 use Rattle.std.specs.Prelude.{ℕ, ◌-◌, List, [], ◌∷◌, ◌++◌, length, ◌==◌, if◌then◌else◌, None, Result, Ok, Err, codes, decimal}
 use Rattle.std.specs.List.{concat}
+use Rattle.eap_base.specs.Setup.{psk_kind, gpsk_kind}
 use Rattle.eap_packet.specs.Words.{cause_word}
 use Rattle.eap_packet.specs.Packet.{PacketValue, request, response, success, failure, spelled}
 use Rattle.eap_packet.specs.Fault.{packet_of}
@@ -48,8 +49,8 @@ unfoldable pub note_text : ℕ → List ℕ → List ℕ
 note_text kind body =
     if kind == 1 then identity_word ++ hex_text body
     else if kind == 3 then nak_word ++ numbers_text body
-    else if kind == 47 then psk_note (psk_reading.read_of body)
-    else if kind == 51 then gpsk_note (gpsk_reading.read_of None body)
+    else if kind == psk_kind then psk_note (psk_reading.read_of body)
+    else if kind == gpsk_kind then gpsk_note (gpsk_reading.read_of None body)
     else codes "-"
 
 -- the number, the Code, the Identifier and the Type of a packet

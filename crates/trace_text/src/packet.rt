@@ -16,7 +16,7 @@ ghost use Rattle.trace_text.specs.Packets.{malformed_text, value_text, packet_te
 use crate::line_buffer::LineBuffer;
 use crate::pieces::Piece::{Hex, Number, Text};
 use crate::pieces::{put_pieces, send, write_pieces};
-use eap_base::{Failed, Sink};
+use eap_base::{Failed, GPSK_KIND, PSK_KIND, Sink};
 use eap_packet::{Cause, Code, PacketView, decode};
 use gpsk_messages::{GpskView, read_gpsk};
 use psk_messages::{PskView, read_psk};
@@ -132,8 +132,8 @@ fn put_note<W: Sink>(
     match kind {
         1 => put_identity(sink, line, body),
         3 => put_nak(sink, line, body),
-        47 => put_psk_note(sink, line, body),
-        51 => put_gpsk_note(sink, line, body),
+        PSK_KIND => put_psk_note(sink, line, body),
+        GPSK_KIND => put_gpsk_note(sink, line, body),
         _ => put_pieces(sink, line, &[Text(b"-")]),
     }
 }

@@ -6,35 +6,35 @@ use Rattle.scenario_text.specs.Rows.{keyword_in, fault_of_words}
 use Rattle.scenario_text.specs.Keys.{row_of, requests}
 use Rattle.scenario_text.proofs.Fitting.{fits}
 use Rattle.scenario_text.proofs.LineFaults.{Begins}
-use Rattle.scenario_text.proofs.KeySizes.{asked_by-known, asked_by-unknown}
+use Rattle.scenario_text.proofs.KeySizes.{asked_by_known, asked_by_unknown}
 use Rattle.scenario_text.proofs.key_line.read_request.Goals as goal
 
-pub returns-then-not-is_printable_line : goal.returns-then-not-is_printable_line
-returns-then-not-is_printable_line c =
+pub returns-then-not-is_printable_line-clause-value : goal.returns-then-not-is_printable_line-clause-value
+returns-then-not-is_printable_line-clause-value c =
     let p : is_printable c.args.line.now ≡ false = cc in
-    sym (asked_by-unknown c.args.line.now (rw p refl))
+    sym (asked_by_unknown c.args.line.now (rw p refl))
 
-pub asked_of-requires : goal.asked_of-requires
-asked_of-requires c =
+pub ask-requires : goal.ask-requires
+ask-requires c =
     let r = c.in-Some.request in
     let none : fault_of_words (row_of r).least (row_of r).fields (words c.args.line.now) ≡ None = cc in
     fits (row_of r) (words c.args.line.now) none
 
-pub returns-in-None : goal.returns-in-None
-returns-in-None c =
+pub returns-in-None-clause-value : goal.returns-in-None-clause-value
+returns-in-None-clause-value c =
     let q : keyword_in row_of requests (words c.args.line.now) ≡ None = cc in
-    sym (asked_by-unknown c.args.line.now (or_right (not (is_printable c.args.line.now)) _ (rw q refl)))
+    sym (asked_by_unknown c.args.line.now (or_right (not (is_printable c.args.line.now)) _ (rw q refl)))
 
-pub returns-in-Some-fault_of_words : goal.returns-in-Some-fault_of_words
-returns-in-Some-fault_of_words c =
+pub returns-in-Some-fault_of_words-clause-value : goal.returns-in-Some-fault_of_words-clause-value
+returns-in-Some-fault_of_words-clause-value c =
     let r = c.in-Some.request in
     let begins : Begins row_of requests c.args.line.now r = record { printable = cc; found = cc } in
     let first : fault_of_words (row_of r).least (row_of r).fields (words c.args.line.now) ≡ Some c.in-Some-fault_of_words.fault = cc in
-    sym (asked_by-known c.args.line.now r begins ∙ rw first refl)
+    sym (asked_by_known c.args.line.now r begins ∙ rw first refl)
 
-pub returns-in-None-fault_of_words : goal.returns-in-None-fault_of_words
-returns-in-None-fault_of_words c =
+pub returns-in-None-fault_of_words-clause-value : goal.returns-in-None-fault_of_words-clause-value
+returns-in-None-fault_of_words-clause-value c =
     let r = c.in-Some.request in
     let begins : Begins row_of requests c.args.line.now r = record { printable = cc; found = cc } in
     let none : fault_of_words (row_of r).least (row_of r).fields (words c.args.line.now) ≡ None = cc in
-    ap Ok c.asked_of.ensures ∙ sym (asked_by-known c.args.line.now r begins ∙ rw none refl)
+    ap Ok c.ask.ensures ∙ sym (asked_by_known c.args.line.now r begins ∙ rw none refl)

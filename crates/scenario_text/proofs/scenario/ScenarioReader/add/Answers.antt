@@ -3,12 +3,12 @@ use Rattle.std.proofs.Common.{◌≡◌, false, IsOk, is_err, sym, subst}
 use Rattle.scenario_text.specs.Reading.{Reading, setup_of}
 use Rattle.eap_base.specs.declared.event.Event.TheVariants as event
 use Rattle.scenario_text.specs.Valid.{AreValid}
-use Rattle.scenario_text.proofs.ValidReading.{with_setting-valid, whole}
+use Rattle.scenario_text.proofs.ValidReading.{with_setting_valid, whole}
 use Rattle.scenario_text.proofs.scenario.ScenarioReader.add.Goals as goal
 
 pub invariant_of-self : goal.invariant_of-self
 invariant_of-self c =
-    subst AreValid (sym c.set.ensures) (with_setting-valid c.self.inside.settings c.in-Set.setting c.self.invariant (rw c.in-Set.is at c.requires.valid))
+    subst AreValid (sym c.set.ensures) (with_setting_valid c.self.inside.settings c.in-Set.setting c.self.invariant (rw c.in-Set.is at c.requires.valid))
 
 pub returns-in-Events-clause-ready : goal.returns-in-Events-clause-ready
 returns-in-Events-clause-ready c =
