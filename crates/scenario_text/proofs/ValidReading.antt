@@ -32,9 +32,8 @@ use Rattle.scenario_text.specs.declared.keyword.Keyword.TheVariants as key
 use Rattle.scenario_text.specs.declared.scenario.Phase.{Phase}
 use Rattle.scenario_text.specs.declared.scenario.Phase.TheVariants as phase
 use Rattle.scenario_text.specs.declared.settings.Settings.{Settings}
-use Rattle.scenario_text.proofs.FaultLists.{unless-ok}
-use Rattle.scenario_text.proofs.Fitting.{fits, faultless-fits}
-use Rattle.scenario_text.proofs.ReadLine.{stepped, step-cases, starts}
+use Rattle.scenario_text.proofs.Fitting.{unless-ok, fits, faultless-fits}
+use Rattle.scenario_text.proofs.Telling.{stepped, step-cases, starts}
 use Rattle.scenario_text.proofs.Settling.{plus, joined, with_user-holds, no-users, users-kept, all-given}
 
 accepts-valid : (word : List ℕ) → IsName word → AcceptsName (accepts_of word)

@@ -133,7 +133,7 @@ pub enum KeyLine {
 /// The request that a line is, or the first fault of its words: `BadWord`, `BadCount`, `BadNumber`,
 /// `BadHex`, `BadSize`. The fault decides, whichever word has it. None for an empty line and for one
 /// that begins with `#`.
-#[tactic(auto, unfolding(crate::specs::Keys::key_line), using(crate::proofs::KeySizes::request_sizes))]
+#[tactic(auto, unfolding(crate::specs::Keys::key_line), using(crate::proofs::Judging::request_sizes))]
 pub fn read_key_line(line: &[u8]) -> Result<Option<KeyLine>, LineFault>
     ensures value { result ≡ key_line line.now }
     ensures sizes { IfOk result (λ asked. IfSome asked HasSizes) }

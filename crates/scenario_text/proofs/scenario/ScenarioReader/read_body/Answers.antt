@@ -4,8 +4,8 @@ use Rattle.std.proofs.lemmas.Bool.{or_right}
 use Rattle.scenario_text.specs.Words.{words, is_printable, is_passed_over}
 use Rattle.scenario_text.specs.Rows.{keyword_in}
 use Rattle.scenario_text.specs.Keywords.{row_of, keywords}
-use Rattle.scenario_text.proofs.LineFaults.{read_body-bad, read_body-words}
-use Rattle.scenario_text.proofs.ReadLine.{passes}
+use Rattle.scenario_text.proofs.Judging.{read_body-bad, read_body-words}
+use Rattle.scenario_text.proofs.Telling.{passes}
 use Rattle.scenario_text.proofs.scenario.ScenarioReader.read_body.Goals as goal
 
 pub returns-then-is_comment-clause-read : goal.returns-then-is_comment-clause-read
