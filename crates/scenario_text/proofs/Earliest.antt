@@ -79,10 +79,10 @@ first_fault_cons f rest place ws =
     ∙ ap (λ here. earlier here (find (λ e. any_has e (place + 1) rest ws) word_faults)) (word-first f place ws)
 
 -- behind the number of words
-pub fault_of_words-count : (least : ℕ) (fields : List Field) (ws : List (List ℕ)) → has_bad_count least (length fields) (length ws) ≡ true → fault_of_words least fields ws ≡ Some fault.BadCount
+pub fault_of_words_count : (least : ℕ) (fields : List Field) (ws : List (List ℕ)) → has_bad_count least (length fields) (length ws) ≡ true → fault_of_words least fields ws ≡ Some fault.BadCount
 unfolding fault_of_words
-fault_of_words-count least fields ws e = rw e refl
+fault_of_words_count least fields ws e = rw e refl
 
-pub fault_of_words-first : (least : ℕ) (fields : List Field) (ws : List (List ℕ)) → has_bad_count least (length fields) (length ws) ≡ false → fault_of_words least fields ws ≡ first_fault 1 fields ws
+pub fault_of_words_first : (least : ℕ) (fields : List Field) (ws : List (List ℕ)) → has_bad_count least (length fields) (length ws) ≡ false → fault_of_words least fields ws ≡ first_fault 1 fields ws
 unfolding fault_of_words first_fault
-fault_of_words-first least fields ws e = rw e refl
+fault_of_words_first least fields ws e = rw e refl

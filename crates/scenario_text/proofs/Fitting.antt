@@ -1,15 +1,40 @@
--- The words of a line without a fault fit their row.
-use Rattle.std.proofs.Common.{◌≡◌, ℕ, ◌+◌, ◌-◌, ◌<◌, ◌≤◌, Bool, true, false, not, ◌&&◌, ◌||◌, List, [], ◌∷◌, length, Option, Some, None, unwrap_or, leb, ltb, refl, arith}
-use Rattle.std.proofs.lemmas.Bool.{leb-true, leb-false, ltb-false, lt-ltb, and_parts, or_parts, not-false}
+-- The first of a list of faults, and what the words of a line without one are.
 use Rattle.scenario_text.specs.Fields.{word_in, number, is_decimal, spells_number, octets_of}
-use Rattle.scenario_text.specs.Words.{words, is_printable}
-use Rattle.scenario_text.specs.Rows.{Row, is_within, field_has, any_has, words_have, fault_of_words, keyword_in, line_has}
 use Rattle.scenario_text.specs.Fits.{IsFaultlessAt, AreFaultless, IsNumber, FieldFits, Where, FieldsFit, Fits}
-use Rattle.scenario_text.specs.declared.fault.LineFault.{LineFault}
+use Rattle.scenario_text.specs.Rows.{faults, unless, Row, is_within, field_has, any_has, words_have, fault_of_words, keyword_in, line_has}
+use Rattle.scenario_text.specs.Words.{words, is_printable}
 use Rattle.scenario_text.specs.declared.fault.LineFault.TheVariants as fault
-use Rattle.scenario_text.specs.declared.rows.Field.{Field}
+use Rattle.scenario_text.specs.declared.fault.LineFault.{LineFault}
 use Rattle.scenario_text.specs.declared.rows.Field.TheVariants as field
-use Rattle.scenario_text.proofs.FaultLists.{no_fault}
+use Rattle.scenario_text.specs.declared.rows.Field.{Field}
+use Rattle.std.proofs.Common.{◌≡◌, Bool, true, false, List, [], ◌∷◌, Option, Some, None, find, cond, Ok, refl, ℕ, ◌+◌, ◌-◌, ◌<◌, ◌≤◌, not, ◌&&◌, ◌||◌, length, unwrap_or, leb, ltb, arith}
+use Rattle.std.proofs.lemmas.Bool.{leb-true, leb-false, ltb-false, lt-ltb, and_parts, or_parts, not-false}
+
+abbrev AllFail : {X : Type 0} → (X → Bool) → List X → Type 0
+AllFail p [] = Unit {0}
+AllFail p (x ∷ xs) = (p x ≡ false) × AllFail p xs
+
+fail_from : {X : Type 0} (b : Bool) (x : X) (found : Option X) (Rest : Type 0) → (found ≡ None → Rest) → cond b (Some x) found ≡ None → (b ≡ false) × Rest
+fail_from true x found Rest rest e = absurd cc
+fail_from false x found Rest rest e = (refl, rest e)
+
+find-none : {X : Type 0} (p : X → Bool) (xs : List X) → find p xs ≡ None → AllFail p xs
+find-none p [] e = tt
+find-none p (x ∷ xs) e = fail_from (p x) x (find p xs) (AllFail p xs) (find-none p xs) e
+
+-- no fault at all
+pub no_fault : (p : LineFault → Bool) → find p faults ≡ None → (f : LineFault) → p f ≡ false
+no_fault p e fault.NoHeader = (find-none p faults e).0
+no_fault p e other = assumption (find-none p faults e)
+
+pub none-found : (p : LineFault → Bool) (list : List LineFault) → ((f : LineFault) → p f ≡ false) → find p list ≡ None
+none-found p [] none = refl
+none-found p (x ∷ rest) none = let h = none x in rw h (none-found p rest none)
+
+-- a value that no fault keeps back
+pub unless-ok : {A : Type 0} (first : Option LineFault) (value out : A) → unless first value ≡ Ok out → (first ≡ None) × (value ≡ out)
+unless-ok None value out e = (refl, cc)
+unless-ok (Some f) value out e = absurd cc
 
 record Between (count low high : ℕ) : Type 0 where
   pub least : low ≤ count

@@ -43,23 +43,23 @@ room-test users user h =
     rw (few, absent) refl
 
 -- what a call that adds a user leaves
-pub with_user-is : (users now : List User) (user : User) → (HasRoom users user → now ≡ users ++ user ∷ []) → ((HasRoom users user → ⊥) → now ≡ users) → now ≡ with_user users user
+pub with_user_is : (users now : List User) (user : User) → (HasRoom users user → now ≡ users ++ user ∷ []) → ((HasRoom users user → ⊥) → now ≡ users) → now ≡ with_user users user
 unfolding with_user
-with_user-is users now user added unchanged =
+with_user_is users now user added unchanged =
     cond_both (has_room users user) (users ++ user ∷ []) users (λ then. now ≡ then) (λ e. added (room-there users user e))
     (λ e. unchanged (λ h. let t : has_room users user ≡ true = room-test users user h in absurd cc))
 
 -- what holds of the users holds with one more
-pub with_user-holds : (P : List User → Type 0) (users : List User) (user : User) → P users → (HasRoom users user → P (users ++ user ∷ [])) → P (with_user users user)
+pub with_user_holds : (P : List User → Type 0) (users : List User) (user : User) → P users → (HasRoom users user → P (users ++ user ∷ [])) → P (with_user users user)
 unfolding with_user
-with_user-holds P users user h more = cond_both (has_room users user) (users ++ user ∷ []) users P (λ e. more (room-there users user e)) (λ e. h)
+with_user_holds P users user h more = cond_both (has_room users user) (users ++ user ∷ []) users P (λ e. more (room-there users user e)) (λ e. h)
 
 pub no-users : AreUsers []
 no-users = record { few = lit≤ tt; distinct = λ i j d low high. absurd (not-suc-le-zero high) }
 
 pub users-kept : (s : Settings) (x : Setting) → AreUsers s.users → AreUsers ((with_setting s x).users)
 users-kept s (setting.User user) h =
-    with_user-holds AreUsers s.users user h (λ r.
+    with_user_holds AreUsers s.users user h (λ r.
     record { few = omega (arith, length-append s.users (user ∷ []), r.few); distinct = AreDistinct-push s.users user (h.distinct) (r.absent) })
 users-kept s other h = h
 
@@ -109,7 +109,7 @@ room : (users : List User) (user : User) → nat_le 16 (length users) ≡ false 
 room users user f n = record { few = leb-false 16 (length users) f; absent = empty (user_of users user.name user.kind) n }
 
 pushed : (users : List User) (user : User) → HasRoom users user → users ++ user ∷ [] ≡ with_user users user
-pushed users user h = with_user-is users (users ++ user ∷ []) user (λ k. refl) (λ no. absurd (no h))
+pushed users user h = with_user_is users (users ++ user ∷ []) user (λ k. refl) (λ no. absurd (no h))
 
 added : (users : List User) (user : User) (rest : List User) → HasRoom users user → users ++ user ∷ rest ≡ with_user users user ++ rest
 added users user rest h = sym (append_assoc users (user ∷ []) rest) ∙ ap (λ l. l ++ rest) (pushed users user h)

@@ -32,10 +32,9 @@ use Rattle.scenario_text.specs.declared.keyword.Keyword.TheVariants as key
 use Rattle.scenario_text.specs.declared.scenario.Phase.{Phase}
 use Rattle.scenario_text.specs.declared.scenario.Phase.TheVariants as phase
 use Rattle.scenario_text.specs.declared.settings.Settings.{Settings}
-use Rattle.scenario_text.proofs.FaultLists.{unless-ok}
-use Rattle.scenario_text.proofs.Fitting.{fits, faultless-fits}
-use Rattle.scenario_text.proofs.ReadLine.{stepped, step-cases, starts}
-use Rattle.scenario_text.proofs.Settling.{plus, joined, with_user-holds, no-users, users-kept, all-given}
+use Rattle.scenario_text.proofs.Fitting.{unless-ok, fits, faultless-fits}
+use Rattle.scenario_text.proofs.Telling.{stepped, step-cases, starts}
+use Rattle.scenario_text.proofs.Settling.{plus, joined, with_user_holds, no-users, users-kept, all-given}
 
 accepts-valid : (word : List ℕ) → IsName word → AcceptsName (accepts_of word)
 accepts-valid word h = cond_both (bytes_eq word (codes "any")) Any (One word) AcceptsName (λ e. tt) (λ e. h)
@@ -112,46 +111,46 @@ key-valid word key h =
       | inr e ↦ rw e (rw e at h)
     ]
 
-pub item_of-valid : (k : Keyword) (ws : List (List ℕ)) → Fits (row_of k) ws → IsValidEntry (item_of k ws)
+pub item_of_valid : (k : Keyword) (ws : List (List ℕ)) → Fits (row_of k) ws → IsValidEntry (item_of k ws)
 unfolding item_of
-item_of-valid key.FirstId ws h = omega (arith, h.fields.0.most)
-item_of-valid key.MaxRetrans ws h = h.fields.0.most
-item_of-valid key.PeerName ws h = h.fields.0
-item_of-valid key.PeerServer ws h = accepts-valid (word_in ws 1) (h.fields.0)
-item_of-valid key.PeerMethods ws h = kinds-valid ws (h.fields.0) (h.fields.1.0)
-item_of-valid key.PeerSuites ws h = suites-valid ws (h.fields.0) (h.fields.1.0)
-item_of-valid key.PeerPsk ws h = key-valid (word_in ws 1) (octets_of (word_in ws 2)) (h.fields.1.0.fits)
-item_of-valid key.PeerNonce ws h = omega (arith, h.fields.0.least, h.fields.0.most)
-item_of-valid key.ServerName ws h = h.fields.0
-item_of-valid key.ServerMethods ws h = kinds-valid ws (h.fields.0) (h.fields.1.0)
-item_of-valid key.ServerSuites ws h = suites-valid ws (h.fields.0) (h.fields.1.0)
-item_of-valid key.ServerNonce ws h = omega (arith, h.fields.0.least, h.fields.0.most)
-item_of-valid key.User ws h = record { name = h.fields.0; kind = kind-valid (word_in ws 2); psk = h.fields.1.1.0.fits }
-item_of-valid other ws h = tt
+item_of_valid key.FirstId ws h = omega (arith, h.fields.0.most)
+item_of_valid key.MaxRetrans ws h = h.fields.0.most
+item_of_valid key.PeerName ws h = h.fields.0
+item_of_valid key.PeerServer ws h = accepts-valid (word_in ws 1) (h.fields.0)
+item_of_valid key.PeerMethods ws h = kinds-valid ws (h.fields.0) (h.fields.1.0)
+item_of_valid key.PeerSuites ws h = suites-valid ws (h.fields.0) (h.fields.1.0)
+item_of_valid key.PeerPsk ws h = key-valid (word_in ws 1) (octets_of (word_in ws 2)) (h.fields.1.0.fits)
+item_of_valid key.PeerNonce ws h = omega (arith, h.fields.0.least, h.fields.0.most)
+item_of_valid key.ServerName ws h = h.fields.0
+item_of_valid key.ServerMethods ws h = kinds-valid ws (h.fields.0) (h.fields.1.0)
+item_of_valid key.ServerSuites ws h = suites-valid ws (h.fields.0) (h.fields.1.0)
+item_of_valid key.ServerNonce ws h = omega (arith, h.fields.0.least, h.fields.0.most)
+item_of_valid key.User ws h = record { name = h.fields.0; kind = kind-valid (word_in ws 2); psk = h.fields.1.1.0.fits }
+item_of_valid other ws h = tt
 
 -- what a line says is within its limits
 pub valid_entry : (k : Keyword) (ws : List (List ℕ)) (e : Entry) → Ok e ≡ entry_for k ws → IsValidEntry e
 unfolding entry_for
 valid_entry k ws e h =
     let u = unless-ok (fault_of_words (row_of k).least (row_of k).fields ws) (item_of k ws) e (sym h) in
-    subst IsValidEntry (u.1) (item_of-valid k ws (fits (row_of k) ws (u.0)))
+    subst IsValidEntry (u.1) (item_of_valid k ws (fits (row_of k) ws (u.0)))
 
-pub said_by-valid : (line : List ℕ) → IsFaultless line → IsValidEntry (said_by line)
-said_by-valid line own = item_of-valid (keyword_of line) (words line) (faultless-fits row_of keywords key.End line own)
+pub said_by_valid : (line : List ℕ) → IsFaultless line → IsValidEntry (said_by line)
+said_by_valid line own = item_of_valid (keyword_of line) (words line) (faultless-fits row_of keywords key.End line own)
 
 -- and of what is told of it
 pub valid_told : (it : told.Entry) (e : Event) → IsValidEntry (entry_with it e) → IsValidTold it
 valid_told (told.TheVariants.Set v) e h = h
 valid_told other e h = tt
 
-pub no_settings-valid : AreValid no_settings
-no_settings-valid = record { first_id = tt; max_retrans = tt; peer_name = tt; peer_server = tt; peer_methods = tt; peer_suites = tt; peer_psk47 = tt; peer_psk51 = tt; peer_nonce = tt; server_name = tt; server_methods = tt; server_suites = tt; server_nonce = tt; users = All-nil IsValidUser; kept = no-users }
+pub no_settings_valid : AreValid no_settings
+no_settings_valid = record { first_id = tt; max_retrans = tt; peer_name = tt; peer_server = tt; peer_methods = tt; peer_suites = tt; peer_psk47 = tt; peer_psk51 = tt; peer_nonce = tt; server_name = tt; server_methods = tt; server_suites = tt; server_nonce = tt; users = All-nil IsValidUser; kept = no-users }
 
 -- one more setting
-pub with_setting-valid : (s : Settings) (v : Setting) → AreValid s → IsValidSetting v → AreValid (with_setting s v)
-with_setting-valid s (setting.User user) h k =
-    assumption (with_user-holds (All IsValidUser) s.users user h.users (λ r. All-push IsValidUser s.users user h.users k), users-kept s (setting.User user) h.kept)
-with_setting-valid s other h k = assumption
+pub with_setting_valid : (s : Settings) (v : Setting) → AreValid s → IsValidSetting v → AreValid (with_setting s v)
+with_setting_valid s (setting.User user) h k =
+    assumption (with_user_holds (All IsValidUser) s.users user h.users (λ r. All-push IsValidUser s.users user h.users k), users-kept s (setting.User user) h.kept)
+with_setting_valid s other h k = assumption
 
 -- what holds of a slot holds of the value that is given, or else of the default
 held : {A : Type 0} (P : A → Type 0) (slot : Option A) (a : A) → IfSome slot P → plus slot [] ≡ a ∷ [] → P a
@@ -196,8 +195,8 @@ valid-server s server h m =
     }
 
 -- the settings of a run
-pub setup_of-valid : (s : Settings) → AreValid s → IfOk (setup_of s) IsValidSetup
-setup_of-valid s h =
+pub setup_of_valid : (s : Settings) → AreValid s → IfOk (setup_of s) IsValidSetup
+setup_of_valid s h =
     IfOk-weaker (setup_of s) (MakesSetup (joined s no_values)) IsValidSetup
     (λ setup m. record {
       first_id = held-or (λ id. id < 256) s.first_id 0 setup.first_id h.first_id (lit< tt) m.first_id;
@@ -212,29 +211,29 @@ ready-valid (Ok setup) h = h
 ready-valid (Err f) h = tt
 
 taken-valid : (p : Phase) (s : Settings) (e : Entry) → AreValid s → IsValidEntry e → IsValidReadLine (taken p s e)
-taken-valid p s (entry.Set v) h k = record { item = tt; settings = with_setting-valid s v h k }
-taken-valid p s entry.Events h k = record { item = ready-valid (setup_of s) (setup_of-valid s h); settings = h }
+taken-valid p s (entry.Set v) h k = record { item = tt; settings = with_setting_valid s v h k }
+taken-valid p s entry.Events h k = record { item = ready-valid (setup_of s) (setup_of_valid s h); settings = h }
 taken-valid p s other h k = record { item = tt; settings = h }
 
 step-valid : (p : Phase) (s : Settings) (line : List ℕ) (out : ReadLine) → AreValid s → read_body p s line ≡ Ok out → IsValidReadLine out
 step-valid p s line out h e =
-    step-cases p s line IsValidReadLine (record { item = tt; settings = h }) (λ own may. taken-valid p s (said_by line) h (said_by-valid line own)) out
+    step-cases p s line IsValidReadLine (record { item = tt; settings = h }) (λ own may. taken-valid p s (said_by line) h (said_by_valid line own)) out
     (stepped p s line out e)
 
 -- what a line says and adds
 line-valid : (p : Phase) (s : Settings) (line : List ℕ) (out : ReadLine) → AreValid s → read_at p s line ≡ Ok out → IsValidReadLine out
 unfolding read_line
 line-valid phase.Unread s line out h e =
-    rw ((starts (record { phase = phase.Unread; settings = s }) line out refl e).1) (record { item = tt; settings = no_settings-valid })
+    rw ((starts (record { phase = phase.Unread; settings = s }) line out refl e).1) (record { item = tt; settings = no_settings_valid })
 line-valid other s line out h e = step-valid other s line out h e
 
 if-ok : (x : Result ReadLine LineFault) → ((out : ReadLine) → x ≡ Ok out → IsValidReadLine out) → IfOk x IsValidReadLine
 if-ok (Ok out) h = h out refl
 if-ok (Err f) h = tt
 
-pub read_line-valid : (r : Reading) (line : List ℕ) → AreValid r.settings → IfOk (read_line r line) IsValidReadLine
+pub read_line_valid : (r : Reading) (line : List ℕ) → AreValid r.settings → IfOk (read_line r line) IsValidReadLine
 unfolding read_line
-read_line-valid r line h = if-ok (read_line r line) (λ out. line-valid r.phase r.settings line out h)
+read_line_valid r line h = if-ok (read_line r line) (λ out. line-valid r.phase r.settings line out h)
 
 -- settings that none is missing of
 pub whole : (r : Result Setup LineFault) → is_err r ≡ false → IsOk r

@@ -143,7 +143,7 @@ impl KeyLine {
 /// Reads the request that a line is into `asked`, and answers true; or the first fault of its words:
 /// `BadWord`, `BadCount`, `BadNumber`, `BadHex`, `BadSize`. The fault decides, whichever word has it. False
 /// for an empty line and for one that begins with `#`. Without a request, `asked` stays as it was.
-#[tactic(auto, unfolding(crate::specs::Keys::key_line), using(crate::proofs::KeySizes::request_sizes))]
+#[tactic(auto, unfolding(crate::specs::Keys::key_line), using(crate::proofs::Judging::request_sizes))]
 pub fn read_key_line(line: &[u8], asked: &mut KeyLine) -> Result<bool, LineFault>
     ensures value { read_into result asked.new ≡ key_line line.now }
     ensures sizes { result ≡ Ok true → HasSizes asked.new }

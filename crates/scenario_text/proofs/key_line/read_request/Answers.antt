@@ -5,8 +5,7 @@ use Rattle.scenario_text.specs.Words.{words, is_printable}
 use Rattle.scenario_text.specs.Rows.{keyword_in, fault_of_words}
 use Rattle.scenario_text.specs.Keys.{row_of, requests}
 use Rattle.scenario_text.proofs.Fitting.{fits}
-use Rattle.scenario_text.proofs.LineFaults.{Begins}
-use Rattle.scenario_text.proofs.KeySizes.{asked_by_known, asked_by_unknown}
+use Rattle.scenario_text.proofs.Judging.{Begins, asked_by_known, asked_by_unknown}
 use Rattle.scenario_text.proofs.key_line.read_request.Goals as goal
 
 pub returns-then-not-is_printable_line-clause-value : goal.returns-then-not-is_printable_line-clause-value

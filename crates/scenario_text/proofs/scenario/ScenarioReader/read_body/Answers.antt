@@ -4,8 +4,8 @@ use Rattle.std.proofs.lemmas.Bool.{or_right}
 use Rattle.scenario_text.specs.Words.{words, is_printable, is_passed_over}
 use Rattle.scenario_text.specs.Rows.{keyword_in}
 use Rattle.scenario_text.specs.Keywords.{row_of, keywords}
-use Rattle.scenario_text.proofs.LineFaults.{read_body-bad, read_body-words}
-use Rattle.scenario_text.proofs.ReadLine.{passes}
+use Rattle.scenario_text.proofs.Judging.{read_body_bad, read_body_words}
+use Rattle.scenario_text.proofs.Telling.{passes}
 use Rattle.scenario_text.proofs.scenario.ScenarioReader.read_body.Goals as goal
 
 pub returns-then-is_comment-clause-read : goal.returns-then-is_comment-clause-read
@@ -15,16 +15,16 @@ pub returns-then-not-is_printable_line-clause-read : goal.returns-then-not-is_pr
 returns-then-not-is_printable_line-clause-read c =
     let p : is_printable c.args.line.now ≡ false = cc in
     let on : is_passed_over c.args.line.now ≡ false = cc in
-    read_body-bad c.args.self.now.phase c.args.self.now.settings c.args.line.now on (rw p refl)
+    read_body_bad c.args.self.now.phase c.args.self.now.settings c.args.line.now on (rw p refl)
 
 pub returns-in-None-clause-read : goal.returns-in-None-clause-read
 returns-in-None-clause-read c =
     let q : keyword_in row_of keywords (words c.args.line.now) ≡ None = cc in
     let on : is_passed_over c.args.line.now ≡ false = cc in
-    read_body-bad c.args.self.now.phase c.args.self.now.settings c.args.line.now on (or_right (not (is_printable c.args.line.now)) _ (rw q refl))
+    read_body_bad c.args.self.now.phase c.args.self.now.settings c.args.line.now on (or_right (not (is_printable c.args.line.now)) _ (rw q refl))
 
 pub returns-in-Some-clause-read : goal.returns-in-Some-clause-read
 returns-in-Some-clause-read c =
     let on : is_passed_over c.args.line.now ≡ false = cc in
-    read_body-words c.args.self.now.phase c.args.self.now.settings c.args.line.now c.in-Some.keyword on (record { printable = cc; found = cc })
+    read_body_words c.args.self.now.phase c.args.self.now.settings c.args.line.now c.in-Some.keyword on (record { printable = cc; found = cc })
     ∙ c.read_words.ensures.read
