@@ -1,5 +1,5 @@
 -- A finding tells the name of a user alone.
-use Rattle.std.proofs.Common.{◌≡◌, ℕ, List, [], ◌∷◌, ◌++◌, Bool, true, false, cond, All, Option, Some, None, IfSome, option_map, Result, Ok, Err, refl}
+use Rattle.std.proofs.Common.{◌≡◌, ℕ, List, [], ◌∷◌, ◌++◌, Bool, true, false, cond, All, Option, Some, None, IfSome, option_map, Err, refl}
 use Rattle.std.specs.Option.{option_or}
 use Rattle.std.specs.Result.{result_ok}
 use Rattle.std.specs.Str.{bytes_eq}
@@ -11,7 +11,7 @@ use Rattle.gpsk_messages.specs.Message as gpsk_message
 use Rattle.psk_messages.specs.Message as psk_message
 use Rattle.eap_method.specs.PskTags.{header_of}
 use Rattle.capture_check.specs.Heard.{Captured, Heard, heard_of, malformed, plain, gpsk, psk}
-use Rattle.capture_check.specs.Tags.{tag_finding, if_right, is_tagged_in, gpsk_login_of, gpsk_login_in, login_begins, gpsk_begins, gpsk_follows, is_mac_p, psk_login_of, user_begins, psk_begins, follows_in, psk3_follows, psk4_follows}
+use Rattle.capture_check.specs.Tags.{tag_finding, if_right, is_tagged_in, gpsk_login_of, gpsk_login_in, login_begins, gpsk_begins, gpsk_follows, is_mac_p, psk_login_of, user_begins, psk_begins, psk3_follows, psk4_follows}
 use Rattle.capture_check.specs.Kept.{last_shown, gpsk2_of, psk2_of, gpsk2_in, psk2_in, last_psk1, last_gpsk2, last_psk2, kept_of}
 use Rattle.capture_check.specs.Finding.{gpsk_told, psk_told, gpsk_finding, psk_finding, heard_finding, finding_in, finding_of}
 use Rattle.capture_check.specs.declared.finding.Finding.{Finding}

@@ -1,14 +1,14 @@
 -- What a line can say at each place of a capture, and how far the capture has come then.
-use Rattle.std.proofs.Common.{◌≡◌, ℕ, Bool, true, false, cond, not, ◌||◌, ◌&&◌, List, [], ◌∷◌, Option, Some, None, find, Result, Ok, Err, ok_or, unwrap_or, is_some, inl, inr, refl, sym, ◌∙◌, ap, subst}
-use Rattle.std.proofs.lemmas.Bool.{cases_Bool, and_parts, or_parts, not-false}
+use Rattle.std.proofs.Common.{◌≡◌, ℕ, Bool, true, false, cond, not, ◌&&◌, List, [], ◌∷◌, Option, Some, None, find, Ok, Err, refl, subst}
+use Rattle.std.proofs.lemmas.Bool.{and_parts, or_parts, not-false}
 use Rattle.std.specs.List.{slice_split, list_all, onto_first}
 use Rattle.std.specs.Str.{bytes_eq}
 use Rattle.eap_base.specs.declared.users.User.{User}
 use Rattle.scenario_text.specs.Words.{words, is_printable, is_passed_over}
 use Rattle.scenario_text.specs.Fields.{word_in}
-use Rattle.scenario_text.specs.Rows.{faults, unless, keyword_in, has_bad_word, line_has}
+use Rattle.scenario_text.specs.Rows.{faults, unless, line_has}
 use Rattle.scenario_text.specs.Reading.{with_user}
-use Rattle.scenario_text.specs.Captures.{row_of, capture_words, entry_of, entry_in, word_of, has_fault, Capture, CaptureLine, said, may_stand, place_has, body_has, taken, read_body, read_header, read_at, read_line, header}
+use Rattle.scenario_text.specs.Captures.{entry_of, entry_in, word_of, has_fault, Capture, CaptureLine, said, may_stand, body_has, taken, read_body, read_at, read_line, header}
 use Rattle.scenario_text.specs.declared.fault.LineFault.{LineFault}
 use Rattle.scenario_text.specs.declared.fault.LineFault.TheVariants as fault
 use Rattle.scenario_text.specs.declared.capture_line.CaptureWord.{CaptureWord}
