@@ -1,4 +1,4 @@
-pub mod Covered
+pub mod Pieces
 pub mod MacLaws
 pub mod Requests
 pub mod UserKeys

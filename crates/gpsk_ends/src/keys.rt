@@ -6,13 +6,12 @@ ghost use Rattle.eap_packet.specs.Packet.{has_type};
 ghost use Rattle.gpsk_messages.specs.Message.{message_of, mac_of, size_of, spelled, without_mac};
 ghost use Rattle.gpsk_ends.specs.Sealed.{packet_of, record_of};
 
-use crate::hearing::{covered_part, mac_part};
 use crate::records::set_alone;
 use crate::sealing::{BEFORE_COVERED, write_front};
 use eap_base::{Nonce, Packet, Secret, Suite, equal_in_full};
 use eap_method::TagList;
 use eap_packet::Code;
-use gpsk_messages::GpskView;
+use gpsk_messages::{GpskView, covered_part, mac_part};
 use login_keys::{GpskKeys, MacKey, gpsk_keys};
 use std::marker::Model;
 

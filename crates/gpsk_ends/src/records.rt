@@ -6,13 +6,12 @@ ghost use Rattle.eap_method.specs.declared.tags.Label.TheVariants.{Sk};
 ghost use Rattle.eap_method.specs.GpskTags.{sk_record};
 ghost use Rattle.gpsk_ends.specs.Heard.{IsHeard};
 
-use crate::hearing::{covered_part, mac_part};
 use eap_base::{GPSK_KIND, Secret};
 use eap_method::{Label, TagList};
-use gpsk_messages::GpskView;
+use gpsk_messages::{GpskView, covered_part, mac_part};
 
 /// Leaves the record of this MAC of these octets alone in the list.
-#[tactic(auto, using(crate::proofs::Covered::one_piece))]
+#[tactic(auto, using(crate::proofs::Pieces::one_piece))]
 pub(crate) fn set_alone(list: &mut TagList, psk: &Secret, covered: &[u8], mac: &[u8])
     requires covered { length covered.now ≤ 1500 }
     requires mac { length mac.now ≤ 32 }

@@ -2,3 +2,4 @@ mod Worked
 pub mod FieldLaws
 pub mod Reader
 pub mod Grammar
+pub mod MacParts

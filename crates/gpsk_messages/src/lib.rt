@@ -3,6 +3,7 @@
 
 mod fields;
 mod laws;
+mod parts;
 mod reading;
 mod view;
 mod writing;
@@ -11,6 +12,7 @@ pub use laws::{
     covered_is_the_middle, covered_tells_the_fields, long_lists_are_told, reads_the_spelling,
     shapeless_spells_nothing, spellings_are_apart, spellings_are_read, spellings_are_sized,
 };
+pub use parts::{covered_part, mac_part};
 pub use reading::{covered, read_gpsk};
 pub use view::GpskView;
 pub use writing::{write_gpsk, write_gpsk_into};

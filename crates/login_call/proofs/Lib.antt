@@ -1,3 +1,4 @@
+pub mod Checking
 pub mod Driving
 pub mod Endings
 pub mod Replaying

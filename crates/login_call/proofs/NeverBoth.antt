@@ -1,6 +1,6 @@
 -- No text that ends with status 0 has both the line of honest tags and the line of ends that are apart.
-use Rattle.std.proofs.Common.{◌≡◌, ℕ, ◌+◌, List, [], ◌∷◌, ◌++◌, Bool, true, false, Option, Some, None, Result, Ok, Err, flat_map, refl, sym, subst, ◌∙◌, codes}
-use Rattle.std.proofs.lemmas.Bool.{true≢false}
+use Rattle.std.proofs.Common.{◌≡◌, ℕ, ◌+◌, List, [], ◌∷◌, ◌++◌, Bool, true, false, Option, Some, None, Result, Ok, Err, flat_map, refl, sym, subst, ◌∙◌, codes, length, ◌≤◌, ◌==◌, All, arith, get_or}
+use Rattle.std.proofs.lemmas.Bool.{true≢false, and_parts, leb-true, ne_eqb}
 use Rattle.std.proofs.lemmas.Option.{same_Some}
 use Rattle.std.proofs.lemmas.List.{append_cancel_left}
 use Rattle.std.specs.Prelude.{if◌then◌else◌, ◌&&◌, nat_le}
@@ -18,11 +18,20 @@ use Rattle.scenario_text.specs.Packets.{packet_line}
 use Rattle.scenario_text.specs.Keys.{key_line}
 use Rattle.scenario_text.specs.declared.key_line.KeyLine.{KeyLine}
 use Rattle.scenario_text.specs.declared.fault.LineFault.{LineFault}
+use Rattle.eap_base.specs.declared.users.User.{User}
+use Rattle.capture_check.specs.Finding.{finding_of}
+use Rattle.capture_check.proofs.Names.{finding_names}
+use Rattle.scenario_text.specs.Words.{is_printable}
+use Rattle.scenario_text.specs.Captures.{Capture, CaptureLine}
+use Rattle.scenario_text.specs.Captures as captures
+use Rattle.scenario_text.specs.declared.capture.CaptureItem.{CaptureItem}
+use Rattle.scenario_text.specs.declared.capture.CaptureItem.TheVariants as capture_item
 use Rattle.scenario_text.specs.Items.{Item}
 use Rattle.scenario_text.specs.Items as item
 use Rattle.trace_text.specs.Run.{begin_text, outcome_text, end_text}
-use Rattle.trace_text.proofs.Plain.{plain, over, none, join}
+use Rattle.trace_text.proofs.Plain.{is_within, plain, over, none, join, skips}
 use Rattle.trace_text.proofs.PlainAnswers.{begins_result, packet_plain, packets_plain, key_plain}
+use Rattle.trace_text.proofs.PlainFindings.{finding_plain, findings_plain}
 use Rattle.trace_text.proofs.PlainTexts.{begins_verdict, no_verdict, told_plain, start_plain}
 use Rattle.trace_text.proofs.Scanning.{has_mark, found}
 use Rattle.trace_text.proofs.Verdicts.{honest_line, apart_line, end_tells_honest, end_tells_apart}
@@ -30,6 +39,7 @@ use Rattle.login_call.specs.Answers.{Answer, after_text, IsRefusal, Ends, Gives}
 use Rattle.login_call.specs.Commands.{Took, Closing, Ruling, goes, refuses, Closed, ends, misses, after_ruling, closing_answer, answer}
 use Rattle.login_call.specs.Decode.{took_packet, decode_took, decode_closing, nothing_decoded, decode_answer}
 use Rattle.login_call.specs.Keys.{Asking, took_request, keys_took, keys_closing, all_asked, keys_answer}
+use Rattle.login_call.specs.Check.{CheckNow, item_took, line_took, check_took, check_end, check_closing, nothing_checked, check_answer}
 use Rattle.login_call.specs.Login.{usage_answer}
 use Rattle.login_call.specs.declared.decode.Decode.{Decode}
 use Rattle.login_call.specs.Headline.{NeverBoth, WritesNeverBoth}
@@ -37,6 +47,7 @@ use Rattle.login_call.specs.Scenario.{Outcome, whole, refused, Scenario, stops, 
 use Rattle.login_call.specs.Replay.{max_events}
 use Rattle.login_call.specs.declared.status.Status.{Status}
 use Rattle.login_call.specs.declared.status.Status.TheVariants as status
+use Rattle.login_call.proofs.Checking.{IsOrderly, took_alike, begins_orderly}
 use Rattle.login_call.proofs.Headline.{headline}
 
 -- an answer with status 0 has not both lines
@@ -209,6 +220,75 @@ never_keys : (octets : List ℕ) → Never (keys_answer octets)
 never_keys octets =
     never_if_plain _ (plain_answer keys_took keys_closing (λ c l. (line_asked c l).0) (λ c l. (line_asked c l).1) all_answered (lines octets) 0 all_asked)
 
+-- ---- a capture
+
+-- the same of a command that keeps a property
+module _ {C : Type 0} (took : C → List ℕ → Took C) (closing : C → Closing) (Holds : C → Type 0)
+    (plain_took : (c : C) (l : List ℕ) → Holds c → (plain begins_result true (took c l).text ≡ true) × Refuses (took c l).ruling × Holds (took c l).after)
+    (plain_end : (c : C) → plain begins_result true (closing c).text ≡ true) where
+  plain_while : (ls : Lines) (n : ℕ) (c : C) → Holds c → IsPlain (answer took closing n c ls)
+  unfolding answer
+  plain_while ended n c h = plain_closing (n + 1) (closing c).text (closing c).closed (plain_end c)
+  plain_while too_long n c h = record { holds = λ done. absurd (refusal_is_not status.TooMuch tt done) }
+  plain_while too_much n c h = record { holds = λ done. absurd (refusal_is_not status.TooMuch tt done) }
+  plain_while (line l rest) n c h =
+      let step = plain_took c l h in
+      plain_after (n + 1) (took c l).text (took c l).ruling (answer took closing (n + 1) (took c l).after rest) step.0 step.1
+      (plain_while rest (n + 1) (took c l).after step.2)
+
+printable_within : (text : List ℕ) → is_printable text ≡ true → is_within text ≡ true
+printable_within [] h = refl
+printable_within (o ∷ rest) h =
+    let parts = and_parts (nat_le 32 o && nat_le o 126) (is_printable rest) h in
+    let low : 32 ≤ o = leb-true 32 o (and_parts (nat_le 32 o) (nat_le o 126) parts.0).0 in
+    skips (o == 10) (is_within rest) (ne_eqb o 10 (λ e. omega (arith, low, e))) (printable_within rest parts.1)
+
+names_within : (users : List User) → All (λ user. is_printable user.name ≡ true) users → All (λ user. is_within user.name ≡ true) users
+names_within users h = λ k d below. printable_within (get_or users k d).name (h k d below)
+
+item_plain : (c : CheckNow) (reader : Capture) (i : CaptureItem) → All (λ user. is_printable user.name ≡ true) reader.users
+    → (plain begins_result true (item_took c reader i).text ≡ true) × Refuses (item_took c reader i).ruling
+item_plain c reader capture_item.Nothing h = (refl, tt)
+item_plain c reader capture_item.Ready h = (refl, tt)
+item_plain c reader (capture_item.Packet to_peer octets) h = (
+  finding_plain (length c.before + 1) (finding_of reader.users c.before to_peer octets)
+      (finding_names (λ name. is_within name ≡ true) reader.users (names_within reader.users h) c.before to_peer octets),
+  tt,
+)
+item_plain c reader capture_item.End h = (refl, tt)
+
+after_item : (c : CheckNow) (reader : Capture) (i : CaptureItem) → (item_took c reader i).after.reader ≡ reader
+after_item c reader capture_item.Nothing = refl
+after_item c reader capture_item.Ready = refl
+after_item c reader (capture_item.Packet to_peer octets) = refl
+after_item c reader capture_item.End = refl
+
+capture_took : (c : CheckNow) (x : Result CaptureLine LineFault) → IsOrderly (line_took c x).after
+    → (plain begins_result true (line_took c x).text ≡ true) × Refuses (line_took c x).ruling
+capture_took c (Err fault) h = (refl, tt)
+capture_took c (Ok out) h =
+    item_plain c out.after out.item (subst (λ (r : Capture). All (λ user. is_printable user.name ≡ true) r.users) (after_item c out.after out.item) h.names)
+
+line_checked : (c : CheckNow) (l : List ℕ) → IsOrderly c
+    → (plain begins_result true (check_took c l).text ≡ true) × Refuses (check_took c l).ruling × IsOrderly (check_took c l).after
+unfolding check_took
+line_checked c l h =
+    let orderly = (took_alike c l h).orderly in
+    let told = capture_took c (captures.read_line c.reader l) orderly in
+    (told.0, told.1, orderly)
+
+end_checked : (packets findings : ℕ) (x : Result (Unit {0}) LineFault) → plain begins_result true (check_end packets findings x).text ≡ true
+end_checked packets findings (Err fault) = refl
+end_checked packets findings (Ok done) = findings_plain packets findings
+
+all_checked : (c : CheckNow) → plain begins_result true (check_closing c).text ≡ true
+unfolding check_closing
+all_checked c = end_checked (length c.before) c.findings (captures.finish_of c.reader)
+
+never_check : (octets : List ℕ) → Never (check_answer octets)
+never_check octets =
+    never_if_plain _ (plain_while check_took check_closing IsOrderly line_checked all_checked (lines octets) 0 nothing_checked begins_orderly)
+
 -- ---- what is written
 
 never_usage : Never usage_answer
@@ -237,6 +317,9 @@ module _ (s : Status) (before now : Option (List ℕ)) where
 
   pub keys_writes : (octets : List ℕ) → Ends s before now (keys_answer octets) → WritesNeverBoth s before now
   keys_writes octets = written (keys_answer octets) s before now (never_keys octets)
+
+  pub check_writes : (octets : List ℕ) → Ends s before now (check_answer octets) → WritesNeverBoth s before now
+  check_writes octets = written (check_answer octets) s before now (never_check octets)
 
   pub usage_writes : Ends s before now usage_answer → WritesNeverBoth s before now
   usage_writes = written usage_answer s before now never_usage

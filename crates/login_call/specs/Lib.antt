@@ -1,4 +1,6 @@
 pub mod Answers
+pub mod Check
+pub mod CheckSteps
 pub mod Commands
 pub mod Decode
 pub mod Keys

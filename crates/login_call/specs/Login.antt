@@ -3,6 +3,7 @@ use Rattle.std.specs.Prelude.{◌≡◌, ℕ, List, [], ◌∷◌, Bool, true, f
 use Rattle.std.specs.Str.{bytes_eq}
 use Rattle.trace_text.specs.Lines.{line_text}
 use Rattle.login_call.specs.Answers.{Answer}
+use Rattle.login_call.specs.Check.{check_answer}
 use Rattle.login_call.specs.Decode.{decode_answer}
 use Rattle.login_call.specs.Keys.{keys_answer}
 use Rattle.login_call.specs.Scenario.{replay_answer, scenario_of}
@@ -23,6 +24,9 @@ is_decode words = is_alone (codes "decode") words
 abbrev pub is_keys : List (List ℕ) → Bool
 is_keys words = is_alone (codes "keys") words
 
+abbrev pub is_check : List (List ℕ) → Bool
+is_check words = is_alone (codes "check") words
+
 -- the words are these two
 abbrev pub are_two : List ℕ → List ℕ → List (List ℕ) → Bool
 are_two first second [] = false
@@ -39,7 +43,7 @@ reads_scenario words = is_replay words || is_replay_names words
 
 -- the words are one of the forms that are built
 abbrev pub is_form : List (List ℕ) → Bool
-is_form words = is_replay words || (is_replay_names words || (is_decode words || is_keys words))
+is_form words = is_replay words || (is_replay_names words || (is_decode words || (is_keys words || is_check words)))
 
 -- for all other words the program says how it is used
 unfoldable pub usage_text : List ℕ
@@ -55,6 +59,7 @@ login_answer words octets =
     else if is_replay_names words then replay_answer true octets
     else if is_decode words then decode_answer octets
     else if is_keys words then keys_answer octets
+    else if is_check words then check_answer octets
     else usage_answer
 
 -- the input's settings are whole, so that the run of its events begins

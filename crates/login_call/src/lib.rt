@@ -1,8 +1,9 @@
 //! The one call that the program makes, [`eap_login`], and its commands: `replay` and `replay names` of
-//! a scenario, `decode` of packets, `keys` for ciphers, MACs and key schedules.
+//! a scenario, `decode` of packets, `keys` for ciphers, MACs and key schedules, `check` of captures.
 #![tactic(auto)]
 
 mod beginning;
+mod check;
 mod command;
 mod decode;
 mod drive;

@@ -3,6 +3,7 @@
 ghost use Rattle.std.specs.Prelude.{◌≡◌, ◌≢◌, ◌≤◌, ℕ, List, Option, Some, true, false, map, string_bytes};
 ghost use Rattle.login_call.specs.Answers.{Ends, Drains, Finishes, IsWritten, KeepsReads, KeepsWrites};
 ghost use Rattle.login_call.specs.Login.{is_alone, are_two, reads_scenario, is_form, login_answer, usage_answer, usage_text, HasSetup};
+ghost use Rattle.login_call.specs.Check.{check_answer};
 ghost use Rattle.login_call.specs.Decode.{decode_answer};
 ghost use Rattle.login_call.specs.Keys.{keys_answer};
 ghost use Rattle.login_call.specs.Headline.{HonestEndsAgree, WritesNeverBoth};
@@ -10,6 +11,7 @@ ghost use Rattle.login_call.specs.Replay.{HasBoth};
 ghost use Rattle.login_call.specs.Scenario.{replay_answer, trace_header};
 ghost use Rattle.trace_text.specs.Writes.{Appends};
 
+use crate::check::Check;
 use crate::decode::Decode;
 use crate::drive::drive;
 use crate::keys::Keys;
@@ -28,6 +30,8 @@ use trace_text::write_line;
 ///   packet and the names of keys besides. Both take memory.
 /// - `decode` reads packets in hex and writes what they are. It takes no memory.
 /// - `keys` reads requests for ciphers, MACs and keys and writes the answers. It takes no memory.
+/// - `check` reads a capture of packets with the keys of its users, and writes for each packet whether its
+///   tags are right. It takes no memory.
 /// - All other words write the usage line; the source isn't touched.
 ///
 /// Each of the two lists of `methods` has an object of EAP-PSK and one of EAP-GPSK.
@@ -41,7 +45,7 @@ pub fn eap_login<P: PeerMethod, M: ServerMethod, S: Source, W: Sink>(
 ) -> Status
     requires { HasBoth P.peer_shown M.server_shown methods }
 
-    // With status 0, 1, 2 or 6 the whole text was written and the status is that of the answer. With
+    // With status 0, 1, 2, 6 or 7 the whole text was written and the status is that of the answer. With
     // 3, 4 or 5 a front of the text was.
     ensures ends { (octets : List ℕ) → S.left source.old ≡ Some octets
         → Ends result (W.written sink.old) (W.written sink.new) (login_answer (map string_bytes words.now.items) octets) }
@@ -80,6 +84,8 @@ pub fn eap_login<P: PeerMethod, M: ServerMethod, S: Source, W: Sink>(
         decode(source, sink)
     } else if are_alone(words, "keys") {
         keys(source, sink)
+    } else if are_alone(words, "check") {
+        check(source, sink)
     } else {
         show_usage(sink)
     }
@@ -187,5 +193,20 @@ fn keys<S: Source, W: Sink>(source: &mut S, sink: &mut W) -> Status
     ensures no_memory { result ≢ Status.Memory }
 {
     let mut command = Keys::new();
+    drive(&mut command, source, sink)
+}
+
+/// Reads a capture and writes the finding of each packet. The status is `Findings` where the capture was
+/// read to its end and a packet is malformed or has a bad tag.
+fn check<S: Source, W: Sink>(source: &mut S, sink: &mut W) -> Status
+    ensures ends { (octets : List ℕ) → S.left source.old ≡ Some octets → Ends result (W.written sink.old) (W.written sink.new) (check_answer octets) }
+    ensures drains { Drains result (S.left source.new) }
+    ensures read_fault { result ≡ Status.ReadFault → S.read_faults source.new ≤ S.read_faults source.old → S.last_read_fault ≡ Some (S.read_faults source.new) }
+    ensures write_fault { result ≡ Status.WriteFault → W.write_faults sink.new ≤ W.write_faults sink.old → W.last_write_fault ≡ Some (W.write_faults sink.new) }
+    ensures reads { KeepsReads result (S.read_faults source.old) (S.read_faults source.new) }
+    ensures writes { KeepsWrites result (W.write_faults sink.old) (W.write_faults sink.new) }
+    ensures no_memory { result ≢ Status.Memory }
+{
+    let mut command = Check::new();
     drive(&mut command, source, sink)
 }

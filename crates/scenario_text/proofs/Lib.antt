@@ -1,3 +1,6 @@
+pub mod CaptureFaults
+pub mod CaptureSteps
+pub mod CaptureUsers
 pub mod Earliest
 pub mod FieldLemmas
 pub mod Fitting

@@ -1,3 +1,4 @@
+pub mod Captures
 pub mod Contents
 pub mod Entries
 pub mod Fields

@@ -145,7 +145,7 @@ fn item_of(keyword: Keyword, line: &[u8], event: &mut Event) -> Entry
 }
 
 /// A name, which is at most 253 octets as they stand.
-fn name(word: &[u8]) -> Identity
+pub(crate) fn name(word: &[u8]) -> Identity
     requires { length word.now ≤ 253 }
     ensures { result ≡ word.now }
 {

@@ -1,6 +1,8 @@
 //! The texts that the program reads, line by line.
 #![tactic(auto)]
 
+mod capture;
+mod capture_line;
 mod entry;
 mod fault;
 mod fields;
@@ -13,6 +15,7 @@ mod scenario;
 mod settings;
 mod words;
 
+pub use capture::{CaptureItem, CaptureReader};
 pub use fault::LineFault;
 pub use fields::{read_hex, read_number};
 pub use key_line::{KeyLine, read_key_line};

@@ -227,7 +227,7 @@ impl Settings {
 }
 
 /// Adds a user, unless 16 are there or one of them has its name and kind.
-fn add_user(users: &mut Users, user: User)
+pub(crate) fn add_user(users: &mut Users, user: User)
     ensures { users.new ≡ with_user users.old user }
 {
     users.add(user);

@@ -7,4 +7,5 @@ pub mod Plain
 pub mod PlainTexts
 pub mod Verdicts
 pub mod PlainAnswers
+pub mod PlainFindings
 mod Worked

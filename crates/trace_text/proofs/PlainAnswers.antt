@@ -32,7 +32,7 @@ use Rattle.trace_text.proofs.PlainTexts.{cause_within, hex_within, either_within
 abbrev pub begins_result : ℕ → Bool
 begins_result o = o == 114
 
-no_result : (o : ℕ) → 48 ≤ o → o ≤ 57 → begins_result o ≡ false
+pub no_result : (o : ℕ) → 48 ≤ o → o ≤ 57 → begins_result o ≡ false
 no_result o h k = ne_eqb o 114 (λ e. omega (arith, k, e))
 
 -- ---- packets

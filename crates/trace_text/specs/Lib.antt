@@ -1,3 +1,4 @@
+pub mod Findings
 pub mod Keys
 pub mod Lines
 pub mod Packets

@@ -3,6 +3,7 @@
 //! answers `Failed` exactly where a write of the sink failed; a front of the text was then appended.
 #![tactic(auto)]
 
+mod finding;
 mod keys;
 mod line_buffer;
 mod lines;
@@ -10,6 +11,7 @@ mod packet;
 mod pieces;
 mod run;
 
+pub use finding::{write_finding, write_finding_counts};
 pub use keys::write_key_line;
 pub use lines::{write_line, write_refused};
 pub use packet::{write_packet, write_packet_counts};

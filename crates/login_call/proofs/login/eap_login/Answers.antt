@@ -1,6 +1,6 @@
 use Rattle.std.proofs.Common.{true, false}
 use Rattle.login_call.proofs.Headline.{headline}
-use Rattle.login_call.proofs.NeverBoth.{replay_writes, decode_writes, keys_writes}
+use Rattle.login_call.proofs.NeverBoth.{replay_writes, decode_writes, keys_writes, check_writes}
 use Rattle.login_call.proofs.login.eap_login.Goals as goal
 
 pub returns-then-are_alone-clause-never_both : goal.returns-then-are_alone-clause-never_both
@@ -16,6 +16,9 @@ returns-then-are_alone-2-clause-never_both g c octets h = decode_writes c.decode
 pub returns-then-are_alone-3-clause-never_both : goal.returns-then-are_alone-3-clause-never_both
 returns-then-are_alone-3-clause-never_both g c octets h = keys_writes c.keys.result _ _ octets (c.keys.ensures.ends octets h)
 
+pub returns-then-are_alone-4-clause-never_both : goal.returns-then-are_alone-4-clause-never_both
+returns-then-are_alone-4-clause-never_both g c octets h = check_writes c.check.result _ _ octets (c.check.ensures.ends octets h)
+
 pub returns-then-are_alone-clause-honest_ends_agree : goal.returns-then-are_alone-clause-honest_ends_agree
 returns-then-are_alone-clause-honest_ends_agree g c octets = headline octets
 
@@ -27,6 +30,9 @@ returns-then-are_alone-2-clause-honest_ends_agree g c octets = headline octets
 
 pub returns-then-are_alone-3-clause-honest_ends_agree : goal.returns-then-are_alone-3-clause-honest_ends_agree
 returns-then-are_alone-3-clause-honest_ends_agree g c octets = headline octets
+
+pub returns-then-are_alone-4-clause-honest_ends_agree : goal.returns-then-are_alone-4-clause-honest_ends_agree
+returns-then-are_alone-4-clause-honest_ends_agree g c octets = headline octets
 
 pub returns-clause-honest_ends_agree : goal.returns-clause-honest_ends_agree
 returns-clause-honest_ends_agree g c octets = headline octets

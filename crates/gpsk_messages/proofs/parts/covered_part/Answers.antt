@@ -1,8 +1,8 @@
 -- The MAC and the OP-Code stand beside the covered octets.
 use Rattle.std.proofs.Common.{rules, ◌+◌, ◌≤◌, length, arith}
 use Rattle.gpsk_messages.specs.Message.{message_of}
-use Rattle.gpsk_ends.proofs.Covered.{covered_start, covered_middle}
-use Rattle.gpsk_ends.proofs.hearing.covered_part.Goals as goal
+use Rattle.gpsk_messages.proofs.MacParts.{covered_start, covered_middle}
+use Rattle.gpsk_messages.proofs.parts.covered_part.Goals as goal
 
 pub overflow_sub-result : goal.overflow_sub-result
 overflow_sub-result c = omega (arith, covered_start (message_of c.args.view.now) c.args.body.now c.mac_part.result.now c.requires c.mac_part.ensures)

@@ -1,9 +1,6 @@
 -- Where the covered octets of a message stand in its Type-Data.
-use Rattle.std.proofs.Common.{◌≡◌, ℕ, ◌+◌, ◌-◌, ◌≤◌, ◌<◌, List, [], ◌∷◌, ◌++◌, length, take, drop, ap, sym, ◌∙◌, arith, length-append, append-nil}
+use Rattle.std.proofs.Common.{◌≡◌, ℕ, ◌+◌, ◌-◌, ◌≤◌, List, [], ◌∷◌, ◌++◌, length, take, drop, ap, sym, ◌∙◌, arith, length-append}
 use Rattle.std.proofs.lemmas.List.{take_at}
-use Rattle.eap_base.specs.Suite.{ks_of}
-use Rattle.eap_base.specs.declared.setup.Suite.{Suite}
-use Rattle.eap_base.specs.declared.setup.Suite.TheVariants.{Cmac, Hmac}
 use Rattle.gpsk_messages.specs.Message.{Message, op_code, covered_of, mac_of, spelled}
 
 -- the octets after the OP-Code
@@ -32,12 +29,3 @@ covered_middle message body mac e m =
     let same : length mac ≡ length (mac_of message) = ap length m in
     let count : length body - length mac - 1 ≡ length (covered_of message) = omega arith in
     ap (λ (l : List ℕ). take (length body - length mac - 1) l) (behind_op message body e) ∙ take_at (covered_of message) (mac_of message) _ (sym count)
-
--- one piece, joined with none
-pub one_piece : (octets : List ℕ) → octets ++ [] ≡ octets
-one_piece octets = append-nil octets
-
--- KS is told in one octet
-pub ks_small : (suite : Suite) → ks_of suite < 256
-ks_small Cmac = omega arith
-ks_small Hmac = omega arith

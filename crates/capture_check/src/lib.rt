@@ -1,0 +1,12 @@
+//! The tags of captured packets: each is judged under the key of the user that it, or a packet before
+//! it, names.
+#![tactic(auto)]
+
+mod checker;
+mod finding;
+mod gpsk;
+mod kept;
+mod psk;
+
+pub use checker::Checker;
+pub use finding::Finding;

@@ -1,0 +1,244 @@
+//! The tags of EAP-PSK (RFC 4764 section 5).
+
+ghost use Rattle.std.specs.Prelude.{◌≡◌, length, All, IsTrue, Some};
+ghost use Rattle.std.specs.Option.{option_or};
+ghost use Rattle.cmac_mac.specs.Cmac.{aes_cmac};
+ghost use Rattle.eap_base.specs.Setup.{fits_kind};
+ghost use Rattle.login_keys.specs.Psk.{psk_long_of};
+ghost use Rattle.psk_messages.specs.Message.{message_of, AreFields};
+ghost use Rattle.eap_method.specs.PskTags.{is_sealed, mac_p_octets, mac_s_octets};
+ghost use Rattle.capture_check.specs.Heard.{is_psk_astray};
+ghost use Rattle.capture_check.specs.Tags.{follows_in, psk_begins, psk_login_of, psk3_follows, psk4_follows, user_begins};
+ghost use Rattle.capture_check.specs.Kept.{psk1_of, psk2_of};
+ghost use Rattle.capture_check.specs.Finding.{psk_finding};
+
+use crate::finding::Finding;
+use crate::kept::{Psk1, PskLogin};
+use cmac_mac::CmacKey;
+use eap_base::{Octets, PSK_KIND, User, Users, array_of, equal_in_full};
+use eax_mode::eax_unseal;
+use login_keys::{PskLong, psk_long, psk_session};
+use psk_messages::PskView;
+
+/// Whether a message goes the wrong way: PSK-1 and PSK-3 go to the peer, PSK-2 and PSK-4 come from it.
+pub fn is_astray(to_peer: bool, view: &PskView) -> bool
+    ensures { result ≡ is_psk_astray to_peer (message_of view.now) }
+{
+    match view {
+        PskView::P1 { .. } => !to_peer,
+        PskView::P2 { .. } => to_peer,
+        PskView::P3 { .. } => !to_peer,
+        PskView::P4 { .. } => to_peer,
+    }
+}
+
+/// The MAC under AK of these octets, one behind the other.
+#[tactic(auto, using(crate::proofs::Pieces::mac_p_joined))]
+fn mac_p<'a>(
+    ak: &CmacKey,
+    id_p: &'a [u8],
+    id_s: &'a [u8],
+    rand_s: &'a [u8; 16],
+    rand_p: &'a [u8; 16],
+) -> [u8; 16]
+    ensures { result ≡ aes_cmac ak.now (mac_p_octets id_p.now id_s.now rand_s.now rand_p.now) }
+{
+    ak.tag(id_p, &[id_s, rand_s, rand_p])
+}
+
+/// MAC_S under AK. It covers ID_S, RAND_P.
+#[tactic(auto, using(crate::proofs::Pieces::mac_s_joined))]
+fn mac_s(ak: &CmacKey, id_s: &[u8], rand_p: &[u8; 16]) -> [u8; 16]
+    ensures { result ≡ aes_cmac ak.now (mac_s_octets id_s.now rand_p.now) }
+{
+    ak.tag(id_s, &[rand_p])
+}
+
+/// The login of a user with the fields of PSK-1 and PSK-2, from AK and KDK of the user's key.
+#[tactic(auto, unfolding(crate::specs::Tags::psk_login_of))]
+fn login_of(user: &User, ak: &CmacKey, kdk: &[u8; 16], psk1: &Psk1, rand_p: &[u8; 16]) -> PskLogin
+    requires ak { ak.now ≡ (psk_long_of user.now.psk).ak }
+    requires kdk { kdk.now ≡ (psk_long_of user.now.psk).kdk }
+    ensures { result ≡ psk_login_of user.now psk1.now rand_p.now }
+{
+    let rand_s = psk1.rand_s;
+    let mac_s = mac_s(ak, psk1.id_s.as_slice(), rand_p);
+    let tek = psk_session(kdk, rand_p).tek;
+    PskLogin {
+        name: user.name.copy(),
+        rand_s,
+        mac_s,
+        tek,
+    }
+}
+
+/// The login that a PSK-2 of this user with the right MAC_P begins, else `TagBad`.
+fn begin_user(
+    user: &User,
+    psk1: &Psk1,
+    rand_p: &[u8; 16],
+    mac: &[u8; 16],
+    id_p: &[u8],
+) -> Result<PskLogin, Finding>
+    requires key { length user.now.psk ≡ 16 }
+    ensures { result ≡ user_begins (Some user.now) psk1.now rand_p.now mac.now id_p.now }
+{
+    let PskLong { ak, kdk } = psk_long(&array_of(user.psk.as_slice()));
+    let ak = CmacKey::new(&ak);
+    let expected = mac_p(&ak, id_p, psk1.id_s.as_slice(), &psk1.rand_s, rand_p);
+    if equal_in_full(&expected, mac) {
+        Ok(login_of(user, &ak, &kdk, psk1, rand_p))
+    } else {
+        Err(Finding::TagBad)
+    }
+}
+
+/// The login that a PSK-2 with the right MAC_P begins, else its finding: `NoContext` where there was no
+/// PSK-1 or its RAND_S is another, `NoKey` where there is no user of its ID_P, `TagBad` where MAC_P is
+/// wrong.
+#[tactic(auto, unfolding(crate::specs::Tags::psk_begins), using(crate::proofs::UserKeys::key_is_short))]
+fn begin(
+    users: &Users,
+    psk1: &Option<Psk1>,
+    rand_s: &[u8; 16],
+    rand_p: &[u8; 16],
+    mac: &[u8; 16],
+    id_p: &[u8],
+) -> Result<PskLogin, Finding>
+    requires keys { All (λ user. IsTrue (fits_kind user.kind user.psk)) users.now }
+    ensures { result ≡ psk_begins users.now psk1.now rand_s.now rand_p.now mac.now id_p.now }
+{
+    match psk1 {
+        None => Err(Finding::NoContext),
+        Some(psk1) => {
+            if rand_s.as_slice() != psk1.rand_s.as_slice() {
+                return Err(Finding::NoContext);
+            }
+            match users.find(id_p, PSK_KIND) {
+                None => Err(Finding::NoKey),
+                Some(user) => begin_user(user, psk1, rand_p, mac, id_p),
+            }
+        }
+    }
+}
+
+/// Whether PCHANNEL's tag is right under TEK.
+#[tactic(auto, unfolding(eap_method::specs::PskTags::channel_nonce))]
+fn is_sealed(tek: &[u8; 16], number: u32, header: &[u8], sealed: u8, tag: &[u8; 16]) -> bool
+    ensures { result ≡ is_sealed tek.now number header.now sealed tag.now }
+{
+    let [a, b, c, d] = number.to_be_bytes();
+    let nonce = [0, 0, 0, 0, 0, 0, 0, 0, 0, 0, 0, 0, a, b, c, d];
+    eax_unseal(tek, &nonce, header, &mut [sealed], tag)
+}
+
+/// The finding of a message with this RAND_S, whose tags are right or not in the last login.
+fn follow(login: &PskLogin, rand_s: &[u8; 16], right: bool) -> Finding
+    ensures { result ≡ follows_in login.now rand_s.now right }
+{
+    if rand_s.as_slice() != login.rand_s.as_slice() {
+        Finding::NoContext
+    } else if right {
+        Finding::TagGood(login.name.copy())
+    } else {
+        Finding::TagBad
+    }
+}
+
+/// The finding of PSK-3: MAC_S and PCHANNEL's tag are to be right in the last login.
+#[tactic(auto, unfolding(crate::specs::Tags::psk3_follows))]
+fn follow3(
+    login: &Option<PskLogin>,
+    header: &[u8],
+    rand_s: &[u8; 16],
+    mac: &[u8; 16],
+    nonce: u32,
+    tag: &[u8; 16],
+    sealed: u8,
+) -> Finding
+    ensures { result ≡ psk3_follows login.now header.now rand_s.now mac.now nonce tag.now sealed }
+{
+    match login {
+        None => Finding::NoContext,
+        Some(login) => {
+            let right = equal_in_full(&login.mac_s, mac)
+                && is_sealed(&login.tek, nonce, header, sealed, tag);
+            follow(login, rand_s, right)
+        }
+    }
+}
+
+/// The finding of PSK-4: PCHANNEL's tag is to be right in the last login.
+#[tactic(auto, unfolding(crate::specs::Tags::psk4_follows))]
+fn follow4(
+    login: &Option<PskLogin>,
+    header: &[u8],
+    rand_s: &[u8; 16],
+    nonce: u32,
+    tag: &[u8; 16],
+    sealed: u8,
+) -> Finding
+    ensures { result ≡ psk4_follows login.now header.now rand_s.now nonce tag.now sealed }
+{
+    match login {
+        None => Finding::NoContext,
+        Some(login) => {
+            let right = is_sealed(&login.tek, nonce, header, sealed, tag);
+            follow(login, rand_s, right)
+        }
+    }
+}
+
+/// The finding of a message in a packet with this header. A PSK-1, and a login that PSK-2 begins, are
+/// kept.
+pub fn judge(
+    psk1: &mut Option<Psk1>,
+    login: &mut Option<PskLogin>,
+    users: &Users,
+    header: &[u8],
+    view: &PskView,
+) -> Finding
+    requires keys { All (λ user. IsTrue (fits_kind user.kind user.psk)) users.now }
+    requires fields { AreFields (message_of view.now) }
+    ensures finding { result ≡ psk_finding users.now psk1.old login.old header.now (message_of view.now) }
+    ensures first { psk1.new ≡ option_or (psk1_of (message_of view.now)) psk1.old }
+    ensures kept { login.new ≡ option_or (psk2_of users.now psk1.old (message_of view.now)) login.old }
+{
+    match view {
+        PskView::P1 { rand_s, id_s } => {
+            let rand_s = *rand_s;
+            let first = Psk1 {
+                rand_s,
+                id_s: Octets::of(id_s),
+            };
+            *psk1 = Some(first);
+            Finding::Good
+        }
+        PskView::P2 {
+            rand_s,
+            rand_p,
+            mac,
+            id_p,
+        } => match begin(users, psk1, rand_s, rand_p, mac, id_p) {
+            Ok(begun) => {
+                let name = begun.name.copy();
+                *login = Some(begun);
+                Finding::TagGood(name)
+            }
+            Err(finding) => finding,
+        },
+        PskView::P3 {
+            rand_s,
+            mac,
+            nonce,
+            tag,
+            sealed,
+        } => follow3(login, header, rand_s, mac, *nonce, tag, *sealed),
+        PskView::P4 {
+            rand_s,
+            nonce,
+            tag,
+            sealed,
+        } => follow4(login, header, rand_s, *nonce, tag, *sealed),
+    }
+}

@@ -1,0 +1,29 @@
+//! Where the MAC of a message and the octets that it covers stand.
+
+ghost use Rattle.std.specs.Prelude.{◌≡◌, ◌≤◌, length};
+ghost use Rattle.gpsk_messages.specs.Message.{message_of, spelled, mac_of, covered_of};
+
+use crate::view::GpskView;
+
+/// The MAC of a message, empty where it has none.
+pub fn mac_part<'a>(view: &GpskView<'a>) -> &'a [u8]
+    ensures { result.now ≡ mac_of (message_of view.now) }
+{
+    match view {
+        GpskView::M1 { .. } | GpskView::Fail { .. } => &[],
+        GpskView::M2 { mac, .. } => mac,
+        GpskView::M3 { mac, .. } => mac,
+        GpskView::M4 { mac, .. } => mac,
+        GpskView::ProtectedFail { mac, .. } => mac,
+    }
+}
+
+/// The octets that a message's MAC covers: those after the OP-Code up to the MAC.
+#[tactic(auto, using(crate::proofs::MacParts::covered_start, crate::proofs::MacParts::covered_middle))]
+pub fn covered_part<'a>(view: &GpskView, body: &'a [u8]) -> &'a [u8]
+    requires { body.now ≡ spelled (message_of view.now) }
+    ensures covered { result.now ≡ covered_of (message_of view.now) }
+    ensures size { length result.now ≤ length body.now }
+{
+    &body[1..body.len() - mac_part(view).len()]
+}
