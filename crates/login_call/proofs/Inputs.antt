@@ -1,6 +1,6 @@
 -- Reading an input line by line gives the scenario that its octets are.
-use Rattle.std.proofs.Common.{◌≡◌, ℕ, ◌+◌, ◌≤◌, List, [], ◌∷◌, length, Bool, true, false, cond, ◌&&◌, nat_le, Option, Some, Result, Ok, Err, inl, inr, refl, sym, ap, subst, ◌∙◌, arith}
-use Rattle.std.proofs.lemmas.Bool.{cases_Bool, cond_both, leb-false, lt-leb}
+use Rattle.std.proofs.Common.{◌≡◌, ℕ, ◌+◌, ◌≤◌, List, [], ◌∷◌, length, Bool, true, false, cond, ◌&&◌, nat_le, Some, Result, Ok, Err, inl, inr, refl, sym, ap, subst, ◌∙◌, arith}
+use Rattle.std.proofs.lemmas.Bool.{cases_Bool, leb-false, lt-leb}
 use Rattle.eap_base.specs.Lines.{Lines, ended, too_long, too_much, line, lines, without_cr}
 use Rattle.eap_base.specs.Cutting.{pieces, last_of, whole_lines, last_line, is_past_line, is_within}
 use Rattle.eap_base.specs.declared.event.Event.{Event}
@@ -10,12 +10,12 @@ use Rattle.scenario_text.specs.Fields.{◌>>=◌}
 use Rattle.scenario_text.specs.Items.{Item}
 use Rattle.scenario_text.specs.Items as item
 use Rattle.scenario_text.specs.Reading.{Reading, ReadLine, no_settings, read_line, finish_of}
-use Rattle.scenario_text.specs.Whole.{Script, no_script, with_item, read_lines, read_all}
+use Rattle.scenario_text.specs.Whole.{Script, no_script, with_item, read_lines}
 use Rattle.scenario_text.specs.declared.fault.LineFault.{LineFault}
 use Rattle.scenario_text.specs.declared.scenario.Phase.TheVariants as phase
 use Rattle.scenario_text.proofs.Telling.{scenarios_are_read, goes, both}
 use Rattle.login_call.specs.Replay.{max_events}
-use Rattle.login_call.specs.Scenario.{Outcome, whole, refused, Scenario, stops, adds, is_event, too_much_at, finish_outcome, read_after, events_after, with_line, scenario_from, scenario_of}
+use Rattle.login_call.specs.Scenario.{whole, Scenario, stops, adds, is_event, too_much_at, finish_outcome, read_after, events_after, with_line, scenario_from, scenario_of}
 use Rattle.login_call.specs.Whole.{listed, IsInputOf, IsReadWhole, InputsAreScenarios}
 
 -- these lines, and then those

@@ -6,7 +6,7 @@ use Rattle.eap_base.specs.declared.event.Event.{Event}
 use Rattle.eap_base.specs.declared.setup.Setup.{Setup}
 use Rattle.scenario_text.specs.Whole.{IsScenario}
 use Rattle.login_call.specs.Replay.{max_events}
-use Rattle.login_call.specs.Scenario.{Scenario, whole, scenario_of}
+use Rattle.login_call.specs.Scenario.{whole, scenario_of}
 
 -- a line for each piece that an LF ends, without the CR directly before the LF; the last piece as it stands, if it
 -- isn't empty

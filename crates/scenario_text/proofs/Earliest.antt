@@ -1,7 +1,6 @@
 -- The first fault of many words is the earliest of their first faults.
-use Rattle.std.proofs.Common.{◌≡◌, ℕ, ◌+◌, ◌<◌, ◌≤◌, Bool, true, false, ◌&&◌, ◌||◌, List, [], ◌∷◌, length, Option, Some, None, find, inl, inr, leb, ltb, refl, sym, ap, ◌∙◌, arith, drop, get_or}
-use Rattle.std.proofs.lemmas.Bool.{leb-true, ltb-true, ltb-false, lt-ltb, le-ltb, and_parts, cases_Bool, cond-true, cond-false}
-use Rattle.std.proofs.lemmas.List.{at_drop_more, at_drop_all}
+use Rattle.std.proofs.Common.{◌≡◌, ℕ, ◌+◌, ◌<◌, ◌≤◌, Bool, true, false, ◌&&◌, ◌||◌, List, [], ◌∷◌, length, Option, Some, None, find, inl, inr, leb, ltb, refl, sym, ap, ◌∙◌, arith}
+use Rattle.std.proofs.lemmas.Bool.{leb-true, lt-ltb, le-ltb, and_parts, cases_Bool, cond-true, cond-false}
 use Rattle.scenario_text.specs.Rows.{any_has, word_has, has_bad_count, fault_of_words}
 use Rattle.scenario_text.specs.Firsts.{rank_of, earlier, word_faults, fault_at, first_fault}
 use Rattle.scenario_text.specs.declared.fault.LineFault.{LineFault}

@@ -1,5 +1,5 @@
 -- A line is refused with the first fault that it has, by its keyword, its words and its place, and taken where it has none.
-use Rattle.std.proofs.Common.{◌≡◌, ℕ, Bool, true, false, cond, ◌||◌, List, Option, Some, None, find, Result, Ok, Err, ok_or, inl, inr, refl, sym, unwrap_or, subst, not, ◌&&◌, [], ◌∷◌, ◌++◌, IsOk, ap, ◌∙◌}
+use Rattle.std.proofs.Common.{◌≡◌, ℕ, Bool, true, false, cond, ◌||◌, List, Option, Some, None, find, Result, Ok, Err, inl, inr, refl, sym, unwrap_or, subst, not, ◌&&◌, [], ◌∷◌, ◌++◌, IsOk, ap, ◌∙◌}
 use Rattle.std.proofs.lemmas.Bool.{cases_Bool}
 use Rattle.std.specs.Option.{option_or}
 use Rattle.scenario_text.specs.Words.{words, is_printable, is_passed_over}

@@ -1,5 +1,5 @@
 -- Settings that come one after another, the values that their lines give, and the users among them.
-use Rattle.std.proofs.Common.{◌≡◌, ℕ, zero, suc, ◌<◌, ◌≤◌, List, [], ◌∷◌, ◌++◌, length, get_or, Bool, true, false, cond, ◌&&◌, not, nat_lt, nat_le, Option, Some, None, find}
+use Rattle.std.proofs.Common.{◌≡◌, ℕ, zero, suc, ◌<◌, ◌≤◌, List, [], ◌∷◌, ◌++◌, length, get_or, Bool, true, false, ◌&&◌, not, nat_lt, nat_le, Option, Some, None, find}
 use Rattle.std.proofs.Common.{is_some, unwrap_or, Result, Ok, Err, IfOk, refl, sym, ap, subst, ◌∙◌, inl, inr, arith, append_assoc, append-nil, length-append, lit≤, not-suc-le-zero}
 use Rattle.std.proofs.lemmas.Bool.{cases_Bool, cond_both, and_parts, not-true, ltb-true, lt-ltb, leb-false, lt-leb}
 use Rattle.std.proofs.lemmas.List.{get_or_append_left}

@@ -1,5 +1,5 @@
 -- What a line can say at each place of a scenario; lines that are read in order are those of a scenario.
-use Rattle.std.proofs.Common.{◌≡◌, ℕ, List, Bool, true, false, not, cond, ◌==◌, ◌||◌, None, find, Result, Ok, Err, is_err, inl, inr, refl, sym, ap, ap₂, subst, ◌∙◌, [], ◌∷◌, ◌++◌, map, Some, All}
+use Rattle.std.proofs.Common.{◌≡◌, ℕ, List, Bool, true, false, not, cond, ◌==◌, ◌||◌, None, find, Result, Ok, Err, is_err, inl, inr, refl, sym, ap, ap₂, subst, ◌∙◌, [], ◌∷◌, ◌++◌, map, Some}
 use Rattle.std.proofs.lemmas.Bool.{cases_Bool, or_parts, not-false}
 use Rattle.std.proofs.lemmas.Slice.Eq.{bytes_eq-Decides}
 use Rattle.std.specs.Str.{bytes_eq}
@@ -14,7 +14,7 @@ use Rattle.scenario_text.specs.Contents.{Entry}
 use Rattle.scenario_text.specs.Contents as entry
 use Rattle.scenario_text.specs.Reading.{Reading, ReadLine, said, has_setting, with_setting, no_settings, setup_of, header, is_crowded, came_before, is_missing, may_stand, place_has, body_has, ready, taken, read_body, read_at, read_line}
 use Rattle.scenario_text.specs.Items as item
-use Rattle.scenario_text.specs.Whole.{IsFaultless, no_values, MakesSetup, values_of, told, IsScenario, Script, no_script, with_item, read_lines, read_all, IsScript, ScenariosAreRead}
+use Rattle.scenario_text.specs.Whole.{IsFaultless, no_values, MakesSetup, told, IsScenario, Script, no_script, with_item, read_lines, read_all, IsScript, ScenariosAreRead}
 use Rattle.scenario_text.specs.declared.fault.LineFault.{LineFault}
 use Rattle.scenario_text.specs.declared.fault.LineFault.TheVariants as fault
 use Rattle.scenario_text.specs.declared.keyword.Keyword.{Keyword}

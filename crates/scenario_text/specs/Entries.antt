@@ -1,5 +1,5 @@
 -- The lines of a scenario: what each says, where no fault keeps it from that.
-use Rattle.std.specs.Prelude.{ℕ, List, [], ◌∷◌, length, Bool, ◌==◌, nat_le, if◌then◌else◌, codes, unwrap_or, Result, Err, ok_or}
+use Rattle.std.specs.Prelude.{ℕ, List, [], ◌∷◌, length, Bool, ◌==◌, nat_le, if◌then◌else◌, codes, unwrap_or, Result}
 use Rattle.std.specs.Str.{bytes_eq}
 use Rattle.eap_base.specs.Setup.{psk_kind}
 use Rattle.eap_base.specs.declared.setup.Mode.{Mode}
@@ -11,12 +11,11 @@ use Rattle.eap_base.specs.declared.setup.Party.TheVariants as party
 use Rattle.eap_base.specs.declared.setup.Port.{Port}
 use Rattle.eap_base.specs.declared.setup.Port.TheVariants as port
 use Rattle.eap_base.specs.declared.event.Event.TheVariants as event
-use Rattle.scenario_text.specs.Words.{words, is_printable}
+use Rattle.scenario_text.specs.Words.{words}
 use Rattle.scenario_text.specs.Fields.{word_in, is_dash, number, octets_of, kind_of, suite_of}
 use Rattle.scenario_text.specs.Rows.{unless, fault_of_words, keyword_in, line_has}
 use Rattle.scenario_text.specs.Keywords.{row_of, keywords}
 use Rattle.scenario_text.specs.declared.fault.LineFault.{LineFault}
-use Rattle.scenario_text.specs.declared.fault.LineFault.TheVariants.{BadWord}
 use Rattle.scenario_text.specs.declared.keyword.Keyword.{Keyword}
 use Rattle.scenario_text.specs.declared.keyword.Keyword.TheVariants as key
 use Rattle.scenario_text.specs.declared.entry.Setting.{Setting}

@@ -1,5 +1,5 @@
 -- A line is passed over, or begins with no keyword, or is what its words and its place make of it.
-use Rattle.std.proofs.Common.{◌≡◌, true, false, not, None, refl, ◌∙◌, sym}
+use Rattle.std.proofs.Common.{◌≡◌, false, not, None, refl, ◌∙◌, sym}
 use Rattle.std.proofs.lemmas.Bool.{or_right}
 use Rattle.scenario_text.specs.Words.{words, is_printable, is_passed_over}
 use Rattle.scenario_text.specs.Rows.{keyword_in}
