@@ -4,6 +4,8 @@
 #[cfg(test)]
 mod blocks;
 #[cfg(test)]
+mod captures;
+#[cfg(test)]
 mod commands;
 #[cfg(test)]
 mod faults;
