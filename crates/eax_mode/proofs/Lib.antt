@@ -1,4 +1,8 @@
+-- What it does to combine octets with the ones at their places in a second list.
 pub mod Combining
+-- What holds of every sealed text, for those who send it: its sizes, and that it is of octets.
 pub mod Laws
+-- A sealed text and its one plaintext.
 pub mod Sealing
+-- The key stream a block longer, and the counter mode back.
 pub mod Stream

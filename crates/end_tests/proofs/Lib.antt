@@ -1,1 +1,2 @@
+-- The keys of a server's users.
 pub mod UserKeys

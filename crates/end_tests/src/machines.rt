@@ -187,7 +187,10 @@ const FIRST: &str = "\
 0205000a01616c696365 - Ended";
 
 /// The first row that isn't as the backend does, empty where each is.
-fn wrong_response(backend: &mut Backend<Box<dyn ServerMethod>>, rows: &'static str) -> &'static str {
+fn wrong_response(
+    backend: &mut Backend<Box<dyn ServerMethod>>,
+    rows: &'static str,
+) -> &'static str {
     let mut packet = Packet::new();
     let mut tags = Tags::new();
     for line in rows.lines() {
@@ -202,12 +205,17 @@ fn wrong_response(backend: &mut Backend<Box<dyn ServerMethod>>, rows: &'static s
 
 #[test]
 fn first_response(rt: HostRuntime) {
-    let mut backend: Backend<Box<dyn ServerMethod>> =
-        Backend::new(bare_setup(), Vec::new(rt.alloc()));
+    let mut backend: Backend<Box<dyn ServerMethod>> = Backend::new(
+        bare_setup(),
+        Vec::new(rt.alloc()),
+    );
     assert!(rt; backend.state() == State::Initialize);
     let wrong = wrong_response(&mut backend, FIRST);
     assert!(rt;
-        wrong.is_empty() && backend.ended() && backend.report().is_none() && backend.into_methods().is_empty(),
+        wrong.is_empty()
+            && backend.ended()
+            && backend.report().is_none()
+            && backend.into_methods().is_empty(),
         "{wrong}"
     );
 }

@@ -1,9 +1,18 @@
+-- What the command check keeps of the packets answers as the packets themselves do.
 pub mod Checking
+-- A command on its way through lines.
 pub mod Driving
+-- How a run ends after a part of its text has been written.
 pub mod Endings
+-- Replaying line by line answers what the scenario's run says.
 pub mod Replaying
+-- Facts on runs.
 pub mod Runs
+-- Where each end has an object of both methods, it has one of each method that a setup names.
 pub mod Ready
+-- The run of every scenario keeps agreement.
 pub mod Headline
+-- Reading an input line by line gives the scenario that its octets are.
 pub mod Inputs
+-- No text that ends with status 0 has both the line of honest tags and the line of ends that are apart.
 pub mod NeverBoth

@@ -1,4 +1,9 @@
+-- Fields that are fed as pieces.
 pub mod Pieces
+-- Blocks of a list that is made block by block.
 pub mod Blocks
+-- The definitions computed, with values of an independent program (Python with its hashlib and hmac, and with AES of
+-- the package cryptography).
 pub mod Examples
+-- The sizes of keys and tags, and that they are of octets, for those who cut them or send them.
 pub mod Laws

@@ -1,1 +1,2 @@
+-- The laws of the pass-through.
 pub mod Carrying
