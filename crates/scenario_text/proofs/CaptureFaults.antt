@@ -12,7 +12,7 @@ use Rattle.scenario_text.specs.declared.fault.LineFault.TheVariants as fault
 use Rattle.scenario_text.specs.declared.capture_line.CaptureWord.{CaptureWord}
 use Rattle.scenario_text.specs.declared.capture.CaptureItem.TheVariants as item
 use Rattle.scenario_text.specs.declared.capture.CapturePhase.{CapturePhase}
-use Rattle.scenario_text.proofs.LineFaults.{Begins}
+use Rattle.scenario_text.proofs.Judging.{Begins}
 
 found-some : {A : Type 0} (found : Option A) (f : LineFault) (a : A) → ok_or found f ≡ Ok a → found ≡ Some a
 found-some None f a e = absurd cc

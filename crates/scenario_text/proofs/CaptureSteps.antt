@@ -18,7 +18,7 @@ use Rattle.scenario_text.specs.declared.capture_line.CaptureEntry.TheVariants as
 use Rattle.scenario_text.specs.declared.capture.CaptureItem.TheVariants as item
 use Rattle.scenario_text.specs.declared.capture.CapturePhase.{CapturePhase}
 use Rattle.scenario_text.specs.declared.capture.CapturePhase.TheVariants as phase
-use Rattle.scenario_text.proofs.FaultLists.{no_fault}
+use Rattle.scenario_text.proofs.Fitting.{no_fault}
 
 -- the header; a line that is passed over; a user with a printable name, or `packets`; a packet, or `end`
 pub data Follows (users : List User) : CapturePhase → CaptureLine → Type 0 where
