@@ -1,24 +1,21 @@
 -- What the command check keeps of the packets answers as the packets themselves do.
-use Rattle.std.proofs.Common.{◌≡◌, ℕ, ◌+◌, List, [], ◌∷◌, ◌++◌, length, Bool, true, false, All, Result, Ok, Err, refl, sym, ap, subst, ◌∙◌, length-append}
+use Rattle.std.proofs.Common.{◌≡◌, ℕ, ◌+◌, List, [], ◌∷◌, Bool, true, All, Result, Ok, Err, refl, length-append}
 use Rattle.std.proofs.lemmas.List.Elements.{All-nil}
 use Rattle.eap_base.specs.Lines.{Lines, ended, too_long, too_much, line, lines}
 use Rattle.eap_base.specs.declared.users.User.{User}
 use Rattle.scenario_text.specs.Words.{is_printable}
 use Rattle.scenario_text.specs.Reading.{with_user}
-use Rattle.scenario_text.specs.Captures.{Capture, CaptureLine, said, read_line, finish_of}
+use Rattle.scenario_text.specs.Captures.{Capture, CaptureLine, read_line}
 use Rattle.scenario_text.specs.declared.fault.LineFault.{LineFault}
-use Rattle.scenario_text.specs.declared.capture.CaptureItem.TheVariants as item
 use Rattle.scenario_text.specs.declared.capture.CapturePhase.{CapturePhase}
 use Rattle.scenario_text.specs.declared.capture.CapturePhase.TheVariants as phase
 use Rattle.scenario_text.proofs.CaptureSteps.{Follows, Header, Passed, NewUser, AllUsers, NewPacket, AllPackets, line_follows}
 use Rattle.scenario_text.proofs.CaptureUsers.{with_user-all}
 use Rattle.capture_check.specs.Heard.{Captured}
-use Rattle.capture_check.specs.Finding.{finding_in, finding_of}
+use Rattle.capture_check.specs.Finding.{finding_of}
 use Rattle.capture_check.specs.Kept.{kept_of}
-use Rattle.capture_check.specs.Steps.{nothing_kept}
 use Rattle.capture_check.proofs.Keeping.{kept_of_none, kept_of_next}
-use Rattle.login_call.specs.Answers.{Answer, after_text}
-use Rattle.login_call.specs.Commands.{Took, Closing, Ruling, after_ruling, answer}
+use Rattle.login_call.specs.Commands.{Took, answer}
 use Rattle.login_call.specs.Check.{CheckNow, silent, packet_took, item_took, line_took, check_took, check_closing, nothing_checked, check_answer}
 use Rattle.login_call.specs.CheckSteps.{begun, silent_step, packet_step, item_step, line_step, step_took, step_closing, kept_in}
 use Rattle.login_call.specs.declared.check.Check.{Check}

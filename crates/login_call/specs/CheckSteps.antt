@@ -1,5 +1,5 @@
 -- The command check by what it keeps in place of the packets.
-use Rattle.std.specs.Prelude.{ℕ, ◌+◌, ◌≤◌, List, [], length, Bool, false, None, Result, Ok, Err}
+use Rattle.std.specs.Prelude.{ℕ, ◌+◌, ◌≤◌, List, [], length, Bool, false, Result, Ok, Err}
 use Rattle.scenario_text.specs.Words.{fault_word}
 use Rattle.scenario_text.specs.Captures.{Capture, CaptureLine, read_line, finish_of}
 use Rattle.scenario_text.specs.declared.capture.CaptureItem.{CaptureItem}
