@@ -13,20 +13,23 @@ use std::test::Fail;
 const LOGIN: &str =
     "run deliver 1;deliver 2;deliver 3;deliver 4;deliver 5;deliver 6;deliver 7;end\n";
 
-/// The Identity round of ends without methods.
-const ROUND: &str = "\
-set peer-methods|peer-methods -
-set peer-suites|
-set peer-psk|
-set server-methods|server-methods -
-set server-suites|
-set user|
-run deliver 1;deliver 2;deliver 3;end
+/// Packets to decode.
+const PACKETS: &str = "0100000501\n0200000a01616c696365\n010203\n";
+
+/// Captured packets without a finding.
+const CAPTURE: &str = "\
+eap-capture 1
+user alice 47 000102030405060708090a0b0c0d0e0f
+packets
+> 0100000501
+< 0200000a01616c696365
+> 010100192f0022222222222222222222222222222222737276
+end
 ";
 
 /// The octets that are written where nothing fails.
-fn whole(alloc: Global, block: &str) -> io::Result<MemSink> {
-    let (_, sink) = answered_to(alloc, "replay", &scenario(alloc, block)?)?;
+fn whole(alloc: Global, command: &str, input: &str) -> io::Result<MemSink> {
+    let (_, sink) = answered_to(alloc, command, input)?;
     Ok(sink)
 }
 
@@ -39,7 +42,8 @@ fn is_the_same(alloc: Global, read: usize, write: usize) -> io::Result<bool>
     let source = MemSource::new(alloc, input.as_bytes(), read, &[])?;
     let sink = MemSink::new(alloc, 10_000, write, &[])?;
     let (status, sink) = answered(alloc, "replay", source, sink)?;
-    Ok(status == Status::Done && sink.written() == whole(alloc, LOGIN)?.written())
+    let text = whole(alloc, "replay", &input)?;
+    Ok(status == Status::Done && sink.written() == text.written())
 }
 
 #[test]
@@ -60,39 +64,37 @@ fn ends_well(status: Status, fault: Status, wrote: &[u8], text: &[u8]) -> bool {
     status == wanted && text.starts_with(wrote)
 }
 
-/// True where a run whose read of this number fails ends well.
-fn read_fails_well(alloc: Global, call: u32, text: &[u8]) -> io::Result<bool> {
-    let input = scenario(alloc, ROUND)?;
-    let source = MemSource::new(alloc, input.as_bytes(), 100, &[call])?;
-    let sink = MemSink::new(alloc, 2000, 100, &[])?;
-    let (status, sink) = answered(alloc, "replay", source, sink)?;
-    let is_first = call == 1;
-    let has_header_alone = sink.written() == b"eap-trace 1\n".as_slice();
-    Ok(
-        ends_well(status, Status::ReadFault, sink.written(), text)
-            && (has_header_alone || !is_first),
-    )
+/// True where a run that takes 7 octets a read, and whose read of this number fails, ends well.
+fn read_fails_well(
+    alloc: Global,
+    command: &str,
+    input: &str,
+    call: u32,
+    text: &[u8],
+) -> io::Result<bool> {
+    let source = MemSource::new(alloc, input.as_bytes(), 7, &[call])?;
+    let sink = MemSink::new(alloc, 10_000, 100, &[])?;
+    let (status, sink) = answered(alloc, command, source, sink)?;
+    let header = if command == "replay" {
+        "eap-trace 1\n"
+    } else {
+        ""
+    };
+    let is_header = sink.written() == header.as_bytes();
+    Ok(ends_well(status, Status::ReadFault, sink.written(), text) && (is_header || call != 1))
 }
 
-// The reader asks for one octet at a time: the scenario has fewer than 400.
-#[test]
-fn each_read_may_fail(rt: HostRuntime) -> Result<(), Fail> {
-    let text = whole(rt.alloc(), ROUND)?;
-    for call in 1..400 {
-        assert!(rt;
-            read_fails_well(rt.alloc(), call, text.written())?,
-            "call {call}"
-        );
-    }
-    Ok(())
-}
-
-/// True where a run whose write of this number fails ends well.
-fn write_fails_well(alloc: Global, call: u32, text: &[u8]) -> io::Result<bool> {
-    let input = scenario(alloc, ROUND)?;
+/// True where a run whose sink takes 7 octets a write, and fails at the write of this number, ends well.
+fn write_fails_well(
+    alloc: Global,
+    command: &str,
+    input: &str,
+    call: u32,
+    text: &[u8],
+) -> io::Result<bool> {
     let source = MemSource::new(alloc, input.as_bytes(), 100, &[])?;
-    let sink = MemSink::new(alloc, 2000, 7, &[call])?;
-    let (status, sink) = answered(alloc, "replay", source, sink)?;
+    let sink = MemSink::new(alloc, 10_000, 7, &[call])?;
+    let (status, sink) = answered(alloc, command, source, sink)?;
     let is_first = call == 1;
     Ok(
         ends_well(status, Status::WriteFault, sink.written(), text)
@@ -100,14 +102,25 @@ fn write_fails_well(alloc: Global, call: u32, text: &[u8]) -> io::Result<bool> {
     )
 }
 
+// No input and no text here has 400 pieces of 7 octets.
 #[test]
-fn each_write_may_fail(rt: HostRuntime) -> Result<(), Fail> {
-    let text = whole(rt.alloc(), ROUND)?;
-    for call in 1..400 {
-        assert!(rt;
-            write_fails_well(rt.alloc(), call, text.written())?,
-            "call {call}"
-        );
+fn each_read_and_write_may_fail(rt: HostRuntime) -> Result<(), Fail> {
+    let login = scenario(rt.alloc(), LOGIN)?;
+    for (command, input) in [
+        ("replay", login.as_str()),
+        ("decode", PACKETS),
+        ("check", CAPTURE),
+    ] {
+        let whole = whole(rt.alloc(), command, input)?;
+        let text = whole.written();
+        assert!(rt; !text.is_empty());
+        for call in 1..400 {
+            assert!(rt;
+                read_fails_well(rt.alloc(), command, input, call, text)?
+                    && write_fails_well(rt.alloc(), command, input, call, text)?,
+                "{command}, call {call}"
+            );
+        }
     }
     Ok(())
 }
@@ -141,7 +154,7 @@ fn holds_the_lines_before(alloc: Global, call: u32, text: &[u8]) -> io::Result<b
 // The trace has 25 lines: each is one write, and nothing is held past it.
 #[test]
 fn each_line_is_one_write(rt: HostRuntime) -> Result<(), Fail> {
-    let text = whole(rt.alloc(), LOGIN)?;
+    let text = whole(rt.alloc(), "replay", &scenario(rt.alloc(), LOGIN)?)?;
     for call in 1..26 {
         assert!(rt;
             holds_the_lines_before(rt.alloc(), call, text.written())?,
