@@ -33,7 +33,8 @@ pub trait PeerMethod: Drop {
     /// record, and nothing that counts in `packet`.
     fn handle(&mut self, request: &[u8], packet: &mut Packet, tags: &mut Tags) -> PeerTurn
         requires { IsRequest (peer_kind (peer_shown self.old)) request.now }
-        ensures turn { peer_step (peer_shown self.old) request.now ≡ record { turn = peer_turn_with result packet.new tags.new; after = peer_shown self.new } }
+        ensures turn { peer_step (peer_shown self.old) request.now
+            ≡ record { turn = peer_turn_with result packet.new tags.new; after = peer_shown self.new } }
         ensures tags { tags.new ≡ peer_tags (peer_turn_with result packet.new tags.new) };
 
     /// What the peer holds after a login that succeeded; None before and after any other.

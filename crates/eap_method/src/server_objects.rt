@@ -35,7 +35,8 @@ pub fn offer_method<M: ServerMethod>(
     packet: &mut Packet,
 ) -> bool
     requires { IsTrue (are_suites own.now.suites) }
-    ensures offer { (order : List ℕ) → is_among order kind ≡ true → server_offer own.now nonce.now kind id (server_views order (map M.server_shown methods.old))
+    ensures offer { (order : List ℕ) → is_among order kind ≡ true
+        → server_offer own.now nonce.now kind id (server_views order (map M.server_shown methods.old))
         ≡ record { packet = if result then Some packet.new else None; after = server_views order (map M.server_shown methods.new) } }
     ensures kinds { server_kinds (map M.server_shown methods.new) ≡ server_kinds (map M.server_shown methods.old) }
 {

@@ -348,7 +348,8 @@ impl<P: PeerMethod, S: ServerMethod> World<P, S> {
     #[tactic(auto, using(crate::proofs::HonestRuns::never_apart, crate::proofs::Whose::theirs_if_agreed))]
     pub fn result(&self) -> Verdict
         ensures value { result ≡ verdict_of (now_of P.peer_shown S.server_shown self.now) }
-        ensures never_apart { IsOfRun (now_of P.peer_shown S.server_shown self.now) → tags_verdict_either self.now.book ≡ Honest → result ≡ Apart → ⊥ }
+        ensures never_apart { IsOfRun (now_of P.peer_shown S.server_shown self.now)
+            → tags_verdict_either self.now.book ≡ Honest → result ≡ Apart → ⊥ }
         ensures theirs { (setup : Setup) (events : List Event) → IsWhole setup → now_of P.peer_shown S.server_shown self.now ≡ run_of setup events
             → tags_verdict_either self.now.book ≡ Honest → result ≡ Agree → AreTheirs setup (now_of P.peer_shown S.server_shown self.now) }
     {

@@ -83,13 +83,17 @@ KeepsWrites status.Memory before now = now ≡ before
 KeepsWrites status.TooMuch before now = now ≡ before
 KeepsWrites status.Findings before now = now ≡ before
 
+-- a count of faults rose, or stands at its last value
+abbrev pub HasRisen : Option ℕ → ℕ → ℕ → Type 0
+HasRisen last before now = now ≤ before → last ≡ Some now
+
 -- how a run ends that only writes an answer: a write failed exactly where the count of faults rose, or stands
 -- at its last value, and that count never falls
 pub record Finishes {S : Type 0} (written : S → Option (List ℕ)) (faults : S → ℕ) (last : Option ℕ)
     (result : Status) (before now : S) (a : Answer) : Type 0 where
   pub ends : Ends result (written before) (written now) a
   pub written_only : IsWritten result
-  pub counted : result ≡ status.WriteFault → faults now ≤ faults before → last ≡ Some (faults now)
+  pub counted : result ≡ status.WriteFault → HasRisen last (faults before) (faults now)
   pub uncounted : KeepsWrites result (faults before) (faults now)
   pub never_falls : faults before ≤ faults now
 

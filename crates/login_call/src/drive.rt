@@ -2,7 +2,7 @@
 
 ghost use Rattle.std.specs.Prelude.{◌≡◌, ◌≤◌, ◌+◌, ℕ, List, Option, Some, true};
 ghost use Rattle.eap_base.specs.Lines.{lines};
-ghost use Rattle.login_call.specs.Answers.{Ends, Finishes, IsRefusal, Drains, KeepsReads, KeepsWrites, refusal, after_text};
+ghost use Rattle.login_call.specs.Answers.{Ends, Finishes, IsRefusal, Drains, KeepsReads, KeepsWrites, HasRisen, refusal, after_text};
 ghost use Rattle.login_call.specs.Commands.{answer, lacking, closing_answer, SomeLacks};
 
 use crate::command::{Close, Command, Next, Trouble};
@@ -47,8 +47,8 @@ pub fn drive<C: Command, S: Source, W: Sink>(
     ensures ends { (octets : List ℕ) → S.left source.old ≡ Some octets
         → Ends result (W.written sink.old) (W.written sink.new) (answer C.took C.closing 0 (C.seen command.old) (lines octets)) }
     ensures drains { Drains result (S.left source.new) }
-    ensures read_fault { result ≡ Status.ReadFault → S.read_faults source.new ≤ S.read_faults source.old → S.last_read_fault ≡ Some (S.read_faults source.new) }
-    ensures write_fault { result ≡ Status.WriteFault → W.write_faults sink.new ≤ W.write_faults sink.old → W.last_write_fault ≡ Some (W.write_faults sink.new) }
+    ensures read_fault { result ≡ Status.ReadFault → HasRisen S.last_read_fault (S.read_faults source.old) (S.read_faults source.new) }
+    ensures write_fault { result ≡ Status.WriteFault → HasRisen W.last_write_fault (W.write_faults sink.old) (W.write_faults sink.new) }
     ensures reads { KeepsReads result (S.read_faults source.old) (S.read_faults source.new) }
     ensures writes { KeepsWrites result (W.write_faults sink.old) (W.write_faults sink.new) }
     ensures memory { result ≡ Status.Memory → (octets : List ℕ) → S.left source.old ≡ Some octets

@@ -1,7 +1,7 @@
 //! The program's one call.
 
 ghost use Rattle.std.specs.Prelude.{◌≡◌, ◌≢◌, ◌≤◌, ℕ, List, Option, Some, true, false, map, string_bytes};
-ghost use Rattle.login_call.specs.Answers.{Ends, Drains, Finishes, IsWritten, KeepsReads, KeepsWrites};
+ghost use Rattle.login_call.specs.Answers.{Ends, Drains, Finishes, IsWritten, KeepsReads, KeepsWrites, HasRisen};
 ghost use Rattle.login_call.specs.Login.{is_alone, are_two, reads_scenario, is_form, login_answer, usage_answer, usage_text, HasSetup};
 ghost use Rattle.login_call.specs.Check.{check_answer};
 ghost use Rattle.login_call.specs.Decode.{decode_answer};
@@ -64,8 +64,8 @@ pub fn eap_login<P: PeerMethod, M: ServerMethod, S: Source, W: Sink>(
 
     // A fault comes exactly where its count rose in this call, or stands at its last value: none is passed
     // over. Want of memory comes only for `replay`, after the line `events` was taken.
-    ensures read_fault { result ≡ Status.ReadFault → S.read_faults source.new ≤ S.read_faults source.old → S.last_read_fault ≡ Some (S.read_faults source.new) }
-    ensures write_fault { result ≡ Status.WriteFault → W.write_faults sink.new ≤ W.write_faults sink.old → W.last_write_fault ≡ Some (W.write_faults sink.new) }
+    ensures read_fault { result ≡ Status.ReadFault → HasRisen S.last_read_fault (S.read_faults source.old) (S.read_faults source.new) }
+    ensures write_fault { result ≡ Status.WriteFault → HasRisen W.last_write_fault (W.write_faults sink.old) (W.write_faults sink.new) }
     ensures reads { KeepsReads result (S.read_faults source.old) (S.read_faults source.new) }
     ensures writes { KeepsWrites result (W.write_faults sink.old) (W.write_faults sink.new) }
     ensures memory { result ≡ Status.Memory → reads_scenario (map string_bytes words.now.items) ≡ true }
@@ -143,10 +143,11 @@ fn replay<P: PeerMethod, M: ServerMethod, S: Source, W: Sink>(
     methods: Methods<P, M>,
 ) -> Status
     requires { HasBoth P.peer_shown M.server_shown methods }
-    ensures ends { (octets : List ℕ) → S.left source.old ≡ Some octets → Ends result (W.written sink.old) (W.written sink.new) (replay_answer names octets) }
+    ensures ends { (octets : List ℕ) → S.left source.old ≡ Some octets
+        → Ends result (W.written sink.old) (W.written sink.new) (replay_answer names octets) }
     ensures drains { Drains result (S.left source.new) }
-    ensures read_fault { result ≡ Status.ReadFault → S.read_faults source.new ≤ S.read_faults source.old → S.last_read_fault ≡ Some (S.read_faults source.new) }
-    ensures write_fault { result ≡ Status.WriteFault → W.write_faults sink.new ≤ W.write_faults sink.old → W.last_write_fault ≡ Some (W.write_faults sink.new) }
+    ensures read_fault { result ≡ Status.ReadFault → HasRisen S.last_read_fault (S.read_faults source.old) (S.read_faults source.new) }
+    ensures write_fault { result ≡ Status.WriteFault → HasRisen W.last_write_fault (W.write_faults sink.old) (W.write_faults sink.new) }
     ensures reads { KeepsReads result (S.read_faults source.old) (S.read_faults source.new) }
     ensures writes { KeepsWrites result (W.write_faults sink.old) (W.write_faults sink.new) }
     ensures memory { result ≡ Status.Memory → (octets : List ℕ) → S.left source.old ≡ Some octets → HasSetup octets }
@@ -172,8 +173,8 @@ fn write_trace_header<W: Sink>(sink: &mut W) -> Result<(), Failed>
 fn decode<S: Source, W: Sink>(source: &mut S, sink: &mut W) -> Status
     ensures ends { (octets : List ℕ) → S.left source.old ≡ Some octets → Ends result (W.written sink.old) (W.written sink.new) (decode_answer octets) }
     ensures drains { Drains result (S.left source.new) }
-    ensures read_fault { result ≡ Status.ReadFault → S.read_faults source.new ≤ S.read_faults source.old → S.last_read_fault ≡ Some (S.read_faults source.new) }
-    ensures write_fault { result ≡ Status.WriteFault → W.write_faults sink.new ≤ W.write_faults sink.old → W.last_write_fault ≡ Some (W.write_faults sink.new) }
+    ensures read_fault { result ≡ Status.ReadFault → HasRisen S.last_read_fault (S.read_faults source.old) (S.read_faults source.new) }
+    ensures write_fault { result ≡ Status.WriteFault → HasRisen W.last_write_fault (W.write_faults sink.old) (W.write_faults sink.new) }
     ensures reads { KeepsReads result (S.read_faults source.old) (S.read_faults source.new) }
     ensures writes { KeepsWrites result (W.write_faults sink.old) (W.write_faults sink.new) }
     ensures no_memory { result ≢ Status.Memory }
@@ -186,8 +187,8 @@ fn decode<S: Source, W: Sink>(source: &mut S, sink: &mut W) -> Status
 fn keys<S: Source, W: Sink>(source: &mut S, sink: &mut W) -> Status
     ensures ends { (octets : List ℕ) → S.left source.old ≡ Some octets → Ends result (W.written sink.old) (W.written sink.new) (keys_answer octets) }
     ensures drains { Drains result (S.left source.new) }
-    ensures read_fault { result ≡ Status.ReadFault → S.read_faults source.new ≤ S.read_faults source.old → S.last_read_fault ≡ Some (S.read_faults source.new) }
-    ensures write_fault { result ≡ Status.WriteFault → W.write_faults sink.new ≤ W.write_faults sink.old → W.last_write_fault ≡ Some (W.write_faults sink.new) }
+    ensures read_fault { result ≡ Status.ReadFault → HasRisen S.last_read_fault (S.read_faults source.old) (S.read_faults source.new) }
+    ensures write_fault { result ≡ Status.WriteFault → HasRisen W.last_write_fault (W.write_faults sink.old) (W.write_faults sink.new) }
     ensures reads { KeepsReads result (S.read_faults source.old) (S.read_faults source.new) }
     ensures writes { KeepsWrites result (W.write_faults sink.old) (W.write_faults sink.new) }
     ensures no_memory { result ≢ Status.Memory }
@@ -201,8 +202,8 @@ fn keys<S: Source, W: Sink>(source: &mut S, sink: &mut W) -> Status
 fn check<S: Source, W: Sink>(source: &mut S, sink: &mut W) -> Status
     ensures ends { (octets : List ℕ) → S.left source.old ≡ Some octets → Ends result (W.written sink.old) (W.written sink.new) (check_answer octets) }
     ensures drains { Drains result (S.left source.new) }
-    ensures read_fault { result ≡ Status.ReadFault → S.read_faults source.new ≤ S.read_faults source.old → S.last_read_fault ≡ Some (S.read_faults source.new) }
-    ensures write_fault { result ≡ Status.WriteFault → W.write_faults sink.new ≤ W.write_faults sink.old → W.last_write_fault ≡ Some (W.write_faults sink.new) }
+    ensures read_fault { result ≡ Status.ReadFault → HasRisen S.last_read_fault (S.read_faults source.old) (S.read_faults source.new) }
+    ensures write_fault { result ≡ Status.WriteFault → HasRisen W.last_write_fault (W.write_faults sink.old) (W.write_faults sink.new) }
     ensures reads { KeepsReads result (S.read_faults source.old) (S.read_faults source.new) }
     ensures writes { KeepsWrites result (W.write_faults sink.old) (W.write_faults sink.new) }
     ensures no_memory { result ≢ Status.Memory }

@@ -1,6 +1,6 @@
 -- How a run of the program ends: by what it was started with, what it read and wrote, and its exit status.
 use Rattle.std.specs.Prelude.{◌≡◌, ◌≤◌, ℕ, List, drop, Option, Some, true, false, ◌⊎◌}
-use Rattle.login_call.specs.Answers.{Ends, Drains, KeepsReads, KeepsWrites}
+use Rattle.login_call.specs.Answers.{Ends, Drains, HasRisen, KeepsReads, KeepsWrites}
 use Rattle.login_call.specs.Headline.{HonestEndsAgree, WritesNeverBoth}
 use Rattle.login_call.specs.Login.{reads_scenario, is_form, login_answer, usage_answer, HasSetup}
 use Rattle.login_call.specs.Statuses.{number_of}
@@ -35,8 +35,8 @@ module _ {S W : Type 0} (left : S → Option (List ℕ)) (read_faults : S → �
     pub honest_ends_agree : (octets : List ℕ) → HonestEndsAgree octets
     pub never_both : (octets : List ℕ) → left before ≡ Some octets → WritesNeverBoth s (written old) (written new)
     -- a fault is answered exactly where its count rose, or stands at its last value
-    pub read_fault : s ≡ status.ReadFault → read_faults now ≤ read_faults before → last_read_fault ≡ Some (read_faults now)
-    pub write_fault : s ≡ status.WriteFault → write_faults new ≤ write_faults old → last_write_fault ≡ Some (write_faults new)
+    pub read_fault : s ≡ status.ReadFault → HasRisen last_read_fault (read_faults before) (read_faults now)
+    pub write_fault : s ≡ status.WriteFault → HasRisen last_write_fault (write_faults old) (write_faults new)
     pub reads : KeepsReads s (read_faults before) (read_faults now)
     pub writes : KeepsWrites s (write_faults old) (write_faults new)
     -- memory is wanting in a scenario whose settings are whole, or before anything is read or written

@@ -401,7 +401,8 @@ fn hand<M: PeerMethod>(
     tags: &mut Tags,
 ) -> PeerTurn
     requires { IsRequest kind request.now }
-    ensures turn { (allowed : List ℕ) → is_among allowed kind ≡ true → peer_turn kind (peer_views allowed (map M.peer_shown methods.old.items)) request.now
+    ensures turn { (allowed : List ℕ) → is_among allowed kind ≡ true
+        → peer_turn kind (peer_views allowed (map M.peer_shown methods.old.items)) request.now
         ≡ record { turn = peer_turn_with result packet.new tags.new; after = peer_views allowed (map M.peer_shown methods.new.items) } }
     ensures tags { tags.new ≡ peer_tags (peer_turn_with result packet.new tags.new) }
     ensures kinds { peer_kinds (map M.peer_shown methods.new.items) ≡ peer_kinds (map M.peer_shown methods.old.items) }

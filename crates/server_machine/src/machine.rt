@@ -154,9 +154,10 @@ impl<M: ServerMethod> ServerMachine<M> {
 
     /// Octets come from the peer. The packet that they begin with is taken through RECEIVED (RFC 4137
     /// section 5.5); the first Response to a backend goes to PICK_UP_METHOD or NAK (section 6.5). Octets that
-    /// begin with no packet are discarded, and so are all once the server has ended. The packet that is sent is written into `packet`, the records of the turn's tags into `tags`,
-    /// in place of what was there. A discard changes neither a variable nor a method's view, and leaves
-    /// no record. Without a packet that is sent, nothing counts in `packet`.
+    /// begin with no packet are discarded, and so are all once the server has ended. The packet that is sent
+    /// is written into `packet`, the records of the turn's tags into `tags`, in place of what was there. A
+    /// discard changes neither a variable nor a method's view, and leaves no record. Without a packet that is
+    /// sent, nothing counts in `packet`.
     #[tactic(auto, unfolding(crate::specs::ServerTable::server_deliver))]
     pub fn deliver(&mut self, octets: &[u8], packet: &mut Packet, tags: &mut Tags) -> Step
         ensures step { server_deliver (now_of M.server_shown self.old) octets.now
@@ -649,7 +650,8 @@ fn settle(vars: &mut ServerVariables, id: u8, turn: ServerTurn, packet: &mut Pac
 /// SUCCESS or FAILURE after the current method: a Success or a Failure with currentId.
 fn end_method(vars: &mut ServerVariables, id: u8, success: bool, packet: &mut Packet) -> Step
     ensures step { (views : ServerViews) (tags : Tags)
-        → (if success then ends_well (before_proposal AfterResponse) vars.old views id tags else ends_badly (before_proposal AfterResponse) vars.old views id tags)
+        → (if success then ends_well (before_proposal AfterResponse) vars.old views id tags
+            else ends_badly (before_proposal AfterResponse) vars.old views id tags)
         ≡ answer (step_with result packet.new tags) (record { vars = vars.new; views = views }) }
     ensures setup { vars.new.setup ≡ vars.old.setup }
     ensures order { AreInOrder vars.old → AreInOrder vars.new }

@@ -78,7 +78,8 @@ impl Model for Login {
 
     ghost view = { λ l. record { own = l.own.side; nonce = l.own.nonce; id_p = l.id_p; psk = l.psk; rand_p = l.rand_p; r = l.r } };
 
-    ghost invariant = { λ l. (l.r < 4) × (l.ak ≡ (psk_long_of l.psk).ak) × (l.keys ≡ psk_keys_of (psk_long_of l.psk).kdk l.rand_p) × (l.tek ≡ l.keys.tek) };
+    ghost invariant = { λ l. (l.r < 4) × (l.ak ≡ (psk_long_of l.psk).ak)
+        × (l.keys ≡ psk_keys_of (psk_long_of l.psk).kdk l.rand_p) × (l.tek ≡ l.keys.tek) };
 }
 
 impl Login {
