@@ -651,7 +651,7 @@ fn settle(vars: &mut ServerVariables, id: u8, turn: ServerTurn, packet: &mut Pac
 fn end_method(vars: &mut ServerVariables, id: u8, success: bool, packet: &mut Packet) -> Step
     ensures step { (views : ServerViews) (tags : Tags)
         → (if success then ends_well (before_proposal AfterResponse) vars.old views id tags
-            else ends_badly (before_proposal AfterResponse) vars.old views id tags)
+        else ends_badly (before_proposal AfterResponse) vars.old views id tags)
         ≡ answer (step_with result packet.new tags) (record { vars = vars.new; views = views }) }
     ensures setup { vars.new.setup ≡ vars.old.setup }
     ensures order { AreInOrder vars.old → AreInOrder vars.new }
