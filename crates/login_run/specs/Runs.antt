@@ -1,5 +1,5 @@
 -- How a run of the program ends: by what it was started with, what it read and wrote, and its exit status.
-use Rattle.std.specs.Prelude.{◌≡◌, ◌≤◌, ℕ, List, drop, Option, Some, true, false, ◌⊎◌}
+use Rattle.std.specs.Prelude.{◌≡◌, ℕ, List, drop, Option, Some, true, false, ◌⊎◌}
 use Rattle.login_call.specs.Answers.{Ends, Drains, HasRisen, KeepsReads, KeepsWrites}
 use Rattle.login_call.specs.Headline.{HonestEndsAgree, WritesNeverBoth}
 use Rattle.login_call.specs.Login.{reads_scenario, is_form, login_answer, usage_answer, HasSetup}
