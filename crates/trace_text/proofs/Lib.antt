@@ -1,5 +1,5 @@
--- Octets as numbers, one by one.
-pub mod Numbers
+-- The line of a packet is its parts, one after the other.
+pub mod PacketCuts
 -- Writing a text part by part.
 pub mod Fronts
 -- Writing a line part by part, of which the last octets are held.

@@ -24,7 +24,8 @@ use Rattle.scenario_text.specs.declared.key_line.KeyLine.{KeyLine}
 use Rattle.scenario_text.specs.declared.key_line.KeyLine.TheVariants as asked
 use Rattle.trace_text.specs.Keys.{hex_line, sealed_text, exported_text, gpsk_text, long_text, session_text, key_text}
 use Rattle.trace_text.specs.Pieces.{hex_text}
-use Rattle.trace_text.specs.Packets.{number_text, numbers_text, psk_note, gpsk_note, identity_word, nak_word, note_text, type_text, sizes_text, line_end, typed_text, end_text, end_sizes_text, end_line_text, value_text, packet_text_by, packet_text, packets_text}
+use Rattle.trace_text.specs.Packets.{numbers_text, psk_note, gpsk_note, note_text, typed_text, end_line_text}
+use Rattle.trace_text.specs.Packets.{value_text, packet_text_by, packet_text, packets_text}
 use Rattle.trace_text.proofs.Plain.{is_within, plain, join, through, within_join, decimal_within, decimal_first, numbered, skips, after_test}
 use Rattle.trace_text.proofs.PlainTexts.{cause_within, hex_within, either_within}
 
@@ -37,13 +38,9 @@ no_result o h k = ne_eqb o 114 (λ e. omega (arith, k, e))
 
 -- ---- packets
 
-number_within : (n : ℕ) → is_within (number_text n) ≡ true
-unfolding number_text
-number_within n = within_join (decimal n) [] (decimal_within n) refl
-
 numbers_within : (octets : List ℕ) → is_within (numbers_text octets) ≡ true
 numbers_within [] = refl
-numbers_within (o ∷ rest) = within_join (number_text o) (numbers_text rest) (number_within o) (numbers_within rest)
+numbers_within (o ∷ rest) = within_join (decimal o) (numbers_text rest) (decimal_within o) (numbers_within rest)
 
 psk_within : (x : Result psk.Message Cause) → is_within (psk_note x) ≡ true
 psk_within (Err cause) = cause_within cause
@@ -57,34 +54,32 @@ gpsk_within (Ok (gpsk.protected_fail code mac)) = within_join (decimal code) [] 
 gpsk_within (Ok other) = refl
 
 note_within : (kind : ℕ) (body : List ℕ) → is_within (note_text kind body) ≡ true
-unfolding note_text identity_word nak_word
+unfolding note_text
 note_within kind body =
-    either_within (kind == 1) (identity_word ++ hex_text body) _ (hex_within body)
-    (either_within (kind == 3) (nak_word ++ numbers_text body) _ (numbers_within body)
+    either_within (kind == 1) (codes "identity " ++ (hex_text body ++ [])) _ (within_join (hex_text body) [] (hex_within body) refl)
+    (either_within (kind == 3) (codes "nak" ++ numbers_text body) _ (numbers_within body)
     (either_within (kind == psk_kind) (psk_note (psk_reading.read_of body)) _ (psk_within (psk_reading.read_of body))
     (either_within (kind == gpsk_kind) (gpsk_note (gpsk_reading.read_of None body)) (codes "-") (gpsk_within (gpsk_reading.read_of None body)) refl)))
 
-sizes_within : (whole octets : ℕ) → is_within (sizes_text whole octets) ≡ true
-unfolding sizes_text
-sizes_within whole octets = within_join (decimal whole) _ (decimal_within whole) (within_join (decimal (octets - whole)) _ (decimal_within (octets - whole)) refl)
-
 typed_plain : (number : ℕ) (code : List ℕ) (id kind : ℕ) (body : List ℕ) (whole octets : ℕ) → is_within code ≡ true
     → plain begins_result true (typed_text number code id kind body whole octets) ≡ true
-unfolding type_text line_end
+unfolding typed_text
 typed_plain number code id kind body whole octets h =
-    numbered begins_result no_result number _ (sizes_text whole octets ++ (note_text kind body ++ line_end))
-    (within_join code _ h (within_join (decimal id) _ (decimal_within id) (within_join (decimal kind) [] (decimal_within kind) refl)))
-    (through begins_result (sizes_text whole octets) _ (sizes_within whole octets) (through begins_result (note_text kind body) line_end (note_within kind body) refl))
-
-end_sizes_plain : (whole octets : ℕ) → plain begins_result false (end_sizes_text whole octets) ≡ true
-unfolding end_sizes_text
-end_sizes_plain whole octets =
-    through begins_result (decimal whole) _ (decimal_within whole) (through begins_result (decimal (octets - whole)) _ (decimal_within (octets - whole)) refl)
+    decimal_first begins_result no_result number _
+    (through begins_result code _ h
+    (through begins_result (decimal id) _ (decimal_within id)
+    (through begins_result (decimal kind) _ (decimal_within kind)
+    (through begins_result (decimal whole) _ (decimal_within whole)
+    (through begins_result (decimal (octets - whole)) _ (decimal_within (octets - whole))
+    (through begins_result (note_text kind body) _ (note_within kind body) refl))))))
 
 end_line_plain : (number : ℕ) (code : List ℕ) (id whole octets : ℕ) → is_within code ≡ true → plain begins_result true (end_line_text number code id whole octets) ≡ true
-unfolding end_text
 end_line_plain number code id whole octets h =
-    numbered begins_result no_result number _ (end_sizes_text whole octets) (within_join code _ h (within_join (decimal id) [] (decimal_within id) refl)) (end_sizes_plain whole octets)
+    decimal_first begins_result no_result number _
+    (through begins_result code _ h
+    (through begins_result (decimal id) _ (decimal_within id)
+    (through begins_result (decimal whole) _ (decimal_within whole)
+    (through begins_result (decimal (octets - whole)) _ (decimal_within (octets - whole)) refl))))
 
 value_plain : (number : ℕ) (value : PacketValue) (whole octets : ℕ) → plain begins_result true (value_text number value whole octets) ≡ true
 value_plain number (request id kind body) whole octets = typed_plain number (codes "request") id kind body whole octets refl

@@ -12,13 +12,10 @@ use Rattle.gpsk_messages.specs.Message as gpsk
 use Rattle.gpsk_messages.specs.Reading as gpsk_reading
 use Rattle.trace_text.specs.Pieces.{hex_text}
 
--- an octet as a decimal number, after a space
-unfoldable pub number_text : ℕ → List ℕ
-number_text b = concat (codes " " ∷ decimal b ∷ [])
-
+-- octets as decimal numbers, each after a space
 abbrev pub numbers_text : List ℕ → List ℕ
 numbers_text [] = []
-numbers_text (b ∷ rest) = number_text b ++ numbers_text rest
+numbers_text (b ∷ rest) = codes " " ++ (decimal b ++ numbers_text rest)
 
 -- the name of an EAP-PSK message, or why it is none
 abbrev pub psk_note : Result psk.Message Cause → List ℕ
@@ -38,45 +35,27 @@ gpsk_note (Ok (gpsk.gpsk4 pd mac)) = codes "gpsk-4"
 gpsk_note (Ok (gpsk.fail code)) = concat (codes "gpsk-fail " ∷ decimal code ∷ [])
 gpsk_note (Ok (gpsk.protected_fail code mac)) = concat (codes "gpsk-protected-fail " ∷ decimal code ∷ [])
 
-unfoldable pub identity_word : List ℕ
-identity_word = codes "identity "
-
-unfoldable pub nak_word : List ℕ
-nak_word = codes "nak"
-
 -- what the Type-Data of a Type says: an identity in hex, the methods that a Nak desires, a message
 unfoldable pub note_text : ℕ → List ℕ → List ℕ
 note_text kind body =
-    if kind == 1 then identity_word ++ hex_text body
-    else if kind == 3 then nak_word ++ numbers_text body
+    if kind == 1 then concat (codes "identity " ∷ hex_text body ∷ [])
+    else if kind == 3 then codes "nak" ++ numbers_text body
     else if kind == psk_kind then psk_note (psk_reading.read_of body)
     else if kind == gpsk_kind then gpsk_note (gpsk_reading.read_of None body)
     else codes "-"
 
--- the number, the Code, the Identifier and the Type of a packet
-unfoldable pub type_text : ℕ → List ℕ → ℕ → ℕ → List ℕ
-type_text number code id kind = concat (decimal number ∷ codes " " ∷ code ∷ codes " " ∷ decimal id ∷ codes " type " ∷ decimal kind ∷ [])
+-- the line of a Request or a Response: its number, Code, Identifier, Type and Length, how many of the octets are
+-- padding, and what its Type-Data says
+unfoldable pub typed_text : ℕ → List ℕ → ℕ → ℕ → List ℕ → ℕ → ℕ → List ℕ
+typed_text number code id kind body whole octets = concat (
+    decimal number ∷ codes " " ∷ code ∷ codes " " ∷ decimal id ∷ codes " type " ∷ decimal kind ∷ codes " length " ∷ decimal whole ∷
+    codes " padding " ∷ decimal (octets - whole) ∷ codes " " ∷ note_text kind body ∷ codes "\n" ∷ [])
 
--- the Length of a packet, and how many of the octets are padding
-unfoldable pub sizes_text : ℕ → ℕ → List ℕ
-sizes_text whole octets = concat (codes " length " ∷ decimal whole ∷ codes " padding " ∷ decimal (octets - whole) ∷ codes " " ∷ [])
-
-unfoldable pub line_end : List ℕ
-line_end = codes "\n"
-
--- the line of a Request or a Response, of a Success or a Failure
-abbrev pub typed_text : ℕ → List ℕ → ℕ → ℕ → List ℕ → ℕ → ℕ → List ℕ
-typed_text number code id kind body whole octets =
-    type_text number code id kind ++ (sizes_text whole octets ++ (note_text kind body ++ line_end))
-
-unfoldable pub end_text : ℕ → List ℕ → ℕ → List ℕ
-end_text number code id = concat (decimal number ∷ codes " " ∷ code ∷ codes " " ∷ decimal id ∷ [])
-
-unfoldable pub end_sizes_text : ℕ → ℕ → List ℕ
-end_sizes_text whole octets = concat (codes " length " ∷ decimal whole ∷ codes " padding " ∷ decimal (octets - whole) ∷ codes "\n" ∷ [])
-
+-- the line of a Success or a Failure
 abbrev pub end_line_text : ℕ → List ℕ → ℕ → ℕ → ℕ → List ℕ
-end_line_text number code id whole octets = end_text number code id ++ end_sizes_text whole octets
+end_line_text number code id whole octets = concat (
+    decimal number ∷ codes " " ∷ code ∷ codes " " ∷ decimal id ∷ codes " length " ∷ decimal whole ∷
+    codes " padding " ∷ decimal (octets - whole) ∷ codes "\n" ∷ [])
 
 -- the line of a packet, where it has so many octets and so many came
 abbrev pub value_text : ℕ → PacketValue → ℕ → ℕ → List ℕ

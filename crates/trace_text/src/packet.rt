@@ -1,6 +1,6 @@
 //! A packet in one line.
 
-ghost use Rattle.std.specs.Prelude.{◌≡◌, ◌≤◌, ◌-◌, None, length, [], ◌∷◌, ◌++◌, decimal};
+ghost use Rattle.std.specs.Prelude.{◌≡◌, ◌≤◌, ◌-◌, None, length, [], ◌∷◌, ◌++◌, codes, decimal};
 ghost use Rattle.std.specs.List.{concat};
 ghost use Rattle.psk_messages.specs.Message as psk;
 ghost use Rattle.psk_messages.specs.Reading as psk_reading;
@@ -9,9 +9,9 @@ ghost use Rattle.gpsk_messages.specs.Reading as gpsk_reading;
 ghost use Rattle.trace_text.specs.Writes.{Appends, Puts};
 ghost use Rattle.trace_text.specs.Pieces.{hex_text};
 ghost use Rattle.eap_packet.specs.Packet.{value_of};
-ghost use Rattle.trace_text.specs.Packets.{identity_word, number_text, numbers_text, nak_word, psk_note, gpsk_note, note_text};
-ghost use Rattle.trace_text.specs.Packets.{type_text, sizes_text, line_end, typed_text, end_text, end_sizes_text, end_line_text};
+ghost use Rattle.trace_text.specs.Packets.{numbers_text, psk_note, gpsk_note, note_text, typed_text, end_line_text};
 ghost use Rattle.trace_text.specs.Packets.{malformed_text, value_text, packet_text, packets_text};
+ghost use Rattle.trace_text.specs.PacketParts.{nak_word, number_text, head_text, line_end};
 
 use crate::line_buffer::LineBuffer;
 use crate::pieces::Piece::{Hex, Number, Text};
@@ -22,15 +22,15 @@ use gpsk_messages::{GpskView, read_gpsk};
 use psk_messages::{PskView, read_psk};
 
 /// Puts the identity of an Identity Request or Response.
-#[tactic(auto, unfolding(crate::specs::Packets::identity_word))]
 fn put_identity<W: Sink>(sink: &mut W, line: &mut LineBuffer, name: &[u8]) -> Result<(), Failed>
-    ensures { Puts W.written W.write_faults W.last_write_fault result sink.old sink.new line.old line.new (identity_word ++ hex_text name.now) }
+    ensures { Puts W.written W.write_faults W.last_write_fault result sink.old sink.new line.old line.new
+        (concat (codes "identity " ∷ hex_text name.now ∷ [])) }
 {
     put_pieces(sink, line, &[Text(b"identity "), Hex(name)])
 }
 
 /// Puts an octet as a decimal number, after a space.
-#[tactic(auto, unfolding(crate::specs::Packets::number_text))]
+#[tactic(auto, unfolding(crate::specs::PacketParts::number_text))]
 fn put_octet<W: Sink>(sink: &mut W, line: &mut LineBuffer, octet: u8) -> Result<(), Failed>
     ensures { Puts W.written W.write_faults W.last_write_fault result sink.old sink.new line.old line.new (number_text octet) }
 {
@@ -56,7 +56,7 @@ fn put_nak<W: Sink>(sink: &mut W, line: &mut LineBuffer, desired: &[u8]) -> Resu
     put_numbers(sink, line, desired)
 }
 
-#[tactic(auto, unfolding(crate::specs::Packets::nak_word))]
+#[tactic(auto, unfolding(crate::specs::PacketParts::nak_word))]
 fn put_nak_word<W: Sink>(sink: &mut W, line: &mut LineBuffer) -> Result<(), Failed>
     ensures { Puts W.written W.write_faults W.last_write_fault result sink.old sink.new line.old line.new nak_word }
 {
@@ -119,7 +119,7 @@ fn put_gpsk_note<W: Sink>(sink: &mut W, line: &mut LineBuffer, body: &[u8]) -> R
 }
 
 /// Puts what the Type-Data of a Type says.
-#[tactic(auto, unfolding(crate::specs::Packets::note_text))]
+#[tactic(auto, unfolding(crate::specs::Packets::note_text, crate::specs::PacketParts::nak_word))]
 fn put_note<W: Sink>(
     sink: &mut W,
     line: &mut LineBuffer,
@@ -138,17 +138,19 @@ fn put_note<W: Sink>(
     }
 }
 
-/// Puts the number, the Code, the Identifier and the Type of a packet.
-#[tactic(auto, unfolding(crate::specs::Packets::type_text))]
-fn put_type<W: Sink>(
+/// Puts the line of a packet up to what its Type-Data says.
+#[tactic(auto, unfolding(crate::specs::PacketParts::head_text))]
+fn put_head<W: Sink>(
     sink: &mut W,
     line: &mut LineBuffer,
     number: u32,
     code: &str,
-    id: u8,
-    kind: u8,
+    view: &PacketView,
+    octets: usize,
 ) -> Result<(), Failed>
-    ensures { Puts W.written W.write_faults W.last_write_fault result sink.old sink.new line.old line.new (type_text number code.now id kind) }
+    requires { length view.now.whole.now ≤ octets }
+    ensures { Puts W.written W.write_faults W.last_write_fault result sink.old sink.new line.old line.new
+        (head_text number code.now view.now.id view.now.kind (length view.now.whole.now) octets) }
 {
     put_pieces(
         sink,
@@ -158,46 +160,47 @@ fn put_type<W: Sink>(
             Text(b" "),
             Text(code.as_bytes()),
             Text(b" "),
-            Number(u64::from(id)),
+            Number(u64::from(view.id)),
             Text(b" type "),
-            Number(u64::from(kind)),
-        ],
-    )
-}
-
-/// Puts the Length of a packet, and how many of the octets are padding.
-#[tactic(auto, unfolding(crate::specs::Packets::sizes_text))]
-fn put_sizes<W: Sink>(
-    sink: &mut W,
-    line: &mut LineBuffer,
-    whole: usize,
-    octets: usize,
-) -> Result<(), Failed>
-    requires { whole ≤ octets }
-    ensures { Puts W.written W.write_faults W.last_write_fault result sink.old sink.new line.old line.new (sizes_text whole octets) }
-{
-    put_pieces(
-        sink,
-        line,
-        &[
+            Number(u64::from(view.kind)),
             Text(b" length "),
-            Number(whole as u64),
+            Number(view.whole.len() as u64),
             Text(b" padding "),
-            Number((octets - whole) as u64),
+            Number((octets - view.whole.len()) as u64),
             Text(b" "),
         ],
     )
 }
 
-#[tactic(auto, unfolding(crate::specs::Packets::line_end))]
+#[tactic(auto, unfolding(crate::specs::PacketParts::line_end))]
 fn put_line_end<W: Sink>(sink: &mut W, line: &mut LineBuffer) -> Result<(), Failed>
     ensures { Puts W.written W.write_faults W.last_write_fault result sink.old sink.new line.old line.new line_end }
 {
     put_pieces(sink, line, &[Text(b"\n")])
 }
 
-/// Puts the line of a Request or a Response.
+/// Puts the line of a Request or a Response, part by part.
 #[tactic(auto, using(crate::proofs::Putting::puts_both, crate::proofs::Putting::puts_front))]
+fn put_parts<W: Sink>(
+    sink: &mut W,
+    line: &mut LineBuffer,
+    number: u32,
+    code: &str,
+    view: &PacketView,
+    octets: usize,
+) -> Result<(), Failed>
+    requires whole { length view.now.whole.now ≤ octets }
+    requires body { length view.now.body.now ≤ 1500 }
+    ensures { Puts W.written W.write_faults W.last_write_fault result sink.old sink.new line.old line.new
+        (head_text number code.now view.now.id view.now.kind (length view.now.whole.now) octets
+        ++ (note_text view.now.kind view.now.body.now ++ line_end)) }
+{
+    put_head(sink, line, number, code, view, octets)?;
+    put_note(sink, line, view.kind, view.body)?;
+    put_line_end(sink, line)
+}
+
+/// Puts the line of a Request or a Response.
 fn put_typed<W: Sink>(
     sink: &mut W,
     line: &mut LineBuffer,
@@ -211,62 +214,10 @@ fn put_typed<W: Sink>(
     ensures { Puts W.written W.write_faults W.last_write_fault result sink.old sink.new line.old line.new
         (typed_text number code.now view.now.id view.now.kind view.now.body.now (length view.now.whole.now) octets) }
 {
-    put_type(sink, line, number, code, view.id, view.kind)?;
-    put_sizes(sink, line, view.whole.len(), octets)?;
-    put_note(sink, line, view.kind, view.body)?;
-    put_line_end(sink, line)
-}
-
-/// Puts the number, the Code and the Identifier of a Success or a Failure.
-#[tactic(auto, unfolding(crate::specs::Packets::end_text))]
-fn put_end_head<W: Sink>(
-    sink: &mut W,
-    line: &mut LineBuffer,
-    number: u32,
-    code: &str,
-    id: u8,
-) -> Result<(), Failed>
-    ensures { Puts W.written W.write_faults W.last_write_fault result sink.old sink.new line.old line.new (end_text number code.now id) }
-{
-    put_pieces(
-        sink,
-        line,
-        &[
-            Number(u64::from(number)),
-            Text(b" "),
-            Text(code.as_bytes()),
-            Text(b" "),
-            Number(u64::from(id)),
-        ],
-    )
-}
-
-/// Puts the Length of a Success or a Failure and its padding, and ends the line.
-#[tactic(auto, unfolding(crate::specs::Packets::end_sizes_text))]
-fn put_end_sizes<W: Sink>(
-    sink: &mut W,
-    line: &mut LineBuffer,
-    whole: usize,
-    octets: usize,
-) -> Result<(), Failed>
-    requires { whole ≤ octets }
-    ensures { Puts W.written W.write_faults W.last_write_fault result sink.old sink.new line.old line.new (end_sizes_text whole octets) }
-{
-    put_pieces(
-        sink,
-        line,
-        &[
-            Text(b" length "),
-            Number(whole as u64),
-            Text(b" padding "),
-            Number((octets - whole) as u64),
-            Text(b"\n"),
-        ],
-    )
+    put_parts(sink, line, number, code, view, octets)
 }
 
 /// Puts the line of a Success or a Failure.
-#[tactic(auto, using(crate::proofs::Putting::puts_both, crate::proofs::Putting::puts_front))]
 fn put_end_line<W: Sink>(
     sink: &mut W,
     line: &mut LineBuffer,
@@ -279,8 +230,22 @@ fn put_end_line<W: Sink>(
     ensures { Puts W.written W.write_faults W.last_write_fault result sink.old sink.new line.old line.new
         (end_line_text number code.now view.now.id (length view.now.whole.now) octets) }
 {
-    put_end_head(sink, line, number, code, view.id)?;
-    put_end_sizes(sink, line, view.whole.len(), octets)
+    put_pieces(
+        sink,
+        line,
+        &[
+            Number(u64::from(number)),
+            Text(b" "),
+            Text(code.as_bytes()),
+            Text(b" "),
+            Number(u64::from(view.id)),
+            Text(b" length "),
+            Number(view.whole.len() as u64),
+            Text(b" padding "),
+            Number((octets - view.whole.len()) as u64),
+            Text(b"\n"),
+        ],
+    )
 }
 
 /// Puts the line of octets that begin with no packet.

@@ -1,7 +1,7 @@
 use Rattle.std.proofs.Common.{◌≡◌, ◌≤◌, [], arith, refl, drop, length}
 use Rattle.std.proofs.Math.ListN.{drop_of_length-le}
 use Rattle.trace_text.proofs.Putting.{putting_begins, putting_next, putting_cut, putting_over}
-use Rattle.trace_text.proofs.Numbers.{numbers_text_drop}
+use Rattle.trace_text.proofs.PacketCuts.{numbers_text_drop}
 use Rattle.trace_text.proofs.packet.put_numbers.Goals as goal
 
 pub loop-octet-init : goal.loop-octet-init
