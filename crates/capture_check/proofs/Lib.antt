@@ -2,8 +2,6 @@
 pub mod Keeping
 -- A finding tells the name of a user alone.
 pub mod Names
--- The octets that a MAC or a tag covers, from their pieces.
-pub mod Pieces
 -- The keys of the users that are known.
 pub mod UserKeys
 -- The findings of worked packets.

@@ -2,11 +2,10 @@
 
 ghost use Rattle.std.specs.Prelude.{◌≡◌, length, All, IsTrue, Some};
 ghost use Rattle.std.specs.Option.{option_or};
-ghost use Rattle.cmac_mac.specs.Cmac.{aes_cmac};
 ghost use Rattle.eap_base.specs.Setup.{fits_kind};
 ghost use Rattle.login_keys.specs.Psk.{psk_long_of};
 ghost use Rattle.psk_messages.specs.Message.{message_of, AreFields};
-ghost use Rattle.eap_method.specs.PskTags.{is_sealed, mac_p_octets, mac_s_octets};
+ghost use Rattle.eap_method.specs.PskTags.{is_sealed};
 ghost use Rattle.capture_check.specs.Heard.{is_psk_astray};
 ghost use Rattle.capture_check.specs.Tags.{follows_in, psk_begins, psk_login_of, psk3_follows, psk4_follows, user_begins};
 ghost use Rattle.capture_check.specs.Kept.{psk1_of, psk2_of};
@@ -16,6 +15,7 @@ use crate::finding::Finding;
 use crate::kept::{Psk1, PskLogin};
 use cmac_mac::CmacKey;
 use eap_base::{Octets, PSK_KIND, User, Users, array_of, equal_in_full};
+use eap_method::{mac_p, mac_s};
 use eax_mode::eax_unseal;
 use login_keys::{PskLong, psk_long, psk_session};
 use psk_messages::PskView;
@@ -30,28 +30,6 @@ pub fn is_astray(to_peer: bool, view: &PskView) -> bool
         PskView::P3 { .. } => !to_peer,
         PskView::P4 { .. } => to_peer,
     }
-}
-
-/// The MAC under AK of these octets, one behind the other.
-#[tactic(auto, using(crate::proofs::Pieces::mac_p_joined))]
-fn mac_p<'a>(
-    ak: &CmacKey,
-    id_p: &'a [u8],
-    id_s: &'a [u8],
-    rand_s: &'a [u8; 16],
-    rand_p: &'a [u8; 16],
-) -> [u8; 16]
-    ensures { result ≡ aes_cmac ak.now (mac_p_octets id_p.now id_s.now rand_s.now rand_p.now) }
-{
-    ak.tag(id_p, &[id_s, rand_s, rand_p])
-}
-
-/// MAC_S under AK. It covers ID_S, RAND_P.
-#[tactic(auto, using(crate::proofs::Pieces::mac_s_joined))]
-fn mac_s(ak: &CmacKey, id_s: &[u8], rand_p: &[u8; 16]) -> [u8; 16]
-    ensures { result ≡ aes_cmac ak.now (mac_s_octets id_s.now rand_p.now) }
-{
-    ak.tag(id_s, &[rand_p])
 }
 
 /// The login of a user with the fields of PSK-1 and PSK-2, from AK and KDK of the user's key.

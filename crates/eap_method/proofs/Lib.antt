@@ -18,3 +18,5 @@ pub mod ServerObjects
 pub mod ServerOffers
 -- The report of a server's list of objects.
 pub mod ServerReports
+-- The octets that a MAC of EAP-PSK covers, from their pieces.
+pub mod PskMacs

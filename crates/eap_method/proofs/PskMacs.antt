@@ -1,4 +1,4 @@
--- The octets that a MAC or a tag covers, from their pieces.
+-- The octets that a MAC of EAP-PSK covers, from their pieces.
 use Rattle.std.proofs.Common.{◌≡◌, ℕ, List, [], ◌++◌, refl, append_assoc}
 use Rattle.std.proofs.lemmas.List.{append-nil}
 use Rattle.eap_method.specs.PskTags.{mac_p_octets, mac_s_octets}

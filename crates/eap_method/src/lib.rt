@@ -4,6 +4,7 @@
 
 mod peer;
 mod peer_objects;
+mod psk_macs;
 mod server;
 mod server_objects;
 mod step;
@@ -13,6 +14,7 @@ mod values;
 
 pub use peer::PeerMethod;
 pub use peer_objects::{begin_peers, hand_to_peer, peer_report};
+pub use psk_macs::{mac_p, mac_s};
 pub use server::ServerMethod;
 pub use server_objects::{begin_servers, hand_to_server, offer_method, server_report};
 pub use step::{Step, has_ended};

@@ -2,8 +2,6 @@
 pub mod Filled
 -- The peer's answer to PSK-3, by what its check gave.
 pub mod PeerChecks
--- The octets that a MAC or a tag covers, from their pieces.
-pub mod Pieces
 -- What is known of the octets of a Request and of a Response.
 pub mod Requests
 -- The server's answer to PSK-4, by what its check gave.

@@ -1,40 +1,16 @@
-//! EAP-PSK's MACs with the octets that they cover, and the records of its tags.
+//! The records of EAP-PSK's tags, with the octets that they cover.
 
 ghost use Rattle.std.specs.Prelude.{◌≡◌, ◌≤◌, ◌<◌, [], ◌∷◌, ◌++◌, length};
-ghost use Rattle.cmac_mac.specs.Cmac.{aes_cmac};
 ghost use Rattle.eap_base.specs.Setup.{psk_kind};
 ghost use Rattle.eap_method.specs.declared.tags.Label.TheVariants.{Tek};
 ghost use Rattle.eap_method.specs.PskTags.{mac_p_octets, mac_s_octets, ak_record, tek_record};
 
 use crate::channel::{Sealed, channel_nonce};
-use cmac_mac::CmacKey;
 use eap_base::{PSK_KIND, Secret};
 use eap_method::{Label, TagList};
 
-/// MAC_P under AK. It covers ID_P, ID_S, RAND_S, RAND_P (RFC 4764 section 5.2).
-#[tactic(auto, using(crate::proofs::Pieces::mac_p_joined))]
-pub fn mac_p<'a>(
-    ak: &CmacKey,
-    id_p: &'a [u8],
-    id_s: &'a [u8],
-    rand_s: &'a [u8; 16],
-    rand_p: &'a [u8; 16],
-) -> [u8; 16]
-    ensures { result ≡ aes_cmac ak.now (mac_p_octets id_p.now id_s.now rand_s.now rand_p.now) }
-{
-    ak.tag(id_p, &[id_s, rand_s, rand_p])
-}
-
-/// MAC_S under AK. It covers ID_S, RAND_P (RFC 4764 section 5.3).
-#[tactic(auto, using(crate::proofs::Pieces::mac_s_joined))]
-pub fn mac_s(ak: &CmacKey, id_s: &[u8], rand_p: &[u8; 16]) -> [u8; 16]
-    ensures { result ≡ aes_cmac ak.now (mac_s_octets id_s.now rand_p.now) }
-{
-    ak.tag(id_s, &[rand_p])
-}
-
 /// Adds the record of MAC_P.
-#[tactic(auto, using(crate::proofs::Pieces::mac_p_joined))]
+#[tactic(auto, using(eap_method::proofs::PskMacs::mac_p_joined))]
 pub fn add_mac_p<'a>(
     list: &mut TagList,
     psk: &Secret,
@@ -53,7 +29,7 @@ pub fn add_mac_p<'a>(
 }
 
 /// Adds the record of MAC_S.
-#[tactic(auto, using(crate::proofs::Pieces::mac_s_joined))]
+#[tactic(auto, using(eap_method::proofs::PskMacs::mac_s_joined))]
 pub fn add_mac_s<'a>(
     list: &mut TagList,
     psk: &Secret,

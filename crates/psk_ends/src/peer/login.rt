@@ -4,10 +4,10 @@ ghost use Rattle.std.specs.Prelude.{◌≡◌, ◌≤◌, ◌<◌, [], ◌∷◌
 
 use crate::keys::long_keys;
 use crate::octets::rand_of;
-use crate::records::{add_mac_p, add_mac_s, mac_p, mac_s};
+use crate::records::{add_mac_p, add_mac_s};
 use cmac_mac::CmacKey;
 use eap_base::{Identity, Nonce, Octets, PSK_KIND, Secret};
-use eap_method::{Credential, Report, TagList};
+use eap_method::{Credential, Report, TagList, mac_p, mac_s};
 use login_keys::{PskKeys, PskLong, psk_session};
 use std::marker::Model;
 

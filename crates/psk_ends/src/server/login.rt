@@ -7,10 +7,10 @@ ghost use Rattle.eap_method.specs.PskServer.{r_for};
 
 use crate::channel::{DONE_FAILURE, DONE_SUCCESS};
 use crate::octets::rand_of;
-use crate::records::{add_mac_p, add_mac_s, mac_p, mac_s};
+use crate::records::{add_mac_p, add_mac_s};
 use cmac_mac::CmacKey;
 use eap_base::{Identity, Nonce, Octets, PSK_KIND, Secret, User};
-use eap_method::{Report, ServerSide, TagList};
+use eap_method::{Report, ServerSide, TagList, mac_p, mac_s};
 use login_keys::{PskKeys, psk_session};
 use std::marker::Model;
 
