@@ -1,8 +1,8 @@
 //! Packets decoded, requests answered, and inputs refused.
 
-use crate::blocks::{answered, answered_to, is_answered, is_traced};
 use eap_base::{MemSink, MemSource};
 use login_call::Status;
+use run_tests::blocks::{answered, answered_to, is_answered, is_traced};
 use std::alloc::{AllocError, Global};
 use std::io;
 use std::test::Fail;

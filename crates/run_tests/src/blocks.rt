@@ -59,7 +59,7 @@ fn change_of<'a>(line: &'a str) -> Option<(&'a str, &'a str)> {
 }
 
 /// The rests of the block's lines that begin so, each ended by LF.
-pub(crate) fn rests(alloc: Global, block: &str, front: &str) -> Result<String, AllocError> {
+pub fn rests(alloc: Global, block: &str, front: &str) -> Result<String, AllocError> {
     let mut text = String::new(alloc);
     for line in block.split("\n") {
         if let Some(rest) = line.strip_prefix(front) {
@@ -84,7 +84,7 @@ fn settings(alloc: Global, block: &str) -> Result<String, AllocError> {
 }
 
 /// The scenario of a block.
-pub(crate) fn scenario(alloc: Global, block: &str) -> Result<String, AllocError> {
+pub fn scenario(alloc: Global, block: &str) -> Result<String, AllocError> {
     let mut text = settings(alloc, block)?;
     for events in rests(alloc, block, "run ")?.lines() {
         for event in events.split(";") {
@@ -114,7 +114,7 @@ fn input(alloc: Global, block: &str) -> Result<String, AllocError> {
 }
 
 /// The first rest of a line that begins so.
-pub(crate) fn first_rest<'a>(text: &'a str, front: &str) -> Option<&'a str> {
+pub fn first_rest<'a>(text: &'a str, front: &str) -> Option<&'a str> {
     for line in text.lines() {
         if let Some(rest) = line.strip_prefix(front) {
             return Some(rest);
@@ -153,7 +153,7 @@ fn lengths(alloc: Global, trace: &str) -> Result<String, AllocError> {
 }
 
 /// The words of a command, which a space parts; none where the text is empty.
-pub(crate) fn words_of(alloc: Global, command: &str) -> io::Result<Vec<String>> {
+pub fn words_of(alloc: Global, command: &str) -> io::Result<Vec<String>> {
     let mut words = Vec::new(alloc);
     for word in command.split(" ") {
         if !word.is_empty() {
@@ -164,7 +164,7 @@ pub(crate) fn words_of(alloc: Global, command: &str) -> io::Result<Vec<String>> 
 }
 
 /// What the call answers to these words: the status, and the sink after it.
-pub(crate) fn answered(
+pub fn answered(
     alloc: Global,
     command: &str,
     mut source: MemSource,
@@ -183,18 +183,14 @@ pub(crate) fn answered(
 }
 
 /// What the call answers to these words and this input.
-pub(crate) fn answered_to(
-    alloc: Global,
-    command: &str,
-    input: &str,
-) -> io::Result<(Status, MemSink)> {
+pub fn answered_to(alloc: Global, command: &str, input: &str) -> io::Result<(Status, MemSink)> {
     let source = MemSource::new(alloc, input.as_bytes(), 100, &[])?;
     let sink = MemSink::new(alloc, 10_000, 100, &[])?;
     answered(alloc, command, source, sink)
 }
 
 /// True where this number, of one digit, stands after `= ` in the block.
-pub(crate) fn has_number(block: &str, number: u8) -> bool {
+pub fn has_number(block: &str, number: u8) -> bool {
     let digit = b'0' + number % 10;
     first_rest(block, "= ").is_some_and(|wanted| wanted.as_bytes() == [digit].as_slice())
 }
@@ -205,14 +201,14 @@ fn has_status(block: &str, status: Status) -> bool {
 }
 
 /// True where the call answers the block's whole output and status to its input.
-pub(crate) fn is_answered(alloc: Global, command: &str, block: &str) -> io::Result<bool> {
+pub fn is_answered(alloc: Global, command: &str, block: &str) -> io::Result<bool> {
     let (status, sink) = answered_to(alloc, command, &input(alloc, block)?)?;
     let want = rests(alloc, block, "> ")?;
     Ok(has_status(block, status) && sink.written() == want.as_bytes())
 }
 
 /// True where the call answers the block's whole trace and status to its scenario.
-pub(crate) fn is_traced(alloc: Global, block: &str) -> io::Result<bool> {
+pub fn is_traced(alloc: Global, block: &str) -> io::Result<bool> {
     let (status, sink) = answered_to(alloc, "replay", &scenario(alloc, block)?)?;
     let want = rests(alloc, block, "> ")?;
     Ok(has_status(block, status) && sink.written() == want.as_bytes())
@@ -220,7 +216,7 @@ pub(crate) fn is_traced(alloc: Global, block: &str) -> io::Result<bool> {
 
 /// True where the block's login is replayed to its end, with the octets of packets and the names of keys:
 /// all lengths are those of the block, and its lines stand in the trace.
-pub(crate) fn is_replayed(alloc: Global, block: &str) -> io::Result<bool> {
+pub fn is_replayed(alloc: Global, block: &str) -> io::Result<bool> {
     let (status, sink) = answered_to(alloc, "replay names", &scenario(alloc, block)?)?;
     let trace = str::from_utf8(sink.written()).unwrap_or("");
     let sent = lengths(alloc, trace)?;

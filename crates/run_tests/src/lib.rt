@@ -1,28 +1,16 @@
-//! Tests over the world, the texts and the one call: what no contract says of them.
+//! Tests of whole runs: logins, the world's steps, and the program from its arguments to its exit status; and
+//! the cases of the one call, written as a text, which other crates of tests read too.
 #![tactic(auto)]
 
-#[cfg(test)]
-mod blocks;
-#[cfg(test)]
-mod captures;
-#[cfg(test)]
-mod commands;
-#[cfg(test)]
-mod faults;
+pub mod blocks;
 #[cfg(test)]
 mod hostile;
-#[cfg(test)]
-mod limits;
-#[cfg(test)]
-mod lines;
 #[cfg(test)]
 mod logins;
 #[cfg(test)]
 mod reflections;
 #[cfg(test)]
 mod runs;
-#[cfg(test)]
-mod texts;
 #[cfg(test)]
 mod through;
 #[cfg(test)]
