@@ -5,11 +5,11 @@ use Rattle.std.specs.Int.{byte_at, to_be_bytes, w32}
 use Rattle.std.proofs.lemmas.List.Elements.{All-append, All-cons, All-nil}
 use Rattle.sha2.specs.Sha256.{digest_bytes, final_hash, initial_hash_256, sha256}
 use Rattle.sha2.proofs.Facts256.{length-sha256}
-use Rattle.hmac_mac.specs.Hmac.{hmac_sha256}
+use Rattle.hmac_mac.specs.Hmac.{hmac, hmac_sha256}
 
 -- HMAC-SHA256 has 32 octets
 pub length_hmac_sha256 : (key text : List ℕ) → length (hmac_sha256 key text) ≡ 32
-unfolding hmac_sha256
+unfolding hmac hmac_sha256
 length_hmac_sha256 key text = length-sha256 _
 
 byte_at_lt : (place n : ℕ) → byte_at place n < 256
@@ -42,5 +42,5 @@ All-sha256 text = digest_octets (final_hash initial_hash_256 text) 8
 
 -- HMAC-SHA256 is of octets
 pub All_hmac_sha256 : (key text : List ℕ) → All (λ octet. octet < 256) (hmac_sha256 key text)
-unfolding hmac_sha256
+unfolding hmac hmac_sha256
 All_hmac_sha256 key text = All-sha256 _

@@ -1,9 +1,9 @@
--- HMAC with SHA-256 (RFC 2104, section 2), on whole lists of octets. SHA-256 is FIPS 180-4 as the
--- crate `sha2` defines it.
+-- HMAC (RFC 2104, section 2), on whole lists of octets, over any hash of blocks of 64 octets, and with
+-- SHA-256: FIPS 180-4 as the crate `sha2` defines it.
 use Rattle.std.specs.Prelude.{ℕ, ◌-◌, List, ◌++◌, length, map, replicate, bit_xor, nat_le, if◌then◌else◌}
 use Rattle.sha2.specs.Sha256.{sha256}
 
--- the octets of a block of SHA-256
+-- the octets of a block of the hash
 abbrev pub block_len : ℕ
 block_len = 64
 
@@ -12,8 +12,11 @@ unfoldable pub filled : List ℕ → List ℕ
 filled octets = octets ++ replicate (block_len - length octets) 0
 
 -- the key as one block: a key that is longer than a block is replaced by its digest
-unfoldable pub block_key : List ℕ → List ℕ
-block_key key = filled (if nat_le (length key) block_len then key else sha256 key)
+unfoldable pub block_key_of : (List ℕ → List ℕ) → List ℕ → List ℕ
+block_key_of hash key = filled (if nat_le (length key) block_len then key else hash key)
+
+abbrev pub block_key : List ℕ → List ℕ
+block_key key = block_key_of sha256 key
 
 -- the octet ipad, which the inner hash's key is combined with
 abbrev pub inner_pad : ℕ
@@ -28,6 +31,9 @@ unfoldable pub padded : List ℕ → ℕ → List ℕ
 padded octets pad = map (λ octet. bit_xor octet pad) octets
 
 -- H(K XOR opad, H(K XOR ipad, text))
+unfoldable pub hmac : (List ℕ → List ℕ) → List ℕ → List ℕ → List ℕ
+hmac hash key text =
+    hash (padded (block_key_of hash key) outer_pad ++ hash (padded (block_key_of hash key) inner_pad ++ text))
+
 unfoldable pub hmac_sha256 : List ℕ → List ℕ → List ℕ
-hmac_sha256 key text =
-    sha256 (padded (block_key key) outer_pad ++ sha256 (padded (block_key key) inner_pad ++ text))
+hmac_sha256 key text = hmac sha256 key text

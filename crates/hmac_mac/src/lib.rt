@@ -32,7 +32,7 @@ fn fill(octets: &[u8]) -> [u8; BLOCK_LEN]
 }
 
 /// The key as one block (RFC 2104, sections 2 and 3): a key that is longer than a block is hashed.
-#[tactic(auto, unfolding(crate::specs::Hmac::block_key))]
+#[tactic(auto, unfolding(crate::specs::Hmac::block_key_of))]
 fn key_block(key: &[u8]) -> [u8; BLOCK_LEN]
     ensures { result ≡ block_key key.now }
 {
@@ -139,7 +139,7 @@ impl Hmac {
     }
 
     /// The 32 octets of HMAC-SHA256 over all pieces joined.
-    #[tactic(auto, unfolding(crate::specs::Holds::Holds, crate::specs::Hmac::hmac_sha256))]
+    #[tactic(auto, unfolding(crate::specs::Holds::Holds, crate::specs::Hmac::hmac, crate::specs::Hmac::hmac_sha256))]
     pub fn finish(self) -> [u8; 32]
         ensures { (key text : List ℕ) → Holds self key text → result ≡ hmac_sha256 key text }
     {
