@@ -40,6 +40,8 @@ pub mod PskFields
 pub mod ServerKeeps
 -- What the server sends: a Request with the next Identifier, the last one again, or its end.
 pub mod ServerSpeaks
+-- The server of a world that has started has the role of the mode, and octets may come to it.
+pub mod Serving
 -- Each step of a run is lawful.
 pub mod SingleSteps
 -- What is stored stays where more is stored.

@@ -24,7 +24,7 @@ use Rattle.peer_machine.specs.PeerTable.{PeerValue, PeerNow, peer_made, peer_rep
 use Rattle.server_machine.specs.Inputs as server_inputs
 use Rattle.server_machine.specs.Inputs.{ServerInput, server_takes}
 use Rattle.server_machine.specs.ServerTable as servers
-use Rattle.server_machine.specs.ServerTable.{ServerValue, ServerNow, server_made, server_reports, is_started}
+use Rattle.server_machine.specs.ServerTable.{ServerValue, ServerNow, server_made, server_reports, is_ready, is_started}
 use Rattle.server_machine.specs.declared.variables.Role.{Role}
 use Rattle.server_machine.specs.declared.variables.Role.TheVariants as role
 use Rattle.server_machine.specs.declared.variables.ServerVariables.{ServerVariables}
@@ -525,11 +525,16 @@ octets_of_sent sent (Some packet) = octets_of (packet_numbered sent packet.numbe
 abbrev pub told_octets : WorldOutcome → List ℕ
 told_octets out = octets_of_sent out.after.sent out.told.sent
 
+-- what holds of the server in a world that has started: it has the role of the mode, and octets may come to it
+pub record IsServing (mode : Mode) (server : ServerVariables) : Type 0 where
+  pub role : server.role ≡ role_in mode
+  pub ready : is_ready server ≡ true
+
 -- what holds in every world: it has sent at most one packet an event and one more, has booked at most four
 -- tags for each of these, counts no more deliveries and discards than events, and whoever asks for the
 -- identity starts with it
-pub record IsInRange (server : ServerVariables) (pass : PassVariables) (sent : List Sent) (book : List Entry) (counts : Counts) (started : Bool)
-    : Type 0 where
+pub record IsInRange (mode : Mode) (server : ServerVariables) (pass : PassVariables) (sent : List Sent) (book : List Entry) (counts : Counts)
+    (started : Bool) : Type 0 where
   pub few_events : counts.events ≤ 1000000
   pub few_sent : length sent ≤ counts.events + one_if started
   pub few_booked : length book ≤ 4 * (counts.events + one_if started)
@@ -537,3 +542,5 @@ pub record IsInRange (server : ServerVariables) (pass : PassVariables) (sent : L
   pub few_discards : counts.discards ≤ counts.events
   pub unstarted : started ≡ false → is_started server ≡ false
   pub waits : started ≡ false → passes.is_started pass.state ≡ false
+  pub role : server.role ≡ role_in mode
+  pub ready : started ≡ true → is_ready server ≡ true

@@ -7,11 +7,11 @@ ghost use Rattle.pass_through.specs.PassTable as passes;
 ghost use Rattle.server_machine.specs.ServerTable as servers;
 ghost use Rattle.eap_method.specs.declared.tags.Tags.{Tags};
 ghost use Rattle.eap_world.specs.Store.{lent};
-ghost use Rattle.eap_world.specs.World.{RunAlike, act, acted_with, action_with, altered, called, delivered, delivered_altered, delivered_cut};
+ghost use Rattle.eap_world.specs.World.{IsServing, RunAlike, act, acted_with, action_with, altered, called, delivered, delivered_altered, delivered_cut};
 ghost use Rattle.eap_world.specs.World.{did_at, did_by, goes_to, injected, is_absent, parties_of, start_call, timed_out, told_peer, unanswered};
 ghost use Rattle.eap_world.specs.World as worlds;
 ghost use Rattle.eap_world.specs.declared.act.Action.TheVariants.{Skipped};
-ghost use Rattle.eap_world.specs.World.{first_skip, pass_skips};
+ghost use Rattle.eap_world.specs.World.{first_skip, pass_skips, role_in};
 ghost use Rattle.pass_through.specs.Inputs.{aaa_timeout, aaa_noreq};
 ghost use Rattle.eap_base.specs.declared.setup.Party.TheVariants.{Pass, Server};
 ghost use Rattle.eap_base.specs.declared.setup.Port.TheVariants.{PassPeer, PassServer};
@@ -66,6 +66,7 @@ pub fn act<P: PeerMethod, S: ServerMethod>(
     packet: &mut Packet,
     tags: &mut Tags,
 ) -> Action
+    requires serving { IsServing machines.old.mode machines.old.server.vars }
     ensures acts { act (parties_of P.peer_shown S.server_shown machines.old) sent.now.packets event.now
         ≡ acted_with P.peer_shown S.server_shown result packet.new tags.new machines.new }
     ensures alike { RunAlike P.peer_shown S.server_shown machines.old machines.new }
@@ -116,6 +117,7 @@ pub fn start<P: PeerMethod, S: ServerMethod>(
     tags: &mut Tags,
 ) -> Action
     requires server { servers.is_started machines.old.server.vars ≡ false }
+    requires role { machines.old.server.vars.role ≡ role_in machines.old.mode }
     requires pass { passes.is_started machines.old.pass.state ≡ false }
     ensures acts { called (parties_of P.peer_shown S.server_shown machines.old) (start_call machines.old.mode)
         ≡ acted_with P.peer_shown S.server_shown result packet.new tags.new machines.new }
@@ -175,6 +177,7 @@ fn hand<P: PeerMethod, S: ServerMethod>(
     packet: &mut Packet,
     tags: &mut Tags,
 ) -> Action
+    requires serving { IsServing machines.old.mode machines.old.server.vars }
     ensures acts { injected (parties_of P.peer_shown S.server_shown machines.old) port octets.now
         ≡ acted_with P.peer_shown S.server_shown result packet.new tags.new machines.new }
     ensures alike { RunAlike P.peer_shown S.server_shown machines.old machines.new }
@@ -243,6 +246,7 @@ fn deliver<P: PeerMethod, S: ServerMethod>(
     packet: &mut Packet,
     tags: &mut Tags,
 ) -> Action
+    requires serving { IsServing machines.old.mode machines.old.server.vars }
     ensures acts { delivered (parties_of P.peer_shown S.server_shown machines.old) (lent sent.entry)
         ≡ acted_with P.peer_shown S.server_shown result packet.new tags.new machines.new }
     ensures alike { RunAlike P.peer_shown S.server_shown machines.old machines.new }
@@ -262,7 +266,8 @@ fn alter<P: PeerMethod, S: ServerMethod>(
     packet: &mut Packet,
     tags: &mut Tags,
 ) -> Action
-    requires { IfSome sent (λ s. length s.octets.now ≤ 1500) }
+    requires serving { IsServing machines.old.mode machines.old.server.vars }
+    requires sizes { IfSome sent (λ s. length s.octets.now ≤ 1500) }
     ensures acts { delivered_altered (parties_of P.peer_shown S.server_shown machines.old) (lent sent.entry) place mask
         ≡ acted_with P.peer_shown S.server_shown result packet.new tags.new machines.new }
     ensures alike { RunAlike P.peer_shown S.server_shown machines.old machines.new }
@@ -289,6 +294,7 @@ fn hand_altered<P: PeerMethod, S: ServerMethod>(
     packet: &mut Packet,
     tags: &mut Tags,
 ) -> Action
+    requires serving { IsServing machines.old.mode machines.old.server.vars }
     requires fits { length stored.now.octets.now ≤ 1500 }
     requires place { place < length stored.now.octets.now }
     ensures acts { injected (parties_of P.peer_shown S.server_shown machines.old) stored.now.port (altered stored.now.octets.now place mask)
@@ -320,6 +326,7 @@ fn cut<P: PeerMethod, S: ServerMethod>(
     packet: &mut Packet,
     tags: &mut Tags,
 ) -> Action
+    requires serving { IsServing machines.old.mode machines.old.server.vars }
     ensures acts { delivered_cut (parties_of P.peer_shown S.server_shown machines.old) (lent sent.entry) keep
         ≡ acted_with P.peer_shown S.server_shown result packet.new tags.new machines.new }
     ensures alike { RunAlike P.peer_shown S.server_shown machines.old machines.new }
@@ -355,6 +362,7 @@ fn end_timer<P: PeerMethod, S: ServerMethod>(
     packet: &mut Packet,
     tags: &mut Tags,
 ) -> Action
+    requires serving { IsServing machines.old.mode machines.old.server.vars }
     ensures acts { timed_out (parties_of P.peer_shown S.server_shown machines.old) party
         ≡ acted_with P.peer_shown S.server_shown result packet.new tags.new machines.new }
     ensures alike { RunAlike P.peer_shown S.server_shown machines.old machines.new }
@@ -371,11 +379,13 @@ fn end_timer<P: PeerMethod, S: ServerMethod>(
 }
 
 /// The server's retransmission timer ends; behind the pass-through it has none.
+#[tactic(auto, using(server_machine::proofs::Starting::timer_runs))]
 fn end_server_timer<P: PeerMethod, S: ServerMethod>(
     machines: &mut Machines<P, S>,
     packet: &mut Packet,
     tags: &mut Tags,
 ) -> Action
+    requires serving { IsServing machines.old.mode machines.old.server.vars }
     ensures acts { timed_out (parties_of P.peer_shown S.server_shown machines.old) Server
         ≡ acted_with P.peer_shown S.server_shown result packet.new tags.new machines.new }
     ensures alike { RunAlike P.peer_shown S.server_shown machines.old machines.new }

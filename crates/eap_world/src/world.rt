@@ -83,7 +83,7 @@ impl<P, S> Model for World<P, S> {
       started = w.started;
     } };
 
-    ghost invariant = { λ w. IsInRange w.machines.server.vars w.machines.pass w.sent.packets w.book.items w.counts w.started };
+    ghost invariant = { λ w. IsInRange w.machines.mode w.machines.server.vars w.machines.pass w.sent.packets w.book.items w.counts w.started };
 }
 
 impl<P: PeerMethod, S: ServerMethod> World<P, S> {

@@ -5,7 +5,7 @@ ghost use Rattle.eap_base.specs.Setup.{IsSoundServer};
 
 use eap_base::{Accepts, Identity, Kinds, Packet, PeerSetup, ServerSetup, Suites, Users};
 use eap_method::{PeerMethod, ServerMethod, Step, Tags};
-use eap_packet::State;
+use eap_packet::{Cause, State};
 use low_tests::row::Row;
 use peer_machine::PeerMachine;
 use server_machine::{Backend, ServerMachine};
@@ -115,12 +115,14 @@ fn bare_server(alloc: Global) -> Server {
     ServerMachine::new(bare_setup(), 0, 4, Vec::new(alloc))
 }
 
-/// What the server does at the row's call: `start`, `timeout`, or `deliver` with what is delivered.
+/// What the server does at the row's call: `start`, `timeout`, or `deliver` with what is delivered. A call that
+/// has no place where the server stands is told as a discard.
 fn step_of(server: &mut Server, row: &mut Row, packet: &mut Packet, tags: &mut Tags) -> Step {
     match row.word() {
-        "start" if !server.started() => server.start(packet),
-        "timeout" if !server.ended() => server.timeout(packet),
-        _ => server.deliver(row.octets().as_slice(), packet, tags),
+        "start" if !server.started() && !server.is_backend() => server.start(packet),
+        "timeout" if server.has_timer() => server.timeout(packet),
+        "deliver" if server.ready() => { server.deliver(row.octets().as_slice(), packet, tags) }
+        _ => Step::discarding(&[], Cause::WrongRole),
     }
 }
 

@@ -8,3 +8,5 @@ pub mod Proposed
 pub mod Responses
 -- An offer and a turn of a method, settled in the variables, are the server's rows.
 pub mod Settling
+-- A server that has started never stands in INITIALIZE again, and its role stays.
+pub mod Starting

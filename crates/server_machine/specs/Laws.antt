@@ -1,8 +1,9 @@
 -- Laws of the server (RFC 4137 section 5), over its table alone.
-use Rattle.std.specs.Prelude.{◌≡◌, None, IsSome}
+use Rattle.std.specs.Prelude.{◌≡◌, None, IsSome, true}
 use Rattle.eap_method.specs.Tags.{no_tags}
 use Rattle.server_machine.specs.Inputs.{ServerInput, server_takes}
-use Rattle.server_machine.specs.ServerTable.{ServerNow, ServerAnswer}
+use Rattle.server_machine.specs.ServerTable.{ServerNow, ServerAnswer, is_started}
+use Rattle.server_machine.specs.declared.variables.ServerVariables.{ServerVariables}
 
 -- no variable and no view of a method changed, nothing was sent, and no tag was accepted or made
 pub record KeepsTheServer (before : ServerNow) (out : ServerAnswer) : Type 0 where
@@ -14,3 +15,12 @@ pub record KeepsTheServer (before : ServerNow) (out : ServerAnswer) : Type 0 whe
 abbrev pub DiscardsKeep : Type 0
 DiscardsKeep =
     (now : ServerNow) (input : ServerInput) → IsSome (server_takes now input).step.cause → KeepsTheServer now (server_takes now input)
+
+-- the role is the same, and a server that has started doesn't stand in INITIALIZE again
+pub record StaysStarted (before after : ServerVariables) : Type 0 where
+  pub role : after.role ≡ before.role
+  pub started : is_started before ≡ true → is_started after ≡ true
+
+-- every input leaves the role, and no input leads back to INITIALIZE
+abbrev pub StartsOnce : Type 0
+StartsOnce = (now : ServerNow) (input : ServerInput) → StaysStarted now.vars (server_takes now input).after.vars

@@ -257,6 +257,14 @@ is_backend vars = elim vars.role [ role.Backend ↦ true | role.StandAlone ↦ f
 abbrev pub awaits_first : ServerVariables → Bool
 awaits_first vars = is_backend vars && not (is_started vars)
 
+-- whether octets may come: to a backend from the first, to a stand-alone server once it has started
+abbrev pub is_ready : ServerVariables → Bool
+is_ready vars = is_backend vars || is_started vars
+
+-- whether the retransmission timer may end: at a stand-alone server that has started and has not ended
+abbrev pub has_timer : ServerVariables → Bool
+has_timer vars = not (is_backend vars) && (is_started vars && not (is_end vars.state))
+
 -- a delivery; after the end it is discarded with an empty path
 unfoldable pub server_deliver : ServerNow → List ℕ → ServerAnswer
 server_deliver now octets =

@@ -23,11 +23,15 @@ pub struct Backend<M> {
 }
 
 impl<M> Model for Backend<M> {
+    ghost use Rattle.std.specs.Prelude.{◌≡◌};
     ghost use Rattle.server_machine.specs.ServerTable.{ServerValue};
+    ghost use Rattle.server_machine.specs.declared.variables.Role.TheVariants.{Backend};
 
     ghost Value = { ServerValue M };
 
     ghost view = { λ b. b.machine };
+
+    ghost invariant = { λ b. b.machine.vars.role ≡ Backend };
 }
 
 impl<M: ServerMethod> Backend<M> {
@@ -49,6 +53,7 @@ impl<M: ServerMethod> Backend<M> {
     /// those of [`ServerMachine::deliver`]. The packet that is sent is written into `packet`, the records of the
     /// turn's tags into `tags`, in place of what was there. A discard changes neither a variable nor a method's
     /// view, and leaves no record.
+    #[tactic(auto, using(crate::proofs::Starting::backend_is_ready))]
     pub fn deliver(&mut self, octets: &[u8], packet: &mut Packet, tags: &mut Tags) -> Step
         ensures step { server_deliver (now_of M.server_shown self.old) octets.now
             ≡ answer (step_with result packet.new tags.new) (now_of M.server_shown self.new) }

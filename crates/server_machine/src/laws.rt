@@ -1,6 +1,6 @@
 //! Laws of the server (RFC 4137 section 5). Each is the contract of a function that does nothing.
 
-ghost use Rattle.server_machine.specs.Laws.{DiscardsKeep};
+ghost use Rattle.server_machine.specs.Laws.{DiscardsKeep, StartsOnce};
 ghost use Rattle.server_machine.specs.Rows.{ServerAnswersAreRows};
 
 /// An input that is discarded changes no variable and no method's view, sends nothing and makes no
@@ -14,4 +14,11 @@ pub fn discards_keep()
 #[tactic(auto, using(crate::proofs::ServerRows::server_answers_are_rows))]
 pub fn answers_are_rows()
     ensures { ServerAnswersAreRows }
+{}
+
+/// Nothing that comes to the server changes its role, and a server that has started never stands in
+/// INITIALIZE again.
+#[tactic(auto, using(crate::proofs::Starting::starts_once))]
+pub fn starts_once()
+    ensures { StartsOnce }
 {}

@@ -70,7 +70,7 @@ impl<M> Model for ServerMachine<M> {
 impl<M: ServerMethod> ServerMachine<M> {
     ghost use Rattle.eap_method.specs.Steps.{is_end};
     ghost use Rattle.server_machine.specs.ServerTable.{ServerAnswer, now_of, server_made, server_start, server_deliver, server_timeout, server_reports, is_started, server_row, select_action, server_method, current_response};
-    ghost use Rattle.server_machine.specs.ServerTable.{first_response, pick_up};
+    ghost use Rattle.server_machine.specs.ServerTable.{first_response, has_timer, is_backend, is_ready, pick_up};
     ghost use Rattle.server_machine.specs.declared.variables.Role.TheVariants.{StandAlone};
 
     /// A stand-alone server that has not started: begins the objects of the methods that the setup
@@ -126,10 +126,11 @@ impl<M: ServerMethod> ServerMachine<M> {
     }
 
     /// INITIALIZE (RFC 4137 section 5.5): proposes Identity and sends its Request, with the first
-    /// Identifier, in `packet`. The server has not started.
+    /// Identifier, in `packet`. The server is a stand-alone one that has not started.
     #[tactic(auto, unfolding(crate::specs::ServerTable::server_start))]
     pub fn start(&mut self, packet: &mut Packet) -> Step
-        requires { is_started self.old.vars ≡ false }
+        requires unstarted { is_started self.old.vars ≡ false }
+        requires stand_alone { is_backend self.old.vars ≡ false }
         ensures step { server_start (now_of M.server_shown self.old) ≡ answer (step_with result packet.new no_tags) (now_of M.server_shown self.new) }
         ensures kinds { server_kinds (map M.server_shown self.new.methods) ≡ server_kinds (map M.server_shown self.old.methods) }
     {
@@ -152,14 +153,15 @@ impl<M: ServerMethod> ServerMachine<M> {
         Step::sending(&states)
     }
 
-    /// Octets come from the peer. The packet that they begin with is taken through RECEIVED (RFC 4137
-    /// section 5.5); the first Response to a backend goes to PICK_UP_METHOD or NAK (section 6.5). Octets that
-    /// begin with no packet are discarded, and so are all once the server has ended. The packet that is sent
-    /// is written into `packet`, the records of the turn's tags into `tags`, in place of what was there. A
-    /// discard changes neither a variable nor a method's view, and leaves no record. Without a packet that is
-    /// sent, nothing counts in `packet`.
+    /// Octets come from the peer, to a server that is [ready](ServerMachine::ready). The packet that they
+    /// begin with is taken through RECEIVED (RFC 4137 section 5.5); the first Response to a backend goes to
+    /// PICK_UP_METHOD or NAK (section 6.5). Octets that begin with no packet are discarded, and so are all
+    /// once the server has ended. The packet that is sent is written into `packet`, the records of the turn's
+    /// tags into `tags`, in place of what was there. A discard changes neither a variable nor a method's view,
+    /// and leaves no record. Without a packet that is sent, nothing counts in `packet`.
     #[tactic(auto, unfolding(crate::specs::ServerTable::server_deliver))]
     pub fn deliver(&mut self, octets: &[u8], packet: &mut Packet, tags: &mut Tags) -> Step
+        requires ready { is_ready self.old.vars ≡ true }
         ensures step { server_deliver (now_of M.server_shown self.old) octets.now
             ≡ answer (step_with result packet.new tags.new) (now_of M.server_shown self.new) }
         ensures kinds { server_kinds (map M.server_shown self.new.methods) ≡ server_kinds (map M.server_shown self.old.methods) }
@@ -188,10 +190,11 @@ impl<M: ServerMethod> ServerMachine<M> {
     }
 
     /// The retransmission timer ends (RFC 4137 section 5.5): the Request is sent again, in `packet`, at
-    /// most MaxRetrans times; then TIMEOUT_FAILURE follows. The server has not ended.
-    #[tactic(auto, unfolding(crate::specs::ServerTable::server_timeout))]
+    /// most MaxRetrans times; then TIMEOUT_FAILURE follows. The server
+    /// [has the timer](ServerMachine::has_timer) running.
+    #[tactic(auto, using(crate::proofs::Starting::timer_is_going), unfolding(crate::specs::ServerTable::server_timeout))]
     pub fn timeout(&mut self, packet: &mut Packet) -> Step
-        requires { is_end self.old.vars.state ≡ false }
+        requires { has_timer self.old.vars ≡ true }
         ensures step { server_timeout (now_of M.server_shown self.old) ≡ answer (step_with result packet.new no_tags) (now_of M.server_shown self.new) }
         ensures kinds { server_kinds (map M.server_shown self.new.methods) ≡ server_kinds (map M.server_shown self.old.methods) }
     {
@@ -225,6 +228,28 @@ impl<M: ServerMethod> ServerMachine<M> {
         ensures { result ≡ is_started self.now.vars }
     {
         !matches!(self.vars.state, State::Initialize)
+    }
+
+    /// True for the backend of RFC 4137 section 6, which is never started and has no retransmission timer.
+    pub fn is_backend(&self) -> bool
+        ensures { result ≡ is_backend self.now.vars }
+    {
+        matches!(self.vars.role, Role::Backend)
+    }
+
+    /// True where octets may come: at a backend from the first, else once the server has started.
+    pub fn ready(&self) -> bool
+        ensures { result ≡ is_ready self.now.vars }
+    {
+        self.is_backend() || self.started()
+    }
+
+    /// True where the retransmission timer may end: at a stand-alone server that has started and has not
+    /// ended.
+    pub fn has_timer(&self) -> bool
+        ensures { result ≡ has_timer self.now.vars }
+    {
+        !self.is_backend() && self.started() && !self.ended()
     }
 
     /// True in SUCCESS, FAILURE and TIMEOUT_FAILURE.
