@@ -44,6 +44,8 @@ pub mod ServerSpeaks
 pub mod Serving
 -- Each step of a run is lawful.
 pub mod SingleSteps
+-- An event that is skipped changes nothing but the number of events.
+pub mod Skips
 -- What is stored stays where more is stored.
 pub mod Storing
 -- Two ends in SUCCESS agree, where each accepted tag is one that either end made: an end in SUCCESS can't have made

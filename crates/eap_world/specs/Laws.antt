@@ -1,10 +1,10 @@
 -- Laws of both ends over events.
-use Rattle.std.specs.Prelude.{◌≡◌, List, true, IsSome}
+use Rattle.std.specs.Prelude.{◌≡◌, ◌+◌, List, [], true, None, IsSome}
 use Rattle.eap_base.specs.declared.event.Event.{Event}
 use Rattle.eap_base.specs.declared.setup.Party.{Party}
 use Rattle.eap_base.specs.declared.setup.Setup.{Setup}
 use Rattle.eap_world.specs.declared.world.Held.{Held}
-use Rattle.eap_world.specs.World.{WorldNow, Parties, has_held, report_of, world_made, world_start, world_step, run_after}
+use Rattle.eap_world.specs.World.{WorldNow, WorldOutcome, Parties, has_held, report_of, world_made, world_start, world_step, run_after}
 
 -- a report that an end holds was told of
 pub record HasToldReports (held : Held) (parties : Parties) : Type 0 where
@@ -21,6 +21,25 @@ pub record KeepsBothEnds (before after : WorldNow) : Type 0 where
 -- an event that is discarded changes nothing but the counts
 abbrev pub DiscardsKeep : Type 0
 DiscardsKeep = (w : WorldNow) (e : Event) → IsSome (world_step w e).told.cause → KeepsBothEnds w (world_step w e).after
+
+-- nothing but the number of events changed: no party, nothing sent, nothing in the book, no report seen, no
+-- other count; and it is told that no party acted, entered a state, sent a packet or showed a report
+pub record CountsAlone (before : WorldNow) (out : WorldOutcome) : Type 0 where
+  pub parties : out.after.parties ≡ before.parties
+  pub sent : out.after.sent ≡ before.sent
+  pub book : out.after.book ≡ before.book
+  pub held : out.after.held ≡ before.held
+  pub events : out.after.counts.events ≡ before.counts.events + 1
+  pub deliveries : out.after.counts.deliveries ≡ before.counts.deliveries
+  pub discards : out.after.counts.discards ≡ before.counts.discards
+  pub nobody : out.told.party ≡ None
+  pub nowhere : out.told.path ≡ []
+  pub nothing : out.told.sent ≡ None
+  pub unnamed : out.told.named ≡ None
+
+-- an event that is skipped changes nothing but the number of events
+abbrev pub SkipsKeep : Type 0
+SkipsKeep = (w : WorldNow) (e : Event) → IsSome (world_step w e).told.skip → CountsAlone w (world_step w e)
 
 -- in every run each report that an end holds was told of
 abbrev pub RunsTellReports : Type 0

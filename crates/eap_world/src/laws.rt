@@ -1,7 +1,7 @@
 //! Laws of both ends over events. Each is the contract of a function that does nothing.
 
 ghost use Rattle.eap_world.specs.Agreement.{HonestOfEither, HonestEndsAgree, HonestNamesAreTheirs, FewTags};
-ghost use Rattle.eap_world.specs.Laws.{DiscardsKeep, RunsTellReports};
+ghost use Rattle.eap_world.specs.Laws.{DiscardsKeep, RunsTellReports, SkipsKeep};
 ghost use Rattle.eap_world.specs.SingleSteps.{StepsAreLawful};
 
 /// An event that an end discards changes nothing but the counts: no variable and no method's view at
@@ -10,6 +10,14 @@ ghost use Rattle.eap_world.specs.SingleSteps.{StepsAreLawful};
 #[tactic(auto, using(crate::proofs::Discards::discards_keep))]
 pub fn discards_keep()
     ensures { DiscardsKeep }
+{}
+
+/// An event that is skipped changes nothing but the number of events: no variable and no method's view at any
+/// party, nothing sent, nothing in the book, neither the deliveries nor the discards. It is told of no party, no
+/// state, no packet and no report.
+#[tactic(auto, using(crate::proofs::Skips::skips_keep))]
+pub fn skips_keep()
+    ensures { SkipsKeep }
 {}
 
 /// In every run each report that an end holds was told of.
