@@ -136,7 +136,7 @@ taken-by : {A : Type 0} (first : Option LineFault) (value : A) → IsOk (unless 
 taken-by None value e = refl
 taken-by (Some g) value e = absurd cc
 
-judges : {A : Type 0} (answer : Result A LineFault) (has : LineFault → Bool) (value : A) → answer ≡ unless (find has faults) value → Judges answer has value
+pub judges : {A : Type 0} (answer : Result A LineFault) (has : LineFault → Bool) (value : A) → answer ≡ unless (find has faults) value → Judges answer has value
 judges answer has value is = record {
   refused = λ f e. found has faults f (refused-by (find has faults) value f (sym is ∙ e));
   first = λ f s.

@@ -1,5 +1,7 @@
 -- The first fault of a line of a capture, step by step: its keyword, its words, its place.
 pub mod CaptureFaults
+-- A line of a capture is refused with the first fault that it has where it stands, and taken where it has none.
+pub mod CaptureJudging
 -- What a line can say at each place of a capture, and how far the capture has come then.
 pub mod CaptureSteps
 -- The users of a capture have keys of their methods' sizes.

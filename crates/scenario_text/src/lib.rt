@@ -19,7 +19,7 @@ pub use capture::{CaptureItem, CaptureReader};
 pub use fault::LineFault;
 pub use fields::{read_hex, read_number};
 pub use key_line::{KeyLine, read_key_line};
-pub use laws::{lines_are_judged, requests_are_judged, scenarios_are_read};
+pub use laws::{captures_are_judged, lines_are_judged, requests_are_judged, scenarios_are_read};
 pub use packet_line::read_packet_line;
 pub use scenario::{Item, ScenarioReader};
 pub use words::{word_at, word_count};
