@@ -20,3 +20,5 @@ pub mod ServerOffers
 pub mod ServerReports
 -- The octets that a MAC of EAP-PSK covers, from their pieces.
 pub mod PskMacs
+-- The objects of the methods that an end doesn't name stay, whichever of the others begins or has a turn.
+pub mod Unnamed

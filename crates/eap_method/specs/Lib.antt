@@ -12,3 +12,4 @@ pub mod ServerTurn
 pub mod Steps
 pub mod Tags
 pub mod Turns
+pub mod Unnamed

@@ -4,6 +4,7 @@ ghost use Rattle.std.specs.Prelude.{◌≡◌, ℕ, List, true, map};
 ghost use Rattle.eap_base.specs.Setup.{is_among, IsSoundPeer, HasKeys};
 ghost use Rattle.eap_method.specs.Peer.{peer_kinds, peer_views, peer_turn, IsRequest, peer_report_of, views_begun, have_each, octets_or_none, key_for, credential_for};
 ghost use Rattle.eap_method.specs.Begun.{peer_begun_in};
+ghost use Rattle.eap_method.specs.Unnamed.{peers_unnamed};
 ghost use Rattle.eap_method.specs.PeerTurn.{peer_turn_with, peer_tags};
 
 use crate::peer::PeerMethod;
@@ -14,20 +15,22 @@ use eap_base::{PSK_KIND, Packet, PeerSetup, Secret};
 use eap_packet::Cause;
 use login_policy::peer_allows;
 
-/// Begins each object whose method the settings allow, with the key for it, wherever it stood before.
+/// Begins each object whose method the settings allow, with the key for it, wherever it stood before; the
+/// others stay.
 pub fn begin_peers<M: PeerMethod>(methods: &mut [M], setup: &PeerSetup)
     requires sound { IsSoundPeer setup.now }
     requires keys { HasKeys setup.now }
     ensures views { have_each (peer_kinds (map M.peer_shown methods.old)) setup.now.methods ≡ true
         → peer_views setup.now.methods (map M.peer_shown methods.new) ≡ views_begun setup.now }
     ensures kinds { peer_kinds (map M.peer_shown methods.new) ≡ peer_kinds (map M.peer_shown methods.old) }
+    ensures unnamed { peers_unnamed setup.now.methods (map M.peer_shown methods.new) ≡ peers_unnamed setup.now.methods (map M.peer_shown methods.old) }
 {
     begin_each(methods, setup);
 }
 
 /// The turn of the object of this Type, which is allowed, for a Request of this Type with nothing past
 /// its Length: its Response is written into `packet`, the records of its tags into `tags`. Where there
-/// is no such object, the Request is discarded as one that no method awaits.
+/// is no such object, the Request is discarded as one that no method awaits. The objects of other methods stay.
 pub fn hand_to_peer<M: PeerMethod>(
     methods: &mut [M],
     kind: u8,
@@ -40,6 +43,8 @@ pub fn hand_to_peer<M: PeerMethod>(
         ≡ record { turn = peer_turn_with result packet.new tags.new; after = peer_views allowed (map M.peer_shown methods.new) } }
     ensures tags { tags.new ≡ peer_tags (peer_turn_with result packet.new tags.new) }
     ensures kinds { peer_kinds (map M.peer_shown methods.new) ≡ peer_kinds (map M.peer_shown methods.old) }
+    ensures unnamed { (allowed : List ℕ) → is_among allowed kind ≡ true
+        → peers_unnamed allowed (map M.peer_shown methods.new) ≡ peers_unnamed allowed (map M.peer_shown methods.old) }
 {
     match methods.split_first_mut() {
         None => {

@@ -6,6 +6,7 @@ ghost use Rattle.eap_method.specs.Begun.{server_begun_in};
 ghost use Rattle.eap_method.specs.Peer.{have_each};
 ghost use Rattle.eap_method.specs.ServerTurn.{server_turn_with, server_tags};
 ghost use Rattle.eap_method.specs.Server.{server_kinds, server_views, server_offer, server_turn, IsResponse, server_report_of, side_of, views_begun};
+ghost use Rattle.eap_method.specs.Unnamed.{servers_unnamed};
 
 use crate::server::ServerMethod;
 use crate::tags::Tags;
@@ -14,18 +15,20 @@ use crate::values::{Report, ServerSide};
 use eap_base::{Nonce, Packet, ServerSetup, Users, is_among};
 use eap_packet::Cause;
 
-/// Begins each object whose method the settings propose, wherever it stood before.
+/// Begins each object whose method the settings propose, wherever it stood before; the others stay.
 pub fn begin_servers<M: ServerMethod>(methods: &mut [M], setup: &ServerSetup)
     requires { IsTrue (are_suites setup.now.suites) }
     ensures views { have_each (server_kinds (map M.server_shown methods.old)) setup.now.methods ≡ true
         → server_views setup.now.methods (map M.server_shown methods.new) ≡ views_begun setup.now }
     ensures kinds { server_kinds (map M.server_shown methods.new) ≡ server_kinds (map M.server_shown methods.old) }
+    ensures unnamed { servers_unnamed setup.now.methods (map M.server_shown methods.new) ≡ servers_unnamed setup.now.methods (map M.server_shown methods.old) }
 {
     begin_each(methods, setup);
 }
 
 /// Writes the first Request, with this Identifier, of the object of this Type, which is proposed, into
-/// `packet`: the object begins and makes it. False, and nothing changes, where there is no such object.
+/// `packet`: the object begins and makes it. False, and nothing changes, where there is no such object. The
+/// objects of other methods stay.
 pub fn offer_method<M: ServerMethod>(
     methods: &mut [M],
     kind: u8,
@@ -39,6 +42,8 @@ pub fn offer_method<M: ServerMethod>(
         → server_offer own.now nonce.now kind id (server_views order (map M.server_shown methods.old))
         ≡ record { packet = if result then Some packet.new else None; after = server_views order (map M.server_shown methods.new) } }
     ensures kinds { server_kinds (map M.server_shown methods.new) ≡ server_kinds (map M.server_shown methods.old) }
+    ensures unnamed { (order : List ℕ) → is_among order kind ≡ true
+        → servers_unnamed order (map M.server_shown methods.new) ≡ servers_unnamed order (map M.server_shown methods.old) }
 {
     match methods.split_first_mut() {
         None => false,
@@ -57,7 +62,7 @@ pub fn offer_method<M: ServerMethod>(
 /// The turn of the object of this Type, which is proposed, for a Response of this Type with nothing
 /// past its Length: a Request that follows has the Identifier `next_id` and is written into `packet`,
 /// the records of the turn's tags into `tags`. Where there is no such object, the Response is discarded
-/// as one that no method awaits.
+/// as one that no method awaits. The objects of other methods stay.
 pub fn hand_to_server<M: ServerMethod>(
     methods: &mut [M],
     kind: u8,
@@ -74,6 +79,8 @@ pub fn hand_to_server<M: ServerMethod>(
         ≡ record { turn = server_turn_with result packet.new tags.new; after = server_views order (map M.server_shown methods.new) } }
     ensures tags { tags.new ≡ server_tags (server_turn_with result packet.new tags.new) }
     ensures kinds { server_kinds (map M.server_shown methods.new) ≡ server_kinds (map M.server_shown methods.old) }
+    ensures unnamed { (order : List ℕ) → is_among order kind ≡ true
+        → servers_unnamed order (map M.server_shown methods.new) ≡ servers_unnamed order (map M.server_shown methods.old) }
 {
     match methods.split_first_mut() {
         None => {

@@ -11,10 +11,11 @@ use Rattle.eap_base.specs.declared.setup.Party.TheVariants as party
 use Rattle.eap_base.specs.declared.event.Event.{Event}
 use Rattle.eap_base.specs.declared.event.Event.TheVariants as event
 use Rattle.eap_packet.specs.declared.state.State.{State}
-use Rattle.eap_method.specs.Peer.{PeerShown, peer_kinds}
-use Rattle.eap_method.specs.Server.{ServerShown, server_kinds}
+use Rattle.eap_method.specs.Peer.{PeerShown}
+use Rattle.eap_method.specs.Server.{ServerShown}
 use Rattle.eap_method.specs.Steps.{Step, step_with, is_end}
 use Rattle.eap_method.specs.Tags.{no_tags}
+use Rattle.eap_method.specs.Unnamed.{KeepsPeers, KeepsServers}
 use Rattle.eap_method.specs.declared.tags.Tags.{Tags}
 use Rattle.eap_method.specs.declared.values.Report.{Report}
 use Rattle.peer_machine.specs.Inputs as peer_inputs
@@ -97,28 +98,23 @@ now_of peer_shown server_shown w = record {
   started = w.started;
 }
 
--- the methods of which each end has an object, one after the other
-pub record Kinds : Type 0 where
-  pub peer : List ℕ
-  pub server : List ℕ
+-- the objects of both ends, which name these methods, are of the same methods before and after, and those of methods
+-- that aren't named stand as they stood
+pub record KeepObjects {P S : Type 0} (peer_shown : P → PeerShown) (server_shown : S → ServerShown) (peer_named server_named : List ℕ)
+    (peer : List P) (server : List S) (peer_after : List P) (server_after : List S) : Type 0 where
+  pub peer_kept : KeepsPeers peer_named (map peer_shown peer) (map peer_shown peer_after)
+  pub server_kept : KeepsServers server_named (map server_shown server) (map server_shown server_after)
 
-abbrev pub kinds_of : {P S : Type 0} → (P → PeerShown) → (S → ServerShown) → List P → List S → Kinds
-kinds_of peer_shown server_shown peer server =
-    record { peer = peer_kinds (map peer_shown peer); server = server_kinds (map server_shown server) }
+abbrev pub KeepsObjects : {P S : Type 0} → (P → PeerShown) → (S → ServerShown) → WorldValue P S → WorldValue P S → Type 0
+KeepsObjects peer_shown server_shown before after =
+    KeepObjects peer_shown server_shown before.peer.vars.setup.methods before.server.vars.setup.methods
+    before.peer.methods before.server.methods after.peer.methods after.server.methods
 
--- the objects of both ends are of the same methods before and after
-abbrev pub HaveSameKinds : {P S : Type 0} → (P → PeerShown) → (S → ServerShown) → List P → List S → List P → List S → Type 0
-HaveSameKinds peer_shown server_shown peer server peer_after server_after =
-    kinds_of peer_shown server_shown peer_after server_after ≡ kinds_of peer_shown server_shown peer server
-
-abbrev pub KeepsKinds : {P S : Type 0} → (P → PeerShown) → (S → ServerShown) → WorldValue P S → WorldValue P S → Type 0
-KeepsKinds peer_shown server_shown before after =
-    HaveSameKinds peer_shown server_shown before.peer.methods before.server.methods after.peer.methods after.server.methods
-
--- the machines run in the same mode before and after, over objects of the same methods
+-- the machines run in the same mode before and after, over the same objects
 pub record RunAlike {P S : Type 0} (peer_shown : P → PeerShown) (server_shown : S → ServerShown) (before after : Machines P S) : Type 0 where
   pub mode : after.mode ≡ before.mode
-  pub kinds : HaveSameKinds peer_shown server_shown before.peer.methods before.server.methods after.peer.methods after.server.methods
+  pub kept : KeepObjects peer_shown server_shown before.peer.vars.setup.methods before.server.vars.setup.methods
+      before.peer.methods before.server.methods after.peer.methods after.server.methods
 
 -- the server answers by itself, or behind the pass-through
 abbrev pub role_in : Mode → Role

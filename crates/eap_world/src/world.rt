@@ -50,7 +50,8 @@ pub struct Held {
 /// The peer (RFC 4137 section 4) and the server with their methods, the packets that were sent, the book of
 /// the ends' tags, and the counts. In mode alone the server is the stand-alone one (section 5), in mode through
 /// the backend (section 6) with the pass-through (section 7) before it. Contracts see all of it; what an
-/// object shows is its ghost member.
+/// object shows is its ghost member. No call changes the view of an object whose method its end's settings don't
+/// name.
 #[derive(Drop)]
 pub struct World<P, S> {
     machines: Machines<P, S>,
@@ -95,11 +96,12 @@ impl<P: PeerMethod, S: ServerMethod> World<P, S> {
     ghost use Rattle.eap_world.specs.declared.verdict.Verdict.TheVariants.{Agree, Apart};
     ghost use Rattle.eap_world.specs.Judgement.{verdict_of};
     ghost use Rattle.eap_world.specs.SingleSteps.{StepsLawfully};
-    ghost use Rattle.eap_world.specs.World.{HaveSameKinds, KeepsKinds, Tells, world_made, world_start, world_step, now_of};
+    ghost use Rattle.eap_world.specs.World.{KeepObjects, KeepsObjects, Tells, world_made, world_start, world_step, now_of};
     ghost use Rattle.eap_world.specs.World.{octets_numbered, octets_of_sent, pass_state, state_of};
 
     /// The world of a setup, in which the peer has begun and the server, or the pass-through, hasn't started.
-    /// Each method that an end allows or proposes has an object. It takes no memory.
+    /// Each method that an end allows or proposes has an object, which begins; the others stay as they came. It
+    /// takes no memory.
     pub fn new(alloc: Global, setup: Setup, methods: Methods<P, S>) -> World<P, S>
         requires few { setup.max_retrans ≤ 10 }
         requires sound_peer { IsSoundPeer setup.peer }
@@ -108,7 +110,8 @@ impl<P: PeerMethod, S: ServerMethod> World<P, S> {
         requires peer_objects { have_each (peer_kinds (map P.peer_shown methods.peer.items)) setup.peer.methods ≡ true }
         requires server_objects { have_each (server_kinds (map S.server_shown methods.server.items)) setup.server.methods ≡ true }
         ensures made { now_of P.peer_shown S.server_shown result ≡ world_made setup }
-        ensures kinds { HaveSameKinds P.peer_shown S.server_shown methods.peer.items methods.server.items result.peer.methods result.server.methods }
+        ensures kept { KeepObjects P.peer_shown S.server_shown setup.peer.methods setup.server.methods
+            methods.peer.items methods.server.items result.peer.methods result.server.methods }
     {
         World {
             machines: Machines {
@@ -151,7 +154,7 @@ impl<P: PeerMethod, S: ServerMethod> World<P, S> {
             (λ _. self.new ≡ self.old) }
         ensures run { IfOk result (λ told. BeginsRun P.peer_shown S.server_shown self.old self.new) }
         ensures few { IfOk result (λ told. BeginsSmall P.peer_shown S.server_shown self.old self.new) }
-        ensures kinds { KeepsKinds P.peer_shown S.server_shown self.old self.new }
+        ensures kept { KeepsObjects P.peer_shown S.server_shown self.old self.new }
     {
         self.begin()
     }
@@ -171,7 +174,7 @@ impl<P: PeerMethod, S: ServerMethod> World<P, S> {
         ensures run { IfOk result (λ told. GoesOn P.peer_shown S.server_shown event.now self.old self.new) }
         ensures few { IfOk result (λ told. StaysSmall P.peer_shown S.server_shown self.old self.new) }
         ensures lawful { IfOk result (λ told. StepsLawfully P.peer_shown S.server_shown event.now self.old told self.new) }
-        ensures kinds { KeepsKinds P.peer_shown S.server_shown self.old self.new }
+        ensures kept { KeepsObjects P.peer_shown S.server_shown self.old self.new }
     {
         self.take(event)
     }
@@ -183,7 +186,7 @@ impl<P: PeerMethod, S: ServerMethod> World<P, S> {
         ensures told { MatchResult result
             (λ told. Tells P.peer_shown S.server_shown (world_start (now_of P.peer_shown S.server_shown self.old)) told self.new)
             (λ _. self.new ≡ self.old) }
-        ensures kinds { KeepsKinds P.peer_shown S.server_shown self.old self.new }
+        ensures kept { KeepsObjects P.peer_shown S.server_shown self.old self.new }
     {
         if !make_room(&mut self.sent, &mut self.book) {
             return Err(Memory);
@@ -210,7 +213,7 @@ impl<P: PeerMethod, S: ServerMethod> World<P, S> {
         ensures told { MatchResult result
             (λ told. Tells P.peer_shown S.server_shown (world_step (now_of P.peer_shown S.server_shown self.old) event.now) told self.new)
             (λ _. self.new ≡ self.old) }
-        ensures kinds { KeepsKinds P.peer_shown S.server_shown self.old self.new }
+        ensures kept { KeepsObjects P.peer_shown S.server_shown self.old self.new }
     {
         if !make_room(&mut self.sent, &mut self.book) {
             return Err(Memory);

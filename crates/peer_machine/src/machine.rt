@@ -8,6 +8,7 @@ ghost use Rattle.eap_packet.specs.declared.state.State.TheVariants.{Received, Me
 ghost use Rattle.eap_method.specs.PeerTurn.{peer_turn_with, peer_tags};
 ghost use Rattle.eap_method.specs.Steps.{step_with};
 ghost use Rattle.eap_method.specs.Tags.{no_tags};
+ghost use Rattle.eap_method.specs.Unnamed.{KeepsPeers};
 ghost use Rattle.peer_machine.specs.PeerTable.{before_method, method_answers, settled, answer, is_allowed};
 ghost use Rattle.eap_method.specs.Peer.{IsRequest, PeerViews, peer_views, peer_turn, peer_kinds};
 
@@ -31,7 +32,8 @@ const NOTIFICATION: u8 = 2;
 const NAK: u8 = 3;
 
 /// The peer of RFC 4137 section 4: its variables, and the objects of its methods. Contracts see both;
-/// what an object shows is its ghost member `peer_shown`.
+/// what an object shows is its ghost member `peer_shown`. No call changes the view of an object whose method the
+/// settings don't name.
 #[derive(Drop)]
 pub struct PeerMachine<M> {
     vars: PeerVariables,
@@ -61,7 +63,7 @@ impl<M: PeerMethod> PeerMachine<M> {
         requires keys { HasKeys setup }
         requires objects { have_each (peer_kinds (map M.peer_shown methods.items)) setup.methods ≡ true }
         ensures made { now_of M.peer_shown result ≡ peer_made setup }
-        ensures kinds { peer_kinds (map M.peer_shown result.methods) ≡ peer_kinds (map M.peer_shown methods.items) }
+        ensures kept { KeepsPeers setup.methods (map M.peer_shown methods.items) (map M.peer_shown result.methods) }
     {
         let mut methods = methods;
         begin_peers(methods.as_mut_slice(), &setup);
@@ -88,7 +90,7 @@ impl<M: PeerMethod> PeerMachine<M> {
     #[tactic(auto, unfolding(crate::specs::PeerTable::peer_deliver))]
     pub fn deliver(&mut self, octets: &[u8], packet: &mut Packet, tags: &mut Tags) -> Step
         ensures step { peer_deliver (now_of M.peer_shown self.old) octets.now ≡ answer (step_with result packet.new tags.new) (now_of M.peer_shown self.new) }
-        ensures kinds { peer_kinds (map M.peer_shown self.new.methods) ≡ peer_kinds (map M.peer_shown self.old.methods) }
+        ensures kept { KeepsPeers self.old.vars.setup.methods (map M.peer_shown self.old.methods) (map M.peer_shown self.new.methods) }
     {
         tags.clear();
         if self.ended() {
@@ -106,7 +108,7 @@ impl<M: PeerMethod> PeerMachine<M> {
     pub fn idle(&mut self) -> Step
         requires { is_end self.old.vars.state ≡ false }
         ensures step { peer_idle (now_of M.peer_shown self.old) ≡ answer (step_with result [] no_tags) (now_of M.peer_shown self.new) }
-        ensures kinds { peer_kinds (map M.peer_shown self.new.methods) ≡ peer_kinds (map M.peer_shown self.old.methods) }
+        ensures kept { KeepsPeers self.old.vars.setup.methods (map M.peer_shown self.old.methods) (map M.peer_shown self.new.methods) }
     {
         if self.vars.decision == Decision::UncondSucc {
             end(&mut self.vars, State::Success)
@@ -121,7 +123,7 @@ impl<M: PeerMethod> PeerMachine<M> {
     pub fn alt_accept(&mut self) -> Step
         requires { is_end self.old.vars.state ≡ false }
         ensures step { peer_alt_accept (now_of M.peer_shown self.old) ≡ answer (step_with result [] no_tags) (now_of M.peer_shown self.new) }
-        ensures kinds { peer_kinds (map M.peer_shown self.new.methods) ≡ peer_kinds (map M.peer_shown self.old.methods) }
+        ensures kept { KeepsPeers self.old.vars.setup.methods (map M.peer_shown self.old.methods) (map M.peer_shown self.new.methods) }
     {
         if self.vars.decision != Decision::Fail {
             end(&mut self.vars, State::Success)
@@ -137,7 +139,7 @@ impl<M: PeerMethod> PeerMachine<M> {
     pub fn alt_reject(&mut self) -> Step
         requires { is_end self.old.vars.state ≡ false }
         ensures step { peer_alt_reject (now_of M.peer_shown self.old) ≡ answer (step_with result [] no_tags) (now_of M.peer_shown self.new) }
-        ensures kinds { peer_kinds (map M.peer_shown self.new.methods) ≡ peer_kinds (map M.peer_shown self.old.methods) }
+        ensures kept { KeepsPeers self.old.vars.setup.methods (map M.peer_shown self.old.methods) (map M.peer_shown self.new.methods) }
     {
         end(&mut self.vars, State::Failure)
     }
@@ -188,7 +190,7 @@ impl<M: PeerMethod> PeerMachine<M> {
         requires tags { tags.old ≡ no_tags }
         ensures step { peer_row (now_of M.peer_shown self.old) (Ok (value_of view.now))
             ≡ answer (step_with result packet.new tags.new) (now_of M.peer_shown self.new) }
-        ensures kinds { peer_kinds (map M.peer_shown self.new.methods) ≡ peer_kinds (map M.peer_shown self.old.methods) }
+        ensures kept { KeepsPeers self.old.vars.setup.methods (map M.peer_shown self.old.methods) (map M.peer_shown self.new.methods) }
     {
         let is_last = self.vars.last_id == Some(view.id);
         match view.code {
@@ -221,7 +223,7 @@ impl<M: PeerMethod> PeerMachine<M> {
     fn success(&mut self) -> Step
         ensures step { (packet : List ℕ) → peer_success (now_of M.peer_shown self.old)
             ≡ answer (step_with result packet no_tags) (now_of M.peer_shown self.new) }
-        ensures kinds { peer_kinds (map M.peer_shown self.new.methods) ≡ peer_kinds (map M.peer_shown self.old.methods) }
+        ensures kept { KeepsPeers self.old.vars.setup.methods (map M.peer_shown self.old.methods) (map M.peer_shown self.new.methods) }
     {
         if self.vars.decision != Decision::Fail {
             end_received(&mut self.vars, State::Success)
@@ -236,7 +238,7 @@ impl<M: PeerMethod> PeerMachine<M> {
     fn failure(&mut self) -> Step
         ensures step { (packet : List ℕ) → peer_failure (now_of M.peer_shown self.old)
             ≡ answer (step_with result packet no_tags) (now_of M.peer_shown self.new) }
-        ensures kinds { peer_kinds (map M.peer_shown self.new.methods) ≡ peer_kinds (map M.peer_shown self.old.methods) }
+        ensures kept { KeepsPeers self.old.vars.setup.methods (map M.peer_shown self.old.methods) (map M.peer_shown self.new.methods) }
     {
         if self.vars.decision == Decision::UncondSucc {
             discard(Cause::LateFailure)
@@ -260,7 +262,7 @@ impl<M: PeerMethod> PeerMachine<M> {
         requires tags { tags.old ≡ no_tags }
         ensures step { new_request (now_of M.peer_shown self.old) id kind request.now self.old.vars.selected
             ≡ answer (step_with result packet.new tags.new) (now_of M.peer_shown self.new) }
-        ensures kinds { peer_kinds (map M.peer_shown self.new.methods) ≡ peer_kinds (map M.peer_shown self.old.methods) }
+        ensures kept { KeepsPeers self.old.vars.setup.methods (map M.peer_shown self.old.methods) (map M.peer_shown self.new.methods) }
     {
         match self.vars.selected {
             None => self.first_request(id, kind, request, packet, tags),
@@ -294,7 +296,7 @@ impl<M: PeerMethod> PeerMachine<M> {
         requires tags { tags.old ≡ no_tags }
         ensures step { new_request (now_of M.peer_shown self.old) id kind request.now None
             ≡ answer (step_with result packet.new tags.new) (now_of M.peer_shown self.new) }
-        ensures kinds { peer_kinds (map M.peer_shown self.new.methods) ≡ peer_kinds (map M.peer_shown self.old.methods) }
+        ensures kept { KeepsPeers self.old.vars.setup.methods (map M.peer_shown self.old.methods) (map M.peer_shown self.new.methods) }
     {
         if kind == IDENTITY {
             write_response(packet, id, IDENTITY, self.vars.setup.name.as_slice());
@@ -326,7 +328,7 @@ impl<M: PeerMethod> PeerMachine<M> {
         requires allowed { is_among self.old.vars.setup.methods kind ≡ true }
         ensures step { peer_method selects (now_of M.peer_shown self.old) kind id request.now
             ≡ answer (step_with result packet.new tags.new) (now_of M.peer_shown self.new) }
-        ensures kinds { peer_kinds (map M.peer_shown self.new.methods) ≡ peer_kinds (map M.peer_shown self.old.methods) }
+        ensures kept { KeepsPeers self.old.vars.setup.methods (map M.peer_shown self.old.methods) (map M.peer_shown self.new.methods) }
     {
         let turn = hand(&mut self.methods, kind, request, packet, tags);
         settle(&mut self.vars, selects, kind, id, turn, packet)
@@ -405,7 +407,8 @@ fn hand<M: PeerMethod>(
         → peer_turn kind (peer_views allowed (map M.peer_shown methods.old.items)) request.now
         ≡ record { turn = peer_turn_with result packet.new tags.new; after = peer_views allowed (map M.peer_shown methods.new.items) } }
     ensures tags { tags.new ≡ peer_tags (peer_turn_with result packet.new tags.new) }
-    ensures kinds { peer_kinds (map M.peer_shown methods.new.items) ≡ peer_kinds (map M.peer_shown methods.old.items) }
+    ensures kept { (allowed : List ℕ) → is_among allowed kind ≡ true
+        → KeepsPeers allowed (map M.peer_shown methods.old.items) (map M.peer_shown methods.new.items) }
 {
     hand_to_peer(methods.as_mut_slice(), kind, request, packet, tags)
 }

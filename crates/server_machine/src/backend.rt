@@ -5,6 +5,7 @@ ghost use Rattle.eap_base.specs.Setup.{IsSoundServer};
 ghost use Rattle.eap_method.specs.Peer.{have_each};
 ghost use Rattle.eap_method.specs.Server.{server_kinds};
 ghost use Rattle.eap_method.specs.Steps.{is_end, step_with};
+ghost use Rattle.eap_method.specs.Unnamed.{KeepsServers};
 ghost use Rattle.server_machine.specs.ServerTable.{answer, backend_made, now_of, server_deliver, server_reports};
 
 use crate::machine::ServerMachine;
@@ -41,7 +42,7 @@ impl<M: ServerMethod> Backend<M> {
         requires sound { IsSoundServer setup }
         requires objects { have_each (server_kinds (map M.server_shown methods.items)) setup.methods ≡ true }
         ensures made { now_of M.server_shown result ≡ backend_made setup }
-        ensures kinds { server_kinds (map M.server_shown result.methods) ≡ server_kinds (map M.server_shown methods.items) }
+        ensures kept { KeepsServers setup.methods (map M.server_shown methods.items) (map M.server_shown result.methods) }
     {
         Backend {
             machine: ServerMachine::in_role(Role::Backend, setup, 0, 0, methods),
@@ -57,7 +58,7 @@ impl<M: ServerMethod> Backend<M> {
     pub fn deliver(&mut self, octets: &[u8], packet: &mut Packet, tags: &mut Tags) -> Step
         ensures step { server_deliver (now_of M.server_shown self.old) octets.now
             ≡ answer (step_with result packet.new tags.new) (now_of M.server_shown self.new) }
-        ensures kinds { server_kinds (map M.server_shown self.new.methods) ≡ server_kinds (map M.server_shown self.old.methods) }
+        ensures kept { KeepsServers self.old.vars.setup.methods (map M.server_shown self.old.methods) (map M.server_shown self.new.methods) }
     {
         self.machine.deliver(octets, packet, tags)
     }

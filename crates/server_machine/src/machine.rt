@@ -11,6 +11,7 @@ ghost use Rattle.eap_method.specs.Server.{IsResponse, ServerViews, server_views,
 ghost use Rattle.eap_method.specs.ServerTurn.{server_turn_with, server_tags};
 ghost use Rattle.eap_method.specs.Steps.{step_with};
 ghost use Rattle.eap_method.specs.Tags.{no_tags};
+ghost use Rattle.eap_method.specs.Unnamed.{KeepsServers};
 ghost use Rattle.server_machine.specs.declared.variables.Way.TheVariants.{AfterResponse};
 ghost use Rattle.server_machine.specs.ServerTable.{answer, before_proposal, identity_request, next_id, with_request, ends_well, ends_badly, offers, method_answers, settled, awaits_first, AreInOrder, is_current};
 
@@ -50,7 +51,8 @@ const SUCCEEDING: [State; 5] = [
 
 /// The server of RFC 4137, stand-alone (section 5) or, for a world with a pass-through, in the role of the
 /// backend (section 6): its variables, and the objects of its methods. Contracts see both; what an object
-/// shows is its ghost member `server_shown`. [`Backend`](crate::Backend) is the backend by itself.
+/// shows is its ghost member `server_shown`. No call changes the view of an object whose method the settings
+/// don't name. [`Backend`](crate::Backend) is the backend by itself.
 #[derive(Drop)]
 pub struct ServerMachine<M> {
     vars: ServerVariables,
@@ -85,7 +87,7 @@ impl<M: ServerMethod> ServerMachine<M> {
         requires few { max_retrans ≤ 10 }
         requires objects { have_each (server_kinds (map M.server_shown methods.items)) setup.methods ≡ true }
         ensures made { now_of M.server_shown result ≡ server_made StandAlone setup first_id max_retrans }
-        ensures kinds { server_kinds (map M.server_shown result.methods) ≡ server_kinds (map M.server_shown methods.items) }
+        ensures kept { KeepsServers setup.methods (map M.server_shown methods.items) (map M.server_shown result.methods) }
     {
         ServerMachine::in_role(Role::StandAlone, setup, first_id, max_retrans, methods)
     }
@@ -103,7 +105,7 @@ impl<M: ServerMethod> ServerMachine<M> {
         requires few { max_retrans ≤ 10 }
         requires objects { have_each (server_kinds (map M.server_shown methods.items)) setup.methods ≡ true }
         ensures made { now_of M.server_shown result ≡ server_made role setup first_id max_retrans }
-        ensures kinds { server_kinds (map M.server_shown result.methods) ≡ server_kinds (map M.server_shown methods.items) }
+        ensures kept { KeepsServers setup.methods (map M.server_shown methods.items) (map M.server_shown result.methods) }
     {
         let mut methods = methods;
         begin_servers(methods.as_mut_slice(), &setup);
@@ -132,7 +134,7 @@ impl<M: ServerMethod> ServerMachine<M> {
         requires unstarted { is_started self.old.vars ≡ false }
         requires stand_alone { is_backend self.old.vars ≡ false }
         ensures step { server_start (now_of M.server_shown self.old) ≡ answer (step_with result packet.new no_tags) (now_of M.server_shown self.new) }
-        ensures kinds { server_kinds (map M.server_shown self.new.methods) ≡ server_kinds (map M.server_shown self.old.methods) }
+        ensures kept { KeepsServers self.old.vars.setup.methods (map M.server_shown self.old.methods) (map M.server_shown self.new.methods) }
     {
         write_identity(packet, self.vars.first_id);
         self.vars.state = State::Idle;
@@ -164,7 +166,7 @@ impl<M: ServerMethod> ServerMachine<M> {
         requires ready { is_ready self.old.vars ≡ true }
         ensures step { server_deliver (now_of M.server_shown self.old) octets.now
             ≡ answer (step_with result packet.new tags.new) (now_of M.server_shown self.new) }
-        ensures kinds { server_kinds (map M.server_shown self.new.methods) ≡ server_kinds (map M.server_shown self.old.methods) }
+        ensures kept { KeepsServers self.old.vars.setup.methods (map M.server_shown self.old.methods) (map M.server_shown self.new.methods) }
     {
         tags.clear();
         if self.ended() {
@@ -196,7 +198,7 @@ impl<M: ServerMethod> ServerMachine<M> {
     pub fn timeout(&mut self, packet: &mut Packet) -> Step
         requires { has_timer self.old.vars ≡ true }
         ensures step { server_timeout (now_of M.server_shown self.old) ≡ answer (step_with result packet.new no_tags) (now_of M.server_shown self.new) }
-        ensures kinds { server_kinds (map M.server_shown self.new.methods) ≡ server_kinds (map M.server_shown self.old.methods) }
+        ensures kept { KeepsServers self.old.vars.setup.methods (map M.server_shown self.old.methods) (map M.server_shown self.new.methods) }
     {
         self.vars.retrans_count += 1;
         if self.vars.retrans_count <= self.vars.max_retrans {
@@ -289,7 +291,7 @@ impl<M: ServerMethod> ServerMachine<M> {
         requires going { is_end self.old.vars.state ≡ false }
         ensures step { pick_up (now_of M.server_shown self.old) (Ok (value_of view.now))
             ≡ answer (step_with result packet.new no_tags) (now_of M.server_shown self.new) }
-        ensures kinds { server_kinds (map M.server_shown self.new.methods) ≡ server_kinds (map M.server_shown self.old.methods) }
+        ensures kept { KeepsServers self.old.vars.setup.methods (map M.server_shown self.old.methods) (map M.server_shown self.new.methods) }
     {
         match view.code {
             Code::Response => self.pick_up_response(view.id, view.kind, view.body, packet),
@@ -304,7 +306,7 @@ impl<M: ServerMethod> ServerMachine<M> {
         requires going { is_end self.old.vars.state ≡ false }
         ensures step { first_response (now_of M.server_shown self.old) id kind body.now
             ≡ answer (step_with result packet.new no_tags) (now_of M.server_shown self.new) }
-        ensures kinds { server_kinds (map M.server_shown self.new.methods) ≡ server_kinds (map M.server_shown self.old.methods) }
+        ensures kept { KeepsServers self.old.vars.setup.methods (map M.server_shown self.old.methods) (map M.server_shown self.new.methods) }
     {
         self.vars.state = State::Idle;
         self.vars.current_id = Some(id);
@@ -326,7 +328,7 @@ impl<M: ServerMethod> ServerMachine<M> {
         requires tags { tags.old ≡ no_tags }
         ensures step { server_row (now_of M.server_shown self.old) (Ok (value_of view.now))
             ≡ answer (step_with result packet.new tags.new) (now_of M.server_shown self.new) }
-        ensures kinds { server_kinds (map M.server_shown self.new.methods) ≡ server_kinds (map M.server_shown self.old.methods) }
+        ensures kept { KeepsServers self.old.vars.setup.methods (map M.server_shown self.old.methods) (map M.server_shown self.new.methods) }
     {
         match view.code {
             Code::Response => {
@@ -348,7 +350,7 @@ impl<M: ServerMethod> ServerMachine<M> {
         requires tags { tags.old ≡ no_tags }
         ensures step { current_response (now_of M.server_shown self.old) view.now.id view.now.kind view.now.body.now
             ≡ answer (step_with result packet.new tags.new) (now_of M.server_shown self.new) }
-        ensures kinds { server_kinds (map M.server_shown self.new.methods) ≡ server_kinds (map M.server_shown self.old.methods) }
+        ensures kept { KeepsServers self.old.vars.setup.methods (map M.server_shown self.old.methods) (map M.server_shown self.new.methods) }
     {
         if view.kind == NAK && self.vars.progress == Progress::Proposed {
             self.propose(Way::AfterNak, view.id, Some(view.body), packet)
@@ -368,7 +370,7 @@ impl<M: ServerMethod> ServerMachine<M> {
     fn propose(&mut self, way: Way, id: u8, desired: Option<&[u8]>, packet: &mut Packet) -> Step
         ensures step { let now = now_of M.server_shown self.old in select_action (before_proposal way) now.vars now.views id (option_copied desired.entry)
             ≡ answer (step_with result packet.new no_tags) (now_of M.server_shown self.new) }
-        ensures kinds { server_kinds (map M.server_shown self.new.methods) ≡ server_kinds (map M.server_shown self.old.methods) }
+        ensures kept { KeepsServers self.old.vars.setup.methods (map M.server_shown self.old.methods) (map M.server_shown self.new.methods) }
     {
         match next_method(&self.vars.setup.methods, &self.vars.proposed, desired) {
             None => end_badly(&mut self.vars, way, id, packet),
@@ -393,7 +395,7 @@ impl<M: ServerMethod> ServerMachine<M> {
         requires ordered { is_among self.old.vars.setup.methods kind ≡ true }
         ensures step { server_method (now_of M.server_shown self.old) id kind response.now
             ≡ answer (step_with result packet.new tags.new) (now_of M.server_shown self.new) }
-        ensures kinds { server_kinds (map M.server_shown self.new.methods) ≡ server_kinds (map M.server_shown self.old.methods) }
+        ensures kept { KeepsServers self.old.vars.setup.methods (map M.server_shown self.old.methods) (map M.server_shown self.new.methods) }
     {
         let turn = turn_of(&mut self.methods, &self.vars, kind, response, packet, tags);
         settle(&mut self.vars, id, turn, packet)
@@ -464,7 +466,7 @@ fn write_first<M: ServerMethod>(
     ensures offer { server_offer (side_of vars.now.setup) vars.now.setup.nonce kind (next_id vars.now)
         (server_views vars.now.setup.methods (map M.server_shown methods.old.items))
         ≡ record { packet = if result then Some packet.new else None; after = server_views vars.now.setup.methods (map M.server_shown methods.new.items) } }
-    ensures kinds { server_kinds (map M.server_shown methods.new.items) ≡ server_kinds (map M.server_shown methods.old.items) }
+    ensures kept { KeepsServers vars.now.setup.methods (map M.server_shown methods.old.items) (map M.server_shown methods.new.items) }
 {
     offer_method(
         methods.as_mut_slice(),
@@ -492,7 +494,7 @@ fn turn_of<M: ServerMethod>(
         (server_views vars.now.setup.methods (map M.server_shown methods.old.items)) response.now
         ≡ record { turn = server_turn_with result packet.new tags.new; after = server_views vars.now.setup.methods (map M.server_shown methods.new.items) } }
     ensures tags { tags.new ≡ server_tags (server_turn_with result packet.new tags.new) }
-    ensures kinds { server_kinds (map M.server_shown methods.new.items) ≡ server_kinds (map M.server_shown methods.old.items) }
+    ensures kept { KeepsServers vars.now.setup.methods (map M.server_shown methods.old.items) (map M.server_shown methods.new.items) }
 {
     hand_to_server(
         methods.as_mut_slice(),

@@ -1,6 +1,7 @@
 use Rattle.std.proofs.Common.{◌∙◌, sym, refl}
 use Rattle.eap_method.proofs.Lists.{empty_of}
 use Rattle.eap_method.proofs.PeerObjects.{turn_hit, turn_miss, turn_none, step_kind}
+use Rattle.eap_method.proofs.Unnamed.{peer_hit, peer_miss}
 use Rattle.eap_method.proofs.peer_objects.+hand_to_peer.Goals as goal
 
 pub returns-in-None-clause-turn : goal.returns-in-None-clause-turn
@@ -20,3 +21,12 @@ pub returns-else-kind-clause-turn : goal.returns-else-kind-clause-turn
 returns-else-kind-clause-turn g t c = λ allowed is_allowed.
     rw c.in-Some.ensures.cases.0
     (turn_miss allowed _ _ _ _ _ _ (λ same. c.if-kind.false (c.kind.ensures ∙ same)) (c.hand_to_peer.ensures.turn allowed is_allowed))
+
+pub returns-then-kind-clause-unnamed : goal.returns-then-kind-clause-unnamed
+returns-then-kind-clause-unnamed g t c = λ allowed is_allowed.
+    rw c.in-Some.ensures.cases.0
+    (peer_hit allowed _ _ _ _ (step_kind _ _ _ _ c.handle.ensures.turn) (sym c.kind.ensures ∙ c.if-kind.true) is_allowed)
+
+pub returns-else-kind-clause-unnamed : goal.returns-else-kind-clause-unnamed
+returns-else-kind-clause-unnamed g t c = λ allowed is_allowed.
+    rw c.in-Some.ensures.cases.0 (peer_miss allowed _ _ _ (c.hand_to_peer.ensures.unnamed allowed is_allowed))

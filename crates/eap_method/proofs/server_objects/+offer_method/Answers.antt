@@ -1,6 +1,7 @@
 use Rattle.std.proofs.Common.{◌∙◌, sym, refl}
 use Rattle.eap_method.proofs.Lists.{empty_of}
 use Rattle.eap_method.proofs.ServerOffers.{offer_hit, offer_miss, offer_none, offer_kind}
+use Rattle.eap_method.proofs.Unnamed.{server_hit, server_miss}
 use Rattle.eap_method.proofs.server_objects.+offer_method.Goals as goal
 
 pub returns-in-None-clause-offer : goal.returns-in-None-clause-offer
@@ -20,3 +21,12 @@ pub returns-else-kind-clause-offer : goal.returns-else-kind-clause-offer
 returns-else-kind-clause-offer g t c = λ order is_proposed.
     rw c.in-Some.ensures.cases.0
     (offer_miss _ _ _ order _ _ _ _ _ (λ same. c.if-kind.false (c.kind.ensures ∙ same)) (c.offer_method.ensures.offer order is_proposed))
+
+pub returns-then-kind-clause-unnamed : goal.returns-then-kind-clause-unnamed
+returns-then-kind-clause-unnamed g t c = λ order is_proposed.
+    rw c.in-Some.ensures.cases.0
+    (server_hit order _ _ _ _ (offer_kind _ _ _ _ _ _ _ c.begin.ensures c.first.ensures) (sym c.kind.ensures ∙ c.if-kind.true) is_proposed)
+
+pub returns-else-kind-clause-unnamed : goal.returns-else-kind-clause-unnamed
+returns-else-kind-clause-unnamed g t c = λ order is_proposed.
+    rw c.in-Some.ensures.cases.0 (server_miss order _ _ _ (c.offer_method.ensures.unnamed order is_proposed))

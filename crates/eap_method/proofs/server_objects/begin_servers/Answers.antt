@@ -1,4 +1,5 @@
 use Rattle.eap_method.proofs.ServerBegins.{begun_views, begun_kinds}
+use Rattle.eap_method.proofs.Unnamed.{servers_begun}
 use Rattle.eap_method.proofs.server_objects.begin_servers.Goals as goal
 
 pub returns-clause-views : goal.returns-clause-views
@@ -6,3 +7,6 @@ returns-clause-views g c = λ has_each. rw c.begin_each.ensures (begun_views _ _
 
 pub returns-clause-kinds : goal.returns-clause-kinds
 returns-clause-kinds g c = rw c.begin_each.ensures (begun_kinds _ _)
+
+pub returns-clause-unnamed : goal.returns-clause-unnamed
+returns-clause-unnamed g c = rw c.begin_each.ensures (servers_begun _ _)
