@@ -1,0 +1,175 @@
+-- A login by EAP-GPSK as both machines see it: its four messages and their tags.
+use Rattle.std.proofs.Common.{◌≡◌, ℕ, ◌≤◌, List, [], ◌∷◌, length, true, false, Option, Some, refl, ap, ◌∙◌, arith}
+use Rattle.std.proofs.lemmas.Bool.{cond-true}
+use Rattle.eap_base.specs.declared.setup.PeerSetup.{PeerSetup}
+use Rattle.eap_base.specs.declared.setup.ServerSetup.{ServerSetup}
+use Rattle.eap_base.specs.declared.setup.Suite.{Suite}
+use Rattle.eap_base.specs.declared.users.User.{User}
+use Rattle.eap_base.specs.Setup.{gpsk_kind, is_among, accepts_name}
+use Rattle.eap_base.specs.Suite.{ks_of}
+use Rattle.eap_base.specs.Users.{user_of}
+use Rattle.gpsk_messages.specs.Message.{Message, mac_of, spelled}
+use Rattle.gpsk_messages.proofs.Grammar.{spellings_are_sized}
+use Rattle.login_keys.proofs.Blocks.{ks-le}
+use Rattle.login_keys.proofs.Laws.{length_gpsk_tag_of}
+use Rattle.login_policy.specs.Policy.{picked_suite}
+use Rattle.eap_method.specs.GpskPeer as gpsk_peer
+use Rattle.eap_method.specs.GpskServer as gpsk_server
+use Rattle.eap_method.specs.GpskTags.{gpsk_request, gpsk_response, sk_record, suite_list}
+use Rattle.eap_method.specs.Peer.{PeerViews, gpsk_turn, credential_for, key_for, peer_turn, views_begun}
+use Rattle.eap_method.specs.Server as servers
+use Rattle.eap_method.specs.Server.{ServerViews, gpsk_hears, server_turn, side_of}
+use Rattle.eap_method.specs.Turns.{PeerOutcome, ServerOutcome, requested, done}
+use Rattle.eap_method.specs.declared.values.Decision.TheVariants.{CondSucc}
+use Rattle.method_laws.specs.GpskLogin.{Ends, Fit, GoesThrough, peer_login, server_login}
+use Rattle.method_laws.proofs.GpskWhole.{gpsk_logins_go_through}
+use Rattle.smooth_laws.proofs.Offers.{IsShort, length_suite_list, gpsk_fits, gpsk_offered}
+use Rattle.smooth_laws.proofs.ServerSide.{Made, after_id}
+use Rattle.smooth_laws.proofs.Talk.{Talks}
+
+-- both ends have a key in common, accept each other, and there is a suite for both
+pub record Shares (peer : PeerSetup) (server : ServerSetup) (user : User) (suite : Suite) : Type 0 where
+  pub allowed : is_among peer.methods gpsk_kind ≡ true
+  pub known : user_of server.users peer.name gpsk_kind ≡ Some user
+  pub not_barred : user.barred ≡ false
+  pub one_key : user.psk ≡ key_for peer gpsk_kind
+  pub accepted : accepts_name peer.accepts server.name ≡ true
+  pub picked : picked_suite peer.suites (suite_list server.suites) ≡ Some suite
+  pub peer_name : length peer.name ≤ 253
+  pub peer_nonce : length peer.nonce ≡ 32
+  pub short : IsShort server
+  pub some_suites : 1 ≤ length server.suites
+
+abbrev ends_of : PeerSetup → ServerSetup → User → Suite → Ends
+ends_of peer server user suite = record {
+  cred = credential_for peer gpsk_kind;
+  nonce = peer.nonce;
+  own = side_of server;
+  own_nonce = server.nonce;
+  users = server.users;
+  user = user;
+  suite = suite;
+}
+
+fits : (peer : PeerSetup) (server : ServerSetup) (user : User) (suite : Suite) → Shares peer server user suite → Fit (ends_of peer server user suite)
+unfolding credential_for side_of
+fits peer server user suite shares = let few = shares.short.suites in let some = shares.some_suites in record {
+  accepted = shares.accepted;
+  picked = shares.picked;
+  known = shares.known;
+  not_barred = shares.not_barred;
+  one_key = shares.one_key;
+  peer_name = shares.peer_name;
+  server_name = shares.short.name;
+  peer_nonce = shares.peer_nonce;
+  server_nonce = shares.short.nonce;
+  some_suites = omega arith;
+  few_suites = omega arith;
+}
+
+own_suites : (peer : PeerSetup) (server : ServerSetup) (user : User) (suite : Suite) → Shares peer server user suite → length (ends_of peer server user suite).own.suites ≤ 2
+unfolding side_of
+own_suites peer server user suite shares = shares.short.suites
+
+-- ---- the sizes of the messages
+
+module _ (ends : Ends) (fit : Fit ends) where
+  answers_fit : length ends.own.suites ≤ 2 → length (spelled (gpsk_peer.gpsk2_of (peer_login ends) (suite_list ends.own.suites))) ≤ 1495
+  answers_fit few =
+      let size = spellings_are_sized (gpsk_peer.gpsk2_of (peer_login ends) (suite_list ends.own.suites)) in
+      let mac : length (mac_of (gpsk_peer.gpsk2_of (peer_login ends) (suite_list ends.own.suites))) ≡ ks_of ends.suite = length_gpsk_tag_of _ _ _ in
+      let list = length_suite_list ends.own.suites in
+      let ks = ks-le ends.suite in
+      let peer_name = fit.peer_name in
+      let server_name = fit.server_name in
+      let peer_nonce = fit.peer_nonce in
+      let server_nonce = fit.server_nonce in
+      omega arith
+
+  checks_fit : length (spelled (gpsk_server.gpsk3_of (server_login ends))) ≤ 1495
+  checks_fit =
+      let size = spellings_are_sized (gpsk_server.gpsk3_of (server_login ends)) in
+      let mac : length (mac_of (gpsk_server.gpsk3_of (server_login ends))) ≡ ks_of ends.suite = length_gpsk_tag_of _ _ _ in
+      let ks = ks-le ends.suite in
+      let server_name = fit.server_name in
+      let peer_nonce = fit.peer_nonce in
+      let server_nonce = fit.server_nonce in
+      omega arith
+
+  confirms_fit : length (spelled (gpsk_peer.gpsk4_of (peer_login ends))) ≤ 1495
+  confirms_fit =
+      let size = spellings_are_sized (gpsk_peer.gpsk4_of (peer_login ends)) in
+      let mac : length (mac_of (gpsk_peer.gpsk4_of (peer_login ends))) ≡ ks_of ends.suite = length_gpsk_tag_of _ _ _ in
+      let ks = ks-le ends.suite in
+      omega arith
+
+-- ---- the turns at both machines
+
+module _ (peer : PeerSetup) (made : Made) (user : User) (suite : Suite) (shares : Shares peer made.setup user suite) (id : ℕ) where
+  goes : GoesThrough (ends_of peer made.setup user suite) id (after_id id) (after_id (after_id id))
+  goes = gpsk_logins_go_through (ends_of peer made.setup user suite) id (after_id id) (after_id (after_id id)) (fits peer made.setup user suite shares)
+
+  -- the peer's view of the method that it allows is fresh
+  answered : (out : PeerOutcome gpsk_peer.View)
+      → gpsk_peer.step (gpsk_peer.fresh (credential_for peer gpsk_kind) peer.nonce) (gpsk_request id (gpsk_server.gpsk1_of (side_of made.setup) made.setup.nonce)) ≡ out
+      → peer_turn gpsk_kind (views_begun peer) (gpsk_request id (gpsk_server.gpsk1_of (side_of made.setup) made.setup.nonce)) ≡ gpsk_turn (views_begun peer) out
+  unfolding peer_turn views_begun
+  answered out is =
+      ap (λ (view : gpsk_peer.View). gpsk_turn (views_begun peer) (gpsk_peer.step view (gpsk_request id (gpsk_server.gpsk1_of (side_of made.setup) made.setup.nonce))))
+      (cond-true (is_among peer.methods gpsk_kind) _ _ shares.allowed)
+      ∙ ap (λ (found : PeerOutcome gpsk_peer.View). gpsk_turn (views_begun peer) found) is
+
+  confirmed : (views : PeerViews) (view : gpsk_peer.View) (octets : List ℕ) (out : PeerOutcome gpsk_peer.View) → views.gpsk ≡ view → gpsk_peer.step view octets ≡ out
+      → peer_turn gpsk_kind views octets ≡ gpsk_turn views out
+  unfolding peer_turn
+  confirmed views view octets out at is =
+      ap (λ (found : gpsk_peer.View). gpsk_turn views (gpsk_peer.step found octets)) at ∙ ap (λ (found : PeerOutcome gpsk_peer.View). gpsk_turn views found) is
+
+  heard : (next : ℕ) (views : ServerViews) (view : gpsk_server.View) (octets : List ℕ) (out : ServerOutcome gpsk_server.View) → views.gpsk ≡ Some view
+      → gpsk_server.step made.setup.users next view octets ≡ out
+      → server_turn made.setup.users next gpsk_kind views octets ≡ servers.gpsk_turn views out
+  unfolding server_turn
+  heard next views view octets out at is =
+      ap (λ (found : Option gpsk_server.View). gpsk_hears made.setup.users next views octets found) at
+      ∙ ap (λ (found : ServerOutcome gpsk_server.View). servers.gpsk_turn views found) is
+
+  -- what the server makes and accepts is under the peer's key
+  pub gpsk_talks : (begun : ServerViews) (view : gpsk_server.View) → begun.gpsk ≡ Some view → Talks peer made gpsk_kind id begun
+  gpsk_talks begun view is =
+      let e : Ends = ends_of peer made.setup user suite in
+      let fit : Fit e = fits peer made.setup user suite shares in
+      let psk : List ℕ = (credential_for peer gpsk_kind).psk in
+      let gpsk2 : Message = gpsk_peer.gpsk2_of (peer_login e) (suite_list e.own.suites) in
+      let gpsk3 : Message = gpsk_server.gpsk3_of (server_login e) in
+      let gpsk4 : Message = gpsk_peer.gpsk4_of (peer_login e) in
+      let waits : PeerViews = record (views_begun peer) { gpsk = gpsk_peer.wait (peer_login e) } in
+      let asked : ServerViews = record begun { gpsk = Some (gpsk_server.asked (side_of made.setup) made.setup.nonce) } in
+      let checked : ServerViews = record begun { gpsk = Some (gpsk_server.checked (server_login e)) } in
+      record {
+        is_method = record { not_identity = refl; not_notification = refl; not_nak = refl };
+        asks = spelled (gpsk_server.gpsk1_of (side_of made.setup) made.setup.nonce);
+        answers = spelled gpsk2;
+        checks = spelled gpsk3;
+        confirms = spelled gpsk4;
+        asks_fits = gpsk_fits made shares.short id begun;
+        answers_fits = answers_fit e fit (own_suites peer made.setup user suite shares);
+        checks_fits = checks_fit e fit;
+        confirms_fits = confirms_fit e fit;
+        waiting = waits;
+        over = record (views_begun peer) { gpsk = gpsk_peer.over (peer_login e) true };
+        asked = asked;
+        checked = checked;
+        finished = record begun { gpsk = Some (gpsk_server.over (server_login e) true) };
+        decided = CondSucc;
+        sure = refl;
+        answer_tags = sk_record psk gpsk2 ∷ [];
+        check_tags = sk_record psk gpsk3 ∷ [];
+        confirm_tags = sk_record psk gpsk4 ∷ [];
+        offered = gpsk_offered made shares.short id begun view is;
+        answered = answered _ goes.answers;
+        was_checked = heard (after_id id) asked (gpsk_server.asked (side_of made.setup) made.setup.nonce) (gpsk_response id gpsk2) _ refl
+            (goes.checks ∙ ap (λ (key : List ℕ). requested (gpsk_server.checked (server_login e)) (gpsk_request (after_id id) gpsk3) (sk_record key gpsk2 ∷ []) (sk_record key gpsk3 ∷ [])) fit.one_key);
+        confirmed = confirmed waits (gpsk_peer.wait (peer_login e)) (gpsk_request (after_id id) gpsk3) _ refl goes.confirms;
+        was_finished = heard (after_id (after_id id)) checked (gpsk_server.checked (server_login e)) (gpsk_response (after_id id) gpsk4) _ refl
+            (goes.finishes ∙ ap (λ (key : List ℕ). done (gpsk_server.over (server_login e) true) true (sk_record key gpsk4 ∷ [])) fit.one_key);
+      }

@@ -1,0 +1,181 @@
+-- A smooth login succeeds within its bound.
+use Rattle.std.proofs.Common.{◌≡◌, ℕ, zero, suc, ◌+◌, ◌≤◌, List, [], ◌∷◌, length, take, Bool, true, false, None, Some, refl, sym, ap, subst, ◌∙◌, arith}
+use Rattle.std.specs.Prelude.{◌==◌, ◌||◌, find}
+use Rattle.std.specs.List.{list_any, list_all}
+use Rattle.std.proofs.lemmas.Bool.{and_parts, or_left, eq-eqb}
+use Rattle.std.proofs.lemmas.Option.{none-some}
+use Rattle.eap_base.specs.declared.event.Event.{Event}
+use Rattle.eap_base.specs.declared.event.Event.TheVariants.{Deliver}
+use Rattle.eap_base.specs.declared.setup.Mode.{Mode}
+use Rattle.eap_base.specs.declared.setup.Mode.TheVariants as mode
+use Rattle.eap_base.specs.declared.setup.Setup.{Setup}
+use Rattle.eap_base.specs.declared.users.User.{User}
+use Rattle.eap_base.specs.Setup.{gpsk_kind, is_among, is_kind, is_filled, are_distinct, accepts_name}
+use Rattle.eap_base.specs.Users.{user_of}
+use Rattle.login_policy.specs.Policy.{next_kind, nak_of}
+use Rattle.eap_method.specs.Peer.{key_for}
+use Rattle.eap_method.specs.Server.{ServerViews, views_begun}
+use Rattle.eap_world.specs.Agreement.{IsWhole, run_of}
+use Rattle.eap_world.specs.Book.{verdict_on, tags_verdict}
+use Rattle.eap_world.specs.declared.book.TagsVerdict.TheVariants.{Honest}
+use Rattle.eap_world.specs.World.{WorldNow, run_after}
+use Rattle.eap_world.proofs.HonestOfEither.{honest_of_either}
+use Rattle.eap_world.proofs.HonestRuns.{honest_ends_agree}
+use Rattle.smooth_laws.specs.Smooth.{EndsFit, HasShortNames, IsLoggedIn, SmoothLoginsSucceed, bound, bound_in, deliveries, takes_first}
+use Rattle.smooth_laws.proofs.Choosing.{few_kinds, few_suites, some_suites, found_passes, found_among, found_as_all, first_is_next, allowed_is_common, common_is_next, some_picked}
+use Rattle.smooth_laws.proofs.Exchange.{exchanged, number_after}
+use Rattle.smooth_laws.proofs.GpskTalk.{gpsk_talks}
+use Rattle.smooth_laws.proofs.Offers.{Has, IsShort, has_each, offers_of, psk, gpsk}
+use Rattle.smooth_laws.proofs.Opening.{in_mode, made_in, number_opened, opened, opens, proposes_next, started}
+use Rattle.smooth_laws.proofs.PskTalk.{psk_talks}
+use Rattle.smooth_laws.proofs.ServerSide.{after_id}
+use Rattle.smooth_laws.proofs.Talk.{BothIn, Talks, ids_differ, talked, talks_through}
+
+-- the deliveries of a login without a Nak, and of one after it
+run_alike : (runs : Mode) (setup : Setup) → run_of (in_mode runs setup) (deliveries 1 (bound_in runs true)) ≡ talked runs (opened runs (started runs setup)) (number_opened runs)
+unfolding run_after deliveries
+run_alike mode.Alone setup = refl
+run_alike mode.Through setup = refl
+
+run_after_nak : (runs : Mode) (setup : Setup) → (let n = number_opened runs in let w = opened runs (started runs setup) in
+    run_of (in_mode runs setup) (deliveries 1 (bound_in runs false))
+    ≡ talked runs (exchanged runs (exchanged runs w n) (number_after runs n)) (number_after runs (number_after runs n)))
+unfolding run_after deliveries
+run_after_nak mode.Alone setup = refl
+run_after_nak mode.Through setup = refl
+
+-- the first deliveries of more
+take_deliveries : (first count more : ℕ) → count ≤ more → take count (deliveries first more) ≡ deliveries first count
+unfolding deliveries
+take_deliveries first zero more few = refl
+take_deliveries first (suc count) zero few = absurd (omega arith)
+take_deliveries first (suc count) (suc more) few = ap (λ (rest : List Event). Deliver first ∷ rest) (take_deliveries (first + 1) count more (omega arith))
+
+module _ (setup : Setup) (whole : IsWhole setup) (names : HasShortNames setup) where
+  short : IsShort setup.server
+  short = record { name = names.server; nonce = whole.server_nonce; suites = few_suites setup.server.suites whole.server.suites }
+
+  known_suites : list_all (λ suite. (suite == 1) || (suite == 2)) setup.server.suites ≡ true
+  known_suites = (and_parts (list_all (λ suite. (suite == 1) || (suite == 2)) setup.server.suites) (are_distinct setup.server.suites)
+      (and_parts (is_filled setup.server.suites) _ whole.server.suites).1).0
+
+  -- the method's turns, where both ends fit by it
+  talks_of : (runs : Mode) (kind id : ℕ) (user : User) → is_among setup.peer.methods kind ≡ true
+      → user_of setup.server.users setup.peer.name kind ≡ Some user → user.barred ≡ false → user.psk ≡ key_for setup.peer kind
+      → accepts_name setup.peer.accepts setup.server.name ≡ true → (kind ≡ gpsk_kind → list_any (is_among setup.peer.suites) setup.server.suites ≡ true)
+      → (begun : ServerViews) → Has begun kind → Talks setup.peer (made_in runs setup) kind id begun
+  talks_of runs kind id user allowed known not_barred one_key accepted suite begun (psk view is) =
+      psk_talks setup.peer (made_in runs setup) user
+      (record {
+        allowed = allowed;
+        known = known;
+        not_barred = not_barred;
+        one_key = one_key;
+        accepted = accepted;
+        peer_name = names.peer;
+        peer_nonce = whole.peer_nonce;
+        short = short;
+      })
+      id begun view is
+  talks_of runs kind id user allowed known not_barred one_key accepted suite begun (gpsk view is) =
+      let picks = some_picked setup.peer.suites setup.server.suites known_suites (suite refl) in
+      gpsk_talks setup.peer (made_in runs setup) user picks.suite
+      (record {
+        allowed = allowed;
+        known = known;
+        not_barred = not_barred;
+        one_key = one_key;
+        accepted = accepted;
+        picked = picks.is;
+        peer_name = names.peer;
+        peer_nonce = whole.peer_nonce;
+        short = short;
+        some_suites = some_suites setup.server.suites whole.server.suites;
+      })
+      id begun view is
+
+  module _ (fit : EndsFit setup) where
+    allowed : is_among setup.peer.methods fit.kind ≡ true
+    allowed = found_passes (is_among setup.peer.methods) setup.server.methods fit.kind fit.common
+
+    kinds : list_all is_kind setup.server.methods ≡ true
+    kinds = (and_parts (list_all is_kind setup.server.methods) (are_distinct setup.server.methods) whole.server.methods).0
+
+    talks : (runs : Mode) (id : ℕ) (begun : ServerViews) → Has begun fit.kind → Talks setup.peer (made_in runs setup) fit.kind id begun
+    talks runs id begun has = talks_of runs fit.kind id fit.user allowed fit.known fit.not_barred fit.one_key fit.accepted fit.suite begun has
+
+    begins : Has (views_begun setup.server) fit.kind
+    begins = has_each setup.server fit.kind (found_as_all (is_among setup.peer.methods) is_kind setup.server.methods fit.kind fit.common kinds)
+        (found_among (is_among setup.peer.methods) setup.server.methods fit.kind fit.common)
+
+    -- the method that the server proposes first
+    first_chosen : (first : ℕ) (rest : List ℕ) → setup.server.methods ≡ first ∷ rest → next_kind setup.server.methods [] None ≡ Some first
+    first_chosen first rest order = ap (λ (methods : List ℕ). next_kind methods [] None) order ∙ first_is_next first rest
+
+    common_in : (first : ℕ) (rest : List ℕ) → setup.server.methods ≡ first ∷ rest → find (is_among setup.peer.methods) (first ∷ rest) ≡ Some fit.kind
+    common_in first rest order = ap (λ (methods : List ℕ). find (is_among setup.peer.methods) methods) (sym order) ∙ fit.common
+
+    -- the peer takes it
+    logs_in_alike : (runs : Mode) (first : ℕ) (rest : List ℕ) → setup.server.methods ≡ first ∷ rest → is_among setup.peer.methods first ≡ true
+        → BothIn (talked runs (opened runs (started runs setup)) (number_opened runs))
+    logs_in_alike runs first rest order takes =
+        let id : ℕ = after_id setup.first_id in
+        let talk = talks runs id (views_begun setup.server) begins in
+        let same = allowed_is_common setup.peer.methods first fit.kind rest takes (common_in first rest order) in
+        talks_through setup.peer (made_in runs setup) fit.kind id (views_begun setup.server) talk runs (opened runs (started runs setup)) (number_opened runs)
+        setup.first_id _ _ (fit.kind ∷ []) (ids_differ setup.first_id) allowed
+        (opens setup runs fit.kind talk.asks talk.asked names.peer talk.is_method talk.asks_fits
+        (first_chosen first rest order ∙ ap (λ (kind : ℕ). Some kind) same) talk.offered)
+
+    -- the peer refuses it
+    logs_in_after_nak : (runs : Mode) (first : ℕ) (rest : List ℕ) → setup.server.methods ≡ first ∷ rest → is_among setup.peer.methods first ≡ false
+        → (let n = number_opened runs in let w = opened runs (started runs setup) in
+        BothIn (talked runs (exchanged runs (exchanged runs w n) (number_after runs n)) (number_after runs (number_after runs n))))
+    logs_in_after_nak runs first rest order refuses =
+        let n : ℕ = number_opened runs in
+        let w : WorldNow = opened runs (started runs setup) in
+        let id : ℕ = after_id setup.first_id in
+        let is_first = and_parts (is_kind first) (list_all is_kind rest) (ap (list_all is_kind) (sym order) ∙ kinds) in
+        let offer = offers_of (made_in runs setup) short first id (views_begun setup.server)
+        (has_each setup.server first is_first.0 (ap (λ (methods : List ℕ). is_among methods first) order ∙ or_left (first == first) (is_among rest first) (eq-eqb first first refl))) in
+        let talk = talks runs (after_id id) offer.asked (offer.keeps fit.kind begins) in
+        let next = ap (λ (methods : List ℕ). next_kind methods (first ∷ []) (Some (nak_of setup.peer.methods))) order
+        ∙ common_is_next setup.peer.methods first fit.kind rest refuses (common_in first rest order) in
+        talks_through setup.peer (made_in runs setup) fit.kind (after_id id) offer.asked talk runs
+        (exchanged runs (exchanged runs w n) (number_after runs n)) (number_after runs (number_after runs n))
+        id _ _ (first ∷ fit.kind ∷ []) (ids_differ id) allowed
+        (proposes_next setup.peer (made_in runs setup) runs w n id first fit.kind setup.first_id offer.asks _ _ talk.asks offer.asked talk.asked
+        offer.is_method talk.is_method offer.fits talk.asks_fits (few_kinds setup.peer.methods whole.peer.methods) (ids_differ setup.first_id) refuses next talk.offered
+        (opens setup runs first offer.asks offer.asked names.peer offer.is_method offer.fits (first_chosen first rest order) offer.offered))
+
+    logs_in_by : (runs : Mode) (first : ℕ) (rest : List ℕ) → setup.server.methods ≡ first ∷ rest → (takes : Bool) → is_among setup.peer.methods first ≡ takes
+        → BothIn (run_of (in_mode runs setup) (deliveries 1 (bound_in runs takes)))
+    logs_in_by runs first rest order true takes = subst BothIn (sym (run_alike runs setup)) (logs_in_alike runs first rest order takes)
+    logs_in_by runs first rest order false refuses = subst BothIn (sym (run_after_nak runs setup)) (logs_in_after_nak runs first rest order refuses)
+
+    logs_in_at : (runs : Mode) (order : List ℕ) → setup.server.methods ≡ order
+        → BothIn (run_of (in_mode runs setup) (deliveries 1 (bound_in runs (takes_first setup.peer.methods order))))
+    logs_in_at runs [] none = absurd (none-some fit.kind (ap (λ (methods : List ℕ). find (is_among setup.peer.methods) methods) (sym none) ∙ fit.common))
+    logs_in_at runs (first ∷ rest) order = logs_in_by runs first rest order (is_among setup.peer.methods first) refl
+
+    logs_in : BothIn (run_of setup (deliveries 1 (bound setup)))
+    logs_in = logs_in_at setup.mode setup.server.methods refl
+
+-- both ends in SUCCESS over an honest book agree
+is_logged_in : (setup : Setup) (events : List Event) → IsWhole setup → BothIn (run_of setup events) → IsLoggedIn (run_of setup events)
+is_logged_in setup events whole both =
+    let honest : tags_verdict (run_of setup events).book ≡ Honest = ap verdict_on both.honest in
+    record {
+      peer = both.peer;
+      server = both.server;
+      none_discarded = both.none_discarded;
+      honest = honest;
+      agree = (honest_ends_agree setup events whole).agrees (honest_of_either (run_of setup events).book honest) both.peer both.server;
+    }
+
+pub smooth_logins_succeed : SmoothLoginsSucceed
+smooth_logins_succeed setup events whole names fit order enough =
+    let first : take (bound setup) events ≡ deliveries 1 (bound setup) =
+    ap (λ (all : List Event). take (bound setup) all) order ∙ take_deliveries 1 (bound setup) (length events) enough in
+    subst (λ (some : List Event). IsLoggedIn (run_of setup some)) (sym first)
+    (is_logged_in setup (deliveries 1 (bound setup)) whole (logs_in setup whole names fit))

@@ -1,0 +1,156 @@
+-- A method's four messages, from its first Request to the Success.
+use Rattle.std.proofs.Common.{◌≡◌, ℕ, ◌≤◌, List, [], length, true, false, None, Some, refl, ap, ◌∙◌, arith}
+use Rattle.std.specs.Prelude.{◌==◌, Ok}
+use Rattle.std.proofs.lemmas.Bool.{ne_eqb, eqb-false}
+use Rattle.eap_base.specs.declared.setup.Mode.{Mode}
+use Rattle.eap_base.specs.declared.setup.PeerSetup.{PeerSetup}
+use Rattle.eap_base.specs.Setup.{is_among}
+use Rattle.eap_packet.specs.Packet.{request, response, success, spelled}
+use Rattle.eap_packet.specs.Fault.{packet_of}
+use Rattle.eap_method.specs.Peer.{PeerViews, peer_turn, views_begun}
+use Rattle.eap_method.specs.PeerTurn.{Reply}
+use Rattle.eap_method.specs.Server.{ServerViews, server_turn}
+use Rattle.eap_method.specs.ServerTurn.{Request, Done}
+use Rattle.eap_method.specs.declared.tags.TagRecord.{TagRecord}
+use Rattle.eap_method.specs.declared.tags.Tags.{Tags}
+use Rattle.eap_method.specs.declared.values.Decision.{Decision}
+use Rattle.eap_method.specs.declared.values.Decision.TheVariants as decision
+use Rattle.eap_method.specs.declared.values.MethodState.TheVariants as method
+use Rattle.peer_machine.specs.PeerTable.{PeerNow, is_fail}
+use Rattle.server_machine.specs.ServerTable.{ServerNow}
+use Rattle.server_machine.specs.declared.variables.Progress.TheVariants as progress
+use Rattle.eap_world.specs.Book.{first_broken}
+use Rattle.eap_world.specs.declared.book.Makers.TheVariants.{Other}
+use Rattle.eap_world.specs.Judgement.{is_success}
+use Rattle.eap_world.specs.World.{WorldNow, Parties}
+use Rattle.smooth_laws.proofs.Exchange.{ToPeer, ToServer, EndsAtPeer, exchanged, number_after, peer_turns, server_turns, server_ends}
+use Rattle.smooth_laws.proofs.Moves.{IsOver, delivered, peer_ends}
+use Rattle.smooth_laws.proofs.Packets.{request_read, response_read, success_read}
+use Rattle.smooth_laws.proofs.PeerSide as peers
+use Rattle.smooth_laws.proofs.PeerSide.{peer_at, peer_unbound}
+use Rattle.smooth_laws.proofs.ServerSide as servers
+use Rattle.smooth_laws.proofs.ServerSide.{Made, IsOffer, after_id, server_at, server_done}
+
+-- a Type that is no Identity, no Notification and no Nak
+pub record IsMethod (kind : ℕ) : Type 0 where
+  pub not_identity : (kind == 1) ≡ false
+  pub not_notification : (kind == 2) ≡ false
+  pub not_nak : (kind == 3) ≡ false
+
+abbrev pub tags_of : List TagRecord → List TagRecord → Tags
+tags_of accepted made = record { accepted = accepted; made = made }
+
+-- the method's turns at both ends, where its first Request has this Identifier: the Type-Data of its four messages,
+-- what each end keeps, and the tags that each message brings
+pub record Talks (peer : PeerSetup) (made : Made) (kind id : ℕ) (begun : ServerViews) : Type 0 where
+  pub is_method : IsMethod kind
+  pub asks : List ℕ
+  pub answers : List ℕ
+  pub checks : List ℕ
+  pub confirms : List ℕ
+  pub asks_fits : length asks ≤ 1495
+  pub answers_fits : length answers ≤ 1495
+  pub checks_fits : length checks ≤ 1495
+  pub confirms_fits : length confirms ≤ 1495
+  pub waiting : PeerViews
+  pub over : PeerViews
+  pub asked : ServerViews
+  pub checked : ServerViews
+  pub finished : ServerViews
+  pub decided : Decision
+  pub sure : is_fail decided ≡ false
+  pub answer_tags : List TagRecord
+  pub check_tags : List TagRecord
+  pub confirm_tags : List TagRecord
+  pub offered : IsOffer made kind id begun (spelled (request id kind asks)) asked
+  pub answered : peer_turn kind (views_begun peer) (spelled (request id kind asks))
+      ≡ record { turn = Reply (spelled (response id kind answers)) method.Cont decision.Fail (tags_of [] answer_tags); after = waiting }
+  pub was_checked : server_turn made.setup.users (after_id id) kind asked (spelled (response id kind answers))
+      ≡ record { turn = Request (spelled (request (after_id id) kind checks)) (tags_of answer_tags check_tags); after = checked }
+  pub confirmed : peer_turn kind waiting (spelled (request (after_id id) kind checks))
+      ≡ record { turn = Reply (spelled (response (after_id id) kind confirms)) method.Done decided (tags_of check_tags confirm_tags); after = over }
+  pub was_finished : server_turn made.setup.users (after_id (after_id id)) kind checked (spelled (response (after_id id) kind confirms))
+      ≡ record { turn = Done true (tags_of confirm_tags []); after = finished }
+
+-- each Identifier differs from the one before
+pub ids_differ : (id : ℕ) → (id == after_id id) ≡ false
+ids_differ id = ne_eqb id (after_id id) (λ e. omega arith)
+
+pub asks_read : (id kind : ℕ) (body : List ℕ) → IsMethod kind → length body ≤ 1495 → packet_of (spelled (request id kind body)) ≡ Ok (request id kind body)
+asks_read id kind body is fits = request_read id kind body fits (eqb-false kind 3 is.not_nak)
+
+pub answers_read : (id kind : ℕ) (body : List ℕ) → IsMethod kind → length body ≤ 1495 → packet_of (spelled (response id kind body)) ≡ Ok (response id kind body)
+answers_read id kind body is fits = response_read id kind body fits (λ e. absurd (eqb-false kind 3 is.not_nak e))
+
+-- the world after the four messages and the Success
+abbrev pub talked : Mode → WorldNow → ℕ → WorldNow
+talked runs w number =
+    let second = number_after runs number in
+    let third = number_after runs second in
+    let fourth = number_after runs third in
+    delivered (exchanged runs (exchanged runs (exchanged runs (exchanged runs w number) second) third) fourth) (number_after runs fourth)
+
+-- both ends have succeeded, nothing was discarded, and the book is honest
+pub record BothIn (w : WorldNow) : Type 0 where
+  pub peer : is_success w.parties.peer.vars.state ≡ true
+  pub server : is_success w.parties.server.vars.state ≡ true
+  pub none_discarded : w.counts.discards ≡ 0
+  pub honest : first_broken Other [] w.book ≡ None
+
+both_in : (w : WorldNow) (parties : Parties) → IsOver w parties → is_success parties.peer.vars.state ≡ true → is_success parties.server.vars.state ≡ true → BothIn w
+both_in w parties is peer_in server_in = record {
+  peer = ap (λ (all : Parties). is_success all.peer.vars.state) is.stands ∙ peer_in;
+  server = ap (λ (all : Parties). is_success all.server.vars.state) is.stands ∙ server_in;
+  none_discarded = is.none_discarded;
+  honest = is.honest;
+}
+
+-- where the method's first Request comes to a peer that allows the method, both ends come to succeed
+pub talks_through : (peer : PeerSetup) (made : Made) (kind id : ℕ) (begun : ServerViews) (talk : Talks peer made kind id begun)
+    (runs : Mode) (w : WorldNow) (number last : ℕ) (said was : List ℕ) (proposed : List ℕ)
+    → (last == id) ≡ false → is_among peer.methods kind ≡ true
+    → ToPeer w runs number id (peer_unbound peer last said) (server_at made id kind progress.Proposed was proposed talk.asked) (spelled (request id kind talk.asks)) []
+    → BothIn (talked runs w number)
+talks_through peer made kind id begun talk runs w number last said was proposed new allowed to =
+    let next : ℕ = after_id id in
+    let n_2 : ℕ = number_after runs number in
+    let n_3 : ℕ = number_after runs n_2 in
+    let n_4 : ℕ = number_after runs n_3 in
+    let n_5 : ℕ = number_after runs n_4 in
+    let w_2 : WorldNow = exchanged runs w number in
+    let w_3 : WorldNow = exchanged runs w_2 n_2 in
+    let w_4 : WorldNow = exchanged runs w_3 n_3 in
+    let w_5 : WorldNow = exchanged runs w_4 n_4 in
+    let m : IsMethod kind = talk.is_method in
+    let second : List ℕ = spelled (response id kind talk.answers) in
+    let third : List ℕ = spelled (request next kind talk.checks) in
+    let fourth : List ℕ = spelled (response next kind talk.confirms) in
+    let p_1 : PeerNow = peer_unbound peer last said in
+    let p_2 : PeerNow = peer_at peer (Some kind) method.Cont decision.Fail id second talk.waiting in
+    let p_3 : PeerNow = peer_at peer (Some kind) method.Done talk.decided next fourth talk.over in
+    let s_1 : ServerNow = server_at made id kind progress.Proposed was proposed talk.asked in
+    let s_2 : ServerNow = server_at made next kind progress.Continue third proposed talk.checked in
+    let s_3 : ServerNow = server_done made next kind third proposed talk.finished in
+    let answered : ToServer w_2 runs n_2 p_2 s_1 second talk.answer_tags =
+    peer_turns runs w number id kind p_1 s_1 (spelled (request id kind talk.asks)) [] to _ talk.answers talk.answer_tags p_2
+    (answers_read id kind talk.answers m talk.answers_fits)
+    (peers.begins peer (spelled (request id kind talk.asks)) id kind talk.asks last said second method.Cont decision.Fail _ talk.waiting
+    (asks_read id kind talk.asks m talk.asks_fits) new m.not_identity m.not_notification allowed talk.answered refl) in
+    let checked : ToPeer w_3 runs n_3 next p_2 s_2 third talk.check_tags =
+    server_turns runs w_2 n_2 next kind p_2 s_1 second talk.answer_tags answered _ talk.checks talk.check_tags s_2
+    (asks_read next kind talk.checks m talk.checks_fits)
+    (servers.goes_on made second id kind talk.answers was progress.Proposed proposed talk.asked talk.checked third _
+    (answers_read id kind talk.answers m talk.answers_fits) m.not_nak m.not_identity talk.was_checked) in
+    let confirmed : ToServer w_4 runs n_4 p_3 s_2 fourth talk.confirm_tags =
+    peer_turns runs w_3 n_3 next kind p_2 s_2 third talk.check_tags checked _ talk.confirms talk.confirm_tags p_3
+    (answers_read next kind talk.confirms m talk.confirms_fits)
+    (peers.goes_on peer third next kind talk.checks id second method.Cont decision.Fail talk.waiting fourth method.Done talk.decided _ talk.over
+    (asks_read next kind talk.checks m talk.checks_fits) (ids_differ id) m.not_notification refl talk.confirmed talk.sure) in
+    let ended : EndsAtPeer w_5 runs n_5 p_3 s_3 (spelled (success next)) [] =
+    server_ends runs w_4 n_4 next p_3 s_2 fourth talk.confirm_tags confirmed _ [] s_3
+    (servers.finishes made fourth next kind talk.confirms third progress.Continue proposed talk.checked talk.finished _
+    (answers_read next kind talk.confirms m talk.confirms_fits) m.not_nak m.not_identity talk.was_finished) in
+    both_in _ _
+    (peer_ends w_5 runs n_5 p_3 s_3 ended.pass (spelled (success next)) [] ended.stage _ _
+    (peers.succeeds peer (spelled (success next)) next kind method.Done talk.decided fourth talk.over (success_read next) talk.sure))
+    refl refl

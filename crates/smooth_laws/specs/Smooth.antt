@@ -1,0 +1,83 @@
+-- Smooth logins: two ends that fit, and a network that delivers each packet once and in order. How many
+-- deliveries such a login takes (RFC 3748 section 2), and what holds after them.
+use Rattle.std.specs.Prelude.{◌≡◌, ℕ, zero, suc, ◌+◌, ◌≤◌, List, [], ◌∷◌, length, take, Bool, true, false, Option, Some, find}
+use Rattle.std.specs.List.{list_any}
+use Rattle.eap_base.specs.declared.event.Event.{Event}
+use Rattle.eap_base.specs.declared.event.Event.TheVariants.{Deliver}
+use Rattle.eap_base.specs.declared.setup.Mode.{Mode}
+use Rattle.eap_base.specs.declared.setup.Mode.TheVariants.{Alone, Through}
+use Rattle.eap_base.specs.declared.setup.PeerSetup.{PeerSetup}
+use Rattle.eap_base.specs.declared.setup.ServerSetup.{ServerSetup}
+use Rattle.eap_base.specs.declared.setup.Setup.{Setup}
+use Rattle.eap_base.specs.declared.users.User.{User}
+use Rattle.eap_base.specs.Setup.{gpsk_kind, is_among, accepts_name}
+use Rattle.eap_base.specs.Users.{user_of}
+use Rattle.eap_method.specs.Peer.{key_for}
+use Rattle.eap_world.specs.Agreement.{IsWhole, run_of}
+use Rattle.eap_world.specs.Book.{tags_verdict}
+use Rattle.eap_world.specs.declared.book.TagsVerdict.TheVariants.{Honest}
+use Rattle.eap_world.specs.declared.verdict.Verdict.TheVariants.{Agree}
+use Rattle.eap_world.specs.Judgement.{is_success, verdict_of}
+use Rattle.eap_world.specs.World.{WorldNow}
+
+-- the first method of the server's order that the peer allows
+abbrev pub common_kind : PeerSetup → ServerSetup → Option ℕ
+common_kind peer server = find (is_among peer.methods) server.methods
+
+-- the ends fit: there is a first common method; by it the server knows the peer, under the key that the peer
+-- has for it, and doesn't bar it; the peer accepts the server's name; and by EAP-GPSK it allows some suite that
+-- the server offers
+pub record EndsFit (setup : Setup) : Type 0 where
+  pub kind : ℕ
+  pub common : common_kind setup.peer setup.server ≡ Some kind
+  pub user : User
+  pub known : user_of setup.server.users setup.peer.name kind ≡ Some user
+  pub not_barred : user.barred ≡ false
+  pub one_key : user.psk ≡ key_for setup.peer kind
+  pub accepted : accepts_name setup.peer.accepts setup.server.name ≡ true
+  pub suite : kind ≡ gpsk_kind → list_any (is_among setup.peer.suites) setup.server.suites ≡ true
+
+-- names of at most 253 octets, as every setup's are
+pub record HasShortNames (setup : Setup) : Type 0 where
+  pub peer : length setup.peer.name ≤ 253
+  pub server : length setup.server.name ≤ 253
+
+-- so many packets are delivered one after the other, from this number on
+unfoldable pub deliveries : ℕ → ℕ → List Event
+deliveries first zero = []
+deliveries first (suc count) = Deliver first ∷ deliveries (first + 1) count
+
+-- packet 1, packet 2 and on are delivered, each once and in order
+abbrev pub AreInOrder : List Event → Type 0
+AreInOrder events = events ≡ deliveries 1 (length events)
+
+-- whether the peer allows the method that the server proposes first, so that it sends no Nak
+abbrev pub takes_first : List ℕ → List ℕ → Bool
+takes_first allowed [] = false
+takes_first allowed (kind ∷ order) = is_among allowed kind
+
+-- the deliveries that a login takes: without a Nak, or after one; the pass-through sends each packet but its
+-- own Request and those to the peer's end once more
+abbrev pub bound_in : Mode → Bool → ℕ
+bound_in Alone true = 7
+bound_in Alone false = 9
+bound_in Through true = 13
+bound_in Through false = 17
+
+abbrev pub bound : Setup → ℕ
+bound setup = bound_in setup.mode (takes_first setup.peer.methods setup.server.methods)
+
+-- both ends have succeeded: no delivery was discarded, each accepted tag was made earlier by the other end, and
+-- the ends agree
+pub record IsLoggedIn (w : WorldNow) : Type 0 where
+  pub peer : is_success w.parties.peer.vars.state ≡ true
+  pub server : is_success w.parties.server.vars.state ≡ true
+  pub none_discarded : w.counts.discards ≡ 0
+  pub honest : tags_verdict w.book ≡ Honest
+  pub agree : verdict_of w ≡ Agree
+
+-- a smooth login has succeeded after the first `bound` deliveries
+abbrev pub SmoothLoginsSucceed : Type 0
+SmoothLoginsSucceed =
+    (setup : Setup) (events : List Event) → IsWhole setup → HasShortNames setup → EndsFit setup → AreInOrder events →
+    bound setup ≤ length events → IsLoggedIn (run_of setup (take (bound setup) events))
