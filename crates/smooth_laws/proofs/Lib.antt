@@ -12,3 +12,4 @@ pub mod Offers
 pub mod GpskTalk
 pub mod PskTalk
 pub mod SmoothRuns
+mod Worked

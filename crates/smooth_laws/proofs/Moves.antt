@@ -1,9 +1,9 @@
 -- A delivery of the packet that was sent last: the world after it.
-use Rattle.std.proofs.Common.{◌≡◌, ℕ, ◌+◌, ◌-◌, List, [], ◌∷◌, ◌++◌, length, Bool, true, false, Option, None, Some, refl, sym, ap, subst, ◌∙◌, arith, append-nil}
+use Rattle.std.proofs.Common.{◌≡◌, ℕ, zero, suc, ◌+◌, ◌-◌, ◌<◌, List, [], ◌∷◌, ◌++◌, length, Bool, true, false, Option, None, Some, refl, sym, ap, subst, ◌∙◌, arith, append-nil}
 use Rattle.std.specs.Prelude.{◌==◌}
 use Rattle.std.proofs.lemmas.Bool.{cond-false, ne_eqb}
 use Rattle.std.proofs.lemmas.List.{length_push, get_or_push}
-use Rattle.std.proofs.lemmas.Option.{slice_get-get_or}
+use Rattle.std.proofs.lemmas.Option.{slice_get-get_or, slice_get_past}
 use Rattle.eap_base.specs.declared.event.Event.TheVariants.{Deliver}
 use Rattle.eap_base.specs.declared.setup.Mode.{Mode}
 use Rattle.eap_base.specs.declared.setup.Mode.TheVariants as mode
@@ -23,13 +23,15 @@ use Rattle.pass_through.specs.PassTable as passes
 use Rattle.pass_through.specs.PassTable.{PassAnswer, pass_from_peer, pass_from_backend}
 use Rattle.pass_through.specs.declared.variables.PassVariables.{PassVariables}
 use Rattle.eap_world.specs.Book.{first_broken}
+use Rattle.eap_world.specs.Judgement.{is_success}
 use Rattle.eap_world.specs.Sent.{Sent, packet_numbered}
-use Rattle.eap_world.specs.World.{WorldNow, Parties, Acted, Called, acted, act, call_at, call_with, called, called_unless, did_by, did_pass, first_skip, goes_to, is_absent, octets_of, packet_skips, world_step}
+use Rattle.eap_world.specs.World.{WorldNow, Parties, Acted, Called, acted, act, call_at, call_with, called, called_unless, did_by, did_pass, first_skip, goes_to, is_absent, octets_of, packet_skips, run_after, skipped, world_step}
 use Rattle.eap_world.specs.declared.book.End.{End}
 use Rattle.eap_world.specs.declared.book.End.TheVariants as end
 use Rattle.eap_world.specs.declared.book.Makers.TheVariants.{Other}
 use Rattle.eap_world.specs.declared.told.Skip.TheVariants.{NoParty, Unsent, Place}
 use Rattle.eap_world.proofs.Acting.{counted_acted}
+use Rattle.smooth_laws.specs.Smooth.{deliveries}
 use Rattle.smooth_laws.proofs.Vouching.{are_vouched, stays_honest}
 
 abbrev pub parties_at : Mode → PeerNow → ServerNow → PassVariables → Parties
@@ -50,9 +52,11 @@ pub record Stage (w : WorldNow) (runs : Mode) (number : ℕ) (peer : PeerNow) (s
   pub honest : first_broken Other [] w.book ≡ None
   pub vouched : are_vouched w.book accepts tags ≡ true
 
--- the parties stand so, nothing was discarded, and the book is honest
-pub record IsOver (w : WorldNow) (parties : Parties) : Type 0 where
-  pub stands : w.parties ≡ parties
+-- both ends have succeeded, so many packets were sent, nothing was discarded, and the book is honest
+pub record BothIn (w : WorldNow) (number : ℕ) : Type 0 where
+  pub peer : is_success w.parties.peer.vars.state ≡ true
+  pub server : is_success w.parties.server.vars.state ≡ true
+  pub count : length w.sent ≡ number
   pub none_discarded : w.counts.discards ≡ 0
   pub honest : first_broken Other [] w.book ≡ None
 
@@ -156,17 +160,21 @@ module _ (w : WorldNow) (runs : Mode) (number : ℕ) (p : PeerNow) (s : ServerNo
   pub peer_ends : (x : List ℕ) (accepted : List TagRecord) → Stage w runs number p s v (packet_to port.Peer x) end.Peer accepted
       → (path : List State) (after : PeerNow)
       → peer_deliver p x ≡ peers.answer (enters path no_tags) after
-      → IsOver (delivered w number) (parties_at runs after s v)
-  peer_ends x accepted stage path after takes =
+      → is_success after.vars.state ≡ true → is_success s.vars.state ≡ true
+      → BothIn (delivered w number) number
+  peer_ends x accepted stage path after takes peer_in server_in =
       let step : Step = enters path no_tags in
       let to : Parties = parties_at runs after s v in
       let out : Acted = acted (Called (did_by runs party.Peer true step)) to in
       let discards = stage.none_discarded in
-      subst (λ (now : WorldNow). IsOver now to)
+      let count = counts_up (packet_to port.Peer x) end.Peer accepted stage in
+      subst (λ (now : WorldNow). BothIn now number)
       (sym (handed (packet_to port.Peer x) end.Peer accepted stage (peer_there w.parties.mode) out
       (ap (λ (found : PeerAnswer). acted (Called (did_by runs party.Peer true found.step)) (parties_at runs found.after s v)) takes)))
       (record {
-        stands = refl;
+        peer = peer_in;
+        server = server_in;
+        count = rw (append-nil w.sent) (omega arith);
         none_discarded = omega arith;
         honest = rw (append-nil w.book) stage.honest;
       })
@@ -215,3 +223,30 @@ module _ (w : WorldNow) (number : ℕ) (p : PeerNow) (s : ServerNow) (v : PassVa
         honest = rw (append-nil w.book) stage.honest;
         vouched = rw (append-nil w.book) stage.vouched;
       })
+
+-- ---- further deliveries
+
+-- a packet that wasn't sent isn't delivered
+kept_unsent : (w : WorldNow) (number later : ℕ) → BothIn w number → number < later → BothIn (delivered w later) number
+unfolding act
+kept_unsent w number later both past =
+    let count = both.count in
+    let discards = both.none_discarded in
+    let none : packet_numbered w.sent later ≡ None =
+    cond-false (later == 0) _ _ (ne_eqb later 0 (λ e. omega arith)) ∙ slice_get_past w.sent (later - 1) (omega arith) in
+    subst (λ (now : WorldNow). BothIn now number)
+    (sym (after_is w later (skipped w.parties Unsent)
+    (ap (λ (found : Option Sent). called_unless w.parties (first_skip (packet_skips w.parties.mode found false)) (call_with found (octets_of found))) none)))
+    (record {
+      peer = both.peer;
+      server = both.server;
+      count = rw (append-nil w.sent) both.count;
+      none_discarded = both.none_discarded;
+      honest = rw (append-nil w.book) both.honest;
+    })
+
+-- so both ends stay as they are
+pub stay_in : (w : WorldNow) (number first count : ℕ) → BothIn w number → number < first → BothIn (run_after w (deliveries first count)) number
+unfolding run_after deliveries
+stay_in w number first zero both past = both
+stay_in w number first (suc count) both past = stay_in (delivered w first) number (first + 1) count (kept_unsent w number first both past) (omega arith)

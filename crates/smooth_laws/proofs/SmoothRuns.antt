@@ -1,5 +1,5 @@
 -- A smooth login succeeds within its bound.
-use Rattle.std.proofs.Common.{◌≡◌, ℕ, zero, suc, ◌+◌, ◌≤◌, List, [], ◌∷◌, length, take, Bool, true, false, None, Some, refl, sym, ap, subst, ◌∙◌, arith}
+use Rattle.std.proofs.Common.{◌≡◌, ℕ, zero, suc, ◌+◌, ◌-◌, ◌≤◌, List, [], ◌∷◌, length, take, Bool, true, false, None, Some, refl, sym, ap, subst, ◌∙◌, arith}
 use Rattle.std.specs.Prelude.{◌==◌, ◌||◌, find}
 use Rattle.std.specs.List.{list_any, list_all}
 use Rattle.std.proofs.lemmas.Bool.{and_parts, or_left, eq-eqb}
@@ -18,7 +18,7 @@ use Rattle.eap_method.specs.Server.{ServerViews, views_begun}
 use Rattle.eap_world.specs.Agreement.{IsWhole, run_of}
 use Rattle.eap_world.specs.Book.{verdict_on, tags_verdict}
 use Rattle.eap_world.specs.declared.book.TagsVerdict.TheVariants.{Honest}
-use Rattle.eap_world.specs.World.{WorldNow, run_after}
+use Rattle.eap_world.specs.World.{WorldNow, run_after, world_made, world_start}
 use Rattle.eap_world.proofs.HonestOfEither.{honest_of_either}
 use Rattle.eap_world.proofs.HonestRuns.{honest_ends_agree}
 use Rattle.smooth_laws.specs.Smooth.{EndsFit, HasShortNames, IsLoggedIn, SmoothLoginsSucceed, bound, bound_in, deliveries, takes_first}
@@ -29,7 +29,8 @@ use Rattle.smooth_laws.proofs.Offers.{Has, IsShort, has_each, offers_of, psk, gp
 use Rattle.smooth_laws.proofs.Opening.{in_mode, made_in, number_opened, opened, opens, proposes_next, started}
 use Rattle.smooth_laws.proofs.PskTalk.{psk_talks}
 use Rattle.smooth_laws.proofs.ServerSide.{after_id}
-use Rattle.smooth_laws.proofs.Talk.{BothIn, Talks, ids_differ, talked, talks_through}
+use Rattle.smooth_laws.proofs.Talk.{Talks, ids_differ, last_number, talked, talks_through}
+use Rattle.smooth_laws.proofs.Moves.{BothIn, delivered, stay_in}
 
 -- the deliveries of a login without a Nak, and of one after it
 run_alike : (runs : Mode) (setup : Setup) → run_of (in_mode runs setup) (deliveries 1 (bound_in runs true)) ≡ talked runs (opened runs (started runs setup)) (number_opened runs)
@@ -43,6 +44,18 @@ run_after_nak : (runs : Mode) (setup : Setup) → (let n = number_opened runs in
 unfolding run_after deliveries
 run_after_nak mode.Alone setup = refl
 run_after_nak mode.Through setup = refl
+
+-- each delivery but the last sends a packet
+sent_alike : (runs : Mode) → last_number runs (number_opened runs) ≡ bound_in runs true
+sent_alike mode.Alone = refl
+sent_alike mode.Through = refl
+
+sent_after_nak : (runs : Mode) → last_number runs (number_after runs (number_after runs (number_opened runs))) ≡ bound_in runs false
+sent_after_nak mode.Alone = refl
+sent_after_nak mode.Through = refl
+
+both_at : {one other : WorldNow} {n m : ℕ} → one ≡ other → n ≡ m → BothIn one n → BothIn other m
+both_at {other = other} {n = n} world number both = subst (λ (count : ℕ). BothIn other count) number (subst (λ (w : WorldNow). BothIn w n) world both)
 
 -- the first deliveries of more
 take_deliveries : (first count more : ℕ) → count ≤ more → take count (deliveries first more) ≡ deliveries first count
@@ -117,7 +130,7 @@ module _ (setup : Setup) (whole : IsWhole setup) (names : HasShortNames setup) w
 
     -- the peer takes it
     logs_in_alike : (runs : Mode) (first : ℕ) (rest : List ℕ) → setup.server.methods ≡ first ∷ rest → is_among setup.peer.methods first ≡ true
-        → BothIn (talked runs (opened runs (started runs setup)) (number_opened runs))
+        → BothIn (talked runs (opened runs (started runs setup)) (number_opened runs)) (last_number runs (number_opened runs))
     logs_in_alike runs first rest order takes =
         let id : ℕ = after_id setup.first_id in
         let talk = talks runs id (views_begun setup.server) begins in
@@ -130,7 +143,7 @@ module _ (setup : Setup) (whole : IsWhole setup) (names : HasShortNames setup) w
     -- the peer refuses it
     logs_in_after_nak : (runs : Mode) (first : ℕ) (rest : List ℕ) → setup.server.methods ≡ first ∷ rest → is_among setup.peer.methods first ≡ false
         → (let n = number_opened runs in let w = opened runs (started runs setup) in
-        BothIn (talked runs (exchanged runs (exchanged runs w n) (number_after runs n)) (number_after runs (number_after runs n))))
+        BothIn (talked runs (exchanged runs (exchanged runs w n) (number_after runs n)) (number_after runs (number_after runs n))) (last_number runs (number_after runs (number_after runs n))))
     logs_in_after_nak runs first rest order refuses =
         let n : ℕ = number_opened runs in
         let w : WorldNow = opened runs (started runs setup) in
@@ -149,21 +162,21 @@ module _ (setup : Setup) (whole : IsWhole setup) (names : HasShortNames setup) w
         (opens setup runs first offer.asks offer.asked names.peer offer.is_method offer.fits (first_chosen first rest order) offer.offered))
 
     logs_in_by : (runs : Mode) (first : ℕ) (rest : List ℕ) → setup.server.methods ≡ first ∷ rest → (takes : Bool) → is_among setup.peer.methods first ≡ takes
-        → BothIn (run_of (in_mode runs setup) (deliveries 1 (bound_in runs takes)))
-    logs_in_by runs first rest order true takes = subst BothIn (sym (run_alike runs setup)) (logs_in_alike runs first rest order takes)
-    logs_in_by runs first rest order false refuses = subst BothIn (sym (run_after_nak runs setup)) (logs_in_after_nak runs first rest order refuses)
+        → BothIn (run_of (in_mode runs setup) (deliveries 1 (bound_in runs takes))) (bound_in runs takes)
+    logs_in_by runs first rest order true takes = both_at (sym (run_alike runs setup)) (sent_alike runs) (logs_in_alike runs first rest order takes)
+    logs_in_by runs first rest order false refuses = both_at (sym (run_after_nak runs setup)) (sent_after_nak runs) (logs_in_after_nak runs first rest order refuses)
 
     logs_in_at : (runs : Mode) (order : List ℕ) → setup.server.methods ≡ order
-        → BothIn (run_of (in_mode runs setup) (deliveries 1 (bound_in runs (takes_first setup.peer.methods order))))
+        → BothIn (run_of (in_mode runs setup) (deliveries 1 (bound_in runs (takes_first setup.peer.methods order)))) (bound_in runs (takes_first setup.peer.methods order))
     logs_in_at runs [] none = absurd (none-some fit.kind (ap (λ (methods : List ℕ). find (is_among setup.peer.methods) methods) (sym none) ∙ fit.common))
     logs_in_at runs (first ∷ rest) order = logs_in_by runs first rest order (is_among setup.peer.methods first) refl
 
-    logs_in : BothIn (run_of setup (deliveries 1 (bound setup)))
+    logs_in : BothIn (run_of setup (deliveries 1 (bound setup))) (bound setup)
     logs_in = logs_in_at setup.mode setup.server.methods refl
 
 -- both ends in SUCCESS over an honest book agree
-is_logged_in : (setup : Setup) (events : List Event) → IsWhole setup → BothIn (run_of setup events) → IsLoggedIn (run_of setup events)
-is_logged_in setup events whole both =
+is_logged_in : (setup : Setup) (events : List Event) (number : ℕ) → IsWhole setup → BothIn (run_of setup events) number → IsLoggedIn (run_of setup events)
+is_logged_in setup events number whole both =
     let honest : tags_verdict (run_of setup events).book ≡ Honest = ap verdict_on both.honest in
     record {
       peer = both.peer;
@@ -173,9 +186,29 @@ is_logged_in setup events whole both =
       agree = (honest_ends_agree setup events whole).agrees (honest_of_either (run_of setup events).book honest) both.peer both.server;
     }
 
+-- the run over more deliveries goes on where that over fewer ends
+run_parted : (w : WorldNow) (first count more : ℕ) → run_after w (deliveries first (count + more)) ≡ run_after (run_after w (deliveries first count)) (deliveries (first + count) more)
+unfolding run_after deliveries
+run_parted w first zero more =
+    let none : 0 + more ≡ more = omega arith in
+    let here : first + 0 ≡ first = omega arith in
+    rw (none, here) refl
+run_parted w first (suc count) more =
+    let one_more : suc count + more ≡ suc (count + more) = omega arith in
+    let behind : first + suc count ≡ first + 1 + count = omega arith in
+    rw (one_more, behind) (run_parted (delivered w first) (first + 1) count more)
+
 pub smooth_logins_succeed : SmoothLoginsSucceed
 smooth_logins_succeed setup events whole names fit order enough =
-    let first : take (bound setup) events ≡ deliveries 1 (bound setup) =
-    ap (λ (all : List Event). take (bound setup) all) order ∙ take_deliveries 1 (bound setup) (length events) enough in
-    subst (λ (some : List Event). IsLoggedIn (run_of setup some)) (sym first)
-    (is_logged_in setup (deliveries 1 (bound setup)) whole (logs_in setup whole names fit))
+    let most : ℕ = bound setup in
+    let in_time : BothIn (run_of setup (deliveries 1 most)) most = logs_in setup whole names fit in
+    let first : take most events ≡ deliveries 1 most =
+    ap (λ (all : List Event). take most all) order ∙ take_deliveries 1 most (length events) enough in
+    let parts : most + (length events - most) ≡ length events = omega arith in
+    let all : run_of setup events ≡ run_after (run_of setup (deliveries 1 most)) (deliveries (1 + most) (length events - most)) =
+    ap (run_of setup) (order ∙ ap (deliveries 1) (sym parts)) ∙ run_parted (world_start (world_made setup)).after 1 most (length events - most) in
+    record {
+      in_time = subst (λ (some : List Event). IsLoggedIn (run_of setup some)) (sym first) (is_logged_in setup (deliveries 1 most) most whole in_time);
+      stays = is_logged_in setup events most whole
+          (both_at (sym all) refl (stay_in (run_of setup (deliveries 1 most)) most (1 + most) (length events - most) in_time (omega arith)));
+    }

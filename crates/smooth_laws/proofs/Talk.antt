@@ -1,5 +1,5 @@
 -- A method's four messages, from its first Request to the Success.
-use Rattle.std.proofs.Common.{◌≡◌, ℕ, ◌≤◌, List, [], length, true, false, None, Some, refl, ap, ◌∙◌, arith}
+use Rattle.std.proofs.Common.{◌≡◌, ℕ, ◌≤◌, List, [], length, true, false, Some, refl, arith}
 use Rattle.std.specs.Prelude.{◌==◌, Ok}
 use Rattle.std.proofs.lemmas.Bool.{ne_eqb, eqb-false}
 use Rattle.eap_base.specs.declared.setup.Mode.{Mode}
@@ -19,12 +19,9 @@ use Rattle.eap_method.specs.declared.values.MethodState.TheVariants as method
 use Rattle.peer_machine.specs.PeerTable.{PeerNow, is_fail}
 use Rattle.server_machine.specs.ServerTable.{ServerNow}
 use Rattle.server_machine.specs.declared.variables.Progress.TheVariants as progress
-use Rattle.eap_world.specs.Book.{first_broken}
-use Rattle.eap_world.specs.declared.book.Makers.TheVariants.{Other}
-use Rattle.eap_world.specs.Judgement.{is_success}
-use Rattle.eap_world.specs.World.{WorldNow, Parties}
+use Rattle.eap_world.specs.World.{WorldNow}
 use Rattle.smooth_laws.proofs.Exchange.{ToPeer, ToServer, EndsAtPeer, exchanged, number_after, peer_turns, server_turns, server_ends}
-use Rattle.smooth_laws.proofs.Moves.{IsOver, delivered, peer_ends}
+use Rattle.smooth_laws.proofs.Moves.{BothIn, delivered, peer_ends}
 use Rattle.smooth_laws.proofs.Packets.{request_read, response_read, success_read}
 use Rattle.smooth_laws.proofs.PeerSide as peers
 use Rattle.smooth_laws.proofs.PeerSide.{peer_at, peer_unbound}
@@ -90,27 +87,16 @@ talked runs w number =
     let fourth = number_after runs third in
     delivered (exchanged runs (exchanged runs (exchanged runs (exchanged runs w number) second) third) fourth) (number_after runs fourth)
 
--- both ends have succeeded, nothing was discarded, and the book is honest
-pub record BothIn (w : WorldNow) : Type 0 where
-  pub peer : is_success w.parties.peer.vars.state ≡ true
-  pub server : is_success w.parties.server.vars.state ≡ true
-  pub none_discarded : w.counts.discards ≡ 0
-  pub honest : first_broken Other [] w.book ≡ None
-
-both_in : (w : WorldNow) (parties : Parties) → IsOver w parties → is_success parties.peer.vars.state ≡ true → is_success parties.server.vars.state ≡ true → BothIn w
-both_in w parties is peer_in server_in = record {
-  peer = ap (λ (all : Parties). is_success all.peer.vars.state) is.stands ∙ peer_in;
-  server = ap (λ (all : Parties). is_success all.server.vars.state) is.stands ∙ server_in;
-  none_discarded = is.none_discarded;
-  honest = is.honest;
-}
+-- the number of the packet that is then the last
+abbrev pub last_number : Mode → ℕ → ℕ
+last_number runs number = number_after runs (number_after runs (number_after runs (number_after runs number)))
 
 -- where the method's first Request comes to a peer that allows the method, both ends come to succeed
 pub talks_through : (peer : PeerSetup) (made : Made) (kind id : ℕ) (begun : ServerViews) (talk : Talks peer made kind id begun)
     (runs : Mode) (w : WorldNow) (number last : ℕ) (said was : List ℕ) (proposed : List ℕ)
     → (last == id) ≡ false → is_among peer.methods kind ≡ true
     → ToPeer w runs number id (peer_unbound peer last said) (server_at made id kind progress.Proposed was proposed talk.asked) (spelled (request id kind talk.asks)) []
-    → BothIn (talked runs w number)
+    → BothIn (talked runs w number) (last_number runs number)
 talks_through peer made kind id begun talk runs w number last said was proposed new allowed to =
     let next : ℕ = after_id id in
     let n_2 : ℕ = number_after runs number in
@@ -150,7 +136,6 @@ talks_through peer made kind id begun talk runs w number last said was proposed 
     server_ends runs w_4 n_4 next p_3 s_2 fourth talk.confirm_tags confirmed _ [] s_3
     (servers.finishes made fourth next kind talk.confirms third progress.Continue proposed talk.checked talk.finished _
     (answers_read next kind talk.confirms m talk.confirms_fits) m.not_nak m.not_identity talk.was_finished) in
-    both_in _ _
-    (peer_ends w_5 runs n_5 p_3 s_3 ended.pass (spelled (success next)) [] ended.stage _ _
-    (peers.succeeds peer (spelled (success next)) next kind method.Done talk.decided fourth talk.over (success_read next) talk.sure))
+    peer_ends w_5 runs n_5 p_3 s_3 ended.pass (spelled (success next)) [] ended.stage _ _
+    (peers.succeeds peer (spelled (success next)) next kind method.Done talk.decided fourth talk.over (success_read next) talk.sure)
     refl refl

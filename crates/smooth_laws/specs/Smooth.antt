@@ -76,8 +76,13 @@ pub record IsLoggedIn (w : WorldNow) : Type 0 where
   pub honest : tags_verdict w.book ≡ Honest
   pub agree : verdict_of w ≡ Agree
 
--- a smooth login has succeeded after the first `bound` deliveries
+-- the login has succeeded after the first `bound` deliveries, and no further one changes that
+pub record SucceedsInTime (setup : Setup) (events : List Event) : Type 0 where
+  pub in_time : IsLoggedIn (run_of setup (take (bound setup) events))
+  pub stays : IsLoggedIn (run_of setup events)
+
+-- a smooth login of at least `bound` deliveries succeeds
 abbrev pub SmoothLoginsSucceed : Type 0
 SmoothLoginsSucceed =
     (setup : Setup) (events : List Event) → IsWhole setup → HasShortNames setup → EndsFit setup → AreInOrder events →
-    bound setup ≤ length events → IsLoggedIn (run_of setup (take (bound setup) events))
+    bound setup ≤ length events → SucceedsInTime setup events

@@ -1,0 +1,122 @@
+-- Worked values of the definitions: how many deliveries, between which ends.
+use Rattle.std.proofs.Common.{◌≡◌, List, [], ◌∷◌, false, None, Some, refl, arith, IsTrue}
+use Rattle.std.specs.Prelude.{ℕ, codes, replicate}
+use Rattle.std.proofs.lemmas.List.Elements.{All-from_recursion}
+use Rattle.eap_base.specs.declared.event.Event.TheVariants.{Deliver}
+use Rattle.eap_base.specs.declared.setup.Accepts.TheVariants.{One}
+use Rattle.eap_base.specs.declared.setup.Mode.{Mode}
+use Rattle.eap_base.specs.declared.setup.Mode.TheVariants.{Alone, Through}
+use Rattle.eap_base.specs.declared.setup.Setup.{Setup}
+use Rattle.eap_base.specs.declared.users.User.{User}
+use Rattle.eap_base.specs.Setup.{is_kind, fits_kind}
+use Rattle.eap_world.specs.Agreement.{IsWhole}
+use Rattle.smooth_laws.specs.Smooth.{EndsFit, HasShortNames, bound, common_kind, deliveries}
+
+user_of_kind : ℕ → List ℕ → User
+user_of_kind kind key = record { name = codes "alice"; kind = kind; psk = key; barred = false }
+
+-- alice has a key of each method, and logs in at the server srv; each end has these methods in its order
+example_setup : Mode → List ℕ → List ℕ → Setup
+example_setup runs allowed order = record {
+  mode = runs;
+  first_id = 255;
+  max_retrans = 4;
+  peer = record {
+    name = codes "alice";
+    accepts = One (codes "srv");
+    methods = allowed;
+    suites = 1 ∷ 2 ∷ [];
+    psk47 = Some (replicate 16 71);
+    psk51 = Some (replicate 32 81);
+    nonce = replicate 32 17;
+  };
+  server = record {
+    name = codes "srv";
+    methods = order;
+    suites = 2 ∷ 1 ∷ [];
+    users = user_of_kind 51 (replicate 32 81) ∷ user_of_kind 47 (replicate 16 71) ∷ [];
+    nonce = replicate 32 17;
+  };
+}
+
+both : List ℕ
+both = 51 ∷ 47 ∷ []
+
+-- the first method that the server proposes is taken, by either method
+at_once : bound (example_setup Alone both both) ≡ 7
+unfolding example_setup both
+at_once = refl
+
+by_psk : bound (example_setup Alone both (47 ∷ [])) ≡ 7
+unfolding example_setup both
+by_psk = refl
+
+-- it is refused by a Nak
+after_nak : bound (example_setup Alone (47 ∷ []) both) ≡ 9
+unfolding example_setup both
+after_nak = refl
+
+-- the same through the pass-through
+through : bound (example_setup Through both both) ≡ 13
+unfolding example_setup both
+through = refl
+
+through_after_nak : bound (example_setup Through (47 ∷ []) both) ≡ 17
+unfolding example_setup both
+through_after_nak = refl
+
+-- no method is common
+none_common : common_kind (example_setup Alone (47 ∷ []) (51 ∷ [])).peer (example_setup Alone (47 ∷ []) (51 ∷ [])).server ≡ None
+unfolding example_setup
+none_common = refl
+
+three_deliveries : deliveries 1 3 ≡ Deliver 1 ∷ Deliver 2 ∷ Deliver 3 ∷ []
+unfolding deliveries
+three_deliveries = refl
+
+-- these ends fit by EAP-GPSK, and after a Nak by EAP-PSK
+fit_at_once : EndsFit (example_setup Alone both both)
+unfolding example_setup both user_of_kind
+fit_at_once = record {
+  kind = 51;
+  common = refl;
+  user = user_of_kind 51 (replicate 32 81);
+  known = refl;
+  not_barred = refl;
+  one_key = refl;
+  accepted = refl;
+  suite = λ is. refl;
+}
+
+fit_after_nak : EndsFit (example_setup Through (47 ∷ []) both)
+unfolding example_setup both user_of_kind
+fit_after_nak = record {
+  kind = 47;
+  common = refl;
+  user = user_of_kind 47 (replicate 16 71);
+  known = refl;
+  not_barred = refl;
+  one_key = refl;
+  accepted = refl;
+  suite = λ is. refl;
+}
+
+-- and their setup is whole
+whole_at_once : IsWhole (example_setup Alone both both)
+unfolding example_setup both user_of_kind
+whole_at_once = record {
+  peer = record { methods = refl; suites = refl; psk47 = refl; psk51 = refl };
+  keys = record { psk47 = λ is. refl; psk51 = λ is. refl };
+  server = record {
+    methods = refl;
+    suites = refl;
+    kinds = All-from_recursion (λ (user : User). IsTrue (is_kind user.kind)) (example_setup Alone both both).server.users (refl, (refl, tt));
+    keys = All-from_recursion (λ (user : User). IsTrue (fits_kind user.kind user.psk)) (example_setup Alone both both).server.users (refl, (refl, tt));
+  };
+  peer_nonce = refl;
+  server_nonce = refl;
+}
+
+short_at_once : HasShortNames (example_setup Alone both both)
+unfolding example_setup
+short_at_once = record { peer = omega arith; server = omega arith }
