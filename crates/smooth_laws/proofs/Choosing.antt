@@ -2,7 +2,8 @@
 use Rattle.std.proofs.Common.{◌≡◌, ℕ, ◌<◌, ◌≤◌, List, [], ◌∷◌, length, Bool, true, false, cond, Option, None, Some, refl, sym, ap, ◌∙◌, arith, inl, inr}
 use Rattle.std.specs.Prelude.{◌==◌, ◌&&◌, ◌||◌, ◌⊎◌, not, find}
 use Rattle.std.specs.List.{list_any, list_all}
-use Rattle.std.proofs.lemmas.Bool.{and_parts, and_from, or_cases, or_parts, or_left, or_right, eq-eqb, not-true, eqb-true, eqb-false, cond-true, cond-false, cond_both, cases_Bool, both_ways}
+use Rattle.std.proofs.lemmas.Bool.{and_parts, and_from, or_cases, or_parts, or_left, or_right, eq-eqb, not-true, eqb-true, eqb-false, cond-true, cond-false}
+use Rattle.std.proofs.lemmas.Bool.{cond_both, cases_Bool, both_ways}
 use Rattle.std.proofs.lemmas.Option.{same_Some}
 use Rattle.std.proofs.lemmas.Slice.Eq.{bytes_eq-Decides}
 use Rattle.eap_base.specs.declared.setup.Suite.{Suite}
@@ -14,7 +15,7 @@ use Rattle.login_policy.specs.Policy.{is_allowed, picked_suite, nak_of, next_kin
 
 -- ---- short lists
 
-either : (p q a : ℕ) → ((a == p) || (a == q)) ≡ true → (a ≡ p) ⊎ (a ≡ q)
+pub either : (p q a : ℕ) → ((a == p) || (a == q)) ≡ true → (a ≡ p) ⊎ (a ≡ q)
 either p q a h = elim (or_cases (a == p) (a == q) h) [ inl e ↦ inl (eqb-true a p e) | inr e ↦ inr (eqb-true a q e) ]
 
 -- three numbers of two are not distinct
@@ -94,8 +95,10 @@ unfolding next_kind
 first_is_next first rest = refl
 
 -- one that the peer allows is the one that both have
-pub allowed_is_common : (allowed : List ℕ) (first kind : ℕ) (rest : List ℕ) → is_among allowed first ≡ true → find (is_among allowed) (first ∷ rest) ≡ Some kind → first ≡ kind
-allowed_is_common allowed first kind rest h common = same_Some first kind (sym (cond-true (is_among allowed first) (Some first) (find (is_among allowed) rest) h) ∙ common)
+pub allowed_is_common : (allowed : List ℕ) (first kind : ℕ) (rest : List ℕ) → is_among allowed first ≡ true
+    → find (is_among allowed) (first ∷ rest) ≡ Some kind → first ≡ kind
+allowed_is_common allowed first kind rest h common =
+    same_Some first kind (sym (cond-true (is_among allowed first) (Some first) (find (is_among allowed) rest) h) ∙ common)
 
 desired_else : (allowed : List ℕ) (refused x : ℕ) (b : Bool) → (refused == x) ≡ b → is_among allowed refused ≡ false
     → (not ((refused == x) || false) && is_among allowed x) ≡ is_among allowed x

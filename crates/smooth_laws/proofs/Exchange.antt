@@ -87,7 +87,8 @@ peer_turns runs w number id kind p s x accepted to path body made after read tak
     peer_turns_in runs to.pass w number id kind p s x accepted to.awaits to.stage path body made after read takes
 
 -- the server asks again
-server_turns_in : (runs : Mode) (pass : PassVariables) (w : WorldNow) (number id kind : ℕ) (p : PeerNow) (s : ServerNow) (x : List ℕ) (accepted : List TagRecord)
+server_turns_in : (runs : Mode) (pass : PassVariables) (w : WorldNow) (number id kind : ℕ) (p : PeerNow) (s : ServerNow) (x : List ℕ)
+    (accepted : List TagRecord)
     → AwaitsServer runs pass
     → Stage w runs number p s pass (packet_to port.Server x) end.Server accepted
     → (path : List State) (body : List ℕ) (made : List TagRecord) (after : ServerNow)

@@ -67,7 +67,8 @@ fits peer server user suite shares = let few = shares.short.suites in let some =
   few_suites = omega arith;
 }
 
-own_suites : (peer : PeerSetup) (server : ServerSetup) (user : User) (suite : Suite) → Shares peer server user suite → length (ends_of peer server user suite).own.suites ≤ 2
+own_suites : (peer : PeerSetup) (server : ServerSetup) (user : User) (suite : Suite) → Shares peer server user suite
+    → length (ends_of peer server user suite).own.suites ≤ 2
 unfolding side_of
 own_suites peer server user suite shares = shares.short.suites
 
@@ -111,15 +112,18 @@ module _ (peer : PeerSetup) (made : Made) (user : User) (suite : Suite) (shares 
 
   -- the peer's view of the method that it allows is fresh
   answered : (out : PeerOutcome gpsk_peer.View)
-      → gpsk_peer.step (gpsk_peer.fresh (credential_for peer gpsk_kind) peer.nonce) (gpsk_request id (gpsk_server.gpsk1_of (side_of made.setup) made.setup.nonce)) ≡ out
+      → gpsk_peer.step (gpsk_peer.fresh (credential_for peer gpsk_kind) peer.nonce)
+      (gpsk_request id (gpsk_server.gpsk1_of (side_of made.setup) made.setup.nonce)) ≡ out
       → peer_turn gpsk_kind (views_begun peer) (gpsk_request id (gpsk_server.gpsk1_of (side_of made.setup) made.setup.nonce)) ≡ gpsk_turn (views_begun peer) out
   unfolding peer_turn views_begun
   answered out is =
-      ap (λ (view : gpsk_peer.View). gpsk_turn (views_begun peer) (gpsk_peer.step view (gpsk_request id (gpsk_server.gpsk1_of (side_of made.setup) made.setup.nonce))))
+      ap (λ (view : gpsk_peer.View). gpsk_turn (views_begun peer) (gpsk_peer.step view
+      (gpsk_request id (gpsk_server.gpsk1_of (side_of made.setup) made.setup.nonce))))
       (cond-true (is_among peer.methods gpsk_kind) _ _ shares.allowed)
       ∙ ap (λ (found : PeerOutcome gpsk_peer.View). gpsk_turn (views_begun peer) found) is
 
-  confirmed : (views : PeerViews) (view : gpsk_peer.View) (octets : List ℕ) (out : PeerOutcome gpsk_peer.View) → views.gpsk ≡ view → gpsk_peer.step view octets ≡ out
+  confirmed : (views : PeerViews) (view : gpsk_peer.View) (octets : List ℕ) (out : PeerOutcome gpsk_peer.View) → views.gpsk ≡ view
+      → gpsk_peer.step view octets ≡ out
       → peer_turn gpsk_kind views octets ≡ gpsk_turn views out
   unfolding peer_turn
   confirmed views view octets out at is =
@@ -168,7 +172,8 @@ module _ (peer : PeerSetup) (made : Made) (user : User) (suite : Suite) (shares 
         offered = gpsk_offered made shares.short id begun view is;
         answered = answered _ goes.answers;
         was_checked = heard (after_id id) asked (gpsk_server.asked (side_of made.setup) made.setup.nonce) (gpsk_response id gpsk2) _ refl
-            (goes.checks ∙ ap (λ (key : List ℕ). requested (gpsk_server.checked (server_login e)) (gpsk_request (after_id id) gpsk3) (sk_record key gpsk2 ∷ []) (sk_record key gpsk3 ∷ [])) fit.one_key);
+            (goes.checks ∙ ap (λ (key : List ℕ). requested (gpsk_server.checked (server_login e)) (gpsk_request (after_id id) gpsk3)
+            (sk_record key gpsk2 ∷ []) (sk_record key gpsk3 ∷ [])) fit.one_key);
         confirmed = confirmed waits (gpsk_peer.wait (peer_login e)) (gpsk_request (after_id id) gpsk3) _ refl goes.confirms;
         was_finished = heard (after_id (after_id id)) checked (gpsk_server.checked (server_login e)) (gpsk_response (after_id id) gpsk4) _ refl
             (goes.finishes ∙ ap (λ (key : List ℕ). done (gpsk_server.over (server_login e) true) true (sk_record key gpsk4 ∷ [])) fit.one_key);

@@ -1,15 +1,30 @@
-pub mod Packets
-pub mod PeerSide
-pub mod ServerSide
-pub mod PassSide
-pub mod Vouching
-pub mod Moves
-pub mod Exchange
-pub mod Talk
-pub mod Opening
-pub mod Choosing
-pub mod Offers
-pub mod GpskTalk
-pub mod PskTalk
+-- A packet that was spelled is read as it was, whatever octets it has.
+mod Packets
+-- What the peer makes of each packet of a smooth login.
+mod PeerSide
+-- What the server, or the backend, makes of each.
+mod ServerSide
+-- What the pass-through makes of each.
+mod PassSide
+-- A book stays honest where each tag that an end accepts is one that the other made before.
+mod Vouching
+-- A delivery of the packet that was sent last: the world after it.
+mod Moves
+-- What one end sends comes to the other: in one delivery, or in two through the pass-through.
+mod Exchange
+-- A method's four messages, from its first Request to the Success.
+mod Talk
+-- The Identity round, up to the first Request of a method; and a Nak, up to that of the next.
+mod Opening
+-- What two ends that fit choose: the method, before and after a Nak, and the suite.
+mod Choosing
+-- The first Request of each method.
+mod Offers
+-- A login by EAP-GPSK as both machines see it.
+mod GpskTalk
+-- A login by EAP-PSK as both machines see it.
+mod PskTalk
+-- A smooth login succeeds within its bound.
 pub mod SmoothRuns
+-- Worked values of the definitions.
 mod Worked

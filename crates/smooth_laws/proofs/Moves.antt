@@ -1,5 +1,6 @@
 -- A delivery of the packet that was sent last: the world after it.
-use Rattle.std.proofs.Common.{◌≡◌, ℕ, zero, suc, ◌+◌, ◌-◌, ◌<◌, List, [], ◌∷◌, ◌++◌, length, Bool, true, false, Option, None, Some, refl, sym, ap, subst, ◌∙◌, arith, append-nil}
+use Rattle.std.proofs.Common.{◌≡◌, ℕ, zero, suc, ◌+◌, ◌-◌, ◌<◌, List, [], ◌∷◌, ◌++◌, length, Bool, true, false, Option, None, Some, refl, sym, ap, subst, ◌∙◌}
+use Rattle.std.proofs.Common.{arith, append-nil}
 use Rattle.std.specs.Prelude.{◌==◌}
 use Rattle.std.proofs.lemmas.Bool.{cond-false, ne_eqb}
 use Rattle.std.proofs.lemmas.List.{length_push, get_or_push}
@@ -25,7 +26,8 @@ use Rattle.pass_through.specs.declared.variables.PassVariables.{PassVariables}
 use Rattle.eap_world.specs.Book.{first_broken}
 use Rattle.eap_world.specs.Judgement.{is_success}
 use Rattle.eap_world.specs.Sent.{Sent, packet_numbered}
-use Rattle.eap_world.specs.World.{WorldNow, Parties, Acted, Called, acted, act, call_at, call_with, called, called_unless, did_by, did_pass, first_skip, goes_to, is_absent, octets_of, packet_skips, run_after, skipped, world_step}
+use Rattle.eap_world.specs.World.{WorldNow, Parties, Acted, Called, acted, act, call_at, call_with, called, called_unless, did_by, did_pass, first_skip}
+use Rattle.eap_world.specs.World.{goes_to, is_absent, octets_of, packet_skips, run_after, skipped, world_step}
 use Rattle.eap_world.specs.declared.book.End.{End}
 use Rattle.eap_world.specs.declared.book.End.TheVariants as end
 use Rattle.eap_world.specs.declared.book.Makers.TheVariants.{Other}
@@ -42,7 +44,8 @@ packet_to to octets = record { port = to; octets = octets }
 
 -- the parties stand so, the packet of this number was sent last, nothing was discarded, and what stands in the
 -- book is honest; the other end has made these tags, which this one is to accept
-pub record Stage (w : WorldNow) (runs : Mode) (number : ℕ) (peer : PeerNow) (server : ServerNow) (pass : PassVariables) (last : Sent) (accepts : End) (tags : List TagRecord)
+pub record Stage (w : WorldNow) (runs : Mode) (number : ℕ) (peer : PeerNow) (server : ServerNow) (pass : PassVariables) (last : Sent) (accepts : End)
+    (tags : List TagRecord)
     : Type 0 where
   pub parties : w.parties ≡ parties_at runs peer server pass
   pub before : List Sent
@@ -76,7 +79,8 @@ called_at : (w : WorldNow) (number : ℕ) (packet : Sent) → packet_numbered w.
 unfolding act
 called_at w number packet is there =
     ap (λ (found : Option Sent). called_unless w.parties (first_skip (packet_skips w.parties.mode found false)) (call_with found (octets_of found))) is
-    ∙ ap (λ (absent : Bool). called_unless w.parties (first_skip ((absent, NoParty) ∷ (false, Unsent) ∷ (false, Place) ∷ [])) (Some (call_at packet.port packet.octets))) there
+    ∙ ap (λ (absent : Bool). called_unless w.parties (first_skip ((absent, NoParty) ∷ (false, Unsent) ∷ (false, Place) ∷ []))
+    (Some (call_at packet.port packet.octets))) there
 
 after_is : (w : WorldNow) (number : ℕ) (out : Acted) → act w.parties w.sent (Deliver number) ≡ out → delivered w number ≡ (counted_acted w out).after
 unfolding world_step
@@ -181,7 +185,8 @@ module _ (w : WorldNow) (runs : Mode) (number : ℕ) (p : PeerNow) (s : ServerNo
 
 -- the pass-through hands on what comes from the peer, and what comes from the server
 module _ (w : WorldNow) (number : ℕ) (p : PeerNow) (s : ServerNow) (v : PassVariables) where
-  through_there : (last : Sent) (accepts : End) (tags : List TagRecord) → Stage w mode.Through number p s v last accepts tags → is_absent w.parties.mode last.port ≡ false
+  through_there : (last : Sent) (accepts : End) (tags : List TagRecord) → Stage w mode.Through number p s v last accepts tags
+      → is_absent w.parties.mode last.port ≡ false
   through_there last accepts tags stage = ap (λ (parties : Parties). is_absent parties.mode last.port) stage.parties
 
   pub hands_to_server : (x : List ℕ) (accepts : End) (tags : List TagRecord) → Stage w mode.Through number p s v (packet_to port.PassPeer x) accepts tags
@@ -212,7 +217,8 @@ module _ (w : WorldNow) (number : ℕ) (p : PeerNow) (s : ServerNow) (v : PassVa
       let out : Acted = acted (Called (did_pass (pass_inputs.from_backend x) (passes.asks path y))) (parties_at mode.Through p s after) in
       let discards = stage.none_discarded in
       subst (λ (now : WorldNow). Stage now mode.Through (number + 1) p s after (packet_to port.Peer y) accepts tags)
-      (sym (handed w mode.Through number p s v (packet_to port.PassServer x) accepts tags stage (through_there (packet_to port.PassServer x) accepts tags stage) out
+      (sym (handed w mode.Through number p s v (packet_to port.PassServer x) accepts tags stage
+      (through_there (packet_to port.PassServer x) accepts tags stage) out
       (ap (λ (found : PassAnswer). acted (Called (did_pass (pass_inputs.from_backend x) found.step)) (parties_at mode.Through p s found.after)) takes)))
       (record {
         parties = refl;

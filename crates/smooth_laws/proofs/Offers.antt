@@ -1,7 +1,7 @@
 -- The first Request of each method.
 use Rattle.std.proofs.Common.{◌≡◌, ℕ, ◌*◌, ◌≤◌, List, [], ◌∷◌, length, true, Option, Some, refl, sym, ap, subst, ◌∙◌, arith, inl, inr}
-use Rattle.std.specs.Prelude.{◌==◌, ◌⊎◌}
-use Rattle.std.proofs.lemmas.Bool.{or_cases, eqb-true, cond-true}
+use Rattle.std.specs.Prelude.{◌⊎◌}
+use Rattle.std.proofs.lemmas.Bool.{cond-true}
 use Rattle.std.proofs.lemmas.List.{length-take-le}
 use Rattle.eap_base.specs.declared.setup.ServerSetup.{ServerSetup}
 use Rattle.eap_base.specs.Setup.{psk_kind, gpsk_kind, is_kind, is_among}
@@ -16,6 +16,7 @@ use Rattle.eap_method.specs.GpskTags.{gpsk_request, suite_list}
 use Rattle.eap_method.specs.PskServer as psk_server
 use Rattle.eap_method.specs.PskTags.{psk_request, rand_of}
 use Rattle.eap_method.specs.Server.{ServerViews, psk_offer, gpsk_offer, server_offer, side_of, views_begun}
+use Rattle.smooth_laws.proofs.Choosing.{either}
 use Rattle.smooth_laws.proofs.ServerSide.{Made, IsOffer}
 use Rattle.smooth_laws.proofs.Talk.{IsMethod}
 
@@ -121,4 +122,4 @@ has_at setup kind (inr e) among =
 
 pub has_each : (setup : ServerSetup) (kind : ℕ) → is_kind kind ≡ true → is_among setup.methods kind ≡ true → Has (views_begun setup) kind
 has_each setup kind is among =
-    has_at setup kind (elim (or_cases (kind == psk_kind) (kind == gpsk_kind) is) [ inl e ↦ inl (eqb-true kind psk_kind e) | inr e ↦ inr (eqb-true kind gpsk_kind e) ]) among
+    has_at setup kind (either psk_kind gpsk_kind kind is) among

@@ -81,7 +81,8 @@ module _ (setup : Setup) where
       → IsOffer (made_in runs setup) kind (after_id setup.first_id) (views_begun setup.server) (spelled (request (after_id setup.first_id) kind asks)) asked
       → ToPeer (opened runs (started runs setup)) runs (number_opened runs) (after_id setup.first_id)
       (peer_unbound setup.peer setup.first_id (identity_response setup.first_id setup.peer.name))
-      (server_at (made_in runs setup) (after_id setup.first_id) kind progress.Proposed (spelled (request (after_id setup.first_id) kind asks)) (kind ∷ []) asked)
+      (server_at (made_in runs setup) (after_id setup.first_id) kind progress.Proposed (spelled (request (after_id setup.first_id) kind asks)) (kind ∷ [])
+      asked)
       (spelled (request (after_id setup.first_id) kind asks)) []
   opens mode.Alone kind asks asked short m fits chosen offered =
       let w : WorldNow = started mode.Alone setup in
@@ -97,7 +98,8 @@ module _ (setup : Setup) where
         pass = pass;
         awaits = alone pass;
         stage = server_moves (delivered w 1) mode.Alone 2 p s pass name [] named _ offer [] _
-            (servers.hears_identity (made_in mode.Alone setup) name id kind setup.peer.name (identity_request id) (views_begun setup.server) asked offer (name_read short) chosen offered);
+            (servers.hears_identity (made_in mode.Alone setup) name id kind setup.peer.name (identity_request id) (views_begun setup.server) asked offer
+            (name_read short) chosen offered);
       }
   opens mode.Through kind asks asked short m fits chosen offered =
       let w : WorldNow = started mode.Through setup in
@@ -121,16 +123,19 @@ module _ (setup : Setup) where
         pass = pass_at id most state.Idle2 (after_id id) offer;
         awaits = in_idle2 id most offer;
         stage = hands_to_peer (delivered (delivered (delivered w 1) 2) 3) 4 p s_2 v_2 offer end.Peer [] picked _ offer _
-            (passes.hands_request id most offer (after_id id) kind asks id asked_id (asks_read (after_id id) kind asks m fits) (request_whole (after_id id) kind asks));
+            (passes.hands_request id most offer (after_id id) kind asks id asked_id (asks_read (after_id id) kind asks m fits)
+            (request_whole (after_id id) kind asks));
       }
 
 -- a method that the peer doesn't allow is refused by a Nak, and the next is proposed
-pub proposes_next : (peer : PeerSetup) (made : Made) (runs : Mode) (w : WorldNow) (number id refused kind last : ℕ) (asks said was next_asks : List ℕ) (views asked : ServerViews)
+pub proposes_next : (peer : PeerSetup) (made : Made) (runs : Mode) (w : WorldNow) (number id refused kind last : ℕ) (asks said was next_asks : List ℕ)
+    (views asked : ServerViews)
     → IsMethod refused → IsMethod kind → length asks ≤ 1495 → length next_asks ≤ 1495 → length peer.methods ≤ 2
     → (last == id) ≡ false → is_among peer.methods refused ≡ false
     → next_kind made.setup.methods (refused ∷ []) (Some (nak_of peer.methods)) ≡ Some kind
     → IsOffer made kind (after_id id) views (spelled (request (after_id id) kind next_asks)) asked
-    → ToPeer w runs number id (peer_unbound peer last said) (server_at made id refused progress.Proposed was (refused ∷ []) views) (spelled (request id refused asks)) []
+    → ToPeer w runs number id (peer_unbound peer last said) (server_at made id refused progress.Proposed was (refused ∷ []) views)
+    (spelled (request id refused asks)) []
     → ToPeer (exchanged runs (exchanged runs w number) (number_after runs number)) runs (number_after runs (number_after runs number)) (after_id id)
     (peer_unbound peer id (nak_response id peer.methods))
     (server_at made (after_id id) kind progress.Proposed (spelled (request (after_id id) kind next_asks)) (refused ∷ kind ∷ []) asked)
@@ -138,12 +143,14 @@ pub proposes_next : (peer : PeerSetup) (made : Made) (runs : Mode) (w : WorldNow
 proposes_next peer made runs w number id refused kind last asks said was next_asks views asked r m fits next_fits few new barred chosen offered to =
     let nak : List ℕ = nak_response id peer.methods in
     let size = nak_fits peer.methods few in
-    let read : packet_of nak ≡ Ok (response id 3 (nak_of peer.methods)) = response_read id 3 (nak_of peer.methods) (omega arith) (λ e. nak_lists_some peer.methods) in
+    let read : packet_of nak ≡ Ok (response id 3 (nak_of peer.methods)) =
+    response_read id 3 (nak_of peer.methods) (omega arith) (λ e. nak_lists_some peer.methods) in
     let p : PeerNow = peer_unbound peer id nak in
     let s : ServerNow = server_at made id refused progress.Proposed was (refused ∷ []) views in
     let heard : ToServer (exchanged runs w number) runs (number_after runs number) p s nak [] =
     peer_turns runs w number id 3 (peer_unbound peer last said) s (spelled (request id refused asks)) [] to _ (nak_of peer.methods) [] p read
-    (peers.refuses peer (spelled (request id refused asks)) id refused asks last said (asks_read id refused asks r fits) new r.not_identity r.not_notification barred) in
+    (peers.refuses peer (spelled (request id refused asks)) id refused asks last said (asks_read id refused asks r fits)
+    new r.not_identity r.not_notification barred) in
     server_turns runs (exchanged runs w number) (number_after runs number) (after_id id) kind p s nak [] heard _ next_asks [] _
     (asks_read (after_id id) kind next_asks m next_fits)
     (servers.hears_nak made nak id refused kind (nak_of peer.methods) was views asked (spelled (request (after_id id) kind next_asks)) read chosen offered)

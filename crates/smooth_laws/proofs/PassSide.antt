@@ -6,7 +6,8 @@ use Rattle.eap_packet.specs.Packet.{request, response, success}
 use Rattle.eap_packet.specs.Fault.{packet_of}
 use Rattle.eap_packet.specs.declared.state.State.{State}
 use Rattle.eap_packet.specs.declared.state.State.TheVariants as state
-use Rattle.pass_through.specs.PassTable.{answer, asks, passes_on, pass_made, pass_start, pass_from_peer, pass_from_backend, idle_row, idle2_row, aaa_row, identity_request, unpadded}
+use Rattle.pass_through.specs.PassTable.{answer, asks, passes_on, pass_made, pass_start, pass_from_peer, pass_from_backend, idle_row, idle2_row, aaa_row}
+use Rattle.pass_through.specs.PassTable.{identity_request, unpadded}
 use Rattle.pass_through.specs.declared.variables.PassVariables.{PassVariables}
 
 -- a pass-through that has started: where it stands, the Identifier of the last Request, and that Request
@@ -17,7 +18,8 @@ pass_at first_id max_retrans at id last =
 module _ (first_id max_retrans : ℕ) where
   pub starts : pass_start (pass_made first_id max_retrans)
       ≡ answer
-      (asks (state.Initialize ∷ state.SelectAction ∷ state.ProposeMethod ∷ state.MethodRequest ∷ state.SendRequest ∷ state.Idle ∷ []) (identity_request first_id))
+      (asks (state.Initialize ∷ state.SelectAction ∷ state.ProposeMethod ∷ state.MethodRequest ∷ state.SendRequest ∷ state.Idle ∷ [])
+      (identity_request first_id))
       (pass_at first_id max_retrans state.Idle first_id (identity_request first_id))
   unfolding pass_start
   starts = refl
@@ -26,14 +28,16 @@ module _ (first_id max_retrans : ℕ) where
   pub hands_identity : (octets : List ℕ) (id : ℕ) (name last : List ℕ) → packet_of octets ≡ Ok (response id 1 name) → unpadded octets ≡ octets
       → pass_from_peer (pass_at first_id max_retrans state.Idle id last) octets
       ≡ answer
-      (passes_on (state.Received ∷ state.IntegrityCheck ∷ state.MethodResponse ∷ state.SelectAction ∷ state.InitializePassthrough ∷ state.AaaRequest ∷ state.AaaIdle ∷ []) octets)
+      (passes_on (state.Received ∷ state.IntegrityCheck ∷ state.MethodResponse ∷ state.SelectAction ∷ state.InitializePassthrough ∷ state.AaaRequest ∷
+      state.AaaIdle ∷ []) octets)
       (pass_at first_id max_retrans state.AaaIdle id last)
   unfolding pass_from_peer
   hands_identity octets id name last read whole =
       ap (λ found. idle_row (pass_at first_id max_retrans state.Idle id last) octets found) read
       ∙ cond-true (id == id) _ _ (eq-eqb id id refl)
       ∙ ap (λ (sent : List ℕ). answer
-      (passes_on (state.Received ∷ state.IntegrityCheck ∷ state.MethodResponse ∷ state.SelectAction ∷ state.InitializePassthrough ∷ state.AaaRequest ∷ state.AaaIdle ∷ []) sent)
+      (passes_on (state.Received ∷ state.IntegrityCheck ∷ state.MethodResponse ∷ state.SelectAction ∷ state.InitializePassthrough ∷ state.AaaRequest ∷
+      state.AaaIdle ∷ []) sent)
       (pass_at first_id max_retrans state.AaaIdle id last)) whole
 
   -- so does each Response to the last Request
@@ -44,16 +48,19 @@ module _ (first_id max_retrans : ℕ) where
   hands_response octets id kind body last read whole =
       ap (λ found. idle2_row (pass_at first_id max_retrans state.Idle2 id last) octets found) read
       ∙ cond-true (id == id) _ _ (eq-eqb id id refl)
-      ∙ ap (λ (sent : List ℕ). answer (passes_on (state.Received2 ∷ state.AaaRequest ∷ state.AaaIdle ∷ []) sent) (pass_at first_id max_retrans state.AaaIdle id last)) whole
+      ∙ ap (λ (sent : List ℕ). answer (passes_on (state.Received2 ∷ state.AaaRequest ∷ state.AaaIdle ∷ []) sent)
+      (pass_at first_id max_retrans state.AaaIdle id last)) whole
 
   -- a Request goes on to the peer
-  pub hands_request : (octets : List ℕ) (id kind : ℕ) (body : List ℕ) (was : ℕ) (last : List ℕ) → packet_of octets ≡ Ok (request id kind body) → unpadded octets ≡ octets
+  pub hands_request : (octets : List ℕ) (id kind : ℕ) (body : List ℕ) (was : ℕ) (last : List ℕ) → packet_of octets ≡ Ok (request id kind body)
+      → unpadded octets ≡ octets
       → pass_from_backend (pass_at first_id max_retrans state.AaaIdle was last) octets
       ≡ answer (asks (state.AaaResponse ∷ state.SendRequest2 ∷ state.Idle2 ∷ []) octets) (pass_at first_id max_retrans state.Idle2 id octets)
   unfolding pass_from_backend
   hands_request octets id kind body was last read whole =
       ap (λ found. aaa_row (pass_at first_id max_retrans state.AaaIdle was last) octets found) read
-      ∙ ap (λ (sent : List ℕ). answer (asks (state.AaaResponse ∷ state.SendRequest2 ∷ state.Idle2 ∷ []) sent) (pass_at first_id max_retrans state.Idle2 id sent)) whole
+      ∙ ap (λ (sent : List ℕ). answer (asks (state.AaaResponse ∷ state.SendRequest2 ∷ state.Idle2 ∷ []) sent)
+      (pass_at first_id max_retrans state.Idle2 id sent)) whole
 
   -- so does the Success, and it has ended
   pub hands_success : (octets : List ℕ) (id was : ℕ) (last : List ℕ) → packet_of octets ≡ Ok (success id) → unpadded octets ≡ octets

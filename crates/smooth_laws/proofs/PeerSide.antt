@@ -18,7 +18,8 @@ use Rattle.eap_method.specs.PeerTurn.{Reply}
 use Rattle.eap_method.specs.Steps.{sends}
 use Rattle.eap_method.specs.Tags.{no_tags}
 use Rattle.eap_method.specs.Turns.{PeerOutcome}
-use Rattle.peer_machine.specs.PeerTable.{PeerNow, PeerAnswer, answer, peer_made, peer_row, method_answers, peer_deliver, peer_method, identity_response, nak_response, is_done, is_fail, peer_ends}
+use Rattle.peer_machine.specs.PeerTable.{PeerNow, PeerAnswer, answer, peer_made, peer_row, method_answers, peer_deliver, peer_method, identity_response}
+use Rattle.peer_machine.specs.PeerTable.{nak_response, is_done, is_fail, peer_ends}
 
 -- a peer that has not ended and has answered a Request
 abbrev pub peer_at : PeerSetup → Option ℕ → MethodState → Decision → ℕ → List ℕ → PeerViews → PeerNow
@@ -68,7 +69,8 @@ module _ (setup : PeerSetup) where
       ap (λ (out : PeerOutcome PeerViews). method_answers selects now kind id out.after out.turn) turn
 
   -- the first Request of a method that it allows
-  pub begins : (octets : List ℕ) (id kind : ℕ) (body : List ℕ) (last : ℕ) (response packet : List ℕ) (m : MethodState) (d : Decision) (tags : Tags) (views : PeerViews)
+  pub begins : (octets : List ℕ) (id kind : ℕ) (body : List ℕ) (last : ℕ) (response packet : List ℕ) (m : MethodState) (d : Decision) (tags : Tags)
+      (views : PeerViews)
       → packet_of octets ≡ Ok (request id kind body)
       → (last == id) ≡ false → (kind == 1) ≡ false → (kind == 2) ≡ false → is_among setup.methods kind ≡ true
       → peer_turn kind (views_begun setup) (spelled (request id kind body)) ≡ record { turn = Reply packet m d tags; after = views }
@@ -87,7 +89,8 @@ module _ (setup : PeerSetup) where
       ∙ cond-false (is_done m && is_fail d) _ _ unended
 
   -- the next Request of its method
-  pub goes_on : (octets : List ℕ) (id kind : ℕ) (body : List ℕ) (last : ℕ) (response : List ℕ) (before : MethodState) (d_before : Decision) (views_before : PeerViews)
+  pub goes_on : (octets : List ℕ) (id kind : ℕ) (body : List ℕ) (last : ℕ) (response : List ℕ) (before : MethodState) (d_before : Decision)
+      (views_before : PeerViews)
       (packet : List ℕ) (m : MethodState) (d : Decision) (tags : Tags) (views : PeerViews)
       → packet_of octets ≡ Ok (request id kind body)
       → (last == id) ≡ false → (kind == 2) ≡ false → is_done before ≡ false

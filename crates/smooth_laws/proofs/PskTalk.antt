@@ -120,7 +120,8 @@ module _ (peer : PeerSetup) (made : Made) (user : User) (shares : Shares peer ma
       ap (λ (view : psk_peer.View). psk_turn (views_begun peer) (psk_peer.step view octets)) (cond-true (is_among peer.methods psk_kind) _ _ shares.allowed)
       ∙ ap (λ (found : PeerOutcome psk_peer.View). psk_turn (views_begun peer) found) is
 
-  confirmed : (views : PeerViews) (view : psk_peer.View) (octets : List ℕ) (out : PeerOutcome psk_peer.View) → views.psk ≡ view → psk_peer.step view octets ≡ out
+  confirmed : (views : PeerViews) (view : psk_peer.View) (octets : List ℕ) (out : PeerOutcome psk_peer.View) → views.psk ≡ view
+      → psk_peer.step view octets ≡ out
       → peer_turn psk_kind views octets ≡ psk_turn views out
   unfolding peer_turn
   confirmed views view octets out at is =

@@ -14,7 +14,9 @@ use Rattle.eap_method.specs.ServerTurn as turn
 use Rattle.eap_method.specs.Steps.{sends}
 use Rattle.eap_method.specs.Tags.{no_tags}
 use Rattle.eap_method.specs.Turns.{ServerOutcome}
-use Rattle.server_machine.specs.ServerTable.{ServerNow, ServerAnswer, answer, server_made, vars_made, identity_request, success_packet, select_action, proposes, offers, server_row, server_deliver, server_method, server_start, method_answers, pick_up, before_proposal, is_backend, awaits_first}
+use Rattle.server_machine.specs.ServerTable.{ServerNow, ServerAnswer, answer, server_made, vars_made, identity_request, success_packet, select_action}
+use Rattle.server_machine.specs.ServerTable.{proposes, offers, server_row, server_deliver, server_method, server_start, method_answers, pick_up}
+use Rattle.server_machine.specs.ServerTable.{before_proposal, is_backend, awaits_first}
 use Rattle.server_machine.specs.declared.variables.Progress.{Progress}
 use Rattle.server_machine.specs.declared.variables.Progress.TheVariants as progress
 use Rattle.server_machine.specs.declared.variables.Role.{Role}
@@ -114,7 +116,8 @@ module _ (made : Made) where
       ∙ cond-false (kind == 1) _ _ not_1
 
   -- which asks again
-  pub goes_on : (octets : List ℕ) (id kind : ℕ) (body last : List ℕ) (at : Progress) (proposed : List ℕ) (views after : ServerViews) (packet : List ℕ) (tags : Tags)
+  pub goes_on : (octets : List ℕ) (id kind : ℕ) (body last : List ℕ) (at : Progress) (proposed : List ℕ) (views after : ServerViews) (packet : List ℕ)
+      (tags : Tags)
       → packet_of octets ≡ Ok (response id kind body)
       → (kind == 3) ≡ false → (kind == 1) ≡ false
       → server_turn made.setup.users (after_id id) kind views (spelled (response id kind body)) ≡ record { turn = turn.Request packet tags; after = after }
@@ -142,7 +145,8 @@ module _ (made : Made) where
 
 -- the start of a server of its own
 pub starts : (made : Made) → (let now = server_made made.role made.setup made.first_id made.max_retrans in server_start now
-    ≡ replies (state.Initialize ∷ state.SelectAction ∷ state.ProposeMethod ∷ state.MethodRequest ∷ state.SendRequest ∷ state.Idle ∷ []) (identity_request made.first_id) no_tags
+    ≡ replies (state.Initialize ∷ state.SelectAction ∷ state.ProposeMethod ∷ state.MethodRequest ∷ state.SendRequest ∷ state.Idle ∷ [])
+    (identity_request made.first_id) no_tags
     (server_at made made.first_id 1 progress.Continue (identity_request made.first_id) [] (views_begun made.setup)))
 unfolding server_start
 starts made = refl

@@ -22,7 +22,8 @@ use Rattle.eap_world.specs.World.{WorldNow, run_after, world_made, world_start}
 use Rattle.eap_world.proofs.HonestOfEither.{honest_of_either}
 use Rattle.eap_world.proofs.HonestRuns.{honest_ends_agree}
 use Rattle.smooth_laws.specs.Smooth.{EndsFit, HasShortNames, IsLoggedIn, SmoothLoginsSucceed, bound, bound_in, deliveries, takes_first}
-use Rattle.smooth_laws.proofs.Choosing.{few_kinds, few_suites, some_suites, found_passes, found_among, found_as_all, first_is_next, allowed_is_common, common_is_next, some_picked}
+use Rattle.smooth_laws.proofs.Choosing.{few_kinds, few_suites, some_suites, found_passes, found_among, found_as_all, first_is_next, allowed_is_common}
+use Rattle.smooth_laws.proofs.Choosing.{common_is_next, some_picked}
 use Rattle.smooth_laws.proofs.Exchange.{exchanged, number_after}
 use Rattle.smooth_laws.proofs.GpskTalk.{gpsk_talks}
 use Rattle.smooth_laws.proofs.Offers.{Has, IsShort, has_each, offers_of, psk, gpsk}
@@ -33,7 +34,8 @@ use Rattle.smooth_laws.proofs.Talk.{Talks, ids_differ, last_number, talked, talk
 use Rattle.smooth_laws.proofs.Moves.{BothIn, delivered, stay_in}
 
 -- the deliveries of a login without a Nak, and of one after it
-run_alike : (runs : Mode) (setup : Setup) → run_of (in_mode runs setup) (deliveries 1 (bound_in runs true)) ≡ talked runs (opened runs (started runs setup)) (number_opened runs)
+run_alike : (runs : Mode) (setup : Setup)
+    → run_of (in_mode runs setup) (deliveries 1 (bound_in runs true)) ≡ talked runs (opened runs (started runs setup)) (number_opened runs)
 unfolding run_after deliveries
 run_alike mode.Alone setup = refl
 run_alike mode.Through setup = refl
@@ -143,14 +145,16 @@ module _ (setup : Setup) (whole : IsWhole setup) (names : HasShortNames setup) w
     -- the peer refuses it
     logs_in_after_nak : (runs : Mode) (first : ℕ) (rest : List ℕ) → setup.server.methods ≡ first ∷ rest → is_among setup.peer.methods first ≡ false
         → (let n = number_opened runs in let w = opened runs (started runs setup) in
-        BothIn (talked runs (exchanged runs (exchanged runs w n) (number_after runs n)) (number_after runs (number_after runs n))) (last_number runs (number_after runs (number_after runs n))))
+        BothIn (talked runs (exchanged runs (exchanged runs w n) (number_after runs n)) (number_after runs (number_after runs n)))
+        (last_number runs (number_after runs (number_after runs n))))
     logs_in_after_nak runs first rest order refuses =
         let n : ℕ = number_opened runs in
         let w : WorldNow = opened runs (started runs setup) in
         let id : ℕ = after_id setup.first_id in
         let is_first = and_parts (is_kind first) (list_all is_kind rest) (ap (list_all is_kind) (sym order) ∙ kinds) in
         let offer = offers_of (made_in runs setup) short first id (views_begun setup.server)
-        (has_each setup.server first is_first.0 (ap (λ (methods : List ℕ). is_among methods first) order ∙ or_left (first == first) (is_among rest first) (eq-eqb first first refl))) in
+        (has_each setup.server first is_first.0 (ap (λ (methods : List ℕ). is_among methods first) order ∙ or_left (first == first) (is_among rest first)
+        (eq-eqb first first refl))) in
         let talk = talks runs (after_id id) offer.asked (offer.keeps fit.kind begins) in
         let next = ap (λ (methods : List ℕ). next_kind methods (first ∷ []) (Some (nak_of setup.peer.methods))) order
         ∙ common_is_next setup.peer.methods first fit.kind rest refuses (common_in first rest order) in
@@ -158,16 +162,19 @@ module _ (setup : Setup) (whole : IsWhole setup) (names : HasShortNames setup) w
         (exchanged runs (exchanged runs w n) (number_after runs n)) (number_after runs (number_after runs n))
         id _ _ (first ∷ fit.kind ∷ []) (ids_differ id) allowed
         (proposes_next setup.peer (made_in runs setup) runs w n id first fit.kind setup.first_id offer.asks _ _ talk.asks offer.asked talk.asked
-        offer.is_method talk.is_method offer.fits talk.asks_fits (few_kinds setup.peer.methods whole.peer.methods) (ids_differ setup.first_id) refuses next talk.offered
+        offer.is_method talk.is_method offer.fits talk.asks_fits (few_kinds setup.peer.methods whole.peer.methods) (ids_differ setup.first_id)
+        refuses next talk.offered
         (opens setup runs first offer.asks offer.asked names.peer offer.is_method offer.fits (first_chosen first rest order) offer.offered))
 
     logs_in_by : (runs : Mode) (first : ℕ) (rest : List ℕ) → setup.server.methods ≡ first ∷ rest → (takes : Bool) → is_among setup.peer.methods first ≡ takes
         → BothIn (run_of (in_mode runs setup) (deliveries 1 (bound_in runs takes))) (bound_in runs takes)
     logs_in_by runs first rest order true takes = both_at (sym (run_alike runs setup)) (sent_alike runs) (logs_in_alike runs first rest order takes)
-    logs_in_by runs first rest order false refuses = both_at (sym (run_after_nak runs setup)) (sent_after_nak runs) (logs_in_after_nak runs first rest order refuses)
+    logs_in_by runs first rest order false refuses =
+        both_at (sym (run_after_nak runs setup)) (sent_after_nak runs) (logs_in_after_nak runs first rest order refuses)
 
     logs_in_at : (runs : Mode) (order : List ℕ) → setup.server.methods ≡ order
-        → BothIn (run_of (in_mode runs setup) (deliveries 1 (bound_in runs (takes_first setup.peer.methods order)))) (bound_in runs (takes_first setup.peer.methods order))
+        → BothIn (run_of (in_mode runs setup) (deliveries 1 (bound_in runs (takes_first setup.peer.methods order))))
+        (bound_in runs (takes_first setup.peer.methods order))
     logs_in_at runs [] none = absurd (none-some fit.kind (ap (λ (methods : List ℕ). find (is_among setup.peer.methods) methods) (sym none) ∙ fit.common))
     logs_in_at runs (first ∷ rest) order = logs_in_by runs first rest order (is_among setup.peer.methods first) refl
 
@@ -187,7 +194,8 @@ is_logged_in setup events number whole both =
     }
 
 -- the run over more deliveries goes on where that over fewer ends
-run_parted : (w : WorldNow) (first count more : ℕ) → run_after w (deliveries first (count + more)) ≡ run_after (run_after w (deliveries first count)) (deliveries (first + count) more)
+run_parted : (w : WorldNow) (first count more : ℕ)
+    → run_after w (deliveries first (count + more)) ≡ run_after (run_after w (deliveries first count)) (deliveries (first + count) more)
 unfolding run_after deliveries
 run_parted w first zero more =
     let none : 0 + more ≡ more = omega arith in

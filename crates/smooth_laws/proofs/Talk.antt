@@ -95,7 +95,8 @@ last_number runs number = number_after runs (number_after runs (number_after run
 pub talks_through : (peer : PeerSetup) (made : Made) (kind id : ℕ) (begun : ServerViews) (talk : Talks peer made kind id begun)
     (runs : Mode) (w : WorldNow) (number last : ℕ) (said was : List ℕ) (proposed : List ℕ)
     → (last == id) ≡ false → is_among peer.methods kind ≡ true
-    → ToPeer w runs number id (peer_unbound peer last said) (server_at made id kind progress.Proposed was proposed talk.asked) (spelled (request id kind talk.asks)) []
+    → ToPeer w runs number id (peer_unbound peer last said) (server_at made id kind progress.Proposed was proposed talk.asked)
+    (spelled (request id kind talk.asks)) []
     → BothIn (talked runs w number) (last_number runs number)
 talks_through peer made kind id begun talk runs w number last said was proposed new allowed to =
     let next : ℕ = after_id id in

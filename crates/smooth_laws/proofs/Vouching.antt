@@ -57,7 +57,8 @@ makes event Peer tag = same_tag_same tag
 makes event Server tag = same_tag_same tag
 
 -- what an end makes is vouched for at the other
-made_vouched : (event : ℕ) (end : End) (book : List Entry) (tags : List TagRecord) → are_vouched (book ++ map (entry event end Made) tags) (other_end end) tags ≡ true
+made_vouched : (event : ℕ) (end : End) (book : List Entry) (tags : List TagRecord)
+    → are_vouched (book ++ map (entry event end Made) tags) (other_end end) tags ≡ true
 made_vouched event end book [] = refl
 made_vouched event end book (tag ∷ rest) =
     let made : List Entry = map (entry event end Made) rest in
@@ -65,7 +66,8 @@ made_vouched event end book (tag ∷ rest) =
     (ap (λ (all : List Entry). are_vouched all (other_end end) rest) (sym (append_assoc book (entry event end Made tag ∷ []) made))
     ∙ made_vouched event end (book ++ entry event end Made tag ∷ []) rest)
 
-broken_append : (earlier one other : List Entry) → first_broken Other earlier one ≡ None → first_broken Other earlier (one ++ other) ≡ first_broken Other (earlier ++ one) other
+broken_append : (earlier one other : List Entry) → first_broken Other earlier one ≡ None
+    → first_broken Other earlier (one ++ other) ≡ first_broken Other (earlier ++ one) other
 broken_append earlier [] other none = ap (λ (all : List Entry). first_broken Other all other) (sym (append-nil earlier))
 broken_append earlier (e ∷ rest) other none =
     let u = unbroken Other earlier e rest none in
@@ -93,7 +95,8 @@ pub record StaysHonest (book : List Entry) (end : End) (made : List TagRecord) :
   pub honest : first_broken Other [] book ≡ None
   pub vouched : are_vouched book (other_end end) made ≡ true
 
-pub stays_honest : (event : ℕ) (end : End) (book : List Entry) (accepted made : List TagRecord) → first_broken Other [] book ≡ None → are_vouched book end accepted ≡ true
+pub stays_honest : (event : ℕ) (end : End) (book : List Entry) (accepted made : List TagRecord) → first_broken Other [] book ≡ None
+    → are_vouched book end accepted ≡ true
     → StaysHonest (book ++ booked event end (record { accepted = accepted; made = made })) end made
 stays_honest event end book accepted made none h =
     let took : List Entry = map (entry event end Accepted) accepted in

@@ -56,8 +56,9 @@ abbrev pub takes_first : List ℕ → List ℕ → Bool
 takes_first allowed [] = false
 takes_first allowed (kind ∷ order) = is_among allowed kind
 
--- the deliveries that a login takes: without a Nak, or after one; the pass-through sends each packet but its
--- own Request and those to the peer's end once more
+-- the deliveries that a login takes, without a Nak and after one: an Identity round, four messages of the method and
+-- the Success, with two more packets for a Nak. The pass-through sends each of them but its own Identity Request once
+-- more (RFC 4137 section 7)
 abbrev pub bound_in : Mode → Bool → ℕ
 bound_in Alone true = 7
 bound_in Alone false = 9
