@@ -1,0 +1,23 @@
+use Rattle.std.proofs.Common.{refl, ◌∙◌}
+use Rattle.bulk_run.specs.Conversation.{deliveries}
+use Rattle.bulk_run.proofs.Conversing.{none_delivered, one_delivered}
+use Rattle.bulk_run.proofs.conversation.deliver_all.Goals as goal
+
+pub loop-passed-init : goal.loop-passed-init
+loop-passed-init g c = record {
+  run = λ setup is. none_delivered setup _ is;
+  started = c.requires.started;
+  packets = c.requires.packets;
+  few = c.requires.few;
+  kinds = refl;
+}
+
+pub loop-passed-preserved : goal.loop-passed-preserved
+loop-passed-preserved g c = record {
+  run = λ setup is.
+      one_delivered setup c.loop-passed.passed _ (c.in_ok-take.ensures.run setup (deliveries c.loop-passed.passed) (c.loop-passed.invariant.run setup is));
+  started = c.in_ok-take.ensures.started;
+  packets = c.in_ok-take.ensures.packets;
+  few = c.in_ok-take.ensures.few c.loop-passed.passed c.loop-passed.invariant.few;
+  kinds = c.take.ensures.kinds ∙ c.loop-passed.invariant.kinds;
+}

@@ -1,0 +1,20 @@
+use Rattle.std.proofs.Common.{◌≡◌, ℕ, ◌+◌, ◌*◌, [], length, true}
+use Rattle.eap_base.specs.declared.setup.Setup.{Setup}
+use Rattle.eap_world.specs.Agreement.{run_of}
+use Rattle.eap_world.specs.World.{KeepsKinds, now_of}
+use Rattle.bulk_run.specs.Conversation.{chances}
+use Rattle.bulk_run.specs.Draws.{state_at}
+use Rattle.bulk_run.specs.Going.{AreFew}
+use Rattle.bulk_run.proofs.conversation.take_chances.Given as goal
+
+abbrev pub invariant-loop : goal.invariant-loop
+invariant-loop g l = record {
+  run : (setup : Setup) (number place : ℕ) → now_of g.P.PeerMethod.peer_shown g.S.ServerMethod.server_shown l.initial.world ≡ run_of setup []
+      → l.initial.draws.state ≡ state_at number place
+      → now_of g.P.PeerMethod.peer_shown g.S.ServerMethod.server_shown l.world ≡ run_of setup (chances setup number place l.counter);
+  stands : (number place : ℕ) → l.initial.draws.state ≡ state_at number place → l.draws.state ≡ state_at number (place + 2 * l.counter);
+  started : l.world.started ≡ true;
+  packets : l.packets ≡ length l.world.sent;
+  few : AreFew l.world.counts l.counter;
+  kinds : KeepsKinds g.P.PeerMethod.peer_shown g.S.ServerMethod.server_shown l.initial.world l.world;
+}
