@@ -1,5 +1,5 @@
 -- No text that ends with status 0 has both the line of honest tags and the line of ends that are apart.
-use Rattle.std.proofs.Common.{◌≡◌, ℕ, ◌+◌, List, [], ◌∷◌, ◌++◌, Bool, true, false, Option, Some, None, Result, Ok, Err, flat_map, refl, sym, subst, ◌∙◌, codes, length, ◌≤◌, ◌==◌, All, arith, get_or}
+use Rattle.std.proofs.Common.{◌≡◌, ℕ, ◌+◌, List, [], ◌∷◌, ◌++◌, Bool, true, false, Option, Some, None, Result, Ok, Err, flat_map, refl, sym, subst, ◌∙◌, codes, decimal, length, ◌≤◌, ◌==◌, All, arith, get_or}
 use Rattle.std.proofs.lemmas.Bool.{true≢false, and_parts, leb-true, ne_eqb}
 use Rattle.std.proofs.lemmas.Option.{same_Some}
 use Rattle.std.proofs.lemmas.List.{append_cancel_left}
@@ -8,6 +8,7 @@ use Rattle.eap_base.specs.Known.{append_known}
 use Rattle.eap_base.specs.Lines.{Lines, ended, too_long, too_much, line, lines}
 use Rattle.eap_base.specs.declared.event.Event.{Event}
 use Rattle.eap_base.specs.declared.setup.Setup.{Setup}
+use Rattle.bulk_run.specs.declared.summary.Summary.{Summary}
 use Rattle.eap_world.specs.Agreement.{run_of, AgreesWhereHonest}
 use Rattle.eap_world.specs.Book.{tags_verdict}
 use Rattle.eap_world.specs.Judgement.{verdict_of}
@@ -29,7 +30,8 @@ use Rattle.scenario_text.specs.declared.capture.CaptureItem.TheVariants as captu
 use Rattle.scenario_text.specs.Items.{Item}
 use Rattle.scenario_text.specs.Items as item
 use Rattle.trace_text.specs.Run.{begin_text, outcome_text, end_text}
-use Rattle.trace_text.proofs.Plain.{is_within, plain, over, none, join, skips}
+use Rattle.trace_text.specs.Lines.{line_text}
+use Rattle.trace_text.proofs.Plain.{is_within, plain, over, none, join, skips, through, decimal_within}
 use Rattle.trace_text.proofs.PlainAnswers.{begins_result, packet_plain, packets_plain, key_plain}
 use Rattle.trace_text.proofs.PlainFindings.{finding_plain, findings_plain}
 use Rattle.trace_text.proofs.PlainTexts.{begins_verdict, no_verdict, told_plain, start_plain}
@@ -40,7 +42,9 @@ use Rattle.login_call.specs.Commands.{Took, Closing, Ruling, goes, refuses, Clos
 use Rattle.login_call.specs.Decode.{took_packet, decode_took, decode_closing, nothing_decoded, decode_answer}
 use Rattle.login_call.specs.Keys.{Asking, took_request, keys_took, keys_closing, all_asked, keys_answer}
 use Rattle.login_call.specs.Check.{CheckNow, item_took, line_took, check_took, check_end, check_closing, nothing_checked, check_answer}
-use Rattle.login_call.specs.Login.{usage_answer}
+use Rattle.login_call.specs.Bulk.{bulk_of, bulk_line, verdicts_text, handled_text, bulk_text, bulk_answer}
+use Rattle.login_call.specs.Login.{usage_answer, unread_answer}
+use Rattle.login_call.specs.declared.bulk.Bulk.{Bulk}
 use Rattle.login_call.specs.declared.decode.Decode.{Decode}
 use Rattle.login_call.specs.Headline.{NeverBoth, WritesNeverBoth}
 use Rattle.login_call.specs.Scenario.{Outcome, whole, refused, Scenario, stops, adds, is_event, with_line, events_after, read_after, scenario_from, scenario_of, too_much_at, finish_outcome, events_text, setup_answer, trace_header, replay_answer}
@@ -289,6 +293,33 @@ never_check : (octets : List ℕ) → Never (check_answer octets)
 never_check octets =
     never_if_plain _ (plain_while check_took check_closing IsOrderly line_checked all_checked (lines octets) 0 nothing_checked begins_orderly)
 
+-- ---- a summary
+
+line_plain : (number count : ℕ) → plain begins_result true (bulk_line number count) ≡ true
+unfolding bulk_line
+line_plain number count = through begins_result (decimal number) _ (decimal_within number) (through begins_result (decimal count) _ (decimal_within count) refl)
+
+verdicts_plain : (s : Summary) → plain begins_result true (verdicts_text s) ≡ true
+unfolding verdicts_text
+verdicts_plain s =
+    through begins_result (decimal s.conversations) _ (decimal_within s.conversations) (through begins_result (decimal s.agree) _ (decimal_within s.agree)
+    (through begins_result (decimal s.unfinished) _ (decimal_within s.unfinished) (through begins_result (decimal s.apart) _ (decimal_within s.apart)
+    (through begins_result (decimal s.broken) _ (decimal_within s.broken) refl))))
+
+handled_plain : (s : Summary) → plain begins_result true (handled_text s) ≡ true
+unfolding handled_text
+handled_plain s =
+    through begins_result (decimal s.deliveries) _ (decimal_within s.deliveries) (through begins_result (decimal s.discards) _ (decimal_within s.discards) refl)
+
+summary_plain : (number count : ℕ) (s : Summary) → plain begins_result true (bulk_text number count s) ≡ true
+summary_plain number count s =
+    join begins_result (bulk_line number count) _ true (line_plain number count)
+    (join begins_result (verdicts_text s) _ true (verdicts_plain s) (join begins_result (handled_text s) (line_text (codes "end")) true (handled_plain s) refl))
+
+never_bulk : (b : Bulk) → Never (bulk_answer b)
+unfolding bulk_answer
+never_bulk b = never_if_plain _ (record { holds = λ done. summary_plain b.number b.count _ })
+
 -- ---- what is written
 
 never_usage : Never usage_answer
@@ -320,6 +351,13 @@ module _ (s : Status) (before now : Option (List ℕ)) where
 
   pub check_writes : (octets : List ℕ) → Ends s before now (check_answer octets) → WritesNeverBoth s before now
   check_writes octets = written (check_answer octets) s before now (never_check octets)
+
+  unread_writes_by : (asked : Option Bulk) → Ends s before now (unread_answer asked) → WritesNeverBoth s before now
+  unread_writes_by None = written usage_answer s before now never_usage
+  unread_writes_by (Some b) = written (bulk_answer b) s before now (never_bulk b)
+
+  pub unread_writes : (words : List (List ℕ)) → Ends s before now (unread_answer (bulk_of words)) → WritesNeverBoth s before now
+  unread_writes words = unread_writes_by (bulk_of words)
 
   pub usage_writes : Ends s before now usage_answer → WritesNeverBoth s before now
   usage_writes = written usage_answer s before now never_usage

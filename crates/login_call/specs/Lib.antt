@@ -1,4 +1,5 @@
 pub mod Answers
+pub mod Bulk
 pub mod Check
 pub mod CheckSteps
 pub mod Commands

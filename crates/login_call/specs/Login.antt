@@ -1,12 +1,14 @@
 -- What the program answers to words and an input.
-use Rattle.std.specs.Prelude.{◌≡◌, ℕ, List, [], ◌∷◌, Bool, true, false, ◌||◌, ◌&&◌, if◌then◌else◌, codes, is_some}
+use Rattle.std.specs.Prelude.{◌≡◌, ℕ, List, [], ◌∷◌, Bool, true, false, ◌||◌, ◌&&◌, if◌then◌else◌, codes, is_some, Option, Some, None}
 use Rattle.std.specs.Str.{bytes_eq}
 use Rattle.trace_text.specs.Lines.{line_text}
 use Rattle.login_call.specs.Answers.{Answer}
+use Rattle.login_call.specs.Bulk.{bulk_of, bulk_answer, is_bulk}
 use Rattle.login_call.specs.Check.{check_answer}
 use Rattle.login_call.specs.Decode.{decode_answer}
 use Rattle.login_call.specs.Keys.{keys_answer}
 use Rattle.login_call.specs.Scenario.{replay_answer, scenario_of}
+use Rattle.login_call.specs.declared.bulk.Bulk.{Bulk}
 use Rattle.login_call.specs.declared.status.Status.TheVariants as status
 
 -- the words are this one alone
@@ -41,9 +43,17 @@ is_replay_names words = are_two (codes "replay") (codes "names") words
 abbrev pub reads_scenario : List (List ℕ) → Bool
 reads_scenario words = is_replay words || is_replay_names words
 
--- the words are one of the forms that are built
+-- the words are one of the forms that read an input
+abbrev pub reads_input : List (List ℕ) → Bool
+reads_input words = is_replay words || (is_replay_names words || (is_decode words || (is_keys words || is_check words)))
+
+-- the words are one of the forms
 abbrev pub is_form : List (List ℕ) → Bool
-is_form words = is_replay words || (is_replay_names words || (is_decode words || (is_keys words || is_check words)))
+is_form words = reads_input words || is_bulk words
+
+-- the words are one of the forms that take memory
+abbrev pub takes_memory : List (List ℕ) → Bool
+takes_memory words = reads_scenario words || is_bulk words
 
 -- for all other words the program says how it is used
 unfoldable pub usage_text : List ℕ
@@ -51,6 +61,11 @@ usage_text = line_text (codes "usage: eap_login replay | replay names | decode |
 
 abbrev pub usage_answer : Answer
 usage_answer = record { text = usage_text; status = status.Usage }
+
+-- the answer to words that read nothing
+abbrev pub unread_answer : Option Bulk → Answer
+unread_answer None = usage_answer
+unread_answer (Some b) = bulk_answer b
 
 -- the answer to words and an input
 abbrev pub login_answer : List (List ℕ) → List ℕ → Answer
@@ -60,7 +75,7 @@ login_answer words octets =
     else if is_decode words then decode_answer octets
     else if is_keys words then keys_answer octets
     else if is_check words then check_answer octets
-    else usage_answer
+    else unread_answer (bulk_of words)
 
 -- the input's settings are whole, so that the run of its events begins
 abbrev pub HasSetup : List ℕ → Type 0

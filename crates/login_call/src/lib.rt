@@ -1,8 +1,10 @@
 //! The one call that the program makes, [`eap_login`], and its commands: `replay` and `replay names` of
-//! a scenario, `decode` of packets, `keys` for ciphers, MACs and key schedules, `check` of captures.
+//! a scenario, `decode` of packets, `keys` for ciphers, MACs and key schedules, `check` of captures,
+//! `bulk N K` for many conversations.
 #![tactic(auto)]
 
 mod beginning;
+mod bulk;
 mod check;
 mod command;
 mod decode;

@@ -2,7 +2,8 @@
 
 ghost use Rattle.std.specs.Prelude.{◌≡◌, ◌≢◌, ◌≤◌, ℕ, List, Option, Some, true, false, map, string_bytes};
 ghost use Rattle.login_call.specs.Answers.{Ends, Drains, Finishes, IsWritten, KeepsReads, KeepsWrites, HasRisen};
-ghost use Rattle.login_call.specs.Login.{is_alone, are_two, reads_scenario, is_form, login_answer, usage_answer, usage_text, HasSetup};
+ghost use Rattle.login_call.specs.Bulk.{bulk_of, is_bulk};
+ghost use Rattle.login_call.specs.Login.{is_alone, are_two, reads_scenario, reads_input, is_form, takes_memory, login_answer, unread_answer, usage_answer, usage_text, HasSetup};
 ghost use Rattle.login_call.specs.Check.{check_answer};
 ghost use Rattle.login_call.specs.Decode.{decode_answer};
 ghost use Rattle.login_call.specs.Keys.{keys_answer};
@@ -11,6 +12,7 @@ ghost use Rattle.login_call.specs.Replay.{HasBoth};
 ghost use Rattle.login_call.specs.Scenario.{replay_answer, trace_header};
 ghost use Rattle.trace_text.specs.Writes.{Appends};
 
+use crate::bulk::{bulk_of, run_bulk};
 use crate::check::Check;
 use crate::decode::Decode;
 use crate::drive::drive;
@@ -32,10 +34,12 @@ use trace_text::write_line;
 /// - `keys` reads requests for ciphers, MACs and keys and writes the answers. It takes no memory.
 /// - `check` reads a capture of packets with the keys of its users, and writes for each packet whether its
 ///   tags are right. It takes no memory.
+/// - `bulk N K` runs K conversations, 1 to 1,000, of the number N, 0 to 999,999, and writes what they came to. It
+///   takes memory; the source isn't touched.
 /// - All other words write the usage line; the source isn't touched.
 ///
 /// Each of the two lists of `methods` has an object of EAP-PSK and one of EAP-GPSK.
-#[tactic(auto, using(crate::proofs::NeverBoth::usage_writes, crate::proofs::Endings::keeps_reads))]
+#[tactic(auto, using(crate::proofs::NeverBoth::unread_writes, crate::proofs::Endings::keeps_reads))]
 pub fn eap_login<P: PeerMethod, M: ServerMethod, S: Source, W: Sink>(
     alloc: Global,
     words: &Vec<String>,
@@ -46,10 +50,10 @@ pub fn eap_login<P: PeerMethod, M: ServerMethod, S: Source, W: Sink>(
     requires { HasBoth P.peer_shown M.server_shown methods }
 
     // With status 0, 1, 2, 6 or 7 the whole text was written and the status is that of the answer. With
-    // 3, 4 or 5 a front of the text was.
+    // 3, 4 or 5 a front of the text was. With 0 or 7 the source has nothing left, but for `bulk N K`.
     ensures ends { (octets : List ℕ) → S.left source.old ≡ Some octets
         → Ends result (W.written sink.old) (W.written sink.new) (login_answer (map string_bytes words.now.items) octets) }
-    ensures drains { Drains result (S.left source.new) }
+    ensures drains { is_bulk (map string_bytes words.now.items) ≡ false → Drains result (S.left source.new) }
 
     // Whatever the scenario has delivered, lost, repeated, reordered, altered, reflected or injected: where
     // each tag that an end accepted was made earlier by either end, as it is where the trace says `tags
@@ -63,18 +67,22 @@ pub fn eap_login<P: PeerMethod, M: ServerMethod, S: Source, W: Sink>(
     ensures never_both { (octets : List ℕ) → S.left source.old ≡ Some octets → WritesNeverBoth result (W.written sink.old) (W.written sink.new) }
 
     // A fault comes exactly where its count rose in this call, or stands at its last value: none is passed
-    // over. Want of memory comes only for `replay`, after the line `events` was taken.
+    // over. Want of memory comes only for `replay`, after the line `events` was taken, and for `bulk N K`.
     ensures read_fault { result ≡ Status.ReadFault → HasRisen S.last_read_fault (S.read_faults source.old) (S.read_faults source.new) }
     ensures write_fault { result ≡ Status.WriteFault → HasRisen W.last_write_fault (W.write_faults sink.old) (W.write_faults sink.new) }
     ensures reads { KeepsReads result (S.read_faults source.old) (S.read_faults source.new) }
     ensures writes { KeepsWrites result (W.write_faults sink.old) (W.write_faults sink.new) }
-    ensures memory { result ≡ Status.Memory → reads_scenario (map string_bytes words.now.items) ≡ true }
-    ensures setup { result ≡ Status.Memory → (octets : List ℕ) → S.left source.old ≡ Some octets → HasSetup octets }
+    ensures memory { result ≡ Status.Memory → takes_memory (map string_bytes words.now.items) ≡ true }
+    ensures setup { result ≡ Status.Memory → reads_scenario (map string_bytes words.now.items) ≡ true
+        → (octets : List ℕ) → S.left source.old ≡ Some octets → HasSetup octets }
 
-    // Words that are none of the forms leave the source as it was.
+    // `bulk N K`, and words that are none of the forms, leave the source as it was: their answer asks nothing of it.
+    ensures unread_ends { reads_input (map string_bytes words.now.items) ≡ false
+        → Ends result (W.written sink.old) (W.written sink.new) (unread_answer (bulk_of (map string_bytes words.now.items))) }
+    ensures unread { reads_input (map string_bytes words.now.items) ≡ false → result ≢ Status.ReadFault }
+    ensures untouched { reads_input (map string_bytes words.now.items) ≡ false → source.new ≡ source.old }
     ensures usage_ends { is_form (map string_bytes words.now.items) ≡ false → Ends result (W.written sink.old) (W.written sink.new) usage_answer }
     ensures usage_written { is_form (map string_bytes words.now.items) ≡ false → IsWritten result }
-    ensures untouched { is_form (map string_bytes words.now.items) ≡ false → source.new ≡ source.old }
 {
     if are_alone(words, "replay") {
         replay(alloc, false, source, sink, methods)
@@ -87,7 +95,7 @@ pub fn eap_login<P: PeerMethod, M: ServerMethod, S: Source, W: Sink>(
     } else if are_alone(words, "check") {
         check(source, sink)
     } else {
-        show_usage(sink)
+        answer_unread(alloc, words, sink, methods)
     }
 }
 
@@ -108,6 +116,29 @@ fn are_two(words: &Vec<String>, first: &str, second: &str) -> bool
     match words.as_slice() {
         [word, next] => word.as_str() == first && next.as_str() == second,
         _ => false,
+    }
+}
+
+/// Answers to words that read no input: to `bulk N K` by a summary, to all others by the usage line.
+fn answer_unread<P: PeerMethod, M: ServerMethod, W: Sink>(
+    alloc: Global,
+    words: &Vec<String>,
+    sink: &mut W,
+    methods: Methods<P, M>,
+) -> Status
+    requires { HasBoth P.peer_shown M.server_shown methods }
+    ensures ends { Ends result (W.written sink.old) (W.written sink.new) (unread_answer (bulk_of (map string_bytes words.now.items))) }
+    ensures drains { is_bulk (map string_bytes words.now.items) ≡ false → (left : Option (List ℕ)) → Drains result left }
+    ensures write_fault { result ≡ Status.WriteFault → HasRisen W.last_write_fault (W.write_faults sink.old) (W.write_faults sink.new) }
+    ensures writes { KeepsWrites result (W.write_faults sink.old) (W.write_faults sink.new) }
+    ensures memory { result ≡ Status.Memory → is_bulk (map string_bytes words.now.items) ≡ true }
+    ensures unread { result ≢ Status.ReadFault }
+    ensures usage_ends { is_bulk (map string_bytes words.now.items) ≡ false → Ends result (W.written sink.old) (W.written sink.new) usage_answer }
+    ensures usage_written { is_bulk (map string_bytes words.now.items) ≡ false → IsWritten result }
+{
+    match bulk_of(words) {
+        Some(asked) => run_bulk(alloc, asked, sink, methods),
+        None => show_usage(sink),
     }
 }
 

@@ -14,7 +14,7 @@ module _ {S W : Type 0} (left : S → Option (List ℕ)) (read_faults : S → �
       → Answers left read_faults last_read_fault written write_faults last_write_fault words source source sink sink status.Memory
   lacking words source sink = record {
     ends = λ octets e. front_none (written sink) _;
-    drains = tt;
+    drains = λ e. tt;
     honest_ends_agree = headline;
     never_both = λ octets e. record { holds = λ h old text b n. absurd cc };
     read_fault = λ h. absurd cc;
@@ -22,9 +22,11 @@ module _ {S W : Type 0} (left : S → Option (List ℕ)) (read_faults : S → �
     reads = refl;
     writes = refl;
     memory = λ h. inr (refl, refl);
+    unread_ends = λ e. front_none (written sink) _;
+    unread = λ e h. absurd cc;
+    untouched = λ e. refl;
     usage_ends = λ e. front_none (written sink) _;
     usage = λ e. tt;
-    untouched = λ e. refl;
   }
 
   pub exits : {E : Type 0} (words : List (List ℕ)) (before : S) (now : S) (old : W) (new : W) (number : ℕ) (result : Result Status E)

@@ -1,8 +1,9 @@
 -- How a run of the program ends: by what it was started with, what it read and wrote, and its exit status.
-use Rattle.std.specs.Prelude.{◌≡◌, ℕ, List, drop, Option, Some, true, false, ◌⊎◌}
+use Rattle.std.specs.Prelude.{◌≡◌, ◌≢◌, ℕ, List, drop, Option, Some, true, false, ◌⊎◌}
 use Rattle.login_call.specs.Answers.{Ends, Drains, HasRisen, KeepsReads, KeepsWrites}
 use Rattle.login_call.specs.Headline.{HonestEndsAgree, WritesNeverBoth}
-use Rattle.login_call.specs.Login.{reads_scenario, is_form, login_answer, usage_answer, HasSetup}
+use Rattle.login_call.specs.Bulk.{bulk_of, is_bulk}
+use Rattle.login_call.specs.Login.{reads_scenario, reads_input, is_form, takes_memory, login_answer, unread_answer, usage_answer, HasSetup}
 use Rattle.login_call.specs.Statuses.{number_of}
 use Rattle.login_call.specs.declared.status.Status.{Status}
 use Rattle.login_call.specs.declared.status.Status.TheVariants as status
@@ -28,8 +29,8 @@ module _ {S W : Type 0} (left : S → Option (List ℕ)) (read_faults : S → �
     -- with status 0, 1, 2 or 6 the whole text was written and the status is that of the answer; with 3, 4 or 5
     -- a front of the text was
     pub ends : (octets : List ℕ) → left before ≡ Some octets → Ends s (written old) (written new) (login_answer words octets)
-    -- with status 0 nothing is left to read
-    pub drains : Drains s (left now)
+    -- with status 0 nothing is left to read, but for `bulk N K`
+    pub drains : is_bulk words ≡ false → Drains s (left now)
     -- in the run of the scenario that the input is, over honest tags two ends that both succeed agree; no text
     -- written with status 0 says both that all tags are honest and that the ends are apart
     pub honest_ends_agree : (octets : List ℕ) → HonestEndsAgree octets
@@ -39,13 +40,16 @@ module _ {S W : Type 0} (left : S → Option (List ℕ)) (read_faults : S → �
     pub write_fault : s ≡ status.WriteFault → HasRisen last_write_fault (write_faults old) (write_faults new)
     pub reads : KeepsReads s (read_faults before) (read_faults now)
     pub writes : KeepsWrites s (write_faults old) (write_faults new)
-    -- memory is wanting in a scenario whose settings are whole, or before anything is read or written
+    -- memory is wanting in a scenario whose settings are whole, for `bulk N K`, or before anything is read or written
     pub memory : s ≡ status.Memory
-        → (reads_scenario words ≡ true × ((octets : List ℕ) → left before ≡ Some octets → HasSetup octets)) ⊎ ((now ≡ before) × (new ≡ old))
-    -- words that are none of the forms leave the source as it was
+        → (takes_memory words ≡ true × (reads_scenario words ≡ true → (octets : List ℕ) → left before ≡ Some octets → HasSetup octets))
+        ⊎ ((now ≡ before) × (new ≡ old))
+    -- `bulk N K`, and words that are none of the forms, leave the source as it was: their answer asks nothing of it
+    pub unread_ends : reads_input words ≡ false → Ends s (written old) (written new) (unread_answer (bulk_of words))
+    pub unread : reads_input words ≡ false → s ≢ status.ReadFault
+    pub untouched : reads_input words ≡ false → now ≡ before
     pub usage_ends : is_form words ≡ false → Ends s (written old) (written new) usage_answer
     pub usage : is_form words ≡ false → IsUsage s
-    pub untouched : is_form words ≡ false → now ≡ before
 
   -- words were answered, and the exit status is the number of the status
   pub record Exits (words : List (List ℕ)) (before : S) (now : S) (old : W) (new : W) (number : ℕ) : Type 0 where

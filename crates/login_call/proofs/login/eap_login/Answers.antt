@@ -34,5 +34,5 @@ returns-then-are_alone-3-clause-honest_ends_agree g c octets = headline octets
 pub returns-then-are_alone-4-clause-honest_ends_agree : goal.returns-then-are_alone-4-clause-honest_ends_agree
 returns-then-are_alone-4-clause-honest_ends_agree g c octets = headline octets
 
-pub returns-clause-honest_ends_agree : goal.returns-clause-honest_ends_agree
-returns-clause-honest_ends_agree g c octets = headline octets
+pub returns-else-are_alone-4-clause-honest_ends_agree : goal.returns-else-are_alone-4-clause-honest_ends_agree
+returns-else-are_alone-4-clause-honest_ends_agree g c octets = headline octets
