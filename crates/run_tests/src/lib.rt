@@ -12,6 +12,8 @@ mod reflections;
 #[cfg(test)]
 mod runs;
 #[cfg(test)]
+mod smooth;
+#[cfg(test)]
 mod through;
 #[cfg(test)]
 mod worlds;
