@@ -54,7 +54,7 @@ setup_valid (line l rest) n k r setup valid same =
     (λ out is. setup_valid rest (n + 1) (events_after k (read_line r l)) (read_after r (read_line r l)) setup (after_valid r (read_line r l) out read is))
     same
 
-whole_if_valid : (setup : Setup) → IsValidSetup setup → IsWhole setup
+pub whole_if_valid : (setup : Setup) → IsValidSetup setup → IsWhole setup
 whole_if_valid setup valid = record {
   peer = valid.peer.sound;
   keys = valid.peer.keys;

@@ -16,3 +16,5 @@ pub mod Headline
 pub mod Inputs
 -- No text that ends with status 0 has both the line of honest tags and the line of ends that are apart.
 pub mod NeverBoth
+-- The trace of a smooth login ends with agreement.
+pub mod SmoothTraces

@@ -11,3 +11,4 @@ pub mod Scenario
 pub mod Statuses
 pub mod Whole
 pub mod Headline
+pub mod SmoothTraces

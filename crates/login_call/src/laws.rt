@@ -1,5 +1,6 @@
-//! The law of whole inputs. It is the contract of a function that does nothing.
+//! The laws of whole inputs and of smooth traces. Each is the contract of a function that does nothing.
 
+ghost use Rattle.login_call.specs.SmoothTraces.{SmoothTracesAgree};
 ghost use Rattle.login_call.specs.Whole.{InputsAreScenarios};
 
 /// An input is read as a whole scenario exactly where it is one: no line and not the input is over its
@@ -8,4 +9,12 @@ ghost use Rattle.login_call.specs.Whole.{InputsAreScenarios};
 #[tactic(auto, using(crate::proofs::Inputs::inputs_are_scenarios))]
 pub fn inputs_are_scenarios()
     ensures { InputsAreScenarios }
+{}
+
+/// The trace of a smooth login ends with agreement: where an input is a scenario of two ends that fit, whose
+/// events deliver packet 1, packet 2 and on, each once and in order, and at least as many as the login takes,
+/// the answer of `replay` and of `replay names` has status 0 and ends with the lines `tags honest`,
+/// `result agree` and `end`.
+pub fn smooth_traces_agree()
+    ensures { SmoothTracesAgree }
 {}

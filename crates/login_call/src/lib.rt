@@ -17,7 +17,7 @@ mod replay;
 mod status;
 
 pub use beginning::world_of;
-pub use laws::inputs_are_scenarios;
+pub use laws::{inputs_are_scenarios, smooth_traces_agree};
 pub use login::eap_login;
 pub use objects::{both_peers, both_servers};
 pub use status::Status;
