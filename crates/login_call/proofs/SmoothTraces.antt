@@ -1,6 +1,6 @@
 -- The trace of a smooth login ends with agreement.
-use Rattle.std.proofs.Common.{◌≡◌, ℕ, List, ◌++◌, Bool, Some, refl, sym, ap, subst, ◌∙◌, append_assoc}
-use Rattle.std.specs.Prelude.{Option, codes}
+use Rattle.std.proofs.Common.{◌≡◌, ℕ, List, ◌++◌, Bool, Some, refl, sym, ap, subst, ◌∙◌, append_assoc, append-nil, []}
+use Rattle.std.specs.Prelude.{Option, codes, decimal}
 use Rattle.eap_base.specs.declared.event.Event.{Event}
 use Rattle.eap_base.specs.declared.setup.Setup.{Setup}
 use Rattle.eap_base.specs.Lines.{lines}
@@ -27,14 +27,32 @@ use Rattle.login_call.specs.SmoothTraces.{TellsAgreement, SmoothTracesAgree}
 use Rattle.login_call.proofs.Headline.{setup_valid, whole_if_valid}
 use Rattle.login_call.proofs.Inputs.{inputs_are_scenarios}
 
+-- the lines of the counts, but for the last LF
+front_of_counts : Counts → List ℕ
+front_of_counts counts =
+    codes "events " ++ (decimal counts.events ++ (codes "\ndeliveries " ++ (decimal counts.deliveries ++ (codes "\ndiscards " ++ decimal counts.discards))))
+
+last_of_six : (a b c d e f x : List ℕ) → a ++ (b ++ (c ++ (d ++ (e ++ (f ++ (x ++ [])))))) ≡ (a ++ (b ++ (c ++ (d ++ (e ++ f))))) ++ x
+last_of_six a b c d e f x = simp (append_assoc, append-nil)
+
+counts_end : (counts : Counts) → counts_text counts ≡ front_of_counts counts ++ codes "\n"
+unfolding counts_text front_of_counts
+counts_end counts =
+    last_of_six (codes "events ") (decimal counts.events) (codes "\ndeliveries ") (decimal counts.deliveries) (codes "\ndiscards ")
+    (decimal counts.discards) (codes "\n")
+
 -- the last lines
-end_agrees : (peer : State) (pass : Option State) (server : State) (counts : Counts) (tags : TagsVerdict) (verdict : Verdict) → tags ≡ Honest → verdict ≡ Agree
-    → end_text_of peer pass server counts tags verdict ≡ (stands_text peer pass server ++ counts_text counts) ++ codes "tags honest\nresult agree\nend\n"
+end_agrees : (peer : State) (pass : Option State) (server : State) (counts : Counts) (tags : TagsVerdict) (verdict : Verdict)
+    → tags ≡ Honest → verdict ≡ Agree → end_text_of peer pass server counts tags verdict
+    ≡ (stands_text peer pass server ++ front_of_counts counts) ++ codes "\ntags honest\nresult agree\nend\n"
 unfolding end_text_of tags_text result_text
 end_agrees peer pass server counts tags verdict honest agree =
+    let told : List ℕ = codes "tags honest\nresult agree\nend\n" in
     ap (λ (t : TagsVerdict). stands_text peer pass server ++ (counts_text counts ++ (tags_text t ++ result_text verdict))) honest
     ∙ ap (λ (v : Verdict). stands_text peer pass server ++ (counts_text counts ++ (tags_text Honest ++ result_text v))) agree
-    ∙ sym (append_assoc (stands_text peer pass server) (counts_text counts) (codes "tags honest\nresult agree\nend\n"))
+    ∙ ap (λ (t : List ℕ). stands_text peer pass server ++ (t ++ told)) (counts_end counts)
+    ∙ ap (λ (t : List ℕ). stands_text peer pass server ++ t) (append_assoc (front_of_counts counts) (codes "\n") told)
+    ∙ sym (append_assoc (stands_text peer pass server) (front_of_counts counts) (codes "\ntags honest\nresult agree\nend\n"))
 
 -- four texts before the last
 last_of_five : (a b c d e x : List ℕ) → e ≡ d ++ x → a ++ (b ++ (c ++ e)) ≡ (a ++ (b ++ (c ++ d))) ++ x
@@ -50,7 +68,8 @@ run_tells : (names : Bool) (setup : Setup) (events : List Event) → (let w = ru
 run_tells names setup events honest agree =
     let w : WorldNow = run_of setup events in
     let begun = world_start (world_made setup) in
-    let front : List ℕ = stands_text w.parties.peer.vars.state (pass_state w.parties.mode w.parties.pass) w.parties.server.vars.state ++ counts_text w.counts in
+    let front : List ℕ =
+    stands_text w.parties.peer.vars.state (pass_state w.parties.mode w.parties.pass) w.parties.server.vars.state ++ front_of_counts w.counts in
     record {
       status = refl;
       before = trace_header ++ (begin_text names begun ++ (events_text names begun.after events ++ front));

@@ -8,11 +8,11 @@ use Rattle.login_call.specs.Scenario.{replay_answer}
 use Rattle.login_call.specs.Whole.{IsInputOf}
 use Rattle.login_call.specs.declared.status.Status.TheVariants.{Done}
 
--- the status is 0, and the last lines say that all tags are honest and that the ends agree
+-- the status is 0, and the last three lines say that all tags are honest and that the ends agree
 pub record TellsAgreement (a : Answer) : Type 0 where
   pub status : a.status ≡ Done
   pub before : List ℕ
-  pub text : a.text ≡ before ++ codes "tags honest\nresult agree\nend\n"
+  pub text : a.text ≡ before ++ codes "\ntags honest\nresult agree\nend\n"
 
 -- so it is where an input is a scenario of a smooth login of at least `bound` deliveries
 abbrev pub SmoothTracesAgree : Type 0
