@@ -6,11 +6,22 @@ use Rattle.eap_base.specs.declared.setup.PeerSetup.{PeerSetup}
 use Rattle.eap_base.specs.declared.setup.ServerSetup.{ServerSetup}
 use Rattle.eap_base.specs.Setup.{psk_kind, gpsk_kind, is_among}
 use Rattle.eap_method.specs.Begun.{peer_begun_in, server_begun_in}
+use Rattle.eap_method.specs.GpskServer as gpsk_server
+use Rattle.eap_method.specs.PskServer as psk_server
 use Rattle.eap_method.specs.Peer as peer
 use Rattle.eap_method.specs.Peer.{PeerShown, peer_kind}
 use Rattle.eap_method.specs.Server as server
 use Rattle.eap_method.specs.Server.{ServerShown, server_kind}
 use Rattle.eap_method.specs.Unnamed.{peers_unnamed, servers_unnamed}
+
+-- of two objects, by the definition alone: which stay where one method, both or none is named
+named : (one : psk_server.View) (other : gpsk_server.View) → (let shown = server.psk one ∷ server.gpsk other ∷ [] in
+    (servers_unnamed (gpsk_kind ∷ []) shown ≡ server.psk one ∷ [])
+    × (servers_unnamed (psk_kind ∷ []) shown ≡ server.gpsk other ∷ [])
+    × (servers_unnamed (gpsk_kind ∷ psk_kind ∷ []) shown ≡ [])
+    × (servers_unnamed [] shown ≡ shown))
+unfolding servers_unnamed
+named one other = (refl, refl, refl, refl)
 
 -- one more element before two lists of which the same is left
 one-more : {X : Type 0} (passes : Bool) (x : X) (after before : List X) → after ≡ before → cond passes (x ∷ after) after ≡ cond passes (x ∷ before) before
