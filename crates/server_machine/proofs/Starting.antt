@@ -10,7 +10,8 @@ use Rattle.server_machine.specs.Laws.{StaysStarted, StartsOnce}
 use Rattle.server_machine.specs.Rows.{Selects, after_identity, after_nak, first_identity, first_nak, first_other, ServerRow, ended, rests}
 use Rattle.server_machine.specs.Rows.{goes_on, drops, starts, resends, times_out, proposes, proposes_without, proposes_none, requests}
 use Rattle.server_machine.specs.Rows.{succeeds, method_fails}
-use Rattle.server_machine.specs.ServerTable.{ServerNow, ServerAnswer, answer, has_timer, is_backend, is_ready, is_started, server_deliver, server_made, server_start}
+use Rattle.server_machine.specs.ServerTable.{ServerNow, ServerAnswer, answer, has_timer, is_backend, is_ready, is_started, server_deliver}
+use Rattle.server_machine.specs.ServerTable.{server_made, server_start}
 use Rattle.server_machine.specs.declared.variables.Role.TheVariants.{Backend, StandAlone}
 use Rattle.server_machine.specs.declared.variables.ServerVariables.{ServerVariables}
 use Rattle.server_machine.proofs.ServerRows.{server_answers_are_rows}

@@ -232,7 +232,7 @@ impl<M: ServerMethod> ServerMachine<M> {
         !matches!(self.vars.state, State::Initialize)
     }
 
-    /// True for the backend of RFC 4137 section 6, which is never started and has no retransmission timer.
+    /// True for the backend of RFC 4137 section 6, which begins with its first Response and sends nothing again.
     pub fn is_backend(&self) -> bool
         ensures { result ≡ is_backend self.now.vars }
     {
