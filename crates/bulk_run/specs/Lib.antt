@@ -6,3 +6,5 @@ pub mod Conversation
 pub mod Summing
 -- What a step does to a world on its way.
 pub mod Going
+-- The objects of both ends, by their methods.
+pub mod Kinds

@@ -6,7 +6,8 @@ ghost use Rattle.eap_base.specs.declared.setup.Setup.{Setup};
 ghost use Rattle.eap_method.specs.Peer.{peer_kinds, have_each};
 ghost use Rattle.eap_method.specs.Server.{server_kinds};
 ghost use Rattle.eap_world.specs.Agreement.{run_of, BeginsRun};
-ghost use Rattle.eap_world.specs.World.{KeepsKinds, HaveSameKinds, now_of, world_made};
+ghost use Rattle.eap_world.specs.World.{now_of, world_made};
+ghost use Rattle.bulk_run.specs.Kinds.{KeepsKinds, HaveSameKinds};
 ghost use Rattle.bulk_run.specs.Conversation.{alice, known_with, deliveries, chances};
 ghost use Rattle.bulk_run.specs.Draws.{state_at};
 ghost use Rattle.bulk_run.specs.Going.{AreFew};
@@ -31,6 +32,7 @@ const SERVER: &[u8] = b"srv";
 
 /// The conversation that begins where the draws stand. It takes the objects, which begin again, and gives
 /// them back; `counts` is what it came to. `Memory` comes only for want of memory.
+#[tactic(auto, using(crate::proofs::Kept::same_kinds))]
 pub fn converse<P: PeerMethod, S: ServerMethod>(
     alloc: Global,
     number: u32,

@@ -4,7 +4,8 @@ ghost use Rattle.std.specs.Prelude.{◌≡◌, ◌<◌, ◌≤◌, ◌+◌, ◌%
 ghost use Rattle.eap_base.specs.declared.event.Event.{Event};
 ghost use Rattle.eap_base.specs.declared.setup.Setup.{Setup};
 ghost use Rattle.eap_world.specs.Agreement.{run_of, BeginsRun, GoesOn};
-ghost use Rattle.eap_world.specs.World.{KeepsKinds, now_of, octets_of};
+ghost use Rattle.eap_world.specs.World.{now_of, octets_of};
+ghost use Rattle.bulk_run.specs.Kinds.{KeepsKinds};
 ghost use Rattle.eap_world.specs.Sent.{packet_numbered};
 ghost use Rattle.bulk_run.specs.Conversation.{choice, chosen, with_event};
 ghost use Rattle.bulk_run.specs.Going.{AreFew, sent_after};
@@ -14,6 +15,7 @@ use eap_method::{PeerMethod, ServerMethod};
 use eap_world::{MAX_EVENTS, Memory, Told, World};
 
 /// Starts a world in which nothing was sent, and answers how many packets were sent then.
+#[tactic(auto, using(crate::proofs::Kept::same_kinds))]
 pub fn begin<P: PeerMethod, S: ServerMethod>(world: &mut World<P, S>) -> Result<u32, Memory>
     requires unstarted { world.old.started ≡ false }
     requires unsent { world.old.sent ≡ [] }
@@ -28,6 +30,7 @@ pub fn begin<P: PeerMethod, S: ServerMethod>(world: &mut World<P, S>) -> Result<
 }
 
 /// Takes an event. `packets` counts the packets that were sent.
+#[tactic(auto, using(crate::proofs::Kept::same_kinds))]
 pub fn take<P: PeerMethod, S: ServerMethod>(
     world: &mut World<P, S>,
     packets: &mut u32,

@@ -1,7 +1,8 @@
 use Rattle.std.proofs.Common.{◌≡◌, ℕ, ◌+◌, ◌*◌, [], length, true}
 use Rattle.eap_base.specs.declared.setup.Setup.{Setup}
 use Rattle.eap_world.specs.Agreement.{run_of}
-use Rattle.eap_world.specs.World.{KeepsKinds, now_of}
+use Rattle.eap_world.specs.World.{now_of}
+use Rattle.bulk_run.specs.Kinds.{KeepsKinds}
 use Rattle.bulk_run.specs.Conversation.{chances}
 use Rattle.bulk_run.specs.Draws.{state_at}
 use Rattle.bulk_run.specs.Going.{AreFew}

@@ -1,7 +1,7 @@
 use Rattle.std.proofs.Common.{◌+◌, ◌*◌, ◌∷◌, [], ap, ◌∙◌, arith}
 use Rattle.eap_base.specs.Setup.{gpsk_kind}
 use Rattle.eap_method.specs.Peer.{have_each}
-use Rattle.eap_world.specs.World.{Kinds}
+use Rattle.bulk_run.specs.Kinds.{Kinds}
 use Rattle.bulk_run.specs.Summing.{drawn_each}
 use Rattle.bulk_run.proofs.Conversing.{none_summed, one_summed, nothing_small, at_most_more, next_place}
 use Rattle.bulk_run.proofs.Drawing.{same_place}
