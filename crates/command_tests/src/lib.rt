@@ -6,6 +6,8 @@ mod captures;
 #[cfg(test)]
 mod commands;
 #[cfg(test)]
+mod conversations;
+#[cfg(test)]
 mod faults;
 #[cfg(test)]
 mod limits;
