@@ -11,12 +11,14 @@ use Rattle.eap_world.specs.declared.verdict.Verdict.TheVariants as verdict
 use Rattle.eap_world.proofs.HonestOfEither.{honest_of_either}
 use Rattle.eap_world.proofs.HonestRuns.{honest_ends_agree}
 use Rattle.bulk_run.specs.Conversation.{setup_at, setup_with}
-use Rattle.bulk_run.specs.Summing.{BrokenWhereApart, CountsWell, counts_of, drawn_each, ended_at, events_of, is_agree, is_unfinished, is_apart, is_broken, plus, summary_of}
+use Rattle.bulk_run.specs.Summing.{BrokenWhereApart, CountsWell, counts_of, drawn_each, ended_at, events_of}
+use Rattle.bulk_run.specs.Summing.{is_agree, is_unfinished, is_apart, is_broken, plus, summary_of}
 use Rattle.bulk_run.specs.declared.summary.Summary.{Summary}
 use Rattle.bulk_run.proofs.Drawing.{are_so_many}
 
 -- the settings of a conversation are whole
-whole_with : (peer_nonce server_nonce key : List ℕ) → length peer_nonce ≡ 32 → length server_nonce ≡ 32 → length key ≡ 32 → IsWhole (setup_with peer_nonce server_nonce key)
+whole_with : (peer_nonce server_nonce key : List ℕ)
+    → length peer_nonce ≡ 32 → length server_nonce ≡ 32 → length key ≡ 32 → IsWhole (setup_with peer_nonce server_nonce key)
 whole_with peer_nonce server_nonce key p s k = record {
   peer = search rules;
   keys = search rules;

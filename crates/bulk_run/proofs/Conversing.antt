@@ -32,7 +32,8 @@ unfolding chances
 none_chosen setup number place w is = is
 
 -- one delivery more
-pub one_delivered : (setup : Setup) (passed : ℕ) (w : WorldNow) → w ≡ run_of setup (deliveries passed ++ Deliver (passed + 1) ∷ []) → w ≡ run_of setup (deliveries (passed + 1))
+pub one_delivered : (setup : Setup) (passed : ℕ) (w : WorldNow)
+    → w ≡ run_of setup (deliveries passed ++ Deliver (passed + 1) ∷ []) → w ≡ run_of setup (deliveries (passed + 1))
 unfolding deliveries
 one_delivered setup passed w is = let e : suc passed ≡ passed + 1 = omega arith in rw (add-one, e) is
 

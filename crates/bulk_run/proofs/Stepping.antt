@@ -4,7 +4,8 @@ use Rattle.std.proofs.lemmas.List.{length-append}
 use Rattle.eap_base.specs.declared.event.Event.{Event}
 use Rattle.eap_base.specs.declared.setup.Port.{Port}
 use Rattle.eap_world.specs.Sent.{Sent}
-use Rattle.eap_world.specs.World.{WorldNow, WorldOutcome, Action, Skipped, Called, act, called, counted, numbered, one_if, sent_by, sent_to, start_call, told_of, world_outcome, world_start, world_step}
+use Rattle.eap_world.specs.World.{WorldNow, WorldOutcome, Action, Skipped, Called, act, called, counted}
+use Rattle.eap_world.specs.World.{numbered, one_if, sent_by, sent_to, start_call, told_of, world_outcome, world_start, world_step}
 use Rattle.eap_world.specs.declared.told.Counts.{Counts}
 use Rattle.eap_world.specs.declared.told.Named.{Named}
 use Rattle.eap_world.specs.declared.told.Told.{Told}
@@ -14,7 +15,8 @@ none_more : (sent : List Sent) → length (sent ++ []) ≡ length sent
 none_more sent = let e = length-append {A = Sent} sent [] in omega (arith, e)
 
 -- how many packets were sent then
-sent_one : (sent : List Sent) (port : Port) (octets : Option (List ℕ)) → length (sent ++ sent_to port octets) ≡ sent_after (length sent) (numbered (length sent + 1) port octets)
+sent_one : (sent : List Sent) (port : Port) (octets : Option (List ℕ))
+    → length (sent ++ sent_to port octets) ≡ sent_after (length sent) (numbered (length sent + 1) port octets)
 sent_one sent port None = none_more sent
 sent_one sent port (Some octets) = length-append sent (record { port = port; octets = octets } ∷ [])
 
@@ -54,7 +56,8 @@ stepped_by before event = record {
   few = counts_more before.counts (act before.parties before.sent event).action;
 }
 
-pub stepped : (before : WorldNow) (event : Event) (told : Told) (after : WorldNow) → world_step before event ≡ world_outcome told after → Stepped before told after
+pub stepped : (before : WorldNow) (event : Event) (told : Told) (after : WorldNow)
+    → world_step before event ≡ world_outcome told after → Stepped before told after
 stepped before event told after is = subst (λ (out : WorldOutcome). Stepped before out.told out.after) is (stepped_by before event)
 
 -- what the start leaves of a world in which nothing was sent

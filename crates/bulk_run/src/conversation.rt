@@ -46,7 +46,8 @@ pub fn converse<P: PeerMethod, S: ServerMethod>(
     ensures small { IfOk result (λ after. IsAtMost counts.new 40) }
     ensures stands { IfOk result (λ after. (place : ℕ) → draws.old.state ≡ state_at number place
         → draws.new.state ≡ state_at number (place + drawn_each number)) }
-    ensures kinds { IfOk result (λ after. HaveSameKinds P.peer_shown S.server_shown methods.peer.items methods.server.items after.peer.items after.server.items) }
+    ensures kinds { IfOk result (λ after. HaveSameKinds P.peer_shown S.server_shown
+        methods.peer.items methods.server.items after.peer.items after.server.items) }
 {
     let peer_nonce = draws.octets();
     let server_nonce = draws.octets();

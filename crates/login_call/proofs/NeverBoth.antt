@@ -1,5 +1,6 @@
 -- No text that ends with status 0 has both the line of honest tags and the line of ends that are apart.
-use Rattle.std.proofs.Common.{◌≡◌, ℕ, ◌+◌, List, [], ◌∷◌, ◌++◌, Bool, true, false, Option, Some, None, Result, Ok, Err, flat_map, refl, sym, subst, ◌∙◌, codes, decimal, length, ◌≤◌, ◌==◌, All, arith, get_or}
+use Rattle.std.proofs.Common.{◌≡◌, ℕ, ◌+◌, List, [], ◌∷◌, ◌++◌, Bool, true, false, Option, Some, None, Result}
+use Rattle.std.proofs.Common.{Ok, Err, flat_map, refl, sym, subst, ◌∙◌, codes, decimal, length, ◌≤◌, ◌==◌, All, arith, get_or}
 use Rattle.std.proofs.lemmas.Bool.{true≢false, and_parts, leb-true, ne_eqb}
 use Rattle.std.proofs.lemmas.Option.{same_Some}
 use Rattle.std.proofs.lemmas.List.{append_cancel_left}

@@ -3,7 +3,8 @@
 ghost use Rattle.std.specs.Prelude.{◌≡◌, ◌≢◌, ◌≤◌, ℕ, List, Option, Some, true, false, map, string_bytes};
 ghost use Rattle.login_call.specs.Answers.{Ends, Drains, Finishes, IsWritten, KeepsReads, KeepsWrites, HasRisen};
 ghost use Rattle.login_call.specs.Bulk.{bulk_of, is_bulk};
-ghost use Rattle.login_call.specs.Login.{is_alone, are_two, reads_scenario, reads_input, is_form, takes_memory, login_answer, unread_answer, usage_answer, usage_text, HasSetup};
+ghost use Rattle.login_call.specs.Login.{is_alone, are_two, reads_scenario, reads_input, is_form};
+ghost use Rattle.login_call.specs.Login.{takes_memory, login_answer, unread_answer, usage_answer, usage_text, HasSetup};
 ghost use Rattle.login_call.specs.Check.{check_answer};
 ghost use Rattle.login_call.specs.Decode.{decode_answer};
 ghost use Rattle.login_call.specs.Keys.{keys_answer};

@@ -29,7 +29,8 @@ loop-preserved g c =
       stands = λ number place is.
           let here = c.loop.invariant.stands number place is in
           let next = c.octet-v.ensures.stands number (place + 2 * turns) here in
-          same_place number (place + 2 * turns + 1 + 1) (place + 2 * (turns + 1)) _ (c.octet-u.ensures.stands number (place + 2 * turns + 1) next) (omega arith);
+          same_place number (place + 2 * turns + 1 + 1) (place + 2 * (turns + 1)) _
+          (c.octet-u.ensures.stands number (place + 2 * turns + 1) next) (omega arith);
       started = c.in_ok-take_chosen.ensures.started;
       packets = c.in_ok-take_chosen.ensures.packets;
       few = c.in_ok-take_chosen.ensures.few turns c.loop.invariant.few;
