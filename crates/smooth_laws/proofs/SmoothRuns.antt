@@ -18,6 +18,7 @@ use Rattle.eap_method.specs.Server.{ServerViews, views_begun}
 use Rattle.eap_world.specs.Agreement.{IsWhole, run_of}
 use Rattle.eap_world.specs.Book.{verdict_on, tags_verdict}
 use Rattle.eap_world.specs.declared.book.TagsVerdict.TheVariants.{Honest}
+use Rattle.eap_world.specs.Judgement.{is_success}
 use Rattle.eap_world.specs.World.{WorldNow, run_after, world_made, world_start}
 use Rattle.eap_world.proofs.HonestOfEither.{honest_of_either}
 use Rattle.eap_world.proofs.HonestRuns.{honest_ends_agree}
@@ -30,34 +31,12 @@ use Rattle.smooth_laws.proofs.Offers.{Has, IsShort, has_each, offers_of, psk, gp
 use Rattle.smooth_laws.proofs.Opening.{in_mode, made_in, number_opened, opened, opens, proposes_next, started}
 use Rattle.smooth_laws.proofs.PskTalk.{psk_talks}
 use Rattle.smooth_laws.proofs.ServerSide.{after_id}
-use Rattle.smooth_laws.proofs.Talk.{Talks, ids_differ, last_number, talked, talks_through}
+use Rattle.smooth_laws.proofs.Talk.{EndsWell, Talks, ids_differ, last_number, talked, talks_through}
 use Rattle.smooth_laws.proofs.Moves.{BothIn, delivered, stay_in}
 
--- the deliveries of a login without a Nak, and of one after it
-run_alike : (runs : Mode) (setup : Setup)
-    → run_of (in_mode runs setup) (deliveries 1 (bound_in runs true)) ≡ talked runs (opened runs (started runs setup)) (number_opened runs)
-unfolding run_after deliveries
-run_alike mode.Alone setup = refl
-run_alike mode.Through setup = refl
-
-run_after_nak : (runs : Mode) (setup : Setup) → (let n = number_opened runs in let w = opened runs (started runs setup) in
-    run_of (in_mode runs setup) (deliveries 1 (bound_in runs false))
-    ≡ talked runs (exchanged runs (exchanged runs w n) (number_after runs n)) (number_after runs (number_after runs n)))
-unfolding run_after deliveries
-run_after_nak mode.Alone setup = refl
-run_after_nak mode.Through setup = refl
-
--- each delivery but the last sends a packet
-sent_alike : (runs : Mode) → last_number runs (number_opened runs) ≡ bound_in runs true
-sent_alike mode.Alone = refl
-sent_alike mode.Through = refl
-
-sent_after_nak : (runs : Mode) → last_number runs (number_after runs (number_after runs (number_opened runs))) ≡ bound_in runs false
-sent_after_nak mode.Alone = refl
-sent_after_nak mode.Through = refl
-
-both_at : {one other : WorldNow} {n m : ℕ} → one ≡ other → n ≡ m → BothIn one n → BothIn other m
-both_at {other = other} {n = n} world number both = subst (λ (count : ℕ). BothIn other count) number (subst (λ (w : WorldNow). BothIn w n) world both)
+-- both ends have succeeded after so many deliveries, and the peer not before
+abbrev SucceedsAt : Setup → ℕ → Type 0
+SucceedsAt setup number = EndsWell (run_of setup (deliveries 1 (number - 1))) (run_of setup (deliveries 1 number)) number
 
 -- the first deliveries of more
 take_deliveries : (first count more : ℕ) → count ≤ more → take count (deliveries first more) ≡ deliveries first count
@@ -132,7 +111,8 @@ module _ (setup : Setup) (whole : IsWhole setup) (names : HasShortNames setup) w
 
     -- the peer takes it
     logs_in_alike : (runs : Mode) (first : ℕ) (rest : List ℕ) → setup.server.methods ≡ first ∷ rest → is_among setup.peer.methods first ≡ true
-        → BothIn (talked runs (opened runs (started runs setup)) (number_opened runs)) (last_number runs (number_opened runs))
+        → (let n = number_opened runs in let w = talked runs (opened runs (started runs setup)) n in
+        EndsWell w (delivered w (last_number runs n)) (last_number runs n))
     logs_in_alike runs first rest order takes =
         let id : ℕ = after_id setup.first_id in
         let talk = talks runs id (views_begun setup.server) begins in
@@ -144,9 +124,9 @@ module _ (setup : Setup) (whole : IsWhole setup) (names : HasShortNames setup) w
 
     -- the peer refuses it
     logs_in_after_nak : (runs : Mode) (first : ℕ) (rest : List ℕ) → setup.server.methods ≡ first ∷ rest → is_among setup.peer.methods first ≡ false
-        → (let n = number_opened runs in let w = opened runs (started runs setup) in
-        BothIn (talked runs (exchanged runs (exchanged runs w n) (number_after runs n)) (number_after runs (number_after runs n)))
-        (last_number runs (number_after runs (number_after runs n))))
+        → (let n = number_opened runs in let next = number_after runs (number_after runs n) in
+        let w = talked runs (exchanged runs (exchanged runs (opened runs (started runs setup)) n) (number_after runs n)) next in
+        EndsWell w (delivered w (last_number runs next)) (last_number runs next))
     logs_in_after_nak runs first rest order refuses =
         let n : ℕ = number_opened runs in
         let w : WorldNow = opened runs (started runs setup) in
@@ -167,18 +147,19 @@ module _ (setup : Setup) (whole : IsWhole setup) (names : HasShortNames setup) w
         (opens setup runs first offer.asks offer.asked names.peer offer.is_method offer.fits (first_chosen first rest order) offer.offered))
 
     logs_in_by : (runs : Mode) (first : ℕ) (rest : List ℕ) → setup.server.methods ≡ first ∷ rest → (takes : Bool) → is_among setup.peer.methods first ≡ takes
-        → BothIn (run_of (in_mode runs setup) (deliveries 1 (bound_in runs takes))) (bound_in runs takes)
-    logs_in_by runs first rest order true takes = both_at (sym (run_alike runs setup)) (sent_alike runs) (logs_in_alike runs first rest order takes)
-    logs_in_by runs first rest order false refuses =
-        both_at (sym (run_after_nak runs setup)) (sent_after_nak runs) (logs_in_after_nak runs first rest order refuses)
+        → SucceedsAt (in_mode runs setup) (bound_in runs takes)
+    unfolding run_after deliveries
+    logs_in_by mode.Alone first rest order true takes = logs_in_alike mode.Alone first rest order takes
+    logs_in_by mode.Through first rest order true takes = logs_in_alike mode.Through first rest order takes
+    logs_in_by mode.Alone first rest order false refuses = logs_in_after_nak mode.Alone first rest order refuses
+    logs_in_by mode.Through first rest order false refuses = logs_in_after_nak mode.Through first rest order refuses
 
     logs_in_at : (runs : Mode) (order : List ℕ) → setup.server.methods ≡ order
-        → BothIn (run_of (in_mode runs setup) (deliveries 1 (bound_in runs (takes_first setup.peer.methods order))))
-        (bound_in runs (takes_first setup.peer.methods order))
+        → SucceedsAt (in_mode runs setup) (bound_in runs (takes_first setup.peer.methods order))
     logs_in_at runs [] none = absurd (none-some fit.kind (ap (λ (methods : List ℕ). find (is_among setup.peer.methods) methods) (sym none) ∙ fit.common))
     logs_in_at runs (first ∷ rest) order = logs_in_by runs first rest order (is_among setup.peer.methods first) refl
 
-    logs_in : BothIn (run_of setup (deliveries 1 (bound setup))) (bound setup)
+    logs_in : SucceedsAt setup (bound setup)
     logs_in = logs_in_at setup.mode setup.server.methods refl
 
 -- both ends in SUCCESS over an honest book agree
@@ -209,14 +190,18 @@ run_parted w first (suc count) more =
 pub smooth_logins_succeed : SmoothLoginsSucceed
 smooth_logins_succeed setup events whole names fit order enough =
     let most : ℕ = bound setup in
-    let in_time : BothIn (run_of setup (deliveries 1 most)) most = logs_in setup whole names fit in
-    let first : take most events ≡ deliveries 1 most =
-    ap (λ (all : List Event). take most all) order ∙ take_deliveries 1 most (length events) enough in
+    let succeeds : SucceedsAt setup most = logs_in setup whole names fit in
+    let first : (count : ℕ) → count ≤ length events → take count events ≡ deliveries 1 count =
+    λ count few. ap (λ (all : List Event). take count all) order ∙ take_deliveries 1 count (length events) few in
     let parts : most + (length events - most) ≡ length events = omega arith in
     let all : run_of setup events ≡ run_after (run_of setup (deliveries 1 most)) (deliveries (1 + most) (length events - most)) =
     ap (run_of setup) (order ∙ ap (deliveries 1) (sym parts)) ∙ run_parted (world_start (world_made setup)).after 1 most (length events - most) in
+    let stays : BothIn (run_of setup events) most =
+    subst (λ (w : WorldNow). BothIn w most) (sym all)
+    (stay_in (run_of setup (deliveries 1 most)) most (1 + most) (length events - most) succeeds.both (omega arith)) in
     record {
-      in_time = subst (λ (some : List Event). IsLoggedIn (run_of setup some)) (sym first) (is_logged_in setup (deliveries 1 most) most whole in_time);
-      stays = is_logged_in setup events most whole
-          (both_at (sym all) refl (stay_in (run_of setup (deliveries 1 most)) most (1 + most) (length events - most) in_time (omega arith)));
+      not_before = ap (λ (some : List Event). is_success (run_of setup some).parties.peer.vars.state) (first (most - 1) (omega arith)) ∙ succeeds.waits;
+      in_time = subst (λ (some : List Event). IsLoggedIn (run_of setup some)) (sym (first most enough))
+          (is_logged_in setup (deliveries 1 most) most whole succeeds.both);
+      stays = is_logged_in setup events most whole stays;
     }

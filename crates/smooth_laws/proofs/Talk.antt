@@ -1,5 +1,5 @@
 -- A method's four messages, from its first Request to the Success.
-use Rattle.std.proofs.Common.{◌≡◌, ℕ, ◌≤◌, List, [], length, true, false, Some, refl, arith}
+use Rattle.std.proofs.Common.{◌≡◌, ℕ, ◌≤◌, List, [], length, true, false, Some, refl, ap, arith}
 use Rattle.std.specs.Prelude.{◌==◌, Ok}
 use Rattle.std.proofs.lemmas.Bool.{ne_eqb, eqb-false}
 use Rattle.eap_base.specs.declared.setup.Mode.{Mode}
@@ -19,7 +19,8 @@ use Rattle.eap_method.specs.declared.values.MethodState.TheVariants as method
 use Rattle.peer_machine.specs.PeerTable.{PeerNow, is_fail}
 use Rattle.server_machine.specs.ServerTable.{ServerNow}
 use Rattle.server_machine.specs.declared.variables.Progress.TheVariants as progress
-use Rattle.eap_world.specs.World.{WorldNow}
+use Rattle.eap_world.specs.Judgement.{is_success}
+use Rattle.eap_world.specs.World.{WorldNow, Parties}
 use Rattle.smooth_laws.proofs.Exchange.{ToPeer, ToServer, EndsAtPeer, exchanged, number_after, peer_turns, server_turns, server_ends}
 use Rattle.smooth_laws.proofs.Moves.{BothIn, delivered, peer_ends}
 use Rattle.smooth_laws.proofs.Packets.{request_read, response_read, success_read}
@@ -79,17 +80,22 @@ asks_read id kind body is fits = request_read id kind body fits (eqb-false kind 
 pub answers_read : (id kind : ℕ) (body : List ℕ) → IsMethod kind → length body ≤ 1495 → packet_of (spelled (response id kind body)) ≡ Ok (response id kind body)
 answers_read id kind body is fits = response_read id kind body fits (λ e. absurd (eqb-false kind 3 is.not_nak e))
 
--- the world after the four messages and the Success
+-- the world after the four messages, before the Success comes to the peer
 abbrev pub talked : Mode → WorldNow → ℕ → WorldNow
 talked runs w number =
     let second = number_after runs number in
     let third = number_after runs second in
     let fourth = number_after runs third in
-    delivered (exchanged runs (exchanged runs (exchanged runs (exchanged runs w number) second) third) fourth) (number_after runs fourth)
+    exchanged runs (exchanged runs (exchanged runs (exchanged runs w number) second) third) fourth
 
 -- the number of the packet that is then the last
 abbrev pub last_number : Mode → ℕ → ℕ
 last_number runs number = number_after runs (number_after runs (number_after runs (number_after runs number)))
+
+-- the peer has not succeeded, and after one more delivery both ends have
+pub record EndsWell (before after : WorldNow) (number : ℕ) : Type 0 where
+  pub waits : is_success before.parties.peer.vars.state ≡ false
+  pub both : BothIn after number
 
 -- where the method's first Request comes to a peer that allows the method, both ends come to succeed
 pub talks_through : (peer : PeerSetup) (made : Made) (kind id : ℕ) (begun : ServerViews) (talk : Talks peer made kind id begun)
@@ -97,7 +103,7 @@ pub talks_through : (peer : PeerSetup) (made : Made) (kind id : ℕ) (begun : Se
     → (last == id) ≡ false → is_among peer.methods kind ≡ true
     → ToPeer w runs number id (peer_unbound peer last said) (server_at made id kind progress.Proposed was proposed talk.asked)
     (spelled (request id kind talk.asks)) []
-    → BothIn (talked runs w number) (last_number runs number)
+    → EndsWell (talked runs w number) (delivered (talked runs w number) (last_number runs number)) (last_number runs number)
 talks_through peer made kind id begun talk runs w number last said was proposed new allowed to =
     let next : ℕ = after_id id in
     let n_2 : ℕ = number_after runs number in
@@ -137,6 +143,9 @@ talks_through peer made kind id begun talk runs w number last said was proposed 
     server_ends runs w_4 n_4 next p_3 s_2 fourth talk.confirm_tags confirmed _ [] s_3
     (servers.finishes made fourth next kind talk.confirms third progress.Continue proposed talk.checked talk.finished _
     (answers_read next kind talk.confirms m talk.confirms_fits) m.not_nak m.not_identity talk.was_finished) in
-    peer_ends w_5 runs n_5 p_3 s_3 ended.pass (spelled (success next)) [] ended.stage _ _
-    (peers.succeeds peer (spelled (success next)) next kind method.Done talk.decided fourth talk.over (success_read next) talk.sure)
-    refl refl
+    record {
+      waits = ap (λ (all : Parties). is_success all.peer.vars.state) ended.stage.parties;
+      both = peer_ends w_5 runs n_5 p_3 s_3 ended.pass (spelled (success next)) [] ended.stage _ _
+          (peers.succeeds peer (spelled (success next)) next kind method.Done talk.decided fourth talk.over (success_read next) talk.sure)
+          refl refl;
+    }

@@ -1,6 +1,6 @@
 -- Smooth logins: two ends that fit, and a network that delivers each packet once and in order. How many
 -- deliveries such a login takes (RFC 3748 section 2), and what holds after them.
-use Rattle.std.specs.Prelude.{◌≡◌, ℕ, zero, suc, ◌+◌, ◌≤◌, List, [], ◌∷◌, length, take, Bool, true, false, Option, Some, find}
+use Rattle.std.specs.Prelude.{◌≡◌, ℕ, zero, suc, ◌+◌, ◌-◌, ◌≤◌, List, [], ◌∷◌, length, take, Bool, true, false, Option, Some, find}
 use Rattle.std.specs.List.{list_any}
 use Rattle.eap_base.specs.declared.event.Event.{Event}
 use Rattle.eap_base.specs.declared.event.Event.TheVariants.{Deliver}
@@ -77,8 +77,9 @@ pub record IsLoggedIn (w : WorldNow) : Type 0 where
   pub honest : tags_verdict w.book ≡ Honest
   pub agree : verdict_of w ≡ Agree
 
--- the login has succeeded after the first `bound` deliveries, and no further one changes that
+-- the login has succeeded after the first `bound` deliveries, and not before; no further one changes that
 pub record SucceedsInTime (setup : Setup) (events : List Event) : Type 0 where
+  pub not_before : is_success (run_of setup (take (bound setup - 1) events)).parties.peer.vars.state ≡ false
   pub in_time : IsLoggedIn (run_of setup (take (bound setup) events))
   pub stays : IsLoggedIn (run_of setup events)
 
