@@ -1,0 +1,80 @@
+-- Laws of RADIUS packets that carry EAP, over the definitions alone.
+use Rattle.std.specs.Prelude.{◌≡◌, ◌↔◌, ℕ, ◌≤◌, List, [], ◌++◌, length, IsTrue, ◌≢◌, None, Ok}
+use Rattle.eap_packet.specs.Packet.{IsOctets}
+use Rattle.hmac_mac.specs.Hmac.{hmac_sha256}
+use Rattle.sha2.specs.Sha256.{sha256}
+use Rattle.radius_carry.specs.Packet.{RadiusPacket, spelled, IsRadius, eap_of, is_code}
+use Rattle.radius_carry.specs.Fault.{fault, packet_of}
+use Rattle.radius_carry.specs.Tags.{hmac, IsGoodRequest, IsGoodReply}
+use Rattle.radius_carry.specs.Written.{request_of, reply_of}
+
+-- the octets are the packet's spelling with some octets behind it
+pub record BeginsWith (octets : List ℕ) (packet : RadiusPacket) : Type 0 where
+  pub is_radius : IsRadius packet (spelled packet)
+  pub rest : List ℕ
+  pub joined : octets ≡ spelled packet ++ rest
+
+-- a spelling with any octets behind it is read as its packet
+abbrev pub SpellingsAreRead : Type 0
+SpellingsAreRead =
+    (packet : RadiusPacket) (rest : List ℕ) → IsRadius packet (spelled packet) → packet_of (spelled packet ++ rest) ≡ Ok packet
+
+-- no two packets have spellings that begin one list
+abbrev pub SpellingsAreApart : Type 0
+SpellingsAreApart =
+    (one other : RadiusPacket) (rest others : List ℕ) → IsRadius one (spelled one) → IsRadius other (spelled other) →
+    spelled one ++ rest ≡ spelled other ++ others → one ≡ other
+
+-- what is read is the packet with whose spelling the octets begin
+abbrev pub ReadsTheSpelling : Type 0
+ReadsTheSpelling =
+    (octets : List ℕ) (packet : RadiusPacket) → IsOctets octets → (packet_of octets ≡ Ok packet) ↔ BeginsWith octets packet
+
+-- no cause applies exactly where the octets begin with the spelling of some packet
+abbrev pub FaultlessIsSpelled : Type 0
+FaultlessIsSpelled =
+    (octets : List ℕ) → IsOctets octets → (fault octets ≡ None) ↔ ((packet : RadiusPacket) × BeginsWith octets packet)
+
+-- the Code of a reply
+pub record IsReply (code : ℕ) : Type 0 where
+  pub known : IsTrue (is_code code)
+  pub is_reply : code ≢ 1
+
+-- the limits of what is written: an Authenticator, a name, a state, an EAP packet
+pub record AreFields (authenticator user state eap : List ℕ) : Type 0 where
+  pub sixteen : length authenticator ≡ 16
+  pub user_fits : length user ≤ 253
+  pub state_fits : length state ≤ 253
+  pub some_eap : 1 ≤ length eap
+  pub eap_fits : length eap ≤ 1500
+
+-- a packet is read from its spelling, with any octets behind it, and carries this EAP packet
+pub record ReadsBack (packet : RadiusPacket) (eap rest : List ℕ) : Type 0 where
+  pub read : packet_of (spelled packet ++ rest) ≡ Ok packet
+  pub carries : eap_of packet.attributes ≡ eap
+
+-- a request that is written is read back, and is good under its secret
+abbrev pub RequestsAreReadBack : Type 0
+RequestsAreReadBack =
+    (secret authenticator user state eap rest : List ℕ) (id : ℕ) → AreFields authenticator user state eap →
+    ReadsBack (request_of secret id authenticator user state eap) eap rest
+
+abbrev pub RequestsAreGood : Type 0
+RequestsAreGood =
+    (secret authenticator user state eap : List ℕ) (id : ℕ) → AreFields authenticator user state eap →
+    IsGoodRequest secret (request_of secret id authenticator user state eap)
+
+-- a reply that is written is read back, and is good under its secret for the request that it answers
+abbrev pub RepliesAreReadBack : Type 0
+RepliesAreReadBack =
+    (secret asked state eap rest : List ℕ) (code id : ℕ) → IsReply code → AreFields asked [] state eap →
+    ReadsBack (reply_of secret code id asked state eap) eap rest
+
+abbrev pub RepliesAreGood : Type 0
+RepliesAreGood =
+    (secret asked state eap : List ℕ) (code id : ℕ) → IsReply code → AreFields asked [] state eap →
+    IsGoodReply secret asked (reply_of secret code id asked state eap)
+
+-- with SHA-256 in the hash's place this HMAC is the one of EAP's methods
+abbrev pub HmacIsOne : Type 0
+HmacIsOne = (key text : List ℕ) → hmac sha256 key text ≡ hmac_sha256 key text

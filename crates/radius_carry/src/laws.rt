@@ -1,0 +1,59 @@
+//! Laws of RADIUS packets that carry EAP. Each is the contract of a function that does nothing.
+
+ghost use Rattle.radius_carry.specs.Laws.{SpellingsAreRead, SpellingsAreApart, ReadsTheSpelling, FaultlessIsSpelled, RequestsAreReadBack};
+ghost use Rattle.radius_carry.specs.Laws.{RequestsAreGood, RepliesAreReadBack, RepliesAreGood, HmacIsOne};
+
+/// A packet's spelling, with any octets behind it, is read as that packet (RFC 2865 section 3).
+#[tactic(auto, using(crate::proofs::Grammar::spellings_are_read))]
+pub fn spellings_are_read()
+    ensures { SpellingsAreRead }
+{}
+
+/// No two packets have spellings that begin one list of octets.
+#[tactic(auto, using(crate::proofs::Grammar::spellings_are_apart))]
+pub fn spellings_are_apart()
+    ensures { SpellingsAreApart }
+{}
+
+/// What is read is the packet with whose spelling the octets begin, and that one alone.
+#[tactic(auto, using(crate::proofs::Grammar::reads_the_spelling))]
+pub fn reads_the_spelling()
+    ensures { ReadsTheSpelling }
+{}
+
+/// No cause applies exactly where the octets begin with the spelling of some packet.
+#[tactic(auto, using(crate::proofs::Grammar::faultless_is_spelled))]
+pub fn faultless_is_spelled()
+    ensures { FaultlessIsSpelled }
+{}
+
+/// A request that is written is read back, whatever follows it, and carries its EAP packet (RFC 3579 section 3.1).
+#[tactic(auto, using(crate::proofs::Sent::requests_are_read_back))]
+pub fn requests_are_read_back()
+    ensures { RequestsAreReadBack }
+{}
+
+/// A request that is written is good under its secret (RFC 3579 section 3.2).
+#[tactic(auto, using(crate::proofs::Sent::requests_are_good))]
+pub fn requests_are_good()
+    ensures { RequestsAreGood }
+{}
+
+/// A reply that is written is read back, whatever follows it, and carries its EAP packet (RFC 3579 section 3.1).
+#[tactic(auto, using(crate::proofs::Sent::replies_are_read_back))]
+pub fn replies_are_read_back()
+    ensures { RepliesAreReadBack }
+{}
+
+/// A reply that is written is good under its secret, for the request with the Authenticator that it
+/// answers (RFC 2865 section 3, RFC 3579 section 3.2).
+#[tactic(auto, using(crate::proofs::Sent::replies_are_good))]
+pub fn replies_are_good()
+    ensures { RepliesAreGood }
+{}
+
+/// HMAC-MD5 is HMAC-SHA256 with the other hash in its place (RFC 2104 section 2).
+#[tactic(auto, using(crate::proofs::Sent::hmac_is_one))]
+pub fn hmac_is_one()
+    ensures { HmacIsOne }
+{}

@@ -1,0 +1,22 @@
+//! EAP over RADIUS (RFC 2865 sections 3 and 5, RFC 3579 sections 3.1 and 3.2): the packets between a
+//! pass-through and a backend, their reading and writing, and both of their authenticators.
+#![tactic(auto)]
+
+mod attributes;
+mod cause;
+mod laws;
+mod mac;
+mod reading;
+mod tags;
+mod view;
+mod writing;
+
+pub use cause::RadiusCause;
+pub use laws::{
+    faultless_is_spelled, hmac_is_one, reads_the_spelling, replies_are_good, replies_are_read_back,
+    requests_are_good, requests_are_read_back, spellings_are_apart, spellings_are_read,
+};
+pub use reading::{eap_of, read_radius};
+pub use tags::{reply_good, request_good};
+pub use view::{RadiusKind, RadiusView};
+pub use writing::{write_reply, write_request};

@@ -1,0 +1,73 @@
+//! HMAC with MD5 (RFC 2104, RFC 1321), over the MD5 of the crate `md5`.
+
+ghost use Rattle.std.specs.Prelude.{◌≡◌, ℕ, ◌≤◌, List, [], ◌++◌, length};
+ghost use Rattle.hmac_mac.specs.Hmac.{filled, padded};
+ghost use Rattle.md5.specs.Md5 as spec;
+ghost use Rattle.radius_carry.specs.Tags.{hmac_md5};
+ghost use Rattle.radius_carry.specs.Holds.{Holds};
+
+use md5::{Digest, Md5};
+
+/// The octets of a block of MD5.
+const BLOCK_LEN: usize = 64;
+
+/// The octet that the inner hash's key is combined with (RFC 2104, section 2, ipad).
+const INNER_PAD: u8 = 0x36;
+
+/// The octet that the outer hash's key is combined with (RFC 2104, section 2, opad).
+const OUTER_PAD: u8 = 0x5c;
+
+/// The secret filled with zeros to a whole block, each octet combined with the pad.
+#[tactic(auto, using(crate::proofs::Blocks::padded_more, crate::proofs::Blocks::padded_whole))]
+fn padded_block(secret: &[u8], pad: u8) -> [u8; BLOCK_LEN]
+    requires { length secret.now ≤ 64 }
+    ensures { result ≡ padded (filled secret.now) pad }
+{
+    let mut block = [pad; BLOCK_LEN];
+    'octets: for i in 0..secret.len() {
+        block[i] = secret[i] ^ pad;
+    }
+    block
+}
+
+/// An HMAC under one secret that is fed its text in pieces.
+#[derive(Drop)]
+pub struct Mac {
+    inner: Md5,
+    outer: Md5,
+}
+
+impl Mac {
+    /// The HMAC of the empty text under a secret of at most 64 octets.
+    #[tactic(auto, unfolding(crate::specs::Holds::Holds))]
+    pub fn new(secret: &[u8]) -> Mac
+        requires { length secret.now ≤ 64 }
+        ensures { Holds result secret.now [] }
+    {
+        let inner = padded_block(secret, INNER_PAD);
+        let outer = padded_block(secret, OUTER_PAD);
+        Mac {
+            inner: Md5::new_with_prefix(inner.as_slice()),
+            outer: Md5::new_with_prefix(outer.as_slice()),
+        }
+    }
+
+    /// Adds `piece` at the end of the text.
+    #[tactic(auto, unfolding(crate::specs::Holds::Holds))]
+    pub fn update(&mut self, piece: &[u8])
+        ensures { (secret text : List ℕ) → Holds self.old secret text → Holds self.new secret (text ++ piece.now) }
+    {
+        self.inner.update(piece);
+    }
+
+    /// The 16 octets of HMAC-MD5 over all pieces joined.
+    #[tactic(auto, unfolding(crate::specs::Holds::Holds, crate::specs::Tags::hmac))]
+    pub fn finish(self) -> [u8; 16]
+        ensures { (secret text : List ℕ) → Holds self secret text → result ≡ hmac_md5 secret text }
+    {
+        let Mac { inner, mut outer } = self;
+        let digest = inner.finalize();
+        outer.update(digest.as_slice());
+        outer.finalize()
+    }
+}
