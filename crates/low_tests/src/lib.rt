@@ -16,6 +16,8 @@ mod packets;
 mod policies;
 #[cfg(test)]
 mod psk;
+#[cfg(test)]
+mod radius;
 pub mod row;
 #[cfg(test)]
 mod settings;
