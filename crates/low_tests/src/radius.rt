@@ -71,10 +71,10 @@ fn radius_packets_are_read(rt: HostRuntime) {
 
 /// A packet of 4,097 octets that begins as an Access-Request of this Length, with a Message-Authenticator,
 /// an EAP packet of this even number of octets in attributes EAP-Message, and attributes of two octets.
-fn long_packet(length: u16, eap: usize) -> [u8; 4097] {
+fn long_packet(length: usize, eap: usize) -> [u8; 4097] {
     let mut packet = [2; 4097];
     packet[0] = 1;
-    packet[2] = (length / 256) as u8;
+    packet[2] = (length / 256 % 256) as u8;
     packet[3] = (length % 256) as u8;
     packet[20] = 80;
     packet[21] = 18;
@@ -88,7 +88,7 @@ fn long_packet(length: u16, eap: usize) -> [u8; 4097] {
 }
 
 /// The name of what is read from the first octets of a long packet.
-fn word_of_long(received: usize, length: u16, eap: usize) -> &'static str {
+fn word_of_long(received: usize, length: usize, eap: usize) -> &'static str {
     let packet = long_packet(length, eap);
     let (word, _, _) = fields_of(&packet[..received.min(4097)]);
     word
@@ -106,7 +106,7 @@ const LONG: &str = "\
 /// Whether the row's name is that of what is read.
 fn reads_long(row: &str) -> bool {
     let mut row = Row::new(row);
-    let (received, length, eap) = (row.number(), row.number() as u16, row.number());
+    let (received, length, eap) = (row.number(), row.number(), row.number());
     word_of_long(received, length, eap) == row.word() && row.is_read()
 }
 

@@ -1,6 +1,7 @@
 -- What a RADIUS packet that carries EAP proves of its sender: the Message-Authenticator (RFC 3579
 -- section 3.2) and the Response Authenticator (RFC 2865 section 3).
-use Rattle.std.specs.Prelude.{◌≡◌, ◌≢◌, ℕ, List, [], ◌∷◌, ◌++◌, length, replicate, ◌==◌, nat_le, if◌then◌else◌}
+use Rattle.std.specs.Prelude.{◌≡◌, ◌≢◌, ℕ, List, [], ◌∷◌, ◌++◌, length, replicate, Bool, ◌==◌, ◌&&◌, not, nat_le, if◌then◌else◌}
+use Rattle.std.specs.Str.{bytes_eq}
 use Rattle.hmac_mac.specs.Hmac.{block_len, filled, padded, inner_pad, outer_pad}
 use Rattle.md5.specs.Md5.{md5}
 use Rattle.radius_carry.specs.Packet.{Attribute, RadiusPacket, spelled, tag_of}
@@ -49,3 +50,12 @@ pub record IsGoodReply (secret asked : List ℕ) (packet : RadiusPacket) : Type 
   pub is_reply : packet.code ≢ 1
   pub tag : tag_of packet.attributes ≡ reply_tag secret asked packet
   pub authenticator : packet.authenticator ≡ response_authenticator secret asked packet
+
+-- the same as tests
+unfoldable pub is_good_request : List ℕ → RadiusPacket → Bool
+is_good_request secret packet = (packet.code == 1) && bytes_eq (tag_of packet.attributes) (request_tag secret packet)
+
+unfoldable pub is_good_reply : List ℕ → List ℕ → RadiusPacket → Bool
+is_good_reply secret asked packet =
+    (not (packet.code == 1) && bytes_eq (tag_of packet.attributes) (reply_tag secret asked packet))
+    && bytes_eq packet.authenticator (response_authenticator secret asked packet)

@@ -6,6 +6,7 @@ ghost use Rattle.radius_carry.specs.Packet.{IsRadius, number_of, tag_of};
 ghost use Rattle.radius_carry.specs.Fault.{value_of};
 ghost use Rattle.radius_carry.specs.Place.{before_secret, round_zeros};
 ghost use Rattle.radius_carry.specs.Tags.{blank_text, asked_text, reply_tag, response_authenticator, IsGoodRequest, IsGoodReply};
+ghost use Rattle.radius_carry.specs.Tags.{is_good_request, is_good_reply};
 
 use crate::attributes::place_of_tag;
 use crate::mac::Mac;
@@ -118,10 +119,12 @@ fn is_request(kind: RadiusKind) -> bool
 
 /// Whether the packet is an Access-Request of one who knows the secret: its Message-Authenticator is
 /// the HMAC-MD5 over the packet with zeros in that place (RFC 3579 section 3.2).
+#[tactic(auto, unfolding(crate::specs::Tags::is_good_request, crate::specs::Fault::value_of))]
 pub fn request_good(secret: &[u8], view: &RadiusView) -> bool
     requires secret { length secret.now ≤ 64 }
     requires radius { IsRadius (value_of view.now) view.now.whole.now }
-    ensures { IsTrue result ↔ IsGoodRequest secret.now (value_of view.now) }
+    ensures good { IsTrue result ↔ IsGoodRequest secret.now (value_of view.now) }
+    ensures decides { result ≡ is_good_request secret.now (value_of view.now) }
 {
     let tag = tag_under(secret, &view.authenticator, view);
     is_request(view.kind) & has_tag(view, &tag)
@@ -131,10 +134,12 @@ pub fn request_good(secret: &[u8], view: &RadiusView) -> bool
 /// its Message-Authenticator is the HMAC-MD5 over the packet with the Request Authenticator in the
 /// Authenticator's place and zeros in its own (RFC 3579 section 3.2), and its Authenticator is the
 /// Response Authenticator (RFC 2865 section 3).
+#[tactic(auto, unfolding(crate::specs::Tags::is_good_reply, crate::specs::Fault::value_of))]
 pub fn reply_good(secret: &[u8], request_authenticator: &[u8; 16], view: &RadiusView) -> bool
     requires secret { length secret.now ≤ 64 }
     requires radius { IsRadius (value_of view.now) view.now.whole.now }
-    ensures { IsTrue result ↔ IsGoodReply secret.now request_authenticator.now (value_of view.now) }
+    ensures good { IsTrue result ↔ IsGoodReply secret.now request_authenticator.now (value_of view.now) }
+    ensures decides { result ≡ is_good_reply secret.now request_authenticator.now (value_of view.now) }
 {
     let tag = tag_under(secret, request_authenticator, view);
     let response = answering(secret, request_authenticator, view);
