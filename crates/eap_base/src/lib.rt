@@ -19,6 +19,7 @@ mod sure;
 mod unread;
 mod users;
 
+pub use ahead::Ahead;
 pub use comparison::equal_in_full;
 pub use event::Event;
 pub use kind::{GPSK_KIND, PSK_KIND, is_among};

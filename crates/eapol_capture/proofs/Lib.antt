@@ -1,0 +1,8 @@
+-- How an answer divides what was to be answered.
+pub mod Dividing
+-- The contents of some files.
+mod FileRows
+-- A reader of records that hands out octets.
+pub mod Handing
+-- The records of octets, one at a time.
+pub mod RecordLaws

@@ -1,0 +1,73 @@
+use Rattle.std.proofs.Common.{◌≡◌, ◌≤◌, ◌<◌, ◌∙◌, length, rules, Err, Ok, Some, ap, arith}
+use Rattle.eapol_capture.specs.Files.{max_frame}
+use Rattle.eapol_capture.proofs.Dividing.{begins, records-end, length-stops, fails-divides, stops-take, bad-size, frame-divides, frame-takes}
+use Rattle.eapol_capture.proofs.reader.PcapReader.read_frame.Goals as goal
+
+pub returns-then-not-branch-clause-contents : goal.returns-then-not-branch-clause-contents
+returns-then-not-branch-clause-contents g c =
+    let called = c.in_ok-has_more.ensures in
+    let none = ap Ok c.if-not-branch.true in
+    records-end c.args.self.now c.has_more.new.self (g.S.Source.left c.args.source.now) (g.S.Source.left c.has_more.new.source) c.args.order c.has_more.new.self.frame
+    c.requires.order called.left (called.none_held none) (called.none_left none)
+
+pub returns-in_err-size-clause-contents : goal.returns-in_err-size-clause-contents
+returns-in_err-size-clause-contents g c =
+    let same : c.from_residual-in_err-size.result ≡ Err c.in_err-size.field-0.0 = search rules in
+    let looked = c.in_ok-has_more.ensures in
+    let called = c.in_err-size.ensures in
+    let some : 0 < length c.has_more.new.self.held = looked.some (ap Ok c.if-not-branch.false) in
+    rw same
+    (fails-divides c.in_err-size.field-0.0 c.read_length.new.self.frame _ _
+    (length-stops c.args.self.now c.has_more.new.self c.read_length.new.self
+    (g.S.Source.left c.args.source.now) (g.S.Source.left c.has_more.new.source) (g.S.Source.left c.read_length.new.source) c.args.order c.in_err-size.field-0.0
+    c.requires.order c.requires.bounded called.bounded looked.left looked.taken some called.part))
+
+pub returns-in_err-size-clause-takes : goal.returns-in_err-size-clause-takes
+returns-in_err-size-clause-takes g c =
+    let same : c.from_residual-in_err-size.result ≡ Err c.in_err-size.field-0.0 = search rules in
+    let looked = c.in_ok-has_more.ensures in
+    let called = c.in_err-size.ensures in
+    let grows : c.args.self.now.taken ≤ c.read_length.new.self.taken = omega (arith, looked.taken, called.grows) in
+    rw same
+    (stops-take c.in_err-size.field-0.0 12 c.has_more.new.self c.read_length.new.self
+    (g.S.Source.left c.has_more.new.source) (g.S.Source.left c.read_length.new.source) called.part grows)
+
+pub returns-then-size-gt-MAX_FRAME-clause-contents : goal.returns-then-size-gt-MAX_FRAME-clause-contents
+returns-then-size-gt-MAX_FRAME-clause-contents g c =
+    let looked = c.in_ok-has_more.ensures in
+    let called = c.in_ok-size.ensures in
+    let begun =
+    begins c.args.order c.in_ok-size.size c.args.self.now c.has_more.new.self c.read_length.new.self
+    (g.S.Source.left c.args.source.now) (g.S.Source.left c.has_more.new.source) (g.S.Source.left c.read_length.new.source)
+    c.requires.order looked.left looked.taken called.part called.length called.bounded in
+    let long : max_frame < c.in_ok-size.size = omega arith in
+    bad-size c.args.order c.in_ok-size.size c.args.self.now c.read_length.new.self
+    (g.S.Source.left c.args.source.now) (g.S.Source.left c.read_length.new.source) c.read_length.new.self.frame begun long
+
+pub returns-clause-contents : goal.returns-clause-contents
+returns-clause-contents g c =
+    let looked = c.in_ok-has_more.ensures in
+    let called = c.in_ok-size.ensures in
+    let begun =
+    begins c.args.order c.in_ok-size.size c.args.self.now c.has_more.new.self c.read_length.new.self
+    (g.S.Source.left c.args.source.now) (g.S.Source.left c.has_more.new.source) (g.S.Source.left c.read_length.new.source)
+    c.requires.order looked.left looked.taken called.part called.length called.bounded in
+    let short : c.in_ok-size.size ≤ max_frame = omega arith in
+    let body = c.read_body.ensures in
+    let order : c.read_body.new.self.order ≡ Some c.args.order = body.keeps.order ∙ called.keeps.order ∙ looked.keeps.order ∙ c.requires.order in
+    frame-divides c.read_body.result c.args.order c.in_ok-size.size c.args.self.now c.read_length.new.self c.read_body.new.self
+    (g.S.Source.left c.args.source.now) (g.S.Source.left c.read_length.new.source) (g.S.Source.left c.read_body.new.source)
+    begun short order body.bounded body.part
+
+pub returns-clause-takes : goal.returns-clause-takes
+returns-clause-takes g c =
+    let looked = c.in_ok-has_more.ensures in
+    let called = c.in_ok-size.ensures in
+    let begun =
+    begins c.args.order c.in_ok-size.size c.args.self.now c.has_more.new.self c.read_length.new.self
+    (g.S.Source.left c.args.source.now) (g.S.Source.left c.has_more.new.source) (g.S.Source.left c.read_length.new.source)
+    c.requires.order looked.left looked.taken called.part called.length called.bounded in
+    let body = c.read_body.ensures in
+    frame-takes c.read_body.result c.args.order c.in_ok-size.size c.args.self.now c.read_length.new.self c.read_body.new.self
+    (g.S.Source.left c.args.source.now) (g.S.Source.left c.read_length.new.source) (g.S.Source.left c.read_body.new.source)
+    begun body.grows body.part

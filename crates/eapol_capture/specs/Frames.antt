@@ -1,0 +1,48 @@
+-- Ethernet frames that carry EAPOL (IEEE 802.1X-2010 clause 11.3).
+use Rattle.std.specs.Prelude.{ℕ, ◌-◌, List, length, take, drop, slice_index, ◌==◌, ◌||◌, not, nat_lt, if◌then◌else◌}
+use Rattle.std.specs.Int.{w16, from_be_bytes}
+use Rattle.eapol_capture.specs.declared.frame.FrameFinding.{FrameFinding}
+use Rattle.eapol_capture.specs.declared.frame.FrameFinding.TheVariants.{Other, Cut, Eap}
+
+-- what a frame carries: no EAP packet, one that is cut, or this one
+pub data Carried : Type 0 where
+  other : Carried
+  cut : Carried
+  eap : List ℕ → Carried
+
+-- the frame's type behind its two addresses of 6 octets each
+abbrev pub type_of : List ℕ → ℕ
+type_of frame = from_be_bytes w16 (take 2 (drop 12 frame))
+
+-- the type of EAPOL, 888e
+abbrev pub eapol_type : ℕ
+eapol_type = 34958
+
+-- EAPOL's type, and the length of its body
+abbrev pub packet_type : List ℕ → ℕ
+packet_type frame = slice_index frame 15
+
+abbrev pub body_length : List ℕ → ℕ
+body_length frame = from_be_bytes w16 (take 2 (drop 16 frame))
+
+-- the body behind the header, which is version (1 octet), type (1) and length (2); the octets past it are
+-- padding. A packet of more than 2,000 octets isn't read
+abbrev pub body_of : List ℕ → Carried
+body_of frame =
+    if nat_lt (length frame - 18) (body_length frame) || nat_lt 2000 (body_length frame) then cut
+    else eap (take (body_length frame) (drop 18 frame))
+
+-- what a frame carries: EAPOL's type 0 is an EAP packet
+unfoldable pub carried : List ℕ → Carried
+carried frame =
+    if nat_lt (length frame) 14 then other
+    else if not (type_of frame == eapol_type) then other
+    else if nat_lt (length frame) 18 then cut
+    else if not (packet_type frame == 0) then other
+    else body_of frame
+
+-- what an answer says of a frame
+abbrev pub heard : FrameFinding → Carried
+heard Other = other
+heard Cut = cut
+heard (Eap octets) = eap octets.now

@@ -1,0 +1,76 @@
+-- A reader of a file's records: what it has still to answer, and what each of its steps takes.
+use Rattle.std.specs.Prelude.{◌≡◌, ℕ, ◌+◌, ◌-◌, ◌≤◌, List, min, Bool, true, false, Option, Some, None, option_map}
+use Rattle.eap_base.specs.Known.{prepend_known, nothing_known}
+use Rattle.eapol_capture.specs.declared.order.OctetOrder.{OctetOrder}
+use Rattle.eapol_capture.specs.declared.reader.NextRecord.{NextRecord}
+use Rattle.eapol_capture.specs.declared.reader.NextRecord.TheVariants.{Record, End, TooMuch, Read}
+use Rattle.eapol_capture.specs.Files.{Contents, ends, record_of, from_header, all_records, max_input}
+
+-- a reader: how many octets it has handed out, the octets that it has read ahead, the file's octet order
+-- once it has read the header, what it has kept of the frame that it read last, the number of the record last
+-- begun, and whether it is over
+pub record Reading : Type 0 where
+  pub taken : ℕ
+  pub held : List ℕ
+  pub order : Option OctetOrder
+  pub frame : List ℕ
+  pub number : ℕ
+  pub over : Bool
+
+-- what the octets that are left are, before and behind the header
+abbrev pub contents_from : Option OctetOrder → ℕ → List ℕ → Contents
+contents_from None room octets = from_header room octets
+contents_from (Some order) room octets = all_records order room octets
+
+-- the octets that are left, where the source tells what it has left
+abbrev pub octets_left : Reading → Option (List ℕ) → Option (List ℕ)
+octets_left reader left = prepend_known reader.held left
+
+-- what is still to be answered
+abbrev pub contents_left : Reading → Option (List ℕ) → Option Contents
+contents_left reader left = option_map (contents_from reader.order (max_input - reader.taken)) (octets_left reader left)
+
+-- how one answer divides what was to be answered: into a record and what follows it, or it is the end
+abbrev pub Divides : NextRecord → List ℕ → Option Contents → Option Contents → Type 0
+Divides Record frame before after = before ≡ option_map (record_of frame) after
+Divides Read frame before after = Unit {0}
+Divides answer frame before after = before ≡ option_map (λ _. ends answer) after
+
+-- where the next record begins, in octets: behind the header
+abbrev pub header_left : Option OctetOrder → ℕ
+header_left None = 24
+header_left (Some order) = 0
+
+abbrev pub records_begin : Reading → ℕ
+records_begin reader = reader.taken + header_left reader.order
+
+-- how many records an answer begins, where the next one began at `start`: one where an octet of it was handed
+-- out, or was the one past the limit
+abbrev pub records_at : Option OctetOrder → ℕ
+records_at None = 0
+records_at (Some order) = 1
+
+abbrev pub begun : NextRecord → ℕ → Reading → ℕ
+begun TooMuch start after = records_at after.order
+begun answer start after = min 1 (after.taken - start)
+
+-- each record takes at least 16 octets
+abbrev pub Takes : NextRecord → ℕ → ℕ → Type 0
+Takes Record before after = before + 16 ≤ after
+Takes answer before after = before ≤ after
+
+-- at the end nothing is left
+abbrev pub Exhausts : NextRecord → Option (List ℕ) → Type 0
+Exhausts End left = left ≡ nothing_known left
+Exhausts answer left = Unit {0}
+
+-- the answer Read comes only where the count of faults rose, or stands at its last value; after any other
+-- answer it is as it was
+abbrev pub Faults : NextRecord → Option ℕ → ℕ → ℕ → Type 0
+Faults Read last before after = after ≤ before → last ≡ Some after
+Faults answer last before after = after ≡ before
+
+-- every answer but a record is the last one
+abbrev pub is_last : NextRecord → Bool
+is_last Record = false
+is_last answer = true

@@ -1,0 +1,81 @@
+//! EAP packets in Ethernet frames.
+
+ghost use Rattle.std.specs.Prelude.{◌≡◌, ◌≤◌, length};
+ghost use Rattle.eapol_capture.specs.Frames.{carried, heard, body_of, type_of, body_length};
+
+use eap_base::array_of;
+
+/// What a frame carries.
+#[derive(Clone, Copy)]
+pub enum FrameFinding<'a> {
+    /// No EAP packet.
+    Other,
+    /// EAPOL without its whole header, or an EAP packet without all its octets or of more than 2,000.
+    Cut,
+    /// An EAP packet: these octets, at most 2,000.
+    Eap(&'a [u8]),
+}
+
+/// The octets of a frame's two addresses and its type.
+const ETHERNET: usize = 14;
+
+/// These, and the version, the type and the length of EAPOL.
+const EAPOL: usize = 18;
+
+/// The type of a frame that carries EAPOL.
+const EAPOL_TYPE: u16 = 0x888e;
+
+/// EAPOL's type of an EAP packet.
+const EAP_PACKET: u8 = 0;
+
+/// The most octets of an EAP packet.
+const MAX_PACKET: usize = 2000;
+
+/// The type behind the addresses.
+fn type_of(frame: &[u8]) -> u16
+    requires { 14 ≤ length frame.now }
+    ensures { result ≡ type_of frame.now }
+{
+    u16::from_be_bytes(array_of(&frame[12..14]))
+}
+
+/// The length of EAPOL's body.
+fn body_length(frame: &[u8]) -> usize
+    requires { 18 ≤ length frame.now }
+    ensures { result ≡ body_length frame.now }
+{
+    usize::from(u16::from_be_bytes(array_of(&frame[16..18])))
+}
+
+/// The EAP packet in a frame with EAPOL's header, if it is whole.
+fn body_of<'a>(frame: &'a [u8]) -> FrameFinding<'a>
+    requires { 18 ≤ length frame.now }
+    ensures { heard result ≡ body_of frame.now }
+{
+    let size = body_length(frame);
+    let body = &frame[EAPOL..];
+    if size > body.len() || size > MAX_PACKET {
+        FrameFinding::Cut
+    } else {
+        FrameFinding::Eap(&body[..size])
+    }
+}
+
+/// What an Ethernet frame carries: an EAP packet is the body of EAPOL's type 0 (IEEE 802.1X-2010 clause
+/// 11.3). `Cut`: the frame's type is 888e and it has under 18 octets, or EAPOL's type is 0 and its length is
+/// over the octets that are there or over 2,000. `Other`: the frame has under 14 octets, its type isn't
+/// 888e, or it has 18 octets or more and EAPOL's type isn't 0. Octets past the body are padding.
+#[tactic(auto, unfolding(crate::specs::Frames::carried))]
+pub fn eap_of_frame<'a>(frame: &'a [u8]) -> FrameFinding<'a>
+    ensures { heard result ≡ carried frame.now }
+{
+    if frame.len() < ETHERNET || type_of(frame) != EAPOL_TYPE {
+        FrameFinding::Other
+    } else if frame.len() < EAPOL {
+        FrameFinding::Cut
+    } else if frame[15] != EAP_PACKET {
+        FrameFinding::Other
+    } else {
+        body_of(frame)
+    }
+}

@@ -1,0 +1,369 @@
+//! A source read as a pcap file.
+
+ghost use Rattle.std.specs.Prelude.{◌≡◌, ◌≤◌, ◌<◌, ◌+◌, ◌-◌, ◌++◌, min, take, drop, true, false, length, ℕ, [], Some, Ok, IfOk, IfErr, OnOk, IsTrue};
+ghost use Rattle.eap_base.specs.Known.{prepend_known, nothing_known};
+
+use crate::header::judge_header;
+use crate::order::OctetOrder;
+use eap_base::{Ahead, Octets, Source};
+use std::marker::Model;
+
+/// What `PcapReader::next_record` met.
+#[derive(Clone, Copy, PartialEq, Eq, Debug)]
+pub enum NextRecord {
+    /// A record, whose frame `frame()` now gives.
+    Record,
+    /// The end of the source, directly behind the header or a record.
+    End,
+    /// The end of the source elsewhere.
+    CutFile,
+    /// Another magic number than that of microseconds, in a whole header.
+    BadMagic,
+    /// Another version than 2.4.
+    BadVersion,
+    /// Another link type than Ethernet.
+    BadLink,
+    /// A record whose frame has over 262,144 octets.
+    BadRecord,
+    /// Octet 16,777,217 of the source.
+    TooMuch,
+    /// A read that failed.
+    Read,
+}
+
+/// Reads a source as a pcap file of Ethernet frames (draft-ietf-opsawg-pcap): a header, and then records of
+/// a frame each. A frame has at most 262,144 octets, of which the first 4,096 are kept, and the source at most
+/// 16,777,216. Up to 4,096 octets are read at a time; the limit counts those that were handed out.
+#[derive(Drop)]
+pub struct PcapReader {
+    taken: u32,
+    order: Option<OctetOrder>,
+    frame: Octets<4096>,
+    number: u32,
+    over: bool,
+    ahead: Ahead,
+}
+
+const MAX_INPUT: u32 = 16_777_216;
+
+const MAX_FRAME: u32 = 262_144;
+
+const MAX_KEPT: usize = 4096;
+
+/// The octets of a file's header.
+const HEADER: u32 = 24;
+
+/// The octets of a record's time and of its frame's length.
+const TO_LENGTH: u32 = 12;
+
+/// The octets of a frame's length before it was cut.
+const FIRST_LENGTH: u32 = 4;
+
+impl Model for PcapReader {
+    ghost use Rattle.std.specs.Prelude.{◌≤◌, ◌+◌, if◌then◌else◌};
+    ghost use Rattle.eapol_capture.specs.Files.{max_input};
+    ghost use Rattle.eapol_capture.specs.Reading.{Reading};
+
+    ghost Value = { Reading };
+
+    ghost view = { λ r. record { taken = r.taken; held = r.ahead; order = r.order; frame = r.frame; number = r.number; over = r.over } };
+
+    ghost invariant = { λ r. (r.taken ≤ max_input) × (r.number ≤ r.taken + (if r.over then 1 else 0)) };
+}
+
+impl PcapReader {
+    ghost use Rattle.std.specs.Prelude.{None};
+    ghost use Rattle.eapol_capture.specs.declared.reader.NextRecord.TheVariants.{Record, Read};
+    ghost use Rattle.eapol_capture.specs.Files.{max_input, max_kept, number, order_or_fault};
+    ghost use Rattle.eapol_capture.specs.Reading.{contents_left, octets_left, Divides, begun, records_begin, Takes, Exhausts, Faults, is_last};
+    ghost use Rattle.eapol_capture.specs.Parts.{answer_of, told, Keeps, Parts, Frames, Opens};
+
+    /// A reader that has read nothing.
+    pub fn new() -> PcapReader
+        ensures { result ≡ record { taken = 0; held = []; order = None; frame = []; number = 0; over = false } }
+    {
+        PcapReader {
+            taken: 0,
+            order: None,
+            frame: Octets::new(),
+            number: 0,
+            over: false,
+            ahead: Ahead::new(),
+        }
+    }
+
+    /// Reads the next record of `source`, whose frame `frame()` gives where the answer is `Record`. After
+    /// every other answer the reader is over.
+    pub fn next_record<S: Source>(&mut self, source: &mut S) -> NextRecord
+        requires { self.old.over ≡ false }
+
+        // The answers are those of the octets that the reader holds and the source has left, however they
+        // are cut into reads.
+        ensures contents { Divides result self.new.frame (contents_left self.old (S.left source.old)) (contents_left self.new (S.left source.new)) }
+        ensures number { self.new.number ≡ self.old.number + begun result (records_begin self.old) self.new }
+        ensures over { self.new.over ≡ is_last result }
+        ensures takes { Takes result self.old.taken self.new.taken }
+        ensures bounded { self.new.taken ≤ max_input }
+        ensures exhausted { Exhausts result (S.left source.new) }
+
+        ensures read { Faults result S.last_read_fault (S.read_faults source.old) (S.read_faults source.new) }
+        ensures never_falls { S.read_faults source.old ≤ S.read_faults source.new }
+    {
+        let start = self.start();
+        let answer = self.read_next(source);
+        self.settle(answer, start);
+        answer
+    }
+
+    /// Where the next record begins, in octets.
+    fn start(&mut self) -> u32
+        requires { self.old.over ≡ false }
+        ensures same { self.new ≡ self.old }
+        ensures place { result ≡ records_begin self.old }
+        ensures bounded { self.old.taken ≤ max_input }
+        ensures counted { self.old.number ≤ self.old.taken }
+    {
+        match self.order {
+            Some(_) => self.taken,
+            None => self.taken + HEADER,
+        }
+    }
+
+    /// Numbers the record that was begun, if one was. Every answer but a record is the last one.
+    fn settle(&mut self, answer: NextRecord, start: u32)
+        requires alive { self.old.over ≡ false }
+        requires counted { self.old.number ≤ self.old.taken }
+        requires room { answer ≡ Record → self.old.number < self.old.taken }
+        ensures { self.new ≡ record self.old { number = self.old.number + begun answer start self.old; over = is_last answer } }
+    {
+        let has_begun = match answer {
+            NextRecord::TooMuch => self.order.is_some(),
+            _ => start < self.taken,
+        };
+        self.over = answer != NextRecord::Record;
+        self.number += u32::from(has_begun);
+    }
+
+    /// Reads the header, where that wasn't done, and a record.
+    fn read_next<S: Source>(&mut self, source: &mut S) -> NextRecord
+        requires bounded { self.old.taken ≤ max_input }
+        ensures contents { Divides result self.new.frame (contents_left self.old (S.left source.old)) (contents_left self.new (S.left source.new)) }
+        ensures number { self.new.number ≡ self.old.number }
+        ensures over { self.new.over ≡ self.old.over }
+        ensures takes { Takes result self.old.taken self.new.taken }
+        ensures bounded { self.new.taken ≤ max_input }
+        ensures exhausted { Exhausts result (S.left source.new) }
+        ensures read { Faults result S.last_read_fault (S.read_faults source.old) (S.read_faults source.new) }
+        ensures never_falls { S.read_faults source.old ≤ S.read_faults source.new }
+    {
+        match self.order {
+            Some(order) => self.read_record(source, order),
+            None => match self.read_header(source) {
+                Ok(order) => self.read_record(source, order),
+                Err(answer) => answer,
+            },
+        }
+    }
+
+    /// Reads the file's header.
+    fn read_header<S: Source>(&mut self, source: &mut S) -> Result<OctetOrder, NextRecord>
+        requires header { self.old.order ≡ None }
+        requires bounded { self.old.taken ≤ max_input }
+        ensures contents { Opens result (contents_left self.old (S.left source.old)) (contents_left self.new (S.left source.new)) }
+        ensures order { IfOk result (λ order. self.new.order ≡ Some order) }
+        ensures number { self.new.number ≡ self.old.number }
+        ensures over { self.new.over ≡ self.old.over }
+        ensures grows { self.old.taken ≤ self.new.taken }
+        ensures bounded { self.new.taken ≤ max_input }
+        ensures read { Faults (answer_of result) S.last_read_fault (S.read_faults source.old) (S.read_faults source.new) }
+        ensures never_falls { S.read_faults source.old ≤ S.read_faults source.new }
+    {
+        self.read_part(source, HEADER)?;
+        self.judge()
+    }
+
+    /// Judges the header that was read, and keeps the octet order that it tells.
+    fn judge(&mut self) -> Result<OctetOrder, NextRecord>
+        requires { length self.old.frame ≡ 24 }
+        ensures judged { result ≡ order_or_fault self.old.frame }
+        ensures kept { self.new ≡ record self.old { order = told result } }
+    {
+        let found = judge_header(self.frame.as_slice());
+        self.order = found.ok();
+        found
+    }
+
+    /// Reads a record.
+    fn read_record<S: Source>(&mut self, source: &mut S, order: OctetOrder) -> NextRecord
+        requires order { self.old.order ≡ Some order }
+        requires bounded { self.old.taken ≤ max_input }
+        ensures contents { Divides result self.new.frame (contents_left self.old (S.left source.old)) (contents_left self.new (S.left source.new)) }
+        ensures number { self.new.number ≡ self.old.number }
+        ensures over { self.new.over ≡ self.old.over }
+        ensures takes { Takes result self.old.taken self.new.taken }
+        ensures bounded { self.new.taken ≤ max_input }
+        ensures exhausted { Exhausts result (S.left source.new) }
+        ensures read { Faults result S.last_read_fault (S.read_faults source.old) (S.read_faults source.new) }
+        ensures never_falls { S.read_faults source.old ≤ S.read_faults source.new }
+    {
+        match self.read_frame(source, order) {
+            Ok(_) => NextRecord::Record,
+            Err(answer) => answer,
+        }
+    }
+
+    /// Reads a record, up to what keeps it from being one.
+    fn read_frame<S: Source>(&mut self, source: &mut S, order: OctetOrder) -> Result<(), NextRecord>
+        requires order { self.old.order ≡ Some order }
+        requires bounded { self.old.taken ≤ max_input }
+        ensures contents { Divides (answer_of result) self.new.frame (contents_left self.old (S.left source.old)) (contents_left self.new (S.left source.new)) }
+        ensures number { self.new.number ≡ self.old.number }
+        ensures over { self.new.over ≡ self.old.over }
+        ensures takes { Takes (answer_of result) self.old.taken self.new.taken }
+        ensures bounded { self.new.taken ≤ max_input }
+        ensures exhausted { Exhausts (answer_of result) (S.left source.new) }
+        ensures read { Faults (answer_of result) S.last_read_fault (S.read_faults source.old) (S.read_faults source.new) }
+        ensures never_falls { S.read_faults source.old ≤ S.read_faults source.new }
+    {
+        if !self.has_more(source)? {
+            return Err(NextRecord::End);
+        }
+        let size = self.read_length(source, order)?;
+        if size > MAX_FRAME {
+            return Err(NextRecord::BadRecord);
+        }
+        self.read_body(source, size)
+    }
+
+    /// Reads a record's time and the length of its frame.
+    fn read_length<S: Source>(
+        &mut self,
+        source: &mut S,
+        order: OctetOrder,
+    ) -> Result<u32, NextRecord>
+        requires bounded { self.old.taken ≤ max_input }
+        ensures part { Parts result 12 self.old self.new (S.left source.old) (S.left source.new) }
+        ensures length { IfOk result (λ size. size ≡ number order (take 4 (drop 8 self.new.frame))) }
+        ensures keeps { Keeps self.old self.new }
+        ensures grows { self.old.taken ≤ self.new.taken }
+        ensures bounded { self.new.taken ≤ max_input }
+        ensures read { Faults (answer_of result) S.last_read_fault (S.read_faults source.old) (S.read_faults source.new) }
+        ensures never_falls { S.read_faults source.old ≤ S.read_faults source.new }
+    {
+        self.read_part(source, TO_LENGTH)?;
+        Ok(order.number(&self.frame.as_slice()[8..12]))
+    }
+
+    /// Reads the length of a frame before it was cut, and the frame, which has so many octets.
+    fn read_body<S: Source>(&mut self, source: &mut S, size: u32) -> Result<(), NextRecord>
+        requires bounded { self.old.taken ≤ max_input }
+        ensures part { Frames result size self.old self.new (S.left source.old) (S.left source.new) }
+        ensures keeps { Keeps self.old self.new }
+        ensures grows { self.old.taken ≤ self.new.taken }
+        ensures bounded { self.new.taken ≤ max_input }
+        ensures read { Faults (answer_of result) S.last_read_fault (S.read_faults source.old) (S.read_faults source.new) }
+        ensures never_falls { S.read_faults source.old ≤ S.read_faults source.new }
+    {
+        self.read_part(source, FIRST_LENGTH)?;
+        self.read_part(source, size)
+    }
+
+    /// Hands out so many octets, of which the frame keeps the first 4,096. `CutFile`: the source ends before.
+    /// `TooMuch`: the octet past the limit comes before.
+    fn read_part<S: Source>(&mut self, source: &mut S, count: u32) -> Result<(), NextRecord>
+        requires bounded { self.old.taken ≤ max_input }
+        ensures size { OnOk result (length self.new.frame ≡ min count max_kept) }
+        ensures part { Parts result count self.old self.new (S.left source.old) (S.left source.new) }
+        ensures keeps { Keeps self.old self.new }
+        ensures grows { self.old.taken ≤ self.new.taken }
+        ensures bounded { self.new.taken ≤ max_input }
+        ensures read { Faults (answer_of result) S.last_read_fault (S.read_faults source.old) (S.read_faults source.new) }
+        ensures never_falls { S.read_faults source.old ≤ S.read_faults source.new }
+    {
+        self.drop_frame();
+        let mut missing = count;
+        while missing > 0 {
+            if !self.has_more(source)? {
+                return Err(NextRecord::CutFile);
+            }
+            let handed = self.take_held(missing);
+            if handed == 0 {
+                return Err(NextRecord::TooMuch);
+            }
+            missing -= handed;
+        }
+        Ok(())
+    }
+
+    /// Keeps nothing of the frame that was read last.
+    fn drop_frame(&mut self)
+        ensures { self.new ≡ record self.old { frame = [] } }
+    {
+        self.frame.clear();
+    }
+
+    /// Whether an octet is left. Reads where none is held.
+    fn has_more<S: Source>(&mut self, source: &mut S) -> Result<bool, NextRecord>
+        ensures keeps { Keeps self.old self.new }
+        ensures taken { self.new.taken ≡ self.old.taken }
+        ensures frame { self.new.frame ≡ self.old.frame }
+        ensures left { OnOk result (octets_left self.old (S.left source.old) ≡ octets_left self.new (S.left source.new)) }
+        ensures some { result ≡ Ok true → 0 < length self.new.held }
+        ensures none_held { result ≡ Ok false → self.new.held ≡ [] }
+        ensures none_left { result ≡ Ok false → S.left source.new ≡ nothing_known (S.left source.new) }
+        ensures failed { IfErr result (λ answer. answer ≡ Read) }
+        ensures read { Faults (answer_of result) S.last_read_fault (S.read_faults source.old) (S.read_faults source.new) }
+        ensures never_falls { S.read_faults source.old ≤ S.read_faults source.new }
+    {
+        if !self.ahead.as_slice().is_empty() {
+            return Ok(true);
+        }
+        match self.ahead.fill(source) {
+            Ok(count) => Ok(count > 0),
+            Err(_) => Err(NextRecord::Read),
+        }
+    }
+
+    /// Hands out octets that it holds, at most so many and as many as pass no limit, and answers how many.
+    fn take_held(&mut self, most: u32) -> u32
+        ensures fits { result ≤ most }
+        ensures there { result ≤ length self.old.held }
+        ensures taken { self.new.taken ≡ self.old.taken + result }
+        ensures held { self.new.held ≡ drop result self.old.held }
+        ensures kept { self.new.frame ≡ take max_kept (self.old.frame ++ take result self.old.held) }
+        ensures stuck { result ≡ 0 → 0 < most → 0 < length self.old.held → max_input ≤ self.new.taken }
+        ensures keeps { Keeps self.old self.new }
+        ensures bounded { self.new.taken ≤ max_input }
+    {
+        let budget = (MAX_INPUT - self.taken).min(most) as usize;
+        let held = self.ahead.as_slice();
+        let count = held.len().min(budget);
+        let kept = count.min(MAX_KEPT - self.frame.len());
+        self.frame.put(&held[..kept]);
+        self.ahead.skip(count);
+        self.taken += count as u32;
+        count as u32
+    }
+
+    /// What was kept of the frame that was read last: its first octets, at most 4,096.
+    pub fn frame(&self) -> &[u8]
+        ensures same { result.now ≡ self.now.frame }
+        ensures fits { length result.now ≤ max_kept }
+    {
+        self.frame.as_slice()
+    }
+
+    /// The number of the record last begun, from 1. It is 0 in the header.
+    pub fn number(&self) -> u32
+        ensures { result ≡ self.now.number }
+    {
+        self.number
+    }
+
+    /// True after every answer but `Record`.
+    pub fn is_over(&self) -> bool
+        ensures { result ≡ self.now.over }
+    {
+        self.over
+    }
+}
