@@ -1,23 +1,27 @@
 -- How an answer divides what was to be answered.
-use Rattle.std.proofs.Common.{◌≡◌, ℕ, ◌+◌, ◌-◌, ◌<◌, ◌≤◌, not, eqb, List, [], ◌++◌, length, take, drop, Option, Some, None, option_map, Result, Ok, Err, refl, ap, subst, sym, ◌∙◌, inl, inr, arith, append-nil, append_assoc, length-append}
+use Rattle.std.proofs.Common.{◌≡◌, ℕ, ◌+◌, ◌-◌, ◌<◌, ◌≤◌, not, eqb, List, [], ◌++◌, length, take, drop, Option, Some, None, option_map, Result, Ok, Err, refl}
+use Rattle.std.proofs.Common.{ap, subst, sym, ◌∙◌, inl, inr, arith, append-nil, append_assoc, length-append}
 use Rattle.std.proofs.lemmas.Bool.{cases_Bool}
 use Rattle.std.proofs.lemmas.List.{take_all, take_at, drop_at, take-append-le, drop-append-le, length-drop}
 use Rattle.eap_base.specs.Known.{prepend_known, nothing_known}
 use Rattle.eapol_capture.specs.declared.order.OctetOrder.{OctetOrder}
 use Rattle.eapol_capture.specs.declared.reader.NextRecord.{NextRecord}
 use Rattle.eapol_capture.specs.declared.reader.NextRecord.TheVariants.{Record, End, CutFile, BadMagic, BadVersion, BadLink, BadRecord, TooMuch, Read}
-use Rattle.eapol_capture.specs.Files.{Contents, ends, record_of, number, order_of, is_version, faults_in, order_or_fault, behind, missing, from_header, max_input, max_frame, max_kept}
+use Rattle.eapol_capture.specs.Files.{Contents, ends, record_of, number, order_of, is_version, faults_in, order_or_fault, behind, missing, from_header}
+use Rattle.eapol_capture.specs.Files.{max_input, max_frame, max_kept}
 use Rattle.eapol_capture.specs.Reading.{Reading, octets_left, contents_from, contents_left, Divides, Takes, Exhausts}
 use Rattle.eapol_capture.specs.Parts.{Hands, HandsAll, HasFrame, IsCut, IsPast, Stops, Parts, Frames, Fails, Opens, told, answer_of}
 use Rattle.eapol_capture.proofs.RecordLaws.{none-missing, cut-missing, past-missing, no-records, stops-early, stops-late, bad-record, one-record}
 use Rattle.eapol_capture.proofs.Handing.{hands_more}
 
 -- one function of the octets that are left, and another of those behind a part of them
-mapped : (f g : List ℕ → Contents) (h : Contents → Contents) (part : List ℕ) (was left : Option (List ℕ)) → was ≡ prepend_known part left → ((rest : List ℕ) → left ≡ Some rest → f (part ++ rest) ≡ h (g rest)) → option_map f was ≡ option_map h (option_map g left)
+mapped : (f g : List ℕ → Contents) (h : Contents → Contents) (part : List ℕ) (was left : Option (List ℕ)) → was ≡ prepend_known part left →
+    ((rest : List ℕ) → left ≡ Some rest → f (part ++ rest) ≡ h (g rest)) → option_map f was ≡ option_map h (option_map g left)
 mapped f g h part was None is same = ap (option_map f) is
 mapped f g h part was (Some rest) is same = ap (option_map f) is ∙ ap Some (same rest refl)
 
-opened : (f g : List ℕ → Contents) (part : List ℕ) (was left : Option (List ℕ)) → was ≡ prepend_known part left → ((rest : List ℕ) → left ≡ Some rest → f (part ++ rest) ≡ g rest) → option_map f was ≡ option_map g left
+opened : (f g : List ℕ → Contents) (part : List ℕ) (was left : Option (List ℕ)) → was ≡ prepend_known part left →
+    ((rest : List ℕ) → left ≡ Some rest → f (part ++ rest) ≡ g rest) → option_map f was ≡ option_map g left
 opened f g part was None is same = ap (option_map f) is
 opened f g part was (Some rest) is same = ap (option_map f) is ∙ ap Some (same rest refl)
 
@@ -28,7 +32,8 @@ held-first held (Some rest) octets is =
     let joined : held ++ rest ≡ octets = cc in
     omega (arith, length-append held rest, ap length joined)
 
-none-behind : (held : List ℕ) (left : Option (List ℕ)) (octets : List ℕ) → held ≡ [] → left ≡ nothing_known left → prepend_known held left ≡ Some octets → octets ≡ []
+none-behind : (held : List ℕ) (left : Option (List ℕ)) (octets : List ℕ) → held ≡ [] → left ≡ nothing_known left → prepend_known held left ≡ Some octets →
+    octets ≡ []
 none-behind held None octets none nothing is = absurd cc
 none-behind held (Some rest) octets none nothing is =
     let empty : rest ≡ [] = cc in
@@ -39,20 +44,28 @@ none-behind held (Some rest) octets none nothing is =
 Missing : ℕ → Reading → Option (List ℕ) → NextRecord → Type 0
 Missing count before was answer = (octets : List ℕ) → octets_left before was ≡ Some octets → missing count (max_input - before.taken) octets ≡ Some answer
 
-cut-is-missing : (count : ℕ) (before after : Reading) (was left : Option (List ℕ)) → before.taken ≤ max_input → after.taken ≤ max_input → (cut : IsCut count before after was left) → (rest : List ℕ) → octets_left after left ≡ Some rest → missing count (max_input - before.taken) (cut.part ++ rest) ≡ Some CutFile
+cut-is-missing : (count : ℕ) (before after : Reading) (was left : Option (List ℕ)) → before.taken ≤ max_input → after.taken ≤ max_input →
+    (cut : IsCut count before after was left) → (rest : List ℕ) → octets_left after left ≡ Some rest →
+    missing count (max_input - before.taken) (cut.part ++ rest) ≡ Some CutFile
 cut-is-missing count before after was left fits bounded cut rest is =
     let none : rest ≡ [] = none-behind after.held left rest cut.none_held cut.none_left is in
     let size : length (cut.part ++ rest) ≡ length cut.part = rw (none, append-nil cut.part) refl in
     cut-missing count (max_input - before.taken) (cut.part ++ rest) (omega (arith, size, cut.few)) (omega (arith, size, cut.hands.taken))
 
-past-is-missing : (count : ℕ) (before after : Reading) (was left : Option (List ℕ)) → before.taken ≤ max_input → after.taken ≤ max_input → (past : IsPast count before after was left) → (rest : List ℕ) → octets_left after left ≡ Some rest → missing count (max_input - before.taken) (past.part ++ rest) ≡ Some TooMuch
+past-is-missing : (count : ℕ) (before after : Reading) (was left : Option (List ℕ)) → before.taken ≤ max_input → after.taken ≤ max_input →
+    (past : IsPast count before after was left) → (rest : List ℕ) → octets_left after left ≡ Some rest →
+    missing count (max_input - before.taken) (past.part ++ rest) ≡ Some TooMuch
 past-is-missing count before after was left fits bounded past rest is =
     let more : length after.held ≤ length rest = held-first after.held left rest is in
     let size = length-append past.part rest in
-    past-missing count (max_input - before.taken) (past.part ++ rest) (omega (arith, past.few, past.hands.taken, past.full)) (omega (arith, size, past.more, past.hands.taken))
+    past-missing count (max_input - before.taken) (past.part ++ rest) (omega (arith, past.few, past.hands.taken, past.full))
+    (omega (arith, size, past.more, past.hands.taken))
 
 -- a part that isn't there ends what was to be answered
-pub stopped : (count : ℕ) (f g : List ℕ → Contents) (before after : Reading) (was left : Option (List ℕ)) (answer : NextRecord) → before.taken ≤ max_input → after.taken ≤ max_input → ((octets : List ℕ) → octets_left before was ≡ Some octets → missing count (max_input - before.taken) octets ≡ Some answer → f octets ≡ ends answer) → Stops answer count before after was left → Fails answer (option_map f (octets_left before was)) (option_map g (octets_left after left))
+pub stopped : (count : ℕ) (f g : List ℕ → Contents) (before after : Reading) (was left : Option (List ℕ)) (answer : NextRecord) → before.taken ≤ max_input →
+    after.taken ≤ max_input →
+    ((octets : List ℕ) → octets_left before was ≡ Some octets → missing count (max_input - before.taken) octets ≡ Some answer → f octets ≡ ends answer) →
+    Stops answer count before after was left → Fails answer (option_map f (octets_left before was)) (option_map g (octets_left after left))
 stopped count f g before after was left Read fits bounded same stop = tt
 stopped count f g before after was left CutFile fits bounded same stop =
     mapped f g (λ _. ends CutFile) stop.part (octets_left before was) (octets_left after left) stop.hands.octets (λ rest is.
@@ -88,19 +101,22 @@ fails-exhausts _ before after left fails = tt
 header-octets : (before after : Reading) (was left : Option (List ℕ)) (all : HandsAll 24 before after was left) → after.frame ≡ all.part
 header-octets before after was left all = all.kept ∙ take_all max_kept all.part (omega (arith, all.all))
 
-header-is : (room : ℕ) (part rest : List ℕ) → length part ≡ 24 → 24 ≤ room → from_header room (part ++ rest) ≡ behind (order_or_fault part) (room - 24) rest
+pub header-is : (room : ℕ) (part rest : List ℕ) → length part ≡ 24 → 24 ≤ room → from_header room (part ++ rest) ≡ behind (order_or_fault part) (room - 24) rest
 header-is room part rest all fits =
     let none = none-missing 24 room (part ++ rest) fits (omega (arith, length-append part rest)) in
     let front = take_at part rest 24 all in
     let back = drop_at part rest 24 all in
     rw (none, front, back) refl
 
-pub header-stops : (before after : Reading) (was left : Option (List ℕ)) (answer : NextRecord) → before.order ≡ None → before.taken ≤ max_input → after.taken ≤ max_input → Stops answer 24 before after was left → Fails answer (contents_left before was) (contents_left after left)
+pub header-stops : (before after : Reading) (was left : Option (List ℕ)) (answer : NextRecord) → before.order ≡ None → before.taken ≤ max_input →
+    after.taken ≤ max_input → Stops answer 24 before after was left → Fails answer (contents_left before was) (contents_left after left)
 header-stops before after was left answer none fits bounded stop =
-    stopped 24 (contents_from before.order (max_input - before.taken)) (contents_from after.order (max_input - after.taken)) before after was left answer fits bounded
+    stopped 24 (contents_from before.order (max_input - before.taken)) (contents_from after.order (max_input - after.taken)) before after was left answer fits
+    bounded
     (λ octets is lacks. rw (none, lacks) refl) stop
 
-no-fault : (answer : NextRecord) (found : Option OctetOrder) (header : List ℕ) (before after : Option Contents) → faults_in found header ≡ Err answer → before ≡ option_map (λ _. ends answer) after → Fails answer before after
+no-fault : (answer : NextRecord) (found : Option OctetOrder) (header : List ℕ) (before after : Option Contents) → faults_in found header ≡ Err answer →
+    before ≡ option_map (λ _. ends answer) after → Fails answer before after
 no-fault answer None header before after is same =
     let bad : BadMagic ≡ answer = cc in
     subst (λ a. Fails a before after) bad (rw (sym bad) at same)
@@ -118,24 +134,32 @@ no-fault answer (Some order) header before after is same =
           ]
     ]
 
-header-faults : (before mid : Reading) (was left : Option (List ℕ)) (answer : NextRecord) (g : List ℕ → Contents) → before.order ≡ None → before.taken ≤ max_input → mid.taken ≤ max_input → HandsAll 24 before mid was left → order_or_fault mid.frame ≡ Err answer → Fails answer (contents_left before was) (option_map g (octets_left mid left))
+header-faults : (before mid : Reading) (was left : Option (List ℕ)) (answer : NextRecord) (g : List ℕ → Contents) → before.order ≡ None →
+    before.taken ≤ max_input → mid.taken ≤ max_input → HandsAll 24 before mid was left → order_or_fault mid.frame ≡ Err answer →
+    Fails answer (contents_left before was) (option_map g (octets_left mid left))
 header-faults before mid was left answer g none fits bounded all fault =
     let part_is = header-octets before mid was left all in
     let faulty : order_or_fault all.part ≡ Err answer = rw part_is at fault in
     let same =
-    mapped (contents_from before.order (max_input - before.taken)) g (λ _. ends answer) all.part (octets_left before was) (octets_left mid left) all.hands.octets
+    mapped (contents_from before.order (max_input - before.taken)) g (λ _. ends answer) all.part (octets_left before was) (octets_left mid left)
+    all.hands.octets
     (λ rest is. rw none (header-is (max_input - before.taken) all.part rest all.all (omega (arith, all.all, all.hands.taken)) ∙ rw faulty refl)) in
     no-fault answer (order_of (take 4 mid.frame)) mid.frame (contents_left before was) (option_map g (octets_left mid left)) fault same
 
-header-opens : (before mid : Reading) (was left : Option (List ℕ)) (order : OctetOrder) → before.order ≡ None → before.taken ≤ max_input → mid.taken ≤ max_input → HandsAll 24 before mid was left → order_or_fault mid.frame ≡ Ok order → contents_left before was ≡ contents_left (record mid { order = Some order }) left
+header-opens : (before mid : Reading) (was left : Option (List ℕ)) (order : OctetOrder) → before.order ≡ None → before.taken ≤ max_input →
+    mid.taken ≤ max_input → HandsAll 24 before mid was left → order_or_fault mid.frame ≡ Ok order →
+    contents_left before was ≡ contents_left (record mid { order = Some order }) left
 header-opens before mid was left order none fits bounded all good =
     let part_is = header-octets before mid was left all in
     let found : order_or_fault all.part ≡ Ok order = rw part_is at good in
     let room : max_input - before.taken - 24 ≡ max_input - mid.taken = omega (arith, all.all, all.hands.taken) in
-    opened (contents_from before.order (max_input - before.taken)) (contents_from (Some order) (max_input - mid.taken)) all.part (octets_left before was) (octets_left mid left) all.hands.octets
+    opened (contents_from before.order (max_input - before.taken)) (contents_from (Some order) (max_input - mid.taken)) all.part (octets_left before was)
+    (octets_left mid left) all.hands.octets
     (λ rest e. rw none (header-is (max_input - before.taken) all.part rest all.all (omega (arith, all.all, all.hands.taken)) ∙ rw (found, room) refl))
 
-pub header-judged : (found : Result OctetOrder NextRecord) (before mid after : Reading) (was left : Option (List ℕ)) → before.order ≡ None → before.taken ≤ max_input → mid.taken ≤ max_input → HandsAll 24 before mid was left → found ≡ order_or_fault mid.frame → after ≡ record mid { order = told found } → Opens found (contents_left before was) (contents_left after left)
+pub header-judged : (found : Result OctetOrder NextRecord) (before mid after : Reading) (was left : Option (List ℕ)) → before.order ≡ None →
+    before.taken ≤ max_input → mid.taken ≤ max_input → HandsAll 24 before mid was left → found ≡ order_or_fault mid.frame →
+    after ≡ record mid { order = told found } → Opens found (contents_left before was) (contents_left after left)
 header-judged (Ok order) before mid after was left none fits bounded all judged is =
     rw is (header-opens before mid was left order none fits bounded all (sym judged))
 header-judged (Err answer) before mid after was left none fits bounded all judged is =
@@ -143,35 +167,44 @@ header-judged (Err answer) before mid after was left none fits bounded all judge
 
 -- a record
 
-pub records-end : (before after : Reading) (was left : Option (List ℕ)) (order : OctetOrder) (frame : List ℕ) → before.order ≡ Some order → octets_left before was ≡ octets_left after left → after.held ≡ [] → left ≡ nothing_known left → Divides End frame (contents_left before was) (contents_left after left)
+pub records-end : (before after : Reading) (was left : Option (List ℕ)) (order : OctetOrder) (frame : List ℕ) → before.order ≡ Some order →
+    octets_left before was ≡ octets_left after left → after.held ≡ [] → left ≡ nothing_known left →
+    Divides End frame (contents_left before was) (contents_left after left)
 records-end before after was left order frame known same none nothing =
     let room = max_input - before.taken in
     let nothing_more : (rest : List ℕ) → octets_left after left ≡ Some rest → contents_from before.order room rest ≡ ends End =
     λ rest is. rw (known, none-behind after.held left rest none nothing is) (no-records order room) in
     ap (option_map (contents_from before.order room)) same ∙ ended (octets_left after left) nothing_more
   where
-    ended : (known_left : Option (List ℕ)) → ((rest : List ℕ) → known_left ≡ Some rest → contents_from before.order (max_input - before.taken) rest ≡ ends End) → option_map (contents_from before.order (max_input - before.taken)) known_left ≡ option_map (λ _. ends End) (option_map (contents_from after.order (max_input - after.taken)) known_left)
+    ended : (known_left : Option (List ℕ)) →
+        ((rest : List ℕ) → known_left ≡ Some rest → contents_from before.order (max_input - before.taken) rest ≡ ends End) →
+        option_map (contents_from before.order (max_input - before.taken)) known_left ≡
+        option_map (λ _. ends End) (option_map (contents_from after.order (max_input - after.taken)) known_left)
     ended None all = refl
     ended (Some rest) all = ap Some (all rest refl)
 
 -- octets of a record before its frame's length, the length among them
-size-front : (order : OctetOrder) (part rest : List ℕ) → length part ≡ 12 → number order (take 4 (drop 8 (part ++ rest))) ≡ number order (take 4 (drop 8 part))
+pub size-front : (order : OctetOrder) (part rest : List ℕ) → length part ≡ 12 → number order (take 4 (drop 8 (part ++ rest))) ≡ number order (take 4 (drop 8 part))
 size-front order part rest all =
     let back : drop 8 (part ++ rest) ≡ drop 8 part ++ rest = drop-append-le 8 part rest (omega arith) in
     let front : take 4 (drop 8 part ++ rest) ≡ take 4 (drop 8 part) = take-append-le 4 (drop 8 part) rest (omega (arith, length-drop 8 part)) in
     rw (back, front) refl
 
-pub length-stops : (before mid after : Reading) (was left_mid left : Option (List ℕ)) (order : OctetOrder) (answer : NextRecord) → before.order ≡ Some order → before.taken ≤ max_input → after.taken ≤ max_input → octets_left before was ≡ octets_left mid left_mid → mid.taken ≡ before.taken → 0 < length mid.held → Stops answer 12 mid after left_mid left → Fails answer (contents_left before was) (contents_left after left)
+pub length-stops : (before mid after : Reading) (was left_mid left : Option (List ℕ)) (order : OctetOrder) (answer : NextRecord) → before.order ≡ Some order →
+    before.taken ≤ max_input → after.taken ≤ max_input → octets_left before was ≡ octets_left mid left_mid → mid.taken ≡ before.taken → 0 < length mid.held →
+    Stops answer 12 mid after left_mid left → Fails answer (contents_left before was) (contents_left after left)
 length-stops before mid after was left_mid left order answer known fits bounded same taken some stop =
     let first =
-    stopped 12 (contents_from before.order (max_input - before.taken)) (contents_from after.order (max_input - after.taken)) mid after left_mid left answer (omega (arith, taken)) bounded
+    stopped 12 (contents_from before.order (max_input - before.taken)) (contents_from after.order (max_input - after.taken)) mid after left_mid left answer
+    (omega (arith, taken)) bounded
     (λ octets is lacks.
     let there : 0 < length octets = omega (arith, held-first mid.held left_mid octets is) in
     rw known (stops-early order (max_input - before.taken) octets answer there (rw taken at lacks))) stop in
     rw same first
 
 -- what keeps a reader from a part behind another one
-pub stops-behind : (answer : NextRecord) (part : List ℕ) (count most : ℕ) (before mid after : Reading) (was left_mid left : Option (List ℕ)) → Hands part before mid was left_mid → length part + count ≤ most → Stops answer count mid after left_mid left → Stops answer most before after was left
+pub stops-behind : (answer : NextRecord) (part : List ℕ) (count most : ℕ) (before mid after : Reading) (was left_mid left : Option (List ℕ)) →
+    Hands part before mid was left_mid → length part + count ≤ most → Stops answer count mid after left_mid left → Stops answer most before after was left
 stops-behind Read part count most before mid after was left_mid left h fits stop = tt
 stops-behind CutFile part count most before mid after was left_mid left h fits stop = record {
   part = part ++ stop.part;
@@ -189,7 +222,8 @@ stops-behind TooMuch part count most before mid after was left_mid left h fits s
 }
 stops-behind _ part count most before mid after was left_mid left h fits stop = absurd stop
 
-pub stops-more : (answer : NextRecord) (count most : ℕ) (before after : Reading) (was left : Option (List ℕ)) → count ≤ most → Stops answer count before after was left → Stops answer most before after was left
+pub stops-more : (answer : NextRecord) (count most : ℕ) (before after : Reading) (was left : Option (List ℕ)) → count ≤ most →
+    Stops answer count before after was left → Stops answer most before after was left
 stops-more Read count most before after was left fits stop = tt
 stops-more CutFile count most before after was left fits stop =
     record { part = stop.part; few = omega (arith, stop.few); hands = stop.hands; none_held = stop.none_held; none_left = stop.none_left }
@@ -197,12 +231,14 @@ stops-more TooMuch count most before after was left fits stop =
     record { part = stop.part; few = omega (arith, stop.few); hands = stop.hands; more = stop.more; full = stop.full }
 stops-more _ count most before after was left fits stop = absurd stop
 
-pub stops-take : (answer : NextRecord) (count : ℕ) (before after : Reading) (was left : Option (List ℕ)) {taken now : ℕ} → Stops answer count before after was left → taken ≤ now → Takes answer taken now
+pub stops-take : (answer : NextRecord) (count : ℕ) (before after : Reading) (was left : Option (List ℕ)) {taken now : ℕ} →
+    Stops answer count before after was left → taken ≤ now → Takes answer taken now
 stops-take Record count before after was left stop grows = absurd stop
 stops-take _ count before after was left stop grows = grows
 
 -- the length of a frame before it was cut, and the frame
-pub two-parts : {A : Type 0} (result : Result A NextRecord) (size : ℕ) (before mid after : Reading) (was left_mid left : Option (List ℕ)) → HandsAll 4 before mid was left_mid → Parts result size mid after left_mid left → Frames result size before after was left
+pub two-parts : {A : Type 0} (result : Result A NextRecord) (size : ℕ) (before mid after : Reading) (was left_mid left : Option (List ℕ)) →
+    HandsAll 4 before mid was left_mid → Parts result size mid after left_mid left → Frames result size before after was left
 two-parts (Ok value) size before mid after was left_mid left four all = record {
   first_length = four.part;
   four = four.all;
@@ -223,7 +259,9 @@ pub record Begins (order : OctetOrder) (size : ℕ) (before after : Reading) (wa
   pub size_is : size ≡ number order (take 4 (drop 8 head))
   pub fits : after.taken ≤ max_input
 
-pub begins : (order : OctetOrder) (size : ℕ) (before mid after : Reading) (was left_mid left : Option (List ℕ)) → before.order ≡ Some order → octets_left before was ≡ octets_left mid left_mid → mid.taken ≡ before.taken → HandsAll 12 mid after left_mid left → size ≡ number order (take 4 (drop 8 after.frame)) → after.taken ≤ max_input → Begins order size before after was left
+pub begins : (order : OctetOrder) (size : ℕ) (before mid after : Reading) (was left_mid left : Option (List ℕ)) → before.order ≡ Some order →
+    octets_left before was ≡ octets_left mid left_mid → mid.taken ≡ before.taken → HandsAll 12 mid after left_mid left →
+    size ≡ number order (take 4 (drop 8 after.frame)) → after.taken ≤ max_input → Begins order size before after was left
 begins order size before mid after was left_mid left known looked taken head size_is fits =
     let frame : after.frame ≡ head.part = head.kept ∙ take_all max_kept head.part (omega (arith, head.all)) in
     record {
@@ -235,9 +273,11 @@ begins order size before mid after was left_mid left known looked taken head siz
       fits = fits;
     }
 
-pub bad-size : (order : OctetOrder) (size : ℕ) (before after : Reading) (was left : Option (List ℕ)) (frame : List ℕ) → Begins order size before after was left → max_frame < size → Divides BadRecord frame (contents_left before was) (contents_left after left)
+pub bad-size : (order : OctetOrder) (size : ℕ) (before after : Reading) (was left : Option (List ℕ)) (frame : List ℕ) →
+    Begins order size before after was left → max_frame < size → Divides BadRecord frame (contents_left before was) (contents_left after left)
 bad-size order size before after was left frame b long =
-    mapped (contents_from before.order (max_input - before.taken)) (contents_from after.order (max_input - after.taken)) (λ _. ends BadRecord) b.head (octets_left before was) (octets_left after left) b.hands.octets
+    mapped (contents_from before.order (max_input - before.taken)) (contents_from after.order (max_input - after.taken)) (λ _. ends BadRecord) b.head
+    (octets_left before was) (octets_left after left) b.hands.octets
     (λ rest is.
     let there : 12 ≤ length (b.head ++ rest) = omega (arith, length-append b.head rest, b.twelve) in
     let fits : 12 ≤ max_input - before.taken = omega (arith, b.hands.taken, b.twelve, b.fits) in
@@ -248,10 +288,13 @@ known-split : (part : List ℕ) (known : Option (List ℕ)) (octets : List ℕ) 
 known-split part None octets is = absurd cc
 known-split part (Some rest) octets is = (rest, cc)
 
-frame-stops : (answer : NextRecord) (order : OctetOrder) (size : ℕ) (before mid after : Reading) (was left_mid left : Option (List ℕ)) → Begins order size before mid was left_mid → size ≤ max_frame → after.taken ≤ max_input → Stops answer (4 + size) mid after left_mid left → Fails answer (contents_left before was) (contents_left after left)
+frame-stops : (answer : NextRecord) (order : OctetOrder) (size : ℕ) (before mid after : Reading) (was left_mid left : Option (List ℕ)) →
+    Begins order size before mid was left_mid → size ≤ max_frame → after.taken ≤ max_input → Stops answer (4 + size) mid after left_mid left →
+    Fails answer (contents_left before was) (contents_left after left)
 frame-stops answer order size before mid after was left_mid left b short bounded stop =
     let room : before.taken + 12 ≤ max_input = omega (arith, b.hands.taken, b.twelve, b.fits) in
-    stopped (16 + size) (contents_from before.order (max_input - before.taken)) (contents_from after.order (max_input - after.taken)) before after was left answer (omega (arith, room)) bounded
+    stopped (16 + size) (contents_from before.order (max_input - before.taken)) (contents_from after.order (max_input - after.taken)) before after was left
+    answer (omega (arith, room)) bounded
     (λ octets is lacks.
     let cut = known-split b.head (octets_left mid left_mid) octets (sym b.hands.octets ∙ is) in
     let there : 12 ≤ length octets = rw cut.1 (omega (arith, length-append b.head cut.0, b.twelve)) in
@@ -259,7 +302,9 @@ frame-stops answer order size before mid after was left_mid left b short bounded
     rw b.known (stops-late order (max_input - before.taken) octets size answer size_is (omega (arith, room)) there short lacks))
     (stops-behind answer b.head (4 + size) (16 + size) before mid after was left_mid left b.hands (omega (arith, b.twelve)) stop)
 
-frame-read : (order : OctetOrder) (size : ℕ) (before mid after : Reading) (was left_mid left : Option (List ℕ)) → Begins order size before mid was left_mid → size ≤ max_frame → after.order ≡ Some order → after.taken ≤ max_input → HasFrame size mid after left_mid left → Divides Record after.frame (contents_left before was) (contents_left after left)
+frame-read : (order : OctetOrder) (size : ℕ) (before mid after : Reading) (was left_mid left : Option (List ℕ)) → Begins order size before mid was left_mid →
+    size ≤ max_frame → after.order ≡ Some order → after.taken ≤ max_input → HasFrame size mid after left_mid left →
+    Divides Record after.frame (contents_left before was) (contents_left after left)
 frame-read order size before mid after was left_mid left b short told bounded f =
     let body = f.first_length ++ f.frame in
     let part = b.head ++ body in
@@ -268,7 +313,8 @@ frame-read order size before mid after was left_mid left b short told bounded f 
     let part_size : length part ≡ 16 + size = omega (arith, length-append b.head body, b.twelve, body_size) in
     let room : before.taken + (16 + size) ≤ max_input = omega (arith, all.taken, part_size) in
     let room_left : max_input - before.taken - (16 + size) ≡ max_input - after.taken = omega (arith, all.taken, part_size) in
-    mapped (contents_from before.order (max_input - before.taken)) (contents_from after.order (max_input - after.taken)) (record_of after.frame) part (octets_left before was) (octets_left after left) all.octets
+    mapped (contents_from before.order (max_input - before.taken)) (contents_from after.order (max_input - after.taken)) (record_of after.frame) part
+    (octets_left before was) (octets_left after left) all.octets
     (λ rest is.
     let octets = part ++ rest in
     let there : 16 + size ≤ length octets = omega (arith, length-append part rest, part_size) in
@@ -278,19 +324,26 @@ frame-read order size before mid after was left_mid left b short told bounded f 
     rw (append_assoc b.head f.first_length (f.frame ++ rest), append_assoc b.head body rest, append_assoc f.first_length f.frame rest) refl in
     let sixteen : length (b.head ++ f.first_length) ≡ 16 = omega (arith, length-append b.head f.first_length, b.twelve, f.four) in
     let frame_is : take size (drop 16 octets) ≡ f.frame =
-    ap (λ l. take size (drop 16 l)) early ∙ ap (take size) (drop_at (b.head ++ f.first_length) (f.frame ++ rest) 16 sixteen) ∙ take_at f.frame rest size f.all in
+    ap (λ l. take size (drop 16 l)) early ∙ ap (take size) (drop_at (b.head ++ f.first_length) (f.frame ++ rest) 16 sixteen) ∙ take_at f.frame rest size
+    f.all in
     let rest_is : drop (16 + size) octets ≡ rest = drop_at part rest (16 + size) part_size in
     let one = one-record order (max_input - before.taken) octets size size_is short (omega (arith, room)) there in
     rw (b.known, told, f.kept) (rw (frame_is, rest_is, room_left) at one))
 
-pub frame-divides : {A : Type 0} (result : Result A NextRecord) (order : OctetOrder) (size : ℕ) (before mid after : Reading) (was left_mid left : Option (List ℕ)) → Begins order size before mid was left_mid → size ≤ max_frame → after.order ≡ Some order → after.taken ≤ max_input → Frames result size mid after left_mid left → Divides (answer_of result) after.frame (contents_left before was) (contents_left after left)
+pub frame-divides : {A : Type 0} (result : Result A NextRecord) (order : OctetOrder) (size : ℕ) (before mid after : Reading)
+    (was left_mid left : Option (List ℕ)) → Begins order size before mid was left_mid → size ≤ max_frame → after.order ≡ Some order →
+    after.taken ≤ max_input → Frames result size mid after left_mid left →
+    Divides (answer_of result) after.frame (contents_left before was) (contents_left after left)
 frame-divides (Ok value) order size before mid after was left_mid left b short told bounded f =
     frame-read order size before mid after was left_mid left b short told bounded f
 frame-divides (Err answer) order size before mid after was left_mid left b short told bounded stop =
     fails-divides answer after.frame (contents_left before was) (contents_left after left)
     (frame-stops answer order size before mid after was left_mid left b short bounded stop)
 
-pub frame-takes : {A : Type 0} (result : Result A NextRecord) (order : OctetOrder) (size : ℕ) (before mid after : Reading) (was left_mid left : Option (List ℕ)) → Begins order size before mid was left_mid → mid.taken ≤ after.taken → Frames result size mid after left_mid left → Takes (answer_of result) before.taken after.taken
+pub frame-takes : {A : Type 0} (result : Result A NextRecord) (order : OctetOrder) (size : ℕ) (before mid after : Reading)
+    (was left_mid left : Option (List ℕ)) → Begins order size before mid was left_mid → mid.taken ≤ after.taken → Frames result size mid after left_mid left →
+    Takes (answer_of result) before.taken after.taken
 frame-takes (Ok value) order size before mid after was left_mid left b grows f =
     omega (arith, b.hands.taken, b.twelve, f.hands.taken, length-append f.first_length f.frame, f.four)
-frame-takes (Err answer) order size before mid after was left_mid left b grows stop = stops-take answer (4 + size) mid after left_mid left stop (omega (arith, b.hands.taken))
+frame-takes (Err answer) order size before mid after was left_mid left b grows stop = stops-take answer (4 + size) mid after left_mid left stop
+    (omega (arith, b.hands.taken))

@@ -1,12 +1,13 @@
 -- A reader of records that hands out octets.
-use Rattle.std.proofs.Common.{◌≡◌, ℕ, ◌+◌, ◌-◌, ◌<◌, ◌≤◌, min, List, [], ◌++◌, length, take, drop, Option, Some, None, refl, ap, sym, ◌∙◌, inl, inr, arith, append-nil, append_assoc, length-append}
+use Rattle.std.proofs.Common.{◌≡◌, ℕ, ◌+◌, ◌-◌, ◌≤◌, min, List, [], ◌++◌, length, take, drop, Option, Some, None, refl, ap, sym, ◌∙◌, inl, inr, arith}
+use Rattle.std.proofs.Common.{append_assoc, length-append}
 use Rattle.std.proofs.lemmas.Bool.{cases_lt}
 use Rattle.std.proofs.lemmas.List.{take_all, take-take, take-append-le, take-append-drop, length-take, length-take-le}
 use Rattle.std.proofs.Math.Seq.{take-append-add}
-use Rattle.eap_base.specs.Known.{prepend_known, nothing_known}
+use Rattle.eap_base.specs.Known.{prepend_known}
 use Rattle.eapol_capture.specs.Files.{max_input, max_kept}
 use Rattle.eapol_capture.specs.Reading.{Reading, octets_left}
-use Rattle.eapol_capture.specs.Parts.{Keeps, Hands, HandsAll, IsCut, IsPast}
+use Rattle.eapol_capture.specs.Parts.{Keeps, Hands}
 
 -- a front of a front with more behind it
 take-front : (m : ℕ) (xs ys : List ℕ) → take m (take m xs ++ ys) ≡ take m (xs ++ ys)
@@ -29,7 +30,8 @@ front-part k count held =
           rw least (sym (take_all k (take count held) short))
     ]
 
-pub kept-part : (m : ℕ) (frame held : List ℕ) (count : ℕ) → length frame ≤ m → frame ++ take (min count (m - length frame)) held ≡ take m (frame ++ take count held)
+pub kept-part : (m : ℕ) (frame held : List ℕ) (count : ℕ) → length frame ≤ m →
+    frame ++ take (min count (m - length frame)) held ≡ take m (frame ++ take count held)
 kept-part m frame held count room =
     let whole : m ≡ length frame + (m - length frame) = omega arith in
     ap (λ l. frame ++ l) (front-part (m - length frame) count held)
@@ -44,7 +46,8 @@ prepend-nil None = refl
 prepend-nil (Some octets) = refl
 
 -- octets after octets
-pub hands_more : (part more : List ℕ) (before now after : Reading) (was left_now left : Option (List ℕ)) → Hands part before now was left_now → Hands more now after left_now left → Hands (part ++ more) before after was left
+pub hands_more : (part more : List ℕ) (before now after : Reading) (was left_now left : Option (List ℕ)) → Hands part before now was left_now →
+    Hands more now after left_now left → Hands (part ++ more) before after was left
 hands_more part more before now after was left_now left one other = record {
   octets = one.octets ∙ ap (prepend_known part) other.octets ∙ sym (prepend-append part more (octets_left after left));
   taken = omega (arith, one.taken, other.taken, length-append part more);
@@ -60,7 +63,8 @@ pub record InPart (count missing : ℕ) (before now : Reading) (was left : Optio
   pub bounded : now.taken ≤ max_input
   pub faults : faults_now ≡ faults_before
 
-pub in_part : (count : ℕ) (before now : Reading) (was : Option (List ℕ)) (faults : ℕ) → now ≡ record before { frame = [] } → before.taken ≤ max_input → InPart count count before now was was faults faults
+pub in_part : (count : ℕ) (before now : Reading) (was : Option (List ℕ)) (faults : ℕ) → now ≡ record before { frame = [] } → before.taken ≤ max_input →
+    InPart count count before now was was faults faults
 in_part count before now was faults is bounded =
     let held : now.held ≡ before.held = ap (λ (r : Reading). r.held) is in
     let taken : now.taken ≡ before.taken = ap (λ (r : Reading). r.taken) is in
@@ -98,7 +102,8 @@ keeps-both a b c one other = record {
   over = other.over ∙ one.over;
 }
 
-hands-held : (count : ℕ) (now mid after : Reading) (left_now left : Option (List ℕ)) → Looks now mid left_now left → Takes count mid after → Hands (take count mid.held) now after left_now left
+hands-held : (count : ℕ) (now mid after : Reading) (left_now left : Option (List ℕ)) → Looks now mid left_now left → Takes count mid after →
+    Hands (take count mid.held) now after left_now left
 hands-held count now mid after left_now left looks takes =
     let size : length (take count mid.held) ≡ count = length-take-le count mid.held takes.there in
     let joined : prepend_known (take count mid.held) (prepend_known (drop count mid.held) left) ≡ prepend_known mid.held left =
@@ -108,7 +113,9 @@ hands-held count now mid after left_now left looks takes =
       taken = omega (arith, takes.taken, looks.taken, size);
     }
 
-pub more-part : (count missing n missing' : ℕ) (before now mid after : Reading) (was left_now left : Option (List ℕ)) (faults_before faults_now faults : ℕ) → InPart count missing before now was left_now faults_before faults_now → Looks now mid left_now left → Takes n mid after → missing' + n ≡ missing → faults ≡ faults_now → InPart count missing' before after was left faults_before faults
+pub more-part : (count missing n missing' : ℕ) (before now mid after : Reading) (was left_now left : Option (List ℕ)) (faults_before faults_now faults : ℕ) →
+    InPart count missing before now was left_now faults_before faults_now → Looks now mid left_now left → Takes n mid after → missing' + n ≡ missing →
+    faults ≡ faults_now → InPart count missing' before after was left faults_before faults
 more-part count missing n missing' before now mid after was left_now left faults_before faults_now faults p looks takes fewer same =
     let size : length (take n mid.held) ≡ n = length-take-le n mid.held takes.there in
     record {
@@ -120,34 +127,4 @@ more-part count missing n missing' before now mid after was left_now left faults
       keeps = keeps-both before mid after (keeps-both before now mid p.keeps looks.keeps) takes.keeps;
       bounded = takes.bounded;
       faults = same ∙ p.faults;
-    }
-
-pub whole-part : (count : ℕ) (before now : Reading) (was left : Option (List ℕ)) (faults_before faults_now missing : ℕ) → InPart count missing before now was left faults_before faults_now → missing ≡ 0 → HandsAll count before now was left
-whole-part count before now was left faults_before faults_now missing p none =
-    record { part = p.part; all = omega (arith, p.all); hands = p.hands; kept = p.kept }
-
-hands-looked : (part : List ℕ) (before now mid : Reading) (was left_now left : Option (List ℕ)) → Hands part before now was left_now → Looks now mid left_now left → Hands part before mid was left
-hands-looked part before now mid was left_now left h looks =
-    record { octets = h.octets ∙ ap (prepend_known part) looks.octets; taken = looks.taken ∙ h.taken }
-
-pub cut-part : (count : ℕ) (before now mid : Reading) (was left_now left : Option (List ℕ)) (faults_before faults_now missing : ℕ) → InPart count missing before now was left_now faults_before faults_now → 0 < missing → Looks now mid left_now left → mid.held ≡ [] → left ≡ nothing_known left → IsCut count before mid was left
-cut-part count before now mid was left_now left faults_before faults_now missing p some looks none_held none_left = record {
-  part = p.part;
-  few = omega (arith, p.all);
-  hands = hands-looked p.part before now mid was left_now left p.hands looks;
-  none_held = none_held;
-  none_left = none_left;
-}
-
-pub past-part : (count n : ℕ) (before now mid after : Reading) (was left_now left : Option (List ℕ)) (faults_before faults_now missing : ℕ) → InPart count missing before now was left_now faults_before faults_now → 0 < missing → Looks now mid left_now left → Takes n mid after → n ≡ 0 → 0 < length mid.held → max_input ≤ after.taken → IsPast count before after was left
-past-part count n before now mid after was left_now left faults_before faults_now missing p some looks takes none held full =
-    let h = hands_more p.part (take n mid.held) before now after was left_now left p.hands (hands-held n now mid after left_now left looks takes) in
-    let same_held : after.held ≡ mid.held = takes.held ∙ rw none refl in
-    let no_octets : p.part ++ take n mid.held ≡ p.part = rw none (append-nil p.part) in
-    record {
-      part = p.part;
-      few = omega (arith, p.all);
-      hands = rw no_octets at h;
-      more = rw same_held held;
-      full = full;
     }

@@ -6,3 +6,5 @@ mod FileRows
 pub mod Handing
 -- The records of octets, one at a time.
 pub mod RecordLaws
+-- A spelled file is read as what it spells.
+pub mod Spelling

@@ -1,5 +1,6 @@
 -- The records of octets, one at a time.
-use Rattle.std.proofs.Common.{◌≡◌, ℕ, zero, suc, ◌+◌, ◌-◌, ◌<◌, ◌≤◌, min, true, false, List, [], ◌∷◌, length, take, drop, Some, None, cond, leb, ltb, refl, ap, sym, ◌∙◌, arith, length-drop}
+use Rattle.std.proofs.Common.{◌≡◌, ℕ, zero, suc, ◌+◌, ◌-◌, ◌<◌, ◌≤◌, min, true, false, List, [], ◌∷◌, length, take, drop, Some, None, cond, leb, ltb, refl}
+use Rattle.std.proofs.Common.{ap, sym, ◌∙◌, arith, length-drop}
 use Rattle.std.proofs.lemmas.Bool.{lt-leb, le-leb, lt-ltb, le-ltb}
 use Rattle.eapol_capture.specs.declared.order.OctetOrder.{OctetOrder}
 use Rattle.eapol_capture.specs.declared.reader.NextRecord.{NextRecord}
@@ -34,7 +35,9 @@ first order room octets rest =
     (cond (ltb max_frame (size_in order octets)) (ends BadRecord)
     (unless (missing (16 + size_in order octets) room octets) (record_of (take max_kept (take (size_in order octets) (drop 16 octets))) rest)))
 
-from_suc : (order : OctetOrder) (room x : ℕ) (rest : List ℕ) (most : ℕ) → records order room (x ∷ rest) (suc most) ≡ first order room (x ∷ rest) (records order (room - (16 + size_in order (x ∷ rest))) (drop (16 + size_in order (x ∷ rest)) (x ∷ rest)) most)
+from_suc : (order : OctetOrder) (room x : ℕ) (rest : List ℕ) (most : ℕ) →
+    records order room (x ∷ rest) (suc most) ≡
+    first order room (x ∷ rest) (records order (room - (16 + size_in order (x ∷ rest))) (drop (16 + size_in order (x ∷ rest)) (x ∷ rest)) most)
 unfolding records first size_in
 from_suc order room x rest most = refl
 
@@ -43,7 +46,8 @@ unfolding records
 from_nil order room most = refl
 
 -- more records than there are octets make no difference
-enough : (n m : ℕ) (order : OctetOrder) (room : ℕ) (octets : List ℕ) → length octets ≤ n → length octets ≤ m → records order room octets n ≡ records order room octets m
+enough : (n m : ℕ) (order : OctetOrder) (room : ℕ) (octets : List ℕ) → length octets ≤ n → length octets ≤ m →
+    records order room octets n ≡ records order room octets m
 enough n m order room [] few some = from_nil order room n ∙ sym (from_nil order room m)
 enough zero m order room (x ∷ rest) few some = absurd (omega arith)
 enough (suc n) zero order room (x ∷ rest) few some = absurd (omega arith)
@@ -55,7 +59,8 @@ enough (suc n) (suc m) order room (x ∷ rest) few some =
     ∙ ap (first order room (x ∷ rest)) (enough n m order (room - whole) (drop whole (x ∷ rest)) fewer less)
     ∙ sym (from_suc order room x rest m)
 
-first_is : (order : OctetOrder) (room : ℕ) (octets : List ℕ) → 0 < length octets → all_records order room octets ≡ first order room octets (all_records order (room - (16 + size_in order octets)) (drop (16 + size_in order octets) octets))
+first_is : (order : OctetOrder) (room : ℕ) (octets : List ℕ) → 0 < length octets →
+    all_records order room octets ≡ first order room octets (all_records order (room - (16 + size_in order octets)) (drop (16 + size_in order octets) octets))
 first_is order room [] some = absurd (omega arith)
 first_is order room (x ∷ rest) some =
     let whole = 16 + size_in order (x ∷ rest) in
@@ -66,18 +71,21 @@ first_is order room (x ∷ rest) some =
 pub no-records : (order : OctetOrder) (room : ℕ) → all_records order room [] ≡ ends End
 no-records order room = from_nil order room 0
 
-pub stops-early : (order : OctetOrder) (room : ℕ) (octets : List ℕ) (answer : NextRecord) → 0 < length octets → missing 12 room octets ≡ Some answer → all_records order room octets ≡ ends answer
+pub stops-early : (order : OctetOrder) (room : ℕ) (octets : List ℕ) (answer : NextRecord) → 0 < length octets → missing 12 room octets ≡ Some answer →
+    all_records order room octets ≡ ends answer
 unfolding first
 stops-early order room octets answer some is = first_is order room octets some ∙ rw is refl
 
-pub bad-record : (order : OctetOrder) (room : ℕ) (octets : List ℕ) (size : ℕ) → size ≡ number order (take 4 (drop 8 octets)) → 12 ≤ room → 12 ≤ length octets → max_frame < size → all_records order room octets ≡ ends BadRecord
+pub bad-record : (order : OctetOrder) (room : ℕ) (octets : List ℕ) (size : ℕ) → size ≡ number order (take 4 (drop 8 octets)) → 12 ≤ room →
+    12 ≤ length octets → max_frame < size → all_records order room octets ≡ ends BadRecord
 unfolding first size_in
 bad-record order room octets size is fits there long =
     let none = none-missing 12 room octets fits there in
     let over : ltb max_frame (number order (take 4 (drop 8 octets))) ≡ true = lt-ltb max_frame (number order (take 4 (drop 8 octets))) (rw is at long) in
     first_is order room octets (omega arith) ∙ rw (none, over) refl
 
-pub stops-late : (order : OctetOrder) (room : ℕ) (octets : List ℕ) (size : ℕ) (answer : NextRecord) → size ≡ number order (take 4 (drop 8 octets)) → 12 ≤ room → 12 ≤ length octets → size ≤ max_frame → missing (16 + size) room octets ≡ Some answer → all_records order room octets ≡ ends answer
+pub stops-late : (order : OctetOrder) (room : ℕ) (octets : List ℕ) (size : ℕ) (answer : NextRecord) → size ≡ number order (take 4 (drop 8 octets)) →
+    12 ≤ room → 12 ≤ length octets → size ≤ max_frame → missing (16 + size) room octets ≡ Some answer → all_records order room octets ≡ ends answer
 unfolding first size_in
 stops-late order room octets size answer is fits there short stops =
     let none = none-missing 12 room octets fits there in
@@ -85,7 +93,9 @@ stops-late order room octets size answer is fits there short stops =
     let late : missing (16 + number order (take 4 (drop 8 octets))) room octets ≡ Some answer = rw is at stops in
     first_is order room octets (omega arith) ∙ rw (none, within, late) refl
 
-pub one-record : (order : OctetOrder) (room : ℕ) (octets : List ℕ) (size : ℕ) → size ≡ number order (take 4 (drop 8 octets)) → size ≤ max_frame → 16 + size ≤ room → 16 + size ≤ length octets → all_records order room octets ≡ record_of (take max_kept (take size (drop 16 octets))) (all_records order (room - (16 + size)) (drop (16 + size) octets))
+pub one-record : (order : OctetOrder) (room : ℕ) (octets : List ℕ) (size : ℕ) → size ≡ number order (take 4 (drop 8 octets)) → size ≤ max_frame →
+    16 + size ≤ room → 16 + size ≤ length octets →
+    all_records order room octets ≡ record_of (take max_kept (take size (drop 16 octets))) (all_records order (room - (16 + size)) (drop (16 + size) octets))
 unfolding first size_in
 one-record order room octets size is short fits there =
     let none = none-missing 12 room octets (omega arith) (omega arith) in

@@ -1,4 +1,5 @@
 pub mod Files
 pub mod Frames
+pub mod Laws
 pub mod Parts
 pub mod Reading

@@ -3,9 +3,11 @@
 
 mod frame;
 mod header;
+mod laws;
 mod order;
 mod reader;
 
 pub use frame::{FrameFinding, eap_of_frame};
+pub use laws::spelled_files_are_read;
 pub use order::OctetOrder;
 pub use reader::{NextRecord, PcapReader};

@@ -7,7 +7,8 @@ pub returns-then-not-branch-clause-contents : goal.returns-then-not-branch-claus
 returns-then-not-branch-clause-contents g c =
     let called = c.in_ok-has_more.ensures in
     let none = ap Ok c.if-not-branch.true in
-    records-end c.args.self.now c.has_more.new.self (g.S.Source.left c.args.source.now) (g.S.Source.left c.has_more.new.source) c.args.order c.has_more.new.self.frame
+    records-end c.args.self.now c.has_more.new.self (g.S.Source.left c.args.source.now) (g.S.Source.left c.has_more.new.source) c.args.order
+    c.has_more.new.self.frame
     c.requires.order called.left (called.none_held none) (called.none_left none)
 
 pub returns-in_err-size-clause-contents : goal.returns-in_err-size-clause-contents

@@ -13,5 +13,6 @@ returns-in_err-read_part-clause-contents g c =
 pub returns-clause-contents : goal.returns-clause-contents
 returns-clause-contents g c =
     let called = c.in_ok-read_part.ensures in
-    header-judged c.judge.result c.args.self.now c.read_part.new.self c.judge.new.self (g.S.Source.left c.args.source.now) (g.S.Source.left c.read_part.new.source)
+    header-judged c.judge.result c.args.self.now c.read_part.new.self c.judge.new.self (g.S.Source.left c.args.source.now)
+    (g.S.Source.left c.read_part.new.source)
     c.requires.header c.requires.bounded called.bounded called.part c.judge.ensures.judged c.judge.ensures.kept

@@ -5,7 +5,8 @@ use Rattle.eapol_capture.proofs.reader.PcapReader.read_part.Goals as goal
 
 pub loop-missing-init : goal.loop-missing-init
 loop-missing-init g c =
-    in_part c.args.count c.args.self.now c.drop_frame.new.self (g.S.Source.left c.args.source.now) (g.S.Source.read_faults c.args.source.now) c.drop_frame.ensures c.requires.bounded
+    in_part c.args.count c.args.self.now c.drop_frame.new.self (g.S.Source.left c.args.source.now) (g.S.Source.read_faults c.args.source.now)
+    c.drop_frame.ensures c.requires.bounded
 
 pub loop-missing-preserved : goal.loop-missing-preserved
 loop-missing-preserved g c =

@@ -1,0 +1,54 @@
+-- Files by their spelling, and that they are read as what they spell.
+use Rattle.std.specs.Prelude.{◌≡◌, ℕ, ◌≤◌, List, [], ◌∷◌, ◌++◌, length, take, All}
+use Rattle.std.specs.Int.{w16, w32, to_be_bytes, to_le_bytes}
+use Rattle.eapol_capture.specs.declared.order.OctetOrder.{OctetOrder}
+use Rattle.eapol_capture.specs.declared.order.OctetOrder.TheVariants.{Big, Little}
+use Rattle.eapol_capture.specs.declared.reader.NextRecord.TheVariants.{End}
+use Rattle.eapol_capture.specs.Files.{Contents, ends, record_of, contents, magic_number, max_input, max_frame, max_kept}
+
+-- a captured frame, with its time and its length before it was cut, as they stand in a file
+pub record Captured : Type 0 where
+  pub time : List ℕ
+  pub first_length : List ℕ
+  pub frame : List ℕ
+
+pub record IsCaptured (c : Captured) : Type 0 where
+  pub time_size : length c.time ≡ 8
+  pub first_size : length c.first_length ≡ 4
+  pub frame_size : length c.frame ≤ max_frame
+
+-- numbers in four and in two octets
+abbrev pub four_octets : OctetOrder → ℕ → List ℕ
+four_octets Big n = to_be_bytes w32 n
+four_octets Little n = to_le_bytes w32 n
+
+abbrev pub two_octets : OctetOrder → ℕ → List ℕ
+two_octets Big n = to_be_bytes w16 n
+two_octets Little n = to_le_bytes w16 n
+
+-- the header of version 2.4 and link type 1, with 12 octets between these (draft-ietf-opsawg-pcap section 4)
+abbrev pub spelled_header : OctetOrder → List ℕ → List ℕ
+spelled_header order unread =
+    four_octets order magic_number ++ (two_octets order 2 ++ (two_octets order 4 ++ (unread ++ four_octets order 1)))
+
+-- a record (section 5)
+abbrev pub spelled_record : OctetOrder → Captured → List ℕ
+spelled_record order c = c.time ++ (four_octets order (length c.frame) ++ (c.first_length ++ c.frame))
+
+abbrev pub spelled_records : OctetOrder → List Captured → List ℕ
+spelled_records order [] = []
+spelled_records order (c ∷ rest) = spelled_record order c ++ spelled_records order rest
+
+abbrev pub spelled_file : OctetOrder → List ℕ → List Captured → List ℕ
+spelled_file order unread captured = spelled_header order unread ++ spelled_records order captured
+
+-- what the file is
+abbrev pub listed : List Captured → Contents
+listed [] = ends End
+listed (c ∷ rest) = record_of (take max_kept c.frame) (listed rest)
+
+-- in either octet order a file is read as the records that it spells, and then its end
+abbrev pub SpelledFilesAreRead : Type 0
+SpelledFilesAreRead =
+    (order : OctetOrder) (unread : List ℕ) (captured : List Captured) → length unread ≡ 12 → All IsCaptured captured →
+    length (spelled_file order unread captured) ≤ max_input → contents (spelled_file order unread captured) ≡ listed captured
