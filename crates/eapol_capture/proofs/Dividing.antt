@@ -9,7 +9,7 @@ use Rattle.eapol_capture.specs.declared.reader.NextRecord.{NextRecord}
 use Rattle.eapol_capture.specs.declared.reader.NextRecord.TheVariants.{Record, End, CutFile, BadMagic, BadVersion, BadLink, BadRecord, TooMuch, Read}
 use Rattle.eapol_capture.specs.Files.{Contents, ends, record_of, number, order_of, is_version, faults_in, order_or_fault, behind, missing, from_header}
 use Rattle.eapol_capture.specs.Files.{max_input, max_frame, max_kept}
-use Rattle.eapol_capture.specs.Reading.{Reading, octets_left, contents_from, contents_left, Divides, Takes, Exhausts}
+use Rattle.eapol_capture.specs.Reading.{Reading, octets_left, contents_from, contents_left, Divides, Answers, begun_in, Takes, Exhausts}
 use Rattle.eapol_capture.specs.Parts.{Hands, HandsAll, HasFrame, IsCut, IsPast, Stops, Parts, Frames, Fails, Opens, told, answer_of}
 use Rattle.eapol_capture.proofs.RecordLaws.{none-missing, cut-missing, past-missing, no-records, stops-early, stops-late, bad-record, one-record}
 use Rattle.eapol_capture.proofs.Handing.{hands_more}
@@ -62,34 +62,56 @@ past-is-missing count before after was left fits bounded past rest is =
     (omega (arith, size, past.more, past.hands.taken))
 
 -- a part that isn't there ends what was to be answered
-pub stopped : (count : ℕ) (f g : List ℕ → Contents) (before after : Reading) (was left : Option (List ℕ)) (answer : NextRecord) → before.taken ≤ max_input →
-    after.taken ≤ max_input →
-    ((octets : List ℕ) → octets_left before was ≡ Some octets → missing count (max_input - before.taken) octets ≡ Some answer → f octets ≡ ends answer) →
-    Stops answer count before after was left → Fails answer (option_map f (octets_left before was)) (option_map g (octets_left after left))
-stopped count f g before after was left Read fits bounded same stop = tt
-stopped count f g before after was left CutFile fits bounded same stop =
-    mapped f g (λ _. ends CutFile) stop.part (octets_left before was) (octets_left after left) stop.hands.octets (λ rest is.
-    same (stop.part ++ rest) (stop.hands.octets ∙ ap (prepend_known stop.part) is) (cut-is-missing count before after was left fits bounded stop rest is))
-stopped count f g before after was left TooMuch fits bounded same stop =
-    mapped f g (λ _. ends TooMuch) stop.part (octets_left before was) (octets_left after left) stop.hands.octets (λ rest is.
-    same (stop.part ++ rest) (stop.hands.octets ∙ ap (prepend_known stop.part) is) (past-is-missing count before after was left fits bounded stop rest is))
-stopped count f g before after was left _ fits bounded same stop = absurd stop
+abbrev pub Missed : NextRecord → ℕ → Option Contents → Option Contents → Type 0
+Missed CutFile begun before after = before ≡ option_map (λ _. ends begun CutFile) after
+Missed TooMuch begun before after = before ≡ option_map (λ _. ends begun TooMuch) after
+Missed Read begun before after = Unit {0}
+Missed answer begun before after = ⊥
 
--- an answer that isn't a record, as a division
-pub fails-divides : (answer : NextRecord) (frame : List ℕ) (before after : Option Contents) → Fails answer before after → Divides answer frame before after
-fails-divides Read frame before after fails = tt
-fails-divides Record frame before after fails = absurd fails
-fails-divides End frame before after fails = absurd fails
-fails-divides CutFile frame before after fails = fails
-fails-divides BadMagic frame before after fails = fails
-fails-divides BadVersion frame before after fails = fails
-fails-divides BadLink frame before after fails = fails
-fails-divides BadRecord frame before after fails = fails
-fails-divides TooMuch frame before after fails = fails
+stopped : (count begun : ℕ) (f g : List ℕ → Contents) (before after : Reading) (was left : Option (List ℕ)) (answer : NextRecord) → before.taken ≤ max_input →
+    after.taken ≤ max_input →
+    ((octets : List ℕ) → octets_left before was ≡ Some octets → missing count (max_input - before.taken) octets ≡ Some answer → f octets ≡ ends begun answer) →
+    Stops answer count before after was left → Missed answer begun (option_map f (octets_left before was)) (option_map g (octets_left after left))
+stopped count begun f g before after was left Read fits bounded same stop = tt
+stopped count begun f g before after was left CutFile fits bounded same stop =
+    mapped f g (λ _. ends begun CutFile) stop.part (octets_left before was) (octets_left after left) stop.hands.octets (λ rest is.
+    same (stop.part ++ rest) (stop.hands.octets ∙ ap (prepend_known stop.part) is) (cut-is-missing count before after was left fits bounded stop rest is))
+stopped count begun f g before after was left TooMuch fits bounded same stop =
+    mapped f g (λ _. ends begun TooMuch) stop.part (octets_left before was) (octets_left after left) stop.hands.octets (λ rest is.
+    same (stop.part ++ rest) (stop.hands.octets ∙ ap (prepend_known stop.part) is) (past-is-missing count before after was left fits bounded stop rest is))
+stopped count begun f g before after was left _ fits bounded same stop = absurd stop
+
+-- in the header no record is begun, behind it one is
+missed-fails : (answer : NextRecord) (before after : Option Contents) → Missed answer 0 before after → Fails answer before after
+missed-fails CutFile before after missed = missed
+missed-fails TooMuch before after missed = missed
+missed-fails Read before after missed = tt
+missed-fails _ before after missed = absurd missed
+
+missed-divides : (answer : NextRecord) (order : OctetOrder) (told : Option OctetOrder) (frame : List ℕ) (before after : Option Contents) →
+    told ≡ Some order → Missed answer 1 before after → Divides answer (begun_in answer told) frame before after
+missed-divides CutFile order told frame before after is missed = rw is missed
+missed-divides TooMuch order told frame before after is missed = rw is missed
+missed-divides Read order told frame before after is missed = tt
+missed-divides _ order told frame before after is missed = absurd missed
+
+-- a header that isn't there or has a fault, as a division
+pub fails-divides : (answer : NextRecord) (told : Option OctetOrder) (frame : List ℕ) (before after : Option Contents) → told ≡ None →
+    Fails answer before after → Divides answer (begun_in answer told) frame before after
+fails-divides Read told frame before after none fails = tt
+fails-divides Record told frame before after none fails = absurd fails
+fails-divides End told frame before after none fails = absurd fails
+fails-divides BadRecord told frame before after none fails = absurd fails
+fails-divides CutFile told frame before after none fails = rw none fails
+fails-divides BadMagic told frame before after none fails = fails
+fails-divides BadVersion told frame before after none fails = fails
+fails-divides BadLink told frame before after none fails = fails
+fails-divides TooMuch told frame before after none fails = rw none fails
 
 pub fails-takes : (answer : NextRecord) (before after : Option Contents) (taken now : ℕ) → Fails answer before after → taken ≤ now → Takes answer taken now
 fails-takes Record before after taken now fails grows = absurd fails
 fails-takes End before after taken now fails grows = absurd fails
+fails-takes BadRecord before after taken now fails grows = absurd fails
 fails-takes _ before after taken now fails grows = grows
 
 pub fails-exhausts : (answer : NextRecord) (before after : Option Contents) (left : Option (List ℕ)) → Fails answer before after → Exhausts answer left
@@ -111,12 +133,13 @@ header-is room part rest all fits =
 pub header-stops : (before after : Reading) (was left : Option (List ℕ)) (answer : NextRecord) → before.order ≡ None → before.taken ≤ max_input →
     after.taken ≤ max_input → Stops answer 24 before after was left → Fails answer (contents_left before was) (contents_left after left)
 header-stops before after was left answer none fits bounded stop =
-    stopped 24 (contents_from before.order (max_input - before.taken)) (contents_from after.order (max_input - after.taken)) before after was left answer fits
-    bounded
-    (λ octets is lacks. rw (none, lacks) refl) stop
+    missed-fails answer (contents_left before was) (contents_left after left)
+    (stopped 24 0 (contents_from before.order (max_input - before.taken)) (contents_from after.order
+    (max_input - after.taken)) before after was left answer fits
+    bounded (λ octets is lacks. rw none (rw lacks refl)) stop)
 
 no-fault : (answer : NextRecord) (found : Option OctetOrder) (header : List ℕ) (before after : Option Contents) → faults_in found header ≡ Err answer →
-    before ≡ option_map (λ _. ends answer) after → Fails answer before after
+    before ≡ option_map (λ _. ends 0 answer) after → Fails answer before after
 no-fault answer None header before after is same =
     let bad : BadMagic ≡ answer = cc in
     subst (λ a. Fails a before after) bad (rw (sym bad) at same)
@@ -141,7 +164,7 @@ header-faults before mid was left answer g none fits bounded all fault =
     let part_is = header-octets before mid was left all in
     let faulty : order_or_fault all.part ≡ Err answer = rw part_is at fault in
     let same =
-    mapped (contents_from before.order (max_input - before.taken)) g (λ _. ends answer) all.part (octets_left before was) (octets_left mid left)
+    mapped (contents_from before.order (max_input - before.taken)) g (λ _. ends 0 answer) all.part (octets_left before was) (octets_left mid left)
     all.hands.octets
     (λ rest is. rw none (header-is (max_input - before.taken) all.part rest all.all (omega (arith, all.all, all.hands.taken)) ∙ rw faulty refl)) in
     no-fault answer (order_of (take 4 mid.frame)) mid.frame (contents_left before was) (option_map g (octets_left mid left)) fault same
@@ -167,24 +190,25 @@ header-judged (Err answer) before mid after was left none fits bounded all judge
 
 -- a record
 
-pub records-end : (before after : Reading) (was left : Option (List ℕ)) (order : OctetOrder) (frame : List ℕ) → before.order ≡ Some order →
+pub records-end : (before after : Reading) (was left : Option (List ℕ)) (order : OctetOrder) → before.order ≡ Some order →
     octets_left before was ≡ octets_left after left → after.held ≡ [] → left ≡ nothing_known left →
-    Divides End frame (contents_left before was) (contents_left after left)
-records-end before after was left order frame known same none nothing =
+    Answers End before after was left
+records-end before after was left order known same none nothing =
     let room = max_input - before.taken in
-    let nothing_more : (rest : List ℕ) → octets_left after left ≡ Some rest → contents_from before.order room rest ≡ ends End =
+    let nothing_more : (rest : List ℕ) → octets_left after left ≡ Some rest → contents_from before.order room rest ≡ ends 0 End =
     λ rest is. rw (known, none-behind after.held left rest none nothing is) (no-records order room) in
     ap (option_map (contents_from before.order room)) same ∙ ended (octets_left after left) nothing_more
   where
     ended : (known_left : Option (List ℕ)) →
-        ((rest : List ℕ) → known_left ≡ Some rest → contents_from before.order (max_input - before.taken) rest ≡ ends End) →
+        ((rest : List ℕ) → known_left ≡ Some rest → contents_from before.order (max_input - before.taken) rest ≡ ends 0 End) →
         option_map (contents_from before.order (max_input - before.taken)) known_left ≡
-        option_map (λ _. ends End) (option_map (contents_from after.order (max_input - after.taken)) known_left)
+        option_map (λ _. ends 0 End) (option_map (contents_from after.order (max_input - after.taken)) known_left)
     ended None all = refl
     ended (Some rest) all = ap Some (all rest refl)
 
 -- octets of a record before its frame's length, the length among them
-pub size-front : (order : OctetOrder) (part rest : List ℕ) → length part ≡ 12 → number order (take 4 (drop 8 (part ++ rest))) ≡ number order (take 4 (drop 8 part))
+pub size-front : (order : OctetOrder) (part rest : List ℕ) → length part ≡ 12 → number order (take 4 (drop 8 (part ++ rest))) ≡ number order (take 4
+    (drop 8 part))
 size-front order part rest all =
     let back : drop 8 (part ++ rest) ≡ drop 8 part ++ rest = drop-append-le 8 part rest (omega arith) in
     let front : take 4 (drop 8 part ++ rest) ≡ take 4 (drop 8 part) = take-append-le 4 (drop 8 part) rest (omega (arith, length-drop 8 part)) in
@@ -192,15 +216,16 @@ size-front order part rest all =
 
 pub length-stops : (before mid after : Reading) (was left_mid left : Option (List ℕ)) (order : OctetOrder) (answer : NextRecord) → before.order ≡ Some order →
     before.taken ≤ max_input → after.taken ≤ max_input → octets_left before was ≡ octets_left mid left_mid → mid.taken ≡ before.taken → 0 < length mid.held →
-    Stops answer 12 mid after left_mid left → Fails answer (contents_left before was) (contents_left after left)
-length-stops before mid after was left_mid left order answer known fits bounded same taken some stop =
+    after.order ≡ Some order → Stops answer 12 mid after left_mid left →
+    Answers answer before after was left
+length-stops before mid after was left_mid left order answer known fits bounded same taken some told stop =
     let first =
-    stopped 12 (contents_from before.order (max_input - before.taken)) (contents_from after.order (max_input - after.taken)) mid after left_mid left answer
+    stopped 12 1 (contents_from before.order (max_input - before.taken)) (contents_from after.order (max_input - after.taken)) mid after left_mid left answer
     (omega (arith, taken)) bounded
     (λ octets is lacks.
     let there : 0 < length octets = omega (arith, held-first mid.held left_mid octets is) in
     rw known (stops-early order (max_input - before.taken) octets answer there (rw taken at lacks))) stop in
-    rw same first
+    missed-divides answer order after.order after.frame (contents_left before was) (contents_left after left) told (rw same first)
 
 -- what keeps a reader from a part behind another one
 pub stops-behind : (answer : NextRecord) (part : List ℕ) (count most : ℕ) (before mid after : Reading) (was left_mid left : Option (List ℕ)) →
@@ -273,10 +298,10 @@ begins order size before mid after was left_mid left known looked taken head siz
       fits = fits;
     }
 
-pub bad-size : (order : OctetOrder) (size : ℕ) (before after : Reading) (was left : Option (List ℕ)) (frame : List ℕ) →
-    Begins order size before after was left → max_frame < size → Divides BadRecord frame (contents_left before was) (contents_left after left)
-bad-size order size before after was left frame b long =
-    mapped (contents_from before.order (max_input - before.taken)) (contents_from after.order (max_input - after.taken)) (λ _. ends BadRecord) b.head
+pub bad-size : (order : OctetOrder) (size : ℕ) (before after : Reading) (was left : Option (List ℕ)) →
+    Begins order size before after was left → max_frame < size → Answers BadRecord before after was left
+bad-size order size before after was left b long =
+    mapped (contents_from before.order (max_input - before.taken)) (contents_from after.order (max_input - after.taken)) (λ _. ends 1 BadRecord) b.head
     (octets_left before was) (octets_left after left) b.hands.octets
     (λ rest is.
     let there : 12 ≤ length (b.head ++ rest) = omega (arith, length-append b.head rest, b.twelve) in
@@ -290,10 +315,10 @@ known-split part (Some rest) octets is = (rest, cc)
 
 frame-stops : (answer : NextRecord) (order : OctetOrder) (size : ℕ) (before mid after : Reading) (was left_mid left : Option (List ℕ)) →
     Begins order size before mid was left_mid → size ≤ max_frame → after.taken ≤ max_input → Stops answer (4 + size) mid after left_mid left →
-    Fails answer (contents_left before was) (contents_left after left)
+    Missed answer 1 (contents_left before was) (contents_left after left)
 frame-stops answer order size before mid after was left_mid left b short bounded stop =
     let room : before.taken + 12 ≤ max_input = omega (arith, b.hands.taken, b.twelve, b.fits) in
-    stopped (16 + size) (contents_from before.order (max_input - before.taken)) (contents_from after.order (max_input - after.taken)) before after was left
+    stopped (16 + size) 1 (contents_from before.order (max_input - before.taken)) (contents_from after.order (max_input - after.taken)) before after was left
     answer (omega (arith, room)) bounded
     (λ octets is lacks.
     let cut = known-split b.head (octets_left mid left_mid) octets (sym b.hands.octets ∙ is) in
@@ -304,7 +329,7 @@ frame-stops answer order size before mid after was left_mid left b short bounded
 
 frame-read : (order : OctetOrder) (size : ℕ) (before mid after : Reading) (was left_mid left : Option (List ℕ)) → Begins order size before mid was left_mid →
     size ≤ max_frame → after.order ≡ Some order → after.taken ≤ max_input → HasFrame size mid after left_mid left →
-    Divides Record after.frame (contents_left before was) (contents_left after left)
+    Answers Record before after was left
 frame-read order size before mid after was left_mid left b short told bounded f =
     let body = f.first_length ++ f.frame in
     let part = b.head ++ body in
@@ -333,11 +358,11 @@ frame-read order size before mid after was left_mid left b short told bounded f 
 pub frame-divides : {A : Type 0} (result : Result A NextRecord) (order : OctetOrder) (size : ℕ) (before mid after : Reading)
     (was left_mid left : Option (List ℕ)) → Begins order size before mid was left_mid → size ≤ max_frame → after.order ≡ Some order →
     after.taken ≤ max_input → Frames result size mid after left_mid left →
-    Divides (answer_of result) after.frame (contents_left before was) (contents_left after left)
+    Answers (answer_of result) before after was left
 frame-divides (Ok value) order size before mid after was left_mid left b short told bounded f =
     frame-read order size before mid after was left_mid left b short told bounded f
 frame-divides (Err answer) order size before mid after was left_mid left b short told bounded stop =
-    fails-divides answer after.frame (contents_left before was) (contents_left after left)
+    missed-divides answer order after.order after.frame (contents_left before was) (contents_left after left) told
     (frame-stops answer order size before mid after was left_mid left b short bounded stop)
 
 pub frame-takes : {A : Type 0} (result : Result A NextRecord) (order : OctetOrder) (size : ℕ) (before mid after : Reading)

@@ -24,81 +24,81 @@ identity_frame : List ℕ
 identity_frame =
     1 ∷ 128 ∷ 194 ∷ 0 ∷ 0 ∷ 3 ∷ 2 ∷ 0 ∷ 0 ∷ 0 ∷ 0 ∷ 1 ∷ 136 ∷ 142 ∷ 1 ∷ 0 ∷ 0 ∷ 5 ∷ 1 ∷ 0 ∷ 0 ∷ 5 ∷ 1 ∷ []
 
-no_octets : contents [] ≡ ends CutFile
+no_octets : contents [] ≡ ends 0 CutFile
 no_octets = refl
 
-header_alone : contents big_header ≡ ends End
+header_alone : contents big_header ≡ ends 0 End
 unfolding records big_header
 header_alone = refl
 
-header_in_part : contents (take 23 big_header) ≡ ends CutFile
+header_in_part : contents (take 23 big_header) ≡ ends 0 CutFile
 unfolding records big_header
 header_in_part = refl
 
-big_file : contents (big_header ++ big_head ++ identity_frame) ≡ record_of identity_frame (ends End)
+big_file : contents (big_header ++ big_head ++ identity_frame) ≡ record_of identity_frame (ends 0 End)
 unfolding records big_header big_head identity_frame
 big_file = refl
 
-little_file : contents (little_header ++ little_head ++ identity_frame) ≡ record_of identity_frame (ends End)
+little_file : contents (little_header ++ little_head ++ identity_frame) ≡ record_of identity_frame (ends 0 End)
 unfolding records little_header little_head identity_frame
 little_file = refl
 
 -- the last octet of a frame is missing
-cut_file : contents (little_header ++ little_head ++ take 22 identity_frame) ≡ ends CutFile
+cut_file : contents (little_header ++ little_head ++ take 22 identity_frame) ≡ ends 1 CutFile
 unfolding records little_header little_head identity_frame
 cut_file = refl
 
 -- a second record is begun
-begun_file : contents (little_header ++ little_head ++ identity_frame ++ 0 ∷ []) ≡ record_of identity_frame (ends CutFile)
+begun_file : contents (little_header ++ little_head ++ identity_frame ++ 0 ∷ []) ≡ record_of identity_frame (ends 1 CutFile)
 unfolding records little_header little_head identity_frame
 begun_file = refl
 
 -- other magic numbers, other versions and another link type, of which the first is the answer
-nanoseconds : contents (161 ∷ 178 ∷ 60 ∷ 77 ∷ replicate 20 0) ≡ ends BadMagic
+nanoseconds : contents (161 ∷ 178 ∷ 60 ∷ 77 ∷ replicate 20 0) ≡ ends 0 BadMagic
 unfolding records
 nanoseconds = refl
 
-version_3 : contents (161 ∷ 178 ∷ 195 ∷ 212 ∷ 0 ∷ 3 ∷ 0 ∷ 4 ∷ replicate 16 0) ≡ ends BadVersion
+version_3 : contents (161 ∷ 178 ∷ 195 ∷ 212 ∷ 0 ∷ 3 ∷ 0 ∷ 4 ∷ replicate 16 0) ≡ ends 0 BadVersion
 unfolding records
 version_3 = refl
 
-version_5 : contents (161 ∷ 178 ∷ 195 ∷ 212 ∷ 0 ∷ 2 ∷ 0 ∷ 5 ∷ replicate 16 0) ≡ ends BadVersion
+version_5 : contents (161 ∷ 178 ∷ 195 ∷ 212 ∷ 0 ∷ 2 ∷ 0 ∷ 5 ∷ replicate 16 0) ≡ ends 0 BadVersion
 unfolding records
 version_5 = refl
 
-wireless : contents (212 ∷ 195 ∷ 178 ∷ 161 ∷ 2 ∷ 0 ∷ 4 ∷ 0 ∷ replicate 12 0 ++ 105 ∷ 0 ∷ 0 ∷ 0 ∷ []) ≡ ends BadLink
+wireless : contents (212 ∷ 195 ∷ 178 ∷ 161 ∷ 2 ∷ 0 ∷ 4 ∷ 0 ∷ replicate 12 0 ++ 105 ∷ 0 ∷ 0 ∷ 0 ∷ []) ≡ ends 0 BadLink
 unfolding records
 wireless = refl
 
 -- a frame of 262,145 octets, whose length alone tells it, and one of 262,144, of which none is there
-long_frame : all_records Big 16777192 (replicate 8 0 ++ 0 ∷ 4 ∷ 0 ∷ 1 ∷ []) ≡ ends BadRecord
+long_frame : all_records Big 16777192 (replicate 8 0 ++ 0 ∷ 4 ∷ 0 ∷ 1 ∷ []) ≡ ends 1 BadRecord
 unfolding records
 long_frame = refl
 
-longest_frame : all_records Big 16777192 (replicate 8 0 ++ 0 ∷ 4 ∷ 0 ∷ 0 ∷ []) ≡ ends CutFile
+longest_frame : all_records Big 16777192 (replicate 8 0 ++ 0 ∷ 4 ∷ 0 ∷ 0 ∷ []) ≡ ends 1 CutFile
 unfolding records
 longest_frame = refl
 
 -- a record ends with the last octet that may be read, or the octet past it is too much: the first of another
 -- record, of a record's length, or of its frame
-last_record : all_records Big 39 (big_head ++ identity_frame) ≡ record_of identity_frame (ends End)
+last_record : all_records Big 39 (big_head ++ identity_frame) ≡ record_of identity_frame (ends 0 End)
 unfolding records big_head identity_frame
 last_record = refl
 
-past_record : all_records Big 39 (big_head ++ identity_frame ++ 0 ∷ []) ≡ record_of identity_frame (ends TooMuch)
+past_record : all_records Big 39 (big_head ++ identity_frame ++ 0 ∷ []) ≡ record_of identity_frame (ends 1 TooMuch)
 unfolding records big_head identity_frame
 past_record = refl
 
-past_length : all_records Big 11 (big_head ++ identity_frame) ≡ ends TooMuch
+past_length : all_records Big 11 (big_head ++ identity_frame) ≡ ends 1 TooMuch
 unfolding records big_head identity_frame
 past_length = refl
 
-past_frame : all_records Big 38 (big_head ++ identity_frame) ≡ ends TooMuch
+past_frame : all_records Big 38 (big_head ++ identity_frame) ≡ ends 1 TooMuch
 unfolding records big_head identity_frame
 past_frame = refl
 
 -- where the file ends at the limit within a record, it is cut
-cut_at_limit : all_records Big 30 (take 30 (big_head ++ identity_frame)) ≡ ends CutFile
+cut_at_limit : all_records Big 30 (take 30 (big_head ++ identity_frame)) ≡ ends 1 CutFile
 unfolding records big_head identity_frame
 cut_at_limit = refl
 

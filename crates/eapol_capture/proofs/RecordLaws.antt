@@ -31,9 +31,9 @@ size_in order octets = number order (take 4 (drop 8 octets))
 
 first : OctetOrder → ℕ → List ℕ → Contents → Contents
 first order room octets rest =
-    unless (missing 12 room octets)
-    (cond (ltb max_frame (size_in order octets)) (ends BadRecord)
-    (unless (missing (16 + size_in order octets) room octets) (record_of (take max_kept (take (size_in order octets) (drop 16 octets))) rest)))
+    unless 1 (missing 12 room octets)
+    (cond (ltb max_frame (size_in order octets)) (ends 1 BadRecord)
+    (unless 1 (missing (16 + size_in order octets) room octets) (record_of (take max_kept (take (size_in order octets) (drop 16 octets))) rest)))
 
 from_suc : (order : OctetOrder) (room x : ℕ) (rest : List ℕ) (most : ℕ) →
     records order room (x ∷ rest) (suc most) ≡
@@ -41,7 +41,7 @@ from_suc : (order : OctetOrder) (room x : ℕ) (rest : List ℕ) (most : ℕ) �
 unfolding records first size_in
 from_suc order room x rest most = refl
 
-from_nil : (order : OctetOrder) (room most : ℕ) → records order room [] most ≡ ends End
+from_nil : (order : OctetOrder) (room most : ℕ) → records order room [] most ≡ ends 0 End
 unfolding records
 from_nil order room most = refl
 
@@ -68,16 +68,16 @@ first_is order room (x ∷ rest) some =
     let next = enough (length rest) (length (drop whole (x ∷ rest))) order (room - whole) (drop whole (x ∷ rest)) fewer (omega arith) in
     from_suc order room x rest (length rest) ∙ ap (first order room (x ∷ rest)) next
 
-pub no-records : (order : OctetOrder) (room : ℕ) → all_records order room [] ≡ ends End
+pub no-records : (order : OctetOrder) (room : ℕ) → all_records order room [] ≡ ends 0 End
 no-records order room = from_nil order room 0
 
 pub stops-early : (order : OctetOrder) (room : ℕ) (octets : List ℕ) (answer : NextRecord) → 0 < length octets → missing 12 room octets ≡ Some answer →
-    all_records order room octets ≡ ends answer
+    all_records order room octets ≡ ends 1 answer
 unfolding first
 stops-early order room octets answer some is = first_is order room octets some ∙ rw is refl
 
 pub bad-record : (order : OctetOrder) (room : ℕ) (octets : List ℕ) (size : ℕ) → size ≡ number order (take 4 (drop 8 octets)) → 12 ≤ room →
-    12 ≤ length octets → max_frame < size → all_records order room octets ≡ ends BadRecord
+    12 ≤ length octets → max_frame < size → all_records order room octets ≡ ends 1 BadRecord
 unfolding first size_in
 bad-record order room octets size is fits there long =
     let none = none-missing 12 room octets fits there in
@@ -85,7 +85,7 @@ bad-record order room octets size is fits there long =
     first_is order room octets (omega arith) ∙ rw (none, over) refl
 
 pub stops-late : (order : OctetOrder) (room : ℕ) (octets : List ℕ) (size : ℕ) (answer : NextRecord) → size ≡ number order (take 4 (drop 8 octets)) →
-    12 ≤ room → 12 ≤ length octets → size ≤ max_frame → missing (16 + size) room octets ≡ Some answer → all_records order room octets ≡ ends answer
+    12 ≤ room → 12 ≤ length octets → size ≤ max_frame → missing (16 + size) room octets ≡ Some answer → all_records order room octets ≡ ends 1 answer
 unfolding first size_in
 stops-late order room octets size answer is fits there short stops =
     let none = none-missing 12 room octets fits there in

@@ -8,10 +8,10 @@ use Rattle.eapol_capture.specs.declared.order.OctetOrder.TheVariants.{Big, Littl
 use Rattle.eapol_capture.specs.declared.reader.NextRecord.{NextRecord}
 use Rattle.eapol_capture.specs.declared.reader.NextRecord.TheVariants.{End, CutFile, BadMagic, BadVersion, BadLink, BadRecord, TooMuch}
 
--- the records of a file in order, each as the first 4,096 octets of its frame, and how the file ends: by
--- its end, or by the first fault in it
+-- the records of a file in order, each as the first 4,096 octets of its frame, and how the file ends: how many
+-- records are begun then, 0 or 1, and its end or the first fault in it
 pub data Contents : Type 0 where
-  ends : NextRecord → Contents
+  ends : ℕ → NextRecord → Contents
   record_of : List ℕ → Contents → Contents
 
 -- the octets of a file, of a frame, and those of a frame that are kept
@@ -67,23 +67,24 @@ missing count room octets =
     else if nat_lt room (length octets) then Some TooMuch
     else Some CutFile
 
-abbrev pub unless : Option NextRecord → Contents → Contents
-unless None contents = contents
-unless (Some answer) contents = ends answer
+-- the contents, where nothing is missing
+abbrev pub unless : ℕ → Option NextRecord → Contents → Contents
+unless begun None contents = contents
+unless begun (Some answer) contents = ends begun answer
 
 -- the records that octets are, of which `room` may be read: 8 octets of time, the length of the frame (4), its
 -- length before it was cut (4), and the frame. At most `most` are read, which is no limit where it is at least
 -- the number of octets
 unfoldable pub records : OctetOrder → ℕ → List ℕ → ℕ → Contents
-records order room [] most = ends End
-records order room (x ∷ rest) zero = ends End
+records order room [] most = ends 0 End
+records order room (x ∷ rest) zero = ends 0 End
 records order room (x ∷ rest) (suc most) =
     let octets = x ∷ rest in
     let size = number order (take 4 (drop 8 octets)) in
     let whole = 16 + size in
-    unless (missing 12 room octets)
-    (if nat_lt max_frame size then ends BadRecord
-    else unless (missing whole room octets)
+    unless 1 (missing 12 room octets)
+    (if nat_lt max_frame size then ends 1 BadRecord
+    else unless 1 (missing whole room octets)
     (record_of (take max_kept (take size (drop 16 octets))) (records order (room - whole) (drop whole octets) most)))
 
 abbrev pub all_records : OctetOrder → ℕ → List ℕ → Contents
@@ -91,13 +92,13 @@ all_records order room octets = records order room octets (length octets)
 
 -- what follows a header that tells an octet order or has a fault
 abbrev pub behind : Result OctetOrder NextRecord → ℕ → List ℕ → Contents
-behind (Err answer) room octets = ends answer
+behind (Err answer) room octets = ends 0 answer
 behind (Ok order) room octets = all_records order room octets
 
 -- what a file is, of which `room` octets may be read
 abbrev pub from_header : ℕ → List ℕ → Contents
 from_header room octets =
-    unless (missing 24 room octets) (behind (order_or_fault (take 24 octets)) (room - 24) (drop 24 octets))
+    unless 0 (missing 24 room octets) (behind (order_or_fault (take 24 octets)) (room - 24) (drop 24 octets))
 
 -- what a file is, by all its octets
 abbrev pub contents : List ℕ → Contents

@@ -44,7 +44,7 @@ spelled_file order unread captured = spelled_header order unread ++ spelled_reco
 
 -- what the file is
 abbrev pub listed : List Captured → Contents
-listed [] = ends End
+listed [] = ends 0 End
 listed (c ∷ rest) = record_of (take max_kept c.frame) (listed rest)
 
 -- in either octet order a file is read as the records that it spells, and then its end

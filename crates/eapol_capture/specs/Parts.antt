@@ -3,7 +3,7 @@ use Rattle.std.specs.Prelude.{◌≡◌, ℕ, ◌+◌, ◌<◌, ◌≤◌, List,
 use Rattle.eap_base.specs.Known.{prepend_known, nothing_known}
 use Rattle.eapol_capture.specs.declared.order.OctetOrder.{OctetOrder}
 use Rattle.eapol_capture.specs.declared.reader.NextRecord.{NextRecord}
-use Rattle.eapol_capture.specs.declared.reader.NextRecord.TheVariants.{Record, End, CutFile, TooMuch, Read}
+use Rattle.eapol_capture.specs.declared.reader.NextRecord.TheVariants.{Record, End, CutFile, BadRecord, TooMuch, Read}
 use Rattle.eapol_capture.specs.Files.{Contents, ends, max_input, max_kept}
 use Rattle.eapol_capture.specs.Reading.{Reading, octets_left}
 
@@ -77,12 +77,13 @@ abbrev pub Frames : {A : Type 0} → Result A NextRecord → ℕ → Reading →
 Frames (Ok value) size before after was left = HasFrame size before after was left
 Frames (Err answer) size before after was left = Stops answer (4 + size) before after was left
 
--- a header that has a fault ends what was to be answered
+-- a header that isn't there, or has a fault, ends what was to be answered
 abbrev pub Fails : NextRecord → Option Contents → Option Contents → Type 0
 Fails Read before after = Unit {0}
 Fails Record before after = ⊥
 Fails End before after = ⊥
-Fails answer before after = before ≡ option_map (λ _. ends answer) after
+Fails BadRecord before after = ⊥
+Fails answer before after = before ≡ option_map (λ _. ends 0 answer) after
 
 -- what was to be answered before a header, and what is after it: the same, or its fault
 abbrev pub Opens : Result OctetOrder NextRecord → Option Contents → Option Contents → Type 0

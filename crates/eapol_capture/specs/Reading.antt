@@ -3,7 +3,7 @@ use Rattle.std.specs.Prelude.{◌≡◌, ℕ, ◌+◌, ◌-◌, ◌≤◌, List,
 use Rattle.eap_base.specs.Known.{prepend_known, nothing_known}
 use Rattle.eapol_capture.specs.declared.order.OctetOrder.{OctetOrder}
 use Rattle.eapol_capture.specs.declared.reader.NextRecord.{NextRecord}
-use Rattle.eapol_capture.specs.declared.reader.NextRecord.TheVariants.{Record, End, TooMuch, Read}
+use Rattle.eapol_capture.specs.declared.reader.NextRecord.TheVariants.{Record, End, CutFile, BadRecord, TooMuch, Read}
 use Rattle.eapol_capture.specs.Files.{Contents, ends, record_of, from_header, all_records, max_input}
 
 -- a reader: how many octets it has handed out, the octets that it has read ahead, the file's octet order
@@ -30,11 +30,30 @@ octets_left reader left = prepend_known reader.held left
 abbrev pub contents_left : Reading → Option (List ℕ) → Option Contents
 contents_left reader left = option_map (contents_from reader.order (max_input - reader.taken)) (octets_left reader left)
 
--- how one answer divides what was to be answered: into a record and what follows it, or it is the end
-abbrev pub Divides : NextRecord → List ℕ → Option Contents → Option Contents → Type 0
-Divides Record frame before after = before ≡ option_map (record_of frame) after
-Divides Read frame before after = Unit {0}
-Divides answer frame before after = before ≡ option_map (λ _. ends answer) after
+-- how one answer divides what was to be answered: into a record and what follows it, or it is the end, where so
+-- many records are begun
+abbrev pub Divides : NextRecord → ℕ → List ℕ → Option Contents → Option Contents → Type 0
+Divides Record begun frame before after = before ≡ option_map (record_of frame) after
+Divides Read begun frame before after = Unit {0}
+Divides answer begun frame before after = before ≡ option_map (λ _. ends begun answer) after
+
+-- how many records an answer begins: those that it has read or that have a fault, and behind the header one that
+-- is cut, or whose octet is the one past the limit
+abbrev pub records_at : Option OctetOrder → ℕ
+records_at None = 0
+records_at (Some order) = 1
+
+abbrev pub begun_in : NextRecord → Option OctetOrder → ℕ
+begun_in Record order = 1
+begun_in BadRecord order = 1
+begun_in CutFile order = records_at order
+begun_in TooMuch order = records_at order
+begun_in answer order = 0
+
+-- how one answer leads from a reader to the next
+abbrev pub Answers : NextRecord → Reading → Reading → Option (List ℕ) → Option (List ℕ) → Type 0
+Answers answer before after was left =
+    Divides answer (begun_in answer after.order) after.frame (contents_left before was) (contents_left after left)
 
 -- where the next record begins, in octets: behind the header
 abbrev pub header_left : Option OctetOrder → ℕ
@@ -44,15 +63,11 @@ header_left (Some order) = 0
 abbrev pub records_begin : Reading → ℕ
 records_begin reader = reader.taken + header_left reader.order
 
--- how many records an answer begins, where the next one began at `start`: one where an octet of it was handed
--- out, or was the one past the limit
-abbrev pub records_at : Option OctetOrder → ℕ
-records_at None = 0
-records_at (Some order) = 1
-
+-- the records that an answer begins, where the next one begins at `start`: where a read fails, one of which an
+-- octet was handed out
 abbrev pub begun : NextRecord → ℕ → Reading → ℕ
-begun TooMuch start after = records_at after.order
-begun answer start after = min 1 (after.taken - start)
+begun Read start after = min 1 (after.taken - start)
+begun answer start after = begun_in answer after.order
 
 -- each record takes at least 16 octets
 abbrev pub Takes : NextRecord → ℕ → ℕ → Type 0

@@ -75,7 +75,7 @@ impl PcapReader {
     ghost use Rattle.std.specs.Prelude.{None};
     ghost use Rattle.eapol_capture.specs.declared.reader.NextRecord.TheVariants.{Record, Read};
     ghost use Rattle.eapol_capture.specs.Files.{max_input, max_kept, number, order_or_fault};
-    ghost use Rattle.eapol_capture.specs.Reading.{contents_left, octets_left, Divides, begun, records_begin, Takes, Exhausts, Faults, is_last};
+    ghost use Rattle.eapol_capture.specs.Reading.{contents_left, octets_left, Answers, begun, records_begin, Takes, Exhausts, Faults, is_last};
     ghost use Rattle.eapol_capture.specs.Parts.{answer_of, told, Keeps, Parts, Frames, Opens};
 
     /// A reader that has read nothing.
@@ -99,7 +99,7 @@ impl PcapReader {
 
         // The answers are those of the octets that the reader holds and the source has left, however they
         // are cut into reads.
-        ensures contents { Divides result self.new.frame (contents_left self.old (S.left source.old)) (contents_left self.new (S.left source.new)) }
+        ensures contents { Answers result self.old self.new (S.left source.old) (S.left source.new) }
         ensures number { self.new.number ≡ self.old.number + begun result (records_begin self.old) self.new }
         ensures over { self.new.over ≡ is_last result }
         ensures takes { Takes result self.old.taken self.new.taken }
@@ -137,8 +137,10 @@ impl PcapReader {
         ensures { self.new ≡ record self.old { number = self.old.number + begun answer start self.old; over = is_last answer } }
     {
         let has_begun = match answer {
-            NextRecord::TooMuch => self.order.is_some(),
-            _ => start < self.taken,
+            NextRecord::Record | NextRecord::BadRecord => true,
+            NextRecord::CutFile | NextRecord::TooMuch => self.order.is_some(),
+            NextRecord::Read => start < self.taken,
+            _ => false,
         };
         self.over = answer != NextRecord::Record;
         self.number += u32::from(has_begun);
@@ -147,7 +149,7 @@ impl PcapReader {
     /// Reads the header, where that wasn't done, and a record.
     fn read_next<S: Source>(&mut self, source: &mut S) -> NextRecord
         requires bounded { self.old.taken ≤ max_input }
-        ensures contents { Divides result self.new.frame (contents_left self.old (S.left source.old)) (contents_left self.new (S.left source.new)) }
+        ensures contents { Answers result self.old self.new (S.left source.old) (S.left source.new) }
         ensures number { self.new.number ≡ self.old.number }
         ensures over { self.new.over ≡ self.old.over }
         ensures takes { Takes result self.old.taken self.new.taken }
@@ -170,7 +172,7 @@ impl PcapReader {
         requires header { self.old.order ≡ None }
         requires bounded { self.old.taken ≤ max_input }
         ensures contents { Opens result (contents_left self.old (S.left source.old)) (contents_left self.new (S.left source.new)) }
-        ensures order { IfOk result (λ order. self.new.order ≡ Some order) }
+        ensures order { self.new.order ≡ told result }
         ensures number { self.new.number ≡ self.old.number }
         ensures over { self.new.over ≡ self.old.over }
         ensures grows { self.old.taken ≤ self.new.taken }
@@ -197,7 +199,7 @@ impl PcapReader {
     fn read_record<S: Source>(&mut self, source: &mut S, order: OctetOrder) -> NextRecord
         requires order { self.old.order ≡ Some order }
         requires bounded { self.old.taken ≤ max_input }
-        ensures contents { Divides result self.new.frame (contents_left self.old (S.left source.old)) (contents_left self.new (S.left source.new)) }
+        ensures contents { Answers result self.old self.new (S.left source.old) (S.left source.new) }
         ensures number { self.new.number ≡ self.old.number }
         ensures over { self.new.over ≡ self.old.over }
         ensures takes { Takes result self.old.taken self.new.taken }
@@ -216,7 +218,7 @@ impl PcapReader {
     fn read_frame<S: Source>(&mut self, source: &mut S, order: OctetOrder) -> Result<(), NextRecord>
         requires order { self.old.order ≡ Some order }
         requires bounded { self.old.taken ≤ max_input }
-        ensures contents { Divides (answer_of result) self.new.frame (contents_left self.old (S.left source.old)) (contents_left self.new (S.left source.new)) }
+        ensures contents { Answers (answer_of result) self.old self.new (S.left source.old) (S.left source.new) }
         ensures number { self.new.number ≡ self.old.number }
         ensures over { self.new.over ≡ self.old.over }
         ensures takes { Takes (answer_of result) self.old.taken self.new.taken }

@@ -1,6 +1,6 @@
 use Rattle.std.proofs.Common.{◌≡◌, ◌≤◌, ◌<◌, ◌∙◌, length, rules, Err, Ok, Some, ap, arith}
 use Rattle.eapol_capture.specs.Files.{max_frame}
-use Rattle.eapol_capture.proofs.Dividing.{begins, records-end, length-stops, fails-divides, stops-take, bad-size, frame-divides, frame-takes}
+use Rattle.eapol_capture.proofs.Dividing.{begins, records-end, length-stops, stops-take, bad-size, frame-divides, frame-takes}
 use Rattle.eapol_capture.proofs.reader.PcapReader.read_frame.Goals as goal
 
 pub returns-then-not-branch-clause-contents : goal.returns-then-not-branch-clause-contents
@@ -8,7 +8,6 @@ returns-then-not-branch-clause-contents g c =
     let called = c.in_ok-has_more.ensures in
     let none = ap Ok c.if-not-branch.true in
     records-end c.args.self.now c.has_more.new.self (g.S.Source.left c.args.source.now) (g.S.Source.left c.has_more.new.source) c.args.order
-    c.has_more.new.self.frame
     c.requires.order called.left (called.none_held none) (called.none_left none)
 
 pub returns-in_err-size-clause-contents : goal.returns-in_err-size-clause-contents
@@ -17,11 +16,11 @@ returns-in_err-size-clause-contents g c =
     let looked = c.in_ok-has_more.ensures in
     let called = c.in_err-size.ensures in
     let some : 0 < length c.has_more.new.self.held = looked.some (ap Ok c.if-not-branch.false) in
+    let order : c.read_length.new.self.order ≡ Some c.args.order = called.keeps.order ∙ looked.keeps.order ∙ c.requires.order in
     rw same
-    (fails-divides c.in_err-size.field-0.0 c.read_length.new.self.frame _ _
     (length-stops c.args.self.now c.has_more.new.self c.read_length.new.self
     (g.S.Source.left c.args.source.now) (g.S.Source.left c.has_more.new.source) (g.S.Source.left c.read_length.new.source) c.args.order c.in_err-size.field-0.0
-    c.requires.order c.requires.bounded called.bounded looked.left looked.taken some called.part))
+    c.requires.order c.requires.bounded called.bounded looked.left looked.taken some order called.part)
 
 pub returns-in_err-size-clause-takes : goal.returns-in_err-size-clause-takes
 returns-in_err-size-clause-takes g c =
@@ -43,7 +42,7 @@ returns-then-size-gt-MAX_FRAME-clause-contents g c =
     c.requires.order looked.left looked.taken called.part called.length called.bounded in
     let long : max_frame < c.in_ok-size.size = omega arith in
     bad-size c.args.order c.in_ok-size.size c.args.self.now c.read_length.new.self
-    (g.S.Source.left c.args.source.now) (g.S.Source.left c.read_length.new.source) c.read_length.new.self.frame begun long
+    (g.S.Source.left c.args.source.now) (g.S.Source.left c.read_length.new.source) begun long
 
 pub returns-clause-contents : goal.returns-clause-contents
 returns-clause-contents g c =
