@@ -207,8 +207,8 @@ records-end before after was left order known same none nothing =
     ended (Some rest) all = ap Some (all rest refl)
 
 -- octets of a record before its frame's length, the length among them
-pub size-front : (order : OctetOrder) (part rest : List ℕ) → length part ≡ 12 → number order (take 4 (drop 8 (part ++ rest))) ≡ number order (take 4
-    (drop 8 part))
+pub size-front : (order : OctetOrder) (part rest : List ℕ) → length part ≡ 12 →
+    number order (take 4 (drop 8 (part ++ rest))) ≡ number order (take 4 (drop 8 part))
 size-front order part rest all =
     let back : drop 8 (part ++ rest) ≡ drop 8 part ++ rest = drop-append-le 8 part rest (omega arith) in
     let front : take 4 (drop 8 part ++ rest) ≡ take 4 (drop 8 part) = take-append-le 4 (drop 8 part) rest (omega (arith, length-drop 8 part)) in
