@@ -4,6 +4,8 @@ pub mod Dividing
 mod FileRows
 -- A reader of records that hands out octets.
 pub mod Handing
+-- What is kept of a frame carries the same as the frame.
+pub mod KeptFronts
 -- The records of octets, one at a time.
 pub mod RecordLaws
 -- A spelled file is read as what it spells.

@@ -5,6 +5,7 @@ use Rattle.eapol_capture.specs.declared.order.OctetOrder.{OctetOrder}
 use Rattle.eapol_capture.specs.declared.order.OctetOrder.TheVariants.{Big, Little}
 use Rattle.eapol_capture.specs.declared.reader.NextRecord.TheVariants.{End}
 use Rattle.eapol_capture.specs.Files.{Contents, ends, record_of, contents, magic_number, max_input, max_frame, max_kept}
+use Rattle.eapol_capture.specs.Frames.{carried}
 
 -- a captured frame, with its time and its length before it was cut, as they stand in a file
 pub record Captured : Type 0 where
@@ -52,3 +53,7 @@ abbrev pub SpelledFilesAreRead : Type 0
 SpelledFilesAreRead =
     (order : OctetOrder) (unread : List ℕ) (captured : List Captured) → length unread ≡ 12 → All IsCaptured captured →
     length (spelled_file order unread captured) ≤ max_input → contents (spelled_file order unread captured) ≡ listed captured
+
+-- what is kept of a frame carries the same as the frame
+abbrev pub FrontsCarryTheSame : Type 0
+FrontsCarryTheSame = (frame : List ℕ) → carried (take max_kept frame) ≡ carried frame

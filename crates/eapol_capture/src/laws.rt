@@ -1,10 +1,16 @@
-//! Laws of the grammar of files. Each is the contract of a function that does nothing.
+//! Laws of files and frames. Each is the contract of a function that does nothing.
 
-ghost use Rattle.eapol_capture.specs.Laws.{SpelledFilesAreRead};
+ghost use Rattle.eapol_capture.specs.Laws.{FrontsCarryTheSame, SpelledFilesAreRead};
 
 /// In either octet order a file of frames within the limits is read as its records and its end, whatever the
 /// times, the first lengths and the 12 octets that are unread.
 #[tactic(auto, using(crate::proofs::Spelling::spelled_files_are_read))]
 pub fn spelled_files_are_read()
     ensures { SpelledFilesAreRead }
+{}
+
+/// The first 4,096 octets of a frame carry the same as the frame.
+#[tactic(auto, using(crate::proofs::KeptFronts::fronts_carry_the_same))]
+pub fn fronts_carry_the_same()
+    ensures { FrontsCarryTheSame }
 {}

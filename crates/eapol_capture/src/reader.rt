@@ -116,12 +116,11 @@ impl PcapReader {
     }
 
     /// Where the next record begins, in octets.
-    fn start(&mut self) -> u32
-        requires { self.old.over ≡ false }
-        ensures same { self.new ≡ self.old }
-        ensures place { result ≡ records_begin self.old }
-        ensures bounded { self.old.taken ≤ max_input }
-        ensures counted { self.old.number ≤ self.old.taken }
+    fn start(&self) -> u32
+        requires { self.now.over ≡ false }
+        ensures place { result ≡ records_begin self.now }
+        ensures bounded { self.now.taken ≤ max_input }
+        ensures counted { self.now.number ≤ self.now.taken }
     {
         match self.order {
             Some(_) => self.taken,
