@@ -4,6 +4,8 @@ pub mod Checking
 pub mod Driving
 -- How a run ends after a part of its text has been written.
 pub mod Endings
+-- Where neither a read nor a write failed, the status is the answer's, or memory was wanting.
+pub mod Completing
 -- Replaying line by line answers what the scenario's run says.
 pub mod Replaying
 -- Facts on runs.
@@ -18,3 +20,5 @@ pub mod Inputs
 pub mod NeverBoth
 -- The trace of a smooth login ends with agreement.
 pub mod SmoothTraces
+-- No line of `radius` begins as the line of honest tags does.
+pub mod RadiusPlain

@@ -46,6 +46,7 @@ use Rattle.login_call.specs.Check.{CheckNow, item_took, line_took, check_took, c
 use Rattle.login_call.specs.Bulk.{bulk_of, bulk_line, verdicts_text, handled_text, bulk_text, bulk_answer}
 use Rattle.login_call.specs.Login.{usage_answer, unread_answer}
 use Rattle.login_call.specs.declared.bulk.Bulk.{Bulk}
+use Rattle.login_call.specs.Radius.{radius_answer}
 use Rattle.login_call.specs.declared.decode.Decode.{Decode}
 use Rattle.login_call.specs.Headline.{NeverBoth, WritesNeverBoth}
 use Rattle.login_call.specs.Scenario.{Outcome, whole, refused, Scenario, stops, adds, is_event, with_line, events_after, read_after, scenario_from, scenario_of, too_much_at, finish_outcome, events_text, setup_answer, trace_header, replay_answer}
@@ -54,6 +55,7 @@ use Rattle.login_call.specs.declared.status.Status.{Status}
 use Rattle.login_call.specs.declared.status.Status.TheVariants as status
 use Rattle.login_call.proofs.Checking.{IsOrderly, took_alike, begins_orderly}
 use Rattle.login_call.proofs.Headline.{headline}
+use Rattle.login_call.proofs.RadiusPlain.{begins_tags, radius_quiet}
 
 -- an answer with status 0 has not both lines
 record Never (a : Answer) : Type 0 where
@@ -294,6 +296,15 @@ never_check : (octets : List ℕ) → Never (check_answer octets)
 never_check octets =
     never_if_plain _ (plain_while check_took check_closing IsOrderly line_checked all_checked (lines octets) 0 nothing_checked begins_orderly)
 
+-- ---- RADIUS packets, whose lines begin as the line of the result does, but none as that of the tags
+
+never_radius : (octets : List ℕ) → Never (radius_answer octets)
+never_radius octets = record {
+  holds = λ done honest apart.
+      true≢false (sym (found (codes "tags honest") (radius_answer octets).text honest)
+      ∙ none begins_tags 116 (codes "ags honest\n") refl (radius_answer octets).text true ((radius_quiet octets).holds done));
+}
+
 -- ---- a summary
 
 line_plain : (number count : ℕ) → plain begins_result true (bulk_line number count) ≡ true
@@ -352,6 +363,9 @@ module _ (s : Status) (before now : Option (List ℕ)) where
 
   pub check_writes : (octets : List ℕ) → Ends s before now (check_answer octets) → WritesNeverBoth s before now
   check_writes octets = written (check_answer octets) s before now (never_check octets)
+
+  pub radius_writes : (octets : List ℕ) → Ends s before now (radius_answer octets) → WritesNeverBoth s before now
+  radius_writes octets = written (radius_answer octets) s before now (never_radius octets)
 
   unread_writes_by : (asked : Option Bulk) → Ends s before now (unread_answer asked) → WritesNeverBoth s before now
   unread_writes_by None = written usage_answer s before now never_usage

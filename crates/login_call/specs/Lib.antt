@@ -6,6 +6,7 @@ pub mod Commands
 pub mod Decode
 pub mod Keys
 pub mod Login
+pub mod Radius
 pub mod Replay
 pub mod Scenario
 pub mod Statuses

@@ -7,8 +7,10 @@ use Rattle.login_call.specs.Bulk.{bulk_of, bulk_answer, is_bulk}
 use Rattle.login_call.specs.Check.{check_answer}
 use Rattle.login_call.specs.Decode.{decode_answer}
 use Rattle.login_call.specs.Keys.{keys_answer}
+use Rattle.login_call.specs.Radius.{radius_answer}
 use Rattle.login_call.specs.Scenario.{replay_answer, scenario_of}
 use Rattle.login_call.specs.declared.bulk.Bulk.{Bulk}
+use Rattle.login_call.specs.declared.status.Status.{Status}
 use Rattle.login_call.specs.declared.status.Status.TheVariants as status
 
 -- the words are this one alone
@@ -29,6 +31,9 @@ is_keys words = is_alone (codes "keys") words
 abbrev pub is_check : List (List ℕ) → Bool
 is_check words = is_alone (codes "check") words
 
+abbrev pub is_radius : List (List ℕ) → Bool
+is_radius words = is_alone (codes "radius") words
+
 -- the words are these two
 abbrev pub are_two : List ℕ → List ℕ → List (List ℕ) → Bool
 are_two first second [] = false
@@ -45,7 +50,7 @@ reads_scenario words = is_replay words || is_replay_names words
 
 -- the words are one of the forms that read an input
 abbrev pub reads_input : List (List ℕ) → Bool
-reads_input words = is_replay words || (is_replay_names words || (is_decode words || (is_keys words || is_check words)))
+reads_input words = is_replay words || (is_replay_names words || (is_decode words || (is_keys words || (is_check words || is_radius words))))
 
 -- the words are one of the forms
 abbrev pub is_form : List (List ℕ) → Bool
@@ -57,7 +62,7 @@ takes_memory words = reads_scenario words || is_bulk words
 
 -- for all other words the program says how it is used
 unfoldable pub usage_text : List ℕ
-usage_text = line_text (codes "usage: eap_login replay | replay names | decode | keys | check | bulk N K")
+usage_text = line_text (codes "usage: eap_login replay | replay names | decode | keys | check | bulk N K | radius")
 
 abbrev pub usage_answer : Answer
 usage_answer = record { text = usage_text; status = status.Usage }
@@ -75,8 +80,15 @@ login_answer words octets =
     else if is_decode words then decode_answer octets
     else if is_keys words then keys_answer octets
     else if is_check words then check_answer octets
+    else if is_radius words then radius_answer octets
     else unread_answer (bulk_of words)
 
 -- the input's settings are whole, so that the run of its events begins
 abbrev pub HasSetup : List ℕ → Type 0
 HasSetup octets = is_some (scenario_of octets).setup ≡ true
+
+-- what comes where neither a read nor a write failed: the answer's status; or memory was wanting, where the words
+-- take it and, of a scenario, the settings are whole
+pub data Completes (words : List (List ℕ)) (octets : List ℕ) : Status → Type 0 where
+  answered : Completes words octets (login_answer words octets).status
+  lacked : takes_memory words ≡ true → (reads_scenario words ≡ true → HasSetup octets) → Completes words octets status.Memory

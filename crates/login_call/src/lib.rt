@@ -13,6 +13,7 @@ mod keys;
 mod laws;
 mod login;
 mod objects;
+mod radius;
 mod replay;
 mod status;
 

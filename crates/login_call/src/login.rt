@@ -4,12 +4,14 @@ ghost use Rattle.std.specs.Prelude.{◌≡◌, ◌≢◌, ◌≤◌, ℕ, List, 
 ghost use Rattle.login_call.specs.Answers.{Ends, Drains, Finishes, IsWritten, KeepsReads, KeepsWrites, HasRisen};
 ghost use Rattle.login_call.specs.Bulk.{bulk_of, is_bulk};
 ghost use Rattle.login_call.specs.Login.{is_alone, are_two, reads_scenario, reads_input, is_form};
-ghost use Rattle.login_call.specs.Login.{takes_memory, login_answer, unread_answer, usage_answer, usage_text, HasSetup};
+ghost use Rattle.login_call.specs.Login.{takes_memory, login_answer, unread_answer, usage_answer, usage_text, HasSetup, Completes};
 ghost use Rattle.login_call.specs.Check.{check_answer};
 ghost use Rattle.login_call.specs.Decode.{decode_answer};
 ghost use Rattle.login_call.specs.Keys.{keys_answer};
+ghost use Rattle.login_call.specs.Radius.{radius_answer};
 ghost use Rattle.login_call.specs.Headline.{HonestEndsAgree, WritesNeverBoth};
 ghost use Rattle.login_call.specs.Replay.{HasBoth};
+ghost use Rattle.login_call.specs.SmoothTraces.{SmoothTracesAgree};
 ghost use Rattle.login_call.specs.Scenario.{replay_answer, trace_header};
 ghost use Rattle.trace_text.specs.Writes.{Appends};
 
@@ -18,6 +20,7 @@ use crate::check::Check;
 use crate::decode::Decode;
 use crate::drive::drive;
 use crate::keys::Keys;
+use crate::radius::Radius;
 use crate::replay::Replay;
 use crate::status::Status;
 use eap_base::{Failed, Sink, Source};
@@ -35,12 +38,13 @@ use trace_text::write_line;
 /// - `keys` reads requests for ciphers, MACs and keys and writes the answers. It takes no memory.
 /// - `check` reads a capture of packets with the keys of its users, and writes for each packet whether its
 ///   tags are right. It takes no memory.
+/// - `radius` reads a text of RADIUS packets that carry EAP, writes requests and replies under a secret, and
+///   says of packets what they carry and whether they are good. It takes no memory.
 /// - `bulk N K` runs K conversations, 1 to 1,000, of the number N, 0 to 999,999, and writes what they came to. It
 ///   takes memory; the source isn't touched.
 /// - All other words write the usage line; the source isn't touched.
 ///
 /// Each of the two lists of `methods` has an object of EAP-PSK and one of EAP-GPSK.
-#[tactic(auto, using(crate::proofs::NeverBoth::unread_writes, crate::proofs::Endings::keeps_reads))]
 pub fn eap_login<P: PeerMethod, M: ServerMethod, S: Source, W: Sink>(
     alloc: Global,
     words: &Vec<String>,
@@ -63,6 +67,11 @@ pub fn eap_login<P: PeerMethod, M: ServerMethod, S: Source, W: Sink>(
     // the peer's key, and by EAP-GPSK the suite is the first of the server's that the peer allows.
     ensures honest_ends_agree { (octets : List ℕ) → HonestEndsAgree octets }
 
+    // Where the input is a scenario of two ends that fit, whose events deliver packet 1, packet 2 and on, each once
+    // and in order, at least as many as the login takes, the whole text ends with the lines `tags honest`, `result
+    // agree` and `end`, and the status is 0.
+    ensures smooth_traces_agree { SmoothTracesAgree }
+
     // On octets alone: no text written with status 0 has both the line `tags honest` and the line
     // `result apart`.
     ensures never_both { (octets : List ℕ) → S.left source.old ≡ Some octets → WritesNeverBoth result (W.written sink.old) (W.written sink.new) }
@@ -77,7 +86,45 @@ pub fn eap_login<P: PeerMethod, M: ServerMethod, S: Source, W: Sink>(
     ensures setup { result ≡ Status.Memory → reads_scenario (map string_bytes words.now.items) ≡ true
         → (octets : List ℕ) → S.left source.old ≡ Some octets → HasSetup octets }
 
+    // Where the source tells its octets and neither a read nor a write failed, the status is the answer's, or memory
+    // was wanting where it may be.
+    ensures complete { (octets : List ℕ) → S.left source.old ≡ Some octets
+        → (HasRisen S.last_read_fault (S.read_faults source.old) (S.read_faults source.new) → ⊥)
+        → (HasRisen W.last_write_fault (W.write_faults sink.old) (W.write_faults sink.new) → ⊥)
+        → Completes (map string_bytes words.now.items) octets result }
+
     // `bulk N K`, and words that are none of the forms, leave the source as it was: their answer asks nothing of it.
+    ensures unread_ends { reads_input (map string_bytes words.now.items) ≡ false
+        → Ends result (W.written sink.old) (W.written sink.new) (unread_answer (bulk_of (map string_bytes words.now.items))) }
+    ensures unread { reads_input (map string_bytes words.now.items) ≡ false → result ≢ Status.ReadFault }
+    ensures untouched { reads_input (map string_bytes words.now.items) ≡ false → source.new ≡ source.old }
+    ensures usage_ends { is_form (map string_bytes words.now.items) ≡ false → Ends result (W.written sink.old) (W.written sink.new) usage_answer }
+    ensures usage_written { is_form (map string_bytes words.now.items) ≡ false → IsWritten result }
+{
+    respond(alloc, words, source, sink, methods)
+}
+
+/// The same, without the laws on all inputs.
+#[tactic(auto, using(crate::proofs::NeverBoth::unread_writes, crate::proofs::Endings::keeps_reads))]
+fn respond<P: PeerMethod, M: ServerMethod, S: Source, W: Sink>(
+    alloc: Global,
+    words: &Vec<String>,
+    source: &mut S,
+    sink: &mut W,
+    methods: Methods<P, M>,
+) -> Status
+    requires { HasBoth P.peer_shown M.server_shown methods }
+    ensures ends { (octets : List ℕ) → S.left source.old ≡ Some octets
+        → Ends result (W.written sink.old) (W.written sink.new) (login_answer (map string_bytes words.now.items) octets) }
+    ensures drains { is_bulk (map string_bytes words.now.items) ≡ false → Drains result (S.left source.new) }
+    ensures never_both { (octets : List ℕ) → S.left source.old ≡ Some octets → WritesNeverBoth result (W.written sink.old) (W.written sink.new) }
+    ensures read_fault { result ≡ Status.ReadFault → HasRisen S.last_read_fault (S.read_faults source.old) (S.read_faults source.new) }
+    ensures write_fault { result ≡ Status.WriteFault → HasRisen W.last_write_fault (W.write_faults sink.old) (W.write_faults sink.new) }
+    ensures reads { KeepsReads result (S.read_faults source.old) (S.read_faults source.new) }
+    ensures writes { KeepsWrites result (W.write_faults sink.old) (W.write_faults sink.new) }
+    ensures memory { result ≡ Status.Memory → takes_memory (map string_bytes words.now.items) ≡ true }
+    ensures setup { result ≡ Status.Memory → reads_scenario (map string_bytes words.now.items) ≡ true
+        → (octets : List ℕ) → S.left source.old ≡ Some octets → HasSetup octets }
     ensures unread_ends { reads_input (map string_bytes words.now.items) ≡ false
         → Ends result (W.written sink.old) (W.written sink.new) (unread_answer (bulk_of (map string_bytes words.now.items))) }
     ensures unread { reads_input (map string_bytes words.now.items) ≡ false → result ≢ Status.ReadFault }
@@ -95,6 +142,8 @@ pub fn eap_login<P: PeerMethod, M: ServerMethod, S: Source, W: Sink>(
         keys(source, sink)
     } else if are_alone(words, "check") {
         check(source, sink)
+    } else if are_alone(words, "radius") {
+        radius(source, sink)
     } else {
         answer_unread(alloc, words, sink, methods)
     }
@@ -161,7 +210,7 @@ fn write_usage<W: Sink>(sink: &mut W) -> Result<(), Failed>
 {
     write_line(
         sink,
-        b"usage: eap_login replay | replay names | decode | keys | check | bulk N K",
+        b"usage: eap_login replay | replay names | decode | keys | check | bulk N K | radius",
     )
 }
 
@@ -241,5 +290,19 @@ fn check<S: Source, W: Sink>(source: &mut S, sink: &mut W) -> Status
     ensures no_memory { result ≢ Status.Memory }
 {
     let mut command = Check::new();
+    drive(&mut command, source, sink)
+}
+
+/// Reads a text of RADIUS packets, writes requests and replies, and says what packets are.
+fn radius<S: Source, W: Sink>(source: &mut S, sink: &mut W) -> Status
+    ensures ends { (octets : List ℕ) → S.left source.old ≡ Some octets → Ends result (W.written sink.old) (W.written sink.new) (radius_answer octets) }
+    ensures drains { Drains result (S.left source.new) }
+    ensures read_fault { result ≡ Status.ReadFault → HasRisen S.last_read_fault (S.read_faults source.old) (S.read_faults source.new) }
+    ensures write_fault { result ≡ Status.WriteFault → HasRisen W.last_write_fault (W.write_faults sink.old) (W.write_faults sink.new) }
+    ensures reads { KeepsReads result (S.read_faults source.old) (S.read_faults source.new) }
+    ensures writes { KeepsWrites result (W.write_faults sink.old) (W.write_faults sink.new) }
+    ensures no_memory { result ≢ Status.Memory }
+{
+    let mut command = Radius::new();
     drive(&mut command, source, sink)
 }

@@ -7,7 +7,7 @@ use Rattle.radius_carry.specs.Packet.{Attribute, octets_of, attribute_octets, jo
 use Rattle.radius_carry.specs.Fault.{begins, first, behind, attributes_in, left_in, attributes_of, left_of}
 
 -- the two ways of a test
-both_ways : (P : Type 0) (b : Bool) → (b ≡ true → P) → (b ≡ false → P) → P
+pub both_ways : (P : Type 0) (b : Bool) → (b ≡ true → P) → (b ≡ false → P) → P
 both_ways P true holds fails = holds refl
 both_ways P false holds fails = fails refl
 

@@ -1,9 +1,10 @@
 -- Where the tag of a packet stands, and what its authenticators cover.
 use Rattle.std.proofs.Common.{◌≡◌, ℕ, ◌+◌, ◌-◌, ◌/◌, ◌%◌, ◌≤◌, List, [], ◌∷◌, ◌++◌, length, take, drop, replicate, Bool, true, false, cond, ◌==◌}
 use Rattle.std.proofs.Common.{refl, ap, ◌∙◌, sym, arith, append_assoc, length-append}
-use Rattle.std.proofs.lemmas.List.{append-nil, length-replicate, take_rest, take_at, drop_at}
+use Rattle.std.proofs.lemmas.List.{append-nil, length-replicate, take_at, drop_at}
 use Rattle.radius_carry.specs.Packet.{Attribute, RadiusPacket, IsRadius, attribute_octets, count, head_of, joined, octets_of, spelled, tag_of}
 use Rattle.radius_carry.specs.Place.{tag_place}
+use Rattle.radius_carry.proofs.Held.{both_ways}
 use Rattle.radius_carry.specs.Tags.{blanked, blank_text, asked_text}
 
 -- the steps, by the Type of the first attribute
@@ -40,11 +41,6 @@ place_same kind value rest b = ap (λ t. cond t 2 (2 + length value + tag_place 
 place_other : (kind : ℕ) (value : List ℕ) (rest : List Attribute) → (kind == 80) ≡ false → tag_place ((kind, value) ∷ rest) ≡ 2 + length value + tag_place rest
 unfolding tag_place
 place_other kind value rest b = ap (λ t. cond t 2 (2 + length value + tag_place rest)) b
-
--- the two ways of a test
-both_ways : (P : Type 0) (b : Bool) → (b ≡ true → P) → (b ≡ false → P) → P
-both_ways P true holds fails = holds refl
-both_ways P false holds fails = fails refl
 
 -- where there is no attribute of a Type, no value is joined and nothing is blanked
 pub record HasNone (attributes : List Attribute) : Type 0 where
@@ -217,32 +213,3 @@ covered_by_response packet whole asked secret is =
     (append_assoc (take 4 whole) asked (drop 20 whole)
     ∙ ap (λ (l : List ℕ). take 4 whole ++ (asked ++ l)) cut.body
     ∙ ap (λ (l : List ℕ). l ++ (asked ++ octets_of packet.attributes)) cut.head)
-
--- ---- the same of the slices that the code takes
-
-abbrev body_slice : List ℕ → List ℕ
-body_slice whole = take (length whole - 20) (drop 20 whole)
-
-pub slice_tag : (packet : RadiusPacket) (whole : List ℕ) (place : ℕ) → IsRadius packet whole → place ≡ tag_place packet.attributes →
-    take ((place + 16) - place) (drop place (body_slice whole)) ≡ tag_of packet.attributes
-slice_tag packet whole place is e =
-    let size : (place + 16) - place ≡ 16 = omega arith in
-    rw (take_rest whole 20, size, e) (cut_whole packet whole is).tag
-
-pub slice_room : (packet : RadiusPacket) (whole : List ℕ) (place : ℕ) → IsRadius packet whole → place ≡ tag_place packet.attributes →
-    (20 ≤ length whole) × (place + 16 ≤ length (body_slice whole)) × (length whole ≤ 4096)
-slice_room packet whole place is e =
-    let cut = cut_whole packet whole is in
-    let same : length (body_slice whole) ≡ length (drop 20 whole) = ap length (take_rest whole 20) in
-    (cut.room, omega (arith, cut.place), is.size)
-
-pub slice_blank : (packet : RadiusPacket) (whole authenticator : List ℕ) (place : ℕ) → IsRadius packet whole → place ≡ tag_place packet.attributes →
-    ((((([] ++ take 4 whole) ++ authenticator) ++ take place (body_slice whole)) ++ replicate 16 0)
-    ++ take (length (body_slice whole) - (place + 16)) (drop (place + 16) (body_slice whole)))
-    ≡ blank_text authenticator packet
-slice_blank packet whole authenticator place is e =
-    rw (take_rest (body_slice whole) (place + 16), take_rest whole 20, e) (covered_by_tag packet whole authenticator is)
-
-pub slice_asked : (packet : RadiusPacket) (whole asked secret : List ℕ) → IsRadius packet whole →
-    ((([] ++ take 4 whole) ++ asked) ++ body_slice whole) ++ secret ≡ asked_text asked secret packet
-slice_asked packet whole asked secret is = rw (take_rest whole 20) (covered_by_response packet whole asked secret is)

@@ -14,11 +14,11 @@ use Rattle.scenario_text.specs.declared.capture.CaptureItem.TheVariants as item
 use Rattle.scenario_text.specs.declared.capture.CapturePhase.{CapturePhase}
 use Rattle.scenario_text.proofs.Judging.{Begins}
 
-found-some : {A : Type 0} (found : Option A) (f : LineFault) (a : A) → ok_or found f ≡ Ok a → found ≡ Some a
+pub found-some : {A : Type 0} (found : Option A) (f : LineFault) (a : A) → ok_or found f ≡ Ok a → found ≡ Some a
 found-some None f a e = absurd cc
 found-some (Some b) f a e = cc
 
-found-none : {A : Type 0} (found : Option A) (f e : LineFault) → ok_or found f ≡ Err e → (found ≡ None) × (e ≡ f)
+pub found-none : {A : Type 0} (found : Option A) (f e : LineFault) → ok_or found f ≡ Err e → (found ≡ None) × (e ≡ f)
 found-none None f e h = (refl, cc)
 found-none (Some b) f e h = absurd cc
 
@@ -46,7 +46,7 @@ bad_word line f e =
     ]
 
 -- the first of nine faults, of which the words have six and the place three
-join : (bc c bch bn bh bs again before stands : Bool) →
+pub join : (bc c bch bn bh bs again before stands : Bool) →
     cond (bc || c) (Some fault.BadCount) (cond (bch || false) (Some fault.BadChoice) (cond (bn || false) (Some fault.BadNumber) (cond (bh || false) (Some fault.BadHex) (cond (bs || false) (Some fault.BadSize)
     (cond (again || before) (Some fault.Repeated) (cond (not stands) (Some fault.Order) None))))))
     ≡ cond c (Some fault.BadCount) (option_or (cond bc (Some fault.BadCount) (cond bch (Some fault.BadChoice) (cond bn (Some fault.BadNumber) (cond bh (Some fault.BadHex) (cond bs (Some fault.BadSize) (cond again (Some fault.Repeated) None))))))
@@ -63,7 +63,7 @@ join false false false false false false false true stands = refl
 join false false false false false false false false true = refl
 join false false false false false false false false false = refl
 
-unless-or : {A B : Type 0} (x y : Option LineFault) (told : B) (value : A) (f : B → Result A LineFault) →
+pub unless-or : {A B : Type 0} (x y : Option LineFault) (told : B) (value : A) (f : B → Result A LineFault) →
     f told ≡ unless y value → unless (option_or x y) value ≡ (unless x told >>= f)
 unless-or None y told value f e = sym e
 unless-or (Some g) y told value f e = refl

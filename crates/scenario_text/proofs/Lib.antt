@@ -17,6 +17,8 @@ pub mod Fitting
 pub mod Judging
 -- Lines, and a whole scenario, read by the definitions alone.
 mod Samples
+-- The first fault of a line of a text of RADIUS packets, step by step.
+pub mod RadiusFaults
 -- Settings that come one after another, the values that their lines give, and the users among them.
 pub mod Settling
 -- What a line can say at each place of a scenario; lines that are read in order are those of a scenario.

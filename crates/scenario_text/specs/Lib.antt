@@ -9,6 +9,7 @@ pub mod Keys
 pub mod Keywords
 pub mod Laws
 pub mod Packets
+pub mod Radius
 pub mod Reading
 pub mod Rows
 pub mod Valid

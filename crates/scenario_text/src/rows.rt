@@ -50,6 +50,8 @@ pub enum Choices {
     Timer,
     /// `allowed` or `barred`.
     Access,
+    /// `accept`, `reject` or `challenge`.
+    Reply,
 }
 
 /// A row of a text's table.
@@ -205,7 +207,14 @@ fn is_choice(choices: Choices, word: &[u8]) -> bool
         Choices::Port => is_port(word),
         Choices::Timer => word == b"server".as_slice() || word == b"pass".as_slice(),
         Choices::Access => word == b"allowed".as_slice() || word == b"barred".as_slice(),
+        Choices::Reply => is_reply(word),
     }
+}
+
+fn is_reply(word: &[u8]) -> bool
+    ensures { result ≡ is_choice Choices.Reply word.now }
+{
+    word == b"accept".as_slice() || word == b"reject".as_slice() || word == b"challenge".as_slice()
 }
 
 fn is_port(word: &[u8]) -> bool

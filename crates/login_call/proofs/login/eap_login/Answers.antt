@@ -1,38 +1,15 @@
-use Rattle.std.proofs.Common.{true, false}
+use Rattle.login_call.proofs.Completing.{completes}
 use Rattle.login_call.proofs.Headline.{headline}
-use Rattle.login_call.proofs.NeverBoth.{replay_writes, decode_writes, keys_writes, check_writes}
+use Rattle.login_call.proofs.SmoothTraces as traces
 use Rattle.login_call.proofs.login.eap_login.Goals as goal
 
-pub returns-then-are_alone-clause-never_both : goal.returns-then-are_alone-clause-never_both
-returns-then-are_alone-clause-never_both g c octets h = replay_writes c.replay.result _ _ false octets (c.replay.ensures.ends octets h)
+pub returns-clause-honest_ends_agree : goal.returns-clause-honest_ends_agree
+returns-clause-honest_ends_agree g c octets = headline octets
 
-pub returns-then-are_two-clause-never_both : goal.returns-then-are_two-clause-never_both
-returns-then-are_two-clause-never_both g c octets h =
-    replay_writes c.replay-then-are_two.result _ _ true octets (c.replay-then-are_two.ensures.ends octets h)
+pub returns-clause-smooth_traces_agree : goal.returns-clause-smooth_traces_agree
+returns-clause-smooth_traces_agree g c = traces.smooth_traces_agree
 
-pub returns-then-are_alone-2-clause-never_both : goal.returns-then-are_alone-2-clause-never_both
-returns-then-are_alone-2-clause-never_both g c octets h = decode_writes c.decode.result _ _ octets (c.decode.ensures.ends octets h)
-
-pub returns-then-are_alone-3-clause-never_both : goal.returns-then-are_alone-3-clause-never_both
-returns-then-are_alone-3-clause-never_both g c octets h = keys_writes c.keys.result _ _ octets (c.keys.ensures.ends octets h)
-
-pub returns-then-are_alone-4-clause-never_both : goal.returns-then-are_alone-4-clause-never_both
-returns-then-are_alone-4-clause-never_both g c octets h = check_writes c.check.result _ _ octets (c.check.ensures.ends octets h)
-
-pub returns-then-are_alone-clause-honest_ends_agree : goal.returns-then-are_alone-clause-honest_ends_agree
-returns-then-are_alone-clause-honest_ends_agree g c octets = headline octets
-
-pub returns-then-are_two-clause-honest_ends_agree : goal.returns-then-are_two-clause-honest_ends_agree
-returns-then-are_two-clause-honest_ends_agree g c octets = headline octets
-
-pub returns-then-are_alone-2-clause-honest_ends_agree : goal.returns-then-are_alone-2-clause-honest_ends_agree
-returns-then-are_alone-2-clause-honest_ends_agree g c octets = headline octets
-
-pub returns-then-are_alone-3-clause-honest_ends_agree : goal.returns-then-are_alone-3-clause-honest_ends_agree
-returns-then-are_alone-3-clause-honest_ends_agree g c octets = headline octets
-
-pub returns-then-are_alone-4-clause-honest_ends_agree : goal.returns-then-are_alone-4-clause-honest_ends_agree
-returns-then-are_alone-4-clause-honest_ends_agree g c octets = headline octets
-
-pub returns-else-are_alone-4-clause-honest_ends_agree : goal.returns-else-are_alone-4-clause-honest_ends_agree
-returns-else-are_alone-4-clause-honest_ends_agree g c octets = headline octets
+pub returns-clause-complete : goal.returns-clause-complete
+returns-clause-complete g c octets h =
+    completes c.respond.result _ _ _ octets (c.respond.ensures.ends octets h) c.respond.ensures.read_fault c.respond.ensures.write_fault
+    c.respond.ensures.memory (λ m r. c.respond.ensures.setup m r octets h)
