@@ -2,13 +2,13 @@
 use Rattle.std.proofs.Common.{◌≡◌, ℕ, zero, suc, ◌+◌, ◌*◌, ◌≤◌, List, [], ◌∷◌, ◌++◌, length, take, drop, replicate, Bool, true, false, cond, ◌==◌}
 use Rattle.std.proofs.Common.{IsTrue, refl, ap, ◌∙◌, sym, arith, append_assoc, length-append}
 use Rattle.std.proofs.lemmas.List.{append-nil, length-take, length-drop, take-append-drop}
-use Rattle.hmac_mac.specs.Hmac.{block_key, hmac_sha256}
+use Rattle.hmac_mac.specs.Hmac.{hmac}
 use Rattle.md5.specs.Md5.{md5}
 use Rattle.md5.proofs.StandardFacts.{length-md5}
 use Rattle.radius_carry.specs.Packet.{Attribute, RadiusPacket, IsRadius, count, eap_of, is_code, joined, octets_of, spelled, tag_of}
-use Rattle.radius_carry.specs.Tags.{asked_text, blank_text, blanked, hmac, hmac_md5}
+use Rattle.radius_carry.specs.Tags.{asked_text, blank_text, blanked, hmac_md5}
 use Rattle.radius_carry.specs.Written.{carried, field, pieces, pieces_in, sealed, tagged}
-use Rattle.radius_carry.specs.Laws.{AreFields, RequestsAreReadBack, RequestsAreGood, RepliesAreReadBack, RepliesAreGood, HmacIsOne}
+use Rattle.radius_carry.specs.Laws.{AreFields, RequestsAreReadBack, RequestsAreGood, RepliesAreReadBack, RepliesAreGood}
 use Rattle.radius_carry.proofs.Grammar.{spellings_are_read}
 use Rattle.radius_carry.proofs.Pieced.{octets_of-append, pieces_more}
 use Rattle.radius_carry.proofs.Places.{has_none}
@@ -279,7 +279,3 @@ replies_are_good secret asked state eap code id reply fields =
           ∙ sym (ap (λ (l : List Attribute). hmac_md5 secret (spelled (record blank { attributes = l }))) of.blank);
       authenticator = refl;
     }
-
-pub hmac_is_one : HmacIsOne
-unfolding hmac block_key hmac_sha256
-hmac_is_one key text = refl

@@ -1,11 +1,11 @@
 -- Worked values of the definitions. The packets and their tags were computed with the modules hmac and
 -- hashlib of Python, the tags of short texts stand in RFC 2202 section 2.
 use Rattle.std.proofs.Common.{◌≡◌, ℕ, List, [], ◌∷◌, ◌++◌, codes, Some, None, replicate, refl}
-use Rattle.hmac_mac.specs.Hmac.{filled, padded}
+use Rattle.hmac_mac.specs.Hmac.{block_key_of, filled, hmac, padded}
 use Rattle.md5.specs.Md5.{block_words, compress, digest_bytes, hash_after, md5, rounds}
 use Rattle.radius_carry.specs.Packet.{octets_of, spelled, count, joined, eap_of}
 use Rattle.radius_carry.specs.Fault.{attributes_in, attributes_of, left_in, left_of, fault}
-use Rattle.radius_carry.specs.Tags.{asked_text, hmac, hmac_md5}
+use Rattle.radius_carry.specs.Tags.{asked_text, hmac_md5}
 use Rattle.radius_carry.specs.Written.{pieces, pieces_in, tagged, sealed, request_of, reply_of}
 use Rattle.radius_carry.specs.declared.cause.RadiusCause.TheVariants.{RadiusShort, RadiusCode, RadiusLength, RadiusTruncated}
 use Rattle.radius_carry.specs.declared.cause.RadiusCause.TheVariants.{RadiusAttribute, NoEap, NoAuthenticator}
@@ -92,12 +92,12 @@ nothing_wrong = refl
 -- HMAC-MD5 of RFC 2202: a key that is shorter than a block, and one that is longer
 short_key : hmac_md5 (codes "Jefe") (codes "what do ya want for nothing?") ≡
     117 ∷ 12 ∷ 120 ∷ 62 ∷ 106 ∷ 176 ∷ 181 ∷ 3 ∷ 234 ∷ 168 ∷ 110 ∷ 49 ∷ 10 ∷ 93 ∷ 183 ∷ 56 ∷ []
-unfolding block_words rounds compress hash_after digest_bytes md5 filled padded hmac
+unfolding block_words rounds compress hash_after digest_bytes md5 block_key_of filled padded hmac
 short_key = refl
 
 long_key : hmac_md5 (replicate 80 0xaa) (codes "Test Using Larger Than Block-Size Key - Hash Key First") ≡
     107 ∷ 26 ∷ 183 ∷ 254 ∷ 75 ∷ 215 ∷ 191 ∷ 143 ∷ 11 ∷ 98 ∷ 230 ∷ 206 ∷ 97 ∷ 185 ∷ 208 ∷ 205 ∷ []
-unfolding block_words rounds compress hash_after digest_bytes md5 filled padded hmac
+unfolding block_words rounds compress hash_after digest_bytes md5 block_key_of filled padded hmac
 long_key = refl
 
 -- a request, and a reply to it
@@ -105,11 +105,11 @@ a_request : spelled (request_of (codes "xyzzy5461") 7 (replicate 16 34) (codes "
     1 ∷ 7 ∷ 0 ∷ 57 ∷ 34 ∷ 34 ∷ 34 ∷ 34 ∷ 34 ∷ 34 ∷ 34 ∷ 34 ∷ 34 ∷ 34 ∷ 34 ∷ 34 ∷ 34 ∷ 34 ∷ 34 ∷ 34 ∷ 1 ∷ 7 ∷ 97 ∷ 108 ∷
     105 ∷ 99 ∷ 101 ∷ 79 ∷ 12 ∷ 2 ∷ 0 ∷ 0 ∷ 10 ∷ 1 ∷ 97 ∷ 108 ∷ 105 ∷ 99 ∷ 101 ∷ 80 ∷ 18 ∷ 219 ∷ 205 ∷ 42 ∷ 183 ∷ 69 ∷ 101 ∷ 43 ∷
     116 ∷ 6 ∷ 62 ∷ 131 ∷ 75 ∷ 117 ∷ 86 ∷ 25 ∷ 30 ∷ []
-unfolding spelled octets_of sealed tagged pieces pieces_in block_words rounds compress hash_after digest_bytes md5 filled padded hmac
+unfolding spelled octets_of sealed tagged pieces pieces_in block_words rounds compress hash_after digest_bytes md5 block_key_of filled padded hmac
 a_request = refl
 
 a_reply : spelled (reply_of (codes "xyzzy5461") 3 7 (replicate 16 34) (1 ∷ []) (4 ∷ 0 ∷ 0 ∷ 4 ∷ [])) ≡
     3 ∷ 7 ∷ 0 ∷ 47 ∷ 62 ∷ 212 ∷ 223 ∷ 119 ∷ 132 ∷ 197 ∷ 46 ∷ 41 ∷ 86 ∷ 111 ∷ 209 ∷ 16 ∷ 78 ∷ 5 ∷ 241 ∷ 118 ∷ 24 ∷ 3 ∷ 1 ∷ 79 ∷
     6 ∷ 4 ∷ 0 ∷ 0 ∷ 4 ∷ 80 ∷ 18 ∷ 218 ∷ 94 ∷ 211 ∷ 131 ∷ 17 ∷ 187 ∷ 146 ∷ 86 ∷ 41 ∷ 37 ∷ 225 ∷ 22 ∷ 32 ∷ 110 ∷ 1 ∷ 165 ∷ []
-unfolding spelled octets_of sealed tagged pieces pieces_in asked_text block_words rounds compress hash_after digest_bytes md5 filled padded hmac
+unfolding spelled octets_of sealed tagged pieces pieces_in asked_text block_words rounds compress hash_after digest_bytes md5 block_key_of filled padded hmac
 a_reply = refl

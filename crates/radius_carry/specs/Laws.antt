@@ -1,11 +1,9 @@
 -- Laws of RADIUS packets that carry EAP, over the definitions alone.
 use Rattle.std.specs.Prelude.{◌≡◌, ◌↔◌, ℕ, ◌≤◌, List, [], ◌++◌, length, IsTrue, ◌≢◌, None, Ok}
 use Rattle.eap_packet.specs.Packet.{IsOctets}
-use Rattle.hmac_mac.specs.Hmac.{hmac_sha256}
-use Rattle.sha2.specs.Sha256.{sha256}
 use Rattle.radius_carry.specs.Packet.{RadiusPacket, spelled, IsRadius, eap_of, is_code}
 use Rattle.radius_carry.specs.Fault.{fault, packet_of}
-use Rattle.radius_carry.specs.Tags.{hmac, IsGoodRequest, IsGoodReply}
+use Rattle.radius_carry.specs.Tags.{IsGoodRequest, IsGoodReply}
 use Rattle.radius_carry.specs.Written.{request_of, reply_of}
 
 -- the octets are the packet's spelling with some octets behind it
@@ -74,7 +72,3 @@ abbrev pub RepliesAreGood : Type 0
 RepliesAreGood =
     (secret asked state eap : List ℕ) (code id : ℕ) → IsReply code → AreFields asked [] state eap →
     IsGoodReply secret asked (reply_of secret code id asked state eap)
-
--- with SHA-256 in the hash's place this HMAC is the one of EAP's methods
-abbrev pub HmacIsOne : Type 0
-HmacIsOne = (key text : List ℕ) → hmac sha256 key text ≡ hmac_sha256 key text

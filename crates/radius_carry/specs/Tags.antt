@@ -1,17 +1,12 @@
 -- What a RADIUS packet that carries EAP proves of its sender: the Message-Authenticator (RFC 3579
 -- section 3.2) and the Response Authenticator (RFC 2865 section 3).
-use Rattle.std.specs.Prelude.{◌≡◌, ◌≢◌, ℕ, List, [], ◌∷◌, ◌++◌, length, replicate, Bool, ◌==◌, ◌&&◌, not, nat_le, if◌then◌else◌}
+use Rattle.std.specs.Prelude.{◌≡◌, ◌≢◌, ℕ, List, [], ◌∷◌, ◌++◌, length, replicate, Bool, ◌==◌, ◌&&◌, not, if◌then◌else◌}
 use Rattle.std.specs.Str.{bytes_eq}
-use Rattle.hmac_mac.specs.Hmac.{block_len, filled, padded, inner_pad, outer_pad}
+use Rattle.hmac_mac.specs.Hmac.{hmac}
 use Rattle.md5.specs.Md5.{md5}
 use Rattle.radius_carry.specs.Packet.{Attribute, RadiusPacket, spelled, tag_of}
 
--- HMAC (RFC 2104 section 2) with a hash of blocks of 64 octets
-unfoldable pub hmac : (List ℕ → List ℕ) → List ℕ → List ℕ → List ℕ
-hmac hash key text =
-    let block = filled (if nat_le (length key) block_len then key else hash key) in
-    hash (padded block outer_pad ++ hash (padded block inner_pad ++ text))
-
+-- HMAC (RFC 2104 section 2) with MD5
 abbrev pub hmac_md5 : List ℕ → List ℕ → List ℕ
 hmac_md5 key text = hmac md5 key text
 

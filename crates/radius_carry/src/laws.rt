@@ -1,7 +1,7 @@
 //! Laws of RADIUS packets that carry EAP. Each is the contract of a function that does nothing.
 
 ghost use Rattle.radius_carry.specs.Laws.{SpellingsAreRead, SpellingsAreApart, ReadsTheSpelling, FaultlessIsSpelled, RequestsAreReadBack};
-ghost use Rattle.radius_carry.specs.Laws.{RequestsAreGood, RepliesAreReadBack, RepliesAreGood, HmacIsOne};
+ghost use Rattle.radius_carry.specs.Laws.{RequestsAreGood, RepliesAreReadBack, RepliesAreGood};
 
 /// A packet's spelling, with any octets behind it, is read as that packet (RFC 2865 section 3).
 #[tactic(auto, using(crate::proofs::Grammar::spellings_are_read))]
@@ -50,10 +50,4 @@ pub fn replies_are_read_back()
 #[tactic(auto, using(crate::proofs::Sent::replies_are_good))]
 pub fn replies_are_good()
     ensures { RepliesAreGood }
-{}
-
-/// HMAC-MD5 is HMAC-SHA256 with the other hash in its place (RFC 2104 section 2).
-#[tactic(auto, using(crate::proofs::Sent::hmac_is_one))]
-pub fn hmac_is_one()
-    ensures { HmacIsOne }
 {}

@@ -13,7 +13,7 @@ mod writing;
 
 pub use cause::RadiusCause;
 pub use laws::{
-    faultless_is_spelled, hmac_is_one, reads_the_spelling, replies_are_good, replies_are_read_back,
+    faultless_is_spelled, reads_the_spelling, replies_are_good, replies_are_read_back,
     requests_are_good, requests_are_read_back, spellings_are_apart, spellings_are_read,
 };
 pub use reading::{eap_of, read_radius};

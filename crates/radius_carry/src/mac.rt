@@ -61,7 +61,7 @@ impl Mac {
     }
 
     /// The 16 octets of HMAC-MD5 over all pieces joined.
-    #[tactic(auto, unfolding(crate::specs::Holds::Holds, crate::specs::Tags::hmac))]
+    #[tactic(auto, unfolding(crate::specs::Holds::Holds, hmac_mac::specs::Hmac::hmac, hmac_mac::specs::Hmac::block_key_of))]
     pub fn finish(self) -> [u8; 16]
         ensures { (secret text : List ℕ) → Holds self secret text → result ≡ hmac_md5 secret text }
     {
