@@ -346,7 +346,7 @@ impl PcapReader {
         count as u32
     }
 
-    /// What was kept of the frame that was read last: its first octets, at most 4,096.
+    /// Where the last answer was `Record`, what was kept of its frame: the first octets, at most 4,096.
     pub fn frame(&self) -> &[u8]
         ensures same { result.now ≡ self.now.frame }
         ensures fits { length result.now ≤ max_kept }
