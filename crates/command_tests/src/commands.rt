@@ -324,7 +324,8 @@ fn tells_the_usage(alloc: Global, words: &str) -> io::Result<bool> {
     let source = MemSource::new(alloc, b"", 100, &[1])?;
     let sink = MemSink::new(alloc, 2000, 100, &[])?;
     let (status, sink) = answered(alloc, words, source, sink)?;
-    let usage = "usage: eap_login replay | replay names | decode | keys | check | bulk N K\n";
+    let usage =
+        "usage: eap_login replay | replay names | decode | keys | check | bulk N K | radius\n";
     Ok(status == Status::Usage && sink.written() == usage.as_bytes())
 }
 

@@ -1,6 +1,5 @@
 -- No line of `radius` begins as the line of honest tags does.
-use Rattle.std.proofs.Common.{◌≡◌, ℕ, ◌+◌, List, [], ◌∷◌, ◌++◌, Bool, true, false, Option, Some, None, Result, Ok, Err, refl, subst, codes, decimal, ◌==◌}
-use Rattle.std.specs.Prelude.{if◌then◌else◌}
+use Rattle.std.proofs.Common.{◌≡◌, ℕ, ◌+◌, List, [], Bool, true, Option, Some, None, Result, Ok, Err, refl, subst, codes, decimal, ◌==◌}
 use Rattle.eap_base.specs.Lines.{Lines, ended, too_long, too_much, line, lines}
 use Rattle.radius_carry.specs.Packet.{RadiusPacket, eap_of}
 use Rattle.radius_carry.specs.Fault.{packet_of}
@@ -17,9 +16,9 @@ use Rattle.trace_text.specs.Pieces.{hex_text}
 use Rattle.trace_text.proofs.Plain.{is_within, plain, join, through, decimal_within}
 use Rattle.trace_text.proofs.PlainTexts.{either_within, hex_within}
 use Rattle.login_call.specs.Answers.{Answer, after_text, IsRefusal}
-use Rattle.login_call.specs.Commands.{Took, Closing, Ruling, goes, refuses, Closed, ends, misses, after_ruling, closing_answer, answer}
-use Rattle.login_call.specs.Radius.{hex_line, word_line, packet_line, read_text, kind_word, judgement_word, judged, reply_took, read_took, item_took, with_phase}
-use Rattle.login_call.specs.Radius.{line_took, radius_took, radius_end, radius_closing, nothing_asked, radius_answer}
+use Rattle.login_call.specs.Commands.{Took, Ruling, goes, refuses, Closed, ends, misses, after_ruling, closing_answer, answer}
+use Rattle.login_call.specs.Radius.{hex_line, word_line, packet_line, read_text, kind_word, judgement_word, judged}
+use Rattle.login_call.specs.Radius.{reply_took, read_took, item_took, with_phase, line_took, radius_took, radius_end, radius_closing, nothing_asked, radius_answer}
 use Rattle.login_call.specs.declared.radius.Asked.{Asked}
 use Rattle.login_call.specs.declared.radius.Judgement.{Judgement}
 use Rattle.login_call.specs.declared.radius.Judgement.TheVariants as judgement

@@ -7,7 +7,8 @@ use std::alloc::Global;
 use std::io;
 use std::test::Fail;
 
-const USAGE: &str = "usage: eap_login replay | replay names | decode | keys | check | bulk N K\n";
+const USAGE: &str =
+    "usage: eap_login replay | replay names | decode | keys | check | bulk N K | radius\n";
 
 /// What a run comes to that is started with these arguments, which a space parts: the exit status, and the
 /// sink after it. The read of the number `failing` fails.

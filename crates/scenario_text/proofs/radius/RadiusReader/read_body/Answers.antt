@@ -9,9 +9,11 @@ returns-then-is_comment-clause-read c =
 
 pub returns-in-Err-clause-read : goal.returns-in-Err-clause-read
 returns-in-Err-clause-read c =
-    read_body-bad c.args.self.now.phase c.args.line.now c.in-Err.fault (sym c.is_comment.ensures ∙ c.if-is_comment.false) (sym c.read_radius_word.ensures ∙ c.in-Err.is)
+    read_body-bad c.args.self.now.phase c.args.line.now c.in-Err.fault (sym c.is_comment.ensures ∙ c.if-is_comment.false)
+    (sym c.read_radius_word.ensures ∙ c.in-Err.is)
 
 pub returns-in-Ok-clause-read : goal.returns-in-Ok-clause-read
 returns-in-Ok-clause-read c =
-    read_body-words c.args.self.now.phase c.args.line.now c.in-Ok.word (sym c.is_comment.ensures ∙ c.if-is_comment.false) (sym c.read_radius_word.ensures ∙ c.in-Ok.is)
+    read_body-words c.args.self.now.phase c.args.line.now c.in-Ok.word (sym c.is_comment.ensures ∙ c.if-is_comment.false)
+    (sym c.read_radius_word.ensures ∙ c.in-Ok.is)
     ∙ c.read_words.ensures.read
