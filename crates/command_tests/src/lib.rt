@@ -11,3 +11,5 @@ mod conversations;
 mod faults;
 #[cfg(test)]
 mod limits;
+#[cfg(test)]
+mod radius;

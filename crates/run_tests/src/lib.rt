@@ -8,8 +8,6 @@ mod hostile;
 #[cfg(test)]
 mod logins;
 #[cfg(test)]
-mod radius;
-#[cfg(test)]
 mod reflections;
 #[cfg(test)]
 mod runs;
