@@ -95,7 +95,8 @@ bulk 1 5 5
 bulk 1
 bulk";
 
-const USAGE: &str = "usage: eap_login replay | replay names | decode | keys | check | bulk N K\n";
+const USAGE: &str =
+    "usage: eap_login replay | replay names | decode | keys | check | bulk N K | radius\n";
 
 /// True where these words have the usage line and its status. The source would fail at its first read.
 fn tells_the_usage(alloc: Global, words: &str) -> io::Result<bool> {
