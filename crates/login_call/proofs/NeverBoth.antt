@@ -373,6 +373,3 @@ module _ (s : Status) (before now : Option (List ℕ)) where
 
   pub unread_writes : (words : List (List ℕ)) → Ends s before now (unread_answer (bulk_of words)) → WritesNeverBoth s before now
   unread_writes words = unread_writes_by (bulk_of words)
-
-  pub usage_writes : Ends s before now usage_answer → WritesNeverBoth s before now
-  usage_writes = written usage_answer s before now never_usage
