@@ -18,7 +18,8 @@ use Rattle.trace_text.proofs.PlainTexts.{either_within, hex_within}
 use Rattle.login_call.specs.Answers.{Answer, after_text, IsRefusal}
 use Rattle.login_call.specs.Commands.{Took, Ruling, goes, refuses, Closed, ends, misses, after_ruling, closing_answer, answer}
 use Rattle.login_call.specs.Radius.{hex_line, word_line, packet_line, read_text, kind_word, judgement_word, judged}
-use Rattle.login_call.specs.Radius.{reply_took, read_took, item_took, with_phase, line_took, radius_took, radius_end, radius_closing, nothing_asked, radius_answer}
+use Rattle.login_call.specs.Radius.{reply_took, read_took, item_took, with_phase, line_took}
+use Rattle.login_call.specs.Radius.{radius_took, radius_end, radius_closing, nothing_asked, radius_answer}
 use Rattle.login_call.specs.declared.radius.Asked.{Asked}
 use Rattle.login_call.specs.declared.radius.Judgement.{Judgement}
 use Rattle.login_call.specs.declared.radius.Judgement.TheVariants as judgement
