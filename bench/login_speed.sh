@@ -203,3 +203,11 @@ printf '%-24s %14s %8s %10s\n' replayed instructions 'time, s' 'memory, KB'
 for name in nothing login psk thousand ten_thousand; do
     printf '%-24s %14s %s\n' "$name" "$(instructions "$program" replay <"$work/$name")" "$(run "$work/$name")"
 done
+
+# Of one conversation: the difference of two runs.
+printf '%-24s %14s\n' 'a conversation' instructions
+for number in 1 0; do
+    few=$(instructions "$program" bulk "$number" 10 </dev/null)
+    many=$(instructions "$program" bulk "$number" 1000 </dev/null)
+    printf '%-24s %14s\n' "bulk $number" $(((many - few) / 990))
+done

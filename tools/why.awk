@@ -7,7 +7,7 @@ file == 1 && /^##/ { section = $0 }
 file == 1 && /^\| / {
     split($0, cell, / *\| */)
     if (section ~ /Faults/) meaning[cell[2]] = cell[3]
-    if (command == "replay" && section ~ /Settings|Events/ || command ~ /keys|check/ && section ~ "`" command "`") {
+    if (command == "replay" && section ~ /Settings|Events/ || command ~ /keys|check|radius/ && section ~ "`" command "`") {
         count = split(cell[2], form, "`")
         for (at = 2; at <= count; at += 2) {
             keyword = form[at]
@@ -36,10 +36,13 @@ BEGIN {
     number = word[3] + 0
     fault = word[4]
     meaning["TooMuch"] = "a line has over 4,096 octets, the input over 16,777,216, or there are over 10,000 events"
+    header = command == "check" ? "eap-capture 1" : command == "radius" ? "eap-radius 1" : "eap-scenario 1"
+    # the line that parts a text in two
+    opens = command == "check" ? "packets" : command == "radius" ? "secret" : "events"
 }
 
 function missing(    at, list, count, told) {
-    if (line[number] !~ /^events/ || number > lines) return ("events" in has) ? "`end`" : "`events` and `end`"
+    if (command != "replay" || line[number] !~ /^events/ || number > lines) return (opens in has) ? "`end`" : "`" opens "` and `end`"
     for (at = 1; at <= wanted; at++)
         if (needed[at] != "peer-psk" && !(needed[at] in has)) told = told (told == "" ? "" : ", ") "`" needed[at] "`"
     count = split(methods, list, " ")
@@ -53,7 +56,7 @@ END {
     print fault ": " meaning[fault]
     split(line[number], word, " ")
     if (fault == "Missing") print "missing: " missing()
-    else if (fault == "NoHeader") print "allowed here: eap-scenario 1"
+    else if (fault == "NoHeader") print "allowed here: " header
     else if (fault == "BadWord" && command != "decode" && !(word[1] in allowed)) {
         told = ""
         for (keyword in allowed) told = told " " keyword
@@ -66,5 +69,5 @@ END {
     } else if (command == "decode") print "allowed here: one packet in hex, of 0 to 2,000 octets, `-` for none"
     else if (word[1] in allowed) print "allowed here: " allowed[word[1]]
     if (fault == "Repeated" && (word[1] in has)) print "it stands in line " has[word[1]] " too, or a method or a suite stands twice in this line"
-    if (fault == "Order") print (("events" in has) ? "`events` stands in line " has["events"] (("end" in has) ? ", `end` in line " has["end"] : "") : "no line `events` comes before it")
+    if (fault == "Order") print ((opens in has) ? "`" opens "` stands in line " has[opens] (("end" in has) ? ", `end` in line " has["end"] : "") : "no line `" opens "` comes before it")
 }
