@@ -3,6 +3,7 @@
 set -eu
 
 here=$(cd "$(dirname "$0")/.." && pwd)
+at_once=$(getconf _NPROCESSORS_ONLN)
 work=$(mktemp -d)
 trap 'rm -rf "$work"' EXIT
 cd "$here/crates/eap_login"
@@ -17,36 +18,44 @@ run() {
     input=$1 number=$2
     shift 2
     [ "$number" = 0 ] && flags= || flags="--fail-alloc $number"
-    status=0
+    ended=0
     # shellcheck disable=SC2086
-    rt try $flags -- "$@" <"$input" >"$work/out" 2>"$work/said" || status=$?
-    grep -q '^checked: ended' "$work/said" || { cat "$work/said" >&2; fail "the program could not be tried"; }
+    rt try $flags -- "$@" <"$input" >"$work/$number.out" 2>"$work/$number.said" || ended=$?
+    grep -q '^checked: ended' "$work/$number.said" || ended=none
+    echo "$ended" >"$work/$number.status"
+}
+
+# What came of the run of a number.
+judge() {
+    number=$1 status=$(cat "$work/$1.status")
+    case $status in
+    0)
+        cmp -s "$work/0.out" "$work/$number.out" || fail "$words: allocation $number fails, status 0, another text"
+        unmet=$((unmet + 1))
+        ;;
+    5)
+        [ "$unmet" = 0 ] || fail "$words: allocation $number fails and is told, and one before it wasn't"
+        head -c "$(wc -c <"$work/$number.out")" "$work/0.out" | cmp -s - "$work/$number.out" || fail "$words: allocation $number fails, and no front of the text was written"
+        lacking=$((lacking + 1))
+        ;;
+    *) fail "$words: allocation $number fails, and the status is $status: $(tail -n 3 "$work/$number.said")" ;;
+    esac
 }
 
 # All allocations have been met where three numbers in a row change nothing.
 each() {
-    input=$1 unmet=0 number=0 lacking=0
+    input=$1 unmet=0 last=0 lacking=0
     shift
+    words=$*
     run "$input" 0 "$@"
-    [ "$status" = 0 ] || fail "$*: status $status with all memory"
-    mv "$work/out" "$work/whole"
+    [ "$(cat "$work/0.status")" = 0 ] || fail "$words: status $(cat "$work/0.status") with all memory"
     while [ "$unmet" -lt 3 ]; do
-        number=$((number + 1))
-        run "$input" "$number" "$@"
-        case $status in
-        0)
-            cmp -s "$work/whole" "$work/out" || fail "$*: allocation $number fails, status 0, another text"
-            unmet=$((unmet + 1))
-            ;;
-        5)
-            [ "$unmet" = 0 ] || fail "$*: allocation $number fails and is told, and one before it wasn't"
-            head -c "$(wc -c <"$work/out")" "$work/whole" | cmp -s - "$work/out" || fail "$*: allocation $number fails, and no front of the text was written"
-            lacking=$((lacking + 1))
-            ;;
-        *) fail "$*: allocation $number fails, and the status is $status" ;;
-        esac
+        first=$((last + 1)) last=$((last + at_once))
+        for number in $(seq "$first" "$last"); do run "$input" "$number" "$@" & done
+        wait
+        for number in $(seq "$first" "$last"); do judge "$number"; done
     done
-    echo "$*: each of $lacking allocations fails: status 5, and a front of the text"
+    echo "$words: each of $lacking allocations fails: status 5, and a front of the text"
 }
 
 each "$here/examples/through.scenario" replay
