@@ -68,8 +68,8 @@ pub fn eap_login<P: PeerMethod, M: ServerMethod, S: Source, W: Sink>(
     ensures honest_ends_agree { (octets : List ℕ) → HonestEndsAgree octets }
 
     // Where the input is a scenario of two ends that fit, whose events deliver packet 1, packet 2 and on, each once
-    // and in order, at least as many as the login takes, the whole text ends with the lines `tags honest`, `result
-    // agree` and `end`, and the status is 0.
+    // and in order, at least as many as the login takes, the answer's status is 0, and its text ends with the lines
+    // `tags honest`, `result agree` and `end`.
     ensures smooth_traces_agree { SmoothTracesAgree }
 
     // On octets alone: no text written with status 0 has both the line `tags honest` and the line
