@@ -3,14 +3,14 @@ use Rattle.std.proofs.Common.{◌≡◌, ℕ, ◌+◌, List, [], ◌∷◌, Bool
 use Rattle.std.proofs.lemmas.List.Elements.{All-nil}
 use Rattle.eap_base.specs.Lines.{Lines, ended, too_long, too_much, line, lines}
 use Rattle.eap_base.specs.declared.users.User.{User}
-use Rattle.scenario_text.specs.Words.{is_printable}
-use Rattle.scenario_text.specs.Reading.{with_user}
-use Rattle.scenario_text.specs.Captures.{Capture, CaptureLine, read_line}
-use Rattle.scenario_text.specs.declared.fault.LineFault.{LineFault}
-use Rattle.scenario_text.specs.declared.capture.CapturePhase.{CapturePhase}
-use Rattle.scenario_text.specs.declared.capture.CapturePhase.TheVariants as phase
-use Rattle.scenario_text.proofs.CaptureSteps.{Follows, Header, Passed, NewUser, AllUsers, NewPacket, AllPackets, line_follows}
-use Rattle.scenario_text.proofs.CaptureUsers.{with_user-all}
+use Rattle.text_tables.specs.Words.{is_printable}
+use Rattle.text_tables.specs.Users.{with_user}
+use Rattle.request_text.specs.Captures.{Capture, CaptureLine, read_line}
+use Rattle.text_tables.specs.declared.fault.LineFault.{LineFault}
+use Rattle.request_text.specs.declared.capture.CapturePhase.{CapturePhase}
+use Rattle.request_text.specs.declared.capture.CapturePhase.TheVariants as phase
+use Rattle.request_text.proofs.CaptureSteps.{Follows, Header, Passed, NewUser, AllUsers, NewPacket, AllPackets, line_follows}
+use Rattle.text_tables.proofs.Adding.{with_user-all}
 use Rattle.capture_check.specs.Heard.{Captured}
 use Rattle.capture_check.specs.Finding.{finding_of}
 use Rattle.capture_check.specs.Kept.{kept_of}

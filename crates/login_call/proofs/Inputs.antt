@@ -6,12 +6,12 @@ use Rattle.eap_base.specs.Cutting.{pieces, last_of, whole_lines, last_line, is_p
 use Rattle.eap_base.specs.declared.event.Event.{Event}
 use Rattle.eap_base.specs.declared.setup.Setup.{Setup}
 use Rattle.eap_base.proofs.Cut.{lines_are_the_pieces, lines_end_at_a_limit, some_octet_is_past}
-use Rattle.scenario_text.specs.Fields.{◌>>=◌}
+use Rattle.text_tables.specs.Fields.{◌>>=◌}
 use Rattle.scenario_text.specs.Items.{Item}
 use Rattle.scenario_text.specs.Items as item
 use Rattle.scenario_text.specs.Reading.{Reading, ReadLine, no_settings, read_line, finish_of}
 use Rattle.scenario_text.specs.Whole.{Script, no_script, with_item, read_lines}
-use Rattle.scenario_text.specs.declared.fault.LineFault.{LineFault}
+use Rattle.text_tables.specs.declared.fault.LineFault.{LineFault}
 use Rattle.scenario_text.specs.declared.scenario.Phase.TheVariants as phase
 use Rattle.scenario_text.proofs.Telling.{scenarios_are_read, goes, both}
 use Rattle.login_call.specs.Replay.{max_events}

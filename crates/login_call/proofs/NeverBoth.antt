@@ -16,18 +16,18 @@ use Rattle.eap_world.specs.Judgement.{verdict_of}
 use Rattle.eap_world.proofs.HonestOfEither.{honest_of_either}
 use Rattle.eap_world.specs.World.{WorldOutcome, outcomes_after, pass_state, told_octets, world_made, world_start}
 use Rattle.scenario_text.specs.Reading.{Reading, ReadLine, read_line, finish_of}
-use Rattle.scenario_text.specs.Packets.{packet_line}
-use Rattle.scenario_text.specs.Keys.{key_line}
-use Rattle.scenario_text.specs.declared.key_line.KeyLine.{KeyLine}
-use Rattle.scenario_text.specs.declared.fault.LineFault.{LineFault}
+use Rattle.request_text.specs.Packets.{packet_line}
+use Rattle.request_text.specs.Keys.{key_line}
+use Rattle.request_text.specs.declared.key_line.KeyLine.{KeyLine}
+use Rattle.text_tables.specs.declared.fault.LineFault.{LineFault}
 use Rattle.eap_base.specs.declared.users.User.{User}
 use Rattle.capture_check.specs.Finding.{finding_of}
 use Rattle.capture_check.proofs.Names.{finding_names}
-use Rattle.scenario_text.specs.Words.{is_printable}
-use Rattle.scenario_text.specs.Captures.{Capture, CaptureLine}
-use Rattle.scenario_text.specs.Captures as captures
-use Rattle.scenario_text.specs.declared.capture.CaptureItem.{CaptureItem}
-use Rattle.scenario_text.specs.declared.capture.CaptureItem.TheVariants as capture_item
+use Rattle.text_tables.specs.Words.{is_printable}
+use Rattle.request_text.specs.Captures.{Capture, CaptureLine}
+use Rattle.request_text.specs.Captures as captures
+use Rattle.request_text.specs.declared.capture.CaptureItem.{CaptureItem}
+use Rattle.request_text.specs.declared.capture.CaptureItem.TheVariants as capture_item
 use Rattle.scenario_text.specs.Items.{Item}
 use Rattle.scenario_text.specs.Items as item
 use Rattle.trace_text.specs.Run.{begin_text, outcome_text, end_text}

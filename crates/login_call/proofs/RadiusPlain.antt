@@ -7,11 +7,11 @@ use Rattle.radius_carry.specs.Words.{cause_word}
 use Rattle.radius_carry.specs.declared.cause.RadiusCause.{RadiusCause}
 use Rattle.radius_carry.specs.declared.cause.RadiusCause.TheVariants.{RadiusShort, RadiusCode, RadiusLength, RadiusTruncated}
 use Rattle.radius_carry.specs.declared.cause.RadiusCause.TheVariants.{RadiusAttribute, NoEap, EapTooLong, NoAuthenticator}
-use Rattle.scenario_text.specs.Radius.{RadiusLine, read_line, finish_of}
-use Rattle.scenario_text.specs.declared.fault.LineFault.{LineFault}
-use Rattle.scenario_text.specs.declared.radius_line.ReplyKind.{ReplyKind}
-use Rattle.scenario_text.specs.declared.radius_line.RadiusItem.{RadiusItem}
-use Rattle.scenario_text.specs.declared.radius_line.RadiusItem.TheVariants as item
+use Rattle.request_text.specs.Radius.{RadiusLine, read_line, finish_of}
+use Rattle.text_tables.specs.declared.fault.LineFault.{LineFault}
+use Rattle.request_text.specs.declared.radius_line.ReplyKind.{ReplyKind}
+use Rattle.request_text.specs.declared.radius_line.RadiusItem.{RadiusItem}
+use Rattle.request_text.specs.declared.radius_line.RadiusItem.TheVariants as item
 use Rattle.trace_text.specs.Pieces.{hex_text}
 use Rattle.trace_text.proofs.Plain.{is_within, plain, join, through, decimal_within}
 use Rattle.trace_text.proofs.PlainTexts.{either_within, hex_within}

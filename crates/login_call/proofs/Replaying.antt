@@ -6,7 +6,7 @@ use Rattle.eap_base.specs.declared.event.Event.{Event}
 use Rattle.eap_world.specs.World.{WorldNow, world_made, world_start, world_step, run_after, outcomes_after}
 use Rattle.login_call.proofs.Runs.{world_step_events}
 use Rattle.scenario_text.specs.Reading.{Reading, ReadLine, said, with_setting, no_settings, read_line, finish_of}
-use Rattle.scenario_text.specs.declared.fault.LineFault.{LineFault}
+use Rattle.text_tables.specs.declared.fault.LineFault.{LineFault}
 use Rattle.scenario_text.specs.Items as item
 use Rattle.scenario_text.specs.declared.scenario.Phase.{Phase}
 use Rattle.scenario_text.specs.declared.scenario.Phase.TheVariants as phase

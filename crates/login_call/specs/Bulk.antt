@@ -5,8 +5,8 @@ use Rattle.std.specs.Str.{bytes_eq}
 use Rattle.bulk_run.specs.Summing.{summary_of}
 use Rattle.bulk_run.specs.declared.summary.Summary.{Summary}
 use Rattle.trace_text.specs.Lines.{line_text}
-use Rattle.scenario_text.specs.Fields.{number_of}
-use Rattle.scenario_text.specs.declared.fault.LineFault.{LineFault}
+use Rattle.text_tables.specs.Fields.{number_of}
+use Rattle.text_tables.specs.declared.fault.LineFault.{LineFault}
 use Rattle.login_call.specs.Answers.{Answer}
 use Rattle.login_call.specs.declared.bulk.Bulk.{Bulk}
 use Rattle.login_call.specs.declared.status.Status.TheVariants as status

@@ -1,12 +1,12 @@
 -- The command check: each packet of a capture is judged by the users and by all packets before it.
 use Rattle.std.specs.Prelude.{ℕ, ◌+◌, List, [], ◌∷◌, ◌++◌, length, Bool, true, false, ◌==◌, if◌then◌else◌, Result, Ok, Err}
 use Rattle.eap_base.specs.Lines.{lines}
-use Rattle.scenario_text.specs.Words.{fault_word}
-use Rattle.scenario_text.specs.Captures.{Capture, CaptureLine, read_line, finish_of}
-use Rattle.scenario_text.specs.declared.capture.CaptureItem.{CaptureItem}
-use Rattle.scenario_text.specs.declared.capture.CaptureItem.TheVariants as item
-use Rattle.scenario_text.specs.declared.capture.CapturePhase.TheVariants.{Unread}
-use Rattle.scenario_text.specs.declared.fault.LineFault.{LineFault}
+use Rattle.text_tables.specs.Words.{fault_word}
+use Rattle.request_text.specs.Captures.{Capture, CaptureLine, read_line, finish_of}
+use Rattle.request_text.specs.declared.capture.CaptureItem.{CaptureItem}
+use Rattle.request_text.specs.declared.capture.CaptureItem.TheVariants as item
+use Rattle.request_text.specs.declared.capture.CapturePhase.TheVariants.{Unread}
+use Rattle.text_tables.specs.declared.fault.LineFault.{LineFault}
 use Rattle.capture_check.specs.Heard.{Captured}
 use Rattle.capture_check.specs.Finding.{finding_of}
 use Rattle.capture_check.specs.declared.finding.Finding.{Finding}

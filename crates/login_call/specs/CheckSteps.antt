@@ -1,11 +1,11 @@
 -- The command check by what it keeps in place of the packets.
 use Rattle.std.specs.Prelude.{ℕ, ◌+◌, ◌≤◌, List, [], length, Bool, false, Result, Ok, Err}
-use Rattle.scenario_text.specs.Words.{fault_word}
-use Rattle.scenario_text.specs.Captures.{Capture, CaptureLine, read_line, finish_of}
-use Rattle.scenario_text.specs.declared.capture.CaptureItem.{CaptureItem}
-use Rattle.scenario_text.specs.declared.capture.CaptureItem.TheVariants as item
-use Rattle.scenario_text.specs.declared.capture.CapturePhase.TheVariants.{Unread}
-use Rattle.scenario_text.specs.declared.fault.LineFault.{LineFault}
+use Rattle.text_tables.specs.Words.{fault_word}
+use Rattle.request_text.specs.Captures.{Capture, CaptureLine, read_line, finish_of}
+use Rattle.request_text.specs.declared.capture.CaptureItem.{CaptureItem}
+use Rattle.request_text.specs.declared.capture.CaptureItem.TheVariants as item
+use Rattle.request_text.specs.declared.capture.CapturePhase.TheVariants.{Unread}
+use Rattle.text_tables.specs.declared.fault.LineFault.{LineFault}
 use Rattle.capture_check.specs.Finding.{finding_in}
 use Rattle.capture_check.specs.Kept.{kept_of}
 use Rattle.capture_check.specs.Steps.{kept_next, nothing_kept}

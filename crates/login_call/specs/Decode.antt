@@ -2,9 +2,9 @@
 use Rattle.std.specs.Prelude.{ℕ, ◌+◌, ◌≤◌, List, [], Bool, false, Option, Some, None, Result, Ok, Err, is_err, if◌then◌else◌}
 use Rattle.eap_base.specs.Lines.{lines}
 use Rattle.eap_packet.specs.Fault.{packet_of}
-use Rattle.scenario_text.specs.Words.{fault_word}
-use Rattle.scenario_text.specs.Packets.{packet_line}
-use Rattle.scenario_text.specs.declared.fault.LineFault.{LineFault}
+use Rattle.text_tables.specs.Words.{fault_word}
+use Rattle.request_text.specs.Packets.{packet_line}
+use Rattle.text_tables.specs.declared.fault.LineFault.{LineFault}
 use Rattle.trace_text.specs.Packets.{packet_text, packets_text}
 use Rattle.login_call.specs.Answers.{Answer}
 use Rattle.login_call.specs.Commands.{Took, Closing, goes, refuses, ends, answer}

@@ -1,10 +1,10 @@
 -- The command keys: each line asks for a cipher, a MAC, a key schedule or the name of a key.
 use Rattle.std.specs.Prelude.{ℕ, List, [], Bool, false, Option, Some, None, Result, Ok, Err}
 use Rattle.eap_base.specs.Lines.{lines}
-use Rattle.scenario_text.specs.Words.{fault_word}
-use Rattle.scenario_text.specs.Keys.{key_line}
-use Rattle.scenario_text.specs.declared.fault.LineFault.{LineFault}
-use Rattle.scenario_text.specs.declared.key_line.KeyLine.{KeyLine}
+use Rattle.text_tables.specs.Words.{fault_word}
+use Rattle.request_text.specs.Keys.{key_line}
+use Rattle.text_tables.specs.declared.fault.LineFault.{LineFault}
+use Rattle.request_text.specs.declared.key_line.KeyLine.{KeyLine}
 use Rattle.trace_text.specs.Keys.{key_text}
 use Rattle.login_call.specs.Answers.{Answer}
 use Rattle.login_call.specs.Commands.{Took, Closing, goes, refuses, ends, answer}

@@ -9,15 +9,15 @@ use Rattle.radius_carry.specs.Tags.{is_good_request, is_good_reply}
 use Rattle.radius_carry.specs.Words.{cause_word}
 use Rattle.radius_carry.specs.Written.{request_of, reply_of}
 use Rattle.radius_carry.specs.declared.cause.RadiusCause.{RadiusCause}
-use Rattle.scenario_text.specs.Words.{fault_word}
-use Rattle.scenario_text.specs.Radius.{RadiusLine, read_line, finish_of}
-use Rattle.scenario_text.specs.declared.fault.LineFault.{LineFault}
-use Rattle.scenario_text.specs.declared.radius.RadiusPhase.{RadiusPhase}
-use Rattle.scenario_text.specs.declared.radius.RadiusPhase.TheVariants.{Unread}
-use Rattle.scenario_text.specs.declared.radius_line.ReplyKind.{ReplyKind}
-use Rattle.scenario_text.specs.declared.radius_line.ReplyKind.TheVariants as kind
-use Rattle.scenario_text.specs.declared.radius_line.RadiusItem.{RadiusItem}
-use Rattle.scenario_text.specs.declared.radius_line.RadiusItem.TheVariants as item
+use Rattle.text_tables.specs.Words.{fault_word}
+use Rattle.request_text.specs.Radius.{RadiusLine, read_line, finish_of}
+use Rattle.text_tables.specs.declared.fault.LineFault.{LineFault}
+use Rattle.request_text.specs.declared.radius.RadiusPhase.{RadiusPhase}
+use Rattle.request_text.specs.declared.radius.RadiusPhase.TheVariants.{Unread}
+use Rattle.request_text.specs.declared.radius_line.ReplyKind.{ReplyKind}
+use Rattle.request_text.specs.declared.radius_line.ReplyKind.TheVariants as kind
+use Rattle.request_text.specs.declared.radius_line.RadiusItem.{RadiusItem}
+use Rattle.request_text.specs.declared.radius_line.RadiusItem.TheVariants as item
 use Rattle.trace_text.specs.Pieces.{hex_text}
 use Rattle.login_call.specs.Answers.{Answer}
 use Rattle.login_call.specs.Commands.{Took, Closing, goes, refuses, ends, misses, answer}

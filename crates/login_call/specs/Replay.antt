@@ -7,9 +7,9 @@ use Rattle.eap_method.specs.Peer.{PeerShown, peer_kinds, have_each}
 use Rattle.eap_method.specs.Server.{ServerShown, server_kinds}
 use Rattle.eap_world.specs.World.{WorldNow, now_of, world_made, world_start, world_step}
 use Rattle.eap_world.specs.declared.world.Methods.{Methods}
-use Rattle.scenario_text.specs.Words.{fault_word}
+use Rattle.text_tables.specs.Words.{fault_word}
 use Rattle.scenario_text.specs.Reading.{Reading, ReadLine, read_line, finish_of}
-use Rattle.scenario_text.specs.declared.fault.LineFault.{LineFault}
+use Rattle.text_tables.specs.declared.fault.LineFault.{LineFault}
 use Rattle.scenario_text.specs.Items.{Item}
 use Rattle.scenario_text.specs.Items as item
 use Rattle.trace_text.specs.Run.{begin_text, outcome_text, end_text}

@@ -12,8 +12,8 @@ use bulk_run::{Summary, run_all};
 use eap_base::{Failed, Sink};
 use eap_method::{PeerMethod, ServerMethod};
 use eap_world::Methods;
-use scenario_text::read_number;
 use std::alloc::Global;
+use text_tables::read_number;
 use trace_text::Piece::{Number, Text};
 use trace_text::{write_line, write_pieces};
 

@@ -9,7 +9,7 @@ use crate::command::{Close, Command, Next, Trouble};
 use crate::status::Status;
 use capture_check::{Checker, Finding};
 use eap_base::{Failed, Sink};
-use scenario_text::{CaptureItem, CaptureReader};
+use request_text::{CaptureItem, CaptureReader};
 use trace_text::{write_finding, write_finding_counts};
 
 /// A capture on its way: what has been read of it, what counts of its packets, how many there were, and

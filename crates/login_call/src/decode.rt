@@ -7,7 +7,7 @@ use crate::command::{Close, Command, Next, Trouble};
 use crate::status::Status;
 use eap_base::{Failed, Sink};
 use eap_packet::decode;
-use scenario_text::read_packet_line;
+use request_text::read_packet_line;
 use trace_text::{write_packet, write_packet_counts};
 
 /// How many packets there were so far, and how many of them were malformed.

@@ -3,7 +3,7 @@
 use crate::command::{Close, Command, Next, Trouble};
 use crate::status::Status;
 use eap_base::{Failed, Sink};
-use scenario_text::{KeyLine, read_key_line};
+use request_text::{KeyLine, read_key_line};
 use trace_text::write_key_line;
 
 /// The requests, each of which is answered by itself, and the place into which they are read.

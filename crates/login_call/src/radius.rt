@@ -15,7 +15,7 @@ use radius_carry::{
     RadiusKind, RadiusView, eap_of, read_radius, reply_good, request_good, write_reply,
     write_request,
 };
-use scenario_text::{RadiusItem, RadiusReader, ReplyKind};
+use request_text::{RadiusItem, RadiusReader, ReplyKind};
 use trace_text::Piece::{Hex, Number, Text};
 use trace_text::write_pieces;
 
@@ -183,7 +183,7 @@ impl Radius {
     ghost use Rattle.login_call.specs.Radius.{nothing_asked, reply_took, read_took, item_took};
     ghost use Rattle.radius_carry.specs.Fault.{packet_of};
     ghost use Rattle.login_call.specs.Commands.{AnswersLine};
-    ghost use Rattle.scenario_text.specs.declared.radius_line.RadiusItem.TheVariants as item;
+    ghost use Rattle.request_text.specs.declared.radius_line.RadiusItem.TheVariants as item;
 
     /// Nothing has been read yet.
     pub fn new() -> Radius

@@ -12,10 +12,11 @@ use eap_world::{Methods, TagsVerdict};
 use gpsk_ends::{GpskPeer, GpskServer};
 use login_call::{both_peers, both_servers, world_of};
 use psk_ends::{PskPeer, PskServer};
-use scenario_text::{Item, LineFault, ScenarioReader};
+use scenario_text::{Item, ScenarioReader};
 use std::alloc::Global;
 use std::process::Abort;
 use std::test::Fail;
+use text_tables::LineFault;
 
 /// The server's GPSK-Protected-Fail is handed back to it as a Response: it takes its own tag for that of the
 /// peer. A PSK-3 has the peer's own MAC_P for its MAC_S: the peer discards it. A GPSK-2 is one that `alice`

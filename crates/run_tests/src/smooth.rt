@@ -2,10 +2,10 @@
 
 use crate::blocks::{answered_to, first_rest, scenario};
 use login_call::Status;
-use scenario_text::read_number;
 use std::alloc::{AllocError, Global};
 use std::io;
 use std::test::Fail;
+use text_tables::read_number;
 
 /// Settings of two ends that fit: methods in each order, Identifiers, names, keys, suites, nonces. With each, how
 /// many deliveries the login takes, alone and through the pass-through.

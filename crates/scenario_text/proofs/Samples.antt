@@ -1,5 +1,5 @@
 -- Lines, and a whole scenario, read by the definitions alone.
-use Rattle.std.proofs.Common.{◌≡◌, List, ℕ, [], ◌∷◌, ◌++◌, true, false, replicate, Some, None, find, Result, Ok, Err, refl}
+use Rattle.std.proofs.Common.{◌≡◌, List, ℕ, [], ◌∷◌, ◌++◌, replicate, Some, None, find, Result, Ok, Err, refl}
 use Rattle.std.specs.Prelude.{codes}
 use Rattle.eap_base.specs.declared.setup.Accepts.TheVariants.{Any}
 use Rattle.eap_base.specs.declared.setup.Mode.TheVariants as mode
@@ -7,20 +7,16 @@ use Rattle.eap_base.specs.declared.setup.Party.TheVariants as party
 use Rattle.eap_base.specs.declared.setup.Port.TheVariants as port
 use Rattle.eap_base.specs.declared.setup.Setup.{Setup}
 use Rattle.eap_base.specs.declared.event.Event.TheVariants as event
-use Rattle.scenario_text.specs.Captures as captures
-use Rattle.scenario_text.specs.Fields.{spells_number, spells_octets}
-use Rattle.scenario_text.specs.Laws.{capture_has}
-use Rattle.scenario_text.specs.Rows.{faults, unless, keyword_in, line_has}
+use Rattle.text_tables.specs.Fields.{spells_number, spells_octets}
+use Rattle.text_tables.specs.Rows.{faults, unless, keyword_in, line_has}
 use Rattle.scenario_text.specs.Entries.{item_of, has_fault, said_by}
-use Rattle.scenario_text.specs.Keys.{asked_of, asked_by, key_line}
 use Rattle.scenario_text.specs.Contents.{Entry, Set, Happens}
-use Rattle.scenario_text.specs.Reading.{with_user, peer_setup_of, server_setup_of, setup_of, body_has, read_body, read_line}
+use Rattle.text_tables.specs.Users.{with_user}
+use Rattle.scenario_text.specs.Reading.{peer_setup_of, server_setup_of, setup_of, body_has, read_body, read_line}
 use Rattle.scenario_text.specs.Whole.{IsScript, read_lines, read_all}
-use Rattle.scenario_text.specs.declared.capture.CapturePhase.TheVariants as phase
-use Rattle.scenario_text.specs.declared.fault.LineFault.{LineFault}
-use Rattle.scenario_text.specs.declared.fault.LineFault.TheVariants as fault
+use Rattle.text_tables.specs.declared.fault.LineFault.{LineFault}
+use Rattle.text_tables.specs.declared.fault.LineFault.TheVariants as fault
 use Rattle.scenario_text.specs.declared.entry.Setting.TheVariants as setting
-use Rattle.scenario_text.specs.declared.key_line.KeyLine.TheVariants as request
 use Rattle.scenario_text.proofs.Telling.{scenarios_are_read}
 
 -- what a line says, or the first fault of its words
@@ -56,23 +52,6 @@ users : (says (codes "user  48 0g maybe") ≡ Err fault.BadChoice)
     × (says (codes "user  47 000102030405060708090a0b0c0d0e0f barred") ≡ Err fault.BadSize)
 unfolding line_has keyword_in item_of spells_octets
 users = (refl, refl, refl, refl)
-
-requests : (key_line (codes "name 0aFf") ≡ Ok (Some (request.Name (10 ∷ 255 ∷ []))))
-    × (key_line (codes "cmac 2b 0g") ≡ Err fault.BadHex)
-    × (key_line (codes "gpsk 3 00 00 - 00 -") ≡ Err fault.BadNumber)
-unfolding key_line asked_by asked_of line_has keyword_in spells_octets
-requests = (refl, refl, refl)
-
--- the header of a capture stands first; an empty line and a comment are passed over, also after the end
-capture_lines : (capture_has phase.Unread [] (codes "eap-capture 2") fault.NoHeader ≡ true)
-    × (capture_has phase.Unread [] (codes "eap-capture 1") fault.NoHeader ≡ false)
-    × (capture_has phase.Users [] (codes "end") fault.Order ≡ true)
-    × (capture_has phase.Packets [] (codes "> 0g") fault.BadHex ≡ true)
-    × (capture_has phase.Packets [] (codes "> 0a") fault.BadHex ≡ false)
-    × (capture_has phase.Ended [] (codes "") fault.BadWord ≡ false)
-    × (capture_has phase.Ended [] (codes "# end") fault.Order ≡ false)
-unfolding captures.body_has captures.entry_of line_has keyword_in spells_octets
-capture_lines = (refl, refl, refl, refl, refl, refl, refl)
 
 nonce : List ℕ
 nonce = replicate 64 48

@@ -1,7 +1,7 @@
 -- Settings that come one after another, the values that their lines give, and the users among them.
-use Rattle.std.proofs.Common.{◌≡◌, ℕ, zero, suc, ◌<◌, ◌≤◌, List, [], ◌∷◌, ◌++◌, length, get_or, Bool, true, false, ◌&&◌, not, nat_lt, nat_le, Option, Some, None, find}
+use Rattle.std.proofs.Common.{◌≡◌, ℕ, zero, suc, ◌<◌, ◌≤◌, List, [], ◌∷◌, ◌++◌, length, get_or, Bool, true, false, nat_le, Option, Some, None, find}
 use Rattle.std.proofs.Common.{is_some, unwrap_or, Result, Ok, Err, IfOk, refl, sym, ap, subst, ◌∙◌, inl, inr, arith, append_assoc, append-nil, length-append, lit≤, not-suc-le-zero}
-use Rattle.std.proofs.lemmas.Bool.{cases_Bool, cond_both, and_parts, not-true, ltb-true, lt-ltb, leb-false, lt-leb}
+use Rattle.std.proofs.lemmas.Bool.{cases_Bool, cond_both, leb-false, lt-leb}
 use Rattle.std.proofs.lemmas.List.{get_or_append_left}
 use Rattle.std.proofs.Math.Seq.{get_or-append_seam}
 use Rattle.eap_base.specs.Setup.{psk_kind, gpsk_kind, is_among}
@@ -11,48 +11,17 @@ use Rattle.eap_base.specs.declared.setup.PeerSetup.{PeerSetup}
 use Rattle.eap_base.specs.declared.setup.ServerSetup.{ServerSetup}
 use Rattle.eap_base.specs.declared.setup.Setup.{Setup}
 use Rattle.eap_base.proofs.UserLists.{AreDistinct-push}
-use Rattle.scenario_text.specs.Fields.{◌>>=◌}
-use Rattle.scenario_text.specs.Reading.{has_setting, with_user, with_setting, both_suites, needed, key_for, peer_setup_of, server_setup_of, setup_of}
+use Rattle.text_tables.specs.Fields.{◌>>=◌}
+use Rattle.text_tables.specs.Users.{with_user}
+use Rattle.text_tables.proofs.Adding.{empty, with_user_is, with_user_holds}
+use Rattle.scenario_text.specs.Reading.{has_setting, with_setting, both_suites, needed, key_for, peer_setup_of, server_setup_of, setup_of}
 use Rattle.scenario_text.specs.Valid.{AreUsers}
 use Rattle.scenario_text.specs.Whole.{Values, no_values, with_value, values_of, IsGivenOr, IsGivenOrNone, IsKeyFor, MakesPeer, MakesServer, MakesSetup}
-use Rattle.scenario_text.specs.declared.fault.LineFault.{LineFault}
-use Rattle.scenario_text.specs.declared.fault.LineFault.TheVariants.{Missing}
+use Rattle.text_tables.specs.declared.fault.LineFault.{LineFault}
+use Rattle.text_tables.specs.declared.fault.LineFault.TheVariants.{Missing}
 use Rattle.scenario_text.specs.declared.entry.Setting.{Setting}
 use Rattle.scenario_text.specs.declared.entry.Setting.TheVariants as setting
 use Rattle.scenario_text.specs.declared.settings.Settings.{Settings}
-
--- the users with one more
-abbrev has_room : List User → User → Bool
-has_room users user = nat_lt (length users) 16 && not (is_some (user_of users user.name user.kind))
-
--- a slot that is empty
-empty : {A : Type 0} (slot : Option A) → is_some slot ≡ false → slot ≡ None
-empty None e = refl
-empty (Some a) e = absurd cc
-
-room-there : (users : List User) (user : User) → has_room users user ≡ true → HasRoom users user
-room-there users user e =
-    let found = user_of users user.name user.kind in
-    let parts = and_parts (nat_lt (length users) 16) (not (is_some found)) e in
-    record { few = ltb-true (length users) 16 (parts.0); absent = empty found (not-true (is_some found) (parts.1)) }
-
-room-test : (users : List User) (user : User) → HasRoom users user → has_room users user ≡ true
-room-test users user h =
-    let few : nat_lt (length users) 16 ≡ true = lt-ltb (length users) 16 h.few in
-    let absent : user_of users user.name user.kind ≡ None = h.absent in
-    rw (few, absent) refl
-
--- what a call that adds a user leaves
-pub with_user_is : (users now : List User) (user : User) → (HasRoom users user → now ≡ users ++ user ∷ []) → ((HasRoom users user → ⊥) → now ≡ users) → now ≡ with_user users user
-unfolding with_user
-with_user_is users now user added unchanged =
-    cond_both (has_room users user) (users ++ user ∷ []) users (λ then. now ≡ then) (λ e. added (room-there users user e))
-    (λ e. unchanged (λ h. let t : has_room users user ≡ true = room-test users user h in absurd cc))
-
--- what holds of the users holds with one more
-pub with_user_holds : (P : List User → Type 0) (users : List User) (user : User) → P users → (HasRoom users user → P (users ++ user ∷ [])) → P (with_user users user)
-unfolding with_user
-with_user_holds P users user h more = cond_both (has_room users user) (users ++ user ∷ []) users P (λ e. more (room-there users user e)) (λ e. h)
 
 pub no-users : AreUsers []
 no-users = record { few = lit≤ tt; distinct = λ i j d low high. absurd (not-suc-le-zero high) }

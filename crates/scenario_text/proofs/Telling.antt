@@ -6,17 +6,17 @@ use Rattle.std.specs.Str.{bytes_eq}
 use Rattle.eap_base.specs.Setup.{psk_kind}
 use Rattle.eap_base.specs.declared.setup.Setup.{Setup}
 use Rattle.eap_base.specs.declared.event.Event.{Event}
-use Rattle.scenario_text.specs.Words.{words, is_passed_over}
-use Rattle.scenario_text.specs.Fields.{kind_of, word_in, ◌>>=◌}
-use Rattle.scenario_text.specs.Rows.{faults}
+use Rattle.text_tables.specs.Words.{words, is_passed_over}
+use Rattle.text_tables.specs.Fields.{kind_of, word_in, ◌>>=◌}
+use Rattle.text_tables.specs.Rows.{faults}
 use Rattle.scenario_text.specs.Entries.{has_fault, keyword_of, item_of, said_by}
 use Rattle.scenario_text.specs.Contents.{Entry}
 use Rattle.scenario_text.specs.Contents as entry
 use Rattle.scenario_text.specs.Reading.{Reading, ReadLine, said, has_setting, with_setting, no_settings, setup_of, header, is_crowded, came_before, is_missing, may_stand, place_has, body_has, ready, taken, read_body, read_at, read_line}
 use Rattle.scenario_text.specs.Items as item
 use Rattle.scenario_text.specs.Whole.{IsFaultless, no_values, MakesSetup, told, IsScenario, Script, no_script, with_item, read_lines, read_all, IsScript, ScenariosAreRead}
-use Rattle.scenario_text.specs.declared.fault.LineFault.{LineFault}
-use Rattle.scenario_text.specs.declared.fault.LineFault.TheVariants as fault
+use Rattle.text_tables.specs.declared.fault.LineFault.{LineFault}
+use Rattle.text_tables.specs.declared.fault.LineFault.TheVariants as fault
 use Rattle.scenario_text.specs.declared.keyword.Keyword.{Keyword}
 use Rattle.scenario_text.specs.declared.keyword.Keyword.TheVariants as key
 use Rattle.scenario_text.specs.declared.entry.Setting.{Setting}
@@ -25,7 +25,7 @@ use Rattle.scenario_text.specs.declared.settings.Settings.{Settings}
 use Rattle.scenario_text.specs.declared.scenario.Phase.{Phase}
 use Rattle.scenario_text.specs.declared.scenario.Phase.TheVariants as phase
 use Rattle.scenario_text.proofs.Settling.{is_full, joined, AllNew, settings_after, gathers, no-users, users-after, all-given, all-new, all-set}
-use Rattle.scenario_text.proofs.Fitting.{no_fault, none-found, unless-ok}
+use Rattle.text_tables.proofs.Fitting.{no_fault, none-found, unless-ok}
 use Rattle.std.proofs.lemmas.List.Elements.{All-from_recursion, recursion_from_All}
 use Rattle.std.proofs.lemmas.Result.{IfOk-at_ok}
 use Rattle.std.specs.List.{AllByRecursion}

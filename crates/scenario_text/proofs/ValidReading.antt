@@ -2,7 +2,7 @@
 use Rattle.std.proofs.Common.{◌≡◌, ℕ, ◌≤◌, ◌<◌, ◌⊎◌, inl, inr, Bool, true, false, ◌||◌, ◌&&◌, List, [], ◌∷◌, length, Option, Some, None, IfSome, Result, Ok, Err, IfOk, IsOk, is_err}
 use Rattle.std.proofs.Common.{refl, sym, subst, ◌∙◌, lit<, lit≤, append-nil, IsTrue, codes, leb, arith, All}
 use Rattle.std.proofs.lemmas.Bool.{leb-false, cond_both, cases_Bool}
-use Rattle.std.proofs.lemmas.List.Elements.{All-nil, All-push, All-weaker}
+use Rattle.std.proofs.lemmas.List.Elements.{All-nil, All-weaker}
 use Rattle.std.proofs.lemmas.Result.{IfOk-weaker}
 use Rattle.std.proofs.lemmas.Slice.Eq.{bytes_eq-Decides}
 use Rattle.std.specs.Str.{bytes_eq}
@@ -12,10 +12,10 @@ use Rattle.eap_base.specs.declared.setup.Accepts.TheVariants.{Any, One}
 use Rattle.eap_base.specs.declared.setup.PeerSetup.{PeerSetup}
 use Rattle.eap_base.specs.declared.setup.ServerSetup.{ServerSetup}
 use Rattle.eap_base.specs.declared.setup.Setup.{Setup}
-use Rattle.scenario_text.specs.Words.{words}
-use Rattle.scenario_text.specs.Fields.{word_in, is_dash, octets_of, spells_kind, kind_of, spells_suite, suite_of}
-use Rattle.scenario_text.specs.Rows.{is_kind_or_none, fault_of_words}
-use Rattle.scenario_text.specs.Fits.{IsName, IsOther, Fits}
+use Rattle.text_tables.specs.Words.{words}
+use Rattle.text_tables.specs.Fields.{word_in, is_dash, octets_of, spells_kind, kind_of, spells_suite, suite_of}
+use Rattle.text_tables.specs.Rows.{is_kind_or_none, fault_of_words}
+use Rattle.text_tables.specs.Fits.{IsName, IsOther, Fits}
 use Rattle.scenario_text.specs.Keywords.{row_of, keywords}
 use Rattle.scenario_text.specs.Entries.{accepts_of, kinds_of, suites_of, key_setting, item_of, entry_for, keyword_of, said_by}
 use Rattle.scenario_text.specs.Contents.{Entry, entry_with}
@@ -26,15 +26,16 @@ use Rattle.scenario_text.specs.Whole.{IsFaultless, no_values, IsGivenOr, IsGiven
 use Rattle.scenario_text.specs.declared.entry.Entry as told
 use Rattle.scenario_text.specs.declared.entry.Setting.{Setting}
 use Rattle.scenario_text.specs.declared.entry.Setting.TheVariants as setting
-use Rattle.scenario_text.specs.declared.fault.LineFault.{LineFault}
+use Rattle.text_tables.specs.declared.fault.LineFault.{LineFault}
 use Rattle.scenario_text.specs.declared.keyword.Keyword.{Keyword}
 use Rattle.scenario_text.specs.declared.keyword.Keyword.TheVariants as key
 use Rattle.scenario_text.specs.declared.scenario.Phase.{Phase}
 use Rattle.scenario_text.specs.declared.scenario.Phase.TheVariants as phase
 use Rattle.scenario_text.specs.declared.settings.Settings.{Settings}
-use Rattle.scenario_text.proofs.Fitting.{unless-ok, fits, faultless-fits}
+use Rattle.text_tables.proofs.Fitting.{unless-ok, fits, faultless-fits}
 use Rattle.scenario_text.proofs.Telling.{stepped, step-cases, starts}
-use Rattle.scenario_text.proofs.Settling.{plus, joined, with_user_holds, no-users, users-kept, all-given}
+use Rattle.text_tables.proofs.Adding.{with_user-all}
+use Rattle.scenario_text.proofs.Settling.{plus, joined, no-users, users-kept, all-given}
 
 accepts-valid : (word : List ℕ) → IsName word → AcceptsName (accepts_of word)
 accepts-valid word h = cond_both (bytes_eq word (codes "any")) Any (One word) AcceptsName (λ e. tt) (λ e. h)
@@ -149,7 +150,7 @@ no_settings_valid = record { first_id = tt; max_retrans = tt; peer_name = tt; pe
 -- one more setting
 pub with_setting_valid : (s : Settings) (v : Setting) → AreValid s → IsValidSetting v → AreValid (with_setting s v)
 with_setting_valid s (setting.User user) h k =
-    assumption (with_user_holds (All IsValidUser) s.users user h.users (λ r. All-push IsValidUser s.users user h.users k), users-kept s (setting.User user) h.kept)
+    assumption (with_user-all IsValidUser s.users user h.users k, users-kept s (setting.User user) h.kept)
 with_setting_valid s other h k = assumption
 
 -- what holds of a slot holds of the value that is given, or else of the default

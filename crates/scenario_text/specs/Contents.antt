@@ -2,7 +2,7 @@
 use Rattle.eap_base.specs.declared.event.Event.{Event}
 use Rattle.scenario_text.specs.declared.entry.Setting.{Setting}
 use Rattle.scenario_text.specs.declared.entry.Entry as told
-use Rattle.scenario_text.specs.declared.fault.LineFault.{LineFault}
+use Rattle.text_tables.specs.declared.fault.LineFault.{LineFault}
 use Rattle.std.specs.Prelude.{Result, Ok, Err}
 
 -- a setting, the line `events`, an event, the line `end`

@@ -11,11 +11,11 @@ use Rattle.eap_base.specs.declared.setup.Party.TheVariants as party
 use Rattle.eap_base.specs.declared.setup.Port.{Port}
 use Rattle.eap_base.specs.declared.setup.Port.TheVariants as port
 use Rattle.eap_base.specs.declared.event.Event.TheVariants as event
-use Rattle.scenario_text.specs.Words.{words}
-use Rattle.scenario_text.specs.Fields.{word_in, is_dash, number, octets_of, kind_of, suite_of}
-use Rattle.scenario_text.specs.Rows.{unless, fault_of_words, keyword_in, line_has}
+use Rattle.text_tables.specs.Words.{words}
+use Rattle.text_tables.specs.Fields.{word_in, is_dash, number, octets_of, kind_of, suite_of}
+use Rattle.text_tables.specs.Rows.{unless, fault_of_words, keyword_in, line_has}
 use Rattle.scenario_text.specs.Keywords.{row_of, keywords}
-use Rattle.scenario_text.specs.declared.fault.LineFault.{LineFault}
+use Rattle.text_tables.specs.declared.fault.LineFault.{LineFault}
 use Rattle.scenario_text.specs.declared.keyword.Keyword.{Keyword}
 use Rattle.scenario_text.specs.declared.keyword.Keyword.TheVariants as key
 use Rattle.scenario_text.specs.declared.entry.Setting.{Setting}

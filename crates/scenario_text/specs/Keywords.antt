@@ -1,8 +1,8 @@
 -- The table of a scenario's lines: each keyword, and what the words after it stand for.
 use Rattle.std.specs.Prelude.{List, [], ◌∷◌, codes}
-use Rattle.scenario_text.specs.Rows.{Row, row}
-use Rattle.scenario_text.specs.declared.rows.Field.TheVariants.{Choice, Number, Kind, KindOrNone, OtherKind, Suite, OtherSuite, Name, Hex, Key}
-use Rattle.scenario_text.specs.declared.rows.Choices.TheVariants as choices
+use Rattle.text_tables.specs.Rows.{Row, row}
+use Rattle.text_tables.specs.declared.rows.Field.TheVariants.{Choice, Number, Kind, KindOrNone, OtherKind, Suite, OtherSuite, Name, Hex, Key}
+use Rattle.text_tables.specs.declared.rows.Choices.TheVariants as choices
 use Rattle.scenario_text.specs.declared.keyword.Keyword.{Keyword}
 use Rattle.scenario_text.specs.declared.keyword.Keyword.TheVariants as key
 

@@ -1,17 +1,8 @@
-pub mod Captures
 pub mod Contents
 pub mod Entries
-pub mod Fields
-pub mod Firsts
-pub mod Fits
 pub mod Items
-pub mod Keys
 pub mod Keywords
 pub mod Laws
-pub mod Packets
-pub mod Radius
 pub mod Reading
-pub mod Rows
 pub mod Valid
 pub mod Whole
-pub mod Words

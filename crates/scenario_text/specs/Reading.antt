@@ -1,21 +1,21 @@
 -- A scenario, line by line: what has been read, and what each line adds.
-use Rattle.std.specs.Prelude.{ℕ, List, [], ◌∷◌, ◌++◌, length, nat_lt, nat_le, not, ◌&&◌, ◌||◌, Bool, true, false, if◌then◌else◌, codes, Option, Some, None, find, Result, Ok, Err, IsOk, ok_or, is_err, is_some, unwrap_or}
+use Rattle.std.specs.Prelude.{ℕ, List, [], ◌∷◌, length, nat_le, not, ◌||◌, Bool, true, false, if◌then◌else◌, codes, Option, Some, None, find, Result, Ok, Err, IsOk, ok_or, is_err, is_some, unwrap_or}
 use Rattle.std.specs.Str.{bytes_eq}
 use Rattle.eap_base.specs.Setup.{psk_kind, gpsk_kind, is_among}
 use Rattle.eap_base.specs.Users.{user_of}
-use Rattle.eap_base.specs.declared.users.User.{User}
 use Rattle.eap_base.specs.declared.setup.PeerSetup.{PeerSetup}
 use Rattle.eap_base.specs.declared.setup.ServerSetup.{ServerSetup}
 use Rattle.eap_base.specs.declared.setup.Setup.{Setup}
 use Rattle.eap_base.specs.declared.event.Event.{Event}
-use Rattle.scenario_text.specs.Words.{is_passed_over}
-use Rattle.scenario_text.specs.Fields.{◌>>=◌}
-use Rattle.scenario_text.specs.Rows.{faults, unless}
+use Rattle.text_tables.specs.Words.{is_passed_over}
+use Rattle.text_tables.specs.Fields.{◌>>=◌}
+use Rattle.text_tables.specs.Rows.{faults, unless}
+use Rattle.text_tables.specs.Users.{with_user}
 use Rattle.scenario_text.specs.Entries.{keyword_of, has_fault, said_by, entry_for}
 use Rattle.scenario_text.specs.declared.keyword.Keyword.{Keyword}
 use Rattle.scenario_text.specs.declared.keyword.Keyword.TheVariants as key
-use Rattle.scenario_text.specs.declared.fault.LineFault.{LineFault}
-use Rattle.scenario_text.specs.declared.fault.LineFault.TheVariants as fault
+use Rattle.text_tables.specs.declared.fault.LineFault.{LineFault}
+use Rattle.text_tables.specs.declared.fault.LineFault.TheVariants as fault
 use Rattle.scenario_text.specs.declared.entry.Setting.{Setting}
 use Rattle.scenario_text.specs.declared.entry.Setting.TheVariants as setting
 use Rattle.scenario_text.specs.Contents.{Entry}
@@ -48,11 +48,6 @@ has_setting s (setting.ServerMethods v) = is_some s.server_methods
 has_setting s (setting.ServerSuites v) = is_some s.server_suites
 has_setting s (setting.ServerNonce v) = is_some s.server_nonce
 has_setting s (setting.User user) = is_some (user_of s.users user.name user.kind)
-
--- the users with one more, unless 16 are there or one of them has its name and kind
-unfoldable pub with_user : List User → User → List User
-with_user users user =
-    if nat_lt (length users) 16 && not (is_some (user_of users user.name user.kind)) then users ++ user ∷ [] else users
 
 -- the settings with one more
 abbrev pub with_setting : Settings → Setting → Settings

@@ -8,7 +8,7 @@ use Rattle.eap_base.specs.declared.setup.Accepts.TheVariants.{Any, One}
 use Rattle.eap_base.specs.declared.setup.PeerSetup.{PeerSetup}
 use Rattle.eap_base.specs.declared.setup.ServerSetup.{ServerSetup}
 use Rattle.eap_base.specs.declared.setup.Setup.{Setup}
-use Rattle.scenario_text.specs.Fits.{IsName}
+use Rattle.text_tables.specs.Fits.{IsName}
 use Rattle.scenario_text.specs.Reading.{ReadLine}
 use Rattle.scenario_text.specs.declared.entry.Setting.{Setting}
 use Rattle.scenario_text.specs.declared.entry.Setting.TheVariants as setting

@@ -9,14 +9,14 @@ use Rattle.eap_base.specs.declared.setup.PeerSetup.{PeerSetup}
 use Rattle.eap_base.specs.declared.setup.ServerSetup.{ServerSetup}
 use Rattle.eap_base.specs.declared.setup.Setup.{Setup}
 use Rattle.eap_base.specs.declared.event.Event.{Event}
-use Rattle.scenario_text.specs.Words.{is_passed_over}
-use Rattle.scenario_text.specs.Fields.{◌>>=◌}
+use Rattle.text_tables.specs.Words.{is_passed_over}
+use Rattle.text_tables.specs.Fields.{◌>>=◌}
 use Rattle.scenario_text.specs.Entries.{has_fault, said_by}
 use Rattle.scenario_text.specs.Contents.{Set, Events, Happens, End}
 use Rattle.scenario_text.specs.Reading.{Reading, no_settings, header, read_line, finish_of, both_suites}
 use Rattle.scenario_text.specs.Items.{Item}
 use Rattle.scenario_text.specs.Items as item
-use Rattle.scenario_text.specs.declared.fault.LineFault.{LineFault}
+use Rattle.text_tables.specs.declared.fault.LineFault.{LineFault}
 use Rattle.scenario_text.specs.declared.entry.Setting.{Setting}
 use Rattle.scenario_text.specs.declared.entry.Setting.TheVariants as setting
 use Rattle.scenario_text.specs.declared.scenario.Phase.TheVariants as phase

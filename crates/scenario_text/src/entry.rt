@@ -1,19 +1,18 @@
 //! The lines of a scenario, and what each says.
 
 ghost use Rattle.std.specs.Prelude.{◌≡◌, ◌≤◌, length};
-ghost use Rattle.scenario_text.specs.Words.{words};
+ghost use Rattle.text_tables.specs.Words.{words};
 ghost use Rattle.scenario_text.specs.Contents.{entry_with, entered};
-ghost use Rattle.scenario_text.specs.Fits.{Fits};
+ghost use Rattle.text_tables.specs.Fits.{Fits};
 ghost use Rattle.scenario_text.specs.Keywords.{row_of};
 ghost use Rattle.scenario_text.specs.Entries.{accepts_of, kinds_of, suites_of, key_setting, port_of, party_of, mode_of, item_of, entry_for};
 
-use crate::fault::LineFault;
-use crate::fields::{array, kind_of, number, octets, suite_of};
 use crate::keyword::Keyword;
-use crate::rows::fault_of_words;
-use crate::words::{word_count, word_in};
 use eap_base::{
     Accepts, Event, Identity, Kinds, Mode, Nonce, PSK_KIND, Party, Port, Secret, Suites, User,
+};
+use text_tables::{
+    LineFault, array, fault_of_words, kind_of, name, number, octets, suite_of, word_count, word_in,
 };
 
 /// A setting with its value.
@@ -47,7 +46,7 @@ pub enum Entry {
 }
 
 /// What a keyword says with the words of its line, or their first fault. An event is written to `event`.
-#[tactic(auto, unfolding(crate::specs::Entries::entry_for), using(crate::proofs::Fitting::fits))]
+#[tactic(auto, unfolding(crate::specs::Entries::entry_for), using(text_tables::proofs::Fitting::fits))]
 pub fn read_entry(keyword: Keyword, line: &[u8], event: &mut Event) -> Result<Entry, LineFault>
     ensures { entry_for keyword (words line.now) ≡ entered result event.new }
 {
@@ -142,16 +141,6 @@ fn item_of(keyword: Keyword, line: &[u8], event: &mut Event) -> Entry
             Entry::Happens
         }
     }
-}
-
-/// A name, which is at most 253 octets as they stand.
-pub(crate) fn name(word: &[u8]) -> Identity
-    requires { length word.now ≤ 253 }
-    ensures { result ≡ word.now }
-{
-    let mut name = Identity::new();
-    name.append(word);
-    name
 }
 
 /// The server names that a peer accepts: `any`, or one name.

@@ -1,12 +1,11 @@
 //! The table of a scenario's lines: each keyword with what the words after it stand for.
 
 ghost use Rattle.std.specs.Prelude.{◌≡◌};
-ghost use Rattle.scenario_text.specs.Words.{words};
-ghost use Rattle.scenario_text.specs.Rows.{keyword_in};
+ghost use Rattle.text_tables.specs.Words.{words};
+ghost use Rattle.text_tables.specs.Rows.{keyword_in};
 ghost use Rattle.scenario_text.specs.Keywords.{row_of, keywords};
 
-use crate::rows::{Choices, Field, Row};
-use crate::words::word_in;
+use text_tables::{Choices, Field, Row, word_in};
 
 /// The first word of a line.
 #[derive(Clone, Copy, PartialEq, Eq, Debug)]
@@ -145,7 +144,7 @@ impl Keyword {
     }
 
     /// The keyword that a line begins with, if it is one.
-    #[tactic(auto, unfolding(crate::specs::Rows::keyword_in))]
+    #[tactic(auto, unfolding(text_tables::specs::Rows::keyword_in))]
     pub fn of_line(line: &[u8]) -> Option<Keyword>
         ensures { result ≡ keyword_in row_of keywords (words line.now) }
     {

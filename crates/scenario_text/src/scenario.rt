@@ -4,18 +4,17 @@
 ghost use Rattle.std.specs.Prelude.{◌≡◌, false, IfOk, OnErr, Ok};
 ghost use Rattle.scenario_text.specs.Reading.{no_settings, answered, read_words, taken, fault_of_entry, is_missing, may_stand, setup_of, finish_of, HasSetup};
 ghost use Rattle.scenario_text.specs.Reading as reading;
-ghost use Rattle.scenario_text.specs.Words.{words};
+ghost use Rattle.text_tables.specs.Words.{words};
 ghost use Rattle.scenario_text.specs.Contents.{entry_with};
 ghost use Rattle.eap_base.specs.declared.event.Event.{Event};
 ghost use Rattle.scenario_text.specs.Valid.{IsValidTold, IsValidSetup};
 
 use crate::entry::{Entry, read_entry};
-use crate::fault::LineFault;
 use crate::keyword::Keyword;
 use crate::settings::Settings;
-use crate::words::{is_comment, is_printable_line};
 use eap_base::{Event, Setup};
 use std::marker::Model;
+use text_tables::{LineFault, is_comment, is_printable_line};
 
 /// What a line of a scenario says.
 #[derive(Clone, Copy, PartialEq, Eq, Debug)]

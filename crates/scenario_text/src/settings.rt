@@ -3,16 +3,16 @@
 ghost use Rattle.std.specs.Prelude.{◌≡◌, ◌∷◌, [], unwrap_or, MatchResult, IsOk, Err};
 ghost use Rattle.eap_base.specs.declared.event.Event.{Event};
 ghost use Rattle.scenario_text.specs.Contents.{entry_with};
-ghost use Rattle.scenario_text.specs.Reading.{no_settings, has_setting, with_user, with_setting, both_suites, key_for};
+ghost use Rattle.scenario_text.specs.Reading.{no_settings, has_setting, with_setting, both_suites, key_for};
 ghost use Rattle.scenario_text.specs.Reading.{peer_setup_of, server_setup_of, setup_of, is_crowded, came_before, is_missing};
 
 use crate::entry::{Entry, Setting};
-use crate::fault::LineFault;
 use crate::keyword::Keyword;
 use eap_base::{
     Accepts, GPSK_KIND, Identity, Kinds, Mode, Nonce, PSK_KIND, PeerSetup, Secret, ServerSetup,
-    Setup, Suites, User, Users, is_among,
+    Setup, Suites, Users, is_among,
 };
+use text_tables::{LineFault, add_user};
 
 /// The settings so far; each is None until it has come.
 #[derive(Drop)]
@@ -224,13 +224,6 @@ impl Settings {
             nonce,
         })
     }
-}
-
-/// Adds a user, unless 16 are there or one of them has its name and kind.
-pub(crate) fn add_user(users: &mut Users, user: User)
-    ensures { users.new ≡ with_user users.old user }
-{
-    users.add(user);
 }
 
 /// The peer's key for a method, or `Missing` where there is none and the method is among these.

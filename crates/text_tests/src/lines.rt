@@ -1,10 +1,9 @@
 //! Lines read from outside: a whole scenario, and the fault of each refused line.
 
 use eap_base::{Accepts, Event, Mode, Party, Port, Setup};
-use scenario_text::{
-    Item, KeyLine, LineFault, ScenarioReader, read_hex, read_key_line, read_number, word_at,
-    word_count,
-};
+use request_text::{KeyLine, read_key_line};
+use scenario_text::{Item, ScenarioReader};
+use text_tables::{LineFault, read_hex, read_number, word_at, word_count};
 
 /// A scenario of both methods with all of its settings.
 const SCENARIO: &str = "\

@@ -1,12 +1,12 @@
 //! The texts of short runs, answers to requests for keys, and writes that fail.
 
-ghost use Rattle.scenario_text.specs.Keys.{HasSizes};
+ghost use Rattle.request_text.specs.Keys.{HasSizes};
 
 use eap_base::{Identity, MemSink, Mode, Octets, Party, Port};
 use eap_method::Report;
 use eap_packet::{Cause, Path, State};
 use eap_world::{Named, SentPacket, Skip, Told};
-use scenario_text::KeyLine;
+use request_text::KeyLine;
 use std::alloc::{AllocError, Global};
 use std::test::Fail;
 use trace_text::{write_key_line, write_refused, write_start, write_told};

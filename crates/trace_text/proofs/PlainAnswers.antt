@@ -20,8 +20,8 @@ use Rattle.login_keys.specs.KeyName.{key_name_of}
 use Rattle.login_keys.specs.declared.gpsk.GpskKeys.{GpskKeys}
 use Rattle.login_keys.specs.declared.psk.PskLong.{PskLong}
 use Rattle.login_keys.specs.declared.psk.PskKeys.{PskKeys}
-use Rattle.scenario_text.specs.declared.key_line.KeyLine.{KeyLine}
-use Rattle.scenario_text.specs.declared.key_line.KeyLine.TheVariants as asked
+use Rattle.request_text.specs.declared.key_line.KeyLine.{KeyLine}
+use Rattle.request_text.specs.declared.key_line.KeyLine.TheVariants as asked
 use Rattle.trace_text.specs.Keys.{hex_line, sealed_text, exported_text, gpsk_text, long_text, session_text, key_text}
 use Rattle.trace_text.specs.Pieces.{hex_text}
 use Rattle.trace_text.specs.Packets.{numbers_text, psk_note, gpsk_note, note_text, typed_text, end_line_text}

@@ -11,8 +11,8 @@ use Rattle.login_keys.specs.KeyName.{key_name_of}
 use Rattle.login_keys.specs.declared.gpsk.GpskKeys.{GpskKeys}
 use Rattle.login_keys.specs.declared.psk.PskLong.{PskLong}
 use Rattle.login_keys.specs.declared.psk.PskKeys.{PskKeys}
-use Rattle.scenario_text.specs.declared.key_line.KeyLine.{KeyLine}
-use Rattle.scenario_text.specs.declared.key_line.KeyLine.TheVariants as asked
+use Rattle.request_text.specs.declared.key_line.KeyLine.{KeyLine}
+use Rattle.request_text.specs.declared.key_line.KeyLine.TheVariants as asked
 use Rattle.trace_text.specs.Pieces.{hex_text}
 
 -- a name and octets in hex, in one line

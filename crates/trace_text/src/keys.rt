@@ -3,7 +3,7 @@
 ghost use Rattle.std.specs.Prelude.{◌≤◌, length};
 ghost use Rattle.eax_mode.specs.Eax.{eax_sealed};
 ghost use Rattle.trace_text.specs.Writes.{Appends};
-ghost use Rattle.scenario_text.specs.Keys.{HasSizes};
+ghost use Rattle.request_text.specs.Keys.{HasSizes};
 ghost use Rattle.trace_text.specs.Keys.{exported_text, gpsk_text, hex_line, key_text, long_text, psk_text, sealed_text, session_text};
 
 use crate::pieces::Piece::{Hex, Text};
@@ -14,7 +14,7 @@ use eap_base::{Failed, Sink};
 use eax_mode::eax_seal;
 use hmac_mac::hmac_whole;
 use login_keys::{GpskKeys, PskKeys, PskLong, gpsk_keys, key_name, psk_long, psk_session};
-use scenario_text::KeyLine;
+use request_text::KeyLine;
 
 /// Writes a name and octets in hex, `-` where there are none, in one line.
 #[tactic(auto, unfolding(crate::specs::Keys::hex_line))]

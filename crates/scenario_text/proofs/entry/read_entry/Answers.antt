@@ -1,9 +1,9 @@
 -- Words without a fault fit their row.
 use Rattle.std.proofs.Common.{◌≡◌, None}
-use Rattle.scenario_text.specs.Words.{words}
+use Rattle.text_tables.specs.Words.{words}
 use Rattle.scenario_text.specs.Keywords.{row_of}
-use Rattle.scenario_text.specs.Rows.{fault_of_words}
-use Rattle.scenario_text.proofs.Fitting.{fits}
+use Rattle.text_tables.specs.Rows.{fault_of_words}
+use Rattle.text_tables.proofs.Fitting.{fits}
 use Rattle.scenario_text.proofs.entry.read_entry.Goals as goal
 
 pub item_of-requires : goal.item_of-requires

@@ -1,10 +1,10 @@
 -- Where the settings are whole, the line starts the world of the setup that the reader gives.
 use Rattle.std.proofs.Common.{◌≡◌, Result, Ok, Err, IsOk, refl, subst, sym}
 use Rattle.eap_base.specs.declared.setup.Setup.{Setup}
-use Rattle.scenario_text.specs.Fields.{◌>>=◌}
+use Rattle.text_tables.specs.Fields.{◌>>=◌}
 use Rattle.scenario_text.specs.Items as item
 use Rattle.scenario_text.specs.Reading.{Reading, ReadLine, setup_of, read_line}
-use Rattle.scenario_text.specs.declared.fault.LineFault.{LineFault}
+use Rattle.text_tables.specs.declared.fault.LineFault.{LineFault}
 use Rattle.login_call.specs.Commands.{AnswersLine}
 use Rattle.login_call.specs.Replay.{seen_of, replay_took, replay_lacks, took_reading, reading_lacks}
 use Rattle.login_call.proofs.replay.ReplayCommand.take.Goals as goal

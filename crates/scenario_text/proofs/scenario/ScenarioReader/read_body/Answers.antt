@@ -1,8 +1,8 @@
 -- A line is passed over, or begins with no keyword, or is what its words and its place make of it.
 use Rattle.std.proofs.Common.{◌≡◌, false, not, None, refl, ◌∙◌, sym}
 use Rattle.std.proofs.lemmas.Bool.{or_right}
-use Rattle.scenario_text.specs.Words.{words, is_printable, is_passed_over}
-use Rattle.scenario_text.specs.Rows.{keyword_in}
+use Rattle.text_tables.specs.Words.{words, is_printable, is_passed_over}
+use Rattle.text_tables.specs.Rows.{keyword_in}
 use Rattle.scenario_text.specs.Keywords.{row_of, keywords}
 use Rattle.scenario_text.proofs.Judging.{read_body_bad, read_body_words}
 use Rattle.scenario_text.proofs.Telling.{passes}
@@ -26,5 +26,5 @@ returns-in-None-clause-read c =
 pub returns-in-Some-clause-read : goal.returns-in-Some-clause-read
 returns-in-Some-clause-read c =
     let on : is_passed_over c.args.line.now ≡ false = cc in
-    read_body_words c.args.self.now.phase c.args.self.now.settings c.args.line.now c.in-Some.keyword on (record { printable = cc; found = cc })
+    read_body_words c.args.self.now.phase c.args.self.now.settings c.args.line.now on c.in-Some.keyword (record { printable = cc; found = cc })
     ∙ c.read_words.ensures.read

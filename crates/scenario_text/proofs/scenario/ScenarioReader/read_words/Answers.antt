@@ -1,6 +1,6 @@
 -- What was read of a line is within its limits.
 use Rattle.std.proofs.Common.{sym}
-use Rattle.scenario_text.specs.Words.{words}
+use Rattle.text_tables.specs.Words.{words}
 use Rattle.scenario_text.proofs.ValidReading.{valid_entry, valid_told}
 use Rattle.scenario_text.proofs.scenario.ScenarioReader.read_words.Goals as goal
 

@@ -1,10 +1,10 @@
 -- Without a fault no setting is missing.
 use Rattle.std.proofs.Common.{◌∙◌, sym}
 use Rattle.scenario_text.specs.Contents.{entry_with}
-use Rattle.scenario_text.specs.declared.fault.LineFault.TheVariants as fault
+use Rattle.text_tables.specs.declared.fault.LineFault.TheVariants as fault
 use Rattle.scenario_text.specs.Reading.{fault_of_entry, entry_has}
 use Rattle.scenario_text.proofs.scenario.ScenarioReader.take.Goals as goal
-use Rattle.scenario_text.proofs.Fitting.{no_fault}
+use Rattle.text_tables.proofs.Fitting.{no_fault}
 
 pub add-requires-clause-whole : goal.add-requires-clause-whole
 unfolding fault_of_entry

@@ -1,0 +1,5 @@
+pub mod Captures
+pub mod Keys
+pub mod Laws
+pub mod Packets
+pub mod Radius

@@ -1,0 +1,233 @@
+//! Requests for ciphers, MACs and keys.
+
+ghost use Rattle.std.specs.Prelude.{◌≡◌, ◌≢◌, [], true, Ok, IfErr};
+ghost use Rattle.text_tables.specs.Words.{words};
+ghost use Rattle.request_text.specs.declared.key_line.KeyLine.TheVariants as key;
+ghost use Rattle.text_tables.specs.Fits.{Fits};
+ghost use Rattle.text_tables.specs.Rows.{keyword_in};
+ghost use Rattle.request_text.specs.Keys.{row_of, requests, ciphersuite_of, asked_of, asked_by, key_line, read_into, asked_into, HasSizes};
+
+use eap_base::{Octets, Suite};
+use text_tables::{
+    Field, LineFault, Row, array, fault_of_words, is_comment, is_printable_line, octets, word_in,
+};
+
+/// The first word of a request.
+#[derive(Clone, Copy, PartialEq, Eq, Debug)]
+pub enum Request {
+    Aes,
+    Cmac,
+    Hmac,
+    Eax,
+    Gpsk,
+    Psk,
+    Name,
+}
+
+const REQUESTS: [Request; 7] = [
+    Request::Aes,
+    Request::Cmac,
+    Request::Hmac,
+    Request::Eax,
+    Request::Gpsk,
+    Request::Psk,
+    Request::Name,
+];
+
+const BLOCK: Field = Field::Hex { low: 16, high: 16 };
+
+const NONCE: Field = Field::Hex { low: 32, high: 32 };
+
+const NAME: Field = Field::Hex { low: 0, high: 253 };
+
+const TEXT: Field = Field::Hex { low: 0, high: 2000 };
+
+impl Request {
+    /// The request's row.
+    fn row(self) -> Row
+        ensures word { result.word.now ≡ (row_of self).word }
+        ensures least { result.least ≡ (row_of self).least }
+        ensures fields { result.fields.now ≡ (row_of self).fields }
+    {
+        match self {
+            Request::Aes => Row::new(b"aes", 2, &[BLOCK, BLOCK]),
+            Request::Cmac => Row::new(b"cmac", 2, &[BLOCK, TEXT]),
+            Request::Hmac => Row::new(b"hmac", 2, &[TEXT, TEXT]),
+            Request::Eax => Row::new(b"eax", 4, &[BLOCK, TEXT, TEXT, TEXT]),
+            Request::Gpsk => Row::new(
+                b"gpsk",
+                6,
+                &[
+                    Field::Suite,
+                    Field::Hex { low: 32, high: 64 },
+                    NONCE,
+                    NAME,
+                    NONCE,
+                    NAME,
+                ],
+            ),
+            Request::Psk => Row::new(b"psk", 2, &[BLOCK, BLOCK]),
+            Request::Name => Row::new(b"name", 1, &[TEXT]),
+        }
+    }
+
+    /// The request that a line begins with, if it is one.
+    #[tactic(auto, unfolding(text_tables::specs::Rows::keyword_in))]
+    fn of_line(line: &[u8]) -> Option<Request>
+        ensures { result ≡ keyword_in row_of requests (words line.now) }
+    {
+        let word = word_in(line, 0);
+        REQUESTS
+            .iter()
+            .copied()
+            .find(|request| word == request.row().word)
+    }
+}
+
+/// A request for a cipher, a MAC, a key schedule or the name of a key. Fields without a stated size
+/// have 0 to 2,000 octets.
+#[derive(Drop)]
+pub enum KeyLine {
+    /// AES-128 of a block.
+    Aes {
+        key: [u8; 16],
+        block: [u8; 16],
+    },
+    /// AES-CMAC of a text.
+    Cmac {
+        key: [u8; 16],
+        text: Octets<2000>,
+    },
+    /// HMAC-SHA256 of a text.
+    Hmac {
+        key: Octets<2000>,
+        text: Octets<2000>,
+    },
+    /// EAX over AES-128.
+    Eax {
+        key: [u8; 16],
+        nonce: Octets<2000>,
+        header: Octets<2000>,
+        text: Octets<2000>,
+    },
+    /// The key schedule of EAP-GPSK: `psk` has 32 to 64 octets, `idp` and `ids` at most 253.
+    Gpsk {
+        suite: Suite,
+        psk: Octets<2000>,
+        randp: [u8; 32],
+        idp: Octets<2000>,
+        rands: [u8; 32],
+        ids: Octets<2000>,
+    },
+    /// The key schedule of EAP-PSK.
+    Psk {
+        psk: [u8; 16],
+        randp: [u8; 16],
+    },
+    /// The name of a key.
+    Name {
+        key: Octets<2000>,
+    },
+}
+
+impl KeyLine {
+    /// A request into which others are read: the name of a key without octets.
+    pub fn new() -> KeyLine
+        ensures { result ≡ key.Name [] }
+    {
+        KeyLine::Name { key: Octets::new() }
+    }
+}
+
+/// Reads the request that a line is into `asked`, and answers true; or the first fault of its words:
+/// `BadWord`, `BadCount`, `BadNumber`, `BadHex`, `BadSize`. The fault decides, whichever word has it. False
+/// for an empty line and for one that begins with `#`. Without a request, `asked` stays as it was.
+#[tactic(auto, unfolding(crate::specs::Keys::key_line), using(crate::proofs::KeyJudging::request_sizes))]
+pub fn read_key_line(line: &[u8], asked: &mut KeyLine) -> Result<bool, LineFault>
+    ensures value { read_into result asked.new ≡ key_line line.now }
+    ensures sizes { result ≡ Ok true → HasSizes asked.new }
+    ensures kept { result ≢ Ok true → asked.new ≡ asked.old }
+{
+    if is_comment(line) {
+        return Ok(false);
+    }
+    read_request(line, asked)?;
+    Ok(true)
+}
+
+#[tactic(auto, unfolding(crate::specs::Keys::asked_by), using(text_tables::proofs::Fitting::fits))]
+fn read_request(line: &[u8], asked: &mut KeyLine) -> Result<(), LineFault>
+    ensures value { asked_into result asked.new ≡ asked_by line.now }
+    ensures kept { IfErr result (λ fault. asked.new ≡ asked.old) }
+{
+    if !is_printable_line(line) {
+        return Err(LineFault::BadWord);
+    }
+    match Request::of_line(line) {
+        None => Err(LineFault::BadWord),
+        Some(request) => {
+            let row = request.row();
+            match fault_of_words(row.least, row.fields, line) {
+                Some(fault) => Err(fault),
+                None => {
+                    ask(request, line, asked);
+                    Ok(())
+                }
+            }
+        }
+    }
+}
+
+/// Writes what a request asks for with the words of its line.
+#[tactic(auto, unfolding(crate::specs::Keys::asked_of))]
+fn ask(request: Request, line: &[u8], asked: &mut KeyLine)
+    requires { Fits (row_of request) (words line.now) }
+    ensures { asked.new ≡ asked_of request (words line.now) }
+{
+    let first = word_in(line, 1);
+    let second = word_in(line, 2);
+    *asked = match request {
+        Request::Aes => KeyLine::Aes {
+            key: array(first),
+            block: array(second),
+        },
+        Request::Cmac => KeyLine::Cmac {
+            key: array(first),
+            text: octets(second),
+        },
+        Request::Hmac => KeyLine::Hmac {
+            key: octets(first),
+            text: octets(second),
+        },
+        Request::Eax => KeyLine::Eax {
+            key: array(first),
+            nonce: octets(second),
+            header: octets(word_in(line, 3)),
+            text: octets(word_in(line, 4)),
+        },
+        Request::Gpsk => KeyLine::Gpsk {
+            suite: ciphersuite_of(first),
+            psk: octets(second),
+            randp: array(word_in(line, 3)),
+            idp: octets(word_in(line, 4)),
+            rands: array(word_in(line, 5)),
+            ids: octets(word_in(line, 6)),
+        },
+        Request::Psk => KeyLine::Psk {
+            psk: array(first),
+            randp: array(second),
+        },
+        Request::Name => KeyLine::Name { key: octets(first) },
+    };
+}
+
+/// The ciphersuite that the word spells.
+fn ciphersuite_of(word: &[u8]) -> Suite
+    ensures { result ≡ ciphersuite_of word.now }
+{
+    if word == b"1".as_slice() {
+        Suite::Cmac
+    } else {
+        Suite::Hmac
+    }
+}

@@ -1,0 +1,17 @@
+//! Laws of the lines of a text, over its table. Each is the contract of a function that does nothing.
+
+ghost use Rattle.request_text.specs.Laws.{CapturesAreJudged, RequestsAreJudged};
+
+/// A line of a capture is refused with exactly the first fault that it has where it stands, and taken
+/// exactly where it has none; then it says what its keyword says with its words.
+#[tactic(auto, using(crate::proofs::CaptureJudging::captures_are_judged))]
+pub fn captures_are_judged()
+    ensures { CapturesAreJudged }
+{}
+
+/// A request for a cipher, a MAC or keys is refused with exactly the first fault of its words, and taken
+/// exactly where it has none.
+#[tactic(auto, using(crate::proofs::KeyJudging::requests_are_judged))]
+pub fn requests_are_judged()
+    ensures { RequestsAreJudged }
+{}

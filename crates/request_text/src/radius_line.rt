@@ -1,0 +1,179 @@
+//! The table of the lines of a text of RADIUS packets, and what each says.
+
+ghost use Rattle.std.specs.Prelude.{◌≡◌};
+ghost use Rattle.text_tables.specs.Words.{words};
+ghost use Rattle.text_tables.specs.Rows.{keyword_in, first_word};
+ghost use Rattle.text_tables.specs.Fits.{Fits};
+ghost use Rattle.request_text.specs.Radius.{row_of, radius_words, reply_of, item_of, item_for};
+
+use eap_base::Octets;
+use text_tables::{
+    Choices, Field, LineFault, Row, array, fault_of_words, is_printable_line, number, octets,
+    word_in,
+};
+
+/// The first word of a line of a text of RADIUS packets.
+#[derive(Clone, Copy, PartialEq, Eq, Debug)]
+pub enum RadiusWord {
+    Secret,
+    Request,
+    Reply,
+    Read,
+    End,
+}
+
+const RADIUS_WORDS: [RadiusWord; 5] = [
+    RadiusWord::Secret,
+    RadiusWord::Request,
+    RadiusWord::Reply,
+    RadiusWord::Read,
+    RadiusWord::End,
+];
+
+const STATE: Field = Field::Hex { low: 0, high: 64 };
+
+const EAP: Field = Field::Hex { low: 1, high: 1500 };
+
+/// The kind of a reply (RFC 2865 section 4).
+#[derive(Clone, Copy, PartialEq, Eq, Debug)]
+pub enum ReplyKind {
+    /// Access-Accept.
+    Accept,
+    /// Access-Reject.
+    Reject,
+    /// Access-Challenge.
+    Challenge,
+}
+
+/// What a line of a text of RADIUS packets says.
+#[derive(Drop)]
+pub enum RadiusItem {
+    /// The header, or a line that is passed over.
+    Nothing,
+    /// The secret that both ends share, 1 to 64 octets.
+    Secret(Octets<64>),
+    /// A request to be written: Identifier, Request Authenticator, name, state and EAP packet.
+    Request {
+        id: u8,
+        authenticator: [u8; 16],
+        user: Octets<253>,
+        state: Octets<64>,
+        eap: Octets<1500>,
+    },
+    /// A reply to be written to the request that is kept: kind, state and EAP packet.
+    Reply {
+        kind: ReplyKind,
+        state: Octets<64>,
+        eap: Octets<1500>,
+    },
+    /// The octets of a packet to be read.
+    Read(Octets<2000>),
+    /// The line `end`.
+    End,
+}
+
+impl RadiusWord {
+    /// The keyword's row.
+    fn row(self) -> Row
+        ensures word { result.word.now ≡ (row_of self).word }
+        ensures least { result.least ≡ (row_of self).least }
+        ensures fields { result.fields.now ≡ (row_of self).fields }
+    {
+        match self {
+            RadiusWord::Secret => Row::new(b"secret", 1, &[Field::Hex { low: 1, high: 64 }]),
+            RadiusWord::Request => Row::new(
+                b"request",
+                5,
+                &[
+                    Field::Number { low: 0, high: 255 },
+                    Field::Hex { low: 16, high: 16 },
+                    Field::Hex { low: 0, high: 253 },
+                    STATE,
+                    EAP,
+                ],
+            ),
+            RadiusWord::Reply => Row::new(
+                b"reply",
+                3,
+                &[Field::Choice(Choices::Reply), STATE, EAP],
+            ),
+            RadiusWord::Read => Row::new(b"read", 1, &[Field::Hex { low: 0, high: 2000 }]),
+            RadiusWord::End => Row::new(b"end", 0, &[]),
+        }
+    }
+
+    /// The keyword that a line begins with, if it is one.
+    #[tactic(auto, unfolding(text_tables::specs::Rows::keyword_in))]
+    fn of_line(line: &[u8]) -> Option<RadiusWord>
+        ensures { result ≡ keyword_in row_of radius_words (words line.now) }
+    {
+        let word = word_in(line, 0);
+        RADIUS_WORDS
+            .iter()
+            .copied()
+            .find(|keyword| word == keyword.row().word)
+    }
+}
+
+/// The keyword that a line begins with; `BadWord` where it is none, or an octet isn't printable.
+#[tactic(auto, unfolding(text_tables::specs::Rows::first_word))]
+pub fn read_radius_word(line: &[u8]) -> Result<RadiusWord, LineFault>
+    ensures { result ≡ first_word row_of radius_words line.now }
+{
+    if is_printable_line(line) {
+        RadiusWord::of_line(line).ok_or(LineFault::BadWord)
+    } else {
+        Err(LineFault::BadWord)
+    }
+}
+
+/// What a keyword says with the words of its line, or their first fault.
+#[tactic(auto, unfolding(crate::specs::Radius::item_for))]
+pub fn read_radius_item(word: RadiusWord, line: &[u8]) -> Result<RadiusItem, LineFault>
+    ensures { result ≡ item_for word (words line.now) }
+{
+    let row = word.row();
+    match fault_of_words(row.least, row.fields, line) {
+        Some(fault) => Err(fault),
+        None => Ok(item_of(word, line)),
+    }
+}
+
+/// The kind of reply that a word names.
+fn reply_of(name: &[u8]) -> ReplyKind
+    ensures { result ≡ reply_of name.now }
+{
+    if name == b"accept".as_slice() {
+        ReplyKind::Accept
+    } else if name == b"reject".as_slice() {
+        ReplyKind::Reject
+    } else {
+        ReplyKind::Challenge
+    }
+}
+
+/// What a keyword says with the words of its line.
+#[tactic(auto, unfolding(crate::specs::Radius::item_of))]
+fn item_of(word: RadiusWord, line: &[u8]) -> RadiusItem
+    requires { Fits (row_of word) (words line.now) }
+    ensures { result ≡ item_of word (words line.now) }
+{
+    let first = word_in(line, 1);
+    match word {
+        RadiusWord::Secret => RadiusItem::Secret(octets(first)),
+        RadiusWord::Request => RadiusItem::Request {
+            id: number(first) as u8,
+            authenticator: array(word_in(line, 2)),
+            user: octets(word_in(line, 3)),
+            state: octets(word_in(line, 4)),
+            eap: octets(word_in(line, 5)),
+        },
+        RadiusWord::Reply => RadiusItem::Reply {
+            kind: reply_of(first),
+            state: octets(word_in(line, 2)),
+            eap: octets(word_in(line, 3)),
+        },
+        RadiusWord::Read => RadiusItem::Read(octets(first)),
+        RadiusWord::End => RadiusItem::End,
+    }
+}

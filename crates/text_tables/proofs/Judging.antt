@@ -1,0 +1,160 @@
+-- A line is refused with the first fault that it has, by its keyword, its words and its place, and taken where it has none.
+use Rattle.std.proofs.Common.{◌≡◌, ℕ, Bool, true, false, cond, ◌||◌, ◌&&◌, not, List, [], ◌∷◌, ◌++◌, Option, Some, None, find, ok_or, Result, Ok, Err, IsOk, inl, inr, refl, sym, ap, ◌∙◌}
+use Rattle.std.proofs.lemmas.Bool.{cases_Bool}
+use Rattle.std.proofs.lemmas.List.Elements.{All-nil, All-cons, recursion_from_All}
+use Rattle.std.specs.List.{AllByRecursion}
+use Rattle.std.specs.Option.{option_or}
+use Rattle.text_tables.specs.Words.{words, is_printable}
+use Rattle.text_tables.specs.Fields.{◌>>=◌}
+use Rattle.text_tables.specs.Rows.{Row, faults, unless, fault_of_words, keyword_in, first_word, has_bad_word, line_has}
+use Rattle.text_tables.specs.Laws.{IsFirstOf, Judges}
+use Rattle.text_tables.specs.declared.fault.LineFault.{LineFault}
+use Rattle.text_tables.specs.declared.fault.LineFault.TheVariants as fault
+use Rattle.text_tables.proofs.Fitting.{no_fault, none-found}
+
+-- a printable line that begins with a keyword
+pub record Begins {K : Type 0} (row : K → Row) (keywords : List K) (line : List ℕ) (k : K) : Type 0 where
+  pub printable : is_printable line ≡ true
+  pub found : keyword_in row keywords (words line) ≡ Some k
+
+-- one that doesn't
+pub record IsBad {K : Type 0} (row : K → Row) (keywords : List K) (line : List ℕ) (f : LineFault) : Type 0 where
+  pub bad : has_bad_word row keywords line ≡ true
+  pub is : f ≡ fault.BadWord
+
+found-some : {A : Type 0} (found : Option A) (f : LineFault) (a : A) → ok_or found f ≡ Ok a → found ≡ Some a
+found-some None f a e = absurd cc
+found-some (Some b) f a e = cc
+
+found-none : {A : Type 0} (found : Option A) (f e : LineFault) → ok_or found f ≡ Err e → (found ≡ None) × (e ≡ f)
+found-none None f e h = (refl, cc)
+found-none (Some b) f e h = absurd cc
+
+module _ {K : Type 0} (row : K → Row) (keywords : List K) (line : List ℕ) where
+  pub begins : (k : K) → first_word row keywords line ≡ Ok k → Begins row keywords line k
+  unfolding first_word
+  begins k e =
+      elim (cases_Bool (is_printable line)) [
+        | inl p ↦ record { printable = p; found = found-some (keyword_in row keywords (words line)) fault.BadWord k (rw p at e) }
+        | inr p ↦ let bad = rw p at e in absurd cc
+      ]
+
+  pub bad_word : (f : LineFault) → first_word row keywords line ≡ Err f → IsBad row keywords line f
+  unfolding first_word
+  bad_word f e =
+      elim (cases_Bool (is_printable line)) [
+        | inl p ↦
+            let none = found-none (keyword_in row keywords (words line)) fault.BadWord f (rw p at e) in
+            let found = none.0 in
+            record { bad = rw (p, found) refl; is = none.1 }
+        | inr p ↦ let bad = rw p at e in record { bad = rw p refl; is = cc }
+      ]
+
+-- the first of ten faults, of which the words have six and the place four
+join : (bc c bch bn bh bs again before lacks out : Bool) →
+    cond (bc || c) (Some fault.BadCount) (cond (bch || false) (Some fault.BadChoice) (cond (bn || false) (Some fault.BadNumber) (cond (bh || false) (Some fault.BadHex) (cond (bs || false) (Some fault.BadSize)
+    (cond (again || before) (Some fault.Repeated) (cond lacks (Some fault.Missing) (cond out (Some fault.Order) None)))))))
+    ≡ cond c (Some fault.BadCount) (option_or (cond bc (Some fault.BadCount) (cond bch (Some fault.BadChoice) (cond bn (Some fault.BadNumber) (cond bh (Some fault.BadHex) (cond bs (Some fault.BadSize) (cond again (Some fault.Repeated) None))))))
+    (cond before (Some fault.Repeated) (cond lacks (Some fault.Missing) (cond out (Some fault.Order) None))))
+join true true bch bn bh bs again before lacks out = refl
+join true false bch bn bh bs again before lacks out = refl
+join false true bch bn bh bs again before lacks out = refl
+join false false true bn bh bs again before lacks out = refl
+join false false false true bh bs again before lacks out = refl
+join false false false false true bs again before lacks out = refl
+join false false false false false true again before lacks out = refl
+join false false false false false false true before lacks out = refl
+join false false false false false false false before lacks out = refl
+
+unless-either : {A B : Type 0} (c : Bool) (x y : Option LineFault) (told : B) (value : A) (f : B → Result A LineFault) →
+    f told ≡ unless y value → unless (cond c (Some fault.BadCount) (option_or x y)) value ≡ cond c (Err fault.BadCount) (unless x told >>= f)
+unless-either true x y told value f e = refl
+unless-either false None y told value f e = sym e
+unless-either false (Some g) y told value f e = refl
+
+-- the first fault of a place; it has none of those that the words alone have
+abbrev pub placed : (LineFault → Bool) → Option LineFault
+placed place = cond (place fault.Repeated) (Some fault.Repeated) (cond (place fault.Missing) (Some fault.Missing) (cond (place fault.Order) (Some fault.Order) None))
+
+abbrev pub IsPlace : (LineFault → Bool) → Type 0
+IsPlace place =
+    (place fault.NoHeader ≡ false) × (place fault.BadWord ≡ false) × (place fault.BadChoice ≡ false) × (place fault.BadNumber ≡ false)
+    × (place fault.BadHex ≡ false) × (place fault.BadSize ≡ false)
+
+-- a place where nothing is Missing
+pub without-missing : (before stands : Bool) →
+    cond before (Some fault.Repeated) (cond stands None (Some fault.Order)) ≡ cond before (Some fault.Repeated) (cond (not stands) (Some fault.Order) None)
+without-missing before true = refl
+without-missing before false = refl
+
+-- a line after the first that isn't passed over
+module _ {K A : Type 0} (row : K → Row) (keywords : List K) (line : List ℕ) (place : LineFault → Bool) (o : IsPlace place) (passed : Bool) (n : passed ≡ false) (over value : A) where
+  abbrev has : LineFault → Bool
+  has f = line_has row keywords line f || place f
+
+  abbrev body : Result A LineFault
+  body = cond passed (Ok over) (unless (find has faults) value)
+
+  -- no keyword
+  pub body-bad : has_bad_word row keywords line ≡ true → body ≡ Err fault.BadWord
+  unfolding line_has
+  body-bad h = rw (n, o.0, h) refl
+
+  pub body-fault : (f : LineFault) → first_word row keywords line ≡ Err f → body ≡ Err f
+  body-fault f e = let b = bad_word row keywords line f e in rw b.is (body-bad b.bad)
+
+  -- else its words, and then its place
+  body-known : (k : K) → Begins row keywords line k →
+      find has faults ≡ cond (place fault.BadCount) (Some fault.BadCount) (option_or (fault_of_words (row k).least (row k).fields (words line)) (placed place))
+  unfolding line_has fault_of_words
+  body-known k b = rw (b.printable, b.found, o.0, o.1, o.2, o.3, o.4, o.5) (join _ _ _ _ _ _ _ _ _ _)
+
+  pub body-words : {B : Type 0} (k : K) → Begins row keywords line k → (told : B) (f : B → Result A LineFault) → f told ≡ unless (placed place) value →
+      body ≡ cond (place fault.BadCount) (Err fault.BadCount) (unless (fault_of_words (row k).least (row k).fields (words line)) told >>= f)
+  body-words k b told f e =
+      rw (n, body-known k b) (unless-either (place fault.BadCount) (fault_of_words (row k).least (row k).fields (words line)) (placed place) told value f e)
+
+-- the first of a list that passes
+found : (has : LineFault → Bool) (list : List LineFault) (f : LineFault) → find has list ≡ Some f → IsFirstOf list has f
+found has [] f e = absurd cc
+found has (x ∷ rest) f e =
+    elim (cases_Bool (has x)) [
+      | inl h ↦
+          let same : x ≡ f = let here = rw h at e in cc in
+          record { before = []; after = rest; order = ap (λ y. y ∷ rest) same; met = rw (← same) h; none_before = All-nil (λ e. has e ≡ false) }
+      | inr h ↦
+          let s = found has rest f (rw h at e) in
+          record { before = x ∷ s.before; after = s.after; order = ap (λ l. x ∷ l) (s.order); met = s.met; none_before = All-cons (λ e. has e ≡ false) x s.before h s.none_before }
+    ]
+
+first-found : (has : LineFault → Bool) (before after : List LineFault) (f : LineFault) → has f ≡ true → AllByRecursion (λ e. has e ≡ false) before → find has (before ++ f ∷ after) ≡ Some f
+first-found has [] after f met none = rw met refl
+first-found has (x ∷ before) after f met none = let h = none.0 in rw h (first-found has before after f met (none.1))
+
+refused-by : {A : Type 0} (first : Option LineFault) (value : A) (f : LineFault) → unless first value ≡ Err f → first ≡ Some f
+refused-by None value f e = absurd cc
+refused-by (Some g) value f e = cc
+
+taken-by : {A : Type 0} (first : Option LineFault) (value : A) → IsOk (unless first value) → first ≡ None
+taken-by None value e = refl
+taken-by (Some g) value e = absurd cc
+
+pub judges : {A : Type 0} (answer : Result A LineFault) (has : LineFault → Bool) (value : A) → answer ≡ unless (find has faults) value → Judges answer has value
+judges answer has value is = record {
+  refused = λ f e. found has faults f (refused-by (find has faults) value f (sym is ∙ e));
+  first = λ f s.
+      let found : find has faults ≡ Some f = ap (find has) (s.order) ∙ first-found has (s.before) (s.after) f (s.met) (recursion_from_All (λ x. has x ≡ false) (s.before) (s.none_before)) in
+      is ∙ ap (λ first. unless first value) found;
+  taken = λ ok. no_fault has (taken-by (find has faults) value (rw is at ok));
+  faultless = λ none. is ∙ ap (λ first. unless first value) (none-found has faults none);
+}
+
+-- line 1 is the header or not, and a line after it is passed over or not
+pub header-judged : {A : Type 0} (same : Bool) (value : A) → cond same (Ok value) (Err fault.NoHeader) ≡ unless (cond (not same) (Some fault.NoHeader) None) value
+header-judged true value = refl
+header-judged false value = refl
+
+pub body-judged : {A : Type 0} (passed : Bool) (has : LineFault → Bool) (over value : A) →
+    cond passed (Ok over) (unless (find has faults) value) ≡ unless (find (λ f. not passed && has f) faults) (cond passed over value)
+body-judged true has over value = refl
+body-judged false has over value = refl

@@ -1,0 +1,64 @@
+-- What the words of a line without a fault are.
+use Rattle.std.specs.Prelude.{◌≡◌, ℕ, ◌+◌, ◌<◌, ◌≤◌, List, [], ◌∷◌, length, Bool, true, false, nat_le, IsTrue}
+use Rattle.eap_base.specs.Setup.{fits_kind}
+use Rattle.std.specs.Str.{bytes_eq}
+use Rattle.text_tables.specs.Fields.{word_in, number, spells_octets, octets_of, spells_kind, kind_of, spells_suite}
+use Rattle.text_tables.specs.Rows.{Row, field_has, any_has, is_choice, is_kind_or_none}
+use Rattle.text_tables.specs.declared.fault.LineFault.{LineFault}
+use Rattle.text_tables.specs.declared.rows.Field.{Field}
+use Rattle.text_tables.specs.declared.rows.Field.TheVariants as field
+
+pub record IsNumber (low high : ℕ) (word : List ℕ) : Type 0 where
+  pub least : low ≤ number word
+  pub most : number word ≤ high
+
+pub record IsHex (low high : ℕ) (word : List ℕ) : Type 0 where
+  pub hex : IsTrue (spells_octets word)
+  pub least : low ≤ length (octets_of word)
+  pub most : length (octets_of word) ≤ high
+
+pub record IsKey (kind : ℕ) (word : List ℕ) : Type 0 where
+  pub hex : IsTrue (spells_octets word)
+  pub fits : IsTrue (fits_kind kind (octets_of word))
+
+pub record IsName (name : List ℕ) : Type 0 where
+  pub some : 1 ≤ length name
+  pub few : length name ≤ 253
+
+-- one of two that aren't the same
+pub record IsOther (spells : List ℕ → Bool) (word other : List ℕ) : Type 0 where
+  pub spelled : IsTrue (spells word)
+  pub differs : bytes_eq word other ≡ false
+
+abbrev pub FieldFits : Field → ℕ → List (List ℕ) → Type 0
+FieldFits (field.Choice c) place ws = IsTrue (is_choice c (word_in ws place))
+FieldFits (field.Number low high) place ws = IsNumber low high (word_in ws place)
+FieldFits field.Kind place ws = IsTrue (spells_kind (word_in ws place))
+FieldFits field.KindOrNone place ws = IsTrue (is_kind_or_none place ws)
+FieldFits (field.OtherKind p) place ws = IsOther spells_kind (word_in ws place) (word_in ws p)
+FieldFits field.Suite place ws = IsTrue (spells_suite (word_in ws place))
+FieldFits (field.OtherSuite p) place ws = IsOther spells_suite (word_in ws place) (word_in ws p)
+FieldFits field.Name place ws = IsName (word_in ws place)
+FieldFits (field.Hex low high) place ws = IsHex low high (word_in ws place)
+FieldFits (field.Key p) place ws = IsKey (kind_of (word_in ws p)) (word_in ws place)
+
+-- a word that may be left out fits where it is there
+abbrev pub Where : Bool → Type 0 → Type 0 → Type 0
+Where true there Fits = Fits
+Where false there Fits = there → Fits
+
+abbrev pub FieldsFit : ℕ → ℕ → List Field → List (List ℕ) → Type 0
+FieldsFit least place [] ws = Unit {0}
+FieldsFit least place (f ∷ rest) ws = Where (nat_le place least) (place < length ws) (FieldFits f place ws) × FieldsFit least (place + 1) rest ws
+
+pub record Fits (row : Row) (ws : List (List ℕ)) : Type 0 where
+  pub least : row.least < length ws
+  pub most : length ws ≤ length row.fields + 1
+  pub fields : FieldsFit row.least 1 row.fields ws
+
+-- none of the faults of a word, and of the words from a place on
+abbrev pub IsFaultlessAt : Field → ℕ → List (List ℕ) → Type 0
+IsFaultlessAt f place ws = (e : LineFault) → field_has e f place ws ≡ false
+
+abbrev pub AreFaultless : List Field → ℕ → List (List ℕ) → Type 0
+AreFaultless fields place ws = (e : LineFault) → any_has e place fields ws ≡ false

@@ -1,0 +1,7 @@
+pub mod Fields
+pub mod Firsts
+pub mod Fits
+pub mod Laws
+pub mod Rows
+pub mod Users
+pub mod Words
