@@ -8,5 +8,7 @@ pub mod CaptureSteps
 pub mod KeyJudging
 -- The first fault of a line of a text of RADIUS packets, step by step.
 pub mod RadiusFaults
+-- A line of a text of RADIUS packets is refused with the first fault that it has.
+pub mod RadiusJudging
 -- Lines, read by the definitions alone.
 mod Samples

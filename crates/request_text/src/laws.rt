@@ -1,6 +1,6 @@
 //! Laws of the lines of a text, over its table. Each is the contract of a function that does nothing.
 
-ghost use Rattle.request_text.specs.Laws.{CapturesAreJudged, RequestsAreJudged};
+ghost use Rattle.request_text.specs.Laws.{CapturesAreJudged, RadiusLinesAreJudged, RequestsAreJudged};
 
 /// A line of a capture is refused with exactly the first fault that it has where it stands, and taken
 /// exactly where it has none; then it says what its keyword says with its words.
@@ -14,4 +14,11 @@ pub fn captures_are_judged()
 #[tactic(auto, using(crate::proofs::KeyJudging::requests_are_judged))]
 pub fn requests_are_judged()
     ensures { RequestsAreJudged }
+{}
+
+/// A line of a text of RADIUS packets is refused with exactly the first fault that it has where it stands, and
+/// taken exactly where it has none; then it says what its keyword says with its words.
+#[tactic(auto, using(crate::proofs::RadiusJudging::radius_lines_are_judged))]
+pub fn radius_lines_are_judged()
+    ensures { RadiusLinesAreJudged }
 {}

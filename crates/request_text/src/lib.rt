@@ -12,7 +12,7 @@ mod radius_line;
 
 pub use capture::{CaptureItem, CaptureReader};
 pub use key_line::{KeyLine, read_key_line};
-pub use laws::{captures_are_judged, requests_are_judged};
+pub use laws::{captures_are_judged, radius_lines_are_judged, requests_are_judged};
 pub use packet_line::read_packet_line;
 pub use radius::{RadiusPhase, RadiusReader};
 pub use radius_line::{RadiusItem, ReplyKind};
