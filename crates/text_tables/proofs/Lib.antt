@@ -9,3 +9,5 @@ pub mod Fitting
 -- A line is refused with the first fault that it has, by its keyword, its words and its place, and taken where it has
 -- none.
 pub mod Judging
+-- The users that words name have visible names, and keys of their methods' sizes.
+pub mod NamedUsers

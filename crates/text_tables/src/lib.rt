@@ -5,11 +5,13 @@
 mod fault;
 mod fields;
 mod rows;
+mod user_words;
 mod users;
 mod words;
 
 pub use fault::LineFault;
 pub use fields::{array, kind_of, name, number, octets, read_hex, read_number, suite_of};
 pub use rows::{Choices, Field, Row, fault_of_words};
+pub use user_words::read_users;
 pub use users::add_user;
 pub use words::{is_comment, is_printable_line, word_at, word_count, word_in};

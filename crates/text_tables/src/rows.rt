@@ -236,14 +236,14 @@ fn is_kind_or_none(line: &[u8], place: usize, count: usize) -> bool
     spells_kind(word) || (word == b"-".as_slice() && count - 1 <= place)
 }
 
-fn is_within(count: usize, low: usize, high: usize) -> bool
+pub(crate) fn is_within(count: usize, low: usize, high: usize) -> bool
     ensures { result ≡ is_within count low high }
 {
     low <= count && count <= high
 }
 
 /// Whether the octets that the word spells can be a key for the method.
-fn fits_kind(kind: u8, word: &[u8]) -> bool
+pub(crate) fn fits_kind(kind: u8, word: &[u8]) -> bool
     ensures { result ≡ fits_kind kind (octets_of word.now) }
 {
     let count = octet_count(word);
