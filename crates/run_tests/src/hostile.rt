@@ -1,7 +1,7 @@
 //! Packets that don't belong where they come, before and after each delivery of a login by EAP-GPSK: each is
 //! discarded with its cause, and the login ends as it does without it.
 
-use crate::blocks::is_replayed;
+use call_cases::is_replayed;
 use std::alloc::{AllocError, Global};
 use std::io;
 use std::test::Fail;

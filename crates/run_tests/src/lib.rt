@@ -1,8 +1,6 @@
-//! Tests of whole runs: logins, the world's steps, and the program from its arguments to its exit status; and
-//! the cases of the one call, written as a text, which other crates of tests read too.
+//! Tests of whole runs: logins, the world's steps, and the program from its arguments to its exit status.
 #![tactic(auto)]
 
-pub mod blocks;
 #[cfg(test)]
 mod hostile;
 #[cfg(test)]

@@ -1,7 +1,7 @@
 //! Whole logins. Expected octets, tags and names of keys were computed with Python from RFC 5433 and
 //! RFC 4764, over its packages hashlib, hmac and cryptography.
 
-use crate::blocks::{answered_to, is_replayed, is_traced, rests, scenario};
+use call_cases::{answered_to, is_replayed, is_traced, rests, scenario};
 use std::alloc::Global;
 use std::test::Fail;
 use std::{io, str};

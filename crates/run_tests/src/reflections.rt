@@ -4,8 +4,8 @@
 ghost use Rattle.std.specs.Prelude.{IfOk};
 ghost use Rattle.scenario_text.specs.Valid.{IsValidSetup};
 
-use crate::blocks::{first_rest, is_replayed, scenario};
 use crate::worlds::{BoxedWorld, start, step};
+use call_cases::{first_rest, is_replayed, scenario};
 use eap_base::{Event, Setup};
 use eap_method::{PeerMethod, ServerMethod};
 use eap_world::{Methods, TagsVerdict};

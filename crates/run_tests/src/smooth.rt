@@ -1,6 +1,6 @@
 //! Smooth logins: two ends that fit, each of whose packets is delivered once and in order.
 
-use crate::blocks::{answered_to, first_rest, scenario};
+use call_cases::{answered_to, first_rest, scenario};
 use login_call::Status;
 use std::alloc::{AllocError, Global};
 use std::io;

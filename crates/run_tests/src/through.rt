@@ -1,7 +1,7 @@
 //! Runs with a pass-through between the ends (RFC 4137 sections 6 and 7). The octets of the packets are those
 //! of the same logins without it.
 
-use crate::blocks::{is_replayed, is_traced};
+use call_cases::{is_replayed, is_traced};
 use std::test::Fail;
 
 /// A server that is lost after the identity; a late Request of it finds that the pass-through has ended.

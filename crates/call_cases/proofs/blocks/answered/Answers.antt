@@ -2,8 +2,8 @@ use Rattle.std.proofs.Common.{◌≡◌, refl, sym, subst}
 use Rattle.eap_base.specs.Setup.{psk_kind, gpsk_kind}
 use Rattle.eap_method.specs.Peer.{peer_kind}
 use Rattle.eap_method.specs.Server.{server_kind}
-use Rattle.run_tests.proofs.blocks.answered.OwnLists as own
-use Rattle.run_tests.proofs.blocks.answered.Goals as goal
+use Rattle.call_cases.proofs.blocks.answered.OwnLists as own
+use Rattle.call_cases.proofs.blocks.answered.Goals as goal
 
 -- an object of a method has its Type wherever it stands
 
