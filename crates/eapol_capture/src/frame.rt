@@ -1,6 +1,6 @@
 //! EAP packets in Ethernet frames.
 
-ghost use Rattle.std.specs.Prelude.{◌≡◌, ◌≤◌, length};
+ghost use Rattle.std.specs.Prelude.{◌≡◌, ◌≤◌, length, nat_lt};
 ghost use Rattle.eapol_capture.specs.Frames.{carried, heard, body_of, type_of, body_length};
 
 use eap_base::array_of;
@@ -61,6 +61,13 @@ fn body_of<'a>(frame: &'a [u8]) -> FrameFinding<'a>
     }
 }
 
+/// True for a frame without EAPOL's whole header.
+fn is_short(frame: &[u8]) -> bool
+    ensures { result ≡ nat_lt (length frame.now) 18 }
+{
+    frame.len() < EAPOL
+}
+
 /// What an Ethernet frame carries: an EAP packet is the body of EAPOL's type 0 (IEEE 802.1X-2010 clause
 /// 11.3). `Cut`: the frame's type is 888e and it has under 18 octets, or EAPOL's type is 0 and its length is
 /// over the octets that are there or over 2,000. `Other`: the frame has under 14 octets, its type isn't
@@ -71,7 +78,7 @@ pub fn eap_of_frame<'a>(frame: &'a [u8]) -> FrameFinding<'a>
 {
     if frame.len() < ETHERNET || type_of(frame) != EAPOL_TYPE {
         FrameFinding::Other
-    } else if frame.len() < EAPOL {
+    } else if is_short(frame) {
         FrameFinding::Cut
     } else if frame[15] != EAP_PACKET {
         FrameFinding::Other
