@@ -1,7 +1,7 @@
 //! Captures checked. The tags of the packets come from another implementation of the ciphers, MACs and key
 //! schedules (Python's hmac and cryptography).
 
-use run_tests::blocks::is_answered;
+use call_cases::is_answered;
 use std::test::Fail;
 
 const LOGINS: &str = "\

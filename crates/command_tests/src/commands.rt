@@ -1,8 +1,8 @@
 //! Packets decoded, requests answered, and inputs refused.
 
+use call_cases::{answered, answered_to, is_answered, is_traced};
 use eap_base::{MemSink, MemSource};
 use login_call::Status;
-use run_tests::blocks::{answered, answered_to, is_answered, is_traced};
 use std::alloc::{AllocError, Global};
 use std::io;
 use std::test::Fail;
@@ -325,7 +325,7 @@ fn tells_the_usage(alloc: Global, words: &str) -> io::Result<bool> {
     let sink = MemSink::new(alloc, 2000, 100, &[])?;
     let (status, sink) = answered(alloc, words, source, sink)?;
     let usage =
-        "usage: eap_login replay | replay names | decode | keys | check | bulk N K | radius\n";
+        "usage: eap_login replay | replay names | decode | keys | check | bulk N K | radius | pcap USERS\n";
     Ok(status == Status::Usage && sink.written() == usage.as_bytes())
 }
 

@@ -1,8 +1,8 @@
 //! Many conversations from one number.
 
+use call_cases::{answered, answered_to, first_rest, has_number, rests};
 use eap_base::{MemSink, MemSource};
 use login_call::Status;
-use run_tests::blocks::{answered, answered_to, first_rest, has_number, rests};
 use std::alloc::Global;
 use std::io;
 use std::test::Fail;
@@ -96,7 +96,7 @@ bulk 1
 bulk";
 
 const USAGE: &str =
-    "usage: eap_login replay | replay names | decode | keys | check | bulk N K | radius\n";
+    "usage: eap_login replay | replay names | decode | keys | check | bulk N K | radius | pcap USERS\n";
 
 /// True where these words have the usage line and its status. The source would fail at its first read.
 fn tells_the_usage(alloc: Global, words: &str) -> io::Result<bool> {

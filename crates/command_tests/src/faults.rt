@@ -2,9 +2,9 @@
 
 ghost use Rattle.std.specs.Prelude.{◌<◌};
 
+use call_cases::{answered, answered_to, scenario};
 use eap_base::{MemSink, MemSource};
 use login_call::Status;
-use run_tests::blocks::{answered, answered_to, scenario};
 use std::alloc::Global;
 use std::io;
 use std::test::Fail;

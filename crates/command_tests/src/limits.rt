@@ -1,8 +1,8 @@
 //! Runs at the limits of their settings, and one of as many events as a scenario may have.
 
+use call_cases::{answered, answered_to, scenario};
 use eap_base::{MemSink, MemSource};
 use login_call::Status;
-use run_tests::blocks::{answered, answered_to, scenario};
 use std::alloc::{AllocError, Global};
 use std::test::Fail;
 use std::{io, str};

@@ -1,6 +1,6 @@
 //! Texts of RADIUS packets that carry EAP, answered.
 
-use run_tests::blocks::is_answered;
+use call_cases::is_answered;
 use std::test::Fail;
 
 // The packets, their tags and their Authenticators were computed with the modules hmac and hashlib of Python.

@@ -68,6 +68,9 @@ finishes_after written faults last result before mid now front a e f w = record 
 pub ends_same : (s : Status) (before now : Option (List ℕ)) (a b : Answer) → a ≡ b → Ends s before now b → Ends s before now a
 ends_same s before now a b e w = subst (λ x. Ends s before now x) (sym e) w
 
+pub front_same : (before now : Option (List ℕ)) (a b : Answer) → a ≡ b → WritesFront before now a.text → WritesFront before now b.text
+front_same before now a b e w = subst (λ (x : Answer). WritesFront before now x.text) e w
+
 -- what was written is a front of the whole answer, and the rest of it is another answer
 pub record Progress (before now : Option (List ℕ)) (total rest : Answer) : Type 0 where
   pub front : List ℕ

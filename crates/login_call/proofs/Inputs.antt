@@ -1,7 +1,7 @@
 -- Reading an input line by line gives the scenario that its octets are.
 use Rattle.std.proofs.Common.{◌≡◌, ℕ, ◌+◌, ◌≤◌, List, [], ◌∷◌, length, Bool, true, false, cond, ◌&&◌, nat_le, Some, Result, Ok, Err, inl, inr, refl, sym, ap, subst, ◌∙◌, arith}
 use Rattle.std.proofs.lemmas.Bool.{cases_Bool, leb-false, lt-leb}
-use Rattle.eap_base.specs.Lines.{Lines, ended, too_long, too_much, line, lines, without_cr}
+use Rattle.eap_base.specs.Lines.{Lines, ended, too_long, too_much, line, without_cr}
 use Rattle.eap_base.specs.Cutting.{pieces, last_of, whole_lines, last_line, is_past_line, is_within}
 use Rattle.eap_base.specs.declared.event.Event.{Event}
 use Rattle.eap_base.specs.declared.setup.Setup.{Setup}

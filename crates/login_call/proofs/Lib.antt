@@ -22,3 +22,11 @@ pub mod NeverBoth
 pub mod SmoothTraces
 -- No line of `radius` begins as the line of honest tags does.
 pub mod RadiusPlain
+-- What is kept of a file of captured frames answers as its packets themselves do.
+pub mod PcapFound
+-- A file of captured frames on its way through its records.
+pub mod PcapDriving
+-- The users that the words `pcap NAME KIND HEX ..` name have keys of their methods' sizes, and names within a line.
+pub mod PcapUsers
+-- No line of `pcap` begins as the line of honest tags does.
+pub mod PcapPlain

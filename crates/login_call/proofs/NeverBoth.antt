@@ -33,7 +33,7 @@ use Rattle.scenario_text.specs.Items as item
 use Rattle.trace_text.specs.Run.{begin_text, outcome_text, end_text}
 use Rattle.trace_text.specs.Lines.{line_text}
 use Rattle.trace_text.proofs.Plain.{is_within, plain, over, none, join, skips, through, decimal_within}
-use Rattle.trace_text.proofs.PlainAnswers.{begins_result, packet_plain, packets_plain, key_plain}
+use Rattle.trace_text.proofs.PlainAnswers.{begins_result, no_result, packet_plain, packets_plain, key_plain}
 use Rattle.trace_text.proofs.PlainFindings.{finding_plain, findings_plain}
 use Rattle.trace_text.proofs.PlainTexts.{begins_verdict, no_verdict, told_plain, start_plain}
 use Rattle.trace_text.proofs.Scanning.{has_mark, found}
@@ -44,8 +44,9 @@ use Rattle.login_call.specs.Decode.{took_packet, decode_took, decode_closing, no
 use Rattle.login_call.specs.Keys.{Asking, took_request, keys_took, keys_closing, all_asked, keys_answer}
 use Rattle.login_call.specs.Check.{CheckNow, item_took, line_took, check_took, check_end, check_closing, nothing_checked, check_answer}
 use Rattle.login_call.specs.Bulk.{bulk_of, bulk_line, verdicts_text, handled_text, bulk_text, bulk_answer}
-use Rattle.login_call.specs.Login.{usage_answer, unread_answer}
+use Rattle.login_call.specs.Login.{usage_answer, unread_answer, argued_answer}
 use Rattle.login_call.specs.declared.bulk.Bulk.{Bulk}
+use Rattle.login_call.specs.Pcap.{pcap_users, pcap_answer}
 use Rattle.login_call.specs.Radius.{radius_answer}
 use Rattle.login_call.specs.declared.decode.Decode.{Decode}
 use Rattle.login_call.specs.Headline.{NeverBoth, WritesNeverBoth}
@@ -55,7 +56,9 @@ use Rattle.login_call.specs.declared.status.Status.{Status}
 use Rattle.login_call.specs.declared.status.Status.TheVariants as status
 use Rattle.login_call.proofs.Checking.{IsOrderly, took_alike, begins_orderly}
 use Rattle.login_call.proofs.Headline.{headline}
-use Rattle.login_call.proofs.RadiusPlain.{begins_tags, radius_quiet}
+use Rattle.login_call.proofs.PcapUsers.{HaveNames, pcap_names}
+use Rattle.login_call.proofs.PcapPlain.{pcap_quiet}
+use Rattle.login_call.proofs.RadiusPlain.{begins_tags, IsQuiet, radius_quiet}
 
 -- an answer with status 0 has not both lines
 record Never (a : Answer) : Type 0 where
@@ -258,7 +261,7 @@ item_plain : (c : CheckNow) (reader : Capture) (i : CaptureItem) → All (λ use
 item_plain c reader capture_item.Nothing h = (refl, tt)
 item_plain c reader capture_item.Ready h = (refl, tt)
 item_plain c reader (capture_item.Packet to_peer octets) h = (
-  finding_plain (length c.before + 1) (finding_of reader.users c.before to_peer octets)
+  finding_plain begins_result no_result (length c.before + 1) (finding_of reader.users c.before to_peer octets)
       (finding_names (λ name. is_within name ≡ true) reader.users (names_within reader.users h) c.before to_peer octets),
   tt,
 )
@@ -298,12 +301,18 @@ never_check octets =
 
 -- ---- RADIUS packets, whose lines begin as the line of the result does, but none as that of the tags
 
-never_radius : (octets : List ℕ) → Never (radius_answer octets)
-never_radius octets = record {
-  holds = λ done honest apart.
-      true≢false (sym (found (codes "tags honest") (radius_answer octets).text honest)
-      ∙ none begins_tags 116 (codes "ags honest\n") refl (radius_answer octets).text true ((radius_quiet octets).holds done));
+never_if_quiet : (a : Answer) → IsQuiet a → Never a
+never_if_quiet a q = record {
+  holds = λ done honest apart. true≢false (sym (found (codes "tags honest") a.text honest) ∙ none begins_tags 116 (codes "ags honest\n") refl a.text true (q.holds done));
 }
+
+never_radius : (octets : List ℕ) → Never (radius_answer octets)
+never_radius octets = never_if_quiet (radius_answer octets) (radius_quiet octets)
+
+-- ---- a file of captured frames, the same
+
+never_pcap : (users : List User) (octets : List ℕ) → HaveNames users → Never (pcap_answer users octets)
+never_pcap users octets h = never_if_quiet (pcap_answer users octets) (pcap_quiet users h octets)
 
 -- ---- a summary
 
@@ -367,9 +376,14 @@ module _ (s : Status) (before now : Option (List ℕ)) where
   pub radius_writes : (octets : List ℕ) → Ends s before now (radius_answer octets) → WritesNeverBoth s before now
   radius_writes octets = written (radius_answer octets) s before now (never_radius octets)
 
-  unread_writes_by : (asked : Option Bulk) → Ends s before now (unread_answer asked) → WritesNeverBoth s before now
-  unread_writes_by None = written usage_answer s before now never_usage
-  unread_writes_by (Some b) = written (bulk_answer b) s before now (never_bulk b)
+  unread_writes : (asked : Option Bulk) → Ends s before now (unread_answer asked) → WritesNeverBoth s before now
+  unread_writes None = written usage_answer s before now never_usage
+  unread_writes (Some b) = written (bulk_answer b) s before now (never_bulk b)
 
-  pub unread_writes : (words : List (List ℕ)) → Ends s before now (unread_answer (bulk_of words)) → WritesNeverBoth s before now
-  unread_writes words = unread_writes_by (bulk_of words)
+  argued_writes_by : (users : Option (List User)) (asked : Option Bulk) (octets : List ℕ) → ((named : List User) → users ≡ Some named → HaveNames named)
+      → Ends s before now (argued_answer users asked octets) → WritesNeverBoth s before now
+  argued_writes_by None asked octets h = unread_writes asked
+  argued_writes_by (Some users) asked octets h = written (pcap_answer users octets) s before now (never_pcap users octets (h users refl))
+
+  pub argued_writes : (words : List (List ℕ)) (octets : List ℕ) → Ends s before now (argued_answer (pcap_users words) (bulk_of words) octets) → WritesNeverBoth s before now
+  argued_writes words octets = argued_writes_by (pcap_users words) (bulk_of words) octets (pcap_names words)

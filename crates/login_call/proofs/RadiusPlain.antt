@@ -32,7 +32,7 @@ abbrev pub begins_tags : ℕ → Bool
 begins_tags o = o == 116
 
 -- a status of a refusal is never 0
-never_done : (s : Status) → IsRefusal s → s ≡ status.Done → ⊥
+pub never_done : (s : Status) → IsRefusal s → s ≡ status.Done → ⊥
 never_done s h e = subst IsRefusal e h
 
 pub record IsQuiet (a : Answer) : Type 0 where

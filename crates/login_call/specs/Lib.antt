@@ -6,6 +6,8 @@ pub mod Commands
 pub mod Decode
 pub mod Keys
 pub mod Login
+pub mod Pcap
+pub mod PcapSteps
 pub mod Radius
 pub mod Replay
 pub mod Scenario

@@ -1,12 +1,14 @@
 -- What the program answers to words and an input.
 use Rattle.std.specs.Prelude.{◌≡◌, ℕ, List, [], ◌∷◌, Bool, true, false, ◌||◌, ◌&&◌, if◌then◌else◌, codes, is_some, Option, Some, None}
 use Rattle.std.specs.Str.{bytes_eq}
+use Rattle.eap_base.specs.declared.users.User.{User}
 use Rattle.trace_text.specs.Lines.{line_text}
 use Rattle.login_call.specs.Answers.{Answer}
 use Rattle.login_call.specs.Bulk.{bulk_of, bulk_answer, is_bulk}
 use Rattle.login_call.specs.Check.{check_answer}
 use Rattle.login_call.specs.Decode.{decode_answer}
 use Rattle.login_call.specs.Keys.{keys_answer}
+use Rattle.login_call.specs.Pcap.{pcap_users, is_pcap, pcap_answer}
 use Rattle.login_call.specs.Radius.{radius_answer}
 use Rattle.login_call.specs.Scenario.{replay_answer, scenario_of}
 use Rattle.login_call.specs.declared.bulk.Bulk.{Bulk}
@@ -50,7 +52,7 @@ reads_scenario words = is_replay words || is_replay_names words
 
 -- the words are one of the forms that read an input
 abbrev pub reads_input : List (List ℕ) → Bool
-reads_input words = is_replay words || (is_replay_names words || (is_decode words || (is_keys words || (is_check words || is_radius words))))
+reads_input words = is_replay words || (is_replay_names words || (is_decode words || (is_keys words || (is_check words || (is_radius words || is_pcap words)))))
 
 -- the words are one of the forms
 abbrev pub is_form : List (List ℕ) → Bool
@@ -62,7 +64,7 @@ takes_memory words = reads_scenario words || is_bulk words
 
 -- for all other words the program says how it is used
 unfoldable pub usage_text : List ℕ
-usage_text = line_text (codes "usage: eap_login replay | replay names | decode | keys | check | bulk N K | radius")
+usage_text = line_text (codes "usage: eap_login replay | replay names | decode | keys | check | bulk N K | radius | pcap USERS")
 
 abbrev pub usage_answer : Answer
 usage_answer = record { text = usage_text; status = status.Usage }
@@ -71,6 +73,11 @@ usage_answer = record { text = usage_text; status = status.Usage }
 abbrev pub unread_answer : Option Bulk → Answer
 unread_answer None = usage_answer
 unread_answer (Some b) = bulk_answer b
+
+-- the answer to words that name users, or read nothing
+abbrev pub argued_answer : Option (List User) → Option Bulk → List ℕ → Answer
+argued_answer None asked octets = unread_answer asked
+argued_answer (Some users) asked octets = pcap_answer users octets
 
 -- the answer to words and an input
 abbrev pub login_answer : List (List ℕ) → List ℕ → Answer
@@ -81,7 +88,7 @@ login_answer words octets =
     else if is_keys words then keys_answer octets
     else if is_check words then check_answer octets
     else if is_radius words then radius_answer octets
-    else unread_answer (bulk_of words)
+    else argued_answer (pcap_users words) (bulk_of words) octets
 
 -- the input's settings are whole, so that the run of its events begins
 abbrev pub HasSetup : List ℕ → Type 0

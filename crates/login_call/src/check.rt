@@ -23,7 +23,7 @@ pub struct Check {
 }
 
 /// Whether something is wrong with a packet.
-fn is_counted(finding: &Finding) -> bool
+pub fn is_counted(finding: &Finding) -> bool
     ensures { result ≡ is_counted finding.now }
 {
     match finding {

@@ -1,5 +1,6 @@
 //! The one call that the program makes, [`eap_login`], and its commands: `replay` and `replay names` of
-//! a scenario, `decode` of packets, `keys` for ciphers, MACs and key schedules, `check` of captures,
+//! a scenario, `decode` of packets, `keys` for ciphers, MACs and key schedules, `check` of captures, `radius` for EAP
+//! over RADIUS, `pcap` of files of captured frames,
 //! `bulk N K` for many conversations.
 #![tactic(auto)]
 
@@ -13,6 +14,7 @@ mod keys;
 mod laws;
 mod login;
 mod objects;
+mod pcap;
 mod radius;
 mod replay;
 mod status;

@@ -4,10 +4,11 @@ ghost use Rattle.std.specs.Prelude.{◌≡◌, ◌≢◌, ◌≤◌, ℕ, List, 
 ghost use Rattle.login_call.specs.Answers.{Ends, Drains, Finishes, IsWritten, KeepsReads, KeepsWrites, HasRisen};
 ghost use Rattle.login_call.specs.Bulk.{bulk_of, is_bulk};
 ghost use Rattle.login_call.specs.Login.{is_alone, are_two, reads_scenario, reads_input, is_form};
-ghost use Rattle.login_call.specs.Login.{takes_memory, login_answer, unread_answer, usage_answer, usage_text, HasSetup, Completes};
+ghost use Rattle.login_call.specs.Login.{takes_memory, login_answer, argued_answer, unread_answer, usage_answer, usage_text, HasSetup, Completes};
 ghost use Rattle.login_call.specs.Check.{check_answer};
 ghost use Rattle.login_call.specs.Decode.{decode_answer};
 ghost use Rattle.login_call.specs.Keys.{keys_answer};
+ghost use Rattle.login_call.specs.Pcap.{pcap_users, is_pcap};
 ghost use Rattle.login_call.specs.Radius.{radius_answer};
 ghost use Rattle.login_call.specs.Headline.{HonestEndsAgree, WritesNeverBoth};
 ghost use Rattle.login_call.specs.Replay.{HasBoth};
@@ -20,10 +21,11 @@ use crate::check::Check;
 use crate::decode::Decode;
 use crate::drive::drive;
 use crate::keys::Keys;
+use crate::pcap::{judge_file, read_pcap};
 use crate::radius::Radius;
 use crate::replay::Replay;
 use crate::status::Status;
-use eap_base::{Failed, Sink, Source};
+use eap_base::{Failed, Sink, Source, Users};
 use eap_method::{PeerMethod, ServerMethod};
 use eap_world::Methods;
 use std::alloc::Global;
@@ -42,6 +44,9 @@ use trace_text::write_line;
 ///   says of packets what they carry and whether they are good. It takes no memory.
 /// - `bulk N K` runs K conversations, 1 to 1,000, of the number N, 0 to 999,999, and writes what they came to. It
 ///   takes memory; the source isn't touched.
+/// - `pcap NAME KIND HEX ..` reads a pcap file of Ethernet frames, and writes for each EAP packet in them whether its
+///   tags are right under the keys of these users: 0 to 16 of them, each with a name of 1 to 253 octets from 21 to
+///   7e, its method, 47 or 51, and its key in hex. It takes no memory.
 /// - All other words write the usage line; the source isn't touched.
 ///
 /// Each of the two lists of `methods` has an object of EAP-PSK and one of EAP-GPSK.
@@ -105,7 +110,6 @@ pub fn eap_login<P: PeerMethod, M: ServerMethod, S: Source, W: Sink>(
 }
 
 /// The same, without the laws on all inputs.
-#[tactic(auto, using(crate::proofs::NeverBoth::unread_writes, crate::proofs::Endings::keeps_reads))]
 fn respond<P: PeerMethod, M: ServerMethod, S: Source, W: Sink>(
     alloc: Global,
     words: &Vec<String>,
@@ -145,7 +149,7 @@ fn respond<P: PeerMethod, M: ServerMethod, S: Source, W: Sink>(
     } else if are_alone(words, "radius") {
         radius(source, sink)
     } else {
-        answer_unread(alloc, words, sink, methods)
+        answer_arguments(alloc, words, source, sink, methods)
     }
 }
 
@@ -166,6 +170,42 @@ fn are_two(words: &Vec<String>, first: &str, second: &str) -> bool
     match words.as_slice() {
         [word, next] => word.as_str() == first && next.as_str() == second,
         _ => false,
+    }
+}
+
+/// Answers to words that may have arguments: to `pcap` and users by the findings of a file, to all others without
+/// reading.
+#[tactic(auto, using(crate::proofs::PcapUsers::pcap_keys, crate::proofs::Endings::keeps_reads))]
+fn answer_arguments<P: PeerMethod, M: ServerMethod, S: Source, W: Sink>(
+    alloc: Global,
+    words: &Vec<String>,
+    source: &mut S,
+    sink: &mut W,
+    methods: Methods<P, M>,
+) -> Status
+    requires { HasBoth P.peer_shown M.server_shown methods }
+    ensures ends { (octets : List ℕ) → S.left source.old ≡ Some octets
+        → Ends result (W.written sink.old) (W.written sink.new)
+        (argued_answer (pcap_users (map string_bytes words.now.items)) (bulk_of (map string_bytes words.now.items)) octets) }
+    ensures drains { is_bulk (map string_bytes words.now.items) ≡ false → Drains result (S.left source.new) }
+    ensures read_fault { result ≡ Status.ReadFault → HasRisen S.last_read_fault (S.read_faults source.old) (S.read_faults source.new) }
+    ensures write_fault { result ≡ Status.WriteFault → HasRisen W.last_write_fault (W.write_faults sink.old) (W.write_faults sink.new) }
+    ensures reads { KeepsReads result (S.read_faults source.old) (S.read_faults source.new) }
+    ensures writes { KeepsWrites result (W.write_faults sink.old) (W.write_faults sink.new) }
+    ensures memory { result ≡ Status.Memory → is_bulk (map string_bytes words.now.items) ≡ true }
+    ensures unread_ends { is_pcap (map string_bytes words.now.items) ≡ false
+        → Ends result (W.written sink.old) (W.written sink.new) (unread_answer (bulk_of (map string_bytes words.now.items))) }
+    ensures unread { is_pcap (map string_bytes words.now.items) ≡ false → result ≢ Status.ReadFault }
+    ensures untouched { is_pcap (map string_bytes words.now.items) ≡ false → source.new ≡ source.old }
+    ensures usage_ends { is_pcap (map string_bytes words.now.items) ≡ false → is_bulk (map string_bytes words.now.items) ≡ false
+        → Ends result (W.written sink.old) (W.written sink.new) usage_answer }
+    ensures usage_written { is_pcap (map string_bytes words.now.items) ≡ false → is_bulk (map string_bytes words.now.items) ≡ false → IsWritten result }
+{
+    let mut users = Users::new();
+    if read_pcap(words, &mut users) {
+        judge_file(&users, source, sink)
+    } else {
+        answer_unread(alloc, words, sink, methods)
     }
 }
 
@@ -210,7 +250,7 @@ fn write_usage<W: Sink>(sink: &mut W) -> Result<(), Failed>
 {
     write_line(
         sink,
-        b"usage: eap_login replay | replay names | decode | keys | check | bulk N K | radius",
+        b"usage: eap_login replay | replay names | decode | keys | check | bulk N K | radius | pcap USERS",
     )
 }
 

@@ -1,6 +1,6 @@
 //! The run of the program, from the arguments that it is started with to its exit status.
 
-use crate::blocks::{first_rest, has_number, rests, scenario, words_of};
+use call_cases::{first_rest, has_number, rests, scenario, words_of};
 use eap_base::{MemSink, MemSource};
 use login_run::run;
 use std::alloc::Global;
@@ -8,7 +8,7 @@ use std::io;
 use std::test::Fail;
 
 const USAGE: &str =
-    "usage: eap_login replay | replay names | decode | keys | check | bulk N K | radius\n";
+    "usage: eap_login replay | replay names | decode | keys | check | bulk N K | radius | pcap USERS\n";
 
 /// What a run comes to that is started with these arguments, which a space parts: the exit status, and the
 /// sink after it. The read of the number `failing` fails.

@@ -1,5 +1,5 @@
-use Rattle.std.proofs.Common.{true, false}
-use Rattle.login_call.proofs.NeverBoth.{replay_writes, decode_writes, keys_writes, check_writes, radius_writes}
+use Rattle.std.proofs.Common.{true, false, map, string_bytes}
+use Rattle.login_call.proofs.NeverBoth.{replay_writes, decode_writes, keys_writes, check_writes, radius_writes, argued_writes}
 use Rattle.login_call.proofs.login.respond.Goals as goal
 
 pub returns-then-are_alone-clause-never_both : goal.returns-then-are_alone-clause-never_both
@@ -20,3 +20,7 @@ returns-then-are_alone-4-clause-never_both g c octets h = check_writes c.check.r
 
 pub returns-then-are_alone-5-clause-never_both : goal.returns-then-are_alone-5-clause-never_both
 returns-then-are_alone-5-clause-never_both g c octets h = radius_writes c.radius.result _ _ octets (c.radius.ensures.ends octets h)
+
+pub returns-else-are_alone-5-clause-never_both : goal.returns-else-are_alone-5-clause-never_both
+returns-else-are_alone-5-clause-never_both g c octets h =
+    argued_writes c.answer_arguments.result _ _ (map string_bytes c.args.words.now.items) octets (c.answer_arguments.ensures.ends octets h)
