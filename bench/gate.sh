@@ -1,6 +1,27 @@
 #!/bin/sh
 # Measures the whole gate in a fresh clone, with nothing kept from earlier runs. README.md beside it says what is measured.
+#
+#   bench/gate.sh                        measures
+#   bench/gate.sh compare BEFORE AFTER   puts what two runs wrote side by side, crate by crate
 set -eu
+
+if [ "${1:-}" = compare ]; then
+    exec awk '
+        function tell(crate,    one, other) {
+            one = before[crate]
+            other = after[crate]
+            printf "%-18s%10s%10s%8s\n", crate, one == "" ? "-" : one, other == "" ? "-" : other, one * other == 0 ? "-" : sprintf("%.2f", other / one)
+        }
+        NF == 5 && $5 ~ /^[0-9]+$/ {
+            if ($1 != "all" && !seen[$1]++) order[++count] = $1
+            if (FNR == NR) before[$1] = $5; else after[$1] = $5
+        }
+        END {
+            printf "%-18s%10s%10s%8s\n", "crate", "before, s", "after, s", "ratio"
+            for (place = 1; place <= count; place++) tell(order[place])
+            tell("all")
+        }' "$2" "$3"
+fi
 
 here=$(cd "$(dirname "$0")/.." && pwd)
 work=$(mktemp -d)
@@ -65,7 +86,8 @@ def free():
 
 
 # a toolchain that keeps proofs between runs has a word for a run from nothing; one that keeps none needs none
-anew = ["--anew"] if "--anew" in subprocess.run(["rt", "help"], capture_output=True, text=True).stdout else []
+usage = subprocess.run(["rt", "help"], stdout=subprocess.PIPE, stderr=subprocess.STDOUT, text=True).stdout
+anew = ["--anew"] if "--anew" in usage else []
 
 begun, before, least = time.time(), free(), free()
 used = {}
