@@ -1,0 +1,101 @@
+# The cases of tools/wrong, which tools/check reads: over a repository of two crates, and a stand-in for rt that says of
+# each edit what the edit's name asks for, in rt's own words.
+
+wrong=$work/wrong
+mkdir -p "$wrong/tools" "$wrong/bin" "$wrong/wrong/high"
+cp tools/wrong "$wrong/tools"
+printf '# The crates.\nlow:\nhigh: low sha2\n' >"$wrong/crates.txt"
+echo 'Handles allowed: none.' >"$wrong/HANDLES"
+for crate in low high; do
+    mkdir -p "$wrong/crates/$crate/src" "$wrong/crates/$crate/must-fail"
+    printf 'a + b\nb + c\n' >"$wrong/crates/$crate/src/lib.rt"
+done
+printf 'file: src/lib.rt\nold: a + b\nnew: a + c\nold: a + c\nnew: a\n' >"$wrong/wrong/high/sum__by_clause.edit"
+printf 'file: src/lib.rt\nold: b + c\nnew: \n' >"$wrong/crates/high/must-fail/sum__by_gate.edit"
+cat >"$wrong/bin/rt" <<'TEXT'
+#!/bin/sh
+[ "$1" != version ] || { echo rattle-kit-0 logic 0; exit; }
+echo "rt: $2 is kept: $(ls crates | tr '\n' ' ')"
+[ "${STOPS:-}" != "$2" ] || { echo "rt: it stopped"; exit 1; }
+for edit in "crates/$2/must-fail"/*.edit; do
+    said="refused, as it must be: note: src/lib.rt:1:1: it is not proved that what the function ensures holds"
+    case $edit in
+        *by_name*) said="refused, as it must be (only because a proof file names what the edit took away, so this says little): proofs/A.antt:1:1" ;;
+        *by_limit*) said="refused, as it must be (only by a limit of the prover, which gave no verdict): src/lib.rt:1:1: error" ;;
+        *is_bad*) said="BAD EDIT: the prover cannot read the edited text, so no contract was tried" ;;
+        *is_untried*) said="NOT TRIED: its check was killed" ;;
+        *is_proved*) said="NOT REFUSED: the crate is still proved with this edit" ;;
+    esac
+    echo "rt: must-fail $2/${edit##*/}: $said"
+done
+echo "1 passed, 0 failed ($2 and the crates below alone: not the gate)"
+TEXT
+chmod +x "$wrong/bin/rt"
+cp -r "$wrong" "$work/wrong-whole"
+
+# Runs tools/wrong over the repository, and looks at its status.
+wrong_run() {
+    wanted=$1
+    shift
+    status=0
+    PATH=$wrong/bin:$PATH "$wrong/tools/wrong" "$@" >"$work/said" 2>&1 || status=$?
+    [ "$status" = "$wanted" ] || fail "wrong $* ends with $status in place of $wanted: $(tail -n 1 "$work/said")"
+}
+
+wrong_run 0 --texts
+has_line "edits: 2 passed, 0 failed" "wrong --texts"
+wrong_run 0 status
+has_line "high: 1 edits were never tried" "wrong status"
+wrong_run 0
+has_line "tools/wrong: high: 1 of 1 refused; crate 1 of 1, 0 min" "wrong"
+has_line "wrong: 1 passed, 0 failed" "wrong"
+wrong_run 0 status
+has_line "high: 1 of 1 edits refused on $(date +%Y-%m-%d) by rattle-kit-0 logic 0, of today's sources" "wrong status"
+echo 'a' >>"$wrong/crates/low/src/lib.rt"
+wrong_run 0 status
+has_line "high: 1 of 1 edits refused on $(date +%Y-%m-%d) by rattle-kit-0 logic 0, of other sources" "wrong status"
+wrong_run 0 --all -j 2 high
+has_line "wrong: 2 passed, 0 failed" "wrong --all"
+wrong_run 1 none
+has_line "tools/wrong: none is no crate" "wrong"
+STOPS=high wrong_run 1 high
+has_line "tools/wrong: high/sum__by_clause.edit: it was not tried" "wrong"
+for kind in by_name:refused by_limit:refused is_bad:BAD is_untried:NOT is_proved:NOT; do
+    cp "$wrong/wrong/high/sum__by_clause.edit" "$wrong/wrong/high/sum__${kind%%:*}.edit"
+    wrong_run 1 high
+    grep -q "^tools/wrong: high/sum__${kind%%:*}.edit: ${kind#*:}" "$work/said" || fail "wrong passes over an edit that ${kind%%:*}"
+    has_line "wrong: 1 passed, 1 failed" "wrong"
+    rm "$wrong/wrong/high/sum__${kind%%:*}.edit"
+done
+
+# tools/wrong --texts writes this line where the repository has a file more, of this text.
+wrong_tells() {
+    rm -rf "$wrong"
+    cp -r "$work/wrong-whole" "$wrong"
+    mkdir -p "$wrong/$(dirname "$1")"
+    printf '%b' "$2" >"$wrong/$1"
+    wrong_run 1 --texts
+    has_line "tools/wrong: $3" "wrong --texts"
+    has_line "edits: 2 passed, 1 failed" "wrong --texts"
+}
+edit=wrong/high/sum__a.edit
+front='file: src/lib.rt\n'
+wrong_tells "$edit" "${front}old: b\nnew: c\n" "$edit: src/lib.rt has this text 2 times: b"
+wrong_tells "$edit" "${front}old: d\nnew: c\n" "$edit: src/lib.rt has this text 0 times: d"
+wrong_tells "$edit" "${front}old: a + b\nnew: d\nold: a + b\nnew: e\n" "$edit: src/lib.rt has this text 0 times: a + b"
+wrong_tells "$edit" "${front}old: a + b\nnew: a + b\n" "$edit: it changes nothing"
+wrong_tells "$edit" "${front}old: a + b\n" "$edit: it changes nothing"
+wrong_tells "$edit" "${front}old: a + b\nnew: a\nand more\n" "$edit: this line isn't of the form: and more"
+wrong_tells "$edit" "file: specs/A.antt\nold: a\nnew: b\n" "$edit: specs/A.antt is no file of the crate's src/"
+wrong_tells wrong/high/sum.edit "${front}old: a\nnew: b\n" "wrong/high/sum.edit: its name isn't FUNCTION__what.edit"
+wrong_tells wrong/none/sum__a.edit "${front}old: a\nnew: b\n" "wrong/none/sum__a.edit: it is no edit of a crate"
+wrong_tells wrong/high/notes.md "notes\n" "wrong/high/notes.md: it is no edit of a crate"
+wrong_tells wrong/high/sum__by_gate.edit "${front}old: a + b\nnew: a\n" \
+    "wrong/high/sum__by_gate.edit: an edit of this name stands in must-fail/ too"
+rm -rf "$wrong"
+cp -r "$work/wrong-whole" "$wrong"
+for number in 1 2 3; do
+    printf '%b' "${front}old: a + b\nnew: a\n" >"$wrong/crates/high/must-fail/sum__$number.edit"
+done
+wrong_run 1 --texts
+has_line "tools/wrong: crates/high/must-fail has 4 edits, and at most 3 are tried by the gate: move the others to wrong/high" "wrong --texts"
