@@ -1,28 +1,34 @@
-# What eap_login and .ci/run share: what they need, which toolchain the proofs were made with, and the sums by which
-# a program is known to be that of the sources. Read by both with `here` set to the top of the repository.
+# What eap_login, test and tools/prove share: which programs are kept and what they were built of, and how a long command
+# is followed. Read with `here` set to the top of the repository and `me` to the name of the script.
 
 crate=$here/crates/eap_login
-program=$crate/out/eap_login
-sums=$crate/out/eap_login.sums
+# A program is kept as eap_login-proved, whose proofs were checked on this machine, or as eap_login-unchecked. Beside it
+# stands its record, NAME.of: the kit's line, a sum of each source, and the program's own sum.
+kept=$here/out
+work='' working='' begun=$(date +%s)
 
-# Ends with 127 where what is needed isn't there, and warns of another toolchain than the README names.
+say() { echo "$me: $1" >&2; }
+minutes() { echo $((($(date +%s) - begun) / 60)); }
+
+# Ends with 127 where what is needed isn't there, and warns of another logic than the README names.
 need_rt() {
-    if ! command -v rt >/dev/null; then
-        cat >&2 <<'TEXT'
-eap_login: the command rt isn't on the PATH.
-It belongs to the Rattle kit: put the kit's bin/ on the PATH, or a link to its bin/rt. Besides it takes Linux on
+    for it in rt python3; do
+        command -v "$it" >/dev/null || {
+            cat >&2 <<TEXT
+$me: the command $it isn't on the PATH.
+rt belongs to the Rattle kit: put the kit's bin/ on the PATH, or a link to its bin/rt. Besides it takes Linux on
 x86-64 and python3, which rt is written in; no network and no other library.
 TEXT
-        exit 127
-    fi
+            exit 127
+        }
+    done
     named=$(sed -n 's/.*`\(rattle-kit-[^`]*\)`.*/\1/p' "$here/README.md" | head -n 1)
     found=$(rt version)
-    if [ "$named" != "$found" ]; then
-        echo "eap_login: warning: the README names the toolchain $named, and this is $found" >&2
-    fi
+    # A later kit with the same logic takes the same proofs.
+    [ "${named##* logic }" = "${found##* logic }" ] || say "warning: the README names the toolchain $named, and this is $found"
 }
 
-# The crates that the program stands on, itself among them, by crates.txt.
+# The crates that the program stands on, itself among them, by crates.txt, lowest first.
 crates_below() {
     awk '
         { sub(/#.*/, "") }
@@ -38,31 +44,86 @@ crates_below() {
     ' "$here/crates.txt"
 }
 
+# The lines of crates.txt for these crates.
+lines_below() {
+    crates_below | awk 'FNR == NR { wanted[$1 ":"] = 1; next } $1 in wanted' - "$here/crates.txt"
+}
+
 # A sum of each file that decides what the program is: the sources, definitions and proofs of these crates, and
 # which crates stand on which. Tests, must-fail edits and stored runs decide nothing.
 sums_of_sources() {
     (
         cd "$here"
         set -f
-        below=$(crates_below)
-        for name in $below; do
-            grep "^$name:" crates.txt
-        done
-        for name in $below; do
+        lines_below
+        folders=$(for name in $(crates_below); do
             for part in src specs proofs; do
-                [ ! -d "crates/$name/$part" ] || find "crates/$name/$part" -type f
+                [ ! -d "crates/$name/$part" ] || echo "crates/$name/$part"
             done
-        done | LC_ALL=C sort | xargs cksum
+        done)
+        find $folders -type f | LC_ALL=C sort | xargs cksum
     )
 }
 
-# Writes the sums beside a program that was just proved, built of the sources that the given text has the sums of.
-keep_sums() {
-    { printf '%s\n' "$1"; cksum <"$program"; } >"$sums.new"
-    mv "$sums.new" "$sums"
+# Finds what is kept of these sources, a proved program before an unchecked one, and sets `kind` and `program`.
+find_program() {
+    for kind in proved unchecked; do
+        program=$kept/eap_login-$kind
+        if [ -x "$program" ] && [ -f "$program.of" ] &&
+            [ "$(sed 1d "$program.of")" = "$(printf '%s\n' "$sources"; cksum <"$program")" ]; then
+            return 0
+        fi
+    done
+    kind=none
+    return 1
 }
 
-is_fresh() {
-    [ -x "$program" ] && [ -f "$sums" ] &&
-        [ "$(cat "$sums")" = "$(sums_of_sources; cksum <"$program")" ]
+# Keeps the program $2 as one of the kind $1 that was built of the sources with the sums $3. The record comes last and
+# has the program's sum, so that half of both counts for nothing.
+keep() {
+    program=$kept/eap_login-$1
+    mkdir -p "$kept" && cp "$2" "$program.new.$$" &&
+        { rt version && printf '%s\n' "$3" && cksum <"$2"; } >"$program.of.new.$$" &&
+        mv "$program.new.$$" "$program" && mv "$program.of.new.$$" "$program.of" && kind=$1
+}
+
+# From here on a signal ends what was started, and in the end nothing is left in "$work".
+clean_at_end() {
+    work=$(mktemp -d) || return
+    trap 'rm -rf "$work" "$kept"/*.new."$$"' EXIT
+    trap 'give_up 130' INT
+    trap 'give_up 143' TERM
+    trap 'give_up 129' HUP
+}
+
+forget_end() {
+    rm -rf "$work"
+    trap - EXIT INT TERM HUP
+}
+
+give_up() {
+    trap '' INT TERM HUP
+    if [ -n "$working" ]; then
+        kill "$working" 2>/dev/null || true
+        wait "$working" 2>/dev/null || true
+    fi
+    say "stopped; nothing of it is left"
+    exit "$1"
+}
+
+# Runs a command with its output in "$log", calls the first word, which tells how far it is, each second, and gives the
+# command's status.
+follow() {
+    tells=$1
+    shift
+    "$@" >"$log" 2>&1 </dev/null &
+    working=$!
+    while kill -0 "$working" 2>/dev/null; do
+        sleep 1
+        "$tells"
+    done
+    status=0
+    wait "$working" || status=$?
+    working=
+    return "$status"
 }
