@@ -17,6 +17,8 @@ cat >"$wrong/bin/rt" <<'TEXT'
 [ "$1" != version ] || { echo rattle-kit-0 logic 0; exit; }
 echo "rt: $2 is kept: $(ls crates | tr '\n' ' ')"
 [ "${STOPS:-}" != "$2" ] || { echo "rt: it stopped"; exit 1; }
+[ -z "${SLEEPS:-}" ] || exec sleep 9
+[ -z "${CHANGES:-}" ] || echo >>"$CHANGES"
 for edit in "crates/$2/must-fail"/*.edit; do
     said="refused, as it must be: note: src/lib.rt:1:1: it is not proved that what the function ensures holds"
     case $edit in
@@ -60,6 +62,19 @@ wrong_run 1 none
 has_line "tools/wrong: none is no crate" "wrong"
 STOPS=high wrong_run 1 high
 has_line "tools/wrong: high/sum__by_clause.edit: it was not tried" "wrong"
+CHANGES=$wrong/crates/low/src/lib.rt wrong_run 1 high
+has_line "tools/wrong: high: a source changed meanwhile" "wrong"
+mkdir "$work/rooms"
+TMPDIR=$work/rooms SLEEPS=yes PATH=$wrong/bin:$PATH "$wrong/tools/wrong" high >"$work/said" 2>&1 &
+working=$!
+for second in 1 2 3 4 5 6 7 8 9; do
+    [ -z "$(ls "$work/rooms")" ] || break
+    sleep "0.$second"
+done
+kill "$working"
+status=0
+wait "$working" || status=$?
+[ "$status $(ls "$work/rooms")" = "143 " ] || fail "wrong leaves something where it is stopped: $status $(ls "$work/rooms")"
 for kind in by_name:refused by_limit:refused is_bad:BAD is_untried:NOT is_proved:NOT; do
     cp "$wrong/wrong/high/sum__by_clause.edit" "$wrong/wrong/high/sum__${kind%%:*}.edit"
     wrong_run 1 high
