@@ -107,7 +107,7 @@ give_up() {
         kill "$working" 2>/dev/null || true
         wait "$working" 2>/dev/null || true
     fi
-    say "stopped; nothing of it is left"
+    say "stopped"
     exit "$1"
 }
 
