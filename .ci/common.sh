@@ -125,5 +125,6 @@ follow() {
     status=0
     wait "$working" || status=$?
     working=
+    "$tells"
     return "$status"
 }
