@@ -38,7 +38,7 @@ hint_of_words() {
 # The first 24 octets of a file in hex, or nothing. (Through /proc it is opened anew, so that its place isn't moved.)
 first_octets() {
     [ "$is_at_begin" = yes ] && [ -f /proc/self/fd/0 ] || return 0
-    head -c 24 /proc/self/fd/0 2>/dev/null | od -An -v -tx1 | tr -d ' \n'
+    od -An -v -tx1 -N 24 /proc/self/fd/0 2>/dev/null | tr -d ' \n'
 }
 
 hint_of_input() {
