@@ -29,7 +29,7 @@ echo 'login_count: eap_base eap_method eap_world gpsk_ends psk_ends scenario_tex
 crate="$work/crates/login_count"
 rm -rf "$crate/proofs" "$crate/specs" "$crate/src" "$crate/stdin" "$crate/stdout" "$crate/BUILD.bazel"
 mkdir -p "$crate/src" "$crate/proofs/login_of"
-sed 's/call_cases\.proofs\.blocks\.answered/login_count.proofs.login_of/' "$here/crates/call_cases/proofs/blocks/answered/Answers.antt" >"$crate/proofs/login_of/Answers.antt"
+sed 's/call_tests\.proofs\.call\.answered/login_count.proofs.login_of/' "$here/crates/call_tests/proofs/call/answered/Answers.antt" >"$crate/proofs/login_of/Answers.antt"
 cat >"$crate/src/main.rt" <<'END'
 //! Runs a login so often, both ends, without text.
 #![tactic(auto)]

@@ -1,0 +1,222 @@
+//! Cuttings of the input and the output, and reads and writes that fail.
+
+ghost use Rattle.std.specs.Prelude.{◌<◌};
+
+use crate::call::{Status, answered, answered_to};
+use eap_base::{MemSink, MemSource};
+use std::alloc::Global;
+use std::io;
+use std::test::Fail;
+
+/// A login by EAP-GPSK.
+const LOGIN: &str = "\
+eap-scenario 1
+mode alone
+peer-name alice
+peer-server srv
+peer-methods 51
+peer-psk 51 000102030405060708090a0b0c0d0e0f101112131415161718191a1b1c1d1e1f
+peer-nonce 1111111111111111111111111111111111111111111111111111111111111111
+server-name srv
+server-methods 51
+server-nonce 2222222222222222222222222222222222222222222222222222222222222222
+user alice 51 000102030405060708090a0b0c0d0e0f101112131415161718191a1b1c1d1e1f allowed
+events
+deliver 1
+deliver 2
+deliver 3
+deliver 4
+deliver 5
+deliver 6
+deliver 7
+end
+";
+
+/// Words and inputs, which an empty line parts: packets; a request and one that is refused; captured packets; RADIUS
+/// packets.
+const INPUTS: &str = "\
+decode
+0100000501
+0200000a01616c696365
+010203
+
+keys
+name -
+aes 00
+
+check
+eap-capture 1
+user alice 47 000102030405060708090a0b0c0d0e0f
+packets
+> 0100000501
+< 0200000a01616c696365
+> 010100192f0022222222222222222222222222222222737276
+end
+
+radius
+eap-radius 1
+secret 78797a7a7935343631
+reply accept - 03000004
+request 7 22222222222222222222222222222222 616c696365 - 0200000a01616c696365
+read 010203
+reply accept - 03000004
+end";
+
+/// A pcap file of two frames of which the first carries an Identity Request.
+const FRAMES: &[u8] = b"\
+\xd4\xc3\xb2\xa1\x02\0\x04\0\0\0\0\0\0\0\0\0\xff\xff\0\0\x01\0\0\0\
+\0\0\0\0\0\0\0\0\x17\0\0\0\x17\0\0\0\x01\x80\xc2\0\0\x03\x02\0\0\0\0\x01\x88\x8e\x01\0\0\x05\x01\0\0\x05\x01\
+\0\0\0\0\0\0\0\0\x04\0\0\0\x04\0\0\0abcd";
+
+/// True where these cuttings of reads and writes of a login give the same.
+fn is_the_same(alloc: Global, read: usize, write: usize) -> io::Result<bool>
+    requires reads { 0 < read }
+    requires writes { 0 < write }
+{
+    let source = MemSource::new(alloc, LOGIN.as_bytes(), read, &[])?;
+    let sink = MemSink::new(alloc, 10_000, write, &[])?;
+    let (status, sink) = answered(alloc, "replay", source, sink)?;
+    let (_, whole) = answered_to(alloc, "replay", LOGIN.as_bytes())?;
+    Ok(status == Status::Done && sink.written() == whole.written())
+}
+
+#[test]
+fn the_trace_is_the_same_in_every_cutting(rt: HostRuntime) -> Result<(), Fail> {
+    let alloc = rt.alloc();
+    assert!(rt;
+        is_the_same(alloc, 1, 100)? && is_the_same(alloc, 7, 1)? && is_the_same(alloc, 4096, 100)?
+    );
+    Ok(())
+}
+
+/// What a run comes to where nothing fails, and what one may leave where its read or write of a number fails.
+#[derive(Drop)]
+struct Whole<'a> {
+    status: Status,
+    text: &'a [u8],
+}
+
+impl Whole<'_> {
+    /// True where a run that met the fault, if it did, ended so and wrote a front of the text, or the whole.
+    fn ends_well(&self, status: Status, fault: Status, wrote: &[u8]) -> bool {
+        let wanted = if wrote.len() == self.text.len() {
+            self.status
+        } else {
+            fault
+        };
+        status == wanted && self.text.starts_with(wrote)
+    }
+}
+
+/// True where a run that takes 7 octets a read, and whose read of this number fails, ends well. No line is written of
+/// the end of RADIUS packets, so that all of their text is there where the read that meets the end fails.
+fn read_fails_well(
+    alloc: Global,
+    command: &str,
+    input: &[u8],
+    call: u32,
+    whole: &Whole,
+) -> io::Result<bool> {
+    let source = MemSource::new(alloc, input, 7, &[call])?;
+    let sink = MemSink::new(alloc, 10_000, 100, &[])?;
+    let (status, sink) = answered(alloc, command, source, sink)?;
+    let header = if command == "replay" {
+        "eap-trace 1\n"
+    } else {
+        ""
+    };
+    let is_header = sink.written() == header.as_bytes();
+    let is_end = command == "radius" && status == Status::ReadFault && sink.written() == whole.text;
+    let is_well = is_end || whole.ends_well(status, Status::ReadFault, sink.written());
+    Ok(is_well && (is_header || call != 1))
+}
+
+/// True where a run whose sink takes 7 octets a write, and fails at the write of this number, ends well.
+fn write_fails_well(
+    alloc: Global,
+    command: &str,
+    input: &[u8],
+    call: u32,
+    whole: &Whole,
+) -> io::Result<bool> {
+    let source = MemSource::new(alloc, input, 100, &[])?;
+    let sink = MemSink::new(alloc, 10_000, 7, &[call])?;
+    let (status, sink) = answered(alloc, command, source, sink)?;
+    let is_first = call == 1;
+    Ok(
+        whole.ends_well(status, Status::WriteFault, sink.written())
+            && sink.written().is_empty() == is_first,
+    )
+}
+
+/// True where a run ends well whichever read or write of it fails. No input and no text here has 200 pieces of 7
+/// octets.
+fn faults_end_well(alloc: Global, command: &str, input: &[u8]) -> io::Result<bool> {
+    let (status, sink) = answered_to(alloc, command, input)?;
+    let whole = Whole {
+        status,
+        text: sink.written(),
+    };
+    let mut are_well = !whole.text.is_empty();
+    for call in 1..200 {
+        are_well &= read_fails_well(alloc, command, input, call, &whole)?;
+        are_well &= write_fails_well(alloc, command, input, call, &whole)?;
+    }
+    Ok(are_well)
+}
+
+#[test]
+fn each_read_and_write_may_fail(rt: HostRuntime) -> Result<(), Fail> {
+    let alloc = rt.alloc();
+    for block in INPUTS.split("\n\n") {
+        let (command, input) = block.split_once("\n").unwrap_or((block, ""));
+        assert!(rt;
+            faults_end_well(alloc, command, input.as_bytes())?,
+            "{command}"
+        );
+    }
+    assert!(rt; faults_end_well(alloc, "replay", LOGIN.as_bytes())?);
+    assert!(rt; faults_end_well(alloc, "pcap", FRAMES)?);
+    Ok(())
+}
+
+/// The front of the text that ends with its LF of this number.
+fn first_lines(text: &[u8], count: u32) -> &[u8] {
+    let mut lines: u32 = 0;
+    for place in 0..text.len() {
+        if lines == count {
+            return &text[..place];
+        }
+        if text[place] == b'\n' {
+            lines = lines.saturating_add(1);
+        }
+    }
+    text
+}
+
+/// True where a run whose sink takes 2,000 octets a write, and fails at the write of this number, wrote exactly
+/// the lines before it.
+fn holds_the_lines_before(alloc: Global, call: u32, text: &[u8]) -> io::Result<bool>
+    requires { 0 < call }
+{
+    let source = MemSource::new(alloc, LOGIN.as_bytes(), 4096, &[])?;
+    let sink = MemSink::new(alloc, 10_000, 2000, &[call])?;
+    let (status, sink) = answered(alloc, "replay", source, sink)?;
+    Ok(status == Status::WriteFault && sink.written() == first_lines(text, call - 1))
+}
+
+/// True where each line of a login's trace, which has 25 lines, is one write, and nothing is held past it.
+fn lines_are_writes(alloc: Global) -> io::Result<bool> {
+    let (_, whole) = answered_to(alloc, "replay", LOGIN.as_bytes())?;
+    let mut are_writes = whole.written().ends_with(b"result agree\nend\n");
+    for call in 1..26 {
+        are_writes &= holds_the_lines_before(alloc, call, whole.written())?;
+    }
+    Ok(are_writes)
+}
+
+#[test]
+fn each_line_is_one_write(rt: HostRuntime) -> Result<(), Fail> {
+    assert!(rt; lines_are_writes(rt.alloc())?);
+    Ok(())
+}

@@ -1,0 +1,93 @@
+//! Nothing is read once an answer is decided: the read after the octets that decide it would fail.
+
+use crate::call::answered;
+use eap_base::{MemSink, MemSource};
+use std::alloc::{AllocError, Global};
+use std::io;
+use std::test::Fail;
+
+// The status, how many reads of one octet come after the last octet, and the words; then the input, in which `;`
+// stands for LF and `*` for 4,096 octets `#`. A refused line ends with its last octet, a line that is too long with
+// octet 4,097, and an input with the read that gives nothing.
+const ROWS: &str = "\
+2 0 decode|0g;
+2 0 keys|aes 00;
+2 0 check|eap-capture 1;events;
+2 0 check|eap-capture 1;packets;< 0g;
+2 0 radius|eap-radius 1;read 00;
+2 0 replay|eap-scenario 2;
+2 0 replay|eap-scenario 1;mode sideways;
+6 0 decode|*#
+6 0 keys|name -;*#
+6 0 check|eap-capture 1;*#
+6 0 radius|eap-radius 1;*#
+6 0 replay|eap-scenario 1;*#
+0 1 decode|03020004;
+0 1 keys|name -;
+0 1 check|eap-capture 1;packets;end;
+0 1 radius|eap-radius 1;secret 00;end;";
+
+/// The octets that a row's input stands for.
+fn octets_of(alloc: Global, input: &str) -> Result<Vec<u8>, AllocError> {
+    let mut octets = Vec::new(alloc);
+    for octet in input.bytes() {
+        match octet {
+            b';' => octets.push(b'\n')?,
+            b'*' => octets.extend_from_slice(&[b'#'; 4096])?,
+            _ => octets.push(octet)?,
+        }
+    }
+    Ok(octets)
+}
+
+/// The status of a run over a source of one octet a read, whose reads fail after as many as the input has octets and
+/// so many more.
+fn status_of(alloc: Global, command: &str, octets: &[u8], more: u32) -> io::Result<u8> {
+    let failing = (octets.len() as u32).wrapping_add(more).wrapping_add(1);
+    let source = MemSource::new(alloc, octets, 1, &[failing])?;
+    let sink = MemSink::new(alloc, 10_000, 100, &[])?;
+    let (status, _) = answered(alloc, command, source, sink)?;
+    Ok(status.number())
+}
+
+/// True where the run of a row ends with its status.
+fn ends_so(alloc: Global, row: &str) -> io::Result<bool> {
+    let (words, input) = row.split_once("|").unwrap_or((row, ""));
+    let octets = octets_of(alloc, input)?;
+    let (status, rest) = words.split_once(" ").unwrap_or((words, ""));
+    let (more, command) = rest.split_once(" ").unwrap_or((rest, ""));
+    let number = status_of(alloc, command, &octets, more.parse::<u32>().unwrap_or(0))?;
+    Ok(status.parse::<u8>().ok() == Some(number))
+}
+
+#[test]
+fn nothing_is_read_once_a_line_decides(rt: HostRuntime) -> Result<(), Fail> {
+    for row in ROWS.lines() {
+        assert!(rt; ends_so(rt.alloc(), row)?, "{row}");
+    }
+    Ok(())
+}
+
+/// A header of a file with another magic number.
+const BAD_MAGIC: &[u8] = b"\xa1\xb2\x3c\x4d\0\x02\0\x04\0\0\0\0\0\0\0\0\0\0\xff\xff\0\0\0\x01";
+
+/// A header, the time of a record, and its frame's length: 262,145 octets.
+const BAD_RECORD: &[u8] =
+    b"\xa1\xb2\xc3\xd4\0\x02\0\x04\0\0\0\0\0\0\0\0\0\0\xff\xff\0\0\0\x01\0\0\0\0\0\0\0\0\0\x04\0\x01";
+
+/// True where a file that one read gives whole, and whose second read fails, is refused with this line.
+fn is_refused(alloc: Global, file: &[u8], line: &[u8]) -> io::Result<bool> {
+    let source = MemSource::new(alloc, file, 100, &[2])?;
+    let sink = MemSink::new(alloc, 100, 100, &[])?;
+    let (status, sink) = answered(alloc, "pcap", source, sink)?;
+    Ok(status.number() == 2 && sink.written() == line)
+}
+
+#[test]
+fn nothing_is_read_once_a_file_is_refused(rt: HostRuntime) -> Result<(), Fail> {
+    assert!(rt;
+        is_refused(rt.alloc(), BAD_MAGIC, b"refused record 0 BadMagic\n")?
+            && is_refused(rt.alloc(), BAD_RECORD, b"refused record 1 BadRecord\n")?
+    );
+    Ok(())
+}

@@ -1,0 +1,131 @@
+//! Tags that come back to the end that made them, and whether either end made them. Octets of packets were computed with
+//! Python from RFC 5433 and RFC 4764.
+
+ghost use Rattle.std.specs.Prelude.{IfOk};
+ghost use Rattle.scenario_text.specs.Valid.{IsValidSetup};
+
+use crate::call::{BoxedWorld, world};
+use crate::worlds::{start, step};
+use eap_base::{Event, Setup};
+use eap_world::TagsVerdict;
+use scenario_text::{Item, ScenarioReader};
+use std::alloc::Global;
+use std::process::Abort;
+use std::test::Fail;
+use text_tables::LineFault;
+
+/// A peer, and a server that bars it by EAP-GPSK alone.
+const SETTINGS: &str = "\
+eap-scenario 1
+mode alone
+peer-name alice
+peer-server srv
+peer-methods 51 47
+peer-psk 51 000102030405060708090a0b0c0d0e0f101112131415161718191a1b1c1d1e1f
+peer-psk 47 000102030405060708090a0b0c0d0e0f
+peer-nonce 1111111111111111111111111111111111111111111111111111111111111111
+server-name srv
+server-nonce 2222222222222222222222222222222222222222222222222222222222222222
+user alice 51 000102030405060708090a0b0c0d0e0f101112131415161718191a1b1c1d1e1f barred
+user alice 47 000102030405060708090a0b0c0d0e0f allowed
+";
+
+/// Runs, which an empty line parts. Before each stand the event of the first accepted tag that the other end didn't make
+/// earlier, and of the first that neither end did; 0 for none. The server's GPSK-Protected-Fail is handed back to it as a
+/// Response: it takes its own tag for that of the peer. A PSK-3 has the peer's own MAC_P for its MAC_S: the peer discards
+/// it. A GPSK-2 is one that alice made with the nonce of 32 octets 33: neither end of this run made its tag.
+const REFLECTIONS: &str = "\
+5 0
+server-methods 51
+events
+deliver 1
+deliver 2
+deliver 3
+deliver 4
+inject server 0202001a3306000000034b4c4d6161d6f42a3e9cd94031007321
+
+0 0
+server-methods 47
+events
+deliver 1
+deliver 2
+deliver 3
+deliver 4
+inject peer 0102003b2f80222222222222222222222222222222224830dfa3260955ecccc4c1d90de6967800000000b69d8ec9e23567ba1fb776da73f54674c2
+deliver 5
+deliver 6
+deliver 7
+
+3 3
+server-methods 51
+events
+deliver 1
+deliver 2
+inject server 0201007833020005616c69636500037372763333333333333333333333333333333333333333333333333333333333333333\
+2222222222222222222222222222222222222222222222222222222222222222000c000000000001000000000002000000000001\
+00000c8b3f9d1d9e2fc2eef761d905605153
+";
+
+/// The event of the first tag that wasn't made earlier, or 0.
+fn event_of(verdict: TagsVerdict) -> u32 {
+    match verdict {
+        TagsVerdict::Honest => 0,
+        TagsVerdict::Broken(event) => event,
+    }
+}
+
+/// The settings of a scenario.
+fn settings_in(scenario: &str) -> Result<Setup, LineFault>
+    ensures { IfOk result IsValidSetup }
+{
+    let mut reader = ScenarioReader::new();
+    for line in scenario.lines() {
+        let _ = reader.line(line.as_bytes(), &mut Event::Idle);
+    }
+    reader.setup()
+}
+
+/// Steps a world through the events of a scenario.
+fn run(rt: &impl Abort, world: &mut BoxedWorld, scenario: &str) -> Result<(), Fail> {
+    let mut reader = ScenarioReader::new();
+    let mut event = Event::Idle;
+    for line in scenario.lines() {
+        if let Ok(Item::Event) = reader.line(line.as_bytes(), &mut event) {
+            step(rt, world, &event)?;
+        }
+    }
+    Ok(())
+}
+
+/// True where these are the two numbers.
+fn are_numbers(text: &str, one: u32, two: u32) -> bool {
+    text.split_once(" ").is_some_and(|(first, second)| {
+        first.parse::<u32>().ok() == Some(one) && second.parse::<u32>().ok() == Some(two)
+    })
+}
+
+/// True where the run of a block has its verdicts.
+fn is_judged(rt: &impl Abort, alloc: Global, block: &str) -> Result<bool, Fail> {
+    let (wanted, lines) = block.split_once("\n").unwrap_or((block, ""));
+    let mut scenario = String::from_str(alloc, SETTINGS)?;
+    scenario.push_str(lines)?;
+    let Ok(setup) = settings_in(&scenario) else {
+        return Ok(false);
+    };
+    let mut world = world(alloc, setup)?;
+    start(rt, &mut world)?;
+    run(rt, &mut world, &scenario)?;
+    Ok(are_numbers(
+        wanted,
+        event_of(world.tags()),
+        event_of(world.tags_either()),
+    ))
+}
+
+#[test]
+fn tags_that_come_back(rt: HostRuntime) -> Result<(), Fail> {
+    for block in REFLECTIONS.split("\n\n") {
+        assert!(rt; is_judged(&rt, rt.alloc(), block)?, "{block}");
+    }
+    Ok(())
+}
