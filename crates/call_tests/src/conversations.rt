@@ -7,10 +7,10 @@ use std::io;
 use std::test::Fail;
 
 /// The number behind these words at the begin of a line; 0 where there is none.
-fn count(output: &str, front: &str) -> u64 {
+fn count(output: &str, front: &str) -> u32 {
     for line in output.lines() {
         if let Some(digits) = line.strip_prefix(front) {
-            return u64::from(digits.parse::<u32>().unwrap_or(0));
+            return digits.parse().unwrap_or(0);
         }
     }
     0
@@ -18,11 +18,12 @@ fn count(output: &str, front: &str) -> u64 {
 
 /// True where so many conversations are counted, each as one that agrees, is open or is apart, and none that is
 /// apart without a broken tag.
-fn adds_up(output: &str, conversations: u64) -> bool {
+fn adds_up(output: &str, conversations: u32) -> bool {
+    let agree = count(output, "agree ");
+    let open = count(output, "open ");
     let apart = count(output, "apart ");
-    let all = count(output, "agree ") + count(output, "open ") + apart;
     count(output, "conversations ") == conversations
-        && all == conversations
+        && u64::from(agree) + u64::from(open) + u64::from(apart) == u64::from(conversations)
         && apart <= count(output, "broken ")
 }
 

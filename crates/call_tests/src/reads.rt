@@ -43,7 +43,10 @@ fn octets_of(alloc: Global, input: &str) -> Result<Vec<u8>, AllocError> {
 /// The status of a run over a source of one octet a read, whose reads fail after as many as the input has octets and
 /// so many more.
 fn status_of(alloc: Global, command: &str, octets: &[u8], more: u32) -> io::Result<u8> {
-    let failing = (octets.len() as u32).wrapping_add(more).wrapping_add(1);
+    let failing = u32::try_from(octets.len())
+        .unwrap_or(0)
+        .wrapping_add(more)
+        .wrapping_add(1);
     let source = MemSource::new(alloc, octets, 1, &[failing])?;
     let sink = MemSink::new(alloc, 10_000, 100, &[])?;
     let (status, _) = answered(alloc, command, source, sink)?;
