@@ -12,7 +12,7 @@ use Rattle.eapol_capture.specs.Files.{max_input, max_frame, max_kept}
 use Rattle.eapol_capture.specs.Reading.{Reading, octets_left, contents_from, contents_left, Divides, Answers, begun_in, Takes, Exhausts}
 use Rattle.eapol_capture.specs.Parts.{Hands, HandsAll, HasFrame, IsCut, IsPast, Stops, Parts, Frames, Fails, Opens, told, answer_of}
 use Rattle.eapol_capture.proofs.RecordLaws.{none-missing, cut-missing, past-missing, no-records, stops-early, stops-late, bad-record, one-record}
-use Rattle.eapol_capture.proofs.Handing.{hands_more}
+use Rattle.eapol_capture.proofs.Handing.{hands_more, prepend-append}
 
 -- one function of the octets that are left, and another of those behind a part of them
 mapped : (f g : List ℕ → Contents) (h : Contents → Contents) (part : List ℕ) (was left : Option (List ℕ)) → was ≡ prepend_known part left →
@@ -138,21 +138,22 @@ header-stops before after was left answer none fits bounded stop =
     (max_input - after.taken)) before after was left answer fits
     bounded (λ octets is lacks. rw none (rw lacks refl)) stop)
 
-no-fault : (answer : NextRecord) (found : Option OctetOrder) (header : List ℕ) (before after : Option Contents) → faults_in found header ≡ Err answer →
-    before ≡ option_map (λ _. ends 0 answer) after → Fails answer before after
-no-fault answer None header before after is same =
+-- what holds of each fault in a header
+pub each-fault : (P : NextRecord → Type 0) (answer : NextRecord) (found : Option OctetOrder) (header : List ℕ) → P BadMagic → P BadVersion → P BadLink →
+    faults_in found header ≡ Err answer → P answer
+each-fault P answer None header magic version link is =
     let bad : BadMagic ≡ answer = cc in
-    subst (λ a. Fails a before after) bad (rw (sym bad) at same)
-no-fault answer (Some order) header before after is same =
+    subst P bad magic
+each-fault P answer (Some order) header magic version link is =
     elim (cases_Bool (not (is_version order (take 4 (drop 4 header))))) [
       | inl e ↦
           let bad : BadVersion ≡ answer = let found = rw e at is in cc in
-          subst (λ a. Fails a before after) bad (rw (sym bad) at same)
+          subst P bad version
       | inr e ↦
           elim (cases_Bool (not (eqb (number order (drop 20 header)) 1))) [
             | inl f ↦
                 let bad : BadLink ≡ answer = let found = rw (e, f) at is in cc in
-                subst (λ a. Fails a before after) bad (rw (sym bad) at same)
+                subst P bad link
             | inr f ↦ let found = rw (e, f) at is in absurd cc
           ]
     ]
@@ -167,7 +168,9 @@ header-faults before mid was left answer g none fits bounded all fault =
     mapped (contents_from before.order (max_input - before.taken)) g (λ _. ends 0 answer) all.part (octets_left before was) (octets_left mid left)
     all.hands.octets
     (λ rest is. rw none (header-is (max_input - before.taken) all.part rest all.all (omega (arith, all.all, all.hands.taken)) ∙ rw faulty refl)) in
-    no-fault answer (order_of (take 4 mid.frame)) mid.frame (contents_left before was) (option_map g (octets_left mid left)) fault same
+    each-fault (λ a. contents_left before was ≡ option_map (λ _. ends 0 a) (option_map g (octets_left mid left)) →
+    Fails a (contents_left before was) (option_map g (octets_left mid left))) answer (order_of (take 4 mid.frame)) mid.frame
+    (λ e. e) (λ e. e) (λ e. e) fault same
 
 header-opens : (before mid : Reading) (was left : Option (List ℕ)) (order : OctetOrder) → before.order ≡ None → before.taken ≤ max_input →
     mid.taken ≤ max_input → HandsAll 24 before mid was left → order_or_fault mid.frame ≡ Ok order →
@@ -230,7 +233,14 @@ length-stops before mid after was left_mid left order answer known fits bounded 
 -- what keeps a reader from a part behind another one
 pub stops-behind : (answer : NextRecord) (part : List ℕ) (count most : ℕ) (before mid after : Reading) (was left_mid left : Option (List ℕ)) →
     Hands part before mid was left_mid → length part + count ≤ most → Stops answer count mid after left_mid left → Stops answer most before after was left
-stops-behind Read part count most before mid after was left_mid left h fits stop = tt
+stops-behind Read part count most before mid after was left_mid left h fits stop = record {
+  part = part ++ stop.part;
+  few = omega (arith, stop.few, length-append part stop.part);
+  behind = stop.behind;
+  octets = h.octets ∙ ap (prepend_known part) stop.octets ∙ sym (prepend-append part stop.part stop.behind);
+  taken = omega (arith, h.taken, stop.taken, length-append part stop.part);
+  spent = omega (arith, h.spent, stop.spent, length-append part stop.part);
+}
 stops-behind CutFile part count most before mid after was left_mid left h fits stop = record {
   part = part ++ stop.part;
   few = omega (arith, stop.few, length-append part stop.part);
@@ -249,7 +259,14 @@ stops-behind _ part count most before mid after was left_mid left h fits stop = 
 
 pub stops-more : (answer : NextRecord) (count most : ℕ) (before after : Reading) (was left : Option (List ℕ)) → count ≤ most →
     Stops answer count before after was left → Stops answer most before after was left
-stops-more Read count most before after was left fits stop = tt
+stops-more Read count most before after was left fits stop = record {
+  part = stop.part;
+  few = omega (arith, stop.few);
+  behind = stop.behind;
+  octets = stop.octets;
+  taken = stop.taken;
+  spent = stop.spent;
+}
 stops-more CutFile count most before after was left fits stop =
     record { part = stop.part; few = omega (arith, stop.few); hands = stop.hands; none_held = stop.none_held; none_left = stop.none_left }
 stops-more TooMuch count most before after was left fits stop =
@@ -285,15 +302,19 @@ pub record Begins (order : OctetOrder) (size : ℕ) (before after : Reading) (wa
   pub fits : after.taken ≤ max_input
 
 pub begins : (order : OctetOrder) (size : ℕ) (before mid after : Reading) (was left_mid left : Option (List ℕ)) → before.order ≡ Some order →
-    octets_left before was ≡ octets_left mid left_mid → mid.taken ≡ before.taken → HandsAll 12 mid after left_mid left →
-    size ≡ number order (take 4 (drop 8 after.frame)) → after.taken ≤ max_input → Begins order size before after was left
-begins order size before mid after was left_mid left known looked taken head size_is fits =
+    octets_left before was ≡ octets_left mid left_mid → mid.taken ≡ before.taken → length before.held ≤ length mid.held →
+    HandsAll 12 mid after left_mid left → size ≡ number order (take 4 (drop 8 after.frame)) → after.taken ≤ max_input → Begins order size before after was left
+begins order size before mid after was left_mid left known looked taken held head size_is fits =
     let frame : after.frame ≡ head.part = head.kept ∙ take_all max_kept head.part (omega (arith, head.all)) in
     record {
       known = known;
       head = head.part;
       twelve = head.all;
-      hands = record { octets = looked ∙ head.hands.octets; taken = omega (arith, head.hands.taken, taken) };
+      hands = record {
+        octets = looked ∙ head.hands.octets;
+        taken = omega (arith, head.hands.taken, taken);
+        spent = omega (arith, held, head.hands.spent);
+      };
       size_is = rw frame at size_is;
       fits = fits;
     }

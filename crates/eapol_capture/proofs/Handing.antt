@@ -2,7 +2,7 @@
 use Rattle.std.proofs.Common.{◌≡◌, ℕ, ◌+◌, ◌-◌, ◌≤◌, min, List, [], ◌++◌, length, take, drop, Option, Some, None, refl, ap, sym, ◌∙◌, inl, inr, arith}
 use Rattle.std.proofs.Common.{append_assoc, length-append}
 use Rattle.std.proofs.lemmas.Bool.{cases_lt}
-use Rattle.std.proofs.lemmas.List.{take_all, take-take, take-append-le, take-append-drop, length-take, length-take-le}
+use Rattle.std.proofs.lemmas.List.{take_all, take-take, take-append-le, take-append-drop, length-take, length-take-le, length-drop}
 use Rattle.std.proofs.Math.Seq.{take-append-add}
 use Rattle.eap_base.specs.Known.{prepend_known}
 use Rattle.eapol_capture.specs.Files.{max_input, max_kept}
@@ -37,11 +37,11 @@ kept-part m frame held count room =
     ap (λ l. frame ++ l) (front-part (m - length frame) count held)
     ∙ sym (ap (λ k. take k (frame ++ take count held)) whole ∙ take-append-add frame (take count held) (m - length frame))
 
-prepend-append : (front back : List ℕ) (known : Option (List ℕ)) → prepend_known (front ++ back) known ≡ prepend_known front (prepend_known back known)
+pub prepend-append : (front back : List ℕ) (known : Option (List ℕ)) → prepend_known (front ++ back) known ≡ prepend_known front (prepend_known back known)
 prepend-append front back None = refl
 prepend-append front back (Some octets) = ap Some (append_assoc front back octets)
 
-prepend-nil : (known : Option (List ℕ)) → prepend_known [] known ≡ known
+pub prepend-nil : (known : Option (List ℕ)) → prepend_known [] known ≡ known
 prepend-nil None = refl
 prepend-nil (Some octets) = refl
 
@@ -51,6 +51,7 @@ pub hands_more : (part more : List ℕ) (before now after : Reading) (was left_n
 hands_more part more before now after was left_now left one other = record {
   octets = one.octets ∙ ap (prepend_known part) other.octets ∙ sym (prepend-append part more (octets_left after left));
   taken = omega (arith, one.taken, other.taken, length-append part more);
+  spent = omega (arith, one.spent, other.spent, length-append part more);
 }
 
 -- what stays true while so many octets of a part are missing
@@ -72,7 +73,11 @@ in_part count before now was faults is bounded =
     record {
       part = [];
       all = omega arith;
-      hands = record { octets = sym (prepend-nil (octets_left now was) ∙ ap (λ l. prepend_known l was) held); taken = omega (arith, taken) };
+      hands = record {
+        octets = sym (prepend-nil (octets_left now was) ∙ ap (λ l. prepend_known l was) held);
+        taken = omega (arith, taken);
+        spent = omega (arith, ap length held);
+      };
       kept = none ∙ sym (take_all max_kept [] (omega arith));
       keeps = record { order = ap (λ (r : Reading). r.order) is; number = ap (λ (r : Reading). r.number) is; over = ap (λ (r : Reading). r.over) is };
       bounded = omega (arith, taken);
@@ -85,6 +90,7 @@ pub record Looks (before after : Reading) (was left : Option (List ℕ)) : Type 
   pub taken : after.taken ≡ before.taken
   pub frame : after.frame ≡ before.frame
   pub octets : octets_left before was ≡ octets_left after left
+  pub held : length before.held ≤ length after.held
 
 -- some of the octets that are held are handed out
 pub record Takes (count : ℕ) (before after : Reading) : Type 0 where
@@ -111,6 +117,7 @@ hands-held count now mid after left_now left looks takes =
     record {
       octets = looks.octets ∙ rw takes.held (sym joined);
       taken = omega (arith, takes.taken, looks.taken, size);
+      spent = omega (arith, looks.held, size, ap length takes.held, length-drop count mid.held);
     }
 
 pub more-part : (count missing n missing' : ℕ) (before now mid after : Reading) (was left_now left : Option (List ℕ)) (faults_before faults_now faults : ℕ) →

@@ -10,3 +10,5 @@ pub mod KeptFronts
 pub mod RecordLaws
 -- A spelled file is read as what it spells.
 pub mod Spelling
+-- Where a read fails, what was handed out decides nothing.
+pub mod Waiting

@@ -4,8 +4,8 @@ use Rattle.eap_base.specs.Known.{prepend_known, nothing_known}
 use Rattle.eapol_capture.specs.declared.order.OctetOrder.{OctetOrder}
 use Rattle.eapol_capture.specs.declared.reader.NextRecord.{NextRecord}
 use Rattle.eapol_capture.specs.declared.reader.NextRecord.TheVariants.{Record, End, CutFile, BadRecord, TooMuch, Read}
-use Rattle.eapol_capture.specs.Files.{Contents, ends, max_input, max_kept}
-use Rattle.eapol_capture.specs.Reading.{Reading, octets_left}
+use Rattle.eapol_capture.specs.Files.{Contents, ends, order_or_fault, max_input, max_kept}
+use Rattle.eapol_capture.specs.Reading.{Reading, octets_left, Waits}
 
 -- the answer that a step leads to, where it goes on to a record or stops
 abbrev pub answer_of : {A : Type 0} → Result A NextRecord → NextRecord
@@ -27,6 +27,7 @@ pub record Keeps (before after : Reading) : Type 0 where
 pub record Hands (part : List ℕ) (before after : Reading) (was left : Option (List ℕ)) : Type 0 where
   pub octets : octets_left before was ≡ prepend_known part (octets_left after left)
   pub taken : after.taken ≡ before.taken + length part
+  pub spent : length before.held ≤ length part + length after.held
 
 -- so many octets were handed out, and a front of them was kept
 pub record HandsAll (count : ℕ) (before after : Reading) (was left : Option (List ℕ)) : Type 0 where
@@ -51,11 +52,20 @@ pub record IsPast (count : ℕ) (before after : Reading) (was left : Option (Lis
   pub more : 0 < length after.held
   pub full : max_input ≤ after.taken
 
+-- a read failed before, when no octet was held
+pub record IsStuck (count : ℕ) (before after : Reading) (was : Option (List ℕ)) : Type 0 where
+  pub part : List ℕ
+  pub few : length part < count
+  pub behind : Option (List ℕ)
+  pub octets : octets_left before was ≡ prepend_known part behind
+  pub taken : after.taken ≡ before.taken + length part
+  pub spent : length before.held ≤ length part
+
 -- what keeps a reader from so many octets
 abbrev pub Stops : NextRecord → ℕ → Reading → Reading → Option (List ℕ) → Option (List ℕ) → Type 0
 Stops CutFile count before after was left = IsCut count before after was left
 Stops TooMuch count before after was left = IsPast count before after was left
-Stops Read count before after was left = Unit {0}
+Stops Read count before after was left = IsStuck count before after was
 Stops answer count before after was left = ⊥
 
 -- what comes of reading so many octets
@@ -89,3 +99,16 @@ Fails answer before after = before ≡ option_map (λ _. ends 0 answer) after
 abbrev pub Opens : Result OctetOrder NextRecord → Option Contents → Option Contents → Type 0
 Opens (Ok order) before after = before ≡ after
 Opens (Err answer) before after = Fails answer before after
+
+-- a header that tells this octet order
+pub record HasHeader (order : OctetOrder) (before after : Reading) (was left : Option (List ℕ)) : Type 0 where
+  pub head : List ℕ
+  pub all : length head ≡ 24
+  pub hands : Hands head before after was left
+  pub judged : order_or_fault head ≡ Ok order
+  pub told : after.order ≡ Some order
+
+-- what comes of reading a header
+abbrev pub Heads : Result OctetOrder NextRecord → Reading → Reading → Option (List ℕ) → Option (List ℕ) → Type 0
+Heads (Ok order) before after was left = HasHeader order before after was left
+Heads (Err answer) before after was left = Waits answer before after was

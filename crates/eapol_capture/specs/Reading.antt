@@ -1,5 +1,5 @@
 -- A reader of a file's records: what it has still to answer, and what each of its steps takes.
-use Rattle.std.specs.Prelude.{◌≡◌, ℕ, ◌+◌, ◌-◌, ◌≤◌, List, min, Bool, true, false, Option, Some, None, option_map}
+use Rattle.std.specs.Prelude.{◌≡◌, ℕ, ◌+◌, ◌-◌, ◌≤◌, List, length, min, Bool, true, false, Option, Some, None, option_map}
 use Rattle.eap_base.specs.Known.{prepend_known, nothing_known}
 use Rattle.eapol_capture.specs.declared.order.OctetOrder.{OctetOrder}
 use Rattle.eapol_capture.specs.declared.reader.NextRecord.{NextRecord}
@@ -36,6 +36,27 @@ abbrev pub Divides : NextRecord → ℕ → List ℕ → Option Contents → Opt
 Divides Record begun frame before after = before ≡ option_map (record_of frame) after
 Divides Read begun frame before after = Unit {0}
 Divides answer begun frame before after = before ≡ option_map (λ _. ends begun answer) after
+
+-- whether octets, as the front of a file, leave open what the file is: a file of them alone is whole, or cut
+abbrev pub is_open : Contents → Bool
+is_open (ends begun End) = true
+is_open (ends begun CutFile) = true
+is_open contents = false
+
+-- a call that ends at a failed read: it has handed out a part of the octets that were left, all that were held among
+-- them, and this part leaves open what the file is
+pub record Undecided (before after : Reading) (was : Option (List ℕ)) : Type 0 where
+  pub part : List ℕ
+  pub behind : Option (List ℕ)
+  pub octets : octets_left before was ≡ prepend_known part behind
+  pub taken : after.taken ≡ before.taken + length part
+  pub spent : length before.held ≤ length part
+  pub undecided : is_open (contents_from before.order (max_input - before.taken) part) ≡ true
+
+-- the answer Read comes only where the octets that were handed out don't tell another
+abbrev pub Waits : NextRecord → Reading → Reading → Option (List ℕ) → Type 0
+Waits Read before after was = Undecided before after was
+Waits answer before after was = Unit {0}
 
 -- how many records an answer begins: those that it has read or that have a fault, and behind the header one that
 -- is cut, or whose octet is the one past the limit

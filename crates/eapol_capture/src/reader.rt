@@ -1,6 +1,6 @@
 //! A source read as a pcap file.
 
-ghost use Rattle.std.specs.Prelude.{◌≡◌, ◌≤◌, ◌<◌, ◌+◌, ◌-◌, ◌++◌, min, take, drop, true, false, length, ℕ, [], Some, Ok, IfOk, IfErr, OnOk, IsTrue};
+ghost use Rattle.std.specs.Prelude.{◌≡◌, ◌≤◌, ◌<◌, ◌+◌, ◌-◌, ◌++◌, min, take, drop, true, false, length, ℕ, [], Some, Ok, IfOk, IfErr, OnErr, OnOk, IsTrue};
 ghost use Rattle.eap_base.specs.Known.{prepend_known, nothing_known};
 
 use crate::header::judge_header;
@@ -75,8 +75,8 @@ impl PcapReader {
     ghost use Rattle.std.specs.Prelude.{None};
     ghost use Rattle.eapol_capture.specs.declared.reader.NextRecord.TheVariants.{Record, Read};
     ghost use Rattle.eapol_capture.specs.Files.{max_input, max_kept, number, order_or_fault};
-    ghost use Rattle.eapol_capture.specs.Reading.{contents_left, octets_left, Answers, begun, records_begin, Takes, Exhausts, Faults, is_last};
-    ghost use Rattle.eapol_capture.specs.Parts.{answer_of, told, Keeps, Parts, Frames, Opens};
+    ghost use Rattle.eapol_capture.specs.Reading.{contents_left, octets_left, Answers, begun, records_begin, Takes, Exhausts, Waits, Faults, is_last};
+    ghost use Rattle.eapol_capture.specs.Parts.{answer_of, told, Keeps, Parts, Frames, Opens, Heads};
 
     /// A reader that has read nothing.
     pub fn new() -> PcapReader
@@ -98,13 +98,14 @@ impl PcapReader {
         requires { self.old.over ≡ false }
 
         // The answers are those of the octets that the reader holds and the source has left, however they
-        // are cut into reads.
+        // are cut into reads. Where these decide, no further read is asked for.
         ensures contents { Answers result self.old self.new (S.left source.old) (S.left source.new) }
         ensures number { self.new.number ≡ self.old.number + begun result (records_begin self.old) self.new }
         ensures over { self.new.over ≡ is_last result }
         ensures takes { Takes result self.old.taken self.new.taken }
         ensures bounded { self.new.taken ≤ max_input }
         ensures exhausted { Exhausts result (S.left source.new) }
+        ensures waits { Waits result self.old self.new (S.left source.old) }
 
         ensures read { Faults result S.last_read_fault (S.read_faults source.old) (S.read_faults source.new) }
         ensures never_falls { S.read_faults source.old ≤ S.read_faults source.new }
@@ -154,6 +155,7 @@ impl PcapReader {
         ensures takes { Takes result self.old.taken self.new.taken }
         ensures bounded { self.new.taken ≤ max_input }
         ensures exhausted { Exhausts result (S.left source.new) }
+        ensures waits { Waits result self.old self.new (S.left source.old) }
         ensures read { Faults result S.last_read_fault (S.read_faults source.old) (S.read_faults source.new) }
         ensures never_falls { S.read_faults source.old ≤ S.read_faults source.new }
     {
@@ -171,6 +173,7 @@ impl PcapReader {
         requires header { self.old.order ≡ None }
         requires bounded { self.old.taken ≤ max_input }
         ensures contents { Opens result (contents_left self.old (S.left source.old)) (contents_left self.new (S.left source.new)) }
+        ensures header { Heads result self.old self.new (S.left source.old) (S.left source.new) }
         ensures order { self.new.order ≡ told result }
         ensures number { self.new.number ≡ self.old.number }
         ensures over { self.new.over ≡ self.old.over }
@@ -204,6 +207,7 @@ impl PcapReader {
         ensures takes { Takes result self.old.taken self.new.taken }
         ensures bounded { self.new.taken ≤ max_input }
         ensures exhausted { Exhausts result (S.left source.new) }
+        ensures waits { Waits result self.old self.new (S.left source.old) }
         ensures read { Faults result S.last_read_fault (S.read_faults source.old) (S.read_faults source.new) }
         ensures never_falls { S.read_faults source.old ≤ S.read_faults source.new }
     {
@@ -223,6 +227,7 @@ impl PcapReader {
         ensures takes { Takes (answer_of result) self.old.taken self.new.taken }
         ensures bounded { self.new.taken ≤ max_input }
         ensures exhausted { Exhausts (answer_of result) (S.left source.new) }
+        ensures waits { Waits (answer_of result) self.old self.new (S.left source.old) }
         ensures read { Faults (answer_of result) S.last_read_fault (S.read_faults source.old) (S.read_faults source.new) }
         ensures never_falls { S.read_faults source.old ≤ S.read_faults source.new }
     {
@@ -309,10 +314,12 @@ impl PcapReader {
         ensures taken { self.new.taken ≡ self.old.taken }
         ensures frame { self.new.frame ≡ self.old.frame }
         ensures left { OnOk result (octets_left self.old (S.left source.old) ≡ octets_left self.new (S.left source.new)) }
+        ensures held { OnOk result (length self.old.held ≤ length self.new.held) }
         ensures some { result ≡ Ok true → 0 < length self.new.held }
         ensures none_held { result ≡ Ok false → self.new.held ≡ [] }
         ensures none_left { result ≡ Ok false → S.left source.new ≡ nothing_known (S.left source.new) }
         ensures failed { IfErr result (λ answer. answer ≡ Read) }
+        ensures spent { OnErr result (self.old.held ≡ []) }
         ensures read { Faults (answer_of result) S.last_read_fault (S.read_faults source.old) (S.read_faults source.new) }
         ensures never_falls { S.read_faults source.old ≤ S.read_faults source.new }
     {

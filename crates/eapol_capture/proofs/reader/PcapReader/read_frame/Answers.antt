@@ -1,6 +1,7 @@
 use Rattle.std.proofs.Common.{◌≡◌, ◌≤◌, ◌<◌, ◌∙◌, length, rules, Err, Ok, Some, ap, arith}
 use Rattle.eapol_capture.specs.Files.{max_frame}
 use Rattle.eapol_capture.proofs.Dividing.{begins, records-end, length-stops, stops-take, bad-size, frame-divides, frame-takes}
+use Rattle.eapol_capture.proofs.Waiting.{look-waits, length-waits, frame-waits}
 use Rattle.eapol_capture.proofs.reader.PcapReader.read_frame.Goals as goal
 
 pub returns-then-not-branch-clause-contents : goal.returns-then-not-branch-clause-contents
@@ -39,7 +40,7 @@ returns-then-size-gt-MAX_FRAME-clause-contents g c =
     let begun =
     begins c.args.order c.in_ok-size.size c.args.self.now c.has_more.new.self c.read_length.new.self
     (g.S.Source.left c.args.source.now) (g.S.Source.left c.has_more.new.source) (g.S.Source.left c.read_length.new.source)
-    c.requires.order looked.left looked.taken called.part called.length called.bounded in
+    c.requires.order looked.left looked.taken looked.held called.part called.length called.bounded in
     let long : max_frame < c.in_ok-size.size = omega arith in
     bad-size c.args.order c.in_ok-size.size c.args.self.now c.read_length.new.self
     (g.S.Source.left c.args.source.now) (g.S.Source.left c.read_length.new.source) begun long
@@ -51,7 +52,7 @@ returns-clause-contents g c =
     let begun =
     begins c.args.order c.in_ok-size.size c.args.self.now c.has_more.new.self c.read_length.new.self
     (g.S.Source.left c.args.source.now) (g.S.Source.left c.has_more.new.source) (g.S.Source.left c.read_length.new.source)
-    c.requires.order looked.left looked.taken called.part called.length called.bounded in
+    c.requires.order looked.left looked.taken looked.held called.part called.length called.bounded in
     let short : c.in_ok-size.size ≤ max_frame = omega arith in
     let body = c.read_body.ensures in
     let order : c.read_body.new.self.order ≡ Some c.args.order = body.keeps.order ∙ called.keeps.order ∙ looked.keeps.order ∙ c.requires.order in
@@ -66,8 +67,39 @@ returns-clause-takes g c =
     let begun =
     begins c.args.order c.in_ok-size.size c.args.self.now c.has_more.new.self c.read_length.new.self
     (g.S.Source.left c.args.source.now) (g.S.Source.left c.has_more.new.source) (g.S.Source.left c.read_length.new.source)
-    c.requires.order looked.left looked.taken called.part called.length called.bounded in
+    c.requires.order looked.left looked.taken looked.held called.part called.length called.bounded in
     let body = c.read_body.ensures in
     frame-takes c.read_body.result c.args.order c.in_ok-size.size c.args.self.now c.read_length.new.self c.read_body.new.self
     (g.S.Source.left c.args.source.now) (g.S.Source.left c.read_length.new.source) (g.S.Source.left c.read_body.new.source)
     begun body.grows body.part
+
+pub returns-in_err-has_more-clause-waits : goal.returns-in_err-has_more-clause-waits
+returns-in_err-has_more-clause-waits g c =
+    let same : c.from_residual.result ≡ Err c.in_err-has_more.field-0.0 = search rules in
+    rw same
+    (look-waits c.in_err-has_more.field-0.0 c.args.self.now c.has_more.new.self (g.S.Source.left c.args.source.now) c.args.order
+    c.requires.order c.in_err-has_more.ensures.taken c.in_err-has_more.ensures.spent)
+
+pub returns-in_err-size-clause-waits : goal.returns-in_err-size-clause-waits
+returns-in_err-size-clause-waits g c =
+    let same : c.from_residual-in_err-size.result ≡ Err c.in_err-size.field-0.0 = search rules in
+    let looked = c.in_ok-has_more.ensures in
+    let called = c.in_err-size.ensures in
+    rw same
+    (length-waits c.in_err-size.field-0.0 c.args.self.now c.has_more.new.self c.read_length.new.self
+    (g.S.Source.left c.args.source.now) (g.S.Source.left c.has_more.new.source) (g.S.Source.left c.read_length.new.source) c.args.order
+    c.requires.order c.requires.bounded called.bounded looked.left looked.taken looked.held called.part)
+
+pub returns-clause-waits : goal.returns-clause-waits
+returns-clause-waits g c =
+    let looked = c.in_ok-has_more.ensures in
+    let called = c.in_ok-size.ensures in
+    let begun =
+    begins c.args.order c.in_ok-size.size c.args.self.now c.has_more.new.self c.read_length.new.self
+    (g.S.Source.left c.args.source.now) (g.S.Source.left c.has_more.new.source) (g.S.Source.left c.read_length.new.source)
+    c.requires.order looked.left looked.taken looked.held called.part called.length called.bounded in
+    let short : c.in_ok-size.size ≤ max_frame = omega arith in
+    let body = c.read_body.ensures in
+    frame-waits c.read_body.result c.args.order c.in_ok-size.size c.args.self.now c.read_length.new.self c.read_body.new.self
+    (g.S.Source.left c.args.source.now) (g.S.Source.left c.read_length.new.source) (g.S.Source.left c.read_body.new.source)
+    begun short body.bounded body.part

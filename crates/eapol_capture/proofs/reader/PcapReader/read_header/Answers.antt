@@ -1,5 +1,6 @@
 use Rattle.std.proofs.Common.{◌≡◌, rules, Err}
 use Rattle.eapol_capture.proofs.Dividing.{header-stops, header-judged}
+use Rattle.eapol_capture.proofs.Waiting.{header-waits, header-heads}
 use Rattle.eapol_capture.proofs.reader.PcapReader.read_header.Goals as goal
 
 pub returns-in_err-read_part-clause-contents : goal.returns-in_err-read_part-clause-contents
@@ -16,3 +17,16 @@ returns-clause-contents g c =
     header-judged c.judge.result c.args.self.now c.read_part.new.self c.judge.new.self (g.S.Source.left c.args.source.now)
     (g.S.Source.left c.read_part.new.source)
     c.requires.header c.requires.bounded called.bounded called.part c.judge.ensures.judged c.judge.ensures.kept
+
+pub returns-in_err-read_part-clause-header : goal.returns-in_err-read_part-clause-header
+returns-in_err-read_part-clause-header g c =
+    let same : c.from_residual.result ≡ Err c.in_err-read_part.field-0.0 = search rules in
+    let called = c.in_err-read_part.ensures in
+    rw same
+    (header-waits c.in_err-read_part.field-0.0 c.args.self.now c.read_part.new.self (g.S.Source.left c.args.source.now) (g.S.Source.left c.read_part.new.source)
+    c.requires.header c.requires.bounded called.bounded called.part)
+
+pub returns-clause-header : goal.returns-clause-header
+returns-clause-header g c =
+    header-heads c.judge.result c.args.self.now c.read_part.new.self c.judge.new.self (g.S.Source.left c.args.source.now)
+    (g.S.Source.left c.read_part.new.source) c.in_ok-read_part.ensures.part c.judge.ensures.judged c.judge.ensures.kept

@@ -1,4 +1,6 @@
+use Rattle.std.proofs.Common.{◌≡◌, None}
 use Rattle.eapol_capture.proofs.Dividing.{fails-divides, fails-takes, fails-exhausts}
+use Rattle.eapol_capture.proofs.Waiting.{waits-behind}
 use Rattle.eapol_capture.proofs.reader.PcapReader.read_next.Goals as goal
 
 pub returns-in-Err-clause-contents : goal.returns-in-Err-clause-contents
@@ -9,3 +11,10 @@ returns-in-Err-clause-takes g c = fails-takes c.in-Err.answer _ _ _ _ c.in-Err.e
 
 pub returns-in-Err-clause-exhausted : goal.returns-in-Err-clause-exhausted
 returns-in-Err-clause-exhausted g c = fails-exhausts c.in-Err.answer _ _ _ c.in-Err.ensures.contents
+
+pub returns-in-Ok-clause-waits : goal.returns-in-Ok-clause-waits
+returns-in-Ok-clause-waits g c =
+    let none : c.args.self.now.order ≡ None = cc in
+    waits-behind c.read_record-in-Ok.result c.in-Ok.order c.args.self.now c.read_header.new.self c.read_record-in-Ok.new.self
+    (g.S.Source.left c.args.source.now) (g.S.Source.left c.read_header.new.source) none c.in-Ok.ensures.bounded c.in-Ok.ensures.header
+    c.read_record-in-Ok.ensures.waits

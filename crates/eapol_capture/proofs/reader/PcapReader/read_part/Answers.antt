@@ -16,7 +16,13 @@ loop-missing-preserved g c =
     let after = c.take_held-handed.new.self in
     let n = c.take_held-handed.result in
     let looks : Looks now mid (g.S.Source.left c.loop-missing.source) (g.S.Source.left c.has_more.new.source) =
-    record { keeps = c.has_more.ensures.keeps; taken = c.has_more.ensures.taken; frame = c.has_more.ensures.frame; octets = c.in_ok-has_more.ensures.left } in
+    record {
+      keeps = c.has_more.ensures.keeps;
+      taken = c.has_more.ensures.taken;
+      frame = c.has_more.ensures.frame;
+      octets = c.in_ok-has_more.ensures.left;
+      held = c.in_ok-has_more.ensures.held;
+    } in
     let t = c.take_held-handed.ensures in
     let takes : Takes n mid after =
     record { keeps = t.keeps; there = t.there; taken = t.taken; held = t.held; kept = t.kept; bounded = t.bounded } in
