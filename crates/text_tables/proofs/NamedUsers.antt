@@ -8,7 +8,7 @@ use Rattle.eap_base.specs.Users.{user_of}
 use Rattle.eap_base.specs.declared.users.User.{User}
 use Rattle.text_tables.specs.Fields.{octets_of, spells_kind, spells_octets, kind_of}
 use Rattle.text_tables.specs.Rows.{is_within}
-use Rattle.text_tables.specs.UserWords.{is_visible, is_name, is_key, user_named, with_named, users_named, read_as}
+use Rattle.text_tables.specs.UserWords.{is_visible, is_name, is_key, user_named, with_named, users_named, users_until, read_as}
 
 -- what holds of a user that words name
 pub record IsNamed (user : User) : Type 0 where
@@ -73,3 +73,22 @@ pub group_fails : (users mid : List User) (name kind key : List ℕ) (rest : Lis
     → read_as false mid ≡ with_named users (user_named name kind key) → None ≡ users_named (Some users) (name ∷ kind ∷ key ∷ rest)
 unfolding users_named
 group_fails users mid name kind key rest e = ap (λ (o : Option (List User)). users_named o rest) e
+
+-- what was added before, where something is read
+from_some : (one other users : List User) (words : List (List ℕ)) → users_until one (Some users) words ≡ users_until other (Some users) words
+unfolding users_until
+from_some one other users [] = refl
+from_some one other users (name ∷ []) = refl
+from_some one other users (name ∷ kind ∷ []) = refl
+from_some one other users (name ∷ kind ∷ key ∷ rest) = refl
+
+pub group_adds : (users mid out : List User) (name kind key : List ℕ) (rest : List (List ℕ))
+    → read_as true mid ≡ with_named users (user_named name kind key) → out ≡ users_until mid (Some mid) rest
+    → out ≡ users_until users (Some users) (name ∷ kind ∷ key ∷ rest)
+unfolding users_until
+group_adds users mid out name kind key rest e h = h ∙ from_some mid users mid rest ∙ ap (λ (o : Option (List User)). users_until users o rest) e
+
+pub group_stays : (users mid out : List User) (name kind key : List ℕ) (rest : List (List ℕ))
+    → read_as false mid ≡ with_named users (user_named name kind key) → out ≡ users → out ≡ users_until users (Some users) (name ∷ kind ∷ key ∷ rest)
+unfolding users_until
+group_stays users mid out name kind key rest e h = h ∙ ap (λ (o : Option (List User)). users_until users o rest) e

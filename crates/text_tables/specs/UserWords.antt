@@ -39,6 +39,14 @@ users_named (Some users) (name ∷ []) = None
 users_named (Some users) (name ∷ kind ∷ []) = None
 users_named (Some users) (name ∷ kind ∷ key ∷ rest) = users_named (with_named users (user_named name kind key)) rest
 
+-- the users with those that words name after them, up to the first words that name none, or none that is added
+unfoldable pub users_until : List User → Option (List User) → List (List ℕ) → List User
+users_until added None words = added
+users_until added (Some users) [] = users
+users_until added (Some users) (name ∷ []) = users
+users_until added (Some users) (name ∷ kind ∷ []) = users
+users_until added (Some users) (name ∷ kind ∷ key ∷ rest) = users_until users (with_named users (user_named name kind key)) rest
+
 -- what a call that adds users to a list has read
 abbrev pub read_as : Bool → List User → Option (List User)
 read_as true users = Some users

@@ -1,8 +1,8 @@
 //! Users that the words of a command name.
 
-ghost use Rattle.std.specs.Prelude.{◌≡◌, true, Some, map, string_bytes};
+ghost use Rattle.std.specs.Prelude.{◌≡◌, true, false, Some, map, string_bytes};
 ghost use Rattle.text_tables.specs.Fits.{IsKey, IsName};
-ghost use Rattle.text_tables.specs.UserWords.{is_visible, is_name, is_key, user_named, with_named, users_named, read_as};
+ghost use Rattle.text_tables.specs.UserWords.{is_visible, is_name, is_key, user_named, with_named, users_named, users_until, read_as};
 
 use crate::fields::{kind_of, name, octets, spells_kind, spells_octets};
 use crate::rows::{fits_kind, is_within};
@@ -10,11 +10,12 @@ use eap_base::{User, Users};
 
 /// Adds the users that the words name, three words each: a name of 1 to 253 octets from 21 to 7e, a
 /// method, 47 or 51, and its key in hex, of 16 octets for 47 and 32 to 64 for 51. False where the words are none
-/// such, where a pair of a name and a method comes twice, and where there would be over 16 users; a front of the
-/// users was added then.
-#[tactic(auto, unfolding(crate::specs::UserWords::users_named))]
+/// such, where a pair of a name and a method comes twice, and where there would be over 16 users; the users that
+/// the words before name were added then.
+#[tactic(auto, unfolding(crate::specs::UserWords::users_named, crate::specs::UserWords::users_until))]
 pub fn read_users(words: &[String], users: &mut Users) -> bool
-    ensures { read_as result users.new ≡ users_named (Some users.old) (map string_bytes words.now) }
+    ensures named { read_as result users.new ≡ users_named (Some users.old) (map string_bytes words.now) }
+    ensures added { users.new ≡ users_until users.old (Some users.old) (map string_bytes words.now) }
 {
     match words.split_first() {
         None => true,
@@ -36,7 +37,8 @@ pub fn read_users(words: &[String], users: &mut Users) -> bool
 
 /// Adds the user that three words name.
 fn add_named(name: &[u8], kind: &[u8], key: &[u8], users: &mut Users) -> bool
-    ensures { read_as result users.new ≡ with_named users.old (user_named name.now kind.now key.now) }
+    ensures named { read_as result users.new ≡ with_named users.old (user_named name.now kind.now key.now) }
+    ensures unchanged { result ≡ false → users.new ≡ users.old }
 {
     match user_named(name, kind, key) {
         Some(user) => add(users, user),
@@ -46,7 +48,8 @@ fn add_named(name: &[u8], kind: &[u8], key: &[u8], users: &mut Users) -> bool
 
 /// Adds a user, where there is room.
 fn add(users: &mut Users, user: User) -> bool
-    ensures { read_as result users.new ≡ with_named users.old (Some user) }
+    ensures named { read_as result users.new ≡ with_named users.old (Some user) }
+    ensures unchanged { result ≡ false → users.new ≡ users.old }
 {
     users.add(user)
 }
