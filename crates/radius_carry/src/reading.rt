@@ -133,6 +133,7 @@ pub fn read_radius<'a>(octets: &'a [u8]) -> Result<RadiusView<'a>, RadiusCause>
     ensures packet { heard result ≡ packet_of octets.now }
     ensures sound { IfOk result (λ view. IsRadius (value_of view) view.whole.now) }
     ensures prefix { IfOk result (λ view. view.whole.now ≡ take (length_of octets.now) octets.now) }
+    ensures attributes { IfOk result (λ view. view.attributes.now ≡ drop 20 view.whole.now) }
 {
     match first_fault(octets) {
         Some(cause) => Err(cause),
