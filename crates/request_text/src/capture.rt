@@ -27,7 +27,7 @@ pub enum CaptureItem {
 }
 
 /// How far a capture has come.
-#[derive(Clone, Copy, PartialEq, Eq, Debug)]
+#[derive(Clone, Copy, PartialEq, Eq)]
 pub enum CapturePhase {
     /// No line was read.
     Unread,

@@ -12,7 +12,7 @@ use text_tables::{
 };
 
 /// The first word of a line of a capture.
-#[derive(Clone, Copy, PartialEq, Eq, Debug)]
+#[derive(Clone, Copy)]
 pub enum CaptureWord {
     User,
     Packets,

@@ -13,7 +13,7 @@ use text_tables::{
 };
 
 /// The first word of a request.
-#[derive(Clone, Copy, PartialEq, Eq, Debug)]
+#[derive(Clone, Copy)]
 pub enum Request {
     Aes,
     Cmac,

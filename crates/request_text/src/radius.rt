@@ -10,7 +10,7 @@ use crate::radius_line::{RadiusItem, RadiusWord, read_radius_item, read_radius_w
 use text_tables::{LineFault, is_comment};
 
 /// How far a text of RADIUS packets has come.
-#[derive(Clone, Copy, PartialEq, Eq, Debug)]
+#[derive(Clone, Copy, PartialEq, Eq)]
 pub enum RadiusPhase {
     /// No line was read.
     Unread,

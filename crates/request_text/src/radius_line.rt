@@ -13,7 +13,7 @@ use text_tables::{
 };
 
 /// The first word of a line of a text of RADIUS packets.
-#[derive(Clone, Copy, PartialEq, Eq, Debug)]
+#[derive(Clone, Copy)]
 pub enum RadiusWord {
     Secret,
     Request,
@@ -35,7 +35,7 @@ const STATE: Field = Field::Hex { low: 0, high: 64 };
 const EAP: Field = Field::Hex { low: 1, high: 1500 };
 
 /// The kind of a reply (RFC 2865 section 4).
-#[derive(Clone, Copy, PartialEq, Eq, Debug)]
+#[derive(Clone, Copy)]
 pub enum ReplyKind {
     /// Access-Accept.
     Accept,

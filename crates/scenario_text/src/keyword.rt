@@ -8,7 +8,7 @@ ghost use Rattle.scenario_text.specs.Keywords.{row_of, keywords};
 use text_tables::{Choices, Field, Row, word_in};
 
 /// The first word of a line.
-#[derive(Clone, Copy, PartialEq, Eq, Debug)]
+#[derive(Clone, Copy)]
 pub enum Keyword {
     Mode,
     FirstId,

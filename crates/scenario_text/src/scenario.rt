@@ -17,7 +17,7 @@ use std::marker::Model;
 use text_tables::{LineFault, is_comment, is_printable_line};
 
 /// What a line of a scenario says.
-#[derive(Clone, Copy, PartialEq, Eq, Debug)]
+#[derive(Clone, Copy)]
 pub enum Item {
     /// Nothing that happens: the header, a setting, or a line that is passed over.
     Nothing,
@@ -30,7 +30,7 @@ pub enum Item {
 }
 
 /// How far a scenario has come.
-#[derive(Clone, Copy, PartialEq, Eq, Debug)]
+#[derive(Clone, Copy, PartialEq, Eq)]
 pub enum Phase {
     /// No line was read.
     Unread,

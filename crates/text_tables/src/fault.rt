@@ -4,40 +4,28 @@ ghost use Rattle.std.specs.Prelude.{◌≡◌};
 ghost use Rattle.text_tables.specs.Words.{fault_word};
 ghost use Rattle.text_tables.specs.Firsts.{rank_of};
 
-use thiserror::Error;
-
 /// Why a line is refused. Where a line meets several faults, the first in this order is answered.
-#[derive(Clone, Copy, PartialEq, Eq, Debug, Error)]
+#[derive(Clone, Copy, PartialEq, Eq)]
 pub enum LineFault {
     /// Line 1 is not the header.
-    #[error("the first line is not the header")]
     NoHeader,
     /// An octet outside 20 to 7e, or a first word that is no keyword of the text.
-    #[error("not a keyword, or an octet that is no printable character")]
     BadWord,
     /// A number of words that the keyword doesn't have, or one line too many of its kind.
-    #[error("a wrong number of words")]
     BadCount,
     /// A word that is none of its choices.
-    #[error("a word that is none of its choices")]
     BadChoice,
     /// No decimal number without a leading zero, one out of range, or no method or suite that there is.
-    #[error("not a number, or one out of range")]
     BadNumber,
     /// An empty hex word, or one that is not an even number of hex digits.
-    #[error("not an even number of hex digits")]
     BadHex,
     /// A name or a hex word of a wrong length.
-    #[error("a wrong length")]
     BadSize,
     /// A setting that came before, or the same method or suite twice in one line.
-    #[error("a setting that came before")]
     Repeated,
     /// A needed setting, or the line `end`, that is not there.
-    #[error("something needed is missing")]
     Missing,
     /// A line where it may not stand.
-    #[error("a line that may not stand here")]
     Order,
 }
 

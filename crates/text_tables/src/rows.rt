@@ -15,7 +15,7 @@ use crate::words::{word_count, word_in};
 use eap_base::{GPSK_KIND, PSK_KIND};
 
 /// What a word after a keyword stands for. A place is that of a word in the line, 0 for the keyword.
-#[derive(Clone, Copy, PartialEq, Eq, Debug)]
+#[derive(Clone, Copy)]
 pub enum Field {
     /// One of a few words.
     Choice(Choices),
@@ -40,7 +40,7 @@ pub enum Field {
 }
 
 /// The words of a choice.
-#[derive(Clone, Copy, PartialEq, Eq, Debug)]
+#[derive(Clone, Copy)]
 pub enum Choices {
     /// `alone` or `through`.
     Mode,
@@ -55,7 +55,7 @@ pub enum Choices {
 }
 
 /// A row of a text's table.
-#[derive(Clone, Copy, Debug)]
+#[derive(Clone, Copy)]
 pub struct Row {
     /// The keyword.
     pub word: &'static [u8],
