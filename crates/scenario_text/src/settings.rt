@@ -1,6 +1,6 @@
 //! The settings of a scenario that have been read so far.
 
-ghost use Rattle.std.specs.Prelude.{◌≡◌, ◌∷◌, [], unwrap_or, MatchResult, IsOk, Err};
+ghost use Rattle.std.specs.Prelude.{◌≡◌, ◌∷◌, [], unwrap_or};
 ghost use Rattle.eap_base.specs.declared.event.Event.{Event};
 ghost use Rattle.scenario_text.specs.Contents.{entry_with};
 ghost use Rattle.scenario_text.specs.Reading.{no_settings, has_setting, with_setting, both_suites, key_for};
@@ -83,7 +83,7 @@ impl Settings {
         ensures { (event : Event) → result ≡ is_missing self.now (entry_with entry.now event) }
     {
         match entry {
-            Entry::Events => self.check().is_err(),
+            Entry::Events => self.setup().is_err(),
             _ => false,
         }
     }
@@ -132,41 +132,6 @@ impl Settings {
             Setting::ServerNonce(nonce) => self.server_nonce = Some(nonce),
             Setting::User(user) => add_user(&mut self.users, user),
         }
-    }
-
-    /// Whether the settings of the run are whole, or `Missing` where a needed one has not come.
-    #[tactic(auto, unfolding(crate::specs::Reading::setup_of))]
-    fn check(&self) -> Result<(), LineFault>
-        ensures { MatchResult result (λ _. IsOk (setup_of self.now)) (λ fault. setup_of self.now ≡ Err fault) }
-    {
-        self.mode.ok_or(LineFault::Missing)?;
-        self.check_peer()?;
-        self.check_server()
-    }
-
-    /// The same of the settings of the peer.
-    #[tactic(auto, unfolding(crate::specs::Reading::peer_setup_of))]
-    fn check_peer(&self) -> Result<(), LineFault>
-        ensures { MatchResult result (λ _. IsOk (peer_setup_of self.now)) (λ fault. peer_setup_of self.now ≡ Err fault) }
-    {
-        self.peer_name.as_ref().ok_or(LineFault::Missing)?;
-        self.peer_server.as_ref().ok_or(LineFault::Missing)?;
-        let methods = self.peer_methods.as_ref().ok_or(LineFault::Missing)?;
-        self.peer_nonce.ok_or(LineFault::Missing)?;
-        key_for(methods, PSK_KIND, &self.peer_psk47)?;
-        key_for(methods, GPSK_KIND, &self.peer_psk51)?;
-        Ok(())
-    }
-
-    /// The same of the settings of the server.
-    #[tactic(auto, unfolding(crate::specs::Reading::server_setup_of))]
-    fn check_server(&self) -> Result<(), LineFault>
-        ensures { MatchResult result (λ _. IsOk (server_setup_of self.now)) (λ fault. server_setup_of self.now ≡ Err fault) }
-    {
-        self.server_name.as_ref().ok_or(LineFault::Missing)?;
-        self.server_methods.as_ref().ok_or(LineFault::Missing)?;
-        self.server_nonce.ok_or(LineFault::Missing)?;
-        Ok(())
     }
 
     /// The settings of the run, or `Missing` where a needed one has not come.
