@@ -7,7 +7,7 @@ use eap_base::array_of;
 
 /// The order of the octets of all numbers in a file, which its magic number tells (the pcap file format,
 /// draft-ietf-opsawg-pcap section 4).
-#[derive(Clone, Copy, PartialEq, Eq, Debug)]
+#[derive(Clone, Copy)]
 pub enum OctetOrder {
     /// The most significant octet comes first.
     Big,

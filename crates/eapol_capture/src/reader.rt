@@ -9,7 +9,7 @@ use eap_base::{Ahead, Octets, Source};
 use std::marker::Model;
 
 /// What `PcapReader::next_record` met.
-#[derive(Clone, Copy, PartialEq, Eq, Debug)]
+#[derive(Clone, Copy, PartialEq, Eq)]
 pub enum NextRecord {
     /// A record, whose frame `frame()` now gives.
     Record,
