@@ -1,3 +1,5 @@
+-- A spelled frame carries its packet.
+pub mod CarriedPackets
 -- How an answer divides what was to be answered.
 pub mod Dividing
 -- The contents of some files.

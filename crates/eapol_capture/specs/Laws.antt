@@ -5,7 +5,7 @@ use Rattle.eapol_capture.specs.declared.order.OctetOrder.{OctetOrder}
 use Rattle.eapol_capture.specs.declared.order.OctetOrder.TheVariants.{Big, Little}
 use Rattle.eapol_capture.specs.declared.reader.NextRecord.TheVariants.{End}
 use Rattle.eapol_capture.specs.Files.{Contents, ends, record_of, contents, magic_number, max_input, max_frame, max_kept}
-use Rattle.eapol_capture.specs.Frames.{carried}
+use Rattle.eapol_capture.specs.Frames.{eap, eapol_type, carried}
 
 -- a captured frame, with its time and its length before it was cut, as they stand in a file
 pub record Captured : Type 0 where
@@ -53,6 +53,18 @@ abbrev pub SpelledFilesAreRead : Type 0
 SpelledFilesAreRead =
     (order : OctetOrder) (unread : List ℕ) (captured : List Captured) → length unread ≡ 12 → All IsCaptured captured →
     length (spelled_file order unread captured) ≤ max_input → contents (spelled_file order unread captured) ≡ listed captured
+
+-- a frame that carries an EAP packet: two addresses, the type of EAPOL, its version, its type 0 and the packet's length,
+-- the packet, and padding
+abbrev pub spelled_frame : List ℕ → ℕ → List ℕ → List ℕ → List ℕ
+spelled_frame addresses version packet padding =
+    addresses ++ (to_be_bytes w16 eapol_type ++ (version ∷ 0 ∷ (to_be_bytes w16 (length packet) ++ (packet ++ padding))))
+
+-- such a frame carries its packet
+abbrev pub SpelledFramesCarryTheirPackets : Type 0
+SpelledFramesCarryTheirPackets =
+    (addresses : List ℕ) (version : ℕ) (packet padding : List ℕ) → length addresses ≡ 12 → length packet ≤ 2000 →
+    carried (spelled_frame addresses version packet padding) ≡ eap packet
 
 -- what is kept of a frame carries the same as the frame
 abbrev pub FrontsCarryTheSame : Type 0
