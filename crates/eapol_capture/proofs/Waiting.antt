@@ -5,10 +5,10 @@ use Rattle.std.proofs.lemmas.List.{take_all}
 use Rattle.eap_base.specs.Known.{prepend_known}
 use Rattle.eapol_capture.specs.declared.order.OctetOrder.{OctetOrder}
 use Rattle.eapol_capture.specs.declared.reader.NextRecord.{NextRecord}
-use Rattle.eapol_capture.specs.declared.reader.NextRecord.TheVariants.{Record, CutFile, Read}
-use Rattle.eapol_capture.specs.Files.{Contents, ends, number, order_of, order_or_fault, missing, from_header, all_records, max_input, max_frame, max_kept}
-use Rattle.eapol_capture.specs.Reading.{Reading, octets_left, contents_from, is_open, Undecided, Waits}
-use Rattle.eapol_capture.specs.Parts.{Hands, HandsAll, IsStuck, Stops, Frames, HasHeader, Heads, told, answer_of}
+use Rattle.eapol_capture.specs.declared.reader.NextRecord.TheVariants.{CutFile, Read}
+use Rattle.eapol_capture.specs.Files.{number, order_of, order_or_fault, from_header, all_records, max_input, max_frame, max_kept}
+use Rattle.eapol_capture.specs.Reading.{Reading, octets_left, is_open, Waits}
+use Rattle.eapol_capture.specs.Parts.{Hands, HandsAll, Stops, Frames, HasHeader, Heads, told, answer_of}
 use Rattle.eapol_capture.proofs.RecordLaws.{cut-missing, no-records, stops-early, stops-late}
 use Rattle.eapol_capture.proofs.Handing.{prepend-append, prepend-nil}
 use Rattle.eapol_capture.proofs.Dividing.{Begins, each-fault, header-is, size-front}

@@ -1,5 +1,5 @@
 -- The users that words name have visible names, and keys of their methods' sizes.
-use Rattle.std.proofs.Common.{◌≡◌, List, [], ◌∷◌, ◌++◌, length, cond, ◌&&◌, not, nat_lt, Bool, true, false, Option, Some, None, is_some, All, IsTrue, refl, sym, ap, ◌∙◌, subst, ℕ}
+use Rattle.std.proofs.Common.{◌≡◌, List, [], ◌∷◌, ◌++◌, length, cond, ◌&&◌, not, nat_lt, Bool, true, false, Option, Some, None, is_some, All, IsTrue, refl, ap, ◌∙◌, subst, ℕ}
 use Rattle.std.proofs.lemmas.Bool.{and_parts}
 use Rattle.std.proofs.lemmas.List.Elements.{All-nil, All-push}
 use Rattle.std.proofs.lemmas.Option.{same_Some}
