@@ -461,14 +461,14 @@ module _ (setup : ServerSetup) (now : ServerNow) (accepted made : List TagRecord
 
   proposing : (is_success now.vars.state ≡ true → ⊥) → (id kind : ℕ) (body : List ℕ) (entered : List State) (vars : ServerVariables)
       (desired : Option (List ℕ)) → Selects now id kind body entered vars desired → Proposing vars
-  proposing unsure id kind body _ _ _ (after_identity is_id is_identity is_current) = record {
+  proposing unsure id kind body _ _ _ (after_identity is_id is_identity is_current unawaited) = record {
     own = stands.own;
     none = in_identity setup now.vars.current now.views accepted made is_current stands.tags;
     begun = started_by id is_id;
     unsure = unsure;
     gives_up = remains _ _ _ _ (λ e. absurd (false≢true (sym e))) (λ e. absurd (false≢true e)) (λ e. absurd (false≢true e));
   }
-  proposing unsure id kind body _ _ _ (after_nak is_id is_nak waits) = record {
+  proposing unsure id kind body _ _ _ (after_nak is_id is_nak waits unawaited) = record {
     own = stands.own;
     none = stands.proposed waits;
     begun = started_by id is_id;

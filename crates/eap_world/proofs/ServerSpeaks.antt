@@ -170,16 +170,16 @@ module _ (now : ServerNow) where
   -- the states before SELECT_ACTION are new ones
   selects_new : (id kind : ℕ) (body : List ℕ) (entered : List State) (vars : ServerVariables) (desired : Option (List ℕ)) (rest : List State)
       → Selects now id kind body entered vars desired → list_any is_again rest ≡ false → list_any is_again (entered ++ rest) ≡ false
-  selects_new id kind body _ _ _ rest (after_identity is_id is_identity is_current) new = new
-  selects_new id kind body _ _ _ rest (after_nak is_id is_nak waits) new = new
+  selects_new id kind body _ _ _ rest (after_identity is_id is_identity is_current unawaited) new = new
+  selects_new id kind body _ _ _ rest (after_nak is_id is_nak waits unawaited) new = new
   selects_new id kind body _ _ _ rest (first_identity awaited is_identity) new = new
   selects_new id kind body _ _ _ rest (first_nak awaited is_nak) new = new
   selects_new id kind body _ _ _ rest (first_other awaited no_nak no_identity) new = new
 
   selects_next : (id kind : ℕ) (body : List ℕ) (entered : List State) (vars : ServerVariables) (desired : Option (List ℕ))
       → Selects now id kind body entered vars desired → is_backend now.vars ≡ false → Follows now (next_id vars)
-  selects_next id kind body _ _ _ (after_identity is_id is_identity is_current) alone = follows_id id is_id
-  selects_next id kind body _ _ _ (after_nak is_id is_nak waits) alone = follows_id id is_id
+  selects_next id kind body _ _ _ (after_identity is_id is_identity is_current unawaited) alone = follows_id id is_id
+  selects_next id kind body _ _ _ (after_nak is_id is_nak waits unawaited) alone = follows_id id is_id
   selects_next id kind body _ _ _ (first_identity awaited is_identity) alone = no_backend awaited alone
   selects_next id kind body _ _ _ (first_nak awaited is_nak) alone = no_backend awaited alone
   selects_next id kind body _ _ _ (first_other awaited no_nak no_identity) alone = no_backend awaited alone

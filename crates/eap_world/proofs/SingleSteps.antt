@@ -200,8 +200,8 @@ record RowKeeps (now : ServerNow) (out : ServerAnswer) : Type 0 where
 
 selects_keep : (now : ServerNow) (id kind : ℕ) (body : List ℕ) (entered : List State) (vars : ServerVariables) (desired : Option (List ℕ))
     → rows.Selects now id kind body entered vars desired → (vars.role ≡ now.vars.role) × (is_started now.vars ≡ true → is_started vars ≡ true)
-selects_keep now id kind body _ _ _ (rows.after_identity is_id is_identity is_current) = (refl, λ e. e)
-selects_keep now id kind body _ _ _ (rows.after_nak is_id is_nak waits) = (refl, λ e. e)
+selects_keep now id kind body _ _ _ (rows.after_identity is_id is_identity is_current unawaited) = (refl, λ e. e)
+selects_keep now id kind body _ _ _ (rows.after_nak is_id is_nak waits unawaited) = (refl, λ e. e)
 selects_keep now id kind body _ _ _ (rows.first_identity awaited is_identity) = (refl, λ e. refl)
 selects_keep now id kind body _ _ _ (rows.first_nak awaited is_nak) = (refl, λ e. refl)
 selects_keep now id kind body _ _ _ (rows.first_other awaited no_nak no_identity) = (refl, λ e. refl)

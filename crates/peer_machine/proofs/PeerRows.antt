@@ -49,12 +49,12 @@ module _ (now : PeerNow) where
           (λ barred. naks bytes id kind body heard none no_identity no_notification barred)))
       new-row (Some selected) is =
           cond_both (kind == 2) _ _ IsRow (λ two. drops bytes _ _ going (late_notification id kind selected body heard is (eqb-true kind 2 two)))
-          (λ _. cond_both (kind == selected) _ _ IsRow
+          (λ no_notification. cond_both (kind == selected) _ _ IsRow
           (λ equal.
           let same : now.vars.selected ≡ Some kind = is ∙ sym (ap (λ (k : ℕ). Some k) (eqb-true kind selected equal)) in
           cond_both (is_done now.vars.method_state) _ _ IsRow (λ over. drops bytes _ _ going (done_method id kind body heard same over))
           (λ undone. method-row false (again same undone)))
-          (λ other. drops bytes _ _ going (other_method id kind selected body heard is other)))
+          (λ other. drops bytes _ _ going (other_method id kind selected body heard is other no_notification)))
 
     success-row : (id : ℕ) → Hears now bytes id (success id) true → IsRow (peer_success now)
     success-row id heard =

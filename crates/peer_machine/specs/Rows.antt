@@ -28,26 +28,35 @@ pub data Calls (now : PeerNow) (kind : ℕ) : Bool → Type 0 where
   first : (unselected : now.vars.selected ≡ None) (allowed : is_among now.vars.setup.methods kind ≡ true) → Calls now kind true
   again : (is_selected : now.vars.selected ≡ Some kind) (undone : is_done now.vars.method_state ≡ false) → Calls now kind false
 
--- why octets are discarded before the end, with this cause
-pub data Drops (now : PeerNow) (bytes : List ℕ) : Cause → Type 0 where
-  no_packet : (c : Cause) (is_fault : packet_of bytes ≡ Err c) → Drops now bytes c
-  no_request : (id kind : ℕ) (body : List ℕ) (is_packet : packet_of bytes ≡ Ok (response id kind body)) → Drops now bytes cause.WrongRole
-  other_success : (id : ℕ) (heard : Hears now bytes id (success id) false) → Drops now bytes cause.IdMismatch
-  other_failure : (id : ℕ) (heard : Hears now bytes id (failure id) false) → Drops now bytes cause.IdMismatch
+-- octets are discarded before any method sees them
+abbrev pub unheard : List State
+unheard = state.Received ∷ state.Discard ∷ state.Idle ∷ []
+
+-- a method discards a packet, which GET_METHOD may have selected it for
+abbrev pub unanswered : Bool → List State
+unanswered selects = before_method selects ++ state.Method ∷ state.Discard ∷ state.Idle ∷ []
+
+-- why octets are discarded before the end, with this cause and on this path
+pub data Drops (now : PeerNow) (bytes : List ℕ) : Cause → List State → Type 0 where
+  no_packet : (c : Cause) (is_fault : packet_of bytes ≡ Err c) → Drops now bytes c unheard
+  no_request : (id kind : ℕ) (body : List ℕ) (is_packet : packet_of bytes ≡ Ok (response id kind body)) → Drops now bytes cause.WrongRole unheard
+  other_success : (id : ℕ) (heard : Hears now bytes id (success id) false) → Drops now bytes cause.IdMismatch unheard
+  other_failure : (id : ℕ) (heard : Hears now bytes id (failure id) false) → Drops now bytes cause.IdMismatch unheard
   early_success : (id : ℕ) (heard : Hears now bytes id (success id) true) (fails : is_fail now.vars.decision ≡ true)
-      (goes_on : is_cont now.vars.method_state ≡ true) → Drops now bytes cause.EarlySuccess
-  late_failure : (id : ℕ) (heard : Hears now bytes id (failure id) true) (sure : is_uncond now.vars.decision ≡ true) → Drops now bytes cause.LateFailure
+      (goes_on : is_cont now.vars.method_state ≡ true) → Drops now bytes cause.EarlySuccess unheard
+  late_failure : (id : ℕ) (heard : Hears now bytes id (failure id) true) (sure : is_uncond now.vars.decision ≡ true) → Drops now bytes cause.LateFailure unheard
   early_failure : (id : ℕ) (heard : Hears now bytes id (failure id) true) (unsure : is_uncond now.vars.decision ≡ false)
-      (goes_on : is_cont now.vars.method_state ≡ true) → Drops now bytes cause.EarlyFailure
+      (goes_on : is_cont now.vars.method_state ≡ true) → Drops now bytes cause.EarlyFailure unheard
   late_notification : (id kind selected : ℕ) (body : List ℕ) (heard : Hears now bytes id (request id kind body) false)
-      (is_selected : now.vars.selected ≡ Some selected) (is_notification : kind ≡ 2) → Drops now bytes cause.NotAllowed
+      (is_selected : now.vars.selected ≡ Some selected) (is_notification : kind ≡ 2) → Drops now bytes cause.NotAllowed unheard
   other_method : (id kind selected : ℕ) (body : List ℕ) (heard : Hears now bytes id (request id kind body) false)
-      (is_selected : now.vars.selected ≡ Some selected) (other : (kind == selected) ≡ false) → Drops now bytes cause.OtherMethod
+      (is_selected : now.vars.selected ≡ Some selected) (other : (kind == selected) ≡ false) (no_notification : (kind == 2) ≡ false)
+      → Drops now bytes cause.OtherMethod unheard
   done_method : (id kind : ℕ) (body : List ℕ) (heard : Hears now bytes id (request id kind body) false)
-      (is_selected : now.vars.selected ≡ Some kind) (is_over : is_done now.vars.method_state ≡ true) → Drops now bytes cause.MethodDone
+      (is_selected : now.vars.selected ≡ Some kind) (is_over : is_done now.vars.method_state ≡ true) → Drops now bytes cause.MethodDone unheard
   by_method : (selects : Bool) (id kind : ℕ) (body : List ℕ) (c : Cause) (views : PeerViews) (heard : Hears now bytes id (request id kind body) false)
       (calls : Calls now kind selects) (turn : peer_turn kind now.views (spelled (request id kind body)) ≡ record { turn = Discard c; after = views })
-      → Drops now bytes c
+      → Drops now bytes c (unanswered selects)
 
 -- the peer may end in SUCCESS
 pub data EndsWell (now : PeerNow) : PeerInput → List State → Type 0 where
@@ -72,7 +81,7 @@ pub data PeerRow (now : PeerNow) : PeerInput → PeerAnswer → Type 0 where
   rests : (report : PeerInput) (no_octets : (bytes : List ℕ) → report ≡ octets bytes → ⊥) (over : is_end now.vars.state ≡ true)
       → PeerRow now report (answer (enters [] no_tags) now)
   -- octets that are no packet or out of place, and what the method discards
-  drops : (bytes : List ℕ) (path : List State) (c : Cause) (going : is_end now.vars.state ≡ false) (why : Drops now bytes c)
+  drops : (bytes : List ℕ) (path : List State) (c : Cause) (going : is_end now.vars.state ≡ false) (why : Drops now bytes c path)
       → PeerRow now (octets bytes) (answer (discards path c) now)
   -- a method that goes on isn't ended by a report of success
   waits : (going : is_end now.vars.state ≡ false) (fails : is_fail now.vars.decision ≡ true) (goes_on : is_cont now.vars.method_state ≡ true)

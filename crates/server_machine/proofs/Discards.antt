@@ -4,11 +4,10 @@ use Rattle.std.specs.Prelude.{IsSome}
 use Rattle.server_machine.specs.Inputs.{ServerInput, server_takes}
 use Rattle.server_machine.specs.Laws.{KeepsTheServer, DiscardsKeep}
 use Rattle.server_machine.specs.Rows.{ServerRow, ended, rests, goes_on, drops, starts, resends, times_out, proposes, proposes_without, proposes_none, requests, succeeds, method_fails}
-use Rattle.server_machine.specs.ServerTable.{ServerNow, ServerAnswer, server_start}
+use Rattle.server_machine.specs.ServerTable.{ServerNow, ServerAnswer}
 use Rattle.server_machine.proofs.ServerRows.{server_answers_are_rows}
 
 row-keeps : (now : ServerNow) (input : ServerInput) (out : ServerAnswer) → ServerRow now input out → IsSome out.step.cause → KeepsTheServer now out
-unfolding server_start
 row-keeps now _ _ (ended bytes over) is_discard = record { all = refl; sent = refl; tags = refl }
 row-keeps now _ _ (drops bytes path c going why) is_discard = record { all = refl; sent = refl; tags = refl }
 row-keeps now _ _ (rests over) is_discard = cc is_discard

@@ -12,9 +12,9 @@ use Rattle.eap_method.specs.ServerTurn as turn
 use Rattle.eap_method.specs.Server.{ServerViews}
 use Rattle.eap_method.specs.Steps.{is_end}
 use Rattle.server_machine.specs.Inputs.{start, timeout, octets}
-use Rattle.server_machine.specs.Rows.{no_packet, no_response, other_id, other_method, by_method, Hears, Selects, after_identity, after_nak, first_identity, first_nak, first_other, Proposes, Turns, no_packet, no_response, other_id, other_method, by_method, ServerRow, ended, rests, goes_on, drops, starts, resends, times_out, proposes, proposes_without, proposes_none, requests, succeeds, method_fails, ServerAnswersAreRows}
+use Rattle.server_machine.specs.Rows.{outside, received, no_packet, no_response, other_id, other_method, by_method, Hears, Selects, after_identity, after_nak, first_identity, first_nak, first_other, Proposes, Turns, ServerRow, ended, rests, goes_on, drops, starts, resends, times_out, proposes, proposes_without, proposes_none, requests, succeeds, method_fails, ServerAnswersAreRows}
 use Rattle.server_machine.specs.ServerTable as table
-use Rattle.server_machine.specs.ServerTable.{ServerNow, ServerAnswer, identity, nak, next_id, before_proposal, offers, select_action, method_answers, server_method, is_awaited, is_proposed, is_started, awaits_first, current_response, first_response, pick_up, server_row, server_deliver, server_timeout}
+use Rattle.server_machine.specs.ServerTable.{ServerNow, ServerAnswer, identity, nak, offers, select_action, method_answers, server_method, is_awaited, is_proposed, is_started, awaits_first, current_response, first_response, pick_up, server_row, server_start, server_deliver, server_timeout}
 use Rattle.server_machine.specs.declared.variables.ServerVariables.{ServerVariables}
 
 awaited : (held : Option ℕ) (number : ℕ) → is_awaited held number ≡ true → held ≡ Some number
@@ -49,24 +49,24 @@ module _ (now : ServerNow) where
       answers-row (turn.Done false tags) views turned = method_fails bytes id kind body tags views heard turned
 
       method-row : now.vars.current_id ≡ Some id → now.vars.current ≡ Some kind → (kind == identity) ≡ false → ((kind == nak) && is_proposed now.vars.progress) ≡ false
-          → IsRow (server_method now id kind (spelled (response id kind body)))
+          → awaits_first now.vars ≡ false → IsRow (server_method now id kind (spelled (response id kind body)))
       unfolding server_method
-      method-row is_id is_current no_identity no_nak =
-          answers-row _ _ (record { is_id = is_id; is_current = is_current; no_identity = no_identity; no_nak = no_nak; is_turn = refl })
+      method-row is_id is_current no_identity no_nak unawaited =
+          answers-row _ _ (record { is_id = is_id; is_current = is_current; no_identity = no_identity; no_nak = no_nak; is_turn = refl; unawaited = unawaited })
 
-      current-row : now.vars.current_id ≡ Some id → IsRow (current_response now id kind body)
-      current-row is_id =
+      current-row : awaits_first now.vars ≡ false → now.vars.current_id ≡ Some id → IsRow (current_response now id kind body)
+      current-row unawaited is_id =
           cond_both ((kind == nak) && is_proposed now.vars.progress) _ _ IsRow
           (λ is.
           let parts = and_parts (kind == nak) (is_proposed now.vars.progress) is in
-          select-row _ _ _ (after_nak is_id (eqb-true kind nak parts.0) parts.1))
+          select-row _ _ _ (after_nak is_id (eqb-true kind nak parts.0) parts.1 unawaited))
           (λ no_nak. cond_both (is_awaited now.vars.current kind) _ _ IsRow
           (λ is_current. cond_both (kind == identity) _ _ IsRow
           (λ is.
           let same = eqb-true kind identity is in
-          select-row _ _ _ (after_identity is_id same (awaited now.vars.current kind is_current ∙ ap (λ (k : ℕ). Some k) same)))
-          (λ no_identity. method-row is_id (awaited now.vars.current kind is_current) no_identity no_nak))
-          (λ other. drops bytes _ _ heard.going (other_method id kind body heard is_id other no_nak)))
+          select-row _ _ _ (after_identity is_id same (awaited now.vars.current kind is_current ∙ ap (λ (k : ℕ). Some k) same) unawaited))
+          (λ no_identity. method-row is_id (awaited now.vars.current kind is_current) no_identity no_nak unawaited))
+          (λ other. drops bytes _ _ heard.going (other_method id kind body heard is_id other no_nak unawaited)))
 
       first-row : awaits_first now.vars ≡ true → IsRow (first_response now id kind body)
       first-row awaited =
@@ -77,28 +77,29 @@ module _ (now : ServerNow) where
 
     pick-row : is_end now.vars.state ≡ false → awaits_first now.vars ≡ true → (packet : Result PacketValue Cause) → packet_of bytes ≡ packet
         → IsRow (pick_up now packet)
-    pick-row going awaited (Err c) is = drops bytes _ c going (no_packet c is)
-    pick-row going awaited (Ok (request id kind body)) is = drops bytes _ _ going (no_response _ is (λ id kind body e. cc e))
+    pick-row going awaited (Err c) is = drops bytes _ c going (no_packet c is _ (outside awaited))
+    pick-row going awaited (Ok (request id kind body)) is = drops bytes _ _ going (no_response _ is (λ id kind body e. cc e) _ (outside awaited))
     pick-row going awaited (Ok (response id kind body)) is = first-row id kind body (record { going = going; is_packet = is }) awaited
-    pick-row going awaited (Ok (success id)) is = drops bytes _ _ going (no_response _ is (λ id kind body e. cc e))
-    pick-row going awaited (Ok (failure id)) is = drops bytes _ _ going (no_response _ is (λ id kind body e. cc e))
+    pick-row going awaited (Ok (success id)) is = drops bytes _ _ going (no_response _ is (λ id kind body e. cc e) _ (outside awaited))
+    pick-row going awaited (Ok (failure id)) is = drops bytes _ _ going (no_response _ is (λ id kind body e. cc e) _ (outside awaited))
 
-    packet-row : is_end now.vars.state ≡ false → (packet : Result PacketValue Cause) → packet_of bytes ≡ packet → IsRow (server_row now packet)
-    packet-row going (Err c) is = drops bytes _ c going (no_packet c is)
-    packet-row going (Ok (request id kind body)) is = drops bytes _ _ going (no_response _ is (λ id kind body e. cc e))
-    packet-row going (Ok (response id kind body)) is =
+    packet-row : is_end now.vars.state ≡ false → awaits_first now.vars ≡ false → (packet : Result PacketValue Cause) → packet_of bytes ≡ packet
+        → IsRow (server_row now packet)
+    packet-row going unawaited (Err c) is = drops bytes _ c going (no_packet c is _ (received unawaited))
+    packet-row going unawaited (Ok (request id kind body)) is = drops bytes _ _ going (no_response _ is (λ id kind body e. cc e) _ (received unawaited))
+    packet-row going unawaited (Ok (response id kind body)) is =
         cond_both (is_awaited now.vars.current_id id) _ _ IsRow
-        (λ current. current-row id kind body (record { going = going; is_packet = is }) (awaited now.vars.current_id id current))
-        (λ other. drops bytes _ _ going (other_id id kind body is other))
-    packet-row going (Ok (success id)) is = drops bytes _ _ going (no_response _ is (λ id kind body e. cc e))
-    packet-row going (Ok (failure id)) is = drops bytes _ _ going (no_response _ is (λ id kind body e. cc e))
+        (λ current. current-row id kind body (record { going = going; is_packet = is }) unawaited (awaited now.vars.current_id id current))
+        (λ other. drops bytes _ _ going (other_id id kind body is other unawaited))
+    packet-row going unawaited (Ok (success id)) is = drops bytes _ _ going (no_response _ is (λ id kind body e. cc e) _ (received unawaited))
+    packet-row going unawaited (Ok (failure id)) is = drops bytes _ _ going (no_response _ is (λ id kind body e. cc e) _ (received unawaited))
 
     octets-row : IsRow (server_deliver now bytes)
     unfolding server_deliver
     octets-row =
         cond_both (is_end now.vars.state) _ _ IsRow (λ over. ended bytes over)
         (λ going. cond_both (awaits_first now.vars) _ _ IsRow
-        (λ awaited. pick-row going awaited (packet_of bytes) refl) (λ _. packet-row going (packet_of bytes) refl))
+        (λ awaited. pick-row going awaited (packet_of bytes) refl) (λ unawaited. packet-row going unawaited (packet_of bytes) refl))
 
   timeout-row : is_end now.vars.state ≡ false → ServerRow now timeout (server_timeout now)
   unfolding server_timeout
@@ -107,6 +108,7 @@ module _ (now : ServerNow) where
       (λ in_time. resends going in_time) (λ late. times_out going late)
 
 pub server_answers_are_rows : ServerAnswersAreRows
+unfolding server_start
 server_answers_are_rows now start =
     cond_both (is_started now.vars) _ _ (ServerRow now start) (λ is_begun. goes_on is_begun) (λ unstarted. starts unstarted)
 server_answers_are_rows now timeout =

@@ -32,14 +32,13 @@ stays vars = record { role = refl; started = λ was. was }
 
 selects-stays : (now : ServerNow) (id kind : ℕ) (body : List ℕ) (entered : List State) (vars : ServerVariables) (desired : Option (List ℕ))
     → Selects now id kind body entered vars desired → StaysStarted now.vars vars
-selects-stays now id kind body _ _ _ (after_identity is_id is_identity is_current) = record { role = refl; started = λ was. was }
-selects-stays now id kind body _ _ _ (after_nak is_id is_nak waits) = stays now.vars
+selects-stays now id kind body _ _ _ (after_identity is_id is_identity is_current unawaited) = record { role = refl; started = λ was. was }
+selects-stays now id kind body _ _ _ (after_nak is_id is_nak waits unawaited) = stays now.vars
 selects-stays now id kind body _ _ _ (first_identity awaited is_identity) = record { role = refl; started = λ was. refl }
 selects-stays now id kind body _ _ _ (first_nak awaited is_nak) = record { role = refl; started = λ was. refl }
 selects-stays now id kind body _ _ _ (first_other awaited no_nak no_identity) = record { role = refl; started = λ was. refl }
 
 row-stays : (now : ServerNow) (input : ServerInput) (out : ServerAnswer) → ServerRow now input out → StaysStarted now.vars out.after.vars
-unfolding server_start
 row-stays now _ _ (ended bytes over) = stays now.vars
 row-stays now _ _ (rests over) = stays now.vars
 row-stays now _ _ (goes_on is_begun) = stays now.vars

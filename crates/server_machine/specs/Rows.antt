@@ -1,5 +1,5 @@
 -- The rows of the server's table (RFC 4137 sections 5 and 6), each with all that is then known.
-use Rattle.std.specs.Prelude.{◌≡◌, ℕ, ◌+◌, List, [], ◌∷◌, true, false, ◌==◌, ◌&&◌, nat_le, Option, Some, None, Ok, Err}
+use Rattle.std.specs.Prelude.{◌≡◌, ℕ, ◌+◌, List, [], ◌∷◌, ◌++◌, true, false, ◌==◌, ◌&&◌, nat_le, Option, Some, None, Ok, Err}
 use Rattle.eap_packet.specs.Fault.{packet_of}
 use Rattle.eap_packet.specs.Packet.{PacketValue, response, spelled}
 use Rattle.eap_packet.specs.declared.cause.Cause.{Cause}
@@ -14,7 +14,7 @@ use Rattle.eap_method.specs.Server.{ServerViews, Offer, side_of, server_offer, s
 use Rattle.eap_method.specs.Steps.{sends, enters, discards, is_end}
 use Rattle.eap_method.specs.Tags.{no_tags}
 use Rattle.server_machine.specs.Inputs.{ServerInput, start, timeout, octets, server_rests, server_takes}
-use Rattle.server_machine.specs.ServerTable.{ServerNow, ServerAnswer, answer, identity, nak, next_id, before_proposal, ends_badly, offers, method_answers, is_awaited, is_proposed, is_started, awaits_first, picked_up, server_start}
+use Rattle.server_machine.specs.ServerTable.{ServerNow, ServerAnswer, answer, identity, nak, next_id, identity_request, success_packet, failure_packet, before_proposal, is_awaited, is_proposed, is_started, awaits_first, picked_up}
 use Rattle.server_machine.specs.declared.variables.Progress.TheVariants as progress
 use Rattle.server_machine.specs.declared.variables.Way.TheVariants as way
 use Rattle.server_machine.specs.declared.variables.ServerVariables.{ServerVariables}
@@ -28,8 +28,10 @@ pub record Hears (now : ServerNow) (bytes : List ℕ) (id kind : ℕ) (body : Li
 -- before it, the variables then, and what the Nak desires
 pub data Selects (now : ServerNow) (id kind : ℕ) (body : List ℕ) : List State → ServerVariables → Option (List ℕ) → Type 0 where
   after_identity : (is_id : now.vars.current_id ≡ Some id) (is_identity : kind ≡ identity) (is_current : now.vars.current ≡ Some identity)
+      (unawaited : awaits_first now.vars ≡ false)
       → Selects now id kind body (before_proposal way.AfterResponse) (record now.vars { progress = progress.End }) None
   after_nak : (is_id : now.vars.current_id ≡ Some id) (is_nak : kind ≡ nak) (waits : is_proposed now.vars.progress ≡ true)
+      (unawaited : awaits_first now.vars ≡ false)
       → Selects now id kind body (before_proposal way.AfterNak) now.vars (Some body)
   first_identity : (awaited : awaits_first now.vars ≡ true) (is_identity : kind ≡ identity)
       → Selects now id kind body (before_proposal way.FirstIdentity) (record (picked_up now.vars id) { progress = progress.End }) None
@@ -50,18 +52,32 @@ pub record Turns (now : ServerNow) (id kind : ℕ) (body : List ℕ) (turn : Ser
   pub no_identity : (kind == identity) ≡ false
   pub no_nak : ((kind == nak) && is_proposed now.vars.progress) ≡ false
   pub is_turn : server_turn now.vars.setup.users (next_id now.vars) kind now.views (spelled (response id kind body)) ≡ record { turn = turn; after = views }
+  pub unawaited : awaits_first now.vars ≡ false
 
--- why octets are discarded before the end, with this cause
-pub data Drops (now : ServerNow) (bytes : List ℕ) : Cause → Type 0 where
-  no_packet : (c : Cause) (is_fault : packet_of bytes ≡ Err c) → Drops now bytes c
+-- the states of octets that are discarded before any method sees them, and of those that a method discards
+abbrev pub unheard : List State
+unheard = state.Received ∷ state.Discard ∷ state.Idle ∷ []
+
+abbrev pub unanswered : List State
+unanswered = state.Received ∷ state.IntegrityCheck ∷ state.Discard ∷ state.Idle ∷ []
+
+-- octets are discarded before any method sees them; a backend that awaits its first Response enters no state
+pub data Unheard (now : ServerNow) : List State → Type 0 where
+  outside : (awaited : awaits_first now.vars ≡ true) → Unheard now []
+  received : (unawaited : awaits_first now.vars ≡ false) → Unheard now unheard
+
+-- why octets are discarded before the end, with this cause and on this path
+pub data Drops (now : ServerNow) (bytes : List ℕ) : Cause → List State → Type 0 where
+  no_packet : (c : Cause) (is_fault : packet_of bytes ≡ Err c) (path : List State) (place : Unheard now path) → Drops now bytes c path
   no_response : (packet : PacketValue) (is_packet : packet_of bytes ≡ Ok packet) (other : (id kind : ℕ) (body : List ℕ) → packet ≡ response id kind body → ⊥)
-      → Drops now bytes cause.WrongRole
+      (path : List State) (place : Unheard now path) → Drops now bytes cause.WrongRole path
   other_id : (id kind : ℕ) (body : List ℕ) (is_packet : packet_of bytes ≡ Ok (response id kind body)) (other : is_awaited now.vars.current_id id ≡ false)
-      → Drops now bytes cause.IdMismatch
+      (unawaited : awaits_first now.vars ≡ false) → Drops now bytes cause.IdMismatch unheard
   other_method : (id kind : ℕ) (body : List ℕ) (heard : Hears now bytes id kind body) (is_id : now.vars.current_id ≡ Some id) (other : is_awaited now.vars.current kind ≡ false)
-      (no_nak : ((kind == nak) && is_proposed now.vars.progress) ≡ false) → Drops now bytes cause.WrongMethod
+      (no_nak : ((kind == nak) && is_proposed now.vars.progress) ≡ false) (unawaited : awaits_first now.vars ≡ false)
+      → Drops now bytes cause.WrongMethod unheard
   by_method : (id kind : ℕ) (body : List ℕ) (c : Cause) (views : ServerViews) (heard : Hears now bytes id kind body)
-      (turned : Turns now id kind body (turn.Discard c) views) → Drops now bytes c
+      (turned : Turns now id kind body (turn.Discard c) views) → Drops now bytes c unanswered
 
 -- what the server makes of an input
 pub data ServerRow (now : ServerNow) : ServerInput → ServerAnswer → Type 0 where
@@ -70,10 +86,26 @@ pub data ServerRow (now : ServerNow) : ServerInput → ServerAnswer → Type 0 w
   rests : (over : is_end now.vars.state ≡ true) → ServerRow now timeout (server_rests now)
   goes_on : (is_begun : is_started now.vars ≡ true) → ServerRow now start (server_rests now)
   -- octets that are no packet or out of place, and what the method discards
-  drops : (bytes : List ℕ) (path : List State) (c : Cause) (going : is_end now.vars.state ≡ false) (why : Drops now bytes c)
+  drops : (bytes : List ℕ) (path : List State) (c : Cause) (going : is_end now.vars.state ≡ false) (why : Drops now bytes c path)
       → ServerRow now (octets bytes) (answer (discards path c) now)
   -- the Identity Request
-  starts : (unstarted : is_started now.vars ≡ false) → ServerRow now start (server_start now)
+  starts : (unstarted : is_started now.vars ≡ false)
+      → ServerRow now start
+      (answer
+      (sends (state.Initialize ∷ state.SelectAction ∷ state.ProposeMethod ∷ state.MethodRequest ∷ state.SendRequest ∷ state.Idle ∷ [])
+      (identity_request now.vars.first_id) no_tags)
+      (record {
+        vars = record now.vars {
+          state = state.Idle;
+          current_id = Some now.vars.first_id;
+          current = Some identity;
+          progress = progress.Continue;
+          retrans_count = 0;
+          last_request = identity_request now.vars.first_id;
+          proposed = [];
+        };
+        views = now.views;
+      }))
   -- RETRANSMIT, at most MaxRetrans times, and TIMEOUT_FAILURE
   resends : (going : is_end now.vars.state ≡ false) (in_time : nat_le (now.vars.retrans_count + 1) now.vars.max_retrans ≡ true)
       → ServerRow now timeout
@@ -88,26 +120,52 @@ pub data ServerRow (now : ServerNow) : ServerInput → ServerAnswer → Type 0 w
       (next : ℕ) (packet : List ℕ) (views : ServerViews)
       (heard : Hears now bytes id kind body) (selects : Selects now id kind body entered vars desired)
       (next_is : Proposes now vars desired next (record { packet = Some packet; after = views }))
-      → ServerRow now (octets bytes) (offers entered vars views id next (Some packet))
+      → ServerRow now (octets bytes)
+      (answer (sends (entered ++ state.ProposeMethod ∷ state.MethodRequest ∷ state.SendRequest ∷ state.Idle ∷ []) packet no_tags)
+      (record {
+        vars = record vars {
+          current_id = Some (next_id vars);
+          retrans_count = 0;
+          last_request = packet;
+          current = Some next;
+          progress = progress.Proposed;
+          proposed = vars.proposed ++ next ∷ [];
+        };
+        views = views;
+      }))
   proposes_without : (bytes : List ℕ) (id kind : ℕ) (body : List ℕ) (entered : List State) (vars : ServerVariables) (desired : Option (List ℕ))
       (next : ℕ) (views : ServerViews)
       (heard : Hears now bytes id kind body) (selects : Selects now id kind body entered vars desired)
       (next_is : Proposes now vars desired next (record { packet = None; after = views }))
-      → ServerRow now (octets bytes) (ends_badly entered vars views id no_tags)
+      → ServerRow now (octets bytes)
+      (answer (sends (entered ++ state.Failure ∷ []) (failure_packet id) no_tags)
+      (record { vars = record vars { state = state.Failure }; views = views }))
   proposes_none : (bytes : List ℕ) (id kind : ℕ) (body : List ℕ) (entered : List State) (vars : ServerVariables) (desired : Option (List ℕ))
       (heard : Hears now bytes id kind body) (selects : Selects now id kind body entered vars desired)
       (none : next_kind vars.setup.methods vars.proposed desired ≡ None)
-      → ServerRow now (octets bytes) (ends_badly entered vars now.views id no_tags)
+      → ServerRow now (octets bytes)
+      (answer (sends (entered ++ state.Failure ∷ []) (failure_packet id) no_tags)
+      (record { vars = record vars { state = state.Failure }; views = now.views }))
   -- METHOD_REQUEST after the method's turn; SUCCESS and FAILURE where it is over
   requests : (bytes : List ℕ) (id kind : ℕ) (body packet : List ℕ) (tags : Tags) (views : ServerViews)
       (heard : Hears now bytes id kind body) (turned : Turns now id kind body (turn.Request packet tags) views)
-      → ServerRow now (octets bytes) (method_answers now id views (turn.Request packet tags))
+      → ServerRow now (octets bytes)
+      (answer
+      (sends (state.Received ∷ state.IntegrityCheck ∷ state.MethodResponse ∷ state.MethodRequest ∷ state.SendRequest ∷ state.Idle ∷ []) packet tags)
+      (record {
+        vars = record now.vars { current_id = Some (next_id now.vars); retrans_count = 0; last_request = packet; progress = progress.Continue };
+        views = views;
+      }))
   succeeds : (bytes : List ℕ) (id kind : ℕ) (body : List ℕ) (tags : Tags) (views : ServerViews)
       (heard : Hears now bytes id kind body) (turned : Turns now id kind body (turn.Done true tags) views)
-      → ServerRow now (octets bytes) (method_answers now id views (turn.Done true tags))
+      → ServerRow now (octets bytes)
+      (answer (sends (before_proposal way.AfterResponse ++ state.Success ∷ []) (success_packet id) tags)
+      (record { vars = record now.vars { progress = progress.End; state = state.Success }; views = views }))
   method_fails : (bytes : List ℕ) (id kind : ℕ) (body : List ℕ) (tags : Tags) (views : ServerViews)
       (heard : Hears now bytes id kind body) (turned : Turns now id kind body (turn.Done false tags) views)
-      → ServerRow now (octets bytes) (method_answers now id views (turn.Done false tags))
+      → ServerRow now (octets bytes)
+      (answer (sends (before_proposal way.AfterResponse ++ state.Failure ∷ []) (failure_packet id) tags)
+      (record { vars = record now.vars { progress = progress.End; state = state.Failure }; views = views }))
 
 -- what comes of every input is one of the rows
 abbrev pub ServerAnswersAreRows : Type 0
