@@ -10,3 +10,5 @@ pub mod Responses
 pub mod Settling
 -- A server that has started never stands in INITIALIZE again, and its role stays.
 pub mod Starting
+-- The readiness and the timer of a server that was made, and of one that has started, from the definitions alone.
+mod Worked

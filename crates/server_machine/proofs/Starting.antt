@@ -1,6 +1,5 @@
 -- A server that has started never stands in INITIALIZE again, and its role stays.
 use Rattle.std.proofs.Common.{◌≡◌, ℕ, List, Bool, true, false, ◌&&◌, ◌||◌, not, Option, refl, sym, ap, ◌∙◌}
-use Rattle.eap_base.specs.declared.setup.ServerSetup.{ServerSetup}
 use Rattle.eap_packet.specs.declared.state.State.{State}
 use Rattle.eap_method.specs.Server.{ServerViews}
 use Rattle.eap_method.specs.Steps.{Step, is_end}
@@ -11,21 +10,9 @@ use Rattle.server_machine.specs.Rows.{Selects, after_identity, after_nak, first_
 use Rattle.server_machine.specs.Rows.{goes_on, drops, starts, resends, times_out, proposes, proposes_without, proposes_none, requests}
 use Rattle.server_machine.specs.Rows.{succeeds, method_fails}
 use Rattle.server_machine.specs.ServerTable.{ServerNow, ServerAnswer, answer, has_timer, is_backend, is_ready, is_started, server_deliver}
-use Rattle.server_machine.specs.ServerTable.{server_made, server_start}
 use Rattle.server_machine.specs.declared.variables.Role.TheVariants.{Backend, StandAlone}
 use Rattle.server_machine.specs.declared.variables.ServerVariables.{ServerVariables}
 use Rattle.server_machine.proofs.ServerRows.{server_answers_are_rows}
-
--- by the definitions alone: a server that was made, in either role, and a stand-alone one that has started
-made : (setup : ServerSetup) (first_id max_retrans : ℕ) → (let alone = (server_made StandAlone setup first_id max_retrans).vars in
-    let backend = (server_made Backend setup first_id max_retrans).vars in
-    (is_ready alone ≡ false) × (has_timer alone ≡ false) × (is_ready backend ≡ true) × (has_timer backend ≡ false))
-made setup first_id max_retrans = (refl, refl, refl, refl)
-
-begun : (setup : ServerSetup) (first_id max_retrans : ℕ) → (let alone = (server_start (server_made StandAlone setup first_id max_retrans)).after.vars in
-    (is_ready alone ≡ true) × (has_timer alone ≡ true))
-unfolding server_start
-begun setup first_id max_retrans = (refl, refl)
 
 stays : (vars : ServerVariables) → StaysStarted vars vars
 stays vars = record { role = refl; started = λ was. was }
