@@ -110,11 +110,18 @@ KeepsObjects peer_shown server_shown before after =
     KeepObjects peer_shown server_shown before.peer.vars.setup.methods before.server.vars.setup.methods
     before.peer.methods before.server.methods after.peer.methods after.server.methods
 
--- the machines run in the same mode before and after, over the same objects
+-- the machines run in the same mode before and after, over the same objects, and their settings name the same methods
 pub record RunAlike {P S : Type 0} (peer_shown : P → PeerShown) (server_shown : S → ServerShown) (before after : Machines P S) : Type 0 where
   pub mode : after.mode ≡ before.mode
   pub kept : KeepObjects peer_shown server_shown before.peer.vars.setup.methods before.server.vars.setup.methods
       before.peer.methods before.server.methods after.peer.methods after.server.methods
+  pub peer_named : after.peer.vars.setup.methods ≡ before.peer.vars.setup.methods
+  pub server_named : after.server.vars.setup.methods ≡ before.server.vars.setup.methods
+
+-- the settings of both ends name the same methods before and after
+pub record NamesAlike {P S : Type 0} (before after : WorldValue P S) : Type 0 where
+  pub peer_named : after.peer.vars.setup.methods ≡ before.peer.vars.setup.methods
+  pub server_named : after.server.vars.setup.methods ≡ before.server.vars.setup.methods
 
 -- the server answers by itself, or behind the pass-through
 abbrev pub role_in : Mode → Role

@@ -96,7 +96,7 @@ impl<P: PeerMethod, S: ServerMethod> World<P, S> {
     ghost use Rattle.eap_world.specs.declared.verdict.Verdict.TheVariants.{Agree, Apart};
     ghost use Rattle.eap_world.specs.Judgement.{verdict_of};
     ghost use Rattle.eap_world.specs.SingleSteps.{StepsLawfully};
-    ghost use Rattle.eap_world.specs.World.{KeepObjects, KeepsObjects, Tells, world_made, world_start, world_step, now_of};
+    ghost use Rattle.eap_world.specs.World.{KeepObjects, KeepsObjects, NamesAlike, Tells, world_made, world_start, world_step, now_of};
     ghost use Rattle.eap_world.specs.World.{octets_numbered, octets_of_sent, pass_state, state_of};
 
     /// The world of a setup, in which the peer has begun and the server, or the pass-through, hasn't started.
@@ -155,6 +155,7 @@ impl<P: PeerMethod, S: ServerMethod> World<P, S> {
         ensures run { IfOk result (λ told. BeginsRun P.peer_shown S.server_shown self.old self.new) }
         ensures few { IfOk result (λ told. BeginsSmall P.peer_shown S.server_shown self.old self.new) }
         ensures kept { KeepsObjects P.peer_shown S.server_shown self.old self.new }
+        ensures names { NamesAlike self.old self.new }
     {
         self.begin()
     }
@@ -175,6 +176,7 @@ impl<P: PeerMethod, S: ServerMethod> World<P, S> {
         ensures few { IfOk result (λ told. StaysSmall P.peer_shown S.server_shown self.old self.new) }
         ensures lawful { IfOk result (λ told. StepsLawfully P.peer_shown S.server_shown event.now self.old told self.new) }
         ensures kept { KeepsObjects P.peer_shown S.server_shown self.old self.new }
+        ensures names { NamesAlike self.old self.new }
     {
         self.take(event)
     }
@@ -187,6 +189,7 @@ impl<P: PeerMethod, S: ServerMethod> World<P, S> {
             (λ told. Tells P.peer_shown S.server_shown (world_start (now_of P.peer_shown S.server_shown self.old)) told self.new)
             (λ _. self.new ≡ self.old) }
         ensures kept { KeepsObjects P.peer_shown S.server_shown self.old self.new }
+        ensures names { NamesAlike self.old self.new }
     {
         if !make_room(&mut self.sent, &mut self.book) {
             return Err(Memory);
@@ -214,6 +217,7 @@ impl<P: PeerMethod, S: ServerMethod> World<P, S> {
             (λ told. Tells P.peer_shown S.server_shown (world_step (now_of P.peer_shown S.server_shown self.old) event.now) told self.new)
             (λ _. self.new ≡ self.old) }
         ensures kept { KeepsObjects P.peer_shown S.server_shown self.old self.new }
+        ensures names { NamesAlike self.old self.new }
     {
         if !make_room(&mut self.sent, &mut self.book) {
             return Err(Memory);

@@ -32,8 +32,8 @@ const NOTIFICATION: u8 = 2;
 const NAK: u8 = 3;
 
 /// The peer of RFC 4137 section 4: its variables, and the objects of its methods. Contracts see both;
-/// what an object shows is its ghost member `peer_shown`. No call changes the view of an object whose method the
-/// settings don't name.
+/// what an object shows is its ghost member `peer_shown`. No call changes the settings, nor the view of an object
+/// whose method they don't name.
 #[derive(Drop)]
 pub struct PeerMachine<M> {
     vars: PeerVariables,
@@ -91,6 +91,7 @@ impl<M: PeerMethod> PeerMachine<M> {
     pub fn deliver(&mut self, octets: &[u8], packet: &mut Packet, tags: &mut Tags) -> Step
         ensures step { peer_deliver (now_of M.peer_shown self.old) octets.now ≡ answer (step_with result packet.new tags.new) (now_of M.peer_shown self.new) }
         ensures kept { KeepsPeers self.old.vars.setup.methods (map M.peer_shown self.old.methods) (map M.peer_shown self.new.methods) }
+        ensures setup { self.new.vars.setup ≡ self.old.vars.setup }
     {
         tags.clear();
         if self.ended() {
@@ -109,6 +110,7 @@ impl<M: PeerMethod> PeerMachine<M> {
         requires { is_end self.old.vars.state ≡ false }
         ensures step { peer_idle (now_of M.peer_shown self.old) ≡ answer (step_with result [] no_tags) (now_of M.peer_shown self.new) }
         ensures kept { KeepsPeers self.old.vars.setup.methods (map M.peer_shown self.old.methods) (map M.peer_shown self.new.methods) }
+        ensures setup { self.new.vars.setup ≡ self.old.vars.setup }
     {
         if self.vars.decision == Decision::UncondSucc {
             end(&mut self.vars, State::Success)
@@ -124,6 +126,7 @@ impl<M: PeerMethod> PeerMachine<M> {
         requires { is_end self.old.vars.state ≡ false }
         ensures step { peer_alt_accept (now_of M.peer_shown self.old) ≡ answer (step_with result [] no_tags) (now_of M.peer_shown self.new) }
         ensures kept { KeepsPeers self.old.vars.setup.methods (map M.peer_shown self.old.methods) (map M.peer_shown self.new.methods) }
+        ensures setup { self.new.vars.setup ≡ self.old.vars.setup }
     {
         if self.vars.decision != Decision::Fail {
             end(&mut self.vars, State::Success)
@@ -140,6 +143,7 @@ impl<M: PeerMethod> PeerMachine<M> {
         requires { is_end self.old.vars.state ≡ false }
         ensures step { peer_alt_reject (now_of M.peer_shown self.old) ≡ answer (step_with result [] no_tags) (now_of M.peer_shown self.new) }
         ensures kept { KeepsPeers self.old.vars.setup.methods (map M.peer_shown self.old.methods) (map M.peer_shown self.new.methods) }
+        ensures setup { self.new.vars.setup ≡ self.old.vars.setup }
     {
         end(&mut self.vars, State::Failure)
     }
@@ -191,6 +195,7 @@ impl<M: PeerMethod> PeerMachine<M> {
         ensures step { peer_row (now_of M.peer_shown self.old) (Ok (value_of view.now))
             ≡ answer (step_with result packet.new tags.new) (now_of M.peer_shown self.new) }
         ensures kept { KeepsPeers self.old.vars.setup.methods (map M.peer_shown self.old.methods) (map M.peer_shown self.new.methods) }
+        ensures setup { self.new.vars.setup ≡ self.old.vars.setup }
     {
         let is_last = self.vars.last_id == Some(view.id);
         match view.code {
@@ -224,6 +229,7 @@ impl<M: PeerMethod> PeerMachine<M> {
         ensures step { (packet : List ℕ) → peer_success (now_of M.peer_shown self.old)
             ≡ answer (step_with result packet no_tags) (now_of M.peer_shown self.new) }
         ensures kept { KeepsPeers self.old.vars.setup.methods (map M.peer_shown self.old.methods) (map M.peer_shown self.new.methods) }
+        ensures setup { self.new.vars.setup ≡ self.old.vars.setup }
     {
         if self.vars.decision != Decision::Fail {
             end_received(&mut self.vars, State::Success)
@@ -239,6 +245,7 @@ impl<M: PeerMethod> PeerMachine<M> {
         ensures step { (packet : List ℕ) → peer_failure (now_of M.peer_shown self.old)
             ≡ answer (step_with result packet no_tags) (now_of M.peer_shown self.new) }
         ensures kept { KeepsPeers self.old.vars.setup.methods (map M.peer_shown self.old.methods) (map M.peer_shown self.new.methods) }
+        ensures setup { self.new.vars.setup ≡ self.old.vars.setup }
     {
         if self.vars.decision == Decision::UncondSucc {
             discard(Cause::LateFailure)
@@ -263,6 +270,7 @@ impl<M: PeerMethod> PeerMachine<M> {
         ensures step { new_request (now_of M.peer_shown self.old) id kind request.now self.old.vars.selected
             ≡ answer (step_with result packet.new tags.new) (now_of M.peer_shown self.new) }
         ensures kept { KeepsPeers self.old.vars.setup.methods (map M.peer_shown self.old.methods) (map M.peer_shown self.new.methods) }
+        ensures setup { self.new.vars.setup ≡ self.old.vars.setup }
     {
         match self.vars.selected {
             None => self.first_request(id, kind, request, packet, tags),
@@ -297,6 +305,7 @@ impl<M: PeerMethod> PeerMachine<M> {
         ensures step { new_request (now_of M.peer_shown self.old) id kind request.now None
             ≡ answer (step_with result packet.new tags.new) (now_of M.peer_shown self.new) }
         ensures kept { KeepsPeers self.old.vars.setup.methods (map M.peer_shown self.old.methods) (map M.peer_shown self.new.methods) }
+        ensures setup { self.new.vars.setup ≡ self.old.vars.setup }
     {
         if kind == IDENTITY {
             write_response(packet, id, IDENTITY, self.vars.setup.name.as_slice());
@@ -329,6 +338,7 @@ impl<M: PeerMethod> PeerMachine<M> {
         ensures step { peer_method selects (now_of M.peer_shown self.old) kind id request.now
             ≡ answer (step_with result packet.new tags.new) (now_of M.peer_shown self.new) }
         ensures kept { KeepsPeers self.old.vars.setup.methods (map M.peer_shown self.old.methods) (map M.peer_shown self.new.methods) }
+        ensures setup { self.new.vars.setup ≡ self.old.vars.setup }
     {
         let turn = hand(&mut self.methods, kind, request, packet, tags);
         settle(&mut self.vars, selects, kind, id, turn, packet)

@@ -59,6 +59,7 @@ impl<M: ServerMethod> Backend<M> {
         ensures step { server_deliver (now_of M.server_shown self.old) octets.now
             ≡ answer (step_with result packet.new tags.new) (now_of M.server_shown self.new) }
         ensures kept { KeepsServers self.old.vars.setup.methods (map M.server_shown self.old.methods) (map M.server_shown self.new.methods) }
+        ensures setup { self.new.vars.setup ≡ self.old.vars.setup }
     {
         self.machine.deliver(octets, packet, tags)
     }

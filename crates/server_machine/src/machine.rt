@@ -51,8 +51,8 @@ const SUCCEEDING: [State; 5] = [
 
 /// The server of RFC 4137, stand-alone (section 5) or, for a world with a pass-through, in the role of the
 /// backend (section 6): its variables, and the objects of its methods. Contracts see both; what an object
-/// shows is its ghost member `server_shown`. No call changes the view of an object whose method the settings
-/// don't name. [`Backend`](crate::Backend) is the backend by itself.
+/// shows is its ghost member `server_shown`. No call changes the settings, nor the view of an object whose method
+/// they don't name. [`Backend`](crate::Backend) is the backend by itself.
 #[derive(Drop)]
 pub struct ServerMachine<M> {
     vars: ServerVariables,
@@ -135,6 +135,7 @@ impl<M: ServerMethod> ServerMachine<M> {
         requires stand_alone { is_backend self.old.vars ≡ false }
         ensures step { server_start (now_of M.server_shown self.old) ≡ answer (step_with result packet.new no_tags) (now_of M.server_shown self.new) }
         ensures kept { KeepsServers self.old.vars.setup.methods (map M.server_shown self.old.methods) (map M.server_shown self.new.methods) }
+        ensures setup { self.new.vars.setup ≡ self.old.vars.setup }
     {
         write_identity(packet, self.vars.first_id);
         self.vars.state = State::Idle;
@@ -167,6 +168,7 @@ impl<M: ServerMethod> ServerMachine<M> {
         ensures step { server_deliver (now_of M.server_shown self.old) octets.now
             ≡ answer (step_with result packet.new tags.new) (now_of M.server_shown self.new) }
         ensures kept { KeepsServers self.old.vars.setup.methods (map M.server_shown self.old.methods) (map M.server_shown self.new.methods) }
+        ensures setup { self.new.vars.setup ≡ self.old.vars.setup }
     {
         tags.clear();
         if self.ended() {
@@ -199,6 +201,7 @@ impl<M: ServerMethod> ServerMachine<M> {
         requires { has_timer self.old.vars ≡ true }
         ensures step { server_timeout (now_of M.server_shown self.old) ≡ answer (step_with result packet.new no_tags) (now_of M.server_shown self.new) }
         ensures kept { KeepsServers self.old.vars.setup.methods (map M.server_shown self.old.methods) (map M.server_shown self.new.methods) }
+        ensures setup { self.new.vars.setup ≡ self.old.vars.setup }
     {
         self.vars.retrans_count += 1;
         if self.vars.retrans_count <= self.vars.max_retrans {
@@ -292,6 +295,7 @@ impl<M: ServerMethod> ServerMachine<M> {
         ensures step { pick_up (now_of M.server_shown self.old) (Ok (value_of view.now))
             ≡ answer (step_with result packet.new no_tags) (now_of M.server_shown self.new) }
         ensures kept { KeepsServers self.old.vars.setup.methods (map M.server_shown self.old.methods) (map M.server_shown self.new.methods) }
+        ensures setup { self.new.vars.setup ≡ self.old.vars.setup }
     {
         match view.code {
             Code::Response => self.pick_up_response(view.id, view.kind, view.body, packet),
@@ -307,6 +311,7 @@ impl<M: ServerMethod> ServerMachine<M> {
         ensures step { first_response (now_of M.server_shown self.old) id kind body.now
             ≡ answer (step_with result packet.new no_tags) (now_of M.server_shown self.new) }
         ensures kept { KeepsServers self.old.vars.setup.methods (map M.server_shown self.old.methods) (map M.server_shown self.new.methods) }
+        ensures setup { self.new.vars.setup ≡ self.old.vars.setup }
     {
         self.vars.state = State::Idle;
         self.vars.current_id = Some(id);
@@ -329,6 +334,7 @@ impl<M: ServerMethod> ServerMachine<M> {
         ensures step { server_row (now_of M.server_shown self.old) (Ok (value_of view.now))
             ≡ answer (step_with result packet.new tags.new) (now_of M.server_shown self.new) }
         ensures kept { KeepsServers self.old.vars.setup.methods (map M.server_shown self.old.methods) (map M.server_shown self.new.methods) }
+        ensures setup { self.new.vars.setup ≡ self.old.vars.setup }
     {
         match view.code {
             Code::Response => {
@@ -351,6 +357,7 @@ impl<M: ServerMethod> ServerMachine<M> {
         ensures step { current_response (now_of M.server_shown self.old) view.now.id view.now.kind view.now.body.now
             ≡ answer (step_with result packet.new tags.new) (now_of M.server_shown self.new) }
         ensures kept { KeepsServers self.old.vars.setup.methods (map M.server_shown self.old.methods) (map M.server_shown self.new.methods) }
+        ensures setup { self.new.vars.setup ≡ self.old.vars.setup }
     {
         if view.kind == NAK && self.vars.progress == Progress::Proposed {
             self.propose(Way::AfterNak, view.id, Some(view.body), packet)
@@ -371,6 +378,7 @@ impl<M: ServerMethod> ServerMachine<M> {
         ensures step { let now = now_of M.server_shown self.old in select_action (before_proposal way) now.vars now.views id (option_copied desired.entry)
             ≡ answer (step_with result packet.new no_tags) (now_of M.server_shown self.new) }
         ensures kept { KeepsServers self.old.vars.setup.methods (map M.server_shown self.old.methods) (map M.server_shown self.new.methods) }
+        ensures setup { self.new.vars.setup ≡ self.old.vars.setup }
     {
         match next_method(&self.vars.setup.methods, &self.vars.proposed, desired) {
             None => end_badly(&mut self.vars, way, id, packet),
@@ -396,6 +404,7 @@ impl<M: ServerMethod> ServerMachine<M> {
         ensures step { server_method (now_of M.server_shown self.old) id kind response.now
             ≡ answer (step_with result packet.new tags.new) (now_of M.server_shown self.new) }
         ensures kept { KeepsServers self.old.vars.setup.methods (map M.server_shown self.old.methods) (map M.server_shown self.new.methods) }
+        ensures setup { self.new.vars.setup ≡ self.old.vars.setup }
     {
         let turn = turn_of(&mut self.methods, &self.vars, kind, response, packet, tags);
         settle(&mut self.vars, id, turn, packet)
