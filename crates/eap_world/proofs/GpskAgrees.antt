@@ -1,5 +1,5 @@
 -- Two ends that have succeeded by EAP-GPSK agree.
-use Rattle.std.proofs.Common.{◌≡◌, ℕ, true, false, List, [], ◌∷◌, ◌++◌, length, Some, None, refl, sym, ap, subst, ◌∙◌, length-append, arith, inl, inr}
+use Rattle.std.proofs.Common.{◌≡◌, ℕ, true, false, List, [], ◌∷◌, ◌++◌, length, Some, refl, sym, ap, subst, ◌∙◌, length-append, arith, inl, inr}
 use Rattle.std.proofs.lemmas.Bool.{and_from, not_from_false}
 use Rattle.eap_base.specs.declared.setup.PeerSetup.{PeerSetup}
 use Rattle.eap_base.specs.declared.setup.ServerSetup.{ServerSetup}
@@ -20,7 +20,7 @@ use Rattle.eap_world.specs.Judgement.{judged, peer_agrees, server_agrees, is_wel
 use Rattle.eap_world.specs.Records.{IsIn}
 use Rattle.eap_world.specs.PeerStands.{GpskBegun, gpsk2_record}
 use Rattle.eap_world.specs.ServerStands.{GpskChecked, gpsk2_taken}
-use Rattle.eap_world.proofs.Fields.{fronts, sized_fronts, suite_fronts, read_rands}
+use Rattle.eap_world.proofs.Fields.{fronts, sized_fronts, suite_fronts}
 use Rattle.eap_world.proofs.Among.{among_one, among_two}
 use Rattle.eap_world.proofs.EqualReports.{reports_agree}
 
@@ -99,7 +99,7 @@ module _ (setup : PeerSetup) (login : peer.Login) (list : List ℕ) (facts : Gps
   unfolding peer_report_of
   peer_reported now is_selected in_view = ap (selected_report now.views) is_selected ∙ ap peer.report in_view
 
-module _ (setup : ServerSetup) (login : server.Login) (pd : List ℕ) (facts : GpskChecked setup login false pd) where
+module _ (setup : ServerSetup) (login : server.Login) (facts : GpskChecked setup login false) where
   by_server : server_agrees setup (server.report_of login) ≡ true
   unfolding server.report_of
   by_server = and_from _ _ facts.ordered (and_from _ _ facts.offered (ap is_welcome facts.known ∙ not_from_false _ facts.standing))
@@ -109,15 +109,14 @@ module _ (setup : ServerSetup) (login : server.Login) (pd : List ℕ) (facts : G
   server_reported now is_current in_view = ap (current_report now.views) is_current ∙ ap gpsk_report in_view
 
 module _ (peer_setup : PeerSetup) (server_setup : ServerSetup) (p : peer.Login) (list : List ℕ) (begun : GpskBegun peer_setup p list)
-    (s : server.Login) (pd : List ℕ) (checked : GpskChecked server_setup s false pd)
+    (s : server.Login) (pd : List ℕ) (checked : GpskChecked server_setup s false)
     (peer_nonce : length peer_setup.nonce ≡ 32) (server_nonce : length server_setup.nonce ≡ 32) where
   -- the GPSK-2 that the server accepted is one that the peer made
   pub same_login : IsIn (sk_record s.psk (gpsk2_taken s pd)) (gpsk2_record p list ∷ sk_record p.cred.psk (peer.gpsk4_of p) ∷ []) → IsSame p list s
   same_login is_in =
       elim (among_two _ _ _ is_in) [
         | inl first ↦ covers_same p s list pd
-            (ap length begun.nonce ∙ peer_nonce) (read_rands None checked.body _ checked.is_read).0
-            (read_rands None begun.body _ begun.is_read) (ap length checked.nonce ∙ server_nonce)
+            (ap length begun.nonce ∙ peer_nonce) checked.size begun.size (ap length checked.nonce ∙ server_nonce)
             (sym (ap (λ (tag : TagRecord). tag.psk) first)) (ap (λ (tag : TagRecord). tag.octets) first)
         | inr second ↦ absurd (not_gpsk4 p s pd (ap (λ (tag : TagRecord). tag.octets) second))
       ]
@@ -129,5 +128,5 @@ module _ (peer_setup : PeerSetup) (server_setup : ServerSetup) (p : peer.Login) 
       let reports : peer.report_of p ≡ server.report_of s = same_reports p list s same in
       let agreed = reports_agree peer_setup server_setup (peer.report_of p) (server.report_of s) reports
       (by_peer peer_setup p list begun)
-      (subst (λ (report : Report). server_agrees server_setup report ≡ true) (sym reports) (by_server server_setup s pd checked)) in
-      rw (peer_reported peer_setup p list begun now is_selected in_view, server_reported server_setup s pd checked other is_current in_other) agreed
+      (subst (λ (report : Report). server_agrees server_setup report ≡ true) (sym reports) (by_server server_setup s checked)) in
+      rw (peer_reported peer_setup p list begun now is_selected in_view, server_reported server_setup s checked other is_current in_other) agreed

@@ -39,7 +39,9 @@ use Rattle.peer_machine.proofs.PeerRows.{peer_answers_are_rows}
 use Rattle.eap_world.specs.Judgement.{is_success}
 use Rattle.eap_world.specs.Records.{AreFew}
 use Rattle.eap_world.specs.PeerStands.{psk2_record, psk3_taken, gpsk2_record, gpsk3_taken, result_for, PskPeerTags, psk_unset, psk_fresh, psk_waits, psk_over, GpskPeerTags, gpsk_unset, gpsk_fresh, gpsk_waits, gpsk_confirmed, gpsk_failed, gpsk_barred, PeerTags, none_selected, psk_selected, gpsk_selected, HasSucceeded, psk_succeeded, gpsk_succeeded, PeerStands}
+use Rattle.eap_world.proofs.Fields.{read_rands}
 use Rattle.eap_world.proofs.OneMethod.{apart, goes_on}
+use Rattle.eap_world.proofs.PskFields.{read_rand}
 
 -- ---- the begin
 
@@ -92,7 +94,7 @@ module _ (setup : PeerSetup) where
       → (let login = psk_row.login_from cred nonce id_s rand_s in PskPeerTags setup (psk.wait login) (accepted ++ []) (made ++ psk2_record login ∷ []))
   unfolding credential_for
   psk_answers _ _ rand_s id_s body _ _ (psk_fresh allowed) is_read is_accepted =
-      psk_waits _ (record { allowed = allowed; cred = refl; nonce = refl; accepted = is_accepted; body = body; is_read = is_read })
+      psk_waits _ (record { allowed = allowed; cred = refl; nonce = refl; accepted = is_accepted; size = read_rand body _ is_read })
 
   psk_confirms : (login : psk.Login) (good : Bool) (header mac tag : List ℕ) (sealed id : ℕ) (accepted made : List TagRecord)
       → PskPeerTags setup (psk.wait login) accepted made
@@ -111,7 +113,7 @@ module _ (setup : PeerSetup) where
   unfolding credential_for
   gpsk_answers _ _ id_s rand_s list body suite _ _ (gpsk_fresh allowed) is_read is_accepted is_picked =
       gpsk_waits _ list
-      (record { allowed = allowed; cred = refl; nonce = refl; accepted = is_accepted; picked = is_picked; body = body; is_read = is_read })
+      (record { allowed = allowed; cred = refl; nonce = refl; accepted = is_accepted; picked = is_picked; size = read_rands None body _ is_read })
 
   module _ (login : gpsk.Login) where
     gpsk_confirms : (pd mac : List ℕ) (message : Message) (accepted made : List TagRecord) → GpskPeerTags setup (gpsk.wait login) accepted made

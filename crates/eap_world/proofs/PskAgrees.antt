@@ -21,7 +21,7 @@ use Rattle.eap_world.specs.PeerStands as peer_stands
 use Rattle.eap_world.specs.ServerStands.{PskChecked}
 use Rattle.eap_world.specs.ServerStands as server_stands
 use Rattle.eap_world.proofs.Fields.{ends}
-use Rattle.eap_world.proofs.PskFields.{front_size, read_rand}
+use Rattle.eap_world.proofs.PskFields.{front_size}
 use Rattle.eap_world.proofs.Among.{among_two}
 use Rattle.eap_world.proofs.EqualReports.{reports_agree}
 
@@ -65,7 +65,7 @@ pub peer_not_own : (setup : PeerSetup) (p : peer.Login) → PskBegun setup p →
 unfolding peer.mac_p_covers peer.mac_s_covers
 peer_not_own setup p begun id is_in =
     elim (among_two _ _ _ is_in) [
-      | inl one ↦ covers_more p.cred.id_p p.id_s p.rand_s (rand_of p.nonce) (read_rand begun.body _ begun.is_read)
+      | inl one ↦ covers_more p.cred.id_p p.id_s p.rand_s (rand_of p.nonce) begun.size
           (sym (ap (λ (tag : TagRecord). tag.octets) one))
       | inr other ↦ other_label (ap (λ (tag : TagRecord). tag.label) other)
     ]
@@ -118,8 +118,8 @@ module _ (peer_setup : PeerSetup) (server_setup : ServerSetup) (p : peer.Login) 
       elim (among_two _ _ _ first) [
         | inl one ↦ elim (among_two _ _ _ second) [
           | inl other ↦ covers_same p s
-              (front_size p.nonce (omega (arith, ap length begun.nonce, peer_nonce))) (read_rand checked.body _ checked.is_read)
-              (read_rand begun.body _ begun.is_read) (front_size s.nonce (omega (arith, ap length checked.nonce, server_nonce)))
+              (front_size p.nonce (omega (arith, ap length begun.nonce, peer_nonce))) checked.size
+              begun.size (front_size s.nonce (omega (arith, ap length checked.nonce, server_nonce)))
               (sym (ap (λ (tag : TagRecord). tag.psk) one)) (ap (λ (tag : TagRecord). tag.octets) one) (ap (λ (tag : TagRecord). tag.octets) other)
           | inr other ↦ absurd (other_label (ap (λ (tag : TagRecord). tag.label) other))
         ]

@@ -26,7 +26,7 @@ use Rattle.eap_method.specs.declared.values.ServerSide.{ServerSide}
 use Rattle.eap_method.specs.GpskServer as gpsk
 use Rattle.eap_method.specs.GpskTags.{sk_record, suite_list}
 use Rattle.eap_method.specs.PskServer as psk
-use Rattle.eap_method.specs.PskTags.{ak_record, tek_record, channel_nonce, rand_of}
+use Rattle.eap_method.specs.PskTags.{ak_record, tek_record, channel_nonce}
 use Rattle.eap_method.specs.Server.{ServerViews, side_of, server_offer, Offer, server_turn, psk_hears, gpsk_hears, psk_offer, gpsk_offer}
 use Rattle.eap_method.specs.Tags.{no_tags}
 use Rattle.eap_method.specs.Turns.{ServerOutcome, dropped}
@@ -46,7 +46,9 @@ use Rattle.server_machine.specs.declared.variables.ServerVariables.{ServerVariab
 use Rattle.eap_world.specs.Judgement.{is_success}
 use Rattle.eap_world.specs.Records.{AreFew, AreNone, untagged}
 use Rattle.eap_world.specs.ServerStands.{psk2_record, GpskChecked, gpsk2_taken, PskServerTags, psk_asked, psk_checked, psk_refused, psk_over, GpskServerTags, gpsk_asked, gpsk_refusing, gpsk_refused, gpsk_barring, gpsk_checked, gpsk_barred, gpsk_confirmed, ServerTags, none_current, identity_current, psk_current, gpsk_current, HasSucceeded, psk_succeeded, gpsk_succeeded, IsUntouched, ServerStands}
+use Rattle.eap_world.proofs.Fields.{read_rands}
 use Rattle.eap_world.proofs.OneMethod.{apart, goes_on}
+use Rattle.eap_world.proofs.PskFields.{read_rand}
 
 -- ---- the begin
 
@@ -101,11 +103,11 @@ module _ (setup : ServerSetup) where
 
   psk_answers : (own : ServerSide) (nonce rand_s rand_p mac id_p body : List ℕ) (user : User) (next_id : ℕ) (accepted made : List TagRecord)
       → PskServerTags setup (psk.asked own nonce) accepted made
-      → psk_reading.read_of body ≡ Ok (psk2 rand_s rand_p mac id_p) → rand_s ≡ rand_of nonce → user_of setup.users id_p psk_kind ≡ Some user
+      → psk_reading.read_of body ≡ Ok (psk2 rand_s rand_p mac id_p) → user_of setup.users id_p psk_kind ≡ Some user
       → (let login = psk_row.login_from own nonce id_p user rand_p in
       psk.mac_p_of login ≡ mac
       → PskServerTags setup (psk.checked login) (accepted ++ ak_record user.psk (psk.mac_p_covers login) mac ∷ []) (made ++ psk.psk3_records login next_id))
-  psk_answers _ _ rand_s rand_p mac id_p body user next_id _ _ (psk_asked ordered) is_read own_nonce known has_mac =
+  psk_answers _ _ rand_s rand_p mac id_p body user next_id _ _ (psk_asked ordered) is_read known has_mac =
       (let login = psk_row.login_from (side_of setup) setup.nonce id_p user rand_p in
       subst (λ (m : List ℕ). PskServerTags setup (psk.checked login) (ak_record user.psk (psk.mac_p_covers login) m ∷ []) (psk.psk3_records login next_id))
       has_mac
@@ -118,9 +120,7 @@ module _ (setup : ServerSetup) where
         known = known;
         key = refl;
         r = refl;
-        body = body;
-        is_read = is_read
-            ∙ (ap (λ (r : List ℕ). Ok (psk2 r rand_p mac id_p)) own_nonce ∙ ap (λ (m : List ℕ). Ok (psk2 (psk.rand_s_of login) rand_p m id_p)) (sym has_mac));
+        size = read_rand body _ is_read;
       })))
 
   psk_ends : (login : psk.Login) (good : Bool) (header tag : List ℕ) (sealed : ℕ) → (good ≡ true → login.r ≡ 2) → (accepted made : List TagRecord)
@@ -161,7 +161,7 @@ module _ (setup : ServerSetup) where
       pub offered : is_among own.suites (suite_number suite) ≡ true
 
     facts_of : (barred : Bool) → is_among setup.methods gpsk_kind ≡ true → IsGpsk2 (side_of setup) setup.nonce → user.barred ≡ barred
-        → GpskChecked setup (login_of (side_of setup) setup.nonce) barred pd
+        → GpskChecked setup (login_of (side_of setup) setup.nonce) barred
     unfolding side_of
     facts_of barred ordered heard standing = record {
       ordered = ordered;
@@ -172,8 +172,7 @@ module _ (setup : ServerSetup) where
       key = refl;
       standing = standing;
       offered = heard.offered;
-      body = body;
-      is_read = heard.is_read ∙ ap (λ (m : Message). Ok m) (sym (gpsk2_same (login_of (side_of setup) setup.nonce) pd mac message heard.same heard.has_mac));
+      size = (read_rands None body _ (heard.is_read ∙ ap (λ (m : Message). Ok m) (sym heard.same))).0;
     }
 
     gpsk_bars : (own : ServerSide) (nonce : List ℕ) (accepted made : List TagRecord) → GpskServerTags setup (gpsk.asked own nonce) accepted made
@@ -223,10 +222,10 @@ module _ (setup : ServerSetup) where
     psk_turned view _ told (psk_row.refuses own nonce _ _ _ _ in_view _ _ _) =
         ends false _ _ (psk_refuses own nonce accepted made (at_psk setup accepted made view _ in_view told))
         (λ e. absurd (false≢true e))
-    psk_turned view _ told (psk_row.answers own nonce rand_s rand_p mac id_p user in_view is_read own_nonce known has_mac) =
+    psk_turned view _ told (psk_row.answers own nonce rand_s rand_p mac id_p user in_view is_read _ known has_mac) =
         requests _ _ _
         (psk_answers own nonce rand_s rand_p mac id_p _ user next_id accepted made (at_psk setup accepted made view _ in_view told)
-        is_read own_nonce known has_mac)
+        is_read known has_mac)
     psk_turned view _ told (psk_row.ends_success login _ _ tag sealed in_view _ _ _ _ has_tag _ _ own_success _) =
         ends true _ _
         (psk_ends login true _ tag sealed (λ _. own_success) accepted made (at_psk setup accepted made view _ in_view told) has_tag)

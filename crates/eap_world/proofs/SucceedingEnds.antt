@@ -49,7 +49,7 @@ pub data BothSucceed (peer_setup : PeerSetup) (server_setup : ServerSetup) (p : 
       (is_current : s.vars.current ≡ Some psk_kind) (in_other : s.views.psk ≡ Some (psk_server.over other true)) (r_sent : other.r ≡ 2)
       (same : psk.IsSame login other) → BothSucceed peer_setup server_setup p s
   by_gpsk : (login : gpsk_peer.Login) (list : List ℕ) (facts : peers.GpskBegun peer_setup login list)
-      (other : gpsk_server.Login) (pd : List ℕ) (checked : servers.GpskChecked server_setup other false pd)
+      (other : gpsk_server.Login) (pd : List ℕ) (checked : servers.GpskChecked server_setup other false)
       (is_selected : p.vars.selected ≡ Some gpsk_kind) (in_view : p.views.gpsk ≡ gpsk_peer.over login true)
       (is_current : s.vars.current ≡ Some gpsk_kind) (in_other : s.views.gpsk ≡ Some (gpsk_server.over other true))
       (same : gpsk.IsSame login list other) → BothSucceed peer_setup server_setup p s
@@ -69,7 +69,7 @@ pub data ServerSucceeds (setup : ServerSetup) (now : ServerNow) : List TagRecord
       (in_view : now.views.psk ≡ Some (psk_server.over login true)) (facts : servers.PskChecked setup login) (r_sent : login.r ≡ 2)
       → ServerSucceeds setup now (servers.psk2_record login ∷ servers.psk4_taken login header sealed ∷ []) (psk_server.psk3_records login id)
   of_gpsk : (login : gpsk_server.Login) (pd last_pd : List ℕ) (is_current : now.vars.current ≡ Some gpsk_kind)
-      (in_view : now.views.gpsk ≡ Some (gpsk_server.over login true)) (facts : servers.GpskChecked setup login false pd)
+      (in_view : now.views.gpsk ≡ Some (gpsk_server.over login true)) (facts : servers.GpskChecked setup login false)
       → ServerSucceeds setup now (sk_record login.psk (servers.gpsk2_taken login pd) ∷ sk_record login.psk (servers.gpsk4_taken login last_pd) ∷ [])
       (sk_record login.psk (gpsk_server.gpsk3_of login) ∷ [])
 

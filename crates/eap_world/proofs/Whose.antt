@@ -68,7 +68,7 @@ module _ (setup : Setup) (w : WorldNow) (login : psk_peer.Login) (facts : PskBeg
 
 -- by EAP-GPSK
 module _ (setup : Setup) (w : WorldNow) (login : gpsk_peer.Login) (list : List ℕ) (facts : GpskBegun setup.peer login list)
-    (other : gpsk_server.Login) (pd : List ℕ) (checked : GpskChecked setup.server other false pd) (same : gpsk.IsSame login list other) where
+    (other : gpsk_server.Login) (pd : List ℕ) (checked : GpskChecked setup.server other false) (same : gpsk.IsSame login list other) where
   gpsk_server_name : login.id_s ≡ setup.server.name
   unfolding side_of
   gpsk_server_name = same.id_s ∙ ap (λ own. own.id_s) checked.own
@@ -94,7 +94,7 @@ module _ (setup : Setup) (w : WorldNow) (login : gpsk_peer.Login) (list : List �
       record {
         report = gpsk_peer.report_of login;
         holds = gpsk.peer_reported setup.peer login list facts w.parties.peer is_selected in_view;
-        same = gpsk.server_reported setup.server other pd checked w.parties.server is_current in_other ∙ ap Some (sym (gpsk.same_reports login list other same));
+        same = gpsk.server_reported setup.server other checked w.parties.server is_current in_other ∙ ap Some (sym (gpsk.same_reports login list other same));
         id_p = name;
         id_s = gpsk_server_name;
         user = checked.user;

@@ -1,12 +1,9 @@
 -- What holds of the peer at every moment of a run, with the tags that it has accepted and made: the view of
 -- its method tells them exactly, also where the login has failed.
-use Rattle.std.specs.Prelude.{◌≡◌, ℕ, List, [], ◌∷◌, Bool, true, false, if◌then◌else◌, Option, None, Some, Ok}
+use Rattle.std.specs.Prelude.{◌≡◌, ℕ, List, [], ◌∷◌, length, Bool, true, false, if◌then◌else◌, Option, None, Some}
 use Rattle.eap_base.specs.declared.setup.PeerSetup.{PeerSetup}
 use Rattle.eap_base.specs.Setup.{psk_kind, gpsk_kind, is_among, accepts_name}
-use Rattle.gpsk_messages.specs.Message.{Message, gpsk1, gpsk3}
-use Rattle.gpsk_messages.specs.Reading as gpsk_reading
-use Rattle.psk_messages.specs.Message.{psk1}
-use Rattle.psk_messages.specs.Reading as psk_reading
+use Rattle.gpsk_messages.specs.Message.{Message, gpsk3}
 use Rattle.eax_mode.specs.Eax.{eax_tag}
 use Rattle.login_policy.specs.Policy.{picked_suite}
 use Rattle.eap_method.specs.declared.tags.TagRecord.{TagRecord}
@@ -18,14 +15,14 @@ use Rattle.eap_method.specs.PskTags.{ak_record, channel_nonce, done_success, don
 use Rattle.peer_machine.specs.PeerTable.{PeerNow, is_fail}
 use Rattle.eap_world.specs.Judgement.{is_success}
 
--- a login by EAP-PSK that the peer has begun: what it keeps is its setup's, or was read of a PSK-1
+-- a login by EAP-PSK that the peer has begun: what it keeps is its setup's, but for the server's name, which the setup
+-- accepts, and RAND_S, which has 16 octets
 pub record PskBegun (setup : PeerSetup) (login : psk.Login) : Type 0 where
   pub allowed : is_among setup.methods psk_kind ≡ true
   pub cred : login.cred ≡ credential_for setup psk_kind
   pub nonce : login.nonce ≡ setup.nonce
   pub accepted : accepts_name setup.accepts login.id_s ≡ true
-  pub body : List ℕ
-  pub is_read : psk_reading.read_of body ≡ Ok (psk1 login.rand_s login.id_s)
+  pub size : length login.rand_s ≡ 16
 
 -- the record of its PSK-2
 abbrev pub psk2_record : psk.Login → TagRecord
@@ -52,15 +49,15 @@ pub data PskPeerTags (setup : PeerSetup) : psk.View → List TagRecord → List 
       → PskPeerTags setup (psk.over login good) (psk3_taken login header sealed)
       (psk2_record login ∷ psk.psk4_record login id (result_for good))
 
--- a login by EAP-GPSK that the peer has begun: what it keeps is its setup's, or was read of a GPSK-1
+-- a login by EAP-GPSK that the peer has begun: what it keeps is its setup's, but for the server's name, which the setup
+-- accepts, the suite, which it picks of a list, and RAND_Server, which has 32 octets
 pub record GpskBegun (setup : PeerSetup) (login : gpsk.Login) (list : List ℕ) : Type 0 where
   pub allowed : is_among setup.methods gpsk_kind ≡ true
   pub cred : login.cred ≡ credential_for setup gpsk_kind
   pub nonce : login.nonce ≡ setup.nonce
   pub accepted : accepts_name setup.accepts login.id_s ≡ true
   pub picked : picked_suite setup.suites list ≡ Some login.suite
-  pub body : List ℕ
-  pub is_read : gpsk_reading.read_of None body ≡ Ok (gpsk1 login.id_s login.rand_s list)
+  pub size : length login.rand_s ≡ 32
 
 -- the record of its GPSK-2
 abbrev pub gpsk2_record : gpsk.Login → List ℕ → TagRecord

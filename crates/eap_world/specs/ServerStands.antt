@@ -1,15 +1,12 @@
 -- What holds of the server at every moment of a run, with the tags that it has accepted and made: the view
 -- of its current method tells them exactly, also where the login has failed.
-use Rattle.std.specs.Prelude.{◌≡◌, ℕ, List, [], ◌∷◌, Bool, true, false, Option, None, Some, Ok}
+use Rattle.std.specs.Prelude.{◌≡◌, ℕ, List, [], ◌∷◌, length, Bool, true, false, Option, None, Some}
 use Rattle.eap_base.specs.declared.setup.ServerSetup.{ServerSetup}
 use Rattle.eap_base.specs.declared.users.User.{User}
 use Rattle.eap_base.specs.Setup.{psk_kind, gpsk_kind, is_among}
 use Rattle.eap_base.specs.Suite.{suite_number}
 use Rattle.eap_base.specs.Users.{user_of}
 use Rattle.gpsk_messages.specs.Message.{Message, gpsk2, gpsk4}
-use Rattle.gpsk_messages.specs.Reading as gpsk_reading
-use Rattle.psk_messages.specs.Message.{psk2}
-use Rattle.psk_messages.specs.Reading as psk_reading
 use Rattle.eax_mode.specs.Eax.{eax_tag}
 use Rattle.eap_method.specs.declared.tags.TagRecord.{TagRecord}
 use Rattle.eap_method.specs.GpskServer as gpsk
@@ -22,7 +19,7 @@ use Rattle.server_machine.specs.declared.variables.ServerVariables.{ServerVariab
 use Rattle.eap_world.specs.Judgement.{is_success}
 use Rattle.eap_world.specs.Records.{AreNone}
 
--- a login by EAP-PSK of a user: what the server keeps is its setup's, or was read of a PSK-2
+-- a login by EAP-PSK of a user of the setup: what the server keeps is its setup's, but for RAND_P, which has 16 octets
 pub record PskChecked (setup : ServerSetup) (login : psk.Login) : Type 0 where
   pub ordered : is_among setup.methods psk_kind ≡ true
   pub own : login.own ≡ side_of setup
@@ -31,8 +28,7 @@ pub record PskChecked (setup : ServerSetup) (login : psk.Login) : Type 0 where
   pub known : user_of setup.users login.id_p psk_kind ≡ Some user
   pub key : login.psk ≡ user.psk
   pub r : login.r ≡ psk.r_for user.barred
-  pub body : List ℕ
-  pub is_read : psk_reading.read_of body ≡ Ok (psk2 (psk.rand_s_of login) login.rand_p (psk.mac_p_of login) login.id_p)
+  pub size : length login.rand_p ≡ 16
 
 -- the records of the PSK-2 and the PSK-4 that it accepts
 abbrev pub psk2_record : psk.Login → TagRecord
@@ -63,8 +59,9 @@ gpsk2_taken login pd =
 abbrev pub gpsk4_taken : gpsk.Login → List ℕ → Message
 gpsk4_taken login pd = tagged login.suite (gpsk.keys_of login).sk (gpsk4 pd [])
 
--- a login by EAP-GPSK of a user, barred or not: what the server keeps is its setup's, or was read of a GPSK-2
-pub record GpskChecked (setup : ServerSetup) (login : gpsk.Login) (barred : Bool) (pd : List ℕ) : Type 0 where
+-- a login by EAP-GPSK of a user of the setup, barred or not: what the server keeps is its setup's, but for RAND_Peer,
+-- which has 32 octets
+pub record GpskChecked (setup : ServerSetup) (login : gpsk.Login) (barred : Bool) : Type 0 where
   pub ordered : is_among setup.methods gpsk_kind ≡ true
   pub own : login.own ≡ side_of setup
   pub nonce : login.nonce ≡ setup.nonce
@@ -73,8 +70,7 @@ pub record GpskChecked (setup : ServerSetup) (login : gpsk.Login) (barred : Bool
   pub key : login.psk ≡ user.psk
   pub standing : user.barred ≡ barred
   pub offered : is_among setup.suites (suite_number login.suite) ≡ true
-  pub body : List ℕ
-  pub is_read : gpsk_reading.read_of None body ≡ Ok (gpsk2_taken login pd)
+  pub size : length login.rand_p ≡ 32
 
 -- which tags a view of EAP-GPSK tells
 pub data GpskServerTags (setup : ServerSetup) : gpsk.View → List TagRecord → List TagRecord → Type 0 where
@@ -83,18 +79,18 @@ pub data GpskServerTags (setup : ServerSetup) : gpsk.View → List TagRecord →
   gpsk_refusing : GpskServerTags setup (gpsk.refusing (side_of setup) setup.nonce) [] []
   gpsk_refused : GpskServerTags setup (gpsk.refused (side_of setup) setup.nonce) [] []
   -- GPSK-2 of a barred user is accepted, and answered by GPSK-Protected-Fail
-  gpsk_barring : (login : gpsk.Login) (pd : List ℕ) (facts : GpskChecked setup login true pd)
+  gpsk_barring : (login : gpsk.Login) (pd : List ℕ) (facts : GpskChecked setup login true)
       → GpskServerTags setup (gpsk.barring login) (sk_record login.psk (gpsk2_taken login pd) ∷ []) (sk_record login.psk (gpsk.bars_with login) ∷ [])
   -- GPSK-2 of any other user is accepted, and answered by GPSK-3
-  gpsk_checked : (login : gpsk.Login) (pd : List ℕ) (facts : GpskChecked setup login false pd)
+  gpsk_checked : (login : gpsk.Login) (pd : List ℕ) (facts : GpskChecked setup login false)
       → GpskServerTags setup (gpsk.checked login) (sk_record login.psk (gpsk2_taken login pd) ∷ []) (sk_record login.psk (gpsk.gpsk3_of login) ∷ [])
   -- the same GPSK-Protected-Fail comes back and is accepted too
-  gpsk_barred : (login : gpsk.Login) (pd : List ℕ) (facts : GpskChecked setup login true pd)
+  gpsk_barred : (login : gpsk.Login) (pd : List ℕ) (facts : GpskChecked setup login true)
       → GpskServerTags setup (gpsk.over login false)
       (sk_record login.psk (gpsk2_taken login pd) ∷ sk_record login.psk (gpsk.bars_with login) ∷ [])
       (sk_record login.psk (gpsk.bars_with login) ∷ [])
   -- GPSK-4 is accepted too
-  gpsk_confirmed : (login : gpsk.Login) (pd last_pd : List ℕ) (facts : GpskChecked setup login false pd)
+  gpsk_confirmed : (login : gpsk.Login) (pd last_pd : List ℕ) (facts : GpskChecked setup login false)
       → GpskServerTags setup (gpsk.over login true)
       (sk_record login.psk (gpsk2_taken login pd) ∷ sk_record login.psk (gpsk4_taken login last_pd) ∷ [])
       (sk_record login.psk (gpsk.gpsk3_of login) ∷ [])
