@@ -57,6 +57,8 @@ impl Store {
     pub fn new(alloc: Global) -> Store
         ensures packets { result.packets ≡ [] }
         ensures stored { result.stored ≡ 0 }
+        ensures octets_room { result.octets_room ≡ 0 }
+        ensures packets_room { result.packets_room ≡ 0 }
     {
         Store {
             octets: Vec::new(alloc),

@@ -168,7 +168,7 @@ impl<P: PeerMethod, S: ServerMethod> World<P, S> {
     /// [`steps_are_lawful`](crate::steps_are_lawful) says.
     pub fn step(&mut self, event: &Event) -> Result<Told, Memory>
         requires started { self.old.started ≡ true }
-        requires room { self.old.counts.events < MAX_EVENTS }
+        requires room { self.old.counts.events < 1000000 }
         ensures told { MatchResult result
             (λ told. Tells P.peer_shown S.server_shown (world_step (now_of P.peer_shown S.server_shown self.old) event.now) told self.new)
             (λ _. self.new ≡ self.old) }
@@ -212,7 +212,7 @@ impl<P: PeerMethod, S: ServerMethod> World<P, S> {
     #[tactic(auto, unfolding(crate::specs::World::world_step))]
     fn take(&mut self, event: &Event) -> Result<Told, Memory>
         requires started { self.old.started ≡ true }
-        requires room { self.old.counts.events < MAX_EVENTS }
+        requires room { self.old.counts.events < 1000000 }
         ensures told { MatchResult result
             (λ told. Tells P.peer_shown S.server_shown (world_step (now_of P.peer_shown S.server_shown self.old) event.now) told self.new)
             (λ _. self.new ≡ self.old) }
