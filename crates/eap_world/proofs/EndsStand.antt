@@ -4,22 +4,15 @@ use Rattle.eap_base.specs.declared.event.Event.{Event}
 use Rattle.eap_base.specs.declared.setup.Setup.{Setup}
 use Rattle.peer_machine.specs.Inputs.{peer_takes}
 use Rattle.server_machine.specs.Inputs.{server_takes}
-use Rattle.eap_world.specs.World.{WorldNow, WorldOutcome, Parties, run_after, to_peer, to_server, to_pass}
+use Rattle.eap_world.specs.World.{WorldNow, WorldOutcome, run_after, to_peer, to_server, to_pass}
 use Rattle.eap_world.specs.declared.book.End.TheVariants as end
-use Rattle.eap_world.specs.declared.book.Entry.{Entry}
-use Rattle.eap_world.specs.declared.book.Use.TheVariants.{Accepted, Made}
 use Rattle.eap_world.specs.PeerStands.{PeerStands}
 use Rattle.eap_world.specs.ServerStands.{ServerStands}
-use Rattle.eap_world.specs.Records.{tags_by}
+use Rattle.eap_world.specs.EndsStand.{BothStand}
 use Rattle.eap_world.proofs.Acting.{Steps, skips, calls, run_keeps}
 use Rattle.eap_world.proofs.TagsOfEnds.{grows, rests}
 use Rattle.eap_world.proofs.PeerKeeps.{peer_keeps}
 use Rattle.eap_world.proofs.ServerKeeps.{server_keeps}
-
--- both ends stand as their views tell, with the tags of each in the book
-pub record BothStand (setup : Setup) (parties : Parties) (entries : List Entry) : Type 0 where
-  pub peer_stands : PeerStands setup.peer parties.peer (tags_by end.Peer Accepted entries) (tags_by end.Peer Made entries)
-  pub server_stands : ServerStands setup.server parties.server (tags_by end.Server Accepted entries) (tags_by end.Server Made entries)
 
 steps_stand : (setup : Setup) (w : WorldNow) (out : WorldOutcome) → Steps w out → BothStand setup w.parties w.book
     → BothStand setup out.after.parties out.after.book

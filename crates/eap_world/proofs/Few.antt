@@ -1,6 +1,8 @@
--- The book of every run holds few tags.
-use Rattle.std.proofs.Common.{◌≡◌, ℕ, ◌+◌, ◌≤◌, List, [], ◌∷◌, length, refl, arith}
+-- Every run sends few packets, and its book holds few tags.
+use Rattle.std.proofs.Common.{◌≡◌, ℕ, ◌+◌, ◌≤◌, List, [], ◌∷◌, length, Option, Some, None, refl, arith, length-append}
 use Rattle.std.specs.Prelude.{if◌then◌else◌, ◌&&◌}
+use Rattle.eap_base.specs.declared.event.Event.{Event}
+use Rattle.eap_base.specs.declared.setup.Port.{Port}
 use Rattle.eap_base.specs.declared.setup.Setup.{Setup}
 use Rattle.eap_method.specs.declared.tags.TagRecord.{TagRecord}
 use Rattle.eap_world.specs.Book.{same_end}
@@ -9,12 +11,13 @@ use Rattle.eap_world.specs.declared.book.End.TheVariants.{Peer, Server}
 use Rattle.eap_world.specs.declared.book.Entry.{Entry}
 use Rattle.eap_world.specs.declared.book.Use.{Use}
 use Rattle.eap_world.specs.declared.book.Use.TheVariants.{Accepted, Made}
-use Rattle.eap_world.specs.Agreement.{HasFewTags, FewTags}
-use Rattle.eap_world.specs.World.{Parties}
+use Rattle.eap_world.specs.Agreement.{HasFewTags, FewPackets, FewTags}
+use Rattle.eap_world.specs.World.{Action, Called, Parties, Skipped, WorldNow, act, called, run_after, sent_by, sent_to, start_call}
+use Rattle.eap_world.specs.World.{world_made, world_start, world_step}
 use Rattle.eap_world.specs.Records.{AreFew, same_use, tags_by}
 use Rattle.eap_world.proofs.HonestRuns.{every_run_stands}
 use Rattle.eap_world.proofs.PeerKeeps.{peer_few}
-use Rattle.eap_world.proofs.EndsStand.{BothStand}
+use Rattle.eap_world.specs.EndsStand.{BothStand}
 use Rattle.eap_world.proofs.ServerKeeps.{server_few}
 
 -- one more entry is in one of the four lists
@@ -57,6 +60,30 @@ all_few book peer server = record {
 both_few : (setup : Setup) (parties : Parties) (book : List Entry) → BothStand setup parties book → HasFewTags book
 both_few setup parties book both =
     all_few book (peer_few setup.peer parties.peer _ _ both.peer_stands) (server_few setup.server parties.server _ _ both.server_stands)
+
+sent_to_few : (port : Port) (sent : Option (List ℕ)) → length (sent_to port sent) ≤ 1
+sent_to_few port None = omega arith
+sent_to_few port (Some octets) = omega arith
+
+sent_few : (action : Action) → length (sent_by action) ≤ 1
+sent_few (Skipped skip) = omega arith
+sent_few (Called did) = sent_to_few did.port did.step.sent
+
+step_few : (w : WorldNow) (e : Event) → length (world_step w e).after.sent ≤ length w.sent + 1
+unfolding world_step
+step_few w e = let action = (act w.parties w.sent e).action in omega (arith, length-append w.sent (sent_by action), sent_few action)
+
+run_few : (w : WorldNow) (events : List Event) → length (run_after w events).sent ≤ length w.sent + length events
+unfolding run_after
+run_few w [] = omega arith
+run_few w (e ∷ rest) = omega (arith, step_few w e, run_few (world_step w e).after rest)
+
+start_few : (setup : Setup) → length (world_start (world_made setup)).after.sent ≤ 1
+unfolding world_start
+start_few setup = sent_few (called (world_made setup).parties (start_call setup.mode)).action
+
+pub few_packets : FewPackets
+few_packets setup events = omega (arith, run_few (world_start (world_made setup)).after events, start_few setup)
 
 pub few_tags : FewTags
 few_tags setup events = both_few setup _ _ (every_run_stands setup events)

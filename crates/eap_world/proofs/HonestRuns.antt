@@ -1,7 +1,6 @@
 -- Two ends that both succeed over a book that is honest of either end agree.
-use Rattle.std.proofs.Common.{◌≡◌, List, [], Bool, true, false, refl, sym, subst}
+use Rattle.std.proofs.Common.{◌≡◌, [], Bool, true, false, refl, sym, subst}
 use Rattle.std.specs.Prelude.{if◌then◌else◌, ◌&&◌}
-use Rattle.eap_base.specs.declared.event.Event.{Event}
 use Rattle.eap_base.specs.declared.setup.Setup.{Setup}
 use Rattle.server_machine.specs.ServerTable.{server_start}
 use Rattle.eap_world.specs.Book.{first_broken, tags_verdict_either}
@@ -17,7 +16,8 @@ use Rattle.eap_world.specs.declared.book.End.TheVariants as end
 use Rattle.eap_world.specs.Agreement.{IsWhole, IsOfRun, AgreesWhereHonest, HonestEndsAgree, run_of}
 use Rattle.eap_world.specs.Records.{tags_by}
 use Rattle.eap_world.proofs.TagsOfEnds.{honest_tags}
-use Rattle.eap_world.proofs.EndsStand.{BothStand, run_stands}
+use Rattle.eap_world.specs.EndsStand.{BothStand, EndsStand}
+use Rattle.eap_world.proofs.EndsStand.{run_stands}
 use Rattle.eap_world.proofs.HonestOfEither.{none_if_honest}
 use Rattle.eap_world.proofs.PeerKeeps as peer_calls
 use Rattle.eap_world.proofs.ServerKeeps as server_calls
@@ -57,8 +57,7 @@ start_stands : (setup : Setup) → (let w = (world_start (world_made setup)).aft
 unfolding world_start
 start_stands setup = start_in setup.mode setup refl
 
-pub every_run_stands : (setup : Setup) (events : List Event)
-    → (let w = run_of setup events in BothStand setup w.parties w.book)
+pub every_run_stands : EndsStand
 every_run_stands setup events =
     run_stands setup (world_start (world_made setup)).after events (start_stands setup)
 

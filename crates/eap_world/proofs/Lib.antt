@@ -10,7 +10,7 @@ pub mod EndsStand
 pub mod EqualReports
 -- The run goes on event by event.
 pub mod EventByEvent
--- The book of every run holds few tags.
+-- Every run sends few packets, and its book holds few tags.
 pub mod Few
 -- Two joins that are equal, cut into their parts; and the sizes of the nonces that a reader gives.
 pub mod Fields

@@ -48,7 +48,8 @@ use Rattle.eap_world.specs.declared.book.Entry.{Entry}
 use Rattle.eap_world.specs.declared.book.Use.TheVariants.{Accepted}
 use Rattle.eap_world.specs.declared.told.Skip.{Skip}
 use Rattle.eap_world.proofs.Acting.{counted_acted}
-use Rattle.eap_world.proofs.EndsStand.{BothStand, run_stands}
+use Rattle.eap_world.specs.EndsStand.{BothStand}
+use Rattle.eap_world.proofs.EndsStand.{run_stands}
 use Rattle.eap_world.proofs.HonestRuns.{every_run_stands}
 use Rattle.eap_world.proofs.OneMethod.{some_same}
 use Rattle.eap_world.proofs.SucceedingEnds.{PeerSucceeds, ServerSucceeds, of_gpsk, of_psk, peer_succeeds, server_succeeds, with_gpsk, with_psk}

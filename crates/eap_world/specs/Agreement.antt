@@ -1,5 +1,5 @@
 -- Agreement over an altering network.
-use Rattle.std.specs.Prelude.{◌≡◌, ◌≤◌, List, [], ◌∷◌, ◌++◌, length, true, false, Some}
+use Rattle.std.specs.Prelude.{◌≡◌, ◌≤◌, ◌+◌, List, [], ◌∷◌, ◌++◌, length, true, false, Some}
 use Rattle.eap_base.specs.declared.event.Event.{Event}
 use Rattle.eap_base.specs.declared.setup.Setup.{Setup}
 use Rattle.eap_base.specs.declared.setup.Suite.{Suite}
@@ -97,6 +97,10 @@ pub record HasFewTags (book : List Entry) : Type 0 where
 -- the book stays small however many events there are
 abbrev pub FewTags : Type 0
 FewTags = (setup : Setup) (events : List Event) → HasFewTags (run_of setup events).book
+
+-- at most one packet is sent at the start, and at most one in each event
+abbrev pub FewPackets : Type 0
+FewPackets = (setup : Setup) (events : List Event) → length (run_of setup events).sent ≤ length events + 1
 
 -- what a start, or an event, makes of a world of a run: it goes on with the run, and its book stays small
 module _ {P S : Type 0} (peer_shown : P → PeerShown) (server_shown : S → ServerShown) where

@@ -9,3 +9,4 @@ pub mod Records
 pub mod PeerStands
 pub mod ServerStands
 pub mod Agreement
+pub mod EndsStand

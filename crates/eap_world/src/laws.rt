@@ -1,6 +1,7 @@
 //! Laws of both ends over events. Each is the contract of a function that does nothing.
 
-ghost use Rattle.eap_world.specs.Agreement.{HonestOfEither, HonestEndsAgree, HonestNamesAreTheirs, FewTags};
+ghost use Rattle.eap_world.specs.Agreement.{HonestOfEither, HonestEndsAgree, HonestNamesAreTheirs, FewPackets, FewTags};
+ghost use Rattle.eap_world.specs.EndsStand.{EndsStand};
 ghost use Rattle.eap_world.specs.Laws.{DiscardsKeep, RunsTellReports, SkipsKeep};
 ghost use Rattle.eap_world.specs.SingleSteps.{StepsAreLawful};
 
@@ -50,6 +51,19 @@ pub fn honest_ends_agree()
 #[tactic(auto, using(crate::proofs::Whose::honest_names_are_theirs))]
 pub fn honest_names_are_theirs()
     ensures { HonestNamesAreTheirs }
+{}
+
+/// In every run, whatever the settings and the events: where each end stands tells exactly which tags it has
+/// accepted and made, also after a login that failed; what its method keeps is of its own settings, but for the other
+/// end's name and nonce and the suite that it picked of a list; a decision other than FAIL comes of a method that has succeeded,
+/// and SUCCESS of such a decision.
+pub fn ends_stand()
+    ensures { EndsStand }
+{}
+
+/// At most one packet is sent at the start, and at most one in each event.
+pub fn few_packets()
+    ensures { FewPackets }
 {}
 
 /// However many events there are, each end accepts at most two tags and makes at most two, so that the

@@ -14,8 +14,8 @@ mod world;
 pub use act::{Action, Did, Machines};
 pub use book::{End, Entry, Makers, TagsVerdict, Use};
 pub use laws::{
-    discards_keep, few_tags, honest_ends_agree, honest_names_are_theirs, honest_of_either,
-    runs_tell_reports, skips_keep, steps_are_lawful,
+    discards_keep, ends_stand, few_packets, few_tags, honest_ends_agree, honest_names_are_theirs,
+    honest_of_either, runs_tell_reports, skips_keep, steps_are_lawful,
 };
 pub use store::{Slot, Store, Stored};
 pub use told::{Counts, Named, SentPacket, Skip, Told};

@@ -50,8 +50,8 @@ pub struct Held {
 /// The peer (RFC 4137 section 4) and the server with their methods, the packets that were sent, the book of
 /// the ends' tags, and the counts. In mode alone the server is the stand-alone one (section 5), in mode through
 /// the backend (section 6) with the pass-through (section 7) before it. Contracts see all of it; what an
-/// object shows is its ghost member. No call changes the view of an object whose method its end's settings don't
-/// name.
+/// object shows is its ghost member. No call changes which methods an end's settings name, nor the view of an object
+/// whose method they don't name.
 #[derive(Drop)]
 pub struct World<P, S> {
     machines: Machines<P, S>,
@@ -165,7 +165,8 @@ impl<P: PeerMethod, S: ServerMethod> World<P, S> {
     /// `Memory` comes only for want of memory for one more packet and its tags; the world then is as it
     /// was, and the event isn't counted. A world that was that of the run over some events then is that
     /// of the run over these and this one, with at most eight tags in its book, and the step is lawful as
-    /// [`steps_are_lawful`](crate::steps_are_lawful) says.
+    /// [`steps_are_lawful`](crate::steps_are_lawful) says. At most one packet was sent an event, and one more at
+    /// the start.
     pub fn step(&mut self, event: &Event) -> Result<Told, Memory>
         requires started { self.old.started ≡ true }
         requires room { self.old.counts.events < 1000000 }
@@ -175,6 +176,7 @@ impl<P: PeerMethod, S: ServerMethod> World<P, S> {
         ensures run { IfOk result (λ told. GoesOn P.peer_shown S.server_shown event.now self.old self.new) }
         ensures few { IfOk result (λ told. StaysSmall P.peer_shown S.server_shown self.old self.new) }
         ensures lawful { IfOk result (λ told. StepsLawfully P.peer_shown S.server_shown event.now self.old told self.new) }
+        ensures packets { length self.new.sent ≤ self.new.counts.events + 1 }
         ensures kept { KeepsObjects P.peer_shown S.server_shown self.old self.new }
         ensures names { NamesAlike self.old self.new }
     {
@@ -216,6 +218,7 @@ impl<P: PeerMethod, S: ServerMethod> World<P, S> {
         ensures told { MatchResult result
             (λ told. Tells P.peer_shown S.server_shown (world_step (now_of P.peer_shown S.server_shown self.old) event.now) told self.new)
             (λ _. self.new ≡ self.old) }
+        ensures packets { length self.new.sent ≤ self.new.counts.events + 1 }
         ensures kept { KeepsObjects P.peer_shown S.server_shown self.old self.new }
         ensures names { NamesAlike self.old self.new }
     {
