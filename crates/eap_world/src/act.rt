@@ -90,15 +90,15 @@ pub fn act<P: PeerMethod, S: ServerMethod>(
 }
 
 /// What a party's call did.
-pub fn does(mode: Mode, party: Party, is_delivery: bool, step: Step) -> Action
+pub fn action_of(mode: Mode, party: Party, is_delivery: bool, step: Step) -> Action
     ensures { (packet : List ℕ) (tags : Tags)
         → action_with result packet tags ≡ worlds.Called (did_by mode party is_delivery (step_with step packet tags)) }
 {
-    does_at(party, goes_to(party, mode), is_delivery, step)
+    action_to(party, goes_to(party, mode), is_delivery, step)
 }
 
 /// What a call of a party did whose packet goes to this port.
-fn does_at(party: Party, port: Port, is_delivery: bool, step: Step) -> Action
+fn action_to(party: Party, port: Port, is_delivery: bool, step: Step) -> Action
     ensures { (packet : List ℕ) (tags : Tags)
         → action_with result packet tags ≡ worlds.Called (did_at party port is_delivery (step_with step packet tags)) }
 {
@@ -127,11 +127,11 @@ pub fn start<P: PeerMethod, S: ServerMethod>(
     match machines.mode {
         Mode::Alone => {
             let step = machines.server.start(packet);
-            does_at(Party::Server, Port::Peer, false, step)
+            action_to(Party::Server, Port::Peer, false, step)
         }
         Mode::Through => {
             let step = machines.pass.start(packet);
-            does_at(Party::Pass, Port::Peer, false, step)
+            action_to(Party::Pass, Port::Peer, false, step)
         }
     }
 }
@@ -186,11 +186,11 @@ fn hand<P: PeerMethod, S: ServerMethod>(
     match port {
         Port::Peer => {
             let step = machines.peer.deliver(octets, packet, tags);
-            does(mode, Party::Peer, true, step)
+            action_of(mode, Party::Peer, true, step)
         }
         Port::Server => {
             let step = machines.server.deliver(octets, packet, tags);
-            does(mode, Party::Server, true, step)
+            action_of(mode, Party::Server, true, step)
         }
         Port::PassPeer => hand_from_peer(machines, octets, packet, tags),
         Port::PassServer => hand_from_server(machines, octets, packet, tags),
@@ -213,7 +213,7 @@ fn hand_from_peer<P: PeerMethod, S: ServerMethod>(
         Mode::Alone => Action::Skipped(Skip::NoParty),
         Mode::Through => {
             let step = machines.pass.from_peer(octets, packet);
-            does_at(Party::Pass, Port::Server, true, step)
+            action_to(Party::Pass, Port::Server, true, step)
         }
     }
 }
@@ -234,7 +234,7 @@ fn hand_from_server<P: PeerMethod, S: ServerMethod>(
         Mode::Alone => Action::Skipped(Skip::NoParty),
         Mode::Through => {
             let step = machines.pass.from_backend(octets, packet);
-            does_at(Party::Pass, Port::Peer, true, step)
+            action_to(Party::Pass, Port::Peer, true, step)
         }
     }
 }
@@ -398,7 +398,7 @@ fn end_server_timer<P: PeerMethod, S: ServerMethod>(
         Mode::Alone => {
             tags.clear();
             let step = machines.server.timeout(packet);
-            does_at(Party::Server, Port::Peer, false, step)
+            action_to(Party::Server, Port::Peer, false, step)
         }
     }
 }
@@ -418,7 +418,7 @@ fn end_pass_timer<P: PeerMethod, S: ServerMethod>(
         None => {
             tags.clear();
             let step = machines.pass.timeout(packet);
-            does_at(Party::Pass, Port::Peer, false, step)
+            action_to(Party::Pass, Port::Peer, false, step)
         }
     }
 }
@@ -439,7 +439,7 @@ fn lose_server<P: PeerMethod, S: ServerMethod>(
         Some(skip) => Action::Skipped(skip),
         None => {
             let step = machines.pass.aaa_timeout();
-            does_at(Party::Pass, Port::Peer, false, step)
+            action_to(Party::Pass, Port::Peer, false, step)
         }
     }
 }
@@ -460,7 +460,7 @@ fn ask_nothing<P: PeerMethod, S: ServerMethod>(
         Some(skip) => Action::Skipped(skip),
         None => {
             let step = machines.pass.aaa_noreq();
-            does_at(Party::Pass, Port::Peer, false, step)
+            action_to(Party::Pass, Port::Peer, false, step)
         }
     }
 }
@@ -501,9 +501,9 @@ fn report<P: PeerMethod, S: ServerMethod>(
     }
     let mode = machines.mode;
     match event {
-        Event::Idle => does(mode, Party::Peer, false, machines.peer.idle()),
-        Event::AltAccept => does(mode, Party::Peer, false, machines.peer.alt_accept()),
-        Event::AltReject => does(mode, Party::Peer, false, machines.peer.alt_reject()),
+        Event::Idle => action_of(mode, Party::Peer, false, machines.peer.idle()),
+        Event::AltAccept => action_of(mode, Party::Peer, false, machines.peer.alt_accept()),
+        Event::AltReject => action_of(mode, Party::Peer, false, machines.peer.alt_reject()),
         _ => Action::Skipped(Skip::NoParty),
     }
 }

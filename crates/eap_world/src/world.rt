@@ -157,7 +157,7 @@ impl<P: PeerMethod, S: ServerMethod> World<P, S> {
         ensures kept { KeepsObjects P.peer_shown S.server_shown self.old self.new }
         ensures names { NamesAlike self.old self.new }
     {
-        self.begin()
+        self.start_by_table()
     }
 
     /// The next event, numbered from 1. A delivery hands octets to the peer (RFC 4137 section 4), the server
@@ -180,12 +180,12 @@ impl<P: PeerMethod, S: ServerMethod> World<P, S> {
         ensures kept { KeepsObjects P.peer_shown S.server_shown self.old self.new }
         ensures names { NamesAlike self.old self.new }
     {
-        self.take(event)
+        self.step_by_table(event)
     }
 
-    /// The start.
+    /// The start, as the world's table says.
     #[tactic(auto, unfolding(crate::specs::World::world_start))]
-    fn begin(&mut self) -> Result<Told, Memory>
+    fn start_by_table(&mut self) -> Result<Told, Memory>
         requires { self.old.started ≡ false }
         ensures told { MatchResult result
             (λ told. Tells P.peer_shown S.server_shown (world_start (now_of P.peer_shown S.server_shown self.old)) told self.new)
@@ -210,9 +210,9 @@ impl<P: PeerMethod, S: ServerMethod> World<P, S> {
         ))
     }
 
-    /// An event.
+    /// An event, as the world's table says.
     #[tactic(auto, unfolding(crate::specs::World::world_step))]
-    fn take(&mut self, event: &Event) -> Result<Told, Memory>
+    fn step_by_table(&mut self, event: &Event) -> Result<Told, Memory>
         requires started { self.old.started ≡ true }
         requires room { self.old.counts.events < 1000000 }
         ensures told { MatchResult result
@@ -363,12 +363,12 @@ impl<P: PeerMethod, S: ServerMethod> World<P, S> {
         ensures theirs { (setup : Setup) (events : List Event) → IsWhole setup → now_of P.peer_shown S.server_shown self.now ≡ run_of setup events
             → tags_verdict_either self.now.book ≡ Honest → result ≡ Agree → AreTheirs setup (now_of P.peer_shown S.server_shown self.now) }
     {
-        self.verdict()
+        self.verdict_by_table()
     }
 
     /// Whether both ends agree.
     #[tactic(auto, unfolding(crate::specs::Judgement::verdict_of))]
-    fn verdict(&self) -> Verdict
+    fn verdict_by_table(&self) -> Verdict
         ensures { result ≡ verdict_of (now_of P.peer_shown S.server_shown self.now) }
     {
         if self.machines.peer.state() == State::Success
@@ -452,13 +452,13 @@ fn keep<P: PeerMethod, S: ServerMethod>(
     let number = next_number(sent.len());
     keep_sent(sent, &action, packet);
     keep_tags(book, event, &action, tags);
-    let named = name(machines, *held, &action);
+    let named = report_to_tell(machines, *held, &action);
     *held = with_named(*held, &named);
     tell(event, number, named, action)
 }
 
 /// The report that the party which acted is the first time seen to hold.
-fn name<P: PeerMethod, S: ServerMethod>(
+fn report_to_tell<P: PeerMethod, S: ServerMethod>(
     machines: &Machines<P, S>,
     held: Held,
     action: &Action,

@@ -6,11 +6,11 @@ use Rattle.eap_world.proofs.world.World.start.Goals as goal
 pub returns-clause-run : goal.returns-clause-run
 returns-clause-run g c =
     run_begins (now_of g.P.PeerMethod.peer_shown g.S.ServerMethod.server_shown c.args.self.now)
-    (now_of g.P.PeerMethod.peer_shown g.S.ServerMethod.server_shown c.begin.new.self) (c.begin.new.self ≡ c.args.self.now) c.begin.result
-    c.begin.ensures.told
+    (now_of g.P.PeerMethod.peer_shown g.S.ServerMethod.server_shown c.start_by_table.new.self) (c.start_by_table.new.self ≡ c.args.self.now) c.start_by_table.result
+    c.start_by_table.ensures.told
 
 pub returns-clause-few : goal.returns-clause-few
 returns-clause-few g c =
     begins_small (now_of g.P.PeerMethod.peer_shown g.S.ServerMethod.server_shown c.args.self.now)
-    (now_of g.P.PeerMethod.peer_shown g.S.ServerMethod.server_shown c.begin.new.self) (c.begin.new.self ≡ c.args.self.now) c.begin.result
+    (now_of g.P.PeerMethod.peer_shown g.S.ServerMethod.server_shown c.start_by_table.new.self) (c.start_by_table.new.self ≡ c.args.self.now) c.start_by_table.result
     (returns-clause-run g c)

@@ -1,7 +1,7 @@
 use Rattle.std.proofs.Common.{rules, ◌≡◌, false, ap, ◌∙◌}
 use Rattle.eap_world.specs.World.{WorldValue}
 use Rattle.eap_world.proofs.Serving.{start_serves}
-use Rattle.eap_world.proofs.world.World.begin.Goals as goal
+use Rattle.eap_world.proofs.world.World.start_by_table.Goals as goal
 
 pub invariant_of-self-2 : goal.invariant_of-self-2
 invariant_of-self-2 g c =
