@@ -3,7 +3,7 @@ use Rattle.std.proofs.Common.{ℕ, List, ap₂}
 use Rattle.eap_method.specs.Peer.{PeerShown}
 use Rattle.eap_method.specs.Server.{ServerShown}
 use Rattle.eap_world.specs.World.{KeepObjects}
-use Rattle.bulk_run.specs.Kinds.{Kinds, HaveSameKinds}
+use Rattle.bulk_run.specs.Kinds.{HaveSameKinds}
 
 pub same_kinds : {P S : Type 0} (peer_shown : P → PeerShown) (server_shown : S → ServerShown) (peer_named server_named : List ℕ)
     (peer : List P) (server : List S) (peer_after : List P) (server_after : List S)

@@ -1,6 +1,6 @@
 -- What each party sent last is the last packet to the port where its packets go.
 use Rattle.std.proofs.Common.{◌≡◌, ℕ, List, [], ◌∷◌, ◌++◌, Bool, true, false, Option, Some, None, refl, sym, ap, subst, ◌∙◌, append-nil}
-use Rattle.std.specs.Prelude.{◌&&◌, if◌then◌else◌, not}
+use Rattle.std.specs.Prelude.{if◌then◌else◌}
 use Rattle.std.proofs.lemmas.Bool.{cond-true, cond-false, false≢true}
 use Rattle.eap_base.specs.declared.setup.Mode.{Mode}
 use Rattle.eap_base.specs.declared.setup.Mode.TheVariants as mode

@@ -1,10 +1,10 @@
 -- What the peer sends: a Response to what came, new or as it was sent before.
-use Rattle.std.proofs.Common.{◌≡◌, ℕ, List, [], ◌∷◌, ◌++◌, Bool, true, false, Option, Some, None, Result, Ok, Err, refl, sym, ap, subst, ◌∙◌}
+use Rattle.std.proofs.Common.{◌≡◌, ℕ, List, ◌++◌, Bool, true, false, Option, Some, None, Ok, refl, sym, ap, subst, ◌∙◌}
 use Rattle.std.specs.Prelude.{◌==◌}
 use Rattle.std.specs.List.{list_any}
 use Rattle.std.proofs.lemmas.Bool.{cond_both, eqb-true}
 use Rattle.eap_base.specs.Setup.{psk_kind, gpsk_kind}
-use Rattle.eap_packet.specs.Fault.{code_of, fault, fields_of, packet_of, packet_unless, type_of}
+use Rattle.eap_packet.specs.Fault.{code_of, fault, fields_of, packet_of, packet_unless}
 use Rattle.eap_packet.specs.Packet.{PacketValue, request, response, success, failure, spelled}
 use Rattle.eap_packet.specs.declared.cause.Cause.{Cause}
 use Rattle.eap_packet.specs.declared.state.State.{State}

@@ -1,5 +1,5 @@
 -- What the server sends: a Request with the next Identifier, the last one again, or its end.
-use Rattle.std.proofs.Common.{◌≡◌, ℕ, ◌+◌, List, [], ◌∷◌, ◌++◌, Bool, true, false, Option, Some, None, refl, sym, ap, subst, ◌∙◌}
+use Rattle.std.proofs.Common.{◌≡◌, ℕ, ◌+◌, List, ◌++◌, Bool, true, false, Option, Some, None, refl, sym, ap, subst, ◌∙◌}
 use Rattle.std.specs.Prelude.{◌==◌, ◌%◌, not}
 use Rattle.std.specs.List.{list_any}
 use Rattle.std.proofs.lemmas.Bool.{and_parts, cond_both, false≢true}
@@ -23,7 +23,7 @@ use Rattle.method_laws.specs.GpskServerRows as gpsk_row
 use Rattle.method_laws.specs.PskServerRows as psk_row
 use Rattle.method_laws.proofs.GpskServerCases.{gpsk_server_steps_are_rows}
 use Rattle.method_laws.proofs.PskServerCases.{psk_server_steps_are_rows}
-use Rattle.server_machine.specs.Inputs.{ServerInput, start, timeout, octets, server_takes}
+use Rattle.server_machine.specs.Inputs.{ServerInput, start, timeout, server_takes}
 use Rattle.server_machine.specs.Rows as rows
 use Rattle.server_machine.specs.Rows.{Selects, after_identity, after_nak, first_identity, first_nak, first_other}
 use Rattle.server_machine.specs.ServerTable.{ServerNow, ServerAnswer, is_started, is_backend, awaits_first, next_id, next_id_after, server_start}

@@ -1,8 +1,8 @@
 -- Each step of a run is lawful.
-use Rattle.std.proofs.Common.{◌≡◌, ◌≤◌, ℕ, ◌+◌, List, [], ◌∷◌, ◌++◌, length, take, Bool, true, false, Option, Some, None, refl, sym, ap, subst, ◌∙◌, arith, append-nil}
-use Rattle.std.specs.Prelude.{◌==◌, ◌&&◌, ◌%◌, not, if◌then◌else◌}
+use Rattle.std.proofs.Common.{◌≡◌, ◌≤◌, ℕ, ◌+◌, List, [], ◌∷◌, ◌++◌, length, Bool, true, false, Option, Some, None, refl, sym, ap, subst, ◌∙◌, arith, append-nil}
+use Rattle.std.specs.Prelude.{◌%◌, not}
 use Rattle.std.specs.List.{list_any}
-use Rattle.std.proofs.lemmas.Bool.{cases_Bool, false≢true}
+use Rattle.std.proofs.lemmas.Bool.{false≢true}
 use Rattle.eap_base.specs.declared.event.Event.{Event}
 use Rattle.eap_base.specs.declared.event.Event.TheVariants as event
 use Rattle.eap_base.specs.declared.setup.Mode.{Mode}
@@ -24,7 +24,7 @@ use Rattle.peer_machine.specs.Inputs as peer_inputs
 use Rattle.peer_machine.specs.Inputs.{PeerInput, peer_takes}
 use Rattle.server_machine.specs.Inputs as server_inputs
 use Rattle.server_machine.specs.Inputs.{ServerInput, server_takes}
-use Rattle.server_machine.specs.ServerTable.{ServerNow, ServerAnswer, is_started, is_backend, server_start}
+use Rattle.server_machine.specs.ServerTable.{ServerNow, ServerAnswer, is_started, server_start}
 use Rattle.server_machine.specs.Rows as rows
 use Rattle.server_machine.specs.declared.variables.Role.{Role}
 use Rattle.server_machine.specs.declared.variables.Role.TheVariants as role
@@ -33,15 +33,12 @@ use Rattle.server_machine.proofs.ServerRows.{server_answers_are_rows}
 use Rattle.pass_through.specs.Inputs as pass_inputs
 use Rattle.pass_through.specs.Inputs.{PassInput, pass_takes}
 use Rattle.pass_through.specs.PassTable.{PassStep, is_over}
-use Rattle.pass_through.specs.declared.variables.PassVariables.{PassVariables}
 use Rattle.eap_world.specs.Agreement.{run_of}
 use Rattle.eap_world.specs.Judgement.{is_success}
-use Rattle.eap_world.specs.PeerStands as peers
 use Rattle.eap_world.specs.Records.{tags_by}
 use Rattle.eap_world.specs.Sent.{Sent, last_to, packet_numbered}
-use Rattle.eap_world.specs.ServerStands as servers
-use Rattle.eap_world.specs.SingleSteps.{identifier_of, handed_in, is_timer, Sends, AnswersIt, is_again, CountsOn, has_ended, end_state, IsLawful, StepsAreLawful}
-use Rattle.eap_world.specs.World.{Acted, Call, Parties, Skipped, WorldNow, WorldOutcome, act, altered, call_at, call_of, call_with, called, called_unless, counted, first_skip, goes_to, is_alone, octets_of, pass_port, pass_sent, pass_state, role_in, run_after, sent_to, skip_table, skipped, start_call, state_of, timer_call, timer_skips, to_pass, to_peer, to_server, told_of, world_acted, world_made, world_outcome, world_start, world_step}
+use Rattle.eap_world.specs.SingleSteps.{identifier_of, handed_in, is_timer, Sends, AnswersIt, is_again, CountsOn, has_ended, end_state, StepsAreLawful}
+use Rattle.eap_world.specs.World.{Call, Parties, WorldNow, WorldOutcome, act, call_at, call_of, call_with, called, called_unless, first_skip, goes_to, is_alone, pass_port, pass_sent, pass_state, role_in, run_after, sent_to, skip_table, skipped, start_call, state_of, timer_call, timer_skips, to_pass, to_peer, to_server, world_made, world_start, world_step}
 use Rattle.eap_world.specs.declared.book.End.{End}
 use Rattle.eap_world.specs.declared.book.End.TheVariants as end
 use Rattle.eap_world.specs.declared.book.Entry.{Entry}
@@ -53,7 +50,7 @@ use Rattle.eap_world.proofs.EndsStand.{run_stands}
 use Rattle.eap_world.proofs.HonestRuns.{every_run_stands}
 use Rattle.eap_world.proofs.OneMethod.{some_same}
 use Rattle.eap_world.proofs.SucceedingEnds.{PeerSucceeds, ServerSucceeds, of_gpsk, of_psk, peer_succeeds, server_succeeds, with_gpsk, with_psk}
-use Rattle.eap_world.proofs.LastSent.{Fits, HaveSaid, PeerSaid, ServerSaid, call_says}
+use Rattle.eap_world.proofs.LastSent.{Fits, HaveSaid, call_says}
 use Rattle.eap_world.proofs.PassSpeaks as passing
 use Rattle.eap_world.proofs.PassSpeaks.{PassSpeaks, pass_speaks}
 use Rattle.eap_world.proofs.PeerSpeaks as peering

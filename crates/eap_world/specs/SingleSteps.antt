@@ -1,6 +1,6 @@
 -- Laws on single steps of a run. They speak of octets, of packets sent, of the book, of paths and of states alone,
 -- and of no other variable, so that they check the tables of RFC 4137 from outside.
-use Rattle.std.specs.Prelude.{◌≡◌, ◌≤◌, ℕ, ◌+◌, ◌%◌, List, [], ◌∷◌, ◌++◌, length, take, Bool, true, false, Option, Some, slice_index}
+use Rattle.std.specs.Prelude.{◌≡◌, ◌≤◌, ℕ, ◌+◌, ◌%◌, List, [], ◌∷◌, ◌++◌, length, take, Bool, true, false, Some, slice_index}
 use Rattle.std.specs.List.{list_any}
 use Rattle.eap_base.specs.declared.event.Event.{Event}
 use Rattle.eap_base.specs.declared.event.Event.TheVariants as event

@@ -14,7 +14,7 @@ use Rattle.eap_method.specs.declared.values.Credential.{Credential}
 use Rattle.eap_method.specs.GpskTags.{same_suite}
 use Rattle.eap_base.specs.Setup.{accepts_name}
 use Rattle.eap_method.specs.Turns.{id_of, body_of, fault_if}
-use Rattle.eap_method.specs.GpskPeer.{Login, View, unset, fresh, wait, over, picks, hears_gpsk1, fresh_reads, repeats, is_tagged_by, wait_reads, over_reads, step}
+use Rattle.eap_method.specs.GpskPeer.{Login, unset, fresh, wait, over, picks, hears_gpsk1, fresh_reads, repeats, is_tagged_by, wait_reads, over_reads, step}
 use Rattle.eap_method.specs.GpskPeer as peer
 use Rattle.method_laws.specs.GpskPeerRows.{GpskPeerRow, drops, answers, confirms, repeats_fail, repeats_protected, GpskPeerStepsAreRows}
 use Rattle.method_laws.proofs.Tests.{of_not, equal_octets, equal_suites}

@@ -11,7 +11,7 @@ use Rattle.eap_method.specs.declared.values.Credential.{Credential}
 use Rattle.eap_base.specs.Setup.{accepts_name}
 use Rattle.eap_method.specs.PskTags.{header_of, is_sealed, result_of, is_extended, done_success}
 use Rattle.eap_method.specs.Turns.{id_of, body_of}
-use Rattle.eap_method.specs.PskPeer.{Login, View, unset, fresh, wait, over, keys_of, mac_s_of, psk3_records, psk3_fault, hears_psk1, fresh_reads, are_right, wait_reads, over_reads, step}
+use Rattle.eap_method.specs.PskPeer.{Login, unset, fresh, wait, over, keys_of, mac_s_of, psk3_records, psk3_fault, hears_psk1, fresh_reads, are_right, wait_reads, over_reads, step}
 use Rattle.eap_method.specs.PskPeer as peer
 use Rattle.method_laws.specs.PskPeerRows.{PskPeerRow, drops, answers, confirms_success, confirms_failure, opened_by, PskPeerStepsAreRows}
 use Rattle.method_laws.proofs.Tests.{of_not, equal_octets, equal_tags, failure_left}

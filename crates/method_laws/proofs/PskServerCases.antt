@@ -13,7 +13,7 @@ use Rattle.psk_messages.specs.Reading.{read_of}
 use Rattle.eap_method.specs.declared.values.ServerSide.{ServerSide}
 use Rattle.eap_method.specs.PskTags.{header_of, is_sealed, tek_record, result_of, is_extended, done_success, rand_of}
 use Rattle.eap_method.specs.Turns.{body_of, done}
-use Rattle.eap_method.specs.PskServer.{Login, View, unset, begun, asked, checked, refused, over, keys_of, rand_s_of, mac_p_of, finds, hears_psk2, asked_reads, psk4_fault, both_succeed, checked_reads, idle_reads, step}
+use Rattle.eap_method.specs.PskServer.{Login, View, unset, begun, asked, checked, refused, over, keys_of, rand_s_of, mac_p_of, finds, asked_reads, psk4_fault, both_succeed, checked_reads, idle_reads, step}
 use Rattle.eap_method.specs.PskServer as server
 use Rattle.method_laws.specs.PskServerRows.{PskServerRow, drops, refuses, answers, ends_success, ends_failure, login_from, opened_by, PskServerStepsAreRows}
 use Rattle.method_laws.proofs.Tests.{of_not, equal_octets, equal_tags, failure_left}

@@ -6,7 +6,7 @@ use Rattle.eap_packet.specs.declared.state.State.{State}
 use Rattle.eap_packet.specs.Packet.{PacketValue, request, response, success, failure}
 use Rattle.eap_packet.specs.Fault.{packet_of}
 use Rattle.pass_through.specs.Inputs as input
-use Rattle.pass_through.specs.Inputs.{PassInput, pass_takes, pass_rests}
+use Rattle.pass_through.specs.Inputs.{PassInput, pass_takes}
 use Rattle.pass_through.specs.Laws.{DiscardsKeep, SendsWhatCame, KeepsThePassThrough, Carries, KeepsTheLast, nothing, own, again, onwards, back, unsent, kept, ended}
 use Rattle.pass_through.specs.PassTable.{PassAnswer, answer, asks, passes_on, rests, discards, unpadded, is_started, has_timer, is_over, is_idle, is_idle2, is_aaa_idle, is_awaited, identity, idle_row, idle2_row, aaa_row, resends, pass_start, pass_timeout, pass_aaa_timeout, pass_aaa_noreq, pass_from_peer, pass_from_backend}
 use Rattle.pass_through.specs.declared.variables.PassVariables.{PassVariables}

@@ -30,7 +30,7 @@ use Rattle.smooth_laws.proofs.PassSide.{pass_at}
 use Rattle.smooth_laws.proofs.PeerSide as peers
 use Rattle.smooth_laws.proofs.PeerSide.{peer_unbound}
 use Rattle.smooth_laws.proofs.ServerSide as servers
-use Rattle.smooth_laws.proofs.ServerSide.{Made, IsOffer, after_id, server_at, backend}
+use Rattle.smooth_laws.proofs.ServerSide.{Made, IsOffer, after_id, server_at}
 use Rattle.smooth_laws.proofs.Talk.{IsMethod, asks_read}
 
 -- the setup in a mode, and its server
