@@ -2,15 +2,16 @@
 
 ghost use Rattle.scenario_text.specs.Valid.{IsValidSetup};
 
+pub(crate) use command_driver::Status;
 use eap_base::{MemSink, MemSource, Setup};
 use eap_method::{PeerMethod, ServerMethod};
 use eap_world::{Methods, World};
 use gpsk_ends::{GpskPeer, GpskServer};
-pub(crate) use login_call::Status;
-use login_call::{both_peers, both_servers, eap_login, world_of};
+use login_call::eap_login;
 use psk_ends::{PskPeer, PskServer};
 use std::alloc::Global;
 use std::io;
+use world_commands::{both_peers, both_servers, world_of};
 
 /// A world over boxed objects.
 pub(crate) type BoxedWorld = World<Box<dyn PeerMethod>, Box<dyn ServerMethod>>;

@@ -1,19 +1,52 @@
 -- Where neither a read nor a write failed, the status is the answer's, or memory was wanting.
-use Rattle.std.proofs.Common.{◌≡◌, ℕ, List, Option, true, refl, subst}
-use Rattle.login_call.specs.Answers.{Ends}
-use Rattle.login_call.specs.Login.{login_answer, takes_memory, reads_scenario, HasSetup, Completes, answered, lacked}
-use Rattle.login_call.specs.declared.status.Status.{Status}
-use Rattle.login_call.specs.declared.status.Status.TheVariants as status
+use Rattle.std.proofs.Common.{◌≡◌, ℕ, List, Option, Some, refl, subst}
+use Rattle.command_driver.specs.Answers.{Ends, HasRisen}
+use Rattle.login_call.specs.Login.{asked_by, login_answer, Completes, answered, lacked}
+use Rattle.command_driver.specs.Responding.{Asked, MayLack, reading, unread, answer_to, lacking_of, Responds}
+use Rattle.command_driver.specs.declared.status.Status.{Status}
+use Rattle.command_driver.specs.declared.status.Status.TheVariants as status
 
-pub completes : (s : Status) (before now : Option (List ℕ)) (words : List (List ℕ)) (octets : List ℕ) {R W : Type 0}
+completes_with : (s : Status) (before now : Option (List ℕ)) (words : List (List ℕ)) (octets : List ℕ) {R W : Type 0}
     → Ends s before now (login_answer words octets) → (s ≡ status.ReadFault → R) → (s ≡ status.WriteFault → W)
-    → (s ≡ status.Memory → takes_memory words ≡ true) → (s ≡ status.Memory → reads_scenario words ≡ true → HasSetup octets)
+    → (s ≡ status.Memory → MayLack (lacking_of (asked_by words)) (Some octets))
     → (R → ⊥) → (W → ⊥) → Completes words octets s
-completes status.Done before now words octets e r w m n no_read no_write = subst (Completes words octets) e.status answered
-completes status.Usage before now words octets e r w m n no_read no_write = subst (Completes words octets) e.status answered
-completes status.Refused before now words octets e r w m n no_read no_write = subst (Completes words octets) e.status answered
-completes status.ReadFault before now words octets e r w m n no_read no_write = absurd (no_read (r refl))
-completes status.WriteFault before now words octets e r w m n no_read no_write = absurd (no_write (w refl))
-completes status.Memory before now words octets e r w m n no_read no_write = lacked (m refl) (n refl)
-completes status.TooMuch before now words octets e r w m n no_read no_write = subst (Completes words octets) e.status answered
-completes status.Findings before now words octets e r w m n no_read no_write = subst (Completes words octets) e.status answered
+completes_with status.Done before now words octets e r w m no_read no_write = subst (Completes words octets) e.status answered
+completes_with status.Usage before now words octets e r w m no_read no_write = subst (Completes words octets) e.status answered
+completes_with status.Refused before now words octets e r w m no_read no_write = subst (Completes words octets) e.status answered
+completes_with status.ReadFault before now words octets e r w m no_read no_write = absurd (no_read (r refl))
+completes_with status.WriteFault before now words octets e r w m no_read no_write = absurd (no_write (w refl))
+completes_with status.Memory before now words octets e r w m no_read no_write = lacked (m refl)
+completes_with status.TooMuch before now words octets e r w m no_read no_write = subst (Completes words octets) e.status answered
+completes_with status.Findings before now words octets e r w m no_read no_write = subst (Completes words octets) e.status answered
+
+module _ {S W : Type 0} (left : S → Option (List ℕ)) (read_faults : S → ℕ) (last_read_fault : Option ℕ)
+    (written : W → Option (List ℕ)) (write_faults : W → ℕ) (last_write_fault : Option ℕ) (s : Status) (before now : S) (old new : W) where
+  -- what the record says of the answer, of faults and of memory
+  pub ends_of : (asked : Asked) (octets : List ℕ) → left before ≡ Some octets
+      → Responds left read_faults last_read_fault written write_faults last_write_fault asked s before now old new
+      → Ends s (written old) (written new) (answer_to asked octets)
+  ends_of (reading answer lacking) octets e r = r.ends octets e
+  ends_of (unread a lacking) octets e r = r.says.ends
+
+  read_fault_of : (asked : Asked) → Responds left read_faults last_read_fault written write_faults last_write_fault asked s before now old new
+      → s ≡ status.ReadFault → HasRisen last_read_fault (read_faults before) (read_faults now)
+  read_fault_of (reading answer lacking) r = r.read_fault
+  read_fault_of (unread a lacking) r = λ w. absurd (r.says.no_read_fault w)
+
+  write_fault_of : (asked : Asked) → Responds left read_faults last_read_fault written write_faults last_write_fault asked s before now old new
+      → s ≡ status.WriteFault → HasRisen last_write_fault (write_faults old) (write_faults new)
+  write_fault_of (reading answer lacking) r = r.write_fault
+  write_fault_of (unread a lacking) r = r.says.write_fault
+
+  memory_of : (asked : Asked) → Responds left read_faults last_read_fault written write_faults last_write_fault asked s before now old new
+      → s ≡ status.Memory → MayLack (lacking_of asked) (left before)
+  memory_of (reading answer lacking) r = r.memory
+  memory_of (unread a lacking) r = λ w. r.says.memory w _
+
+  pub completes : (words : List (List ℕ)) (octets : List ℕ) → left before ≡ Some octets
+      → Responds left read_faults last_read_fault written write_faults last_write_fault (asked_by words) s before now old new
+      → (HasRisen last_read_fault (read_faults before) (read_faults now) → ⊥)
+      → (HasRisen last_write_fault (write_faults old) (write_faults new) → ⊥) → Completes words octets s
+  completes words octets e r no_read no_write =
+      completes_with s (written old) (written new) words octets (ends_of (asked_by words) octets e r) (read_fault_of (asked_by words) r)
+      (write_fault_of (asked_by words) r) (λ m. subst (MayLack (lacking_of (asked_by words))) e (memory_of (asked_by words) r m)) no_read no_write

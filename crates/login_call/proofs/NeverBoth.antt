@@ -38,27 +38,28 @@ use Rattle.trace_text.proofs.PlainFindings.{finding_plain, findings_plain}
 use Rattle.trace_text.proofs.PlainTexts.{begins_verdict, no_verdict, told_plain, start_plain}
 use Rattle.trace_text.proofs.Scanning.{has_mark, found}
 use Rattle.trace_text.proofs.Verdicts.{honest_line, apart_line, end_tells_honest, end_tells_apart}
-use Rattle.login_call.specs.Answers.{Answer, after_text, IsRefusal, Ends, Gives}
-use Rattle.login_call.specs.Commands.{Took, Closing, Ruling, goes, refuses, Closed, ends, misses, after_ruling, closing_answer, answer}
-use Rattle.login_call.specs.Decode.{took_packet, decode_took, decode_closing, nothing_decoded, decode_answer}
-use Rattle.login_call.specs.Keys.{Asking, took_request, keys_took, keys_closing, all_asked, keys_answer}
-use Rattle.login_call.specs.Check.{CheckNow, item_took, line_took, check_took, check_end, check_closing, nothing_checked, check_answer}
-use Rattle.login_call.specs.Bulk.{bulk_of, bulk_line, verdicts_text, handled_text, bulk_text, bulk_answer}
-use Rattle.login_call.specs.Login.{usage_answer, unread_answer, argued_answer}
-use Rattle.login_call.specs.declared.bulk.Bulk.{Bulk}
-use Rattle.login_call.specs.Pcap.{pcap_users, pcap_answer}
-use Rattle.login_call.specs.Radius.{radius_answer}
-use Rattle.login_call.specs.declared.decode.Decode.{Decode}
-use Rattle.login_call.specs.Headline.{NeverBoth, WritesNeverBoth}
-use Rattle.login_call.specs.Scenario.{Outcome, whole, refused, Scenario, stops, adds, is_event, with_line, events_after, read_after, scenario_from, scenario_of, too_much_at, finish_outcome, events_text, setup_answer, trace_header, replay_answer}
-use Rattle.login_call.specs.Replay.{max_events}
-use Rattle.login_call.specs.declared.status.Status.{Status}
-use Rattle.login_call.specs.declared.status.Status.TheVariants as status
-use Rattle.login_call.proofs.Checking.{IsOrderly, took_alike, begins_orderly}
-use Rattle.login_call.proofs.Headline.{headline}
-use Rattle.login_call.proofs.PcapUsers.{HaveNames, pcap_names}
-use Rattle.login_call.proofs.PcapPlain.{pcap_quiet}
-use Rattle.login_call.proofs.RadiusPlain.{begins_tags, IsQuiet, radius_quiet}
+use Rattle.command_driver.specs.Answers.{Answer, after_text, IsRefusal, Ends, Gives}
+use Rattle.command_driver.specs.Commands.{Took, Closing, Ruling, goes, refuses, Closed, ends, misses, after_ruling, closing_answer, answer}
+use Rattle.packet_commands.specs.Decode.{took_packet, decode_took, decode_closing, nothing_decoded, decode_answer}
+use Rattle.packet_commands.specs.Keys.{Asking, took_request, keys_took, keys_closing, all_asked, keys_answer}
+use Rattle.capture_commands.specs.Check.{CheckNow, item_took, line_took, check_took, check_end, check_closing, nothing_checked, check_answer}
+use Rattle.world_commands.specs.Bulk.{bulk_of, bulk_line, verdicts_text, handled_text, bulk_text, bulk_answer}
+use Rattle.login_call.specs.Login.{usage_answer, unread_answer, asked_with, login_answer, is_replay, is_replay_names, is_decode, is_keys, is_check, is_radius}
+use Rattle.command_driver.specs.Responding.{Asked, answer_to}
+use Rattle.world_commands.specs.declared.bulk.Bulk.{Bulk}
+use Rattle.capture_commands.specs.Pcap.{pcap_users, pcap_answer}
+use Rattle.capture_commands.specs.Radius.{radius_answer}
+use Rattle.packet_commands.specs.declared.decode.Decode.{Decode}
+use Rattle.world_commands.specs.Headline.{NeverBoth, WritesNeverBoth}
+use Rattle.world_commands.specs.Scenario.{Outcome, whole, refused, Scenario, stops, adds, is_event, with_line, events_after, read_after, scenario_from, scenario_of, too_much_at, finish_outcome, events_text, setup_answer, trace_header, replay_answer}
+use Rattle.world_commands.specs.Replay.{max_events}
+use Rattle.command_driver.specs.declared.status.Status.{Status}
+use Rattle.command_driver.specs.declared.status.Status.TheVariants as status
+use Rattle.capture_commands.proofs.Checking.{IsOrderly, took_alike, begins_orderly}
+use Rattle.world_commands.proofs.Headline.{headline}
+use Rattle.capture_commands.proofs.PcapUsers.{HaveNames, pcap_names}
+use Rattle.capture_commands.proofs.PcapPlain.{pcap_quiet}
+use Rattle.capture_commands.proofs.RadiusPlain.{begins_tags, IsQuiet, radius_quiet}
 
 -- an answer with status 0 has not both lines
 record Never (a : Answer) : Type 0 where
@@ -360,30 +361,28 @@ given a before now never gives old text p q =
 written : (a : Answer) (s : Status) (before now : Option (List ℕ)) → Never a → Ends s before now a → WritesNeverBoth s before now
 written a s before now never h = record { holds = λ done. given a before now never (subst (λ (x : Status). Ends x before now a) done h) }
 
-module _ (s : Status) (before now : Option (List ℕ)) where
-  pub replay_writes : (names : Bool) (octets : List ℕ) → Ends s before now (replay_answer names octets) → WritesNeverBoth s before now
-  replay_writes names octets = written (replay_answer names octets) s before now (never_replay names octets)
+never_unread : (asked : Option Bulk) → Never (unread_answer asked)
+never_unread None = never_usage
+never_unread (Some b) = never_bulk b
 
-  pub decode_writes : (octets : List ℕ) → Ends s before now (decode_answer octets) → WritesNeverBoth s before now
-  decode_writes octets = written (decode_answer octets) s before now (never_decode octets)
+never_with : (users : Option (List User)) (asked : Option Bulk) (octets : List ℕ) → ((named : List User) → users ≡ Some named → HaveNames named)
+    → Never (answer_to (asked_with users asked) octets)
+never_with None asked octets h = never_unread asked
+never_with (Some users) asked octets h = never_pcap users octets (h users refl)
 
-  pub keys_writes : (octets : List ℕ) → Ends s before now (keys_answer octets) → WritesNeverBoth s before now
-  keys_writes octets = written (keys_answer octets) s before now (never_keys octets)
+-- one of two things asked
+either : (b : Bool) (asked other : Asked) (octets : List ℕ) → Never (answer_to asked octets) → Never (answer_to other octets)
+    → Never (answer_to (if b then asked else other) octets)
+either true asked other octets one two = one
+either false asked other octets one two = two
 
-  pub check_writes : (octets : List ℕ) → Ends s before now (check_answer octets) → WritesNeverBoth s before now
-  check_writes octets = written (check_answer octets) s before now (never_check octets)
+never_login : (words : List (List ℕ)) (octets : List ℕ) → Never (login_answer words octets)
+never_login words octets =
+    either (is_replay words) _ _ octets (never_replay false octets) (either (is_replay_names words) _ _ octets (never_replay true octets)
+    (either (is_decode words) _ _ octets (never_decode octets) (either (is_keys words) _ _ octets (never_keys octets)
+    (either (is_check words) _ _ octets (never_check octets) (either (is_radius words) _ _ octets (never_radius octets)
+    (never_with (pcap_users words) (bulk_of words) octets (pcap_names words)))))))
 
-  pub radius_writes : (octets : List ℕ) → Ends s before now (radius_answer octets) → WritesNeverBoth s before now
-  radius_writes octets = written (radius_answer octets) s before now (never_radius octets)
-
-  unread_writes : (asked : Option Bulk) → Ends s before now (unread_answer asked) → WritesNeverBoth s before now
-  unread_writes None = written usage_answer s before now never_usage
-  unread_writes (Some b) = written (bulk_answer b) s before now (never_bulk b)
-
-  argued_writes_by : (users : Option (List User)) (asked : Option Bulk) (octets : List ℕ) → ((named : List User) → users ≡ Some named → HaveNames named)
-      → Ends s before now (argued_answer users asked octets) → WritesNeverBoth s before now
-  argued_writes_by None asked octets h = unread_writes asked
-  argued_writes_by (Some users) asked octets h = written (pcap_answer users octets) s before now (never_pcap users octets (h users refl))
-
-  pub argued_writes : (words : List (List ℕ)) (octets : List ℕ) → Ends s before now (argued_answer (pcap_users words) (bulk_of words) octets) → WritesNeverBoth s before now
-  argued_writes words octets = argued_writes_by (pcap_users words) (bulk_of words) octets (pcap_names words)
+pub writes_never_both : (s : Status) (before now : Option (List ℕ)) (words : List (List ℕ)) (octets : List ℕ)
+    → Ends s before now (login_answer words octets) → WritesNeverBoth s before now
+writes_never_both s before now words octets = written (login_answer words octets) s before now (never_login words octets)

@@ -1,17 +1,1 @@
-pub mod Answers
-pub mod Bulk
-pub mod Check
-pub mod CheckSteps
-pub mod Commands
-pub mod Decode
-pub mod Keys
 pub mod Login
-pub mod Pcap
-pub mod PcapSteps
-pub mod Radius
-pub mod Replay
-pub mod Scenario
-pub mod Statuses
-pub mod Whole
-pub mod Headline
-pub mod SmoothTraces

@@ -1,35 +1,26 @@
 //! The program's one call.
 
-ghost use Rattle.std.specs.Prelude.{◌≡◌, ◌≢◌, ◌≤◌, ℕ, List, Option, Some, true, false, map, string_bytes};
-ghost use Rattle.login_call.specs.Answers.{Ends, Drains, Finishes, IsWritten, KeepsReads, KeepsWrites, HasRisen};
-ghost use Rattle.login_call.specs.Bulk.{bulk_of, is_bulk};
-ghost use Rattle.login_call.specs.Login.{is_alone, are_two, reads_scenario, reads_input, is_form};
-ghost use Rattle.login_call.specs.Login.{takes_memory, login_answer, argued_answer, unread_answer, usage_answer, usage_text, HasSetup, Completes};
-ghost use Rattle.login_call.specs.Check.{check_answer};
-ghost use Rattle.login_call.specs.Decode.{decode_answer};
-ghost use Rattle.login_call.specs.Keys.{keys_answer};
-ghost use Rattle.login_call.specs.Pcap.{pcap_users, is_pcap};
-ghost use Rattle.login_call.specs.Radius.{radius_answer};
-ghost use Rattle.login_call.specs.Headline.{HonestEndsAgree, WritesNeverBoth};
-ghost use Rattle.login_call.specs.Replay.{HasBoth};
-ghost use Rattle.login_call.specs.SmoothTraces.{SmoothTracesAgree};
-ghost use Rattle.login_call.specs.Scenario.{replay_answer, trace_header};
+ghost use Rattle.std.specs.Prelude.{◌≡◌, ℕ, List, Some, map, string_bytes};
+ghost use Rattle.command_driver.specs.Answers.{Finishes, HasRisen};
+ghost use Rattle.world_commands.specs.Bulk.{bulk_of};
+ghost use Rattle.login_call.specs.Login.{is_alone, are_two, asked_by, asked_with};
+ghost use Rattle.login_call.specs.Login.{unread_answer, unread_lacking, usage_answer, usage_text, Completes};
+ghost use Rattle.capture_commands.specs.Pcap.{pcap_users};
+ghost use Rattle.world_commands.specs.Headline.{HonestEndsAgree, WritesNeverBoth};
+ghost use Rattle.world_commands.specs.Replay.{HasBoth};
+ghost use Rattle.command_driver.specs.Responding.{Responds, Says};
+ghost use Rattle.world_commands.specs.SmoothTraces.{SmoothTracesAgree};
 ghost use Rattle.trace_text.specs.Writes.{Appends};
 
-use crate::bulk::{bulk_of, run_bulk};
-use crate::check::Check;
-use crate::decode::Decode;
-use crate::drive::drive;
-use crate::keys::Keys;
-use crate::pcap::{judge_file, read_pcap};
-use crate::radius::Radius;
-use crate::replay::Replay;
-use crate::status::Status;
+use capture_commands::{answer_radius, check_capture, judge_file, read_pcap};
+use command_driver::Status;
 use eap_base::{Failed, Sink, Source, Users};
 use eap_method::{PeerMethod, ServerMethod};
 use eap_world::Methods;
+use packet_commands::{answer_keys, decode_packets};
 use std::alloc::Global;
 use trace_text::write_line;
+use world_commands::{bulk_of, replay_scenario, run_bulk};
 
 /// Answers to the words after the program's name: reads `source`, writes `sink`, and says how it
 /// ended.
@@ -59,11 +50,14 @@ pub fn eap_login<P: PeerMethod, M: ServerMethod, S: Source, W: Sink>(
 ) -> Status
     requires { HasBoth P.peer_shown M.server_shown methods }
 
-    // With status 0, 1, 2, 6 or 7 the whole text was written and the status is that of the answer. With
-    // 3, 4 or 5 a front of the text was. With 0 or 7 the source has nothing left, but for `bulk N K`.
-    ensures ends { (octets : List ℕ) → S.left source.old ≡ Some octets
-        → Ends result (W.written sink.old) (W.written sink.new) (login_answer (map string_bytes words.now.items) octets) }
-    ensures drains { is_bulk (map string_bytes words.now.items) ≡ false → Drains result (S.left source.new) }
+    // What the words ask is answered: an input is read and its answer written, or, for `bulk N K` and for words that
+    // are none of the forms, an answer is written and the source is as it was. Where neither a read nor a write
+    // failed and memory wasn't wanting, the whole text was written and the status is the answer's, with 0 or 7
+    // nothing is left to read, and no fault is passed over: one comes exactly where its count rose in this call, or
+    // stands at its last value. Else a front of the text was. Want of memory comes only for `replay`, after the line
+    // `events` was taken, and for `bulk N K`.
+    ensures responds { Responds S.left S.read_faults S.last_read_fault W.written W.write_faults W.last_write_fault
+        (asked_by (map string_bytes words.now.items)) result source.old source.new sink.old sink.new }
 
     // Whatever the scenario has delivered, lost, repeated, reordered, altered, reflected or injected: where
     // each tag that an end accepted was made earlier by either end, as it is where the trace says `tags
@@ -81,30 +75,12 @@ pub fn eap_login<P: PeerMethod, M: ServerMethod, S: Source, W: Sink>(
     // `result apart`.
     ensures never_both { (octets : List ℕ) → S.left source.old ≡ Some octets → WritesNeverBoth result (W.written sink.old) (W.written sink.new) }
 
-    // A fault comes exactly where its count rose in this call, or stands at its last value: none is passed
-    // over. Want of memory comes only for `replay`, after the line `events` was taken, and for `bulk N K`.
-    ensures read_fault { result ≡ Status.ReadFault → HasRisen S.last_read_fault (S.read_faults source.old) (S.read_faults source.new) }
-    ensures write_fault { result ≡ Status.WriteFault → HasRisen W.last_write_fault (W.write_faults sink.old) (W.write_faults sink.new) }
-    ensures reads { KeepsReads result (S.read_faults source.old) (S.read_faults source.new) }
-    ensures writes { KeepsWrites result (W.write_faults sink.old) (W.write_faults sink.new) }
-    ensures memory { result ≡ Status.Memory → takes_memory (map string_bytes words.now.items) ≡ true }
-    ensures setup { result ≡ Status.Memory → reads_scenario (map string_bytes words.now.items) ≡ true
-        → (octets : List ℕ) → S.left source.old ≡ Some octets → HasSetup octets }
-
     // Where the source tells its octets and neither a read nor a write failed, the status is the answer's, or memory
     // was wanting where it may be.
     ensures complete { (octets : List ℕ) → S.left source.old ≡ Some octets
         → (HasRisen S.last_read_fault (S.read_faults source.old) (S.read_faults source.new) → ⊥)
         → (HasRisen W.last_write_fault (W.write_faults sink.old) (W.write_faults sink.new) → ⊥)
         → Completes (map string_bytes words.now.items) octets result }
-
-    // `bulk N K`, and words that are none of the forms, leave the source as it was: their answer asks nothing of it.
-    ensures unread_ends { reads_input (map string_bytes words.now.items) ≡ false
-        → Ends result (W.written sink.old) (W.written sink.new) (unread_answer (bulk_of (map string_bytes words.now.items))) }
-    ensures unread { reads_input (map string_bytes words.now.items) ≡ false → result ≢ Status.ReadFault }
-    ensures untouched { reads_input (map string_bytes words.now.items) ≡ false → source.new ≡ source.old }
-    ensures usage_ends { is_form (map string_bytes words.now.items) ≡ false → Ends result (W.written sink.old) (W.written sink.new) usage_answer }
-    ensures usage_written { is_form (map string_bytes words.now.items) ≡ false → IsWritten result }
 {
     respond(alloc, words, source, sink, methods)
 }
@@ -118,36 +94,21 @@ fn respond<P: PeerMethod, M: ServerMethod, S: Source, W: Sink>(
     methods: Methods<P, M>,
 ) -> Status
     requires { HasBoth P.peer_shown M.server_shown methods }
-    ensures ends { (octets : List ℕ) → S.left source.old ≡ Some octets
-        → Ends result (W.written sink.old) (W.written sink.new) (login_answer (map string_bytes words.now.items) octets) }
-    ensures drains { is_bulk (map string_bytes words.now.items) ≡ false → Drains result (S.left source.new) }
-    ensures never_both { (octets : List ℕ) → S.left source.old ≡ Some octets → WritesNeverBoth result (W.written sink.old) (W.written sink.new) }
-    ensures read_fault { result ≡ Status.ReadFault → HasRisen S.last_read_fault (S.read_faults source.old) (S.read_faults source.new) }
-    ensures write_fault { result ≡ Status.WriteFault → HasRisen W.last_write_fault (W.write_faults sink.old) (W.write_faults sink.new) }
-    ensures reads { KeepsReads result (S.read_faults source.old) (S.read_faults source.new) }
-    ensures writes { KeepsWrites result (W.write_faults sink.old) (W.write_faults sink.new) }
-    ensures memory { result ≡ Status.Memory → takes_memory (map string_bytes words.now.items) ≡ true }
-    ensures setup { result ≡ Status.Memory → reads_scenario (map string_bytes words.now.items) ≡ true
-        → (octets : List ℕ) → S.left source.old ≡ Some octets → HasSetup octets }
-    ensures unread_ends { reads_input (map string_bytes words.now.items) ≡ false
-        → Ends result (W.written sink.old) (W.written sink.new) (unread_answer (bulk_of (map string_bytes words.now.items))) }
-    ensures unread { reads_input (map string_bytes words.now.items) ≡ false → result ≢ Status.ReadFault }
-    ensures untouched { reads_input (map string_bytes words.now.items) ≡ false → source.new ≡ source.old }
-    ensures usage_ends { is_form (map string_bytes words.now.items) ≡ false → Ends result (W.written sink.old) (W.written sink.new) usage_answer }
-    ensures usage_written { is_form (map string_bytes words.now.items) ≡ false → IsWritten result }
+    ensures { Responds S.left S.read_faults S.last_read_fault W.written W.write_faults W.last_write_fault
+        (asked_by (map string_bytes words.now.items)) result source.old source.new sink.old sink.new }
 {
     if are_alone(words, "replay") {
-        replay(alloc, false, source, sink, methods)
+        replay_scenario(alloc, false, source, sink, methods)
     } else if are_two(words, "replay", "names") {
-        replay(alloc, true, source, sink, methods)
+        replay_scenario(alloc, true, source, sink, methods)
     } else if are_alone(words, "decode") {
-        decode(source, sink)
+        decode_packets(source, sink)
     } else if are_alone(words, "keys") {
-        keys(source, sink)
+        answer_keys(source, sink)
     } else if are_alone(words, "check") {
-        check(source, sink)
+        check_capture(source, sink)
     } else if are_alone(words, "radius") {
-        radius(source, sink)
+        answer_radius(source, sink)
     } else {
         answer_arguments(alloc, words, source, sink, methods)
     }
@@ -175,7 +136,7 @@ fn are_two(words: &Vec<String>, first: &str, second: &str) -> bool
 
 /// Answers to words that may have arguments: to `pcap` and users by the findings of a file, to all others without
 /// reading.
-#[tactic(auto, using(crate::proofs::PcapUsers::pcap_keys, crate::proofs::Endings::keeps_reads))]
+#[tactic(auto, using(capture_commands::proofs::PcapUsers::pcap_keys))]
 fn answer_arguments<P: PeerMethod, M: ServerMethod, S: Source, W: Sink>(
     alloc: Global,
     words: &Vec<String>,
@@ -184,22 +145,9 @@ fn answer_arguments<P: PeerMethod, M: ServerMethod, S: Source, W: Sink>(
     methods: Methods<P, M>,
 ) -> Status
     requires { HasBoth P.peer_shown M.server_shown methods }
-    ensures ends { (octets : List ℕ) → S.left source.old ≡ Some octets
-        → Ends result (W.written sink.old) (W.written sink.new)
-        (argued_answer (pcap_users (map string_bytes words.now.items)) (bulk_of (map string_bytes words.now.items)) octets) }
-    ensures drains { is_bulk (map string_bytes words.now.items) ≡ false → Drains result (S.left source.new) }
-    ensures read_fault { result ≡ Status.ReadFault → HasRisen S.last_read_fault (S.read_faults source.old) (S.read_faults source.new) }
-    ensures write_fault { result ≡ Status.WriteFault → HasRisen W.last_write_fault (W.write_faults sink.old) (W.write_faults sink.new) }
-    ensures reads { KeepsReads result (S.read_faults source.old) (S.read_faults source.new) }
-    ensures writes { KeepsWrites result (W.write_faults sink.old) (W.write_faults sink.new) }
-    ensures memory { result ≡ Status.Memory → is_bulk (map string_bytes words.now.items) ≡ true }
-    ensures unread_ends { is_pcap (map string_bytes words.now.items) ≡ false
-        → Ends result (W.written sink.old) (W.written sink.new) (unread_answer (bulk_of (map string_bytes words.now.items))) }
-    ensures unread { is_pcap (map string_bytes words.now.items) ≡ false → result ≢ Status.ReadFault }
-    ensures untouched { is_pcap (map string_bytes words.now.items) ≡ false → source.new ≡ source.old }
-    ensures usage_ends { is_pcap (map string_bytes words.now.items) ≡ false → is_bulk (map string_bytes words.now.items) ≡ false
-        → Ends result (W.written sink.old) (W.written sink.new) usage_answer }
-    ensures usage_written { is_pcap (map string_bytes words.now.items) ≡ false → is_bulk (map string_bytes words.now.items) ≡ false → IsWritten result }
+    ensures { Responds S.left S.read_faults S.last_read_fault W.written W.write_faults W.last_write_fault
+        (asked_with (pcap_users (map string_bytes words.now.items)) (bulk_of (map string_bytes words.now.items)))
+        result source.old source.new sink.old sink.new }
 {
     let mut users = Users::new();
     if read_pcap(words, &mut users) {
@@ -217,14 +165,9 @@ fn answer_unread<P: PeerMethod, M: ServerMethod, W: Sink>(
     methods: Methods<P, M>,
 ) -> Status
     requires { HasBoth P.peer_shown M.server_shown methods }
-    ensures ends { Ends result (W.written sink.old) (W.written sink.new) (unread_answer (bulk_of (map string_bytes words.now.items))) }
-    ensures drains { is_bulk (map string_bytes words.now.items) ≡ false → (left : Option (List ℕ)) → Drains result left }
-    ensures write_fault { result ≡ Status.WriteFault → HasRisen W.last_write_fault (W.write_faults sink.old) (W.write_faults sink.new) }
-    ensures writes { KeepsWrites result (W.write_faults sink.old) (W.write_faults sink.new) }
-    ensures memory { result ≡ Status.Memory → is_bulk (map string_bytes words.now.items) ≡ true }
-    ensures unread { result ≢ Status.ReadFault }
-    ensures usage_ends { is_bulk (map string_bytes words.now.items) ≡ false → Ends result (W.written sink.old) (W.written sink.new) usage_answer }
-    ensures usage_written { is_bulk (map string_bytes words.now.items) ≡ false → IsWritten result }
+    ensures { Says W.written W.write_faults W.last_write_fault
+        (unread_answer (bulk_of (map string_bytes words.now.items))) (unread_lacking (bulk_of (map string_bytes words.now.items)))
+        result sink.old sink.new }
 {
     match bulk_of(words) {
         Some(asked) => run_bulk(alloc, asked, sink, methods),
@@ -235,8 +178,7 @@ fn answer_unread<P: PeerMethod, M: ServerMethod, W: Sink>(
 /// Writes the usage line.
 #[tactic(auto, unfolding(trace_text::specs::Writes::Appends))]
 fn show_usage<W: Sink>(sink: &mut W) -> Status
-    ensures finishes { Finishes W.written W.write_faults W.last_write_fault result sink.old sink.new usage_answer }
-    ensures drains { (left : Option (List ℕ)) → Drains result left }
+    ensures { Finishes W.written W.write_faults W.last_write_fault result sink.old sink.new usage_answer }
 {
     match write_usage(sink) {
         Ok(()) => Status::Usage,
@@ -252,97 +194,4 @@ fn write_usage<W: Sink>(sink: &mut W) -> Result<(), Failed>
         sink,
         b"usage: eap_login replay | replay names | decode | keys | check | bulk N K | radius | pcap USERS",
     )
-}
-
-/// Reads a scenario and writes the trace of its run, with names or without.
-#[tactic(auto, unfolding(trace_text::specs::Writes::Appends), using(crate::proofs::Endings::keeps_writes_from))]
-fn replay<P: PeerMethod, M: ServerMethod, S: Source, W: Sink>(
-    alloc: Global,
-    names: bool,
-    source: &mut S,
-    sink: &mut W,
-    methods: Methods<P, M>,
-) -> Status
-    requires { HasBoth P.peer_shown M.server_shown methods }
-    ensures ends { (octets : List ℕ) → S.left source.old ≡ Some octets
-        → Ends result (W.written sink.old) (W.written sink.new) (replay_answer names octets) }
-    ensures drains { Drains result (S.left source.new) }
-    ensures read_fault { result ≡ Status.ReadFault → HasRisen S.last_read_fault (S.read_faults source.old) (S.read_faults source.new) }
-    ensures write_fault { result ≡ Status.WriteFault → HasRisen W.last_write_fault (W.write_faults sink.old) (W.write_faults sink.new) }
-    ensures reads { KeepsReads result (S.read_faults source.old) (S.read_faults source.new) }
-    ensures writes { KeepsWrites result (W.write_faults sink.old) (W.write_faults sink.new) }
-    ensures memory { result ≡ Status.Memory → (octets : List ℕ) → S.left source.old ≡ Some octets → HasSetup octets }
-{
-    match write_trace_header(sink) {
-        Ok(()) => {
-            let mut command = Replay::new(alloc, names, methods);
-            drive(&mut command, source, sink)
-        }
-        Err(_) => Status::WriteFault,
-    }
-}
-
-/// Writes the first line of a trace.
-#[tactic(auto, unfolding(crate::specs::Scenario::trace_header))]
-fn write_trace_header<W: Sink>(sink: &mut W) -> Result<(), Failed>
-    ensures { Appends W.written W.write_faults W.last_write_fault result sink.old sink.new trace_header }
-{
-    write_line(sink, b"eap-trace 1")
-}
-
-/// Reads packets in hex and writes what they are.
-fn decode<S: Source, W: Sink>(source: &mut S, sink: &mut W) -> Status
-    ensures ends { (octets : List ℕ) → S.left source.old ≡ Some octets → Ends result (W.written sink.old) (W.written sink.new) (decode_answer octets) }
-    ensures drains { Drains result (S.left source.new) }
-    ensures read_fault { result ≡ Status.ReadFault → HasRisen S.last_read_fault (S.read_faults source.old) (S.read_faults source.new) }
-    ensures write_fault { result ≡ Status.WriteFault → HasRisen W.last_write_fault (W.write_faults sink.old) (W.write_faults sink.new) }
-    ensures reads { KeepsReads result (S.read_faults source.old) (S.read_faults source.new) }
-    ensures writes { KeepsWrites result (W.write_faults sink.old) (W.write_faults sink.new) }
-    ensures no_memory { result ≢ Status.Memory }
-{
-    let mut command = Decode::new();
-    drive(&mut command, source, sink)
-}
-
-/// Reads requests for ciphers, MACs and keys and writes the answers.
-fn keys<S: Source, W: Sink>(source: &mut S, sink: &mut W) -> Status
-    ensures ends { (octets : List ℕ) → S.left source.old ≡ Some octets → Ends result (W.written sink.old) (W.written sink.new) (keys_answer octets) }
-    ensures drains { Drains result (S.left source.new) }
-    ensures read_fault { result ≡ Status.ReadFault → HasRisen S.last_read_fault (S.read_faults source.old) (S.read_faults source.new) }
-    ensures write_fault { result ≡ Status.WriteFault → HasRisen W.last_write_fault (W.write_faults sink.old) (W.write_faults sink.new) }
-    ensures reads { KeepsReads result (S.read_faults source.old) (S.read_faults source.new) }
-    ensures writes { KeepsWrites result (W.write_faults sink.old) (W.write_faults sink.new) }
-    ensures no_memory { result ≢ Status.Memory }
-{
-    let mut command = Keys::new();
-    drive(&mut command, source, sink)
-}
-
-/// Reads a capture and writes the finding of each packet. The status is `Findings` where the capture was
-/// read to its end and a packet is malformed or has a bad tag.
-fn check<S: Source, W: Sink>(source: &mut S, sink: &mut W) -> Status
-    ensures ends { (octets : List ℕ) → S.left source.old ≡ Some octets → Ends result (W.written sink.old) (W.written sink.new) (check_answer octets) }
-    ensures drains { Drains result (S.left source.new) }
-    ensures read_fault { result ≡ Status.ReadFault → HasRisen S.last_read_fault (S.read_faults source.old) (S.read_faults source.new) }
-    ensures write_fault { result ≡ Status.WriteFault → HasRisen W.last_write_fault (W.write_faults sink.old) (W.write_faults sink.new) }
-    ensures reads { KeepsReads result (S.read_faults source.old) (S.read_faults source.new) }
-    ensures writes { KeepsWrites result (W.write_faults sink.old) (W.write_faults sink.new) }
-    ensures no_memory { result ≢ Status.Memory }
-{
-    let mut command = Check::new();
-    drive(&mut command, source, sink)
-}
-
-/// Reads a text of RADIUS packets, writes requests and replies, and says what packets are.
-fn radius<S: Source, W: Sink>(source: &mut S, sink: &mut W) -> Status
-    ensures ends { (octets : List ℕ) → S.left source.old ≡ Some octets → Ends result (W.written sink.old) (W.written sink.new) (radius_answer octets) }
-    ensures drains { Drains result (S.left source.new) }
-    ensures read_fault { result ≡ Status.ReadFault → HasRisen S.last_read_fault (S.read_faults source.old) (S.read_faults source.new) }
-    ensures write_fault { result ≡ Status.WriteFault → HasRisen W.last_write_fault (W.write_faults sink.old) (W.write_faults sink.new) }
-    ensures reads { KeepsReads result (S.read_faults source.old) (S.read_faults source.new) }
-    ensures writes { KeepsWrites result (W.write_faults sink.old) (W.write_faults sink.new) }
-    ensures no_memory { result ≢ Status.Memory }
-{
-    let mut command = Radius::new();
-    drive(&mut command, source, sink)
 }

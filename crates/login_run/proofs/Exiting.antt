@@ -1,9 +1,8 @@
 -- Words that were answered, or for which memory was wanting before anything was read or written.
 use Rattle.std.proofs.Common.{◌≡◌, ℕ, List, Option, Result, Ok, Err, IfOk, OnErr, refl, inr}
-use Rattle.login_call.specs.declared.status.Status.{Status}
-use Rattle.login_call.specs.declared.status.Status.TheVariants as status
-use Rattle.login_call.proofs.Endings.{front_none}
-use Rattle.login_call.proofs.Headline.{headline}
+use Rattle.command_driver.specs.declared.status.Status.{Status}
+use Rattle.command_driver.specs.declared.status.Status.TheVariants as status
+use Rattle.world_commands.proofs.Headline.{headline}
 use Rattle.login_run.specs.Exit.{exit_number_of}
 use Rattle.login_run.specs.Runs.{Answers, Exits}
 
@@ -13,20 +12,9 @@ module _ {S W : Type 0} (left : S → Option (List ℕ)) (read_faults : S → �
   lacking : (words : List (List ℕ)) (source : S) (sink : W)
       → Answers left read_faults last_read_fault written write_faults last_write_fault words source source sink sink status.Memory
   lacking words source sink = record {
-    ends = λ octets e. front_none (written sink) _;
-    drains = λ e. tt;
+    responds = inr (record { memory = refl; unread = refl; unwritten = refl });
     honest_ends_agree = headline;
     never_both = λ octets e. record { holds = λ h old text b n. absurd cc };
-    read_fault = λ h. absurd cc;
-    write_fault = λ h. absurd cc;
-    reads = refl;
-    writes = refl;
-    memory = λ h. inr (refl, refl);
-    unread_ends = λ e. front_none (written sink) _;
-    unread = λ e h. absurd cc;
-    untouched = λ e. refl;
-    usage_ends = λ e. front_none (written sink) _;
-    usage = λ e. tt;
   }
 
   pub exits : {E : Type 0} (words : List (List ℕ)) (before : S) (now : S) (old : W) (new : W) (number : ℕ) (result : Result Status E)

@@ -2,9 +2,9 @@
 use Rattle.std.specs.Prelude.{ℕ, Result, Ok, Err}
 use Rattle.std.specs.declared.io.ErrorKind.{ErrorKind}
 use Rattle.std.specs.declared.io.ErrorKind.TheVariants as kind
-use Rattle.login_call.specs.Statuses.{number_of}
-use Rattle.login_call.specs.declared.status.Status.{Status}
-use Rattle.login_call.specs.declared.status.Status.TheVariants as status
+use Rattle.command_driver.specs.Statuses.{number_of}
+use Rattle.command_driver.specs.declared.status.Status.{Status}
+use Rattle.command_driver.specs.declared.status.Status.TheVariants as status
 
 -- where words were answered: an error comes only for want of memory
 abbrev pub exit_number_of : {E : Type 0} → Result Status E → ℕ

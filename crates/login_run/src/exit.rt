@@ -3,7 +3,7 @@
 ghost use Rattle.std.specs.Prelude.{◌≡◌};
 ghost use Rattle.login_run.specs.Exit.{exit_number_of, failure_number_of};
 
-use login_call::Status;
+use command_driver::Status;
 use std::io;
 
 /// The exit status where the words could not be taken, for another cause than want of memory.

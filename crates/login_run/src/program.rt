@@ -9,15 +9,17 @@ ghost use Rattle.login_run.specs.Runs.{after_name, Answers, Exits};
 
 use crate::exit::{exit_number, failure_number};
 use crate::words::words_after_name;
+use command_driver::Status;
 use eap_base::{Sink, Source};
 use eap_method::{PeerMethod, ServerMethod};
 use eap_world::Methods;
 use gpsk_ends::{GpskPeer, GpskServer};
-use login_call::{Status, both_peers, both_servers, eap_login};
+use login_call::eap_login;
 use psk_ends::{PskPeer, PskServer};
 use std::alloc::Global;
 use std::env::Args;
 use std::io;
+use world_commands::{both_peers, both_servers};
 
 /// Answers to the arguments that the program was started with, of which the first is its name, over `source`
 /// and `sink`, and gives the exit status: the number of the status that the words are answered with, 5 where

@@ -1,6 +1,8 @@
-use Rattle.login_call.proofs.Completing.{completes}
-use Rattle.login_call.proofs.Headline.{headline}
-use Rattle.login_call.proofs.SmoothTraces as traces
+use Rattle.std.proofs.Common.{map, string_bytes}
+use Rattle.login_call.proofs.Completing.{completes, ends_of}
+use Rattle.world_commands.proofs.Headline.{headline}
+use Rattle.login_call.proofs.NeverBoth.{writes_never_both}
+use Rattle.world_commands.proofs.SmoothTraces as traces
 use Rattle.login_call.proofs.login.eap_login.Goals as goal
 
 pub returns-clause-honest_ends_agree : goal.returns-clause-honest_ends_agree
@@ -9,7 +11,8 @@ returns-clause-honest_ends_agree g c octets = headline octets
 pub returns-clause-smooth_traces_agree : goal.returns-clause-smooth_traces_agree
 returns-clause-smooth_traces_agree g c = traces.smooth_traces_agree
 
+pub returns-clause-never_both : goal.returns-clause-never_both
+returns-clause-never_both g c octets h = writes_never_both _ _ _ (map string_bytes c.args.words.now.items) octets (ends_of _ _ _ _ _ _ _ _ _ _ _ _ octets h c.respond.ensures)
+
 pub returns-clause-complete : goal.returns-clause-complete
-returns-clause-complete g c octets h =
-    completes c.respond.result _ _ _ octets (c.respond.ensures.ends octets h) c.respond.ensures.read_fault c.respond.ensures.write_fault
-    c.respond.ensures.memory (λ m r. c.respond.ensures.setup m r octets h)
+returns-clause-complete g c octets h = completes _ _ _ _ _ _ _ _ _ _ _ _ octets h c.respond.ensures

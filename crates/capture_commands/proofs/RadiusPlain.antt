@@ -1,0 +1,146 @@
+-- No line of `radius` begins as the line of honest tags does.
+use Rattle.std.proofs.Common.{◌≡◌, ℕ, ◌+◌, List, [], Bool, true, Option, Some, None, Result, Ok, Err, refl, subst, codes, decimal, ◌==◌}
+use Rattle.eap_base.specs.Lines.{Lines, ended, too_long, too_much, line, lines}
+use Rattle.radius_carry.specs.Packet.{RadiusPacket, eap_of}
+use Rattle.radius_carry.specs.Fault.{packet_of}
+use Rattle.radius_carry.specs.Words.{cause_word}
+use Rattle.radius_carry.specs.declared.cause.RadiusCause.{RadiusCause}
+use Rattle.radius_carry.specs.declared.cause.RadiusCause.TheVariants.{RadiusShort, RadiusCode, RadiusLength, RadiusTruncated}
+use Rattle.radius_carry.specs.declared.cause.RadiusCause.TheVariants.{RadiusAttribute, NoEap, EapTooLong, NoAuthenticator}
+use Rattle.request_text.specs.Radius.{RadiusLine, read_line, finish_of}
+use Rattle.text_tables.specs.declared.fault.LineFault.{LineFault}
+use Rattle.request_text.specs.declared.radius_line.ReplyKind.{ReplyKind}
+use Rattle.request_text.specs.declared.radius_line.RadiusItem.{RadiusItem}
+use Rattle.request_text.specs.declared.radius_line.RadiusItem.TheVariants as item
+use Rattle.trace_text.specs.Pieces.{hex_text}
+use Rattle.trace_text.proofs.Plain.{is_within, plain, join, through, decimal_within}
+use Rattle.trace_text.proofs.PlainTexts.{either_within, hex_within}
+use Rattle.command_driver.specs.Answers.{Answer, after_text, IsRefusal}
+use Rattle.command_driver.specs.Commands.{Took, Ruling, goes, refuses, Closed, ends, misses, after_ruling, closing_answer, answer}
+use Rattle.capture_commands.specs.Radius.{hex_line, word_line, packet_line, read_text, kind_word, judgement_word, judged}
+use Rattle.capture_commands.specs.Radius.{reply_took, read_took, item_took, with_phase, line_took}
+use Rattle.capture_commands.specs.Radius.{radius_took, radius_end, radius_closing, nothing_asked, radius_answer}
+use Rattle.capture_commands.specs.declared.radius.Asked.{Asked}
+use Rattle.capture_commands.specs.declared.radius.Judgement.{Judgement}
+use Rattle.capture_commands.specs.declared.radius.Judgement.TheVariants as judgement
+use Rattle.capture_commands.specs.declared.radius.Radius.{Radius}
+use Rattle.command_driver.specs.declared.status.Status.{Status}
+use Rattle.command_driver.specs.declared.status.Status.TheVariants as status
+
+-- the first octet of `tags`
+abbrev pub begins_tags : ℕ → Bool
+begins_tags o = o == 116
+
+-- a status of a refusal is never 0
+pub never_done : (s : Status) → IsRefusal s → s ≡ status.Done → ⊥
+never_done s h e = subst IsRefusal e h
+
+pub record IsQuiet (a : Answer) : Type 0 where
+  pub holds : a.status ≡ status.Done → plain begins_tags true a.text ≡ true
+
+abbrev Refuses : Ruling → Type 0
+Refuses goes = Unit {0}
+Refuses (refuses word s) = IsRefusal s
+
+record IsQuietLine (t : Took Radius) : Type 0 where
+  pub text : plain begins_tags true t.text ≡ true
+  pub refusing : Refuses t.ruling
+
+quiet_closing : (number : ℕ) (text : List ℕ) (x : Closed) → plain begins_tags true text ≡ true → IsQuiet (after_text text (closing_answer number x))
+quiet_closing number text (ends s) h = record { holds = λ done. join begins_tags text [] true h refl }
+quiet_closing number text (misses word) h = record { holds = λ done. absurd (never_done status.Refused tt done) }
+
+quiet_after : (number : ℕ) (text : List ℕ) (v : Ruling) (a : Answer) → plain begins_tags true text ≡ true → Refuses v → IsQuiet a →
+    IsQuiet (after_text text (after_ruling number v a))
+quiet_after number text goes a h k rest = record { holds = λ done. join begins_tags text a.text true h (rest.holds done) }
+quiet_after number text (refuses word s) a h k rest = record { holds = λ done. absurd (never_done s k done) }
+
+-- ---- the lines
+
+hex_quiet : (octets : List ℕ) →
+    (plain begins_tags true (hex_line (codes "request") octets) ≡ true) × (plain begins_tags true (hex_line (codes "reply") octets) ≡ true)
+unfolding hex_line
+hex_quiet octets = (through begins_tags (hex_text octets) _ (hex_within octets) refl, through begins_tags (hex_text octets) _ (hex_within octets) refl)
+
+cause_within : (cause : RadiusCause) → is_within (cause_word cause) ≡ true
+cause_within RadiusShort = refl
+cause_within RadiusCode = refl
+cause_within RadiusLength = refl
+cause_within RadiusTruncated = refl
+cause_within RadiusAttribute = refl
+cause_within NoEap = refl
+cause_within EapTooLong = refl
+cause_within NoAuthenticator = refl
+
+cause_quiet : (cause : RadiusCause) → plain begins_tags true (word_line (codes "read") (cause_word cause)) ≡ true
+unfolding word_line
+cause_quiet cause = through begins_tags (cause_word cause) _ (cause_within cause) refl
+
+none_quiet : plain begins_tags true (word_line (codes "reply") (codes "no-request")) ≡ true
+unfolding word_line
+none_quiet = refl
+
+kind_within : (code : ℕ) → is_within (kind_word code) ≡ true
+kind_within code =
+    either_within (code == 1) (codes "request") _ refl
+    (either_within (code == 2) (codes "accept") _ refl (either_within (code == 3) (codes "reject") (codes "challenge") refl refl))
+
+judgement_within : (found : Judgement) → is_within (judgement_word found) ≡ true
+judgement_within judgement.Good = refl
+judgement_within judgement.TagBad = refl
+judgement_within judgement.NoRequest = refl
+
+packet_quiet : (packet : RadiusPacket) (found : Judgement) → plain begins_tags true (packet_line packet found) ≡ true
+unfolding read_text
+packet_quiet packet found =
+    through begins_tags (kind_word packet.code) _ (kind_within packet.code)
+    (through begins_tags (decimal packet.id) _ (decimal_within packet.id)
+    (through begins_tags (hex_text (eap_of packet.attributes)) _ (hex_within (eap_of packet.attributes))
+    (through begins_tags (judgement_word found) _ (judgement_within found) refl)))
+
+-- ---- what a line brings
+
+reply_quiet : (c : Radius) (asked : Option Asked) (k : ReplyKind) (state eap : List ℕ) → IsQuietLine (reply_took c asked k state eap)
+reply_quiet c None k state eap = record { text = none_quiet; refusing = tt }
+reply_quiet c (Some asked) k state eap = record { text = (hex_quiet _).1; refusing = tt }
+
+read_quiet : (c : Radius) (x : Result RadiusPacket RadiusCause) → IsQuietLine (read_took c x)
+read_quiet c (Err cause) = record { text = cause_quiet cause; refusing = tt }
+read_quiet c (Ok packet) = record { text = packet_quiet packet (judged c.secret c.asked packet); refusing = tt }
+
+item_quiet : (c : Radius) (i : RadiusItem) → IsQuietLine (item_took c i)
+item_quiet c item.Nothing = record { text = refl; refusing = tt }
+item_quiet c (item.Secret octets) = record { text = refl; refusing = tt }
+item_quiet c (item.Request id authenticator user state eap) = record { text = (hex_quiet _).0; refusing = tt }
+item_quiet c (item.Reply k state eap) = reply_quiet c c.asked k state eap
+item_quiet c (item.Read octets) = read_quiet c (packet_of octets)
+item_quiet c item.End = record { text = refl; refusing = tt }
+
+line_quiet : (c : Radius) (x : Result RadiusLine LineFault) → IsQuietLine (line_took c x)
+line_quiet c (Err fault) = record { text = refl; refusing = tt }
+line_quiet c (Ok out) = item_quiet (with_phase c out.after) out.item
+
+took_quiet : (c : Radius) (l : List ℕ) → IsQuietLine (radius_took c l)
+unfolding radius_took
+took_quiet c l = line_quiet c (read_line c.reader.phase l)
+
+end_quiet : (x : Result (Unit {0}) LineFault) → plain begins_tags true (radius_end x).text ≡ true
+end_quiet (Err fault) = refl
+end_quiet (Ok done) = refl
+
+closing_quiet : (c : Radius) → plain begins_tags true (radius_closing c).text ≡ true
+unfolding radius_closing
+closing_quiet c = end_quiet (finish_of c.reader.phase)
+
+quiet_answer : (ls : Lines) (n : ℕ) (c : Radius) → IsQuiet (answer radius_took radius_closing n c ls)
+unfolding answer
+quiet_answer ended n c = quiet_closing (n + 1) (radius_closing c).text (radius_closing c).closed (closing_quiet c)
+quiet_answer too_long n c = record { holds = λ done. absurd (never_done status.TooMuch tt done) }
+quiet_answer too_much n c = record { holds = λ done. absurd (never_done status.TooMuch tt done) }
+quiet_answer (line l rest) n c =
+    let step = took_quiet c l in
+    quiet_after (n + 1) (radius_took c l).text (radius_took c l).ruling (answer radius_took radius_closing (n + 1) (radius_took c l).after rest)
+    step.text step.refusing (quiet_answer rest (n + 1) (radius_took c l).after)
+
+pub radius_quiet : (octets : List ℕ) → IsQuiet (radius_answer octets)
+radius_quiet octets = quiet_answer (lines octets) 0 nothing_asked

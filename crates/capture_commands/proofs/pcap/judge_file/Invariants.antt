@@ -1,0 +1,21 @@
+use Rattle.std.proofs.Common.{◌≡◌, ◌≤◌, ◌-◌, ℕ, List, Some, false}
+use Rattle.eapol_capture.specs.Files.{contents, max_input}
+use Rattle.eapol_capture.specs.Reading.{contents_left}
+use Rattle.capture_commands.specs.PcapSteps.{HasFound}
+use Rattle.capture_commands.proofs.PcapDriving.{Underway}
+use Rattle.capture_commands.proofs.pcap.judge_file.Given as goal
+
+abbrev pub invariant-loop-found : goal.invariant-loop-found
+invariant-loop-found g l = record {
+  not_over : l.reader.over ≡ false;
+  bounded : l.reader.taken ≤ max_input;
+  few_records : l.reader.number ≤ l.reader.taken;
+  holds : HasFound l.found l.reader.number;
+  underway : (octets : List ℕ) → g.S.Source.left l.initial.source ≡ Some octets
+      → Underway l.users (g.W.Sink.written l.initial.sink) (g.W.Sink.written l.sink) (contents octets) l.reader.number l.found (contents_left l.reader (g.S.Source.left l.source));
+  read_faults : g.S.Source.read_faults l.source ≡ g.S.Source.read_faults l.initial.source;
+  write_faults : g.W.Sink.write_faults l.sink ≡ g.W.Sink.write_faults l.initial.sink;
+}
+
+abbrev pub decreases-loop-found : goal.decreases-loop-found
+decreases-loop-found g l = max_input - l.reader.taken

@@ -1,0 +1,5 @@
+pub mod Check
+pub mod CheckSteps
+pub mod Pcap
+pub mod PcapSteps
+pub mod Radius

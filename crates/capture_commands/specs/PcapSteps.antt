@@ -1,0 +1,50 @@
+-- A file of captured frames by what is kept of it in place of its packets.
+use Rattle.std.specs.Prelude.{ℕ, ◌+◌, ◌≤◌, List, [], length}
+use Rattle.eap_base.specs.declared.users.User.{User}
+use Rattle.eapol_capture.specs.Files.{Contents, ends, record_of}
+use Rattle.eapol_capture.specs.Frames.{Carried, other, cut, eap, carried}
+use Rattle.capture_check.specs.Finding.{finding_in}
+use Rattle.capture_check.specs.Kept.{kept_of}
+use Rattle.capture_check.specs.Steps.{kept_next, nothing_kept}
+use Rattle.trace_text.specs.Findings.{finding_text}
+use Rattle.command_driver.specs.Answers.{Answer, after_text}
+use Rattle.capture_commands.specs.Check.{with_finding}
+use Rattle.capture_commands.specs.Pcap.{PcapNow, is_to_peer, cut_text, file_end}
+use Rattle.capture_commands.specs.declared.pcap.Found.{Found}
+
+-- what a record with this number brings
+pub record RecordStep : Type 0 where
+  pub text : List ℕ
+  pub after : Found
+
+unfoldable pub record_step : List User → Found → ℕ → Carried → RecordStep
+record_step users f number other = record { text = []; after = f }
+record_step users f number cut = record { text = cut_text number; after = record f { findings = f.findings + 1 } }
+record_step users f number (eap octets) =
+    let finding = finding_in users f.checker (is_to_peer octets) octets in
+    record {
+      text = finding_text number finding;
+      after = record {
+        checker = kept_next users f.checker (is_to_peer octets) octets;
+        packets = f.packets + 1;
+        findings = with_finding f.findings finding;
+      };
+    }
+
+-- the answer to the rest of a file, behind so many records
+unfoldable pub answer_from : List User → ℕ → Found → Contents → Answer
+answer_from users number f (ends begun a) = file_end (number + begun) f.packets f.findings a
+answer_from users number f (record_of frame rest) =
+    after_text (record_step users f (number + 1) (carried frame)).text (answer_from users (number + 1) (record_step users f (number + 1) (carried frame)).after rest)
+
+abbrev pub nothing_found : Found
+nothing_found = record { checker = nothing_kept; packets = 0; findings = 0 }
+
+-- each record has at most one packet
+pub record HasFound (f : Found) (number : ℕ) : Type 0 where
+  pub packets : f.packets ≤ number
+  pub findings : f.findings ≤ number
+
+-- what is kept of a file with its packets
+abbrev pub found_in : List User → PcapNow → Found
+found_in users f = record { checker = kept_of users f.before; packets = length f.before; findings = f.findings }

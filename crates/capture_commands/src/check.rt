@@ -1,0 +1,144 @@
+//! The command `check`: judges the tags of a capture.
+
+ghost use Rattle.std.specs.Prelude.{◌≡◌, ◌<◌, ◌^◌, ◌+◌, List, All, IsTrue, false};
+ghost use Rattle.eap_base.specs.Setup.{fits_kind};
+ghost use Rattle.command_driver.specs.Responding.{Responds, reading, never};
+ghost use Rattle.capture_commands.specs.Check.{check_answer};
+ghost use Rattle.capture_commands.specs.Check.{is_counted};
+ghost use Rattle.capture_commands.specs.CheckSteps as steps;
+
+use capture_check::{Checker, Finding};
+use command_driver::{Close, Command, Next, Status, Trouble, drive};
+use eap_base::{Failed, Sink, Source};
+use request_text::{CaptureItem, CaptureReader};
+use trace_text::{write_finding, write_finding_counts};
+
+/// A capture on its way: what has been read of it, what counts of its packets, how many there were, and
+/// how many of them are malformed or have a bad tag.
+#[derive(Drop)]
+pub struct Check {
+    reader: CaptureReader,
+    checker: Checker,
+    packets: u32,
+    findings: u32,
+}
+
+/// Whether something is wrong with a packet.
+pub fn is_counted(finding: &Finding) -> bool
+    ensures { result ≡ is_counted finding.now }
+{
+    match finding {
+        Finding::Malformed(_) => true,
+        Finding::TagBad => true,
+        _ => false,
+    }
+}
+
+impl Check {
+    ghost use Rattle.command_driver.specs.Commands.{AnswersLine, AnswersEnd};
+    ghost use Rattle.capture_commands.specs.Check.{check_end};
+    ghost use Rattle.capture_commands.specs.CheckSteps.{begun, packet_step};
+    ghost use Rattle.std.specs.Prelude.{Ok};
+
+    /// Nothing has been read yet.
+    pub fn new() -> Check
+        ensures { result ≡ begun }
+    {
+        Check {
+            reader: CaptureReader::new(),
+            checker: Checker::new(),
+            packets: 0,
+            findings: 0,
+        }
+    }
+
+    /// One more packet.
+    #[tactic(auto, unfolding(trace_text::specs::Writes::Appends))]
+    fn packet<W: Sink>(
+        &mut self,
+        sink: &mut W,
+        to_peer: bool,
+        octets: &[u8],
+    ) -> Result<Next, Trouble>
+        requires packets { self.old.packets < 2 ^ 31 }
+        requires findings { self.old.findings < 2 ^ 31 }
+        ensures answers { AnswersLine W.written W.write_faults W.last_write_fault result sink.old sink.new
+            (packet_step self.old self.old.reader to_peer octets.now) false self.new }
+        ensures after { self.new ≡ (packet_step self.old self.old.reader to_peer octets.now).after }
+    {
+        let finding = self.checker.packet(self.reader.users(), to_peer, octets);
+        self.packets += 1;
+        self.findings += u32::from(is_counted(&finding));
+        match write_finding(sink, self.packets, &finding) {
+            Ok(()) => Ok(Next::Goes),
+            Err(_) => Err(Trouble::Write),
+        }
+    }
+
+    /// The end of the input, after the line `end`.
+    #[tactic(auto, unfolding(trace_text::specs::Writes::Appends))]
+    fn end<W: Sink>(&self, sink: &mut W) -> Result<Close, Failed>
+        ensures { AnswersEnd W.written W.write_faults W.last_write_fault result sink.old sink.new
+            (check_end self.now.packets self.now.findings (Ok tt)) }
+    {
+        match write_finding_counts(sink, self.packets, self.findings) {
+            Ok(()) => {
+                if self.findings == 0 {
+                    Ok(Close::Ends(Status::Done))
+                } else {
+                    Ok(Close::Ends(Status::Findings))
+                }
+            }
+            Err(fault) => Err(fault),
+        }
+    }
+}
+
+impl Command for Check {
+    ghost use Rattle.capture_commands.specs.declared.check.Check.{Check};
+    ghost use Rattle.capture_commands.specs.CheckSteps.{step_took, step_closing, step_lacks, HasJudged};
+
+    ghost Seen = { Check };
+
+    ghost seen = { λ c. c };
+
+    ghost took = { step_took };
+
+    ghost closing = { step_closing };
+
+    ghost lacks = { step_lacks };
+
+    ghost holds = { HasJudged };
+
+    #[tactic(auto, unfolding(crate::specs::CheckSteps::step_took))]
+    fn take<W: Sink>(&mut self, sink: &mut W, line: &[u8]) -> Result<Next, Trouble> {
+        match self.reader.line(line) {
+            Ok(CaptureItem::Packet { to_peer, octets }) => self.packet(
+                sink,
+                to_peer,
+                octets.as_slice(),
+            ),
+            Ok(CaptureItem::Nothing) => Ok(Next::Goes),
+            Ok(CaptureItem::Ready) => Ok(Next::Goes),
+            Ok(CaptureItem::End) => Ok(Next::Goes),
+            Err(fault) => Ok(Next::Refuses(fault.word(), Status::Refused)),
+        }
+    }
+
+    #[tactic(auto, unfolding(crate::specs::CheckSteps::step_closing))]
+    fn close<W: Sink>(&self, sink: &mut W) -> Result<Close, Failed> {
+        match self.reader.finish() {
+            Ok(()) => self.end(sink),
+            Err(fault) => Ok(Close::Misses(fault.word())),
+        }
+    }
+}
+
+/// Reads a capture and writes the finding of each packet. The status is `Findings` where the capture was read to its
+/// end and a packet is malformed or has a bad tag. It takes no memory.
+pub fn check_capture<S: Source, W: Sink>(source: &mut S, sink: &mut W) -> Status
+    ensures { Responds S.left S.read_faults S.last_read_fault W.written W.write_faults W.last_write_fault
+        (reading check_answer never) result source.old source.new sink.old sink.new }
+{
+    drive(&mut Check::new(), source, sink)
+}

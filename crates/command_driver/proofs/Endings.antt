@@ -1,0 +1,101 @@
+-- How a run ends after a part of its text has been written.
+use Rattle.std.proofs.Common.{◌≡◌, ℕ, List, [], ◌++◌, Option, refl, sym, ◌∙◌, ap, subst, append_assoc, arith}
+use Rattle.eap_base.specs.Known.{append_known}
+use Rattle.trace_text.specs.Writes.{WritesFront}
+use Rattle.trace_text.proofs.Fronts.{append_known_append, append_known_nil}
+use Rattle.command_driver.specs.declared.status.Status.{Status}
+use Rattle.command_driver.specs.declared.status.Status.TheVariants as status
+use Rattle.command_driver.specs.Answers.{Answer, after_text, Gives, Ends, KeepsReads, KeepsWrites, Finishes}
+
+-- a text after what was written
+pub gives_after : (s : Status) (before mid now : Option (List ℕ)) (front : List ℕ) (a : Answer) → append_known before front ≡ mid
+    → Gives mid now a s → Gives before now (after_text front a) s
+gives_after s before mid now front a e g = record {
+  text = append_known_append before front a.text ∙ ap (λ k. append_known k a.text) e ∙ g.text;
+  status = g.status;
+}
+
+pub front_after : (before mid now : Option (List ℕ)) (front text : List ℕ) → append_known before front ≡ mid
+    → WritesFront mid now text → WritesFront before now (front ++ text)
+front_after before mid now front text e w = record {
+  front = front ++ w.front;
+  rest = w.rest;
+  split = ap (λ t. front ++ t) w.split ∙ sym (append_assoc front w.front w.rest);
+  appended = append_known_append before front w.front ∙ ap (λ k. append_known k w.front) e ∙ w.appended;
+}
+
+pub ends_after : (s : Status) (before mid now : Option (List ℕ)) (front : List ℕ) (a : Answer) → append_known before front ≡ mid
+    → Ends s mid now a → Ends s before now (after_text front a)
+ends_after status.Done before mid now front a e w = gives_after status.Done before mid now front a e w
+ends_after status.Usage before mid now front a e w = gives_after status.Usage before mid now front a e w
+ends_after status.Refused before mid now front a e w = gives_after status.Refused before mid now front a e w
+ends_after status.ReadFault before mid now front a e w = front_after before mid now front a.text e w
+ends_after status.WriteFault before mid now front a e w = front_after before mid now front a.text e w
+ends_after status.Memory before mid now front a e w = front_after before mid now front a.text e w
+ends_after status.TooMuch before mid now front a e w = gives_after status.TooMuch before mid now front a e w
+ends_after status.Findings before mid now front a e w = gives_after status.Findings before mid now front a e w
+
+-- the counts of faults
+pub keeps_writes_from : (s : Status) (before mid now : ℕ) → mid ≡ before → KeepsWrites s mid now → KeepsWrites s before now
+keeps_writes_from s before mid now e h = subst (λ n. KeepsWrites s n now) e h
+
+pub keeps_reads_from : (s : Status) (before mid now : ℕ) → mid ≡ before → KeepsReads s mid now → KeepsReads s before now
+keeps_reads_from s before mid now e h = subst (λ n. KeepsReads s n now) e h
+
+pub keeps_reads : (s : Status) (before now : ℕ) → now ≡ before → KeepsReads s before now
+keeps_reads status.Done before now e = e
+keeps_reads status.Usage before now e = e
+keeps_reads status.Refused before now e = e
+keeps_reads status.ReadFault before now e = tt
+keeps_reads status.WriteFault before now e = e
+keeps_reads status.Memory before now e = e
+keeps_reads status.TooMuch before now e = e
+keeps_reads status.Findings before now e = e
+
+pub finishes_after : {S : Type 0} (written : S → Option (List ℕ)) (faults : S → ℕ) (last : Option ℕ)
+    (result : Status) (before mid now : S) (front : List ℕ) (a : Answer)
+    → append_known (written before) front ≡ written mid → faults mid ≡ faults before
+    → Finishes written faults last result mid now a → Finishes written faults last result before now (after_text front a)
+finishes_after written faults last result before mid now front a e f w = record {
+  ends = ends_after result (written before) (written mid) (written now) front a e w.ends;
+  written_only = w.written_only;
+  counted = λ is h. w.counted is (omega arith);
+  uncounted = keeps_writes_from result (faults before) (faults mid) (faults now) f w.uncounted;
+  never_falls = omega arith;
+}
+
+-- the same answer
+pub ends_same : (s : Status) (before now : Option (List ℕ)) (a b : Answer) → a ≡ b → Ends s before now b → Ends s before now a
+ends_same s before now a b e w = subst (λ x. Ends s before now x) (sym e) w
+
+pub front_same : (before now : Option (List ℕ)) (a b : Answer) → a ≡ b → WritesFront before now a.text → WritesFront before now b.text
+front_same before now a b e w = subst (λ (x : Answer). WritesFront before now x.text) e w
+
+-- what was written is a front of the whole answer, and the rest of it is another answer
+pub record Progress (before now : Option (List ℕ)) (total rest : Answer) : Type 0 where
+  pub front : List ℕ
+  pub split : total ≡ after_text front rest
+  pub appended : append_known before front ≡ now
+
+pub ends_progress : (s : Status) (before mid now : Option (List ℕ)) (total rest : Answer) → Progress before mid total rest
+    → Ends s mid now rest → Ends s before now total
+ends_progress s before mid now total rest p w =
+    ends_same s before now total (after_text p.front rest) p.split (ends_after s before mid now p.front rest p.appended w)
+
+pub front_progress : (before mid now : Option (List ℕ)) (total rest : Answer) → Progress before mid total rest
+    → WritesFront mid now rest.text → WritesFront before now total.text
+front_progress before mid now total rest p w =
+    subst (λ (x : Answer). WritesFront before now x.text) (sym p.split) (front_after before mid now p.front rest.text p.appended w)
+
+-- nothing more of a text is written
+pub front_none : (now : Option (List ℕ)) (text : List ℕ) → WritesFront now now text
+front_none now text = record { front = []; rest = text; split = refl; appended = append_known_nil now }
+
+-- a front of the first part of a text
+pub front_first : (before now : Option (List ℕ)) (first second : List ℕ) → WritesFront before now first → WritesFront before now (first ++ second)
+front_first before now first second w = record {
+  front = w.front;
+  rest = w.rest ++ second;
+  split = ap (λ t. t ++ second) w.split ∙ append_assoc w.front w.rest second;
+  appended = w.appended;
+}

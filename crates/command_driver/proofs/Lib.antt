@@ -1,0 +1,6 @@
+-- A command on its way through lines.
+pub mod Driving
+-- How a run ends after a part of its text has been written.
+pub mod Endings
+-- How a call that answers ends.
+pub mod Responding

@@ -1,0 +1,118 @@
+-- How a call that answers ends.
+use Rattle.std.proofs.Common.{◌≡◌, ℕ, List, Bool, false, Option, Some, subst, arith}
+use Rattle.eap_base.specs.Known.{append_known}
+use Rattle.trace_text.specs.Writes.{WritesFront}
+use Rattle.command_driver.specs.Answers.{Answer, after_text, Ends, Drains, HasRisen, Finishes, IsWritten}
+use Rattle.command_driver.specs.Commands.{SomeLacks}
+use Rattle.command_driver.specs.Responding.{Lacking, MayLack, never, Reads, Says}
+use Rattle.command_driver.specs.declared.status.Status.{Status}
+use Rattle.command_driver.specs.declared.status.Status.TheVariants as status
+use Rattle.command_driver.proofs.Endings.{keeps_reads, keeps_writes_from, ends_after, ends_same}
+
+-- what only writes an answer never lacks memory
+pub finishes_says : {W : Type 0} {written : W → Option (List ℕ)} {write_faults : W → ℕ} {last : Option ℕ} {result : Status} {old new : W} {a : Answer}
+    → Finishes written write_faults last result old new a → Says written write_faults last a never result old new
+finishes_says f = record {
+  ends = f.ends;
+  no_read_fault = λ w. subst IsWritten w f.written_only;
+  write_fault = f.counted;
+  writes = f.uncounted;
+  memory = λ w _. subst IsWritten w f.written_only;
+}
+
+module _ {S W : Type 0} {left : S → Option (List ℕ)} {read_faults : S → ℕ} {last_read_fault : Option ℕ}
+    {written : W → Option (List ℕ)} {write_faults : W → ℕ} {last_write_fault : Option ℕ} where
+  -- by an answer to what was left
+  pub finished : {answer : List ℕ → Answer} {lacking : Lacking} {before now : S} {old mid new : W} {result : Status} {a : Answer}
+      → Finishes written write_faults last_write_fault result mid new a
+      → ((octets : List ℕ) → left before ≡ Some octets → Ends result (written old) (written new) (answer octets))
+      → Drains result (left now) → read_faults now ≡ read_faults before → write_faults mid ≡ write_faults old
+      → Reads left read_faults last_read_fault written write_faults last_write_fault answer lacking result before now old new
+  finished {result = result} f ends drains same_reads same_writes = record {
+    ends = ends;
+    drains = drains;
+    read_fault = λ w. absurd (subst IsWritten w f.written_only);
+    write_fault = λ w h. f.counted w (omega (arith, h, same_writes));
+    reads = keeps_reads result _ _ same_reads;
+    writes = keeps_writes_from result _ _ _ same_writes f.uncounted;
+    memory = λ w. absurd (subst IsWritten w f.written_only);
+  }
+
+  -- by a write that failed
+  pub cut : {answer : List ℕ → Answer} {lacking : Lacking} {before now : S} {old new : W} {mid : ℕ}
+      → ((octets : List ℕ) → left before ≡ Some octets → WritesFront (written old) (written new) (answer octets).text)
+      → read_faults now ≡ read_faults before → mid ≡ write_faults old
+      → HasRisen last_write_fault mid (write_faults new)
+      → Reads left read_faults last_read_fault written write_faults last_write_fault answer lacking status.WriteFault before now old new
+  cut ends same_reads same_writes risen = record {
+    ends = ends;
+    drains = tt;
+    read_fault = λ w. absurd cc;
+    write_fault = λ w h. risen (omega (arith, h, same_writes));
+    reads = same_reads;
+    writes = tt;
+    memory = λ w. absurd cc;
+  }
+
+  -- by a read that failed
+  pub unreadable : {answer : List ℕ → Answer} {lacking : Lacking} {before now : S} {old new : W} {mid : ℕ}
+      → ((octets : List ℕ) → left before ≡ Some octets → WritesFront (written old) (written new) (answer octets).text)
+      → mid ≡ read_faults before → HasRisen last_read_fault mid (read_faults now) → write_faults new ≡ write_faults old
+      → Reads left read_faults last_read_fault written write_faults last_write_fault answer lacking status.ReadFault before now old new
+  unreadable ends same_reads risen same_writes = record {
+    ends = ends;
+    drains = tt;
+    read_fault = λ w h. risen (omega (arith, h, same_reads));
+    write_fault = λ w. absurd cc;
+    reads = tt;
+    writes = same_writes;
+    memory = λ w. absurd cc;
+  }
+
+  -- for want of memory
+  pub lacked : {answer : List ℕ → Answer} {lacking : Lacking} {before now : S} {old new : W}
+      → ((octets : List ℕ) → left before ≡ Some octets → WritesFront (written old) (written new) (answer octets).text)
+      → read_faults now ≡ read_faults before → write_faults new ≡ write_faults old → MayLack lacking (left before)
+      → Reads left read_faults last_read_fault written write_faults last_write_fault answer lacking status.Memory before now old new
+  lacked ends same_reads same_writes may = record {
+    ends = ends;
+    drains = tt;
+    read_fault = λ w. absurd cc;
+    write_fault = λ w. absurd cc;
+    reads = same_reads;
+    writes = same_writes;
+    memory = λ w. may;
+  }
+
+  -- a text was written before, and the answer is another one's after it
+  pub reads_after : {answer whole : List ℕ → Answer} {lacking may : Lacking} {before now : S} {old mid new : W} {result : Status} (front : List ℕ)
+      → append_known (written old) front ≡ written mid → write_faults mid ≡ write_faults old
+      → ((octets : List ℕ) → whole octets ≡ after_text front (answer octets))
+      → (MayLack lacking (left before) → MayLack may (left before))
+      → Reads left read_faults last_read_fault written write_faults last_write_fault answer lacking result before now mid new
+      → Reads left read_faults last_read_fault written write_faults last_write_fault whole may result before now old new
+  reads_after {result = result} front text same_writes is may r = record {
+    ends = λ octets e. ends_same result _ _ _ _ (is octets) (ends_after result _ _ _ front _ text (r.ends octets e));
+    drains = r.drains;
+    read_fault = r.read_fault;
+    write_fault = λ w h. r.write_fault w (omega (arith, h, same_writes));
+    reads = r.reads;
+    writes = keeps_writes_from result _ _ _ same_writes r.writes;
+    memory = λ w. may (r.memory w);
+  }
+
+  -- the same answer, where no line of a command may lack memory
+  pub never_lacks : {C : Type 0} {lacks : C → List ℕ → Bool} {answer same : List ℕ → Answer} {lacking : Lacking} {before now : S} {old new : W} {result : Status}
+      → ((c : C) (line : List ℕ) → lacks c line ≡ false) → ((octets : List ℕ) → same octets ≡ answer octets)
+      → (result ≡ status.Memory → SomeLacks lacks)
+      → Reads left read_faults last_read_fault written write_faults last_write_fault answer lacking result before now old new
+      → Reads left read_faults last_read_fault written write_faults last_write_fault same never result before now old new
+  never_lacks {result = result} none is wanting r = record {
+    ends = λ octets e. ends_same result _ _ _ _ (is octets) (r.ends octets e);
+    drains = r.drains;
+    read_fault = r.read_fault;
+    write_fault = r.write_fault;
+    reads = r.reads;
+    writes = r.writes;
+    memory = λ w. let some = wanting w in let no = none some.command some.text in let yes = some.wanting in cc;
+  }

@@ -1,0 +1,69 @@
+//! A command that reads lines.
+
+ghost use Rattle.std.specs.Prelude.{◌+◌, ℕ, IfOk};
+ghost use Rattle.command_driver.specs.Commands.{AnswersLine, AnswersEnd, AfterLines};
+
+use crate::status::Status;
+use eap_base::{Failed, Sink};
+
+/// What follows a line.
+#[derive(Clone, Copy)]
+pub enum Next {
+    /// The next line.
+    Goes,
+    /// The line is refused with this word, and the run ends with this status.
+    Refuses(&'static str, Status),
+}
+
+/// What the end of the input brings.
+#[derive(Clone, Copy)]
+pub enum Close {
+    /// The run ends with this status.
+    Ends(Status),
+    /// Something is missing.
+    Misses(&'static str),
+}
+
+/// Why a line could not be answered.
+#[derive(Clone, Copy, PartialEq, Eq, Debug)]
+pub enum Trouble {
+    /// A write failed.
+    Write,
+    /// Memory was wanting.
+    Memory,
+}
+
+/// A command that reads lines, answers each, and ends with the input.
+pub trait Command {
+    ghost use Rattle.std.specs.Prelude.{ℕ, List, Bool};
+    ghost use Rattle.command_driver.specs.Commands.{Took, Closing};
+
+    /// What of the command decides what its lines bring.
+    ghost Seen: { Type 0 };
+
+    /// What of a command decides what its lines bring.
+    ghost seen: { Self → Seen };
+
+    /// What a line brings.
+    ghost took: { Seen → List ℕ → Took Seen };
+
+    /// What the end of the input brings.
+    ghost closing: { Seen → Closing };
+
+    /// Whether a line may find memory wanting.
+    ghost lacks: { Seen → List ℕ → Bool };
+
+    /// What holds of the command after so many lines.
+    ghost holds: { Self → ℕ → Type 0 };
+
+    /// Takes a line and writes its answer.
+    fn take<W: Sink>(&mut self, sink: &mut W, line: &[u8]) -> Result<Next, Trouble>
+        requires { AfterLines holds self.old }
+        ensures holds_after { IfOk result (λ next. (lines : ℕ) → holds self.old lines → holds self.new (lines + 1)) }
+        ensures answers { AnswersLine W.written W.write_faults W.last_write_fault result sink.old sink.new
+            (took (seen self.old) line.now) (lacks (seen self.old) line.now) (seen self.new) };
+
+    /// Meets the end of the input and writes its answer.
+    fn close<W: Sink>(&self, sink: &mut W) -> Result<Close, Failed>
+        ensures { AnswersEnd W.written W.write_faults W.last_write_fault result sink.old sink.new (closing (seen self.now)) };
+}

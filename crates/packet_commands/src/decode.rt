@@ -1,0 +1,105 @@
+//! The command `decode`: says what each packet of a list is.
+
+ghost use Rattle.std.specs.Prelude.{◌≡◌, ◌<◌, ◌^◌, false};
+ghost use Rattle.command_driver.specs.Responding.{Responds, reading, never};
+ghost use Rattle.packet_commands.specs.Decode.{is_malformed, decode_answer};
+
+use command_driver::{Close, Command, Next, Status, Trouble, drive};
+use eap_base::{Failed, Sink, Source};
+use eap_packet::decode;
+use request_text::read_packet_line;
+use trace_text::{write_packet, write_packet_counts};
+
+/// How many packets there were so far, and how many of them were malformed.
+#[derive(Clone, Copy, PartialEq, Eq, Debug)]
+pub struct Decode {
+    packets: u32,
+    malformed: u32,
+}
+
+/// True where the octets begin with no packet.
+#[tactic(auto, unfolding(crate::specs::Decode::is_malformed))]
+fn begins_with_none(octets: &[u8]) -> bool
+    ensures { result ≡ is_malformed octets.now }
+{
+    match decode(octets) {
+        Ok(_) => false,
+        Err(_) => true,
+    }
+}
+
+impl Decode {
+    ghost use Rattle.packet_commands.specs.Decode.{took_packet, with_packet, nothing_decoded};
+    ghost use Rattle.command_driver.specs.Commands.{AnswersLine};
+    ghost use Rattle.std.specs.Prelude.{Some, Ok};
+
+    /// No packet so far.
+    pub fn new() -> Decode
+        ensures { result ≡ nothing_decoded }
+    {
+        Decode {
+            packets: 0,
+            malformed: 0,
+        }
+    }
+
+    /// One more packet.
+    #[tactic(auto, unfolding(trace_text::specs::Writes::Appends))]
+    fn packet<W: Sink>(&mut self, sink: &mut W, octets: &[u8]) -> Result<Next, Trouble>
+        requires packets { self.old.packets < 2 ^ 31 }
+        requires malformed { self.old.malformed < 2 ^ 31 }
+        ensures answers { AnswersLine W.written W.write_faults W.last_write_fault result sink.old sink.new
+            (took_packet self.old (Ok (Some octets.now))) false self.new }
+        ensures after { self.new ≡ with_packet self.old octets.now }
+    {
+        self.packets += 1;
+        self.malformed += u32::from(begins_with_none(octets));
+        match write_packet(sink, self.packets, octets) {
+            Ok(()) => Ok(Next::Goes),
+            Err(_) => Err(Trouble::Write),
+        }
+    }
+}
+
+impl Command for Decode {
+    ghost use Rattle.packet_commands.specs.declared.decode.Decode.{Decode};
+    ghost use Rattle.packet_commands.specs.Decode.{decode_took, decode_closing, decode_lacks, HasCounted};
+
+    ghost Seen = { Decode };
+
+    ghost seen = { λ c. c };
+
+    ghost took = { decode_took };
+
+    ghost closing = { decode_closing };
+
+    ghost lacks = { decode_lacks };
+
+    ghost holds = { HasCounted };
+
+    #[tactic(auto, unfolding(crate::specs::Decode::decode_took))]
+    fn take<W: Sink>(&mut self, sink: &mut W, line: &[u8]) -> Result<Next, Trouble> {
+        match read_packet_line(line) {
+            Ok(None) => Ok(Next::Goes),
+            Ok(Some(octets)) => self.packet(sink, octets.as_slice()),
+            Err(fault) => Ok(Next::Refuses(fault.word(), Status::Refused)),
+        }
+    }
+
+    #[tactic(auto, unfolding(crate::specs::Decode::decode_closing, trace_text::specs::Writes::Appends))]
+    fn close<W: Sink>(&self, sink: &mut W) -> Result<Close, Failed> {
+        match write_packet_counts(sink, self.packets, self.malformed) {
+            Ok(()) => Ok(Close::Ends(Status::Done)),
+            Err(fault) => Err(fault),
+        }
+    }
+}
+
+/// Reads packets in hex and writes what they are. It takes no memory.
+#[tactic(auto, using(command_driver::proofs::Responding::never_lacks))]
+pub fn decode_packets<S: Source, W: Sink>(source: &mut S, sink: &mut W) -> Status
+    ensures { Responds S.left S.read_faults S.last_read_fault W.written W.write_faults W.last_write_fault
+        (reading decode_answer never) result source.old source.new sink.old sink.new }
+{
+    drive(&mut Decode::new(), source, sink)
+}

@@ -1,0 +1,66 @@
+//! The command `keys`: answers requests for ciphers, MACs and keys.
+
+ghost use Rattle.command_driver.specs.Responding.{Responds, reading, never};
+ghost use Rattle.packet_commands.specs.Keys.{keys_answer};
+
+use command_driver::{Close, Command, Next, Status, Trouble, drive};
+use eap_base::{Failed, Sink, Source};
+use request_text::{KeyLine, read_key_line};
+use trace_text::write_key_line;
+
+/// The requests, each of which is answered by itself, and the place into which they are read.
+#[derive(Drop)]
+pub struct Keys {
+    asked: KeyLine,
+}
+
+impl Keys {
+    /// No request so far.
+    pub fn new() -> Keys {
+        Keys {
+            asked: KeyLine::new(),
+        }
+    }
+}
+
+impl Command for Keys {
+    ghost use Rattle.packet_commands.specs.Keys.{Asking, all_asked, keys_took, keys_closing, keys_lacks};
+
+    ghost Seen = { Asking };
+
+    ghost seen = { λ _. all_asked };
+
+    ghost took = { keys_took };
+
+    ghost closing = { keys_closing };
+
+    ghost lacks = { keys_lacks };
+
+    ghost holds = { λ _ _. Unit {0} };
+
+    #[tactic(auto, unfolding(crate::specs::Keys::keys_took, trace_text::specs::Writes::Appends))]
+    fn take<W: Sink>(&mut self, sink: &mut W, line: &[u8]) -> Result<Next, Trouble> {
+        match read_key_line(line, &mut self.asked) {
+            Ok(false) => Ok(Next::Goes),
+            Ok(true) => match write_key_line(sink, &self.asked) {
+                Ok(()) => Ok(Next::Goes),
+                Err(_) => Err(Trouble::Write),
+            },
+            Err(fault) => Ok(Next::Refuses(fault.word(), Status::Refused)),
+        }
+    }
+
+    #[tactic(auto, unfolding(crate::specs::Keys::keys_closing))]
+    fn close<W: Sink>(&self, _sink: &mut W) -> Result<Close, Failed> {
+        Ok(Close::Ends(Status::Done))
+    }
+}
+
+/// Reads requests for ciphers, MACs and keys and writes the answers. It takes no memory.
+#[tactic(auto, using(command_driver::proofs::Responding::never_lacks))]
+pub fn answer_keys<S: Source, W: Sink>(source: &mut S, sink: &mut W) -> Status
+    ensures { Responds S.left S.read_faults S.last_read_fault W.written W.write_faults W.last_write_fault
+        (reading keys_answer never) result source.old source.new sink.old sink.new }
+{
+    drive(&mut Keys::new(), source, sink)
+}

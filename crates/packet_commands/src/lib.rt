@@ -1,0 +1,9 @@
+//! The commands over single packets and keys: `decode` says what packets are, `keys` answers requests for ciphers,
+//! MACs and key schedules. Neither takes memory.
+#![tactic(auto)]
+
+mod decode;
+mod keys;
+
+pub use decode::decode_packets;
+pub use keys::answer_keys;

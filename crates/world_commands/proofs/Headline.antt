@@ -1,0 +1,75 @@
+-- The run of every scenario keeps agreement.
+use Rattle.std.proofs.Common.{◌≡◌, ℕ, ◌+◌, List, Bool, true, false, Some, Result, Ok, Err, refl, subst}
+use Rattle.std.specs.Prelude.{if◌then◌else◌, ◌&&◌, nat_le, IfOk}
+use Rattle.eap_base.specs.declared.event.Event.{Event}
+use Rattle.eap_base.specs.declared.setup.Setup.{Setup}
+use Rattle.eap_base.specs.Lines.{Lines, ended, too_long, too_much, line, lines}
+use Rattle.eap_world.specs.Agreement.{IsWhole}
+use Rattle.eap_world.proofs.HonestOfEither.{honest_of_either}
+use Rattle.eap_world.proofs.HonestRuns.{honest_ends_agree}
+use Rattle.eap_world.proofs.Few.{few_tags}
+use Rattle.eap_world.proofs.Whose.{honest_names_are_theirs}
+use Rattle.scenario_text.specs.Reading.{Reading, ReadLine, no_settings, read_line}
+use Rattle.scenario_text.specs.Valid.{AreValid, IsValidSetup, IsValidItem, IsValidReadLine}
+use Rattle.text_tables.specs.declared.fault.LineFault.{LineFault}
+use Rattle.scenario_text.specs.Items.{Item}
+use Rattle.scenario_text.specs.Items as item
+use Rattle.scenario_text.specs.declared.scenario.Phase.TheVariants as phase
+use Rattle.scenario_text.proofs.ValidReading.{no_settings_valid, read_line_valid}
+use Rattle.world_commands.specs.Headline.{HonestEndsAgree}
+use Rattle.world_commands.specs.Replay.{max_events}
+use Rattle.world_commands.specs.Scenario.{Scenario, stops, too_much_at, adds, is_event, with_line, events_after, read_after, scenario_from, scenario_of}
+
+-- ---- a scenario's setup is valid
+
+of_event : (full : Bool) (number : ℕ) (s : Scenario) (e : Event) (setup : Setup)
+    → (let made : Scenario = if full then stops (too_much_at number) else adds (item.Event e) s in made.setup) ≡ Some setup → s.setup ≡ Some setup
+of_event true number s e setup same = cc
+of_event false number s e setup same = same
+
+of_item : (i : Item) (number k : ℕ) (s : Scenario) (setup : Setup) → IsValidItem i → (s.setup ≡ Some setup → IsValidSetup setup)
+    → (let made : Scenario = if is_event i && nat_le max_events k then stops (too_much_at number) else adds i s in made.setup) ≡ Some setup → IsValidSetup setup
+of_item item.Nothing number k s setup valid rest same = rest same
+of_item (item.Ready other) number k s setup valid rest same = subst IsValidSetup (let equal : other ≡ setup = cc in equal) valid
+of_item (item.Event e) number k s setup valid rest same = rest (of_event (nat_le max_events k) number s e setup same)
+of_item item.End number k s setup valid rest same = rest same
+
+of_line : (number k : ℕ) (x : Result ReadLine LineFault) (s : Scenario) (setup : Setup) → IfOk x IsValidReadLine → ((out : ReadLine) → x ≡ Ok out → s.setup ≡ Some setup → IsValidSetup setup)
+    → (with_line number k x s).setup ≡ Some setup → IsValidSetup setup
+of_line number k (Err fault) s setup valid rest same = cc
+of_line number k (Ok out) s setup valid rest same = of_item out.item number k s setup valid.item (rest out refl) same
+
+after_valid : (r : Reading) (x : Result ReadLine LineFault) (out : ReadLine) → IfOk x IsValidReadLine → x ≡ Ok out → AreValid (read_after r x).settings
+after_valid r (Err fault) out valid is = cc
+after_valid r (Ok other) out valid is = valid.settings
+
+pub setup_valid : (ls : Lines) (n k : ℕ) (r : Reading) (setup : Setup) → AreValid r.settings → (scenario_from n k r ls).setup ≡ Some setup → IsValidSetup setup
+unfolding scenario_from
+setup_valid ended n k r setup valid same = cc
+setup_valid too_long n k r setup valid same = cc
+setup_valid too_much n k r setup valid same = cc
+setup_valid (line l rest) n k r setup valid same =
+    let read = read_line_valid r l valid in
+    of_line (n + 1) k (read_line r l) (scenario_from (n + 1) (events_after k (read_line r l)) (read_after r (read_line r l)) rest) setup read
+    (λ out is. setup_valid rest (n + 1) (events_after k (read_line r l)) (read_after r (read_line r l)) setup (after_valid r (read_line r l) out read is))
+    same
+
+pub whole_if_valid : (setup : Setup) → IsValidSetup setup → IsWhole setup
+whole_if_valid setup valid = record {
+  peer = valid.peer.sound;
+  keys = valid.peer.keys;
+  server = valid.server.sound;
+  peer_nonce = valid.peer.nonce;
+  server_nonce = valid.server.nonce;
+}
+
+pub headline : (octets : List ℕ) → HonestEndsAgree octets
+headline octets setup is =
+    let events = (scenario_of octets).events in
+    let whole = whole_if_valid setup (setup_valid (lines octets) 0 0 (record { phase = phase.Unread; settings = no_settings }) setup no_settings_valid is) in
+    record {
+      of_either = honest_of_either _;
+      agrees = honest_ends_agree setup events whole;
+      theirs = honest_names_are_theirs setup events whole;
+      few_tags = few_tags setup events;
+    }

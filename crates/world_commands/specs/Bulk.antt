@@ -1,0 +1,55 @@
+-- The words `bulk N K`: K conversations of the number N.
+use Rattle.std.specs.Prelude.{ℕ, List, [], ◌∷◌, ◌++◌, Bool, if◌then◌else◌, codes, decimal, Option, Some, None, Result, Ok, Err, is_some}
+use Rattle.std.specs.List.{concat}
+use Rattle.std.specs.Str.{bytes_eq}
+use Rattle.bulk_run.specs.Summing.{summary_of}
+use Rattle.bulk_run.specs.declared.summary.Summary.{Summary}
+use Rattle.trace_text.specs.Lines.{line_text}
+use Rattle.text_tables.specs.Fields.{number_of}
+use Rattle.text_tables.specs.declared.fault.LineFault.{LineFault}
+use Rattle.command_driver.specs.Answers.{Answer}
+use Rattle.world_commands.specs.declared.bulk.Bulk.{Bulk}
+use Rattle.command_driver.specs.declared.status.Status.TheVariants as status
+
+-- the number is 0 to 999,999, and there are 1 to 1,000 conversations; both as a scenario spells numbers
+abbrev pub bulk_with : Result ℕ LineFault → Result ℕ LineFault → Option Bulk
+bulk_with (Err fault) count = None
+bulk_with (Ok number) (Err fault) = None
+bulk_with (Ok number) (Ok count) = Some (record { number = number; count = count })
+
+abbrev pub bulk_spelled : List ℕ → List ℕ → Option Bulk
+bulk_spelled number count = bulk_with (number_of number 0 999999) (number_of count 1 1000)
+
+-- what the words ask for
+abbrev pub bulk_of : List (List ℕ) → Option Bulk
+bulk_of [] = None
+bulk_of (word ∷ []) = None
+bulk_of (word ∷ number ∷ []) = None
+bulk_of (word ∷ number ∷ count ∷ []) = if bytes_eq word (codes "bulk") then bulk_spelled number count else None
+bulk_of (word ∷ number ∷ count ∷ more ∷ rest) = None
+
+abbrev pub is_bulk : List (List ℕ) → Bool
+is_bulk words = is_some (bulk_of words)
+
+-- the words again
+unfoldable pub bulk_line : ℕ → ℕ → List ℕ
+bulk_line number count = concat (codes "bulk " ∷ decimal number ∷ codes " " ∷ decimal count ∷ codes "\n" ∷ [])
+
+-- how the conversations ended, and in how many a tag was broken
+unfoldable pub verdicts_text : Summary → List ℕ
+verdicts_text s = concat (
+    codes "conversations " ∷ decimal s.conversations ∷ codes "\n" ∷ codes "agree " ∷ decimal s.agree ∷ codes "\n" ∷
+    codes "open " ∷ decimal s.unfinished ∷ codes "\n" ∷ codes "apart " ∷ decimal s.apart ∷ codes "\n" ∷
+    codes "broken " ∷ decimal s.broken ∷ codes "\n" ∷ [])
+
+-- what was delivered and discarded in them
+unfoldable pub handled_text : Summary → List ℕ
+handled_text s = concat (
+    codes "deliveries " ∷ decimal s.deliveries ∷ codes "\n" ∷ codes "discards " ∷ decimal s.discards ∷ codes "\n" ∷ [])
+
+-- the lines of the answer
+abbrev pub bulk_text : ℕ → ℕ → Summary → List ℕ
+bulk_text number count s = bulk_line number count ++ (verdicts_text s ++ (handled_text s ++ line_text (codes "end")))
+
+unfoldable pub bulk_answer : Bulk → Answer
+bulk_answer b = record { text = bulk_text b.number b.count (summary_of b.number b.count); status = status.Done }

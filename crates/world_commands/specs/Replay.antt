@@ -1,0 +1,117 @@
+-- The command replay: a scenario is read line by line, and each event is run as it comes.
+use Rattle.std.specs.Prelude.{◌≡◌, ℕ, List, [], ◌∷◌, Bool, true, false, nat_le, if◌then◌else◌, Option, Some, None, Result, Ok, Err, codes, map, option_map, IfSome}
+use Rattle.eap_base.specs.declared.event.Event.{Event}
+use Rattle.eap_base.specs.declared.setup.Setup.{Setup}
+use Rattle.eap_base.specs.Setup.{psk_kind, gpsk_kind}
+use Rattle.eap_method.specs.Peer.{PeerShown, peer_kinds, have_each}
+use Rattle.eap_method.specs.Server.{ServerShown, server_kinds}
+use Rattle.eap_world.specs.World.{WorldNow, now_of, world_made, world_start, world_step}
+use Rattle.eap_world.specs.declared.world.Methods.{Methods}
+use Rattle.text_tables.specs.Words.{fault_word}
+use Rattle.scenario_text.specs.Reading.{Reading, ReadLine, read_line, finish_of}
+use Rattle.text_tables.specs.declared.fault.LineFault.{LineFault}
+use Rattle.scenario_text.specs.Items.{Item}
+use Rattle.scenario_text.specs.Items as item
+use Rattle.trace_text.specs.Run.{begin_text, outcome_text, end_text}
+use Rattle.command_driver.specs.Commands.{Took, Closing, goes, refuses, ends, misses}
+use Rattle.world_commands.specs.declared.replay.Replay.{Replay}
+use Rattle.command_driver.specs.declared.status.Status.TheVariants as status
+
+-- the events of a scenario are at most 10,000
+abbrev pub max_events : ℕ
+max_events = 10000
+
+-- what of the command decides its lines: whether octets and key names are written, what has been read, and
+-- the world from the line `events` on
+pub record ReplayNow : Type 0 where
+  pub names : Bool
+  pub reader : Reading
+  pub world : Option WorldNow
+
+module _ {P S : Type 0} (peer_shown : P → PeerShown) (server_shown : S → ServerShown) where
+  abbrev pub seen_of : Replay P S → ReplayNow
+  seen_of c = record { names = c.names; reader = c.reader; world = option_map (now_of peer_shown server_shown) c.world }
+
+  -- each end has an object of each method
+  pub record HasBoth (methods : Methods P S) : Type 0 where
+    pub peer : have_each (peer_kinds (map peer_shown methods.peer.items)) (psk_kind ∷ gpsk_kind ∷ []) ≡ true
+    pub server : have_each (server_kinds (map server_shown methods.server.items)) (psk_kind ∷ gpsk_kind ∷ []) ≡ true
+
+  abbrev pub AreThere : Option (Methods P S) → Type 0
+  AreThere None = ⊥
+  AreThere (Some methods) = HasBoth methods
+
+  -- before the world begins the methods are there, and a world has started
+  pub record IsReady (c : Replay P S) (lines : ℕ) : Type 0 where
+    pub objects : c.world ≡ None → AreThere c.methods
+    pub started : IfSome c.world (λ w. w.started ≡ true)
+
+-- a line that brings nothing to write
+abbrev pub goes_silently : ReplayNow → Took ReplayNow
+goes_silently c = record { text = []; ruling = goes; after = c }
+
+abbrev pub is_refused : ReplayNow → List ℕ → Took ReplayNow
+is_refused c word = record { text = []; ruling = refuses word status.Refused; after = c }
+
+-- the world has started or has taken an event, and its lines are written
+abbrev pub goes_with : ReplayNow → List ℕ → WorldNow → Took ReplayNow
+goes_with c text w = record { text = text; ruling = goes; after = record c { world = Some w } }
+
+-- the line `events`: the world starts
+abbrev pub starts_in : ReplayNow → Option WorldNow → Setup → Took ReplayNow
+starts_in c None setup = goes_with c (begin_text c.names (world_start (world_made setup))) (world_start (world_made setup)).after
+starts_in c (Some w) setup = goes_silently c
+
+abbrev pub starts : ReplayNow → Setup → Took ReplayNow
+starts c setup = starts_in c c.world setup
+
+-- an event: the world takes it, but for one too many
+abbrev pub steps_in : ReplayNow → Option WorldNow → Event → Took ReplayNow
+steps_in c None e = goes_silently c
+steps_in c (Some w) e =
+    if nat_le max_events w.counts.events
+    then record { text = []; ruling = refuses (codes "TooMuch") status.TooMuch; after = c }
+    else goes_with c (outcome_text c.names (world_step w e)) (world_step w e).after
+
+abbrev pub steps : ReplayNow → Event → Took ReplayNow
+steps c e = steps_in c c.world e
+
+abbrev pub took_item : ReplayNow → Item → Took ReplayNow
+took_item c item.Nothing = goes_silently c
+took_item c (item.Ready setup) = starts c setup
+took_item c (item.Event e) = steps c e
+took_item c item.End = goes_silently c
+
+abbrev pub took_reading : ReplayNow → Result ReadLine LineFault → Took ReplayNow
+took_reading c (Err fault) = is_refused c (fault_word fault)
+took_reading c (Ok r) = took_item (record c { reader = r.after }) r.item
+
+-- what a line brings
+unfoldable pub replay_took : ReplayNow → List ℕ → Took ReplayNow
+replay_took c l = took_reading c (read_line c.reader l)
+
+-- the end of the input
+abbrev pub end_of : Option WorldNow → List ℕ
+end_of None = []
+end_of (Some w) = end_text w
+
+abbrev pub closing_by : ReplayNow → Result (Unit {0}) LineFault → Closing
+closing_by c (Ok done) = record { text = end_of c.world; closed = ends status.Done }
+closing_by c (Err fault) = record { text = []; closed = misses (fault_word fault) }
+
+unfoldable pub replay_closing : ReplayNow → Closing
+replay_closing c = closing_by c (finish_of c.reader)
+
+-- a start and an event may find memory wanting
+abbrev pub item_lacks : Item → Bool
+item_lacks item.Nothing = false
+item_lacks (item.Ready setup) = true
+item_lacks (item.Event e) = true
+item_lacks item.End = false
+
+abbrev pub reading_lacks : Result ReadLine LineFault → Bool
+reading_lacks (Err fault) = false
+reading_lacks (Ok r) = item_lacks r.item
+
+unfoldable pub replay_lacks : ReplayNow → List ℕ → Bool
+replay_lacks c l = reading_lacks (read_line c.reader l)

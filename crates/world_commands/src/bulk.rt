@@ -1,0 +1,153 @@
+//! The command `bulk N K`: many conversations from one number. It reads no input.
+
+ghost use Rattle.std.specs.Prelude.{◌≡◌, ◌≤◌, map, string_bytes, IfSome};
+ghost use Rattle.world_commands.specs.Bulk.{bulk_of, bulk_spelled, bulk_line, verdicts_text, handled_text, bulk_text, bulk_answer};
+ghost use Rattle.world_commands.specs.Replay.{HasBoth};
+ghost use Rattle.command_driver.specs.Responding.{Says, at_any};
+ghost use Rattle.bulk_run.specs.Summing.{summary_of};
+ghost use Rattle.trace_text.specs.Writes.{Appends};
+
+use bulk_run::{Summary, run_all};
+use command_driver::Status;
+use eap_base::{Failed, Sink};
+use eap_method::{PeerMethod, ServerMethod};
+use eap_world::Methods;
+use std::alloc::Global;
+use text_tables::read_number;
+use trace_text::Piece::{Number, Text};
+use trace_text::{write_line, write_pieces};
+
+/// What the words `bulk N K` ask for.
+#[derive(Clone, Copy, PartialEq, Eq, Debug)]
+pub struct Bulk {
+    /// The number from which all is drawn, 0 to 999,999.
+    pub number: u32,
+    /// How many conversations, 1 to 1,000.
+    pub count: u32,
+}
+
+/// What the words ask for, where they are `bulk N K`. N and K are spelled as the numbers of a scenario, in
+/// decimal digits without a leading zero.
+pub fn bulk_of(words: &Vec<String>) -> Option<Bulk>
+    ensures value { result ≡ bulk_of (map string_bytes words.now.items) }
+    ensures few { IfSome result (λ bulk. bulk.count ≤ 1000) }
+{
+    match words.as_slice() {
+        [word, number, count] => {
+            if word.as_str() == "bulk" {
+                read_bulk(number.as_bytes(), count.as_bytes())
+            } else {
+                None
+            }
+        }
+        _ => None,
+    }
+}
+
+fn read_bulk(number: &[u8], count: &[u8]) -> Option<Bulk>
+    ensures value { result ≡ bulk_spelled number.now count.now }
+    ensures few { IfSome result (λ bulk. bulk.count ≤ 1000) }
+{
+    match read_number(number, 0, 999_999) {
+        Err(_) => None,
+        Ok(number) => match read_number(count, 1, 1000) {
+            Err(_) => None,
+            Ok(count) => Some(Bulk { number, count }),
+        },
+    }
+}
+
+/// Runs the conversations and writes what they came to. It answers `Memory` for want of memory alone, and has
+/// then written nothing.
+#[tactic(auto, unfolding(trace_text::specs::Writes::Appends, crate::specs::Bulk::bulk_answer))]
+pub fn run_bulk<P: PeerMethod, M: ServerMethod, W: Sink>(
+    alloc: Global,
+    bulk: Bulk,
+    sink: &mut W,
+    methods: Methods<P, M>,
+) -> Status
+    requires few { bulk.count ≤ 1000 }
+    requires both { HasBoth P.peer_shown M.server_shown methods }
+    ensures { Says W.written W.write_faults W.last_write_fault (bulk_answer bulk) at_any result sink.old sink.new }
+{
+    match run_all(alloc, bulk.number, bulk.count, methods) {
+        Err(_) => Status::Memory,
+        Ok(summary) => match write_summary(sink, bulk, summary) {
+            Ok(()) => Status::Done,
+            Err(_) => Status::WriteFault,
+        },
+    }
+}
+
+/// Writes the words and the summary.
+#[tactic(auto, using(trace_text::proofs::Fronts::appends_both, trace_text::proofs::Fronts::appends_front))]
+fn write_summary<W: Sink>(sink: &mut W, bulk: Bulk, summary: Summary) -> Result<(), Failed>
+    ensures { Appends W.written W.write_faults W.last_write_fault result sink.old sink.new (bulk_text bulk.number bulk.count summary) }
+{
+    write_words(sink, bulk)?;
+    write_verdicts(sink, summary)?;
+    write_handled(sink, summary)?;
+    write_line(sink, b"end")
+}
+
+/// Writes the words.
+#[tactic(auto, unfolding(crate::specs::Bulk::bulk_line))]
+fn write_words<W: Sink>(sink: &mut W, bulk: Bulk) -> Result<(), Failed>
+    ensures { Appends W.written W.write_faults W.last_write_fault result sink.old sink.new (bulk_line bulk.number bulk.count) }
+{
+    write_pieces(
+        sink,
+        &[
+            Text(b"bulk "),
+            Number(u64::from(bulk.number)),
+            Text(b" "),
+            Number(u64::from(bulk.count)),
+            Text(b"\n"),
+        ],
+    )
+}
+
+/// Writes how the conversations ended, and in how many a tag was broken.
+#[tactic(auto, unfolding(crate::specs::Bulk::verdicts_text))]
+fn write_verdicts<W: Sink>(sink: &mut W, summary: Summary) -> Result<(), Failed>
+    ensures { Appends W.written W.write_faults W.last_write_fault result sink.old sink.new (verdicts_text summary) }
+{
+    write_pieces(
+        sink,
+        &[
+            Text(b"conversations "),
+            Number(u64::from(summary.conversations)),
+            Text(b"\n"),
+            Text(b"agree "),
+            Number(u64::from(summary.agree)),
+            Text(b"\n"),
+            Text(b"open "),
+            Number(u64::from(summary.unfinished)),
+            Text(b"\n"),
+            Text(b"apart "),
+            Number(u64::from(summary.apart)),
+            Text(b"\n"),
+            Text(b"broken "),
+            Number(u64::from(summary.broken)),
+            Text(b"\n"),
+        ],
+    )
+}
+
+/// Writes what was delivered and discarded in the conversations.
+#[tactic(auto, unfolding(crate::specs::Bulk::handled_text))]
+fn write_handled<W: Sink>(sink: &mut W, summary: Summary) -> Result<(), Failed>
+    ensures { Appends W.written W.write_faults W.last_write_fault result sink.old sink.new (handled_text summary) }
+{
+    write_pieces(
+        sink,
+        &[
+            Text(b"deliveries "),
+            Number(u64::from(summary.deliveries)),
+            Text(b"\n"),
+            Text(b"discards "),
+            Number(u64::from(summary.discards)),
+            Text(b"\n"),
+        ],
+    )
+}

@@ -1,0 +1,20 @@
+//! The laws of whole inputs and of smooth traces. Each is the contract of a function that does nothing.
+
+ghost use Rattle.world_commands.specs.SmoothTraces.{SmoothTracesAgree};
+ghost use Rattle.world_commands.specs.Whole.{InputsAreScenarios};
+
+/// An input is read as a whole scenario exactly where it is one: no line and not the input is over its
+/// limit, its lines are those of a scenario, and it has at most 10,000 events. What is run is then the
+/// setup and the events of that scenario.
+#[tactic(auto, using(crate::proofs::Inputs::inputs_are_scenarios))]
+pub fn inputs_are_scenarios()
+    ensures { InputsAreScenarios }
+{}
+
+/// The trace of a smooth login ends with agreement: where an input is a scenario of two ends that fit, whose
+/// events deliver packet 1, packet 2 and on, each once and in order, and at least as many as the login takes,
+/// the answer of `replay` and of `replay names` has status 0 and ends with the lines `tags honest`,
+/// `result agree` and `end`.
+pub fn smooth_traces_agree()
+    ensures { SmoothTracesAgree }
+{}
