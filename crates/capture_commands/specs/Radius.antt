@@ -21,7 +21,7 @@ use Rattle.request_text.specs.declared.radius_line.RadiusItem.TheVariants as ite
 use Rattle.trace_text.specs.Pieces.{hex_text}
 use Rattle.command_driver.specs.Answers.{Answer}
 use Rattle.command_driver.specs.Commands.{Took, Closing, goes, refuses, ends, misses, answer}
-use Rattle.capture_commands.specs.declared.radius.Asked.{Asked}
+use Rattle.capture_commands.specs.declared.radius.KeptRequest.{KeptRequest}
 use Rattle.capture_commands.specs.declared.radius.Judgement.{Judgement}
 use Rattle.capture_commands.specs.declared.radius.Judgement.TheVariants as judgement
 use Rattle.capture_commands.specs.declared.radius.Radius.{Radius}
@@ -61,17 +61,17 @@ packet_line packet found = read_text (kind_word packet.code) packet.id (eap_of p
 abbrev pub good_or_bad : Bool → Judgement
 good_or_bad good = if good then judgement.Good else judgement.TagBad
 
-abbrev pub reply_judged : List ℕ → Option Asked → RadiusPacket → Judgement
+abbrev pub reply_judged : List ℕ → Option KeptRequest → RadiusPacket → Judgement
 reply_judged secret None packet = judgement.NoRequest
 reply_judged secret (Some asked) packet =
     if asked.id == packet.id then good_or_bad (is_good_reply secret asked.authenticator packet) else judgement.NoRequest
 
-unfoldable pub judged : List ℕ → Option Asked → RadiusPacket → Judgement
+unfoldable pub judged : List ℕ → Option KeptRequest → RadiusPacket → Judgement
 judged secret asked packet =
     if packet.code == 1 then good_or_bad (is_good_request secret packet) else reply_judged secret asked packet
 
 -- the request that is kept after it: a good one in place of the one before
-unfoldable pub kept_after : List ℕ → Option Asked → RadiusPacket → Option Asked
+unfoldable pub kept_after : List ℕ → Option KeptRequest → RadiusPacket → Option KeptRequest
 kept_after secret asked packet =
     if is_good_request secret packet then Some (record { id = packet.id; authenticator = packet.authenticator }) else asked
 
@@ -88,7 +88,7 @@ code_of kind.Accept = 2
 code_of kind.Reject = 3
 code_of kind.Challenge = 11
 
-abbrev pub reply_took : Radius → Option Asked → ReplyKind → List ℕ → List ℕ → Took Radius
+abbrev pub reply_took : Radius → Option KeptRequest → ReplyKind → List ℕ → List ℕ → Took Radius
 reply_took c None k state eap = wrote (word_line (codes "reply") (codes "no-request")) c
 reply_took c (Some asked) k state eap =
     wrote (hex_line (codes "reply") (spelled (reply_of c.secret (code_of k) asked.id asked.authenticator state eap))) c

@@ -22,7 +22,7 @@ use trace_text::write_pieces;
 
 /// A request that replies are written and judged for.
 #[derive(Clone, Copy)]
-pub struct Asked {
+pub struct KeptRequest {
     id: u8,
     authenticator: [u8; 16],
 }
@@ -42,7 +42,7 @@ pub enum Judgement {
 pub struct Radius {
     reader: RadiusReader,
     secret: Octets<64>,
-    asked: Option<Asked>,
+    asked: Option<KeptRequest>,
 }
 
 /// Writes a word and octets in hex, in one line.
@@ -155,7 +155,7 @@ fn good_or_bad(is_good: bool) -> Judgement
 
 /// What a reply is to the request that is kept.
 #[tactic(auto, unfolding(radius_carry::specs::Fault::value_of))]
-fn judged_for(secret: &[u8], asked: &Asked, view: &RadiusView) -> Judgement
+fn judged_for(secret: &[u8], asked: &KeptRequest, view: &RadiusView) -> Judgement
     requires secret { length secret.now ≤ 64 }
     requires radius { IsRadius (value_of view.now) view.now.whole.now }
     ensures { result ≡ reply_judged secret.now (Some asked.now) (value_of view.now) }
@@ -168,7 +168,7 @@ fn judged_for(secret: &[u8], asked: &Asked, view: &RadiusView) -> Judgement
 }
 
 /// What a reply is, under the secret and after the request that is kept.
-fn judged_reply(secret: &[u8], asked: &Option<Asked>, view: &RadiusView) -> Judgement
+fn judged_reply(secret: &[u8], asked: &Option<KeptRequest>, view: &RadiusView) -> Judgement
     requires secret { length secret.now ≤ 64 }
     requires radius { IsRadius (value_of view.now) view.now.whole.now }
     ensures { result ≡ reply_judged secret.now asked.now (value_of view.now) }
@@ -216,7 +216,7 @@ impl Radius {
         ensures { self.new ≡ record self.old { asked = kept_after self.old.secret self.old.asked (value_of view.now) } }
     {
         if request_good(self.secret.as_slice(), view) {
-            self.asked = Some(Asked {
+            self.asked = Some(KeptRequest {
                 id: view.id,
                 authenticator: view.authenticator,
             });
@@ -228,7 +228,7 @@ impl Radius {
     fn request<W: Sink>(
         &mut self,
         sink: &mut W,
-        asked: Asked,
+        asked: KeptRequest,
         user: &Octets<253>,
         state: &Octets<64>,
         eap: &Octets<1500>,
@@ -331,7 +331,7 @@ impl Command for Radius {
                     state,
                     eap,
                 },
-            ) => self.request(sink, Asked { id, authenticator }, &user, &state, &eap),
+            ) => self.request(sink, KeptRequest { id, authenticator }, &user, &state, &eap),
             Ok(RadiusItem::Reply { kind, state, eap }) => self.reply(sink, kind, &state, &eap),
             Ok(RadiusItem::Read(octets)) => self.read(sink, octets.as_slice()),
             Ok(RadiusItem::Secret(octets)) => {

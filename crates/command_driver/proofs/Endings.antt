@@ -4,17 +4,9 @@ use Rattle.eap_base.specs.Known.{append_known}
 use Rattle.trace_text.specs.Writes.{WritesFront}
 use Rattle.trace_text.proofs.Fronts.{append_known_append, append_known_nil}
 use Rattle.command_driver.specs.declared.status.Status.{Status}
-use Rattle.command_driver.specs.declared.status.Status.TheVariants as status
-use Rattle.command_driver.specs.Answers.{Answer, after_text, Gives, Ends, KeepsReads, KeepsWrites, Finishes}
+use Rattle.command_driver.specs.Answers.{Answer, after_text, Ends, entire, cut_short, KeepsWrites, Finishes}
 
 -- a text after what was written
-pub gives_after : (s : Status) (before mid now : Option (List ℕ)) (front : List ℕ) (a : Answer) → append_known before front ≡ mid
-    → Gives mid now a s → Gives before now (after_text front a) s
-gives_after s before mid now front a e g = record {
-  text = append_known_append before front a.text ∙ ap (λ k. append_known k a.text) e ∙ g.text;
-  status = g.status;
-}
-
 pub front_after : (before mid now : Option (List ℕ)) (front text : List ℕ) → append_known before front ≡ mid
     → WritesFront mid now text → WritesFront before now (front ++ text)
 front_after before mid now front text e w = record {
@@ -26,31 +18,13 @@ front_after before mid now front text e w = record {
 
 pub ends_after : (s : Status) (before mid now : Option (List ℕ)) (front : List ℕ) (a : Answer) → append_known before front ≡ mid
     → Ends s mid now a → Ends s before now (after_text front a)
-ends_after status.Done before mid now front a e w = gives_after status.Done before mid now front a e w
-ends_after status.Usage before mid now front a e w = gives_after status.Usage before mid now front a e w
-ends_after status.Refused before mid now front a e w = gives_after status.Refused before mid now front a e w
-ends_after status.ReadFault before mid now front a e w = front_after before mid now front a.text e w
-ends_after status.WriteFault before mid now front a e w = front_after before mid now front a.text e w
-ends_after status.Memory before mid now front a e w = front_after before mid now front a.text e w
-ends_after status.TooMuch before mid now front a e w = gives_after status.TooMuch before mid now front a e w
-ends_after status.Findings before mid now front a e w = gives_after status.Findings before mid now front a e w
+ends_after s before mid now front a e (entire text is) =
+    entire (append_known_append before front a.text ∙ ap (λ k. append_known k a.text) e ∙ text) is
+ends_after s before mid now front a e (cut_short why w) = cut_short why (front_after before mid now front a.text e w)
 
--- the counts of faults
+-- the count of failed writes
 pub keeps_writes_from : (s : Status) (before mid now : ℕ) → mid ≡ before → KeepsWrites s mid now → KeepsWrites s before now
-keeps_writes_from s before mid now e h = subst (λ n. KeepsWrites s n now) e h
-
-pub keeps_reads_from : (s : Status) (before mid now : ℕ) → mid ≡ before → KeepsReads s mid now → KeepsReads s before now
-keeps_reads_from s before mid now e h = subst (λ n. KeepsReads s n now) e h
-
-pub keeps_reads : (s : Status) (before now : ℕ) → now ≡ before → KeepsReads s before now
-keeps_reads status.Done before now e = e
-keeps_reads status.Usage before now e = e
-keeps_reads status.Refused before now e = e
-keeps_reads status.ReadFault before now e = tt
-keeps_reads status.WriteFault before now e = e
-keeps_reads status.Memory before now e = e
-keeps_reads status.TooMuch before now e = e
-keeps_reads status.Findings before now e = e
+keeps_writes_from s before mid now e h = λ other. h other ∙ e
 
 pub finishes_after : {S : Type 0} (written : S → Option (List ℕ)) (faults : S → ℕ) (last : Option ℕ)
     (result : Status) (before mid now : S) (front : List ℕ) (a : Answer)

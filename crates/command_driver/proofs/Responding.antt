@@ -1,13 +1,13 @@
 -- How a call that answers ends.
-use Rattle.std.proofs.Common.{◌≡◌, ℕ, List, Bool, false, Option, Some, subst, arith}
+use Rattle.std.proofs.Common.{◌≡◌, ℕ, List, Bool, false, Option, Some, refl, subst, arith}
 use Rattle.eap_base.specs.Known.{append_known}
 use Rattle.trace_text.specs.Writes.{WritesFront}
-use Rattle.command_driver.specs.Answers.{Answer, after_text, Ends, Drains, HasRisen, Finishes, IsWritten}
+use Rattle.command_driver.specs.Answers.{Answer, after_text, Ends, cut_short, by_read, by_write, by_memory, Drains, HasRisen, Finishes, IsWritten}
 use Rattle.command_driver.specs.Commands.{SomeLacks}
 use Rattle.command_driver.specs.Responding.{Lacking, MayLack, never, Reads, Says}
 use Rattle.command_driver.specs.declared.status.Status.{Status}
 use Rattle.command_driver.specs.declared.status.Status.TheVariants as status
-use Rattle.command_driver.proofs.Endings.{keeps_reads, keeps_writes_from, ends_after, ends_same}
+use Rattle.command_driver.proofs.Endings.{keeps_writes_from, ends_after, ends_same}
 
 -- what only writes an answer never lacks memory
 pub finishes_says : {W : Type 0} {written : W → Option (List ℕ)} {write_faults : W → ℕ} {last : Option ℕ} {result : Status} {old new : W} {a : Answer}
@@ -33,7 +33,7 @@ module _ {S W : Type 0} {left : S → Option (List ℕ)} {read_faults : S → �
     drains = drains;
     read_fault = λ w. absurd (subst IsWritten w f.written_only);
     write_fault = λ w h. f.counted w (omega (arith, h, same_writes));
-    reads = keeps_reads result _ _ same_reads;
+    reads = λ _. same_reads;
     writes = keeps_writes_from result _ _ _ same_writes f.uncounted;
     memory = λ w. absurd (subst IsWritten w f.written_only);
   }
@@ -44,13 +44,13 @@ module _ {S W : Type 0} {left : S → Option (List ℕ)} {read_faults : S → �
       → read_faults now ≡ read_faults before → mid ≡ write_faults old
       → HasRisen last_write_fault mid (write_faults new)
       → Reads left read_faults last_read_fault written write_faults last_write_fault answer lacking status.WriteFault before now old new
-  cut ends same_reads same_writes risen = record {
-    ends = ends;
+  cut front same_reads same_writes risen = record {
+    ends = λ octets e. cut_short (by_write refl) (front octets e);
     drains = tt;
     read_fault = λ w. absurd cc;
     write_fault = λ w h. risen (omega (arith, h, same_writes));
-    reads = same_reads;
-    writes = tt;
+    reads = λ _. same_reads;
+    writes = λ other. absurd (other refl);
     memory = λ w. absurd cc;
   }
 
@@ -59,13 +59,13 @@ module _ {S W : Type 0} {left : S → Option (List ℕ)} {read_faults : S → �
       → ((octets : List ℕ) → left before ≡ Some octets → WritesFront (written old) (written new) (answer octets).text)
       → mid ≡ read_faults before → HasRisen last_read_fault mid (read_faults now) → write_faults new ≡ write_faults old
       → Reads left read_faults last_read_fault written write_faults last_write_fault answer lacking status.ReadFault before now old new
-  unreadable ends same_reads risen same_writes = record {
-    ends = ends;
+  unreadable front same_reads risen same_writes = record {
+    ends = λ octets e. cut_short (by_read refl) (front octets e);
     drains = tt;
     read_fault = λ w h. risen (omega (arith, h, same_reads));
     write_fault = λ w. absurd cc;
-    reads = tt;
-    writes = same_writes;
+    reads = λ other. absurd (other refl);
+    writes = λ _. same_writes;
     memory = λ w. absurd cc;
   }
 
@@ -74,13 +74,13 @@ module _ {S W : Type 0} {left : S → Option (List ℕ)} {read_faults : S → �
       → ((octets : List ℕ) → left before ≡ Some octets → WritesFront (written old) (written new) (answer octets).text)
       → read_faults now ≡ read_faults before → write_faults new ≡ write_faults old → MayLack lacking (left before)
       → Reads left read_faults last_read_fault written write_faults last_write_fault answer lacking status.Memory before now old new
-  lacked ends same_reads same_writes may = record {
-    ends = ends;
+  lacked front same_reads same_writes may = record {
+    ends = λ octets e. cut_short (by_memory refl) (front octets e);
     drains = tt;
     read_fault = λ w. absurd cc;
     write_fault = λ w. absurd cc;
-    reads = same_reads;
-    writes = same_writes;
+    reads = λ _. same_reads;
+    writes = λ _. same_writes;
     memory = λ w. may;
   }
 

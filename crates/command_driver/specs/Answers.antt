@@ -1,5 +1,5 @@
 -- What the program answers: the text that it writes, and its status.
-use Rattle.std.specs.Prelude.{◌≡◌, ◌≤◌, ℕ, List, ◌++◌, Option, Some, codes}
+use Rattle.std.specs.Prelude.{◌≡◌, ◌≢◌, ◌≤◌, ℕ, List, ◌++◌, Option, Some, codes}
 use Rattle.eap_base.specs.Known.{append_known, nothing_known}
 use Rattle.trace_text.specs.Lines.{refused_text}
 use Rattle.trace_text.specs.Writes.{WritesFront}
@@ -22,66 +22,44 @@ refusal number word s = record { text = refused_text number word; status = s }
 abbrev pub overlong : ℕ → Answer
 overlong number = refusal number (codes "TooMuch") status.TooMuch
 
--- the whole answer was given
-pub record Gives (before now : Option (List ℕ)) (a : Answer) (s : Status) : Type 0 where
-  pub text : append_known before a.text ≡ now
-  pub status : a.status ≡ s
+-- a read or a write failed, or memory was wanting
+pub data IsCutShort (s : Status) : Type 0 where
+  by_read : s ≡ status.ReadFault → IsCutShort s
+  by_write : s ≡ status.WriteFault → IsCutShort s
+  by_memory : s ≡ status.Memory → IsCutShort s
 
--- how a run ends: with the whole answer, or, where a read or a write failed or memory was wanting,
--- with a front of its text
-abbrev pub Ends : Status → Option (List ℕ) → Option (List ℕ) → Answer → Type 0
-Ends status.Done before now a = Gives before now a status.Done
-Ends status.Usage before now a = Gives before now a status.Usage
-Ends status.Refused before now a = Gives before now a status.Refused
-Ends status.ReadFault before now a = WritesFront before now a.text
-Ends status.WriteFault before now a = WritesFront before now a.text
-Ends status.Memory before now a = WritesFront before now a.text
-Ends status.TooMuch before now a = Gives before now a status.TooMuch
-Ends status.Findings before now a = Gives before now a status.Findings
+-- how a run ends: the whole text of the answer was written, and the status is the answer's; or the run was cut short,
+-- and a front of the text was written
+pub data Ends (s : Status) (before now : Option (List ℕ)) (a : Answer) : Type 0 where
+  entire : append_known before a.text ≡ now → a.status ≡ s → Ends s before now a
+  cut_short : IsCutShort s → WritesFront before now a.text → Ends s before now a
 
 -- a status that an answer can have
 abbrev pub IsWhole : Status → Type 0
-IsWhole status.Done = Unit {0}
-IsWhole status.Usage = Unit {0}
-IsWhole status.Refused = Unit {0}
 IsWhole status.ReadFault = ⊥
 IsWhole status.WriteFault = ⊥
 IsWhole status.Memory = ⊥
-IsWhole status.TooMuch = Unit {0}
-IsWhole status.Findings = Unit {0}
+IsWhole _ = Unit {0}
 
 -- a status that comes without a fault of the source or want of memory
 abbrev pub IsWritten : Status → Type 0
-IsWritten status.Done = Unit {0}
-IsWritten status.Usage = Unit {0}
-IsWritten status.Refused = Unit {0}
 IsWritten status.ReadFault = ⊥
-IsWritten status.WriteFault = Unit {0}
 IsWritten status.Memory = ⊥
-IsWritten status.TooMuch = Unit {0}
-IsWritten status.Findings = Unit {0}
+IsWritten _ = Unit {0}
+
+-- a status of a refusal: the input was not read to its end
+abbrev pub IsRefusal : Status → Type 0
+IsRefusal status.Refused = Unit {0}
+IsRefusal status.TooMuch = Unit {0}
+IsRefusal _ = ⊥
 
 -- but where a read failed, the count of failed reads is as it was
 abbrev pub KeepsReads : Status → ℕ → ℕ → Type 0
-KeepsReads status.Done before now = now ≡ before
-KeepsReads status.Usage before now = now ≡ before
-KeepsReads status.Refused before now = now ≡ before
-KeepsReads status.ReadFault before now = Unit {0}
-KeepsReads status.WriteFault before now = now ≡ before
-KeepsReads status.Memory before now = now ≡ before
-KeepsReads status.TooMuch before now = now ≡ before
-KeepsReads status.Findings before now = now ≡ before
+KeepsReads s before now = s ≢ status.ReadFault → now ≡ before
 
 -- but where a write failed, the count of failed writes is as it was
 abbrev pub KeepsWrites : Status → ℕ → ℕ → Type 0
-KeepsWrites status.Done before now = now ≡ before
-KeepsWrites status.Usage before now = now ≡ before
-KeepsWrites status.Refused before now = now ≡ before
-KeepsWrites status.ReadFault before now = now ≡ before
-KeepsWrites status.WriteFault before now = Unit {0}
-KeepsWrites status.Memory before now = now ≡ before
-KeepsWrites status.TooMuch before now = now ≡ before
-KeepsWrites status.Findings before now = now ≡ before
+KeepsWrites s before now = s ≢ status.WriteFault → now ≡ before
 
 -- a count of faults rose, or stands at its last value
 abbrev pub HasRisen : Option ℕ → ℕ → ℕ → Type 0
@@ -100,21 +78,5 @@ pub record Finishes {S : Type 0} (written : S → Option (List ℕ)) (faults : S
 -- where the input was read to its end, nothing is left
 abbrev pub Drains : Status → Option (List ℕ) → Type 0
 Drains status.Done left = left ≡ nothing_known left
-Drains status.Usage left = Unit {0}
-Drains status.Refused left = Unit {0}
-Drains status.ReadFault left = Unit {0}
-Drains status.WriteFault left = Unit {0}
-Drains status.Memory left = Unit {0}
-Drains status.TooMuch left = Unit {0}
 Drains status.Findings left = left ≡ nothing_known left
-
--- a status of a refusal: the input was not read to its end
-abbrev pub IsRefusal : Status → Type 0
-IsRefusal status.Done = ⊥
-IsRefusal status.Usage = ⊥
-IsRefusal status.Refused = Unit {0}
-IsRefusal status.ReadFault = ⊥
-IsRefusal status.WriteFault = ⊥
-IsRefusal status.Memory = ⊥
-IsRefusal status.TooMuch = Unit {0}
-IsRefusal status.Findings = ⊥
+Drains _ left = Unit {0}

@@ -1,6 +1,6 @@
 -- Where neither a read nor a write failed, the status is the answer's, or memory was wanting.
-use Rattle.std.proofs.Common.{◌≡◌, ℕ, List, Option, Some, refl, subst}
-use Rattle.command_driver.specs.Answers.{Ends, HasRisen}
+use Rattle.std.proofs.Common.{◌≡◌, ℕ, List, Option, Some, sym, subst}
+use Rattle.command_driver.specs.Answers.{Ends, entire, cut_short, by_read, by_write, by_memory, HasRisen}
 use Rattle.login_call.specs.Login.{asked_by, login_answer, Completes, answered, lacked}
 use Rattle.command_driver.specs.Responding.{Asked, MayLack, reading, unread, answer_to, lacking_of, Responds}
 use Rattle.command_driver.specs.declared.status.Status.{Status}
@@ -10,14 +10,10 @@ completes_with : (s : Status) (before now : Option (List ℕ)) (words : List (Li
     → Ends s before now (login_answer words octets) → (s ≡ status.ReadFault → R) → (s ≡ status.WriteFault → W)
     → (s ≡ status.Memory → MayLack (lacking_of (asked_by words)) (Some octets))
     → (R → ⊥) → (W → ⊥) → Completes words octets s
-completes_with status.Done before now words octets e r w m no_read no_write = subst (Completes words octets) e.status answered
-completes_with status.Usage before now words octets e r w m no_read no_write = subst (Completes words octets) e.status answered
-completes_with status.Refused before now words octets e r w m no_read no_write = subst (Completes words octets) e.status answered
-completes_with status.ReadFault before now words octets e r w m no_read no_write = absurd (no_read (r refl))
-completes_with status.WriteFault before now words octets e r w m no_read no_write = absurd (no_write (w refl))
-completes_with status.Memory before now words octets e r w m no_read no_write = lacked (m refl)
-completes_with status.TooMuch before now words octets e r w m no_read no_write = subst (Completes words octets) e.status answered
-completes_with status.Findings before now words octets e r w m no_read no_write = subst (Completes words octets) e.status answered
+completes_with s before now words octets (entire text is) r w m no_read no_write = subst (Completes words octets) is answered
+completes_with s before now words octets (cut_short (by_read e) front) r w m no_read no_write = absurd (no_read (r e))
+completes_with s before now words octets (cut_short (by_write e) front) r w m no_read no_write = absurd (no_write (w e))
+completes_with s before now words octets (cut_short (by_memory e) front) r w m no_read no_write = subst (Completes words octets) (sym e) (lacked (m e))
 
 module _ {S W : Type 0} (left : S → Option (List ℕ)) (read_faults : S → ℕ) (last_read_fault : Option ℕ)
     (written : W → Option (List ℕ)) (write_faults : W → ℕ) (last_write_fault : Option ℕ) (s : Status) (before now : S) (old new : W) where

@@ -1,7 +1,11 @@
+-- No line of `bulk N K` begins as the line of the result does.
+pub mod BulkQuiet
 -- The run of every scenario keeps agreement.
 pub mod Headline
 -- Reading an input line by line gives the scenario that its octets are.
 pub mod Inputs
+-- No trace with status 0 has both the line of honest tags and the line of ends that are apart.
+pub mod NeverReplayed
 -- Where each end has an object of both methods, it has one of each method that a setup names.
 pub mod Ready
 -- Replaying line by line answers what the scenario's run says.

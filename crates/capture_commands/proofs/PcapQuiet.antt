@@ -13,7 +13,8 @@ use Rattle.trace_text.proofs.PlainFindings.{finding_plain}
 use Rattle.capture_commands.specs.Pcap.{PcapNow, is_to_peer, cut_text, records_text, file_refusal, file_end, record_told, judged, nothing_recorded, pcap_answer}
 use Rattle.command_driver.specs.declared.status.Status.TheVariants as status
 use Rattle.capture_commands.proofs.PcapUsers.{HaveNames}
-use Rattle.capture_commands.proofs.RadiusPlain.{begins_tags, IsQuiet, never_done}
+use Rattle.command_driver.proofs.Quiet.{IsQuiet, never_done}
+use Rattle.capture_commands.proofs.RadiusQuiet.{begins_tags}
 
 no_digit : (o : ℕ) → 48 ≤ o → o ≤ 57 → begins_tags o ≡ false
 no_digit o h k = ne_eqb o 116 (λ e. omega (arith, k, e))
@@ -29,11 +30,11 @@ records_quiet records packets findings =
     (through begins_tags (decimal packets) _ (decimal_within packets) (through begins_tags (decimal findings) _ (decimal_within findings) refl))
 
 -- a file that is refused has another status
-refused_quiet : (number : ℕ) (a : NextRecord) → IsQuiet (file_refusal number a)
+refused_quiet : (number : ℕ) (a : NextRecord) → IsQuiet begins_tags (file_refusal number a)
 refused_quiet number answer.TooMuch = record { holds = λ done. absurd (never_done status.TooMuch tt done) }
 refused_quiet number a = record { holds = λ done. absurd (never_done status.Refused tt done) }
 
-end_quiet : (number packets findings : ℕ) (a : NextRecord) → IsQuiet (file_end number packets findings a)
+end_quiet : (number packets findings : ℕ) (a : NextRecord) → IsQuiet begins_tags (file_end number packets findings a)
 end_quiet number packets findings answer.End = record { holds = λ done. records_quiet number packets findings }
 end_quiet number packets findings a = refused_quiet number a
 
@@ -45,7 +46,7 @@ module _ (users : List User) (names : HaveNames users) where
       finding_plain begins_tags no_digit (f.records + 1) (finding_of users f.before (is_to_peer octets) octets)
       (finding_names (λ name. is_within name ≡ true) users names.within f.before (is_to_peer octets) octets)
 
-  judged_quiet : (f : PcapNow) (all : Contents) → IsQuiet (judged users f all)
+  judged_quiet : (f : PcapNow) (all : Contents) → IsQuiet begins_tags (judged users f all)
   unfolding judged
   judged_quiet f (ends begun a) = end_quiet (f.records + begun) (length f.before) f.findings a
   judged_quiet f (record_of frame rest) =
@@ -53,5 +54,5 @@ module _ (users : List User) (names : HaveNames users) where
       let more = judged_quiet t.after rest in
       record { holds = λ done. join begins_tags t.text (judged users t.after rest).text true (told_quiet f (carried frame)) (more.holds done) }
 
-  pub pcap_quiet : (octets : List ℕ) → IsQuiet (pcap_answer users octets)
+  pub pcap_quiet : (octets : List ℕ) → IsQuiet begins_tags (pcap_answer users octets)
   pcap_quiet octets = judged_quiet nothing_recorded (contents octets)

@@ -1,6 +1,6 @@
 -- No line of `radius` begins as the line of honest tags does.
-use Rattle.std.proofs.Common.{◌≡◌, ℕ, ◌+◌, List, [], Bool, true, Option, Some, None, Result, Ok, Err, refl, subst, codes, decimal, ◌==◌}
-use Rattle.eap_base.specs.Lines.{Lines, ended, too_long, too_much, line, lines}
+use Rattle.std.proofs.Common.{◌≡◌, ℕ, List, Bool, true, Option, Some, None, Result, Ok, Err, refl, codes, decimal, ◌==◌}
+use Rattle.eap_base.specs.Lines.{lines}
 use Rattle.radius_carry.specs.Packet.{RadiusPacket, eap_of}
 use Rattle.radius_carry.specs.Fault.{packet_of}
 use Rattle.radius_carry.specs.Words.{cause_word}
@@ -13,47 +13,28 @@ use Rattle.request_text.specs.declared.radius_line.ReplyKind.{ReplyKind}
 use Rattle.request_text.specs.declared.radius_line.RadiusItem.{RadiusItem}
 use Rattle.request_text.specs.declared.radius_line.RadiusItem.TheVariants as item
 use Rattle.trace_text.specs.Pieces.{hex_text}
-use Rattle.trace_text.proofs.Plain.{is_within, plain, join, through, decimal_within}
+use Rattle.trace_text.proofs.Plain.{is_within, plain, through, decimal_within}
 use Rattle.trace_text.proofs.PlainTexts.{either_within, hex_within}
-use Rattle.command_driver.specs.Answers.{Answer, after_text, IsRefusal}
-use Rattle.command_driver.specs.Commands.{Took, Ruling, goes, refuses, Closed, ends, misses, after_ruling, closing_answer, answer}
+use Rattle.command_driver.specs.Commands.{Took}
+use Rattle.command_driver.proofs.Quiet.{IsQuiet, IsQuietLine, quiet_answer}
 use Rattle.capture_commands.specs.Radius.{hex_line, word_line, packet_line, read_text, kind_word, judgement_word, judged}
 use Rattle.capture_commands.specs.Radius.{reply_took, read_took, item_took, with_phase, line_took}
 use Rattle.capture_commands.specs.Radius.{radius_took, radius_end, radius_closing, nothing_asked, radius_answer}
-use Rattle.capture_commands.specs.declared.radius.Asked.{Asked}
+use Rattle.capture_commands.specs.declared.radius.KeptRequest.{KeptRequest}
 use Rattle.capture_commands.specs.declared.radius.Judgement.{Judgement}
 use Rattle.capture_commands.specs.declared.radius.Judgement.TheVariants as judgement
 use Rattle.capture_commands.specs.declared.radius.Radius.{Radius}
-use Rattle.command_driver.specs.declared.status.Status.{Status}
-use Rattle.command_driver.specs.declared.status.Status.TheVariants as status
+
+-- nothing is asked of the command
+abbrev Any : Radius → Type 0
+Any c = Unit {0}
 
 -- the first octet of `tags`
 abbrev pub begins_tags : ℕ → Bool
 begins_tags o = o == 116
 
--- a status of a refusal is never 0
-pub never_done : (s : Status) → IsRefusal s → s ≡ status.Done → ⊥
-never_done s h e = subst IsRefusal e h
-
-pub record IsQuiet (a : Answer) : Type 0 where
-  pub holds : a.status ≡ status.Done → plain begins_tags true a.text ≡ true
-
-abbrev Refuses : Ruling → Type 0
-Refuses goes = Unit {0}
-Refuses (refuses word s) = IsRefusal s
-
-record IsQuietLine (t : Took Radius) : Type 0 where
-  pub text : plain begins_tags true t.text ≡ true
-  pub refusing : Refuses t.ruling
-
-quiet_closing : (number : ℕ) (text : List ℕ) (x : Closed) → plain begins_tags true text ≡ true → IsQuiet (after_text text (closing_answer number x))
-quiet_closing number text (ends s) h = record { holds = λ done. join begins_tags text [] true h refl }
-quiet_closing number text (misses word) h = record { holds = λ done. absurd (never_done status.Refused tt done) }
-
-quiet_after : (number : ℕ) (text : List ℕ) (v : Ruling) (a : Answer) → plain begins_tags true text ≡ true → Refuses v → IsQuiet a →
-    IsQuiet (after_text text (after_ruling number v a))
-quiet_after number text goes a h k rest = record { holds = λ done. join begins_tags text a.text true h (rest.holds done) }
-quiet_after number text (refuses word s) a h k rest = record { holds = λ done. absurd (never_done s k done) }
+abbrev IsQuietRadius : Took Radius → Type 0
+IsQuietRadius t = IsQuietLine begins_tags Any t
 
 -- ---- the lines
 
@@ -100,27 +81,27 @@ packet_quiet packet found =
 
 -- ---- what a line brings
 
-reply_quiet : (c : Radius) (asked : Option Asked) (k : ReplyKind) (state eap : List ℕ) → IsQuietLine (reply_took c asked k state eap)
-reply_quiet c None k state eap = record { text = none_quiet; refusing = tt }
-reply_quiet c (Some asked) k state eap = record { text = (hex_quiet _).1; refusing = tt }
+reply_quiet : (c : Radius) (asked : Option KeptRequest) (k : ReplyKind) (state eap : List ℕ) → IsQuietRadius (reply_took c asked k state eap)
+reply_quiet c None k state eap = record { text = none_quiet; refusing = tt; after = tt }
+reply_quiet c (Some asked) k state eap = record { text = (hex_quiet _).1; refusing = tt; after = tt }
 
-read_quiet : (c : Radius) (x : Result RadiusPacket RadiusCause) → IsQuietLine (read_took c x)
-read_quiet c (Err cause) = record { text = cause_quiet cause; refusing = tt }
-read_quiet c (Ok packet) = record { text = packet_quiet packet (judged c.secret c.asked packet); refusing = tt }
+read_quiet : (c : Radius) (x : Result RadiusPacket RadiusCause) → IsQuietRadius (read_took c x)
+read_quiet c (Err cause) = record { text = cause_quiet cause; refusing = tt; after = tt }
+read_quiet c (Ok packet) = record { text = packet_quiet packet (judged c.secret c.asked packet); refusing = tt; after = tt }
 
-item_quiet : (c : Radius) (i : RadiusItem) → IsQuietLine (item_took c i)
-item_quiet c item.Nothing = record { text = refl; refusing = tt }
-item_quiet c (item.Secret octets) = record { text = refl; refusing = tt }
-item_quiet c (item.Request id authenticator user state eap) = record { text = (hex_quiet _).0; refusing = tt }
+item_quiet : (c : Radius) (i : RadiusItem) → IsQuietRadius (item_took c i)
+item_quiet c item.Nothing = record { text = refl; refusing = tt; after = tt }
+item_quiet c (item.Secret octets) = record { text = refl; refusing = tt; after = tt }
+item_quiet c (item.Request id authenticator user state eap) = record { text = (hex_quiet _).0; refusing = tt; after = tt }
 item_quiet c (item.Reply k state eap) = reply_quiet c c.asked k state eap
 item_quiet c (item.Read octets) = read_quiet c (packet_of octets)
-item_quiet c item.End = record { text = refl; refusing = tt }
+item_quiet c item.End = record { text = refl; refusing = tt; after = tt }
 
-line_quiet : (c : Radius) (x : Result RadiusLine LineFault) → IsQuietLine (line_took c x)
-line_quiet c (Err fault) = record { text = refl; refusing = tt }
+line_quiet : (c : Radius) (x : Result RadiusLine LineFault) → IsQuietRadius (line_took c x)
+line_quiet c (Err fault) = record { text = refl; refusing = tt; after = tt }
 line_quiet c (Ok out) = item_quiet (with_phase c out.after) out.item
 
-took_quiet : (c : Radius) (l : List ℕ) → IsQuietLine (radius_took c l)
+took_quiet : (c : Radius) (l : List ℕ) → IsQuietRadius (radius_took c l)
 unfolding radius_took
 took_quiet c l = line_quiet c (read_line c.reader.phase l)
 
@@ -132,15 +113,6 @@ closing_quiet : (c : Radius) → plain begins_tags true (radius_closing c).text 
 unfolding radius_closing
 closing_quiet c = end_quiet (finish_of c.reader.phase)
 
-quiet_answer : (ls : Lines) (n : ℕ) (c : Radius) → IsQuiet (answer radius_took radius_closing n c ls)
-unfolding answer
-quiet_answer ended n c = quiet_closing (n + 1) (radius_closing c).text (radius_closing c).closed (closing_quiet c)
-quiet_answer too_long n c = record { holds = λ done. absurd (never_done status.TooMuch tt done) }
-quiet_answer too_much n c = record { holds = λ done. absurd (never_done status.TooMuch tt done) }
-quiet_answer (line l rest) n c =
-    let step = took_quiet c l in
-    quiet_after (n + 1) (radius_took c l).text (radius_took c l).ruling (answer radius_took radius_closing (n + 1) (radius_took c l).after rest)
-    step.text step.refusing (quiet_answer rest (n + 1) (radius_took c l).after)
-
-pub radius_quiet : (octets : List ℕ) → IsQuiet (radius_answer octets)
-radius_quiet octets = quiet_answer (lines octets) 0 nothing_asked
+pub radius_quiet : (octets : List ℕ) → IsQuiet begins_tags (radius_answer octets)
+radius_quiet octets =
+    quiet_answer begins_tags radius_took radius_closing Any (λ c l _. took_quiet c l) closing_quiet (lines octets) 0 nothing_asked tt

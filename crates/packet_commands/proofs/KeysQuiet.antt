@@ -1,0 +1,31 @@
+-- No line of `keys` begins as the line of the result does.
+use Rattle.std.proofs.Common.{◌≡◌, ℕ, List, true, Option, Some, None, Result, Ok, Err, refl}
+use Rattle.eap_base.specs.Lines.{lines}
+use Rattle.request_text.specs.Keys.{key_line}
+use Rattle.request_text.specs.declared.key_line.KeyLine.{KeyLine}
+use Rattle.text_tables.specs.declared.fault.LineFault.{LineFault}
+use Rattle.trace_text.proofs.Plain.{plain}
+use Rattle.trace_text.proofs.PlainAnswers.{begins_result, key_plain}
+use Rattle.command_driver.proofs.Quiet.{IsQuiet, IsQuietLine, quiet_answer}
+use Rattle.packet_commands.specs.Keys.{Asking, took_request, keys_took, keys_closing, all_asked, keys_answer}
+
+-- nothing is asked of the command
+abbrev Any : Asking → Type 0
+Any c = Unit {0}
+
+request_quiet : (c : Asking) (x : Result (Option KeyLine) LineFault) → IsQuietLine begins_result Any (took_request c x)
+request_quiet c (Err fault) = record { text = refl; refusing = tt; after = tt }
+request_quiet c (Ok None) = record { text = refl; refusing = tt; after = tt }
+request_quiet c (Ok (Some asked)) = record { text = key_plain asked; refusing = tt; after = tt }
+
+line_quiet : (c : Asking) (l : List ℕ) → IsQuietLine begins_result Any (keys_took c l)
+unfolding keys_took
+line_quiet c l = request_quiet c (key_line l)
+
+end_quiet : (c : Asking) → plain begins_result true (keys_closing c).text ≡ true
+unfolding keys_closing
+end_quiet c = refl
+
+pub keys_quiet : (octets : List ℕ) → IsQuiet begins_result (keys_answer octets)
+keys_quiet octets =
+    quiet_answer begins_result keys_took keys_closing Any (λ c l _. line_quiet c l) end_quiet (lines octets) 0 all_asked tt

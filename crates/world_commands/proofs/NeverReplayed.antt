@@ -1,0 +1,127 @@
+-- No trace with status 0 has both the line of honest tags and the line of ends that are apart.
+use Rattle.std.proofs.Common.{◌≡◌, ℕ, ◌+◌, List, [], ◌∷◌, ◌++◌, Bool, true, false, Option, Some, None, Result, Ok, Err, flat_map, refl, sym, ◌∙◌, codes}
+use Rattle.std.proofs.lemmas.Bool.{true≢false}
+use Rattle.std.specs.Prelude.{if◌then◌else◌, ◌&&◌, nat_le}
+use Rattle.eap_base.specs.Lines.{Lines, ended, too_long, too_much, line, lines}
+use Rattle.eap_base.specs.declared.event.Event.{Event}
+use Rattle.eap_base.specs.declared.setup.Setup.{Setup}
+use Rattle.eap_world.specs.Agreement.{run_of, AgreesWhereHonest}
+use Rattle.eap_world.specs.Book.{tags_verdict}
+use Rattle.eap_world.specs.Judgement.{verdict_of}
+use Rattle.eap_world.proofs.HonestOfEither.{honest_of_either}
+use Rattle.eap_world.specs.World.{WorldOutcome, outcomes_after, pass_state, told_octets, world_made, world_start}
+use Rattle.scenario_text.specs.Reading.{Reading, ReadLine, read_line, finish_of}
+use Rattle.scenario_text.specs.Items.{Item}
+use Rattle.scenario_text.specs.Items as item
+use Rattle.text_tables.specs.declared.fault.LineFault.{LineFault}
+use Rattle.trace_text.specs.Run.{begin_text, outcome_text, end_text}
+use Rattle.trace_text.proofs.Plain.{plain, over, join}
+use Rattle.trace_text.proofs.PlainTexts.{begins_verdict, no_verdict, told_plain, start_plain}
+use Rattle.trace_text.proofs.Scanning.{has_mark, found}
+use Rattle.trace_text.proofs.Verdicts.{honest_line, apart_line, end_tells_honest, end_tells_apart}
+use Rattle.command_driver.specs.Answers.{Answer, after_text, IsRefusal}
+use Rattle.command_driver.specs.declared.status.Status.TheVariants as status
+use Rattle.command_driver.proofs.Quiet.{never_done}
+use Rattle.world_commands.specs.Headline.{NeverBoth}
+use Rattle.world_commands.specs.Replay.{max_events}
+use Rattle.world_commands.specs.Scenario.{Outcome, whole, refused, Scenario, stops, adds, is_event, with_line, events_after, read_after, scenario_from, scenario_of}
+use Rattle.world_commands.specs.Scenario.{too_much_at, finish_outcome, events_text, setup_answer, trace_header, replay_answer}
+use Rattle.world_commands.proofs.Headline.{headline}
+
+-- an answer with status 0 has not both lines
+pub record Never (a : Answer) : Type 0 where
+  pub holds : a.status ≡ status.Done → NeverBoth a.text
+
+-- ---- the outcome of a scenario
+
+abbrev IsSound : Outcome → Type 0
+IsSound whole = Unit {0}
+IsSound (refused number word s) = IsRefusal s
+
+sound_finish : (number : ℕ) (x : Result (Unit {0}) LineFault) → IsSound (finish_outcome number x)
+sound_finish number (Ok done) = tt
+sound_finish number (Err fault) = tt
+
+sound_item : (i : Item) (s : Scenario) → IsSound s.outcome → IsSound (adds i s).outcome
+sound_item item.Nothing s h = h
+sound_item (item.Ready setup) s h = h
+sound_item (item.Event e) s h = h
+sound_item item.End s h = h
+
+sound_test : (t : Bool) (number : ℕ) (s : Scenario) → IsSound s.outcome → (let made : Scenario = if t then stops (too_much_at number) else s in IsSound made.outcome)
+sound_test true number s h = tt
+sound_test false number s h = h
+
+sound_line : (number k : ℕ) (x : Result ReadLine LineFault) (s : Scenario) → IsSound s.outcome → IsSound (with_line number k x s).outcome
+sound_line number k (Err fault) s h = tt
+sound_line number k (Ok out) s h = sound_test (is_event out.item && nat_le max_events k) number (adds out.item s) (sound_item out.item s h)
+
+sound_outcome : (ls : Lines) (n k : ℕ) (r : Reading) → IsSound (scenario_from n k r ls).outcome
+unfolding scenario_from
+sound_outcome ended n k r = sound_finish (n + 1) (finish_of r)
+sound_outcome too_long n k r = tt
+sound_outcome too_much n k r = tt
+sound_outcome (line l rest) n k r =
+    sound_line (n + 1) k (read_line r l) _ (sound_outcome rest (n + 1) (events_after k (read_line r l)) (read_after r (read_line r l)))
+
+-- ---- the text of a run
+
+header_plain : plain begins_verdict true trace_header ≡ true
+unfolding trace_header
+header_plain = refl
+
+outcomes_plain : (names : Bool) (outcomes : List WorldOutcome) → plain begins_verdict true (flat_map (outcome_text names) outcomes) ≡ true
+outcomes_plain names [] = refl
+outcomes_plain names (out ∷ rest) =
+    join begins_verdict (outcome_text names out) _ true (told_plain begins_verdict no_verdict names (told_octets out) out.told) (outcomes_plain names rest)
+
+-- without a setup nothing is told
+nothing_told : has_mark apart_line true (trace_header ++ []) ≡ false
+nothing_told = over begins_verdict 114 (codes "esult apart\n") refl trace_header [] true header_plain
+
+never_unset : NeverBoth (trace_header ++ [])
+never_unset honest apart = true≢false (sym (found (codes "result apart") (trace_header ++ []) apart) ∙ nothing_told)
+
+module _ (names : Bool) (setup : Setup) (events : List Event) where
+  run_text : List ℕ
+  run_text = (after_text trace_header (setup_answer names (Some setup) events whole)).text
+
+  over_events : (m : ℕ) (mark : List ℕ) → begins_verdict m ≡ true
+      → has_mark (m ∷ mark) true run_text ≡ has_mark (m ∷ mark) true (end_text (run_of setup events))
+  unfolding run_text
+  over_events m mark bad =
+      let begun = world_start (world_made setup) in
+      let shown = end_text (run_of setup events) in
+      let lines = events_text names begun.after events in
+      over begins_verdict m mark bad trace_header (begin_text names begun ++ (lines ++ shown)) true header_plain
+      ∙ (over begins_verdict m mark bad (begin_text names begun) (lines ++ shown) true (start_plain begun.after.parties.mode names (told_octets begun) begun.told)
+      ∙ over begins_verdict m mark bad lines shown true (outcomes_plain names (outcomes_after begun.after events)))
+
+  tells : (mark text : List ℕ) → has_mark mark true text ≡ has_mark mark true (end_text (run_of setup events)) → has_mark mark true text ≡ true
+      → has_mark mark true (end_text (run_of setup events)) ≡ true
+  tells mark text e h = sym e ∙ h
+
+  never_run : AgreesWhereHonest (run_of setup events) → NeverBoth run_text
+  never_run agrees honest apart =
+      let w = run_of setup events in
+      agrees.never_apart
+      (honest_of_either w.book
+      (end_tells_honest w.parties.peer.vars.state (pass_state w.parties.mode w.parties.pass) w.parties.server.vars.state w.counts
+      (tags_verdict w.book) (verdict_of w)
+      (tells honest_line run_text (over_events 116 (codes "ags honest\n") refl) (found (codes "tags honest") run_text honest))))
+      (end_tells_apart w.parties.peer.vars.state (pass_state w.parties.mode w.parties.pass) w.parties.server.vars.state w.counts
+      (tags_verdict w.book) (verdict_of w)
+      (tells apart_line run_text (over_events 114 (codes "esult apart\n") refl) (found (codes "result apart") run_text apart)))
+
+never_setup : (names : Bool) (x : Option Setup) (events : List Event) (o : Outcome)
+    → ((setup : Setup) → x ≡ Some setup → AgreesWhereHonest (run_of setup events)) → IsSound o → Never (after_text trace_header (setup_answer names x events o))
+unfolding run_text
+never_setup names None events whole agrees sound = record { holds = λ done. never_unset }
+never_setup names None events (refused number word s) agrees sound = record { holds = λ done. absurd (never_done s sound done) }
+never_setup names (Some setup) events whole agrees sound = record { holds = λ done. never_run names setup events (agrees setup refl) }
+never_setup names (Some setup) events (refused number word s) agrees sound = record { holds = λ done. absurd (never_done s sound done) }
+
+pub never_replay : (names : Bool) (octets : List ℕ) → Never (replay_answer names octets)
+never_replay names octets =
+    let s = scenario_of octets in
+    never_setup names s.setup s.events s.outcome (λ setup is. (headline octets setup is).agrees) (sound_outcome (lines octets) 0 0 _)
