@@ -63,7 +63,8 @@ pub fn eap_login<P: PeerMethod, M: ServerMethod, S: Source, W: Sink>(
     // each tag that an end accepted was made earlier by either end, as it is where the trace says `tags
     // honest`, two ends that both stand in SUCCESS at the end of its run agree in method, identities, suite,
     // MSK and EMSK, which both policies allow; the identities are their own names, the server's user has
-    // the peer's key, and by EAP-GPSK the suite is the first of the server's that the peer allows.
+    // the peer's key, and by EAP-GPSK the suite is the first of the server's that the peer allows. The run sent at
+    // most one packet at each event, and one at its start.
     ensures honest_ends_agree { (octets : List ℕ) → HonestEndsAgree octets }
 
     // Where the input is a scenario of two ends that fit, whose events deliver packet 1, packet 2 and on, each once

@@ -17,6 +17,7 @@ use Rattle.scenario_text.specs.Items as item
 use Rattle.scenario_text.specs.declared.scenario.Phase.TheVariants as phase
 use Rattle.scenario_text.proofs.ValidReading.{no_settings_valid, read_line_valid}
 use Rattle.world_commands.specs.Headline.{HonestEndsAgree}
+use Rattle.world_commands.proofs.Runs.{few_packets}
 use Rattle.world_commands.specs.Replay.{max_events}
 use Rattle.world_commands.specs.Scenario.{Scenario, stops, too_much_at, adds, is_event, with_line, events_after, read_after, scenario_from, scenario_of}
 
@@ -72,4 +73,5 @@ headline octets setup is =
       agrees = honest_ends_agree setup events whole;
       theirs = honest_names_are_theirs setup events whole;
       few_tags = few_tags setup events;
+      few_packets = few_packets setup events;
     }

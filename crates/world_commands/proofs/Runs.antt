@@ -1,7 +1,11 @@
 -- Facts on runs.
-use Rattle.std.proofs.Common.{◌≡◌, ◌+◌, true, refl, sym, ap}
+use Rattle.std.proofs.Common.{◌≡◌, ◌≤◌, ℕ, ◌+◌, List, [], ◌∷◌, ◌++◌, length, Option, Some, None, true, refl, sym, ap, arith, length-append}
 use Rattle.eap_base.specs.declared.event.Event.{Event}
-use Rattle.eap_world.specs.World.{Action, Called, Skipped, WorldNow, WorldOutcome, counted, world_start, world_step, world_outcome, act}
+use Rattle.eap_base.specs.declared.setup.Port.{Port}
+use Rattle.eap_base.specs.declared.setup.Setup.{Setup}
+use Rattle.eap_world.specs.Agreement.{run_of}
+use Rattle.eap_world.specs.World.{Action, Called, Skipped, WorldNow, WorldOutcome, counted, sent_to, sent_by, called, start_call, act}
+use Rattle.eap_world.specs.World.{world_made, world_start, world_step, world_outcome, run_after}
 use Rattle.eap_world.specs.declared.told.Counts.{Counts}
 use Rattle.eap_world.specs.declared.told.Told.{Told}
 
@@ -22,3 +26,36 @@ start_starts w after told e = sym (ap (λ (out : WorldOutcome). out.after.starte
 pub step_starts : (w after : WorldNow) (e : Event) (told : Told) → world_step w e ≡ world_outcome told after → after.started ≡ true
 unfolding world_step
 step_starts w after e told same = sym (ap (λ (out : WorldOutcome). out.after.started) same)
+
+-- ---- a start and each event send one packet at most
+
+one_sent : (port : Port) (octets : Option (List ℕ)) → length (sent_to port octets) ≤ 1
+one_sent port None = omega arith
+one_sent port (Some octets) = omega arith
+
+one_by : (a : Action) → length (sent_by a) ≤ 1
+one_by (Skipped skip) = omega arith
+one_by (Called did) = one_sent did.port did.step.sent
+
+more_sent : (w : WorldNow) (a : Action) (most : ℕ) → length w.sent ≤ most → length (w.sent ++ sent_by a) ≤ most + 1
+more_sent w a most h = omega (arith, h, one_by a, length-append w.sent (sent_by a))
+
+step_sends : (w : WorldNow) (e : Event) → length w.sent ≤ w.counts.events + 1 → length (world_step w e).after.sent ≤ (world_step w e).after.counts.events + 1
+unfolding world_step
+step_sends w e h =
+    let out = act w.parties w.sent e in
+    let counts = counted-events w.counts out.action in
+    let few = more_sent w out.action (w.counts.events + 1) h in
+    omega (arith, counts, few)
+
+run_sends : (w : WorldNow) (events : List Event) → length w.sent ≤ w.counts.events + 1 → length (run_after w events).sent ≤ (run_after w events).counts.events + 1
+unfolding run_after
+run_sends w [] h = h
+run_sends w (e ∷ rest) h = run_sends (world_step w e).after rest (step_sends w e h)
+
+start_sends : (setup : Setup) → length (world_start (world_made setup)).after.sent ≤ (world_start (world_made setup)).after.counts.events + 1
+unfolding world_start
+start_sends setup = one_by (called (world_made setup).parties (start_call setup.mode)).action
+
+pub few_packets : (setup : Setup) (events : List Event) → length (run_of setup events).sent ≤ (run_of setup events).counts.events + 1
+few_packets setup events = run_sends (world_start (world_made setup)).after events (start_sends setup)

@@ -1,7 +1,7 @@
 -- What holds of the run of every scenario: whatever is delivered, lost, repeated, reordered, altered, reflected
 -- or injected, two ends that both succeed agree, where each accepted tag was made earlier by either end. So it is
 -- where each was made earlier by the other end, which the trace tells.
-use Rattle.std.specs.Prelude.{◌≡◌, ℕ, List, ◌++◌, Option, Some, codes}
+use Rattle.std.specs.Prelude.{◌≡◌, ◌≤◌, ℕ, ◌+◌, List, ◌++◌, length, Option, Some, codes}
 use Rattle.eap_base.specs.declared.setup.Setup.{Setup}
 use Rattle.eap_world.specs.Agreement.{run_of, AgreesWhereHonest, TheirsWhereHonest, HasFewTags}
 use Rattle.eap_world.specs.Book.{tags_verdict, tags_verdict_either}
@@ -13,12 +13,14 @@ use Rattle.command_driver.specs.declared.status.Status.{Status}
 use Rattle.command_driver.specs.declared.status.Status.TheVariants.{Done}
 
 -- after the events: over a book that is honest of either end two ends that both succeed agree, and what they
--- report is their own; a book that the trace calls honest is such a book; and it is small
+-- report is their own; a book that the trace calls honest is such a book, and it is small; and at most one packet was
+-- sent at each event, and one at the start
 pub record KeepsAgreement (setup : Setup) (w : WorldNow) : Type 0 where
   pub of_either : tags_verdict w.book ≡ Honest → tags_verdict_either w.book ≡ Honest
   pub agrees : AgreesWhereHonest w
   pub theirs : TheirsWhereHonest setup w
   pub few_tags : HasFewTags w.book
+  pub few_packets : length w.sent ≤ w.counts.events + 1
 
 -- so it is after the events of the scenario that an input is
 abbrev pub HonestEndsAgree : List ℕ → Type 0
