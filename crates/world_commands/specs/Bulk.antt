@@ -11,14 +11,20 @@ use Rattle.command_driver.specs.Answers.{Answer}
 use Rattle.world_commands.specs.declared.bulk.Bulk.{Bulk}
 use Rattle.command_driver.specs.declared.status.Status.TheVariants as status
 
--- the number is 0 to 999,999, and there are 1 to 1,000 conversations; both as a scenario spells numbers
+abbrev pub max_number : ℕ
+max_number = 999999
+
+abbrev pub max_count : ℕ
+max_count = 1000
+
+-- the number is at most 999,999, and there are 1 to 1,000 conversations; both as a scenario spells numbers
 abbrev pub bulk_with : Result ℕ LineFault → Result ℕ LineFault → Option Bulk
 bulk_with (Err fault) count = None
 bulk_with (Ok number) (Err fault) = None
 bulk_with (Ok number) (Ok count) = Some (record { number = number; count = count })
 
 abbrev pub bulk_spelled : List ℕ → List ℕ → Option Bulk
-bulk_spelled number count = bulk_with (number_of number 0 999999) (number_of count 1 1000)
+bulk_spelled number count = bulk_with (number_of number 0 max_number) (number_of count 1 max_count)
 
 -- what the words ask for
 abbrev pub bulk_of : List (List ℕ) → Option Bulk

@@ -1,7 +1,7 @@
 //! The command `bulk N K`: many conversations from one number. It reads no input.
 
 ghost use Rattle.std.specs.Prelude.{◌≡◌, ◌≤◌, map, string_bytes, IfSome};
-ghost use Rattle.world_commands.specs.Bulk.{bulk_of, bulk_spelled, bulk_line, verdicts_text, handled_text, bulk_text, bulk_answer};
+ghost use Rattle.world_commands.specs.Bulk.{max_count, bulk_of, bulk_spelled, bulk_line, verdicts_text, handled_text, bulk_text, bulk_answer};
 ghost use Rattle.world_commands.specs.Replay.{HasBoth};
 ghost use Rattle.command_driver.specs.Responding.{Says, at_any};
 ghost use Rattle.bulk_run.specs.Summing.{summary_of};
@@ -17,6 +17,12 @@ use text_tables::read_number;
 use trace_text::Piece::{Number, Text};
 use trace_text::{write_line, write_pieces};
 
+/// The largest number from which all is drawn.
+const MAX_NUMBER: u32 = 999_999;
+
+/// The most conversations of one call.
+const MAX_COUNT: u32 = 1000;
+
 /// What the words `bulk N K` ask for.
 #[derive(Clone, Copy, PartialEq, Eq, Debug)]
 pub struct Bulk {
@@ -30,7 +36,7 @@ pub struct Bulk {
 /// decimal digits without a leading zero.
 pub fn bulk_of(words: &Vec<String>) -> Option<Bulk>
     ensures value { result ≡ bulk_of (map string_bytes words.now.items) }
-    ensures few { IfSome result (λ bulk. bulk.count ≤ 1000) }
+    ensures few { IfSome result (λ bulk. bulk.count ≤ max_count) }
 {
     match words.as_slice() {
         [word, number, count] => {
@@ -46,11 +52,11 @@ pub fn bulk_of(words: &Vec<String>) -> Option<Bulk>
 
 fn read_bulk(number: &[u8], count: &[u8]) -> Option<Bulk>
     ensures value { result ≡ bulk_spelled number.now count.now }
-    ensures few { IfSome result (λ bulk. bulk.count ≤ 1000) }
+    ensures few { IfSome result (λ bulk. bulk.count ≤ max_count) }
 {
-    match read_number(number, 0, 999_999) {
+    match read_number(number, 0, MAX_NUMBER) {
         Err(_) => None,
-        Ok(number) => match read_number(count, 1, 1000) {
+        Ok(number) => match read_number(count, 1, MAX_COUNT) {
             Err(_) => None,
             Ok(count) => Some(Bulk { number, count }),
         },
@@ -66,7 +72,7 @@ pub fn run_bulk<P: PeerMethod, M: ServerMethod, W: Sink>(
     sink: &mut W,
     methods: Methods<P, M>,
 ) -> Status
-    requires few { bulk.count ≤ 1000 }
+    requires few { bulk.count ≤ max_count }
     requires both { HasBoth P.peer_shown M.server_shown methods }
     ensures { Says W.written W.write_faults W.last_write_fault (bulk_answer bulk) at_any result sink.old sink.new }
 {
