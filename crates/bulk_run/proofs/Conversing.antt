@@ -1,14 +1,15 @@
 -- A conversation's events and draws, one by one and all together.
-use Rattle.std.proofs.Common.{◌≡◌, ◌≤◌, ℕ, suc, ◌+◌, ◌*◌, List, [], ◌∷◌, ◌++◌, refl, sym, ap, subst, ◌∙◌, arith, add-one, codes}
+use Rattle.std.proofs.Common.{◌≡◌, ◌≤◌, ℕ, false, suc, ◌+◌, ◌*◌, List, [], ◌∷◌, ◌++◌, refl, sym, ap, subst, ◌∙◌, arith, add-one, codes}
 use Rattle.eap_base.specs.declared.event.Event.TheVariants.{Deliver}
 use Rattle.eap_base.specs.declared.setup.Setup.{Setup}
 use Rattle.eap_world.specs.Agreement.{run_of}
 use Rattle.eap_world.specs.World.{WorldNow}
+use Rattle.eap_base.specs.declared.setup.Later.{Later}
 use Rattle.eap_base.specs.declared.setup.PeerSetup.{PeerSetup}
 use Rattle.eap_base.specs.declared.setup.ServerSetup.{ServerSetup}
 use Rattle.eap_base.specs.declared.setup.Mode.TheVariants.{Alone}
 use Rattle.eap_base.specs.declared.users.User.{User}
-use Rattle.eap_base.specs.Setup.{gpsk_kind}
+use Rattle.eap_base.specs.Setup.{gpsk_kind, no_later}
 use Rattle.eap_base.specs.Users.{HasRoom}
 use Rattle.bulk_run.specs.Conversation.{alice, srv, known_with, setup_at, setup_with, deliveries, chosen, with_event, chances}
 use Rattle.bulk_run.specs.Draws.{octet_at, octets_after}
@@ -16,11 +17,12 @@ use Rattle.bulk_run.specs.Summing.{IsAtMost, events_of, summary_of, plus, counts
 use Rattle.bulk_run.specs.declared.summary.Summary.{Summary}
 
 -- settings as the code puts them together
-abbrev setup_of : PeerSetup → ServerSetup → Setup
-setup_of peer server = record { mode = Alone; first_id = 0; max_retrans = 4; peer = peer; server = server }
+abbrev setup_of : PeerSetup → ServerSetup → Later → Setup
+setup_of peer server later = record { mode = Alone; first_id = 0; max_retrans = 4; peer = peer; server = server; later = later }
 
 abbrev server_of : List ℕ → List ℕ → List ℕ → List User → List ℕ → ServerSetup
-server_of name methods suites users nonce = record { name = name; methods = methods; suites = suites; users = users; nonce = nonce }
+server_of name methods suites users nonce =
+    record { name = name; methods = methods; suites = suites; users = users; nonce = nonce; expanded = false }
 
 -- no delivery and no turn yet
 pub none_delivered : (setup : Setup) (w : WorldNow) → w ≡ run_of setup [] → w ≡ run_of setup (deliveries 0)
@@ -51,12 +53,13 @@ one_chosen setup number place turns v u before after is is_v is_u goes =
     ∙ ap (λ (x : ℕ). run_of setup (with_event es (chosen (run_of setup es).sent (octet_at number (place + 2 * turns + 1)) x))) is_u)
 
 -- the settings of a conversation are made of what was drawn
-pub setup_is : (number place : ℕ) (peer : PeerSetup) (server : ServerSetup) (peer_nonce server_nonce key : List ℕ)
+pub setup_is : (number place : ℕ) (peer : PeerSetup) (server : ServerSetup) (later : Later) (peer_nonce server_nonce key : List ℕ)
     → peer_nonce ≡ octets_after number place 32 → server_nonce ≡ octets_after number (place + 32) 32 → key ≡ octets_after number (place + 64) 32
-    → peer ≡ alice peer_nonce key → server ≡ srv server_nonce key → setup_of peer server ≡ setup_at number place
+    → peer ≡ alice peer_nonce key → server ≡ srv server_nonce key → later ≡ no_later → setup_of peer server later ≡ setup_at number place
 unfolding setup_at
-setup_is number place peer server peer_nonce server_nonce key is_peer is_server is_key peers servers =
-    ap (λ (p : PeerSetup). setup_of p server) peers ∙ ap (λ (s : ServerSetup). setup_of (alice peer_nonce key) s) servers
+setup_is number place peer server later peer_nonce server_nonce key is_peer is_server is_key peers servers none =
+    ap (λ (p : PeerSetup). setup_of p server later) peers ∙ ap (λ (s : ServerSetup). setup_of (alice peer_nonce key) s later) servers
+    ∙ ap (λ (l : Later). setup_of (alice peer_nonce key) (srv server_nonce key) l) none
     ∙ ap (λ (n : List ℕ). setup_with n server_nonce key) is_peer ∙ ap (λ (n : List ℕ). setup_with (octets_after number place 32) n key) is_server
     ∙ ap (λ (k : List ℕ). setup_with (octets_after number place 32) (octets_after number (place + 32) 32) k) is_key
 

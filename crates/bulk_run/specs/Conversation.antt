@@ -9,7 +9,7 @@ use Rattle.eap_base.specs.declared.setup.PeerSetup.{PeerSetup}
 use Rattle.eap_base.specs.declared.setup.ServerSetup.{ServerSetup}
 use Rattle.eap_base.specs.declared.setup.Setup.{Setup}
 use Rattle.eap_base.specs.declared.users.User.{User}
-use Rattle.eap_base.specs.Setup.{gpsk_kind}
+use Rattle.eap_base.specs.Setup.{gpsk_kind, no_later}
 use Rattle.eap_world.specs.Agreement.{run_of}
 use Rattle.eap_world.specs.Sent.{Sent, packet_numbered}
 use Rattle.eap_world.specs.World.{octets_of}
@@ -25,6 +25,7 @@ alice nonce key = record {
   psk47 = None;
   psk51 = Some key;
   nonce = nonce;
+  expanded = false;
 }
 
 -- as the server knows her
@@ -39,11 +40,12 @@ srv nonce key = record {
   suites = 1 ∷ 2 ∷ [];
   users = known_with key ∷ [];
   nonce = nonce;
+  expanded = false;
 }
 
 abbrev pub setup_with : List ℕ → List ℕ → List ℕ → Setup
 setup_with peer_nonce server_nonce key =
-    record { mode = Alone; first_id = 0; max_retrans = 4; peer = alice peer_nonce key; server = srv server_nonce key }
+    record { mode = Alone; first_id = 0; max_retrans = 4; peer = alice peer_nonce key; server = srv server_nonce key; later = no_later }
 
 -- the settings of the conversation that begins after a place: 32 octets for each nonce and 32 for the key
 unfoldable pub setup_at : ℕ → ℕ → Setup

@@ -17,8 +17,8 @@ use crate::draws::Draws;
 use crate::summary::Summary;
 use crate::turn::{begin, take, take_chosen};
 use eap_base::{
-    Accepts, Event, GPSK_KIND, Identity, Kinds, Mode, Nonce, PeerSetup, Secret, ServerSetup, Setup,
-    Suites, User, Users,
+    Accepts, Event, GPSK_KIND, Identity, Kinds, Later, Mode, Nonce, PeerSetup, Secret, ServerSetup,
+    Setup, Suites, User, Users,
 };
 use eap_method::{PeerMethod, ServerMethod};
 use eap_world::{Memory, Methods, World};
@@ -65,7 +65,9 @@ pub fn converse<P: PeerMethod, S: ServerMethod>(
             suites: Suites::of(&[1, 2]),
             users,
             nonce: server_nonce,
+            expanded: false,
         },
+        later: Later::none(),
     };
     let mut world = World::new(alloc, setup, methods);
     talk(&mut world, number, draws)?;
@@ -85,6 +87,7 @@ fn alice(nonce: Nonce, key: &Nonce) -> PeerSetup
         psk47: None,
         psk51: Some(Secret::of(key)),
         nonce,
+        expanded: false,
     }
 }
 

@@ -4,7 +4,8 @@ ghost use Rattle.std.specs.Prelude.{◌≡◌, ◌∷◌, []};
 
 use crate::call::BoxedWorld;
 use eap_base::{
-    Accepts, Event, Identity, Kinds, Mode, Party, PeerSetup, ServerSetup, Setup, Suites, Users,
+    Accepts, Event, Identity, Kinds, Later, Mode, Party, PeerSetup, ServerSetup, Setup, Suites,
+    Users,
 };
 use eap_packet::State;
 use eap_world::{Counts, MAX_EVENTS, Methods, SentPacket, Skip, TagsVerdict, Told, Verdict, World};
@@ -40,6 +41,7 @@ fn alice_at_srv(alloc: Global) -> BoxedWorld {
             psk47: None,
             psk51: None,
             nonce: [17; 32],
+            expanded: false,
         },
         server: ServerSetup {
             name: name(b"srv"),
@@ -47,7 +49,9 @@ fn alice_at_srv(alloc: Global) -> BoxedWorld {
             suites: one_suite(),
             users: Users::new(),
             nonce: [34; 32],
+            expanded: false,
         },
+        later: Later::none(),
     };
     let methods = Methods {
         peer: Vec::new(alloc),

@@ -4,6 +4,7 @@ use Rattle.std.specs.List.{list_any, list_all}
 use Rattle.std.specs.Str.{bytes_eq}
 use Rattle.eap_base.specs.declared.setup.Accepts.{Accepts}
 use Rattle.eap_base.specs.declared.setup.Accepts.TheVariants.{Any, One}
+use Rattle.eap_base.specs.declared.setup.Later.{Later}
 use Rattle.eap_base.specs.declared.setup.PeerSetup.{PeerSetup}
 use Rattle.eap_base.specs.declared.setup.ServerSetup.{ServerSetup}
 
@@ -51,6 +52,10 @@ fits_kind kind key =
 abbrev pub accepts_name : Accepts → List ℕ → Bool
 accepts_name Any name = true
 accepts_name (One accepted) name = bytes_eq accepted name
+
+-- no later conversations, as a scenario of version 1 has them
+abbrev pub no_later : Later
+no_later = record { version = 1; peer = []; server = [] }
 
 -- the settings of a peer are sound
 pub record IsSoundPeer (setup : PeerSetup) : Type 0 where

@@ -26,4 +26,6 @@ pub enum Event {
     AltAccept,
     /// The peer's lower layer reports failure.
     AltReject,
+    /// The party begins a new conversation; the pass-through begins anew.
+    Restart { party: Party },
 }

@@ -1,9 +1,10 @@
 //! The settings of a run: what each end is told before it begins.
 
 ghost use Rattle.std.specs.Prelude.{◌≡◌};
-ghost use Rattle.eap_base.specs.Setup.{accepts_name};
+ghost use Rattle.eap_base.specs.Setup.{accepts_name, no_later};
 ghost use Rattle.eap_base.specs.Suite.{ks_of, suite_number, suite_numbered, suite_octets};
 
+use crate::nonces::Nonces;
 use crate::octets::{Identity, Kinds, Nonce, Secret, Suites};
 use crate::users::Users;
 
@@ -129,6 +130,8 @@ pub struct PeerSetup {
     pub psk51: Option<Secret>,
     /// The octets from which its nonce is taken.
     pub nonce: Nonce,
+    /// Whether it reads Expanded Types (RFC 3748 section 5.7).
+    pub expanded: bool,
 }
 
 impl PeerSetup {
@@ -144,6 +147,7 @@ impl PeerSetup {
             psk47: copy_secret(&self.psk47),
             psk51: copy_secret(&self.psk51),
             nonce: self.nonce,
+            expanded: self.expanded,
         }
     }
 }
@@ -161,6 +165,8 @@ pub struct ServerSetup {
     pub users: Users,
     /// The octets from which its nonce is taken.
     pub nonce: Nonce,
+    /// Whether it reads Expanded Types (RFC 3748 section 5.7).
+    pub expanded: bool,
 }
 
 impl ServerSetup {
@@ -174,6 +180,42 @@ impl ServerSetup {
             suites: self.suites.copy(),
             users: self.users.copy(),
             nonce: self.nonce,
+            expanded: self.expanded,
+        }
+    }
+}
+
+/// What a scenario tells of later conversations.
+#[derive(Drop)]
+pub struct Later {
+    /// The version of the scenario's text, from 1 on.
+    pub version: u8,
+    /// The nonces with which the peer begins its conversations after the first.
+    pub peer: Nonces,
+    /// The same of the server.
+    pub server: Nonces,
+}
+
+impl Later {
+    /// No later conversations, as a scenario of version 1 has them.
+    pub fn none() -> Later
+        ensures { result ≡ no_later }
+    {
+        Later {
+            version: 1,
+            peer: Nonces::new(),
+            server: Nonces::new(),
+        }
+    }
+
+    /// An equal value.
+    pub fn copy(&self) -> Later
+        ensures { result ≡ self.now }
+    {
+        Later {
+            version: self.version,
+            peer: self.peer.copy(),
+            server: self.server.copy(),
         }
     }
 }
@@ -188,6 +230,7 @@ pub struct Setup {
     pub max_retrans: u8,
     pub peer: PeerSetup,
     pub server: ServerSetup,
+    pub later: Later,
 }
 
 impl Setup {
@@ -201,6 +244,7 @@ impl Setup {
             max_retrans: self.max_retrans,
             peer: self.peer.copy(),
             server: self.server.copy(),
+            later: self.later.copy(),
         }
     }
 }

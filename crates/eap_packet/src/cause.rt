@@ -22,6 +22,8 @@ pub enum Cause {
     BadNak,
     /// The Code is one that this party doesn't take.
     WrongRole,
+    /// A packet of Type 254, Expanded Types (RFC 3748 section 5.7), that this party doesn't take.
+    BadExpanded,
     /// A Notification while a method is selected.
     NotAllowed,
     /// A Request of the selected method after its end.
@@ -82,6 +84,7 @@ impl Cause {
             Cause::NakRequest => "NakRequest",
             Cause::BadNak => "BadNak",
             Cause::WrongRole => "WrongRole",
+            Cause::BadExpanded => "BadExpanded",
             Cause::NotAllowed => "NotAllowed",
             Cause::MethodDone => "MethodDone",
             Cause::OtherMethod => "OtherMethod",

@@ -49,6 +49,7 @@ of_later sent event.AaaNoReq is = cc is
 of_later sent event.Idle is = cc is
 of_later sent event.AltAccept is = cc is
 of_later sent event.AltReject is = cc is
+of_later sent (event.Restart of) is = cc is
 
 skip_steps : (w : WorldNow) (skip : Skip) → Steps w (counted_acted w (skipped w.parties skip))
 skip_steps w skip = rw (append-nil w.sent, append-nil w.book) (skips skip)

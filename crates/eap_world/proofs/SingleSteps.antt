@@ -106,6 +106,7 @@ handed_to_peer sent event.AaaNoReq bytes is = cc is
 handed_to_peer sent event.Idle bytes is = cc is
 handed_to_peer sent event.AltAccept bytes is = cc is
 handed_to_peer sent event.AltReject bytes is = cc is
+handed_to_peer sent (event.Restart of) bytes is = cc is
 
 at_timer : (to : Port) (octets : List ℕ) {A : Type 0} → call_at to octets ≡ to_server server_inputs.timeout → A
 at_timer port.Peer octets e = absurd cc
@@ -150,6 +151,7 @@ server_timer parties sent event.AaaNoReq unskipped is = absurd cc
 server_timer parties sent event.Idle unskipped is = absurd cc
 server_timer parties sent event.AltAccept unskipped is = absurd cc
 server_timer parties sent event.AltReject unskipped is = absurd cc
+server_timer parties sent (event.Restart of) unskipped is = absurd cc
 
 -- no event starts a party
 abbrev is_start : Call → Bool
@@ -262,6 +264,7 @@ of_start sent event.AaaNoReq call is = other_start _ call refl is
 of_start sent event.Idle call is = other_start _ call refl is
 of_start sent event.AltAccept call is = other_start _ call refl is
 of_start sent event.AltReject call is = other_start _ call refl is
+of_start sent (event.Restart of) call is = cc is
 
 step_holds : (w : WorldNow) (e : Event) (out : WorldOutcome) → StepOf w e out → Holds w → Holds out.after
 step_holds w e _ (is_skipped skip) holds = record { said = rw (append-nil w.sent) holds.said; begun = holds.begun }

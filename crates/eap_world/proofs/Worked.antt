@@ -1,6 +1,7 @@
 -- The Identity round (RFC 3748 section 2), computed from the definitions alone.
 use Rattle.std.proofs.Common.{◌≡◌, List, [], ◌∷◌, true, false, refl, Some, None}
 use Rattle.std.specs.Prelude.{codes, map, replicate}
+use Rattle.eap_base.specs.Setup.{no_later}
 use Rattle.eap_base.specs.declared.setup.Setup.{Setup}
 use Rattle.eap_base.specs.declared.setup.Mode.TheVariants as mode
 use Rattle.eap_base.specs.declared.setup.Accepts.TheVariants.{One}
@@ -31,8 +32,18 @@ example_setup = record {
   mode = mode.Alone;
   first_id = 0;
   max_retrans = 4;
-  peer = record { name = codes "alice"; accepts = One (codes "srv"); methods = []; suites = 1 ∷ 2 ∷ []; psk47 = None; psk51 = None; nonce = replicate 32 17 };
-  server = record { name = codes "srv"; methods = []; suites = 1 ∷ 2 ∷ []; users = []; nonce = replicate 32 34 };
+  peer = record {
+    name = codes "alice";
+    accepts = One (codes "srv");
+    methods = [];
+    suites = 1 ∷ 2 ∷ [];
+    psk47 = None;
+    psk51 = None;
+    nonce = replicate 32 17;
+    expanded = false;
+  };
+  server = record { name = codes "srv"; methods = []; suites = 1 ∷ 2 ∷ []; users = []; nonce = replicate 32 34; expanded = false };
+  later = no_later;
 }
 
 three : List Event

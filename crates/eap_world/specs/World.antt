@@ -235,6 +235,7 @@ skip_table parties sent (event.Inject port octets) = (is_absent parties.mode por
 skip_table parties sent (event.Timeout party) = timer_skips parties party
 skip_table parties sent event.AaaTimeout = aaa_skips parties
 skip_table parties sent event.AaaNoReq = aaa_skips parties
+skip_table parties sent (event.Restart party) = (true, NoParty) ∷ []
 skip_table parties sent _ = (is_end parties.peer.vars.state, Ended) ∷ []
 
 -- the first skip whose condition holds

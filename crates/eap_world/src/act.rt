@@ -86,6 +86,8 @@ pub fn act<P: PeerMethod, S: ServerMethod>(
         Event::Idle => report(machines, event, packet, tags),
         Event::AltAccept => report(machines, event, packet, tags),
         Event::AltReject => report(machines, event, packet, tags),
+        // No party can begin a new conversation so far.
+        Event::Restart { .. } => Action::Skipped(Skip::NoParty),
     }
 }
 

@@ -49,6 +49,7 @@ fn alice(alloc: Global) -> Peer {
         psk47: None,
         psk51: None,
         nonce: [17; 32],
+        expanded: false,
     };
     PeerMachine::new(setup, Vec::new(alloc))
 }
@@ -107,6 +108,7 @@ fn bare_setup() -> ServerSetup
         suites,
         users: Users::new(),
         nonce: [34; 32],
+        expanded: false,
     }
 }
 

@@ -1,6 +1,6 @@
 //! Lists of octets, and copies of settings.
 
-use eap_base::{Accepts, Mode, Octets, PeerSetup, ServerSetup, Setup, Users};
+use eap_base::{Accepts, Later, Mode, Octets, PeerSetup, ServerSetup, Setup, Users};
 
 /// Whether a list of two octets, which has room for four, answers each call so and has the octets that fit.
 fn takes_what_fits() -> bool {
@@ -42,6 +42,7 @@ fn settings() -> Setup {
         psk47: None,
         psk51: Octets::from_slice(&[7; 32]),
         nonce: [1; 32],
+        expanded: false,
     };
     let server = ServerSetup {
         name: Octets::of(b"server"),
@@ -49,6 +50,7 @@ fn settings() -> Setup {
         suites: Octets::of(&[1, 2]),
         users: Users::new(),
         nonce: [2; 32],
+        expanded: false,
     };
     Setup {
         mode: Mode::Alone,
@@ -56,6 +58,7 @@ fn settings() -> Setup {
         max_retrans: 4,
         peer,
         server,
+        later: Later::none(),
     }
 }
 

@@ -1,6 +1,7 @@
 -- Lines, and a whole scenario, read by the definitions alone.
-use Rattle.std.proofs.Common.{◌≡◌, List, ℕ, [], ◌∷◌, ◌++◌, replicate, Some, None, find, Result, Ok, Err, refl}
+use Rattle.std.proofs.Common.{◌≡◌, List, ℕ, false, [], ◌∷◌, ◌++◌, replicate, Some, None, find, Result, Ok, Err, refl}
 use Rattle.std.specs.Prelude.{codes}
+use Rattle.eap_base.specs.Setup.{no_later}
 use Rattle.eap_base.specs.declared.setup.Accepts.TheVariants.{Any}
 use Rattle.eap_base.specs.declared.setup.Mode.TheVariants as mode
 use Rattle.eap_base.specs.declared.setup.Party.TheVariants as party
@@ -70,8 +71,18 @@ setup = record {
   mode = mode.Alone;
   first_id = 0;
   max_retrans = 4;
-  peer = record { name = codes "alice"; accepts = Any; methods = []; suites = 1 ∷ 2 ∷ []; psk47 = None; psk51 = None; nonce = replicate 32 0 };
-  server = record { name = codes "home"; methods = []; suites = 1 ∷ 2 ∷ []; users = []; nonce = replicate 32 0 };
+  peer = record {
+    name = codes "alice";
+    accepts = Any;
+    methods = [];
+    suites = 1 ∷ 2 ∷ [];
+    psk47 = None;
+    psk51 = None;
+    nonce = replicate 32 0;
+    expanded = false;
+  };
+  server = record { name = codes "home"; methods = []; suites = 1 ∷ 2 ∷ []; users = []; nonce = replicate 32 0; expanded = false };
+  later = no_later;
 }
 
 reads : read_all sample ≡ Ok (record { setup = Some setup; events = event.Idle ∷ event.Deliver 2 ∷ [] })

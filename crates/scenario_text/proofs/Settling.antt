@@ -7,6 +7,7 @@ use Rattle.std.proofs.Math.Seq.{get_or-append_seam}
 use Rattle.eap_base.specs.Setup.{psk_kind, gpsk_kind, is_among}
 use Rattle.eap_base.specs.Users.{user_of, is_named, HasRoom, AreDistinct}
 use Rattle.eap_base.specs.declared.users.User.{User}
+use Rattle.eap_base.specs.declared.setup.Later.{Later}
 use Rattle.eap_base.specs.declared.setup.PeerSetup.{PeerSetup}
 use Rattle.eap_base.specs.declared.setup.ServerSetup.{ServerSetup}
 use Rattle.eap_base.specs.declared.setup.Setup.{Setup}
@@ -126,7 +127,7 @@ peers-given s =
     with_needed Q s.peer_nonce _ (λ nonce d.
     with_made Q (key_for methods psk_kind s.peer_psk47) _ _ (key-given methods psk_kind s.peer_psk47) (λ psk47 f.
     with_made Q (key_for methods gpsk_kind s.peer_psk51) _ _ (key-given methods gpsk_kind s.peer_psk51) (λ psk51 g.
-    record { name = a; accepts = b; methods = c; suites = given-or s.peer_suites both_suites; psk47 = f; psk51 = g; nonce = d }))))))
+    record { name = a; accepts = b; methods = c; suites = given-or s.peer_suites both_suites; psk47 = f; psk51 = g; nonce = d; expanded = refl }))))))
 
 servers-given : (s : Settings) → AreUsers s.users → IfOk (server_setup_of s) (MakesServer (joined s no_values))
 unfolding server_setup_of
@@ -136,7 +137,7 @@ servers-given s h =
     with_needed Q s.server_name _ (λ name a.
     with_needed Q s.server_methods _ (λ methods b.
     with_needed Q s.server_nonce _ (λ nonce c.
-    record { name = a; methods = b; suites = suites; nonce = c; users = append-nil s.users; few_users = h.few; distinct_users = h.distinct })))
+    record { name = a; methods = b; suites = suites; nonce = c; users = append-nil s.users; few_users = h.few; distinct_users = h.distinct; expanded = refl })))
 
 pub all-given : (s : Settings) → AreUsers s.users → IfOk (setup_of s) (MakesSetup (joined s no_values))
 unfolding setup_of
@@ -145,7 +146,7 @@ all-given s h =
     with_needed Q s.mode _ (λ mode a.
     with_made Q (peer_setup_of s) (MakesPeer (joined s no_values)) _ (peers-given s) (λ peer b.
     with_made Q (server_setup_of s) (MakesServer (joined s no_values)) _ (servers-given s h) (λ server c.
-    record { mode = a; first_id = given-or s.first_id 0; max_retrans = given-or s.max_retrans 4; peer = b; server = c })))
+    record { mode = a; first_id = given-or s.first_id 0; max_retrans = given-or s.max_retrans 4; peer = b; server = c; later = refl })))
 
 -- a setting that comes where it is set would be given twice
 once : {A : Type 0} (slot : Option A) (a b : A) (xs : List A) → plus slot (a ∷ xs) ≡ b ∷ [] → is_some slot ≡ false
@@ -216,7 +217,7 @@ peers-set s peer h =
     let psk47 = key-set peer.methods psk_kind s.peer_psk47 peer.psk47 (h.psk47) in
     let psk51 = key-set peer.methods gpsk_kind s.peer_psk51 peer.psk51 (h.psk51) in
     let suites = set-or s.peer_suites both_suites peer.suites (h.suites) in
-    rw (name, accepts, methods, nonce, psk47, psk51, suites) refl
+    rw (name, accepts, methods, nonce, psk47, psk51, suites) (ap (λ (x : Bool). Ok (record peer { expanded = x })) (sym (h.expanded)))
 
 servers-set : (s : Settings) (server : ServerSetup) → MakesServer (joined s no_values) server → server_setup_of s ≡ Ok server
 unfolding server_setup_of
@@ -226,7 +227,7 @@ servers-set s server h =
     let nonce = set-is s.server_nonce server.nonce (h.nonce) in
     let suites = set-or s.server_suites both_suites server.suites (h.suites) in
     let users : s.users ≡ server.users = sym (append-nil s.users) ∙ h.users in
-    rw (name, methods, nonce, suites, users) refl
+    rw (name, methods, nonce, suites, users) (ap (λ (x : Bool). Ok (record server { expanded = x })) (sym (h.expanded)))
 
 pub all-set : (s : Settings) (setup : Setup) → MakesSetup (joined s no_values) setup → setup_of s ≡ Ok setup
 unfolding setup_of
@@ -236,4 +237,4 @@ all-set s setup h =
     let max_retrans = set-or s.max_retrans 4 setup.max_retrans (h.max_retrans) in
     let peer = peers-set s setup.peer (h.peer) in
     let server = servers-set s setup.server (h.server) in
-    rw (peer, server, mode, first_id, max_retrans) refl
+    rw (peer, server, mode, first_id, max_retrans) (ap (λ (x : Later). Ok (record setup { later = x })) (sym (h.later)))

@@ -1,7 +1,7 @@
 -- A scenario, line by line: what has been read, and what each line adds.
 use Rattle.std.specs.Prelude.{ℕ, List, [], ◌∷◌, length, nat_le, not, ◌||◌, Bool, true, false, if◌then◌else◌, codes, Option, Some, None, find, Result, Ok, Err, IsOk, ok_or, is_err, is_some, unwrap_or}
 use Rattle.std.specs.Str.{bytes_eq}
-use Rattle.eap_base.specs.Setup.{psk_kind, gpsk_kind, is_among}
+use Rattle.eap_base.specs.Setup.{psk_kind, gpsk_kind, is_among, no_later}
 use Rattle.eap_base.specs.Users.{user_of}
 use Rattle.eap_base.specs.declared.setup.PeerSetup.{PeerSetup}
 use Rattle.eap_base.specs.declared.setup.ServerSetup.{ServerSetup}
@@ -89,21 +89,30 @@ peer_setup_of s = do
   nonce ← needed s.peer_nonce
   psk47 ← key_for methods psk_kind s.peer_psk47
   psk51 ← key_for methods gpsk_kind s.peer_psk51
-  Ok (record { name = name; accepts = accepts; methods = methods; suites = unwrap_or s.peer_suites both_suites; psk47 = psk47; psk51 = psk51; nonce = nonce })
+  Ok (record {
+    name = name;
+    accepts = accepts;
+    methods = methods;
+    suites = unwrap_or s.peer_suites both_suites;
+    psk47 = psk47;
+    psk51 = psk51;
+    nonce = nonce;
+    expanded = false;
+  })
 
 unfoldable pub server_setup_of : Settings → Result ServerSetup LineFault
 server_setup_of s = do
   name ← needed s.server_name
   methods ← needed s.server_methods
   nonce ← needed s.server_nonce
-  Ok (record { name = name; methods = methods; suites = unwrap_or s.server_suites both_suites; users = s.users; nonce = nonce })
+  Ok (record { name = name; methods = methods; suites = unwrap_or s.server_suites both_suites; users = s.users; nonce = nonce; expanded = false })
 
 unfoldable pub setup_of : Settings → Result Setup LineFault
 setup_of s = do
   mode ← needed s.mode
   peer ← peer_setup_of s
   server ← server_setup_of s
-  Ok (record { mode = mode; first_id = unwrap_or s.first_id 0; max_retrans = unwrap_or s.max_retrans 4; peer = peer; server = server })
+  Ok (record { mode = mode; first_id = unwrap_or s.first_id 0; max_retrans = unwrap_or s.max_retrans 4; peer = peer; server = server; later = no_later })
 
 -- what has been read of a scenario: how far it has come, and its settings
 pub record Reading : Type 0 where

@@ -1,6 +1,6 @@
 -- What a scenario is, by all its lines: its settings, its events, and what reading it makes of them.
 use Rattle.std.specs.Prelude.{◌≡◌, ℕ, ◌≤◌, List, [], ◌∷◌, ◌++◌, length, map, filter, not, All, Option, Some, None, IsSome, IsTrue, false, Result, Ok}
-use Rattle.eap_base.specs.Setup.{psk_kind, gpsk_kind, is_among}
+use Rattle.eap_base.specs.Setup.{psk_kind, gpsk_kind, is_among, no_later}
 use Rattle.eap_base.specs.Users.{AreDistinct}
 use Rattle.eap_base.specs.declared.users.User.{User}
 use Rattle.eap_base.specs.declared.setup.Mode.{Mode}
@@ -108,6 +108,7 @@ pub record MakesPeer (v : Values) (peer : PeerSetup) : Type 0 where
   pub psk47 : IsKeyFor peer.methods psk_kind v.peer_psk47 peer.psk47
   pub psk51 : IsKeyFor peer.methods gpsk_kind v.peer_psk51 peer.psk51
   pub nonce : IsGiven v.peer_nonce peer.nonce
+  pub expanded : peer.expanded ≡ false
 
 pub record MakesServer (v : Values) (server : ServerSetup) : Type 0 where
   pub name : IsGiven v.server_name server.name
@@ -117,6 +118,7 @@ pub record MakesServer (v : Values) (server : ServerSetup) : Type 0 where
   pub users : v.users ≡ server.users
   pub few_users : length server.users ≤ 16
   pub distinct_users : AreDistinct server.users
+  pub expanded : server.expanded ≡ false
 
 pub record MakesSetup (v : Values) (setup : Setup) : Type 0 where
   pub mode : IsGiven v.mode setup.mode
@@ -124,6 +126,7 @@ pub record MakesSetup (v : Values) (setup : Setup) : Type 0 where
   pub max_retrans : IsGivenOr 4 v.max_retrans setup.max_retrans
   pub peer : MakesPeer v setup.peer
   pub server : MakesServer v setup.server
+  pub later : setup.later ≡ no_later
 
 -- the lines that aren't passed over
 abbrev pub told : List (List ℕ) → List (List ℕ)

@@ -9,8 +9,8 @@ ghost use Rattle.scenario_text.specs.Reading.{peer_setup_of, server_setup_of, se
 use crate::entry::{Entry, Setting};
 use crate::keyword::Keyword;
 use eap_base::{
-    Accepts, GPSK_KIND, Identity, Kinds, Mode, Nonce, PSK_KIND, PeerSetup, Secret, ServerSetup,
-    Setup, Suites, Users, is_among,
+    Accepts, GPSK_KIND, Identity, Kinds, Later, Mode, Nonce, PSK_KIND, PeerSetup, Secret,
+    ServerSetup, Setup, Suites, Users, is_among,
 };
 use text_tables::{LineFault, add_user};
 
@@ -148,6 +148,7 @@ impl Settings {
             max_retrans: self.max_retrans.unwrap_or(4),
             peer,
             server,
+            later: Later::none(),
         })
     }
 
@@ -170,6 +171,7 @@ impl Settings {
             psk47,
             psk51,
             nonce,
+            expanded: false,
         })
     }
 
@@ -187,6 +189,7 @@ impl Settings {
             suites: suites_or_both(&self.server_suites),
             users: self.users.copy(),
             nonce,
+            expanded: false,
         })
     }
 }

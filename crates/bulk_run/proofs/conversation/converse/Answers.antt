@@ -11,10 +11,11 @@ returns-clause-counts g c place is =
     let third = same_place number (place + 32 + 32) (place + 64) _ (c.octets-server_nonce.ensures.stands number (place + 32) second) (omega arith) in
     let last = same_place number (place + 64 + 32) (place + 96) _ (c.octets-key.ensures.stands number (place + 64) third) (omega arith) in
     let setup =
-    setup_is number place c.alice.result _ _ _ _
+    setup_is number place c.alice.result _ _ _ _ _
     (c.octets-peer_nonce.ensures.octets number place is) (c.octets-server_nonce.ensures.octets number (place + 32) second)
     (c.octets-key.ensures.octets number (place + 64) third) c.alice.ensures
     (server_is _ _ _ _ _ _ _ _ c.of.ensures c.of-2.ensures c.of-3.ensures c.new-users.ensures c.user.ensures c.add.ensures.added)
+    c.none.ensures
     in
     c.of-4.ensures.value ∙ ap counts_of (is_ended number place _ _ setup (c.in_ok-talk.ensures.run _ (place + 96) c.new-world.ensures.made last))
 
