@@ -16,7 +16,6 @@ use Rattle.eap_base.specs.declared.setup.ServerSetup.{ServerSetup}
 use Rattle.eap_base.specs.declared.setup.Setup.{Setup}
 use Rattle.eap_packet.specs.Fault.{code_of}
 use Rattle.eap_packet.specs.declared.state.State.{State}
-use Rattle.eap_packet.specs.declared.state.State.TheVariants as state
 use Rattle.eap_method.specs.declared.tags.TagRecord.{TagRecord}
 use Rattle.eap_method.specs.Steps.{is_end}
 use Rattle.peer_machine.specs.PeerTable.{PeerNow}
