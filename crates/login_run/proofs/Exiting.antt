@@ -3,6 +3,7 @@ use Rattle.std.proofs.Common.{◌≡◌, ℕ, List, Option, Result, Ok, Err, IfO
 use Rattle.command_driver.specs.declared.status.Status.{Status}
 use Rattle.command_driver.specs.declared.status.Status.TheVariants as status
 use Rattle.world_commands.proofs.Headline.{headline}
+use Rattle.world_commands.proofs.SmoothTraces as traces
 use Rattle.login_run.specs.Exit.{exit_number_of}
 use Rattle.login_run.specs.Runs.{Answers, Exits}
 
@@ -14,7 +15,9 @@ module _ {S W : Type 0} (left : S → Option (List ℕ)) (read_faults : S → �
   lacking words source sink = record {
     responds = inr (record { memory = refl; unread = refl; unwritten = refl });
     honest_ends_agree = headline;
+    smooth_traces_agree = traces.smooth_traces_agree;
     never_both = λ octets e. record { holds = λ h old text b n. absurd cc };
+    complete = λ octets e no_read no_write. inr (record { memory = refl; unread = refl; unwritten = refl });
   }
 
   pub exits : {E : Type 0} (words : List (List ℕ)) (before : S) (now : S) (old : W) (new : W) (number : ℕ) (result : Result Status E)

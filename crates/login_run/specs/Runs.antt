@@ -1,7 +1,9 @@
 -- How a run of the program ends: by what it was started with, what it read and wrote, and its exit status.
 use Rattle.std.specs.Prelude.{◌≡◌, ℕ, List, drop, Option, Some, ◌⊎◌}
 use Rattle.world_commands.specs.Headline.{HonestEndsAgree, WritesNeverBoth}
-use Rattle.login_call.specs.Login.{asked_by}
+use Rattle.world_commands.specs.SmoothTraces.{SmoothTracesAgree}
+use Rattle.login_call.specs.Login.{asked_by, Completes}
+use Rattle.command_driver.specs.Answers.{HasRisen}
 use Rattle.command_driver.specs.Responding.{Responds}
 use Rattle.command_driver.specs.Statuses.{number_of}
 use Rattle.command_driver.specs.declared.status.Status.{Status}
@@ -21,14 +23,18 @@ module _ {S W : Type 0} (left : S → Option (List ℕ)) (read_faults : S → �
     pub unread : now ≡ before
     pub unwritten : new ≡ old
 
-  -- words were answered with a status, or memory was wanting; in the run of the scenario that the input is, over
-  -- honest tags two ends that both succeed agree; no text written with status 0 says both that all tags are honest
-  -- and that the ends are apart
+  -- words were answered with a status, or memory was wanting before that; in the run of the scenario that the input
+  -- is, over honest tags two ends that both succeed agree; the trace of a smooth login tells agreement; no text written
+  -- with status 0 says both that all tags are honest and that the ends are apart; where neither a read nor a write
+  -- failed, the status is the answer's, or memory was wanting where it may be
   pub record Answers (words : List (List ℕ)) (before : S) (now : S) (old : W) (new : W) (s : Status) : Type 0 where
     pub responds : Responds left read_faults last_read_fault written write_faults last_write_fault (asked_by words) s before now old new
         ⊎ Lacked before now old new s
     pub honest_ends_agree : (octets : List ℕ) → HonestEndsAgree octets
+    pub smooth_traces_agree : SmoothTracesAgree
     pub never_both : (octets : List ℕ) → left before ≡ Some octets → WritesNeverBoth s (written old) (written new)
+    pub complete : (octets : List ℕ) → left before ≡ Some octets → (HasRisen last_read_fault (read_faults before) (read_faults now) → ⊥)
+        → (HasRisen last_write_fault (write_faults old) (write_faults new) → ⊥) → Completes words octets s ⊎ Lacked before now old new s
 
   -- words were answered, and the exit status is the number of the status
   pub record Exits (words : List (List ℕ)) (before : S) (now : S) (old : W) (new : W) (number : ℕ) : Type 0 where

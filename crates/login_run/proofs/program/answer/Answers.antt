@@ -1,4 +1,4 @@
-use Rattle.std.proofs.Common.{◌≡◌, refl, sym, subst}
+use Rattle.std.proofs.Common.{◌≡◌, refl, sym, subst, inl}
 use Rattle.eap_base.specs.Setup.{psk_kind, gpsk_kind}
 use Rattle.eap_method.specs.Peer.{peer_kind}
 use Rattle.eap_method.specs.Server.{server_kind}
@@ -22,3 +22,15 @@ both_servers-requires-clause-is_psk g c =
 pub both_servers-requires-clause-is_gpsk : goal.both_servers-requires-clause-is_gpsk
 both_servers-requires-clause-is_gpsk g c =
     subst (λ v. (x : _) → server_kind ((own.own-2.entry v).1.server_shown x) ≡ gpsk_kind) (sym c.into_dyn_box-in_ok-new-4.ensures.0) (λ x. refl) c.into_dyn_box-in_ok-new-4.result.value
+
+-- what holds of the words that were taken holds of those after the name
+pub returns-clause-answers : goal.returns-clause-answers
+returns-clause-answers g c =
+    let said = c.eap_login.ensures in
+    rw (← c.in_ok-words.ensures) (record {
+      responds = inl said.responds;
+      honest_ends_agree = said.honest_ends_agree;
+      smooth_traces_agree = said.smooth_traces_agree;
+      never_both = said.never_both;
+      complete = λ octets e no_read no_write. inl (said.complete octets e no_read no_write);
+    })
