@@ -1,0 +1,176 @@
+-- The methods alone: which one a session holds, and what a call of it came to, as numbers.
+use Rattle.std.specs.Prelude.{◌≡◌, ℕ, List, Bool, true, false, ⊤, ◌==◌, if◌then◌else◌, Result, Ok, Err}
+use Rattle.eap_packet.specs.Packet.{PacketValue, request, response, success, failure, spelled}
+use Rattle.eap_packet.specs.declared.cause.Cause.{Cause}
+use Rattle.eap_packet.specs.declared.cause.Cause.TheVariants as cause
+use Rattle.eap_base.specs.Setup.{psk_kind}
+use Rattle.eap_method.specs.declared.values.Credential.{Credential}
+use Rattle.eap_method.specs.declared.values.ServerSide.{ServerSide}
+use Rattle.eap_method.specs.declared.values.MethodState.{MethodState}
+use Rattle.eap_method.specs.declared.values.MethodState.TheVariants as method
+use Rattle.eap_method.specs.declared.values.Decision.{Decision}
+use Rattle.eap_method.specs.declared.values.Decision.TheVariants as decision
+use Rattle.eap_method.specs.Peer.{PeerShown, peer_kind}
+use Rattle.eap_method.specs.Peer as peer
+use Rattle.eap_method.specs.PskPeer as psk_peer
+use Rattle.eap_method.specs.GpskPeer as gpsk_peer
+use Rattle.eap_method.specs.PeerTurn.{PeerTurn}
+use Rattle.eap_method.specs.PeerTurn as peer_turn
+use Rattle.eap_method.specs.Server.{ServerShown, server_kind}
+use Rattle.eap_method.specs.Server as server
+use Rattle.eap_method.specs.PskServer as psk_server
+use Rattle.eap_method.specs.GpskServer as gpsk_server
+use Rattle.eap_method.specs.ServerTurn.{ServerTurn}
+use Rattle.eap_method.specs.ServerTurn as server_turn
+use Rattle.eap_method.specs.Turns.{PeerOutcome, ServerOutcome}
+use Rattle.eap_method.specs.declared.turn.PeerTurn as peer_briefs
+use Rattle.eap_method.specs.declared.turn.PeerTurn.TheVariants as peer_answer
+use Rattle.eap_method.specs.declared.turn.ServerTurn as server_briefs
+use Rattle.eap_method.specs.declared.turn.ServerTurn.TheVariants as server_answer
+use Rattle.end_objects.specs.Objects.{peer_object_shown, server_object_shown}
+use Rattle.end_objects.specs.Settings.{SettingsValue, accepted, suites_of}
+use Rattle.tuvaddri_c.specs.Turns.{cause_number}
+use Rattle.tuvaddri_c.specs.declared.method_turn.TuvMethodTurn.{TuvMethodTurn}
+use Rattle.end_objects.specs.declared.objects.PeerObject.{PeerObject}
+use Rattle.end_objects.specs.declared.objects.ServerObject.{ServerObject}
+use Rattle.tuvaddri_c.specs.declared.session.End.{End}
+use Rattle.tuvaddri_c.specs.declared.session.Known.{Known}
+use Rattle.tuvaddri_c.specs.declared.session.Session.{Session}
+use Rattle.tuvaddri_c.specs.declared.session.End.TheVariants as ends
+
+-- where the session holds a peer's method, this holds of it
+abbrev pub IfPeerMethod : End → (PeerObject → Type 0) → Type 0
+IfPeerMethod e P = elim e [ ends.PeerMethod o ↦ P o | _ ↦ ⊤ ]
+
+-- the session holds a peer's method, and this holds of it
+abbrev pub AsPeerMethod : End → (PeerObject → Type 0) → Type 0
+AsPeerMethod e P = elim e [ ends.PeerMethod o ↦ P o | _ ↦ ⊥ ]
+
+-- where the session holds a server's method, this holds of it and its users
+abbrev pub IfServerMethod : End → (ServerObject → Known → Type 0) → Type 0
+IfServerMethod e P = elim e [ ends.ServerMethod o users ↦ P o users | _ ↦ ⊤ ]
+
+-- the session holds a server's method, and this holds of it and its users
+abbrev pub AsServerMethod : End → (ServerObject → Known → Type 0) → Type 0
+AsServerMethod e P = elim e [ ends.ServerMethod o users ↦ P o users | _ ↦ ⊥ ]
+
+-- the numbers of methodState and of decision, in the order of their declarations
+abbrev pub method_number : MethodState → ℕ
+method_number method.NotSet = 0
+method_number method.Init = 1
+method_number method.Cont = 2
+method_number method.MayCont = 3
+method_number method.Done = 4
+
+abbrev pub decision_number : Decision → ℕ
+decision_number decision.Fail = 0
+decision_number decision.CondSucc = 1
+decision_number decision.UncondSucc = 2
+
+-- a call that has no place
+abbrev pub no_method_turn : TuvMethodTurn
+no_method_turn = record { sends = false; discards = false; misplaced = true; cause = 0; state = 0; decision = 0 }
+
+-- what came is discarded
+abbrev pub discarding : Cause → TuvMethodTurn
+discarding c = record { sends = false; discards = true; misplaced = false; cause = cause_number c; state = 0; decision = 0 }
+
+-- a packet is sent, with this methodState and decision
+abbrev pub replying : ℕ → ℕ → TuvMethodTurn
+replying m d = record { sends = true; discards = false; misplaced = false; cause = 0; state = m; decision = d }
+
+-- a server's method is over, methodState DONE (4), with this decision
+abbrev pub method_done : ℕ → TuvMethodTurn
+method_done d = record { sends = false; discards = false; misplaced = false; cause = 0; state = 4; decision = d }
+
+-- a call that has no place says so, and nothing is changed
+pub record IsMisplaced (before : Session) (turn : TuvMethodTurn) (after : Session) : Type 0 where
+  pub turn_is : turn ≡ no_method_turn
+  pub same : after ≡ before
+
+-- what came is discarded, and nothing is changed
+pub record IsDiscarded (c : Cause) (before : Session) (turn : TuvMethodTurn) (after : Session) : Type 0 where
+  pub turn_is : turn ≡ discarding c
+  pub same : after ≡ before
+
+-- what a peer's turn comes to
+abbrev pub peer_told : PeerTurn → TuvMethodTurn
+peer_told (peer_turn.Discard c) = discarding c
+peer_told (peer_turn.Reply packet m d tags) = replying (method_number m) (decision_number d)
+
+-- the packet is that of the turn, where it has one
+abbrev pub IsReply : PeerTurn → List ℕ → Type 0
+IsReply (peer_turn.Discard c) octets = ⊤
+IsReply (peer_turn.Reply packet m d tags) octets = packet ≡ octets
+
+-- what a server's turn comes to: methodState CONT (2) or DONE (4), and decision FAIL (0) or UNCOND_SUCC (2)
+abbrev pub server_told : ServerTurn → TuvMethodTurn
+server_told (server_turn.Discard c) = discarding c
+server_told (server_turn.Request packet tags) = replying 2 0
+server_told (server_turn.Done true tags) = method_done 2
+server_told (server_turn.Done false tags) = method_done 0
+
+abbrev pub IsNext : ServerTurn → List ℕ → Type 0
+IsNext (server_turn.Discard c) octets = ⊤
+IsNext (server_turn.Request packet tags) octets = packet ≡ octets
+IsNext (server_turn.Done well tags) octets = ⊤
+
+-- what a turn comes to, as the method says it
+abbrev pub peer_brief : peer_briefs.PeerTurn → TuvMethodTurn
+peer_brief (peer_answer.Discard c) = discarding c
+peer_brief (peer_answer.Reply m d) = replying (method_number m) (decision_number d)
+
+abbrev pub server_brief : server_briefs.ServerTurn → TuvMethodTurn
+server_brief (server_answer.Discard c) = discarding c
+server_brief server_answer.Request = replying 2 0
+server_brief (server_answer.Done true) = method_done 2
+server_brief (server_answer.Done false) = method_done 0
+
+-- the call does what the method's definition says
+pub record PeerTurns (out : PeerOutcome PeerShown) (turn : TuvMethodTurn) (packet : List ℕ) (after : PeerObject) : Type 0 where
+  pub turn_is : turn ≡ peer_told out.turn
+  pub sent : IsReply out.turn packet
+  pub object : out.after ≡ peer_object_shown after
+
+pub record ServerTurns (out : ServerOutcome ServerShown) (turn : TuvMethodTurn) (packet : List ℕ) (after : ServerObject) : Type 0 where
+  pub turn_is : turn ≡ server_told out.turn
+  pub sent : IsNext out.turn packet
+  pub object : out.after ≡ server_object_shown after
+
+-- the octets of the Request of this Type with which octets begin, or why they are discarded
+abbrev pub requested : ℕ → Result PacketValue Cause → Result (List ℕ) Cause
+requested kind (Err c) = Err c
+requested kind (Ok (request id other body)) = if other == kind then Ok (spelled (request id other body)) else Err cause.OtherMethod
+requested kind (Ok (response id other body)) = Err cause.WrongRole
+requested kind (Ok (success id)) = Err cause.WrongRole
+requested kind (Ok (failure id)) = Err cause.WrongRole
+
+-- the octets of the Response of this Type with which octets begin, or why they are discarded
+abbrev pub responded : ℕ → Result PacketValue Cause → Result (List ℕ) Cause
+responded kind (Err c) = Err c
+responded kind (Ok (request id other body)) = Err cause.WrongRole
+responded kind (Ok (response id other body)) = if other == kind then Ok (spelled (response id other body)) else Err cause.WrongMethod
+responded kind (Ok (success id)) = Err cause.WrongRole
+responded kind (Ok (failure id)) = Err cause.WrongRole
+
+-- whether the session holds a peer's method; a server's method
+abbrev pub is_peer_method : End → Bool
+is_peer_method e = elim e [ ends.PeerMethod o ↦ true | _ ↦ false ]
+
+abbrev pub is_server_method : End → Bool
+is_server_method e = elim e [ ends.ServerMethod o users ↦ true | _ ↦ false ]
+
+-- what an end brings into its method
+abbrev pub credential_of : SettingsValue → Credential
+credential_of told = record { id_p = told.name; accepts = accepted told.other; suites = suites_of told.suites; psk = told.psk }
+
+abbrev pub side_of : SettingsValue → ServerSide
+side_of told = record { id_s = told.name; suites = suites_of told.suites }
+
+-- a peer's method that has just begun
+abbrev pub peer_fresh : ℕ → Credential → List ℕ → PeerShown
+peer_fresh kind cred nonce = if kind == psk_kind then peer.psk (psk_peer.fresh cred nonce) else peer.gpsk (gpsk_peer.fresh cred nonce)
+
+-- a server's method that has just begun
+abbrev pub server_fresh : ℕ → ServerSide → List ℕ → ServerShown
+server_fresh kind own nonce = if kind == psk_kind then server.psk (psk_server.begun own nonce) else server.gpsk (gpsk_server.begun own nonce)

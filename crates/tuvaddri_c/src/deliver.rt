@@ -1,0 +1,100 @@
+//! Octets come to a peer, a stand-alone server or a backend.
+
+ghost use Rattle.std.specs.Prelude.{◌≡◌, true, false};
+ghost use Rattle.peer_machine.specs.PeerTable.{peer_deliver};
+ghost use Rattle.peer_machine.specs.PeerTable as peer;
+ghost use Rattle.server_machine.specs.ServerTable.{server_deliver, is_ready};
+ghost use Rattle.server_machine.specs.ServerTable as server;
+ghost use Rattle.end_objects.specs.Objects.{peer_object_shown, server_object_shown};
+ghost use Rattle.tuvaddri_c.specs.Ends.{IfPeer, AsPeer, IfServer, AsServer, IfBackend, AsBackend, takes_octets};
+ghost use Rattle.tuvaddri_c.specs.Turns.{PeerDoes, ServerDoes, IsMisplaced};
+
+use crate::handle::TuvEnd;
+use crate::session::{End, Session};
+use crate::turn::TuvTurn;
+use eap_base::Packet;
+use eap_method::Tags;
+use end_objects::{PeerObject, ServerObject};
+use peer_machine::PeerMachine;
+use server_machine::{Backend, ServerMachine};
+
+#[tactic(auto, using(crate::proofs::Does::peer_does))]
+fn deliver_to_peer(
+    machine: &mut PeerMachine<PeerObject>,
+    octets: &[u8],
+    packet: &mut Packet,
+    tags: &mut Tags,
+) -> TuvTurn
+    ensures { PeerDoes (peer_deliver (peer.now_of peer_object_shown machine.old) octets.now) result packet.new machine.new }
+{
+    let step = machine.deliver(octets, packet, tags);
+    TuvTurn::of(&step, machine.state())
+}
+
+#[tactic(auto, using(crate::proofs::Does::server_does))]
+fn deliver_to_server(
+    machine: &mut ServerMachine<ServerObject>,
+    octets: &[u8],
+    packet: &mut Packet,
+    tags: &mut Tags,
+) -> TuvTurn
+    requires { is_ready machine.old.vars ≡ true }
+    ensures { ServerDoes (server_deliver (server.now_of server_object_shown machine.old) octets.now) result packet.new machine.new }
+{
+    let step = machine.deliver(octets, packet, tags);
+    TuvTurn::of(&step, machine.state())
+}
+
+#[tactic(auto, using(crate::proofs::Does::server_does))]
+fn deliver_to_backend(
+    machine: &mut Backend<ServerObject>,
+    octets: &[u8],
+    packet: &mut Packet,
+    tags: &mut Tags,
+) -> TuvTurn
+    ensures { ServerDoes (server_deliver (server.now_of server_object_shown machine.old) octets.now) result packet.new machine.new }
+{
+    let step = machine.deliver(octets, packet, tags);
+    TuvTurn::of(&step, machine.state())
+}
+
+fn deliver(session: &mut Session, octets: &[u8]) -> TuvTurn
+    ensures peer { IfPeer session.old.end (λ m. AsPeer session.new.end (λ n.
+        PeerDoes (peer_deliver (peer.now_of peer_object_shown m) octets.now) result session.new.packet n)) }
+    ensures server { IfServer session.old.end (λ m. is_ready m.vars ≡ true → AsServer session.new.end (λ n.
+        ServerDoes (server_deliver (server.now_of server_object_shown m) octets.now) result session.new.packet n)) }
+    ensures backend { IfBackend session.old.end (λ m. AsBackend session.new.end (λ n.
+        ServerDoes (server_deliver (server.now_of server_object_shown m) octets.now) result session.new.packet n)) }
+    ensures misplaced { takes_octets session.old.end ≡ false → IsMisplaced session.old result session.new }
+{
+    match &mut session.end {
+        End::Peer(machine) => {
+            deliver_to_peer(machine, octets, &mut session.packet, &mut session.tags)
+        }
+        End::Server(machine) => {
+            if machine.ready() {
+                deliver_to_server(machine, octets, &mut session.packet, &mut session.tags)
+            } else {
+                TuvTurn::none()
+            }
+        }
+        End::Backend(machine) => {
+            deliver_to_backend(machine, octets, &mut session.packet, &mut session.tags)
+        }
+        _ => TuvTurn::none(),
+    }
+}
+
+/// Octets come: to a peer, to a stand-alone server that has started, or to a backend.
+#[unsafe(no_mangle)]
+pub extern "C" fn tuv_end_deliver(end: &mut TuvEnd, octets: &[u8]) -> TuvTurn
+    ensures peer { IfPeer end.old.value.end (λ m. AsPeer end.new.value.end (λ n.
+        PeerDoes (peer_deliver (peer.now_of peer_object_shown m) octets.now) result end.new.value.packet n)) }
+    ensures server { IfServer end.old.value.end (λ m. is_ready m.vars ≡ true → AsServer end.new.value.end (λ n.
+        ServerDoes (server_deliver (server.now_of server_object_shown m) octets.now) result end.new.value.packet n)) }
+    ensures backend { IfBackend end.old.value.end (λ m. AsBackend end.new.value.end (λ n.
+        ServerDoes (server_deliver (server.now_of server_object_shown m) octets.now) result end.new.value.packet n)) }
+    ensures misplaced { takes_octets end.old.value.end ≡ false → IsMisplaced end.old.value result end.new.value }
+{
+    deliver(end.session(), octets)
+}

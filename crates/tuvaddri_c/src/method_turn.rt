@@ -1,0 +1,125 @@
+//! What a call of a method alone came to, as numbers.
+
+ghost use Rattle.std.specs.Prelude.{◌≡◌};
+ghost use Rattle.tuvaddri_c.specs.Methods.{no_method_turn, discarding, method_done, peer_brief, server_brief, method_number, decision_number};
+
+use crate::turn::number_of_cause;
+use eap_method::{Decision, MethodState, PeerTurn, ServerTurn};
+use eap_packet::Cause;
+
+/// What a method answers.
+#[repr(C)]
+#[derive(Clone, Copy, PartialEq, Eq, Debug)]
+pub struct TuvMethodTurn {
+    /// Whether a packet is to be sent.
+    pub sends: bool,
+    /// Whether what came is discarded.
+    pub discards: bool,
+    /// Whether the call has no place at this end. The end then stays as it was, and the other fields are 0.
+    pub misplaced: bool,
+    /// The number of the cause of a discard, in the order of `Cause`; else 0.
+    pub cause: u8,
+    /// methodState (RFC 4137 section 4.2) by its number, 4 where the method is over; 0 at a discard.
+    pub state: u8,
+    /// decision (RFC 4137 section 4.2) by its number; of a server that is done, 2 for success. 0 at a discard.
+    pub decision: u8,
+}
+
+impl TuvMethodTurn {
+    /// A call that has no place.
+    pub fn none() -> TuvMethodTurn
+        ensures { result ≡ no_method_turn }
+    {
+        TuvMethodTurn {
+            sends: false,
+            discards: false,
+            misplaced: true,
+            cause: 0,
+            state: 0,
+            decision: 0,
+        }
+    }
+
+    /// What came is discarded.
+    pub fn discard(cause: Cause) -> TuvMethodTurn
+        ensures { result ≡ discarding cause }
+    {
+        TuvMethodTurn {
+            sends: false,
+            discards: true,
+            misplaced: false,
+            cause: number_of_cause(cause),
+            state: 0,
+            decision: 0,
+        }
+    }
+
+    /// What a peer's turn comes to.
+    pub fn of_peer(turn: PeerTurn) -> TuvMethodTurn
+        ensures { result ≡ peer_brief turn }
+    {
+        match turn {
+            PeerTurn::Discard(cause) => TuvMethodTurn::discard(cause),
+            PeerTurn::Reply { state, decision } => TuvMethodTurn {
+                sends: true,
+                discards: false,
+                misplaced: false,
+                cause: 0,
+                state: number_of_method(state),
+                decision: number_of_decision(decision),
+            },
+        }
+    }
+
+    /// What a server's turn comes to.
+    pub fn of_server(turn: ServerTurn) -> TuvMethodTurn
+        ensures { result ≡ server_brief turn }
+    {
+        match turn {
+            ServerTurn::Discard(cause) => TuvMethodTurn::discard(cause),
+            ServerTurn::Request => TuvMethodTurn {
+                sends: true,
+                discards: false,
+                misplaced: false,
+                cause: 0,
+                state: 2,
+                decision: 0,
+            },
+            ServerTurn::Done { success } => {
+                if success {
+                    TuvMethodTurn::done(2)
+                } else {
+                    TuvMethodTurn::done(0)
+                }
+            }
+        }
+    }
+
+    /// A server's method is over, with this decision.
+    fn done(decision: u8) -> TuvMethodTurn
+        ensures { result ≡ method_done decision }
+    {
+        TuvMethodTurn {
+            sends: false,
+            discards: false,
+            misplaced: false,
+            cause: 0,
+            state: 4,
+            decision,
+        }
+    }
+}
+
+#[tactic(auto, using(crate::proofs::Numbers::method_tag))]
+fn number_of_method(state: MethodState) -> u8
+    ensures { result ≡ method_number state }
+{
+    state as u8
+}
+
+#[tactic(auto, using(crate::proofs::Numbers::decision_tag))]
+fn number_of_decision(decision: Decision) -> u8
+    ensures { result ≡ decision_number decision }
+{
+    decision as u8
+}

@@ -1,0 +1,232 @@
+//! The methods alone, for a program with machines of its own.
+
+ghost use Rattle.std.specs.Prelude.{◌≡◌, ◌≤◌, true, false, length, IsTrue, All, Ok, Err, None, IfSome, IfOk, IfErr};
+ghost use Rattle.eap_base.specs.Setup.{fits_kind, is_kind, are_suites};
+ghost use Rattle.eap_packet.specs.Packet.{spelled, value_of, IsPacket};
+ghost use Rattle.eap_packet.specs.Fault.{packet_of};
+ghost use Rattle.eap_method.specs.Peer.{peer_kind, peer_step, IsRequest};
+ghost use Rattle.eap_method.specs.Server.{server_kind, server_step, server_first_step, has_begun, IsResponse};
+ghost use Rattle.end_objects.specs.Objects.{peer_object_shown, server_object_shown};
+ghost use Rattle.end_objects.specs.Refusals.{peer_refusal, server_refusal};
+ghost use Rattle.end_objects.specs.Settings.{settings_of, users_of};
+ghost use Rattle.tuvaddri_c.specs.Answers.{begun, refusal_number};
+ghost use Rattle.tuvaddri_c.specs.Methods.{IfPeerMethod, AsPeerMethod, IfServerMethod, AsServerMethod, PeerTurns, ServerTurns, requested, responded, credential_of, side_of, peer_fresh, server_fresh, is_peer_method, is_server_method, IsMisplaced, IsDiscarded};
+
+use crate::answers::{BEGUN, number_of_refusal};
+use crate::handle::TuvEnd;
+use crate::method_turn::TuvMethodTurn;
+use crate::session::{End, Known, Session};
+use eap_base::{Identity, Nonce, Packet, Secret, Users};
+use eap_method::{Credential, PeerMethod, ServerMethod, ServerSide, Tags};
+use eap_packet::{Cause, Code, decode};
+use end_objects::{
+    PeerObject, ServerObject, Settings, accepts, one_user, peer_object, peer_refusal,
+    server_object, server_refusal, suites,
+};
+
+/// Makes the end a peer's method alone, which has begun, and answers 0. Else it answers the number of the refusal,
+/// 1 to 5, and the end stays as it was. It takes no memory.
+#[unsafe(no_mangle)]
+pub extern "C" fn tuv_peer_method_begin(end: &mut TuvEnd, settings: &Settings, nonce: &Nonce) -> u8
+    ensures refused { IfSome (peer_refusal (settings_of settings.now)) (λ reason. result ≡ refusal_number reason) }
+    ensures begun { peer_refusal (settings_of settings.now) ≡ None → result ≡ begun }
+    ensures made { result ≡ begun → AsPeerMethod end.new.value.end (λ n.
+        peer_object_shown n ≡ peer_fresh settings.now.kind (credential_of (settings_of settings.now)) nonce.now) }
+    ensures unchanged { (result ≡ begun → ⊥) → end.new.value ≡ end.old.value }
+{
+    match peer_refusal(settings) {
+        Some(refusal) => number_of_refusal(refusal),
+        None => {
+            let cred = Credential {
+                id_p: Identity::of(settings.name),
+                accepts: accepts(settings.other),
+                suites: suites(settings.suites),
+                psk: Secret::of(settings.psk),
+            };
+            let mut object = peer_object(settings.kind);
+            object.begin(&cred, nonce);
+            let session = end.session();
+            session.end = End::PeerMethod(object);
+            BEGUN
+        }
+    }
+}
+
+#[tactic(auto, using(crate::proofs::Does::peer_turns))]
+fn hand_to_peer(
+    object: &mut PeerObject,
+    request: &[u8],
+    packet: &mut Packet,
+    tags: &mut Tags,
+) -> TuvMethodTurn
+    requires { IsRequest (peer_kind (peer_object_shown object.old)) request.now }
+    ensures { PeerTurns (peer_step (peer_object_shown object.old) request.now) result packet.new object.new }
+{
+    let turn = object.handle(request, packet, tags);
+    TuvMethodTurn::of_peer(turn)
+}
+
+/// The Request of this Type with which the octets begin.
+#[tactic(auto, using(peer_machine::proofs::Requests::is_request))]
+fn request_of<'a>(octets: &'a [u8], kind: u8) -> Result<&'a [u8], Cause>
+    ensures found { IfOk result (λ whole. requested kind (packet_of octets.now) ≡ Ok whole.now) }
+    ensures none { IfErr result (λ cause. requested kind (packet_of octets.now) ≡ Err cause) }
+    ensures request { IfOk result (λ whole. IsRequest kind whole.now) }
+{
+    match decode(octets) {
+        Err(cause) => Err(cause),
+        Ok(view) => match view.code {
+            Code::Request => {
+                if view.kind == kind {
+                    Ok(view.whole)
+                } else {
+                    Err(Cause::OtherMethod)
+                }
+            }
+            Code::Response | Code::Success | Code::Failure => Err(Cause::WrongRole),
+        },
+    }
+}
+
+fn handle_peer(session: &mut Session, octets: &[u8]) -> TuvMethodTurn
+    ensures turn { IfPeerMethod session.old.end (λ o. IfOk (requested (peer_kind (peer_object_shown o)) (packet_of octets.now)) (λ whole.
+        AsPeerMethod session.new.end (λ n. PeerTurns (peer_step (peer_object_shown o) whole) result session.new.packet n))) }
+    ensures discarded { IfPeerMethod session.old.end (λ o. IfErr (requested (peer_kind (peer_object_shown o)) (packet_of octets.now)) (λ cause.
+        IsDiscarded cause session.old result session.new)) }
+    ensures misplaced { is_peer_method session.old.end ≡ false → IsMisplaced session.old result session.new }
+{
+    match &mut session.end {
+        End::PeerMethod(object) => match request_of(octets, object.kind()) {
+            Err(cause) => TuvMethodTurn::discard(cause),
+            Ok(whole) => hand_to_peer(object, whole, &mut session.packet, &mut session.tags),
+        },
+        _ => TuvMethodTurn::none(),
+    }
+}
+
+/// Octets come to a peer's method. Octets that begin with no Request of its Type are discarded, and change nothing.
+#[unsafe(no_mangle)]
+pub extern "C" fn tuv_peer_method_handle(end: &mut TuvEnd, octets: &[u8]) -> TuvMethodTurn
+    ensures turn { IfPeerMethod end.old.value.end (λ o. IfOk (requested (peer_kind (peer_object_shown o)) (packet_of octets.now)) (λ whole.
+        AsPeerMethod end.new.value.end (λ n. PeerTurns (peer_step (peer_object_shown o) whole) result end.new.value.packet n))) }
+    ensures discarded { IfPeerMethod end.old.value.end (λ o. IfErr (requested (peer_kind (peer_object_shown o)) (packet_of octets.now)) (λ cause.
+        IsDiscarded cause end.old.value result end.new.value)) }
+    ensures misplaced { is_peer_method end.old.value.end ≡ false → IsMisplaced end.old.value result end.new.value }
+{
+    handle_peer(end.session(), octets)
+}
+
+/// Makes the end a server's method alone, with one user, which has begun and written its first Request, with this
+/// Identifier, and answers 0. Else it answers as `tuv_peer_method_begin`.
+#[unsafe(no_mangle)]
+pub extern "C" fn tuv_server_method_begin(
+    end: &mut TuvEnd,
+    settings: &Settings,
+    nonce: &Nonce,
+    id: u8,
+) -> u8
+    ensures refused { IfSome (server_refusal (settings_of settings.now)) (λ reason. result ≡ refusal_number reason) }
+    ensures begun { server_refusal (settings_of settings.now) ≡ None → result ≡ begun }
+    ensures made { result ≡ begun → AsServerMethod end.new.value.end (λ n known. (known.users ≡ users_of (settings_of settings.now))
+        × (server_first_step (server_fresh settings.now.kind (side_of (settings_of settings.now)) nonce.now) id
+        ≡ record { packet = end.new.value.packet; after = server_object_shown n })) }
+    ensures unchanged { (result ≡ begun → ⊥) → end.new.value ≡ end.old.value }
+{
+    match server_refusal(settings) {
+        Some(refusal) => number_of_refusal(refusal),
+        None => {
+            let own = ServerSide {
+                id_s: Identity::of(settings.name),
+                suites: suites(settings.suites),
+            };
+            let mut object = server_object(settings.kind);
+            object.begin(&own, nonce);
+            let session = end.session();
+            object.first(id, &mut session.packet);
+            let users = one_user(settings);
+            session.end = End::ServerMethod(object, Known { users });
+            BEGUN
+        }
+    }
+}
+
+#[tactic(auto, using(crate::proofs::Does::server_turns))]
+fn hand_to_server(
+    object: &mut ServerObject,
+    response: &[u8],
+    next_id: u8,
+    users: &Users,
+    packet: &mut Packet,
+    tags: &mut Tags,
+) -> TuvMethodTurn
+    requires response { IsResponse (server_kind (server_object_shown object.old)) response.now }
+    requires keys { All (λ user. IsTrue (fits_kind user.kind user.psk)) users.now }
+    ensures { ServerTurns (server_step users.now next_id (server_object_shown object.old) response.now) result packet.new object.new }
+{
+    let turn = object.handle(response, next_id, users, packet, tags);
+    TuvMethodTurn::of_server(turn)
+}
+
+/// The Response of this Type with which the octets begin.
+#[tactic(auto, using(server_machine::proofs::Responses::is_response))]
+fn response_of<'a>(octets: &'a [u8], kind: u8) -> Result<&'a [u8], Cause>
+    ensures found { IfOk result (λ whole. responded kind (packet_of octets.now) ≡ Ok whole.now) }
+    ensures none { IfErr result (λ cause. responded kind (packet_of octets.now) ≡ Err cause) }
+    ensures response { IfOk result (λ whole. IsResponse kind whole.now) }
+{
+    match decode(octets) {
+        Err(cause) => Err(cause),
+        Ok(view) => match view.code {
+            Code::Response => {
+                if view.kind == kind {
+                    Ok(view.whole)
+                } else {
+                    Err(Cause::WrongMethod)
+                }
+            }
+            Code::Request | Code::Success | Code::Failure => Err(Cause::WrongRole),
+        },
+    }
+}
+
+fn handle_server(session: &mut Session, octets: &[u8], next_id: u8) -> TuvMethodTurn
+    ensures turn { IfServerMethod session.old.end (λ o known. IfOk (responded (server_kind (server_object_shown o)) (packet_of octets.now)) (λ whole.
+        AsServerMethod session.new.end (λ n after. (after.users ≡ known.users)
+        × ServerTurns (server_step known.users next_id (server_object_shown o) whole) result session.new.packet n))) }
+    ensures discarded { IfServerMethod session.old.end (λ o known. IfErr (responded (server_kind (server_object_shown o)) (packet_of octets.now)) (λ cause.
+        IsDiscarded cause session.old result session.new)) }
+    ensures misplaced { is_server_method session.old.end ≡ false → IsMisplaced session.old result session.new }
+{
+    match &mut session.end {
+        End::ServerMethod(object, known) => match response_of(octets, object.kind()) {
+            Err(cause) => TuvMethodTurn::discard(cause),
+            Ok(whole) => hand_to_server(
+                object,
+                whole,
+                next_id,
+                &known.users,
+                &mut session.packet,
+                &mut session.tags,
+            ),
+        },
+        _ => TuvMethodTurn::none(),
+    }
+}
+
+/// Octets come to a server's method; a Request that follows has the Identifier `next_id`. Octets that begin with
+/// no Response of its Type are discarded, and change nothing.
+#[unsafe(no_mangle)]
+pub extern "C" fn tuv_server_method_handle(
+    end: &mut TuvEnd,
+    octets: &[u8],
+    next_id: u8,
+) -> TuvMethodTurn
+    ensures turn { IfServerMethod end.old.value.end (λ o known. IfOk (responded (server_kind (server_object_shown o)) (packet_of octets.now)) (λ whole.
+        AsServerMethod end.new.value.end (λ n after. (after.users ≡ known.users)
+        × ServerTurns (server_step known.users next_id (server_object_shown o) whole) result end.new.value.packet n))) }
+    ensures discarded { IfServerMethod end.old.value.end (λ o known. IfErr (responded (server_kind (server_object_shown o)) (packet_of octets.now)) (λ cause.
+        IsDiscarded cause end.old.value result end.new.value)) }
+    ensures misplaced { is_server_method end.old.value.end ≡ false → IsMisplaced end.old.value result end.new.value }
+{
+    handle_server(end.session(), octets, next_id)
+}

@@ -1,0 +1,196 @@
+//! The pass-through of RFC 4137 section 7.
+
+ghost use Rattle.std.specs.Prelude.{◌≡◌, [], true, false, None, IfSome};
+ghost use Rattle.pass_through.specs.PassTable.{pass_made, pass_start, pass_from_peer, pass_from_backend, pass_timeout, pass_aaa_timeout, pass_aaa_noreq, is_started, has_timer, is_aaa_idle};
+ghost use Rattle.end_objects.specs.Refusals.{retry_refusal};
+ghost use Rattle.tuvaddri_c.specs.Answers.{begun, refusal_number};
+ghost use Rattle.tuvaddri_c.specs.Ends.{IfPass, AsPass, is_pass, can_start_pass, has_timer_pass, waits_for_backend};
+ghost use Rattle.tuvaddri_c.specs.Turns.{PassDoes, IsMisplaced};
+
+use crate::answers::{BEGUN, number_of_refusal};
+use crate::handle::TuvEnd;
+use crate::session::End;
+use crate::turn::TuvTurn;
+use eap_base::Packet;
+use end_objects::retry_refusal;
+use pass_through::PassThrough;
+
+/// Makes the end a pass-through that has not started, and answers 0. Its first Request has the Identifier
+/// `first_id`; a Request is sent again at most `max_retrans` times. Where that is over 10 it answers 6, and the end
+/// stays as it was.
+#[unsafe(no_mangle)]
+pub extern "C" fn tuv_pass_begin(end: &mut TuvEnd, first_id: u8, max_retrans: u8) -> u8
+    ensures refused { IfSome (retry_refusal max_retrans) (λ reason. result ≡ refusal_number reason) }
+    ensures begun { retry_refusal max_retrans ≡ None → result ≡ begun }
+    ensures made { result ≡ begun → AsPass end.new.value.end (λ n. n ≡ pass_made first_id max_retrans) }
+    ensures unchanged { (result ≡ begun → ⊥) → end.new.value ≡ end.old.value }
+{
+    match retry_refusal(max_retrans) {
+        Some(refusal) => number_of_refusal(refusal),
+        None => {
+            let session = end.session();
+            session.end = End::Pass(PassThrough::new(first_id, max_retrans));
+            BEGUN
+        }
+    }
+}
+
+#[tactic(auto, using(crate::proofs::Does::pass_does_to_peer))]
+fn start(machine: &mut PassThrough, packet: &mut Packet) -> TuvTurn
+    requires { is_started machine.old.state ≡ false }
+    ensures { PassDoes (pass_start machine.old) result packet.new machine.new }
+{
+    let step = machine.start(packet);
+    TuvTurn::of(&step, machine.state())
+}
+
+#[tactic(auto, using(crate::proofs::Does::pass_does_to_server))]
+fn from_peer(machine: &mut PassThrough, octets: &[u8], packet: &mut Packet) -> TuvTurn
+    ensures { PassDoes (pass_from_peer machine.old octets.now) result packet.new machine.new }
+{
+    let step = machine.from_peer(octets, packet);
+    TuvTurn::of(&step, machine.state())
+}
+
+#[tactic(auto, using(crate::proofs::Does::pass_does_to_peer))]
+fn from_backend(machine: &mut PassThrough, octets: &[u8], packet: &mut Packet) -> TuvTurn
+    ensures { PassDoes (pass_from_backend machine.old octets.now) result packet.new machine.new }
+{
+    let step = machine.from_backend(octets, packet);
+    TuvTurn::of(&step, machine.state())
+}
+
+#[tactic(auto, using(crate::proofs::Does::pass_does_to_peer))]
+fn timeout(machine: &mut PassThrough, packet: &mut Packet) -> TuvTurn
+    requires { has_timer machine.old.state ≡ true }
+    ensures { PassDoes (pass_timeout machine.old) result packet.new machine.new }
+{
+    let step = machine.timeout(packet);
+    TuvTurn::of(&step, machine.state())
+}
+
+#[tactic(auto, using(crate::proofs::Does::pass_does_to_peer))]
+fn aaa_timeout(machine: &mut PassThrough) -> TuvTurn
+    requires { is_aaa_idle machine.old.state ≡ true }
+    ensures { PassDoes (pass_aaa_timeout machine.old) result [] machine.new }
+{
+    let step = machine.aaa_timeout();
+    TuvTurn::of(&step, machine.state())
+}
+
+#[tactic(auto, using(crate::proofs::Does::pass_does_to_peer))]
+fn aaa_noreq(machine: &mut PassThrough) -> TuvTurn
+    requires { is_aaa_idle machine.old.state ≡ true }
+    ensures { PassDoes (pass_aaa_noreq machine.old) result [] machine.new }
+{
+    let step = machine.aaa_noreq();
+    TuvTurn::of(&step, machine.state())
+}
+
+/// It starts, where it has not: its Request goes to the peer.
+#[unsafe(no_mangle)]
+pub extern "C" fn tuv_pass_start(end: &mut TuvEnd) -> TuvTurn
+    ensures pass { IfPass end.old.value.end (λ m. is_started m.state ≡ false → AsPass end.new.value.end (λ n.
+        PassDoes (pass_start m) result end.new.value.packet n)) }
+    ensures misplaced { can_start_pass end.old.value.end ≡ false → IsMisplaced end.old.value result end.new.value }
+{
+    let session = end.session();
+    match &mut session.end {
+        End::Pass(machine) => {
+            if machine.started() {
+                TuvTurn::none()
+            } else {
+                start(machine, &mut session.packet)
+            }
+        }
+        _ => TuvTurn::none(),
+    }
+}
+
+/// Octets come from the peer: what is sent goes to the backend.
+#[unsafe(no_mangle)]
+pub extern "C" fn tuv_pass_from_peer(end: &mut TuvEnd, octets: &[u8]) -> TuvTurn
+    ensures pass { IfPass end.old.value.end (λ m. AsPass end.new.value.end (λ n.
+        PassDoes (pass_from_peer m octets.now) result end.new.value.packet n)) }
+    ensures misplaced { is_pass end.old.value.end ≡ false → IsMisplaced end.old.value result end.new.value }
+{
+    let session = end.session();
+    match &mut session.end {
+        End::Pass(machine) => from_peer(machine, octets, &mut session.packet),
+        _ => TuvTurn::none(),
+    }
+}
+
+/// Octets come from the backend: what is sent goes to the peer.
+#[unsafe(no_mangle)]
+pub extern "C" fn tuv_pass_from_backend(end: &mut TuvEnd, octets: &[u8]) -> TuvTurn
+    ensures pass { IfPass end.old.value.end (λ m. AsPass end.new.value.end (λ n.
+        PassDoes (pass_from_backend m octets.now) result end.new.value.packet n)) }
+    ensures misplaced { is_pass end.old.value.end ≡ false → IsMisplaced end.old.value result end.new.value }
+{
+    let session = end.session();
+    match &mut session.end {
+        End::Pass(machine) => from_backend(machine, octets, &mut session.packet),
+        _ => TuvTurn::none(),
+    }
+}
+
+/// The retransmission timer ends, where it runs: what is sent goes to the peer.
+#[unsafe(no_mangle)]
+pub extern "C" fn tuv_pass_timeout(end: &mut TuvEnd) -> TuvTurn
+    ensures pass { IfPass end.old.value.end (λ m. has_timer m.state ≡ true → AsPass end.new.value.end (λ n.
+        PassDoes (pass_timeout m) result end.new.value.packet n)) }
+    ensures misplaced { has_timer_pass end.old.value.end ≡ false → IsMisplaced end.old.value result end.new.value }
+{
+    let session = end.session();
+    match &mut session.end {
+        End::Pass(machine) => {
+            if machine.has_timer() {
+                timeout(machine, &mut session.packet)
+            } else {
+                TuvTurn::none()
+            }
+        }
+        _ => TuvTurn::none(),
+    }
+}
+
+/// No answer of the backend comes any more (aaaTimeout), where it is waited for.
+#[unsafe(no_mangle)]
+pub extern "C" fn tuv_pass_aaa_timeout(end: &mut TuvEnd) -> TuvTurn
+    ensures pass { IfPass end.old.value.end (λ m. is_aaa_idle m.state ≡ true → AsPass end.new.value.end (λ n.
+        PassDoes (pass_aaa_timeout m) result [] n)) }
+    ensures misplaced { waits_for_backend end.old.value.end ≡ false → IsMisplaced end.old.value result end.new.value }
+{
+    let session = end.session();
+    match &mut session.end {
+        End::Pass(machine) => {
+            if machine.waits_for_server() {
+                aaa_timeout(machine)
+            } else {
+                TuvTurn::none()
+            }
+        }
+        _ => TuvTurn::none(),
+    }
+}
+
+/// The backend has nothing to ask (aaaEapNoReq), where it is waited for.
+#[unsafe(no_mangle)]
+pub extern "C" fn tuv_pass_aaa_noreq(end: &mut TuvEnd) -> TuvTurn
+    ensures pass { IfPass end.old.value.end (λ m. is_aaa_idle m.state ≡ true → AsPass end.new.value.end (λ n.
+        PassDoes (pass_aaa_noreq m) result [] n)) }
+    ensures misplaced { waits_for_backend end.old.value.end ≡ false → IsMisplaced end.old.value result end.new.value }
+{
+    let session = end.session();
+    match &mut session.end {
+        End::Pass(machine) => {
+            if machine.waits_for_server() {
+                aaa_noreq(machine)
+            } else {
+                TuvTurn::none()
+            }
+        }
+        _ => TuvTurn::none(),
+    }
+}

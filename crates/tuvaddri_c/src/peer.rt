@@ -1,0 +1,137 @@
+//! The peer of RFC 4137 section 4.
+
+ghost use Rattle.std.specs.Prelude.{◌≡◌, [], false, None, IfSome};
+ghost use Rattle.eap_method.specs.Steps.{is_end};
+ghost use Rattle.peer_machine.specs.PeerTable.{peer_idle, peer_alt_accept, peer_alt_reject, peer_made};
+ghost use Rattle.peer_machine.specs.PeerTable as peer;
+ghost use Rattle.end_objects.specs.Objects.{peer_object_shown};
+ghost use Rattle.end_objects.specs.Refusals.{peer_refusal};
+ghost use Rattle.end_objects.specs.Settings.{settings_of, peer_setup_of};
+ghost use Rattle.tuvaddri_c.specs.Answers.{begun, no_memory, refusal_number};
+ghost use Rattle.tuvaddri_c.specs.Ends.{IfPeer, AsPeer, is_going_peer};
+ghost use Rattle.tuvaddri_c.specs.Turns.{PeerDoes, IsMisplaced};
+
+use crate::answers::{BEGUN, NO_MEMORY, number_of_refusal};
+use crate::handle::TuvEnd;
+use crate::session::End;
+use crate::turn::TuvTurn;
+use eap_base::Nonce;
+use end_objects::{PeerObject, Settings, peer_objects, peer_refusal, peer_setup};
+use peer_machine::PeerMachine;
+use std::alloc::Global;
+
+/// Makes the end a peer with these settings, and answers 0. Else it answers the number of the refusal, 1 to 6, or 7
+/// for want of memory, and the end stays as it was.
+#[unsafe(no_mangle)]
+pub extern "C" fn tuv_peer_begin(
+    alloc: Global,
+    end: &mut TuvEnd,
+    settings: &Settings,
+    nonce: &Nonce,
+) -> u8
+    ensures refused { IfSome (peer_refusal (settings_of settings.now)) (λ reason. result ≡ refusal_number reason) }
+    ensures begun { peer_refusal (settings_of settings.now) ≡ None → (result ≡ no_memory → ⊥) → result ≡ begun }
+    ensures made { result ≡ begun → AsPeer end.new.value.end (λ n.
+        peer.now_of peer_object_shown n ≡ peer_made (peer_setup_of (settings_of settings.now) nonce.now)) }
+    ensures unchanged { (result ≡ begun → ⊥) → end.new.value ≡ end.old.value }
+{
+    match peer_refusal(settings) {
+        Some(refusal) => number_of_refusal(refusal),
+        None => match peer_objects(alloc, settings.kind) {
+            Err(_) => NO_MEMORY,
+            Ok(methods) => {
+                let setup = peer_setup(settings, nonce);
+                let session = end.session();
+                session.end = End::Peer(PeerMachine::new(setup, methods));
+                BEGUN
+            }
+        },
+    }
+}
+
+#[tactic(auto, using(crate::proofs::Does::peer_does))]
+fn idle(machine: &mut PeerMachine<PeerObject>) -> TuvTurn
+    requires { is_end machine.old.vars.state ≡ false }
+    ensures { PeerDoes (peer_idle (peer.now_of peer_object_shown machine.old)) result [] machine.new }
+{
+    let step = machine.idle();
+    TuvTurn::of(&step, machine.state())
+}
+
+#[tactic(auto, using(crate::proofs::Does::peer_does))]
+fn alt_accept(machine: &mut PeerMachine<PeerObject>) -> TuvTurn
+    requires { is_end machine.old.vars.state ≡ false }
+    ensures { PeerDoes (peer_alt_accept (peer.now_of peer_object_shown machine.old)) result [] machine.new }
+{
+    let step = machine.alt_accept();
+    TuvTurn::of(&step, machine.state())
+}
+
+#[tactic(auto, using(crate::proofs::Does::peer_does))]
+fn alt_reject(machine: &mut PeerMachine<PeerObject>) -> TuvTurn
+    requires { is_end machine.old.vars.state ≡ false }
+    ensures { PeerDoes (peer_alt_reject (peer.now_of peer_object_shown machine.old)) result [] machine.new }
+{
+    let step = machine.alt_reject();
+    TuvTurn::of(&step, machine.state())
+}
+
+/// The lower layer is idle: to a peer that has not ended.
+#[unsafe(no_mangle)]
+pub extern "C" fn tuv_peer_idle(end: &mut TuvEnd) -> TuvTurn
+    ensures peer { IfPeer end.old.value.end (λ m. is_end m.vars.state ≡ false → AsPeer end.new.value.end (λ n.
+        PeerDoes (peer_idle (peer.now_of peer_object_shown m)) result [] n)) }
+    ensures misplaced { is_going_peer end.old.value.end ≡ false → IsMisplaced end.old.value result end.new.value }
+{
+    let session = end.session();
+    match &mut session.end {
+        End::Peer(machine) => {
+            if machine.ended() {
+                TuvTurn::none()
+            } else {
+                idle(machine)
+            }
+        }
+        _ => TuvTurn::none(),
+    }
+}
+
+/// The lower layer reports success: to a peer that has not ended.
+#[unsafe(no_mangle)]
+pub extern "C" fn tuv_peer_alt_accept(end: &mut TuvEnd) -> TuvTurn
+    ensures peer { IfPeer end.old.value.end (λ m. is_end m.vars.state ≡ false → AsPeer end.new.value.end (λ n.
+        PeerDoes (peer_alt_accept (peer.now_of peer_object_shown m)) result [] n)) }
+    ensures misplaced { is_going_peer end.old.value.end ≡ false → IsMisplaced end.old.value result end.new.value }
+{
+    let session = end.session();
+    match &mut session.end {
+        End::Peer(machine) => {
+            if machine.ended() {
+                TuvTurn::none()
+            } else {
+                alt_accept(machine)
+            }
+        }
+        _ => TuvTurn::none(),
+    }
+}
+
+/// The lower layer reports failure: to a peer that has not ended.
+#[unsafe(no_mangle)]
+pub extern "C" fn tuv_peer_alt_reject(end: &mut TuvEnd) -> TuvTurn
+    ensures peer { IfPeer end.old.value.end (λ m. is_end m.vars.state ≡ false → AsPeer end.new.value.end (λ n.
+        PeerDoes (peer_alt_reject (peer.now_of peer_object_shown m)) result [] n)) }
+    ensures misplaced { is_going_peer end.old.value.end ≡ false → IsMisplaced end.old.value result end.new.value }
+{
+    let session = end.session();
+    match &mut session.end {
+        End::Peer(machine) => {
+            if machine.ended() {
+                TuvTurn::none()
+            } else {
+                alt_reject(machine)
+            }
+        }
+        _ => TuvTurn::none(),
+    }
+}

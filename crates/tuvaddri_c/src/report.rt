@@ -1,0 +1,81 @@
+//! What an end holds after a login that succeeded.
+
+ghost use Rattle.std.specs.Prelude.{◌≡◌, ◌≤◌, ◌++◌, length, drop, IsTrue, None, IfSome};
+ghost use Rattle.tuvaddri_c.specs.Ends.{end_reports, IsReport};
+
+use crate::handle::TuvEnd;
+use crate::session::{End, Session};
+use eap_method::{PeerMethod, Report, ServerMethod};
+
+/// What an end holds after a login that succeeded.
+#[repr(C)]
+#[derive(Drop)]
+pub struct TuvReport {
+    /// The method: 47 (EAP-PSK) or 51 (EAP-GPSK).
+    pub method: u8,
+    /// The suite of EAP-GPSK, 1 or 2; 0 for EAP-PSK.
+    pub suite: u8,
+    /// The octets of the peer's name, which stand at the front of `peer`.
+    pub peer_length: u8,
+    /// The octets of the server's name, which stand at the front of `server`.
+    pub server_length: u8,
+    pub peer: [u8; 253],
+    pub server: [u8; 253],
+    /// The Master Session Key (RFC 3748 section 7.10).
+    pub msk: [u8; 64],
+    /// The Extended Master Session Key (RFC 3748 section 7.10).
+    pub emsk: [u8; 64],
+}
+
+/// Writes what the end holds, and answers true. Where it holds nothing it answers false and writes nothing.
+#[unsafe(no_mangle)]
+pub extern "C" fn tuv_end_report(end: &mut TuvEnd, report: &mut TuvReport) -> bool
+    ensures same { end.new.value ≡ end.old.value }
+    ensures held { IfSome (end_reports end.old.value.end) (λ held. IsTrue result × IsReport held report.old report.new) }
+    ensures none { end_reports end.old.value.end ≡ None → (IsTrue result → ⊥) × (report.new ≡ report.old) }
+{
+    match report_of(end.session()) {
+        None => false,
+        Some(held) => {
+            write(&held, report);
+            true
+        }
+    }
+}
+
+fn write(held: &Report, report: &mut TuvReport)
+    ensures { IsReport held.now report.old report.new }
+{
+    report.method = held.method;
+    report.suite = held.suite;
+    report.peer_length = write_name(held.id_p.as_slice(), &mut report.peer);
+    report.server_length = write_name(held.id_s.as_slice(), &mut report.server);
+    let msk = held.msk;
+    report.msk = msk;
+    let emsk = held.emsk;
+    report.emsk = emsk;
+}
+
+/// Writes a name to the front of the room, and answers its length.
+fn write_name(name: &[u8], room: &mut [u8; 253]) -> u8
+    requires { length name.now ≤ 253 }
+    ensures size { result ≡ length name.now }
+    ensures copied { room.new ≡ name.now ++ drop (length name.now) room.old }
+{
+    room[..name.len()].copy_from_slice(name);
+    name.len() as u8
+}
+
+fn report_of(session: &Session) -> Option<Report>
+    ensures { result ≡ end_reports session.now.end }
+{
+    match &session.end {
+        End::Closed => None,
+        End::PeerMethod(method) => method.report(),
+        End::ServerMethod(method, _) => method.report(),
+        End::Peer(machine) => machine.report(),
+        End::Server(machine) => machine.report(),
+        End::Backend(machine) => machine.report(),
+        End::Pass(_) => None,
+    }
+}

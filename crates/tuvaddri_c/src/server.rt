@@ -1,0 +1,149 @@
+//! The stand-alone server of RFC 4137 section 5, and the backend of section 6.
+
+ghost use Rattle.std.specs.Prelude.{◌≡◌, true, false, None, IfSome};
+ghost use Rattle.server_machine.specs.ServerTable.{server_start, server_timeout, server_made, backend_made, is_started, is_backend, has_timer};
+ghost use Rattle.server_machine.specs.ServerTable as server;
+ghost use Rattle.server_machine.specs.declared.variables.Role.TheVariants.{StandAlone};
+ghost use Rattle.end_objects.specs.Objects.{server_object_shown};
+ghost use Rattle.end_objects.specs.Refusals.{server_refusal, stand_alone_refusal};
+ghost use Rattle.end_objects.specs.Settings.{settings_of, server_setup_of};
+ghost use Rattle.tuvaddri_c.specs.Answers.{begun, no_memory, refusal_number};
+ghost use Rattle.tuvaddri_c.specs.Ends.{IfServer, AsServer, AsBackend};
+ghost use Rattle.tuvaddri_c.specs.Ends as ends;
+ghost use Rattle.tuvaddri_c.specs.Turns.{ServerDoes, IsMisplaced};
+
+use crate::answers::{BEGUN, NO_MEMORY, number_of_refusal};
+use crate::handle::TuvEnd;
+use crate::session::End;
+use crate::turn::TuvTurn;
+use eap_base::{Nonce, Packet};
+use end_objects::{
+    ServerObject, Settings, server_objects, server_refusal, server_setup, stand_alone_refusal,
+};
+use server_machine::{Backend, ServerMachine};
+use std::alloc::Global;
+
+/// Makes the end a stand-alone server with one user, which has not started, and answers 0. Its first Request has
+/// the Identifier `first_id`; a Request is sent again at most `max_retrans` times, at most 10. Else it answers as
+/// `tuv_peer_begin`.
+#[unsafe(no_mangle)]
+pub extern "C" fn tuv_server_begin(
+    alloc: Global,
+    end: &mut TuvEnd,
+    settings: &Settings,
+    nonce: &Nonce,
+    first_id: u8,
+    max_retrans: u8,
+) -> u8
+    ensures refused { IfSome (stand_alone_refusal (settings_of settings.now) max_retrans) (λ reason. result ≡ refusal_number reason) }
+    ensures begun { stand_alone_refusal (settings_of settings.now) max_retrans ≡ None → (result ≡ no_memory → ⊥) → result ≡ begun }
+    ensures made { result ≡ begun → AsServer end.new.value.end (λ n. server.now_of server_object_shown n
+        ≡ server_made StandAlone (server_setup_of (settings_of settings.now) nonce.now) first_id max_retrans) }
+    ensures unchanged { (result ≡ begun → ⊥) → end.new.value ≡ end.old.value }
+{
+    match stand_alone_refusal(settings, max_retrans) {
+        Some(refusal) => number_of_refusal(refusal),
+        None => match server_objects(alloc, settings.kind) {
+            Err(_) => NO_MEMORY,
+            Ok(methods) => {
+                let setup = server_setup(settings, nonce);
+                let session = end.session();
+                session.end = End::Server(ServerMachine::new(
+                    setup,
+                    first_id,
+                    max_retrans,
+                    methods,
+                ));
+                BEGUN
+            }
+        },
+    }
+}
+
+/// Makes the end a backend with one user, which waits for its first Response, and answers 0. Else it answers as
+/// `tuv_peer_begin`.
+#[unsafe(no_mangle)]
+pub extern "C" fn tuv_backend_begin(
+    alloc: Global,
+    end: &mut TuvEnd,
+    settings: &Settings,
+    nonce: &Nonce,
+) -> u8
+    ensures refused { IfSome (server_refusal (settings_of settings.now)) (λ reason. result ≡ refusal_number reason) }
+    ensures begun { server_refusal (settings_of settings.now) ≡ None → (result ≡ no_memory → ⊥) → result ≡ begun }
+    ensures made { result ≡ begun → AsBackend end.new.value.end (λ n. server.now_of server_object_shown n
+        ≡ backend_made (server_setup_of (settings_of settings.now) nonce.now)) }
+    ensures unchanged { (result ≡ begun → ⊥) → end.new.value ≡ end.old.value }
+{
+    match server_refusal(settings) {
+        Some(refusal) => number_of_refusal(refusal),
+        None => match server_objects(alloc, settings.kind) {
+            Err(_) => NO_MEMORY,
+            Ok(methods) => {
+                let setup = server_setup(settings, nonce);
+                let session = end.session();
+                session.end = End::Backend(Backend::new(setup, methods));
+                BEGUN
+            }
+        },
+    }
+}
+
+#[tactic(auto, using(crate::proofs::Does::server_does))]
+fn start(machine: &mut ServerMachine<ServerObject>, packet: &mut Packet) -> TuvTurn
+    requires unstarted { is_started machine.old.vars ≡ false }
+    requires stand_alone { is_backend machine.old.vars ≡ false }
+    ensures { ServerDoes (server_start (server.now_of server_object_shown machine.old)) result packet.new machine.new }
+{
+    let step = machine.start(packet);
+    TuvTurn::of(&step, machine.state())
+}
+
+#[tactic(auto, using(crate::proofs::Does::server_does))]
+fn timeout(machine: &mut ServerMachine<ServerObject>, packet: &mut Packet) -> TuvTurn
+    requires { has_timer machine.old.vars ≡ true }
+    ensures { ServerDoes (server_timeout (server.now_of server_object_shown machine.old)) result packet.new machine.new }
+{
+    let step = machine.timeout(packet);
+    TuvTurn::of(&step, machine.state())
+}
+
+/// The server starts: one that has not started.
+#[unsafe(no_mangle)]
+pub extern "C" fn tuv_server_start(end: &mut TuvEnd) -> TuvTurn
+    ensures server { IfServer end.old.value.end (λ m. is_started m.vars ≡ false → is_backend m.vars ≡ false → AsServer end.new.value.end (λ n.
+        ServerDoes (server_start (server.now_of server_object_shown m)) result end.new.value.packet n)) }
+    ensures misplaced { ends.can_start end.old.value.end ≡ false → IsMisplaced end.old.value result end.new.value }
+{
+    let session = end.session();
+    match &mut session.end {
+        End::Server(machine) => {
+            if machine.started() || machine.is_backend() {
+                TuvTurn::none()
+            } else {
+                start(machine, &mut session.packet)
+            }
+        }
+        _ => TuvTurn::none(),
+    }
+}
+
+/// The server's retransmission timer ends: of one that has it running.
+#[unsafe(no_mangle)]
+pub extern "C" fn tuv_server_timeout(end: &mut TuvEnd) -> TuvTurn
+    ensures server { IfServer end.old.value.end (λ m. has_timer m.vars ≡ true → AsServer end.new.value.end (λ n.
+        ServerDoes (server_timeout (server.now_of server_object_shown m)) result end.new.value.packet n)) }
+    ensures misplaced { ends.has_timer end.old.value.end ≡ false → IsMisplaced end.old.value result end.new.value }
+{
+    let session = end.session();
+    match &mut session.end {
+        End::Server(machine) => {
+            if machine.has_timer() {
+                timeout(machine, &mut session.packet)
+            } else {
+                TuvTurn::none()
+            }
+        }
+        _ => TuvTurn::none(),
+    }
+}

@@ -1,0 +1,76 @@
+//! What a call came to, as numbers.
+
+ghost use Rattle.std.specs.Prelude.{◌≡◌};
+ghost use Rattle.tuvaddri_c.specs.Turns.{turn_of, no_turn, cause_number, state_number};
+
+use eap_method::Step;
+use eap_packet::{Cause, State};
+
+/// What a call came to.
+#[repr(C)]
+#[derive(Clone, Copy, PartialEq, Eq, Debug)]
+pub struct TuvTurn {
+    /// Whether a packet is to be sent.
+    pub sends: bool,
+    /// Whether what came is discarded.
+    pub discards: bool,
+    /// Whether the call has no place at this end. The end then stays as it was, and the other fields are 0.
+    pub misplaced: bool,
+    /// The number of the cause of a discard, in the order of `Cause`; else 0.
+    pub cause: u8,
+    /// Where the end stands, by the number of its state, in the order of `State`.
+    pub state: u8,
+}
+
+impl TuvTurn {
+    /// A call that has no place.
+    pub fn none() -> TuvTurn
+        ensures { result ≡ no_turn }
+    {
+        TuvTurn {
+            sends: false,
+            discards: false,
+            misplaced: true,
+            cause: 0,
+            state: 0,
+        }
+    }
+
+    /// What a step came to.
+    pub fn of(step: &Step, state: State) -> TuvTurn
+        ensures { result ≡ turn_of step.now state }
+    {
+        match step.cause {
+            None => TuvTurn {
+                sends: step.sends,
+                discards: false,
+                misplaced: false,
+                cause: 0,
+                state: number_of_state(state),
+            },
+            Some(cause) => TuvTurn {
+                sends: step.sends,
+                discards: true,
+                misplaced: false,
+                cause: number_of_cause(cause),
+                state: number_of_state(state),
+            },
+        }
+    }
+}
+
+/// The cause's number.
+#[tactic(auto, using(crate::proofs::Numbers::cause_tag))]
+pub fn number_of_cause(cause: Cause) -> u8
+    ensures { result ≡ cause_number cause }
+{
+    cause as u8
+}
+
+/// The state's number.
+#[tactic(auto, using(crate::proofs::Numbers::state_tag))]
+pub fn number_of_state(state: State) -> u8
+    ensures { result ≡ state_number state }
+{
+    state as u8
+}
