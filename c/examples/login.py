@@ -1,0 +1,107 @@
+#!/usr/bin/env python3
+"""login.py LIBRARY KIND SUITES KEY PEER-NONCE SERVER-NONCE
+
+Logs the peer alice in at the server srv through the shared form of the library (README.md says how it is made), and
+prints what c/examples/both.c prints. The status is 0 where both ends report the same.
+"""
+import ctypes
+import sys
+from ctypes import POINTER, Structure, byref, c_bool, c_size_t, c_uint8, c_void_p
+
+PACKET_MAX = 1500
+
+
+class End(Structure):
+    _fields_ = [("at", c_void_p)]
+
+
+class Octets(Structure):
+    _fields_ = [("at", ctypes.c_char_p), ("len", c_size_t)]
+
+
+class Settings(Structure):
+    _fields_ = [("name", Octets), ("other", Octets), ("psk", Octets), ("kind", c_uint8), ("suites", c_uint8)]
+
+
+class Turn(Structure):
+    _fields_ = [("sends", c_bool), ("discards", c_bool), ("misplaced", c_bool), ("cause", c_uint8), ("state", c_uint8)]
+
+
+class Report(Structure):
+    _fields_ = [("method", c_uint8), ("suite", c_uint8), ("peer_length", c_uint8), ("server_length", c_uint8),
+                ("peer", c_uint8 * 253), ("server", c_uint8 * 253), ("msk", c_uint8 * 64), ("emsk", c_uint8 * 64)]
+
+
+def library(path):
+    lib = ctypes.CDLL(path)
+    end, settings = POINTER(End), POINTER(Settings)
+    for name, result, arguments in [
+        ("tuv_end_new", c_bool, [end]),
+        ("tuv_end_close", None, [end]),
+        ("tuv_end_size", c_size_t, []),
+        ("tuv_end_packet", c_size_t, [end, ctypes.c_char_p, c_size_t]),
+        ("tuv_end_report", c_bool, [end, POINTER(Report)]),
+        ("tuv_end_deliver", Turn, [end, ctypes.c_char_p, c_size_t]),
+        ("tuv_peer_begin", c_uint8, [end, settings, ctypes.c_char_p]),
+        ("tuv_server_begin", c_uint8, [end, settings, ctypes.c_char_p, c_uint8, c_uint8]),
+        ("tuv_server_start", Turn, [end]),
+    ]:
+        call = getattr(lib, name)
+        call.restype, call.argtypes = result, arguments
+    return lib
+
+
+def settings_of(name, other, key, kind, suites):
+    return Settings(Octets(name, len(name)), Octets(other, len(other)), Octets(key, len(key)), kind, suites)
+
+
+def login(lib, peer, server):
+    """Carries what the two ends send until one sends nothing."""
+    room = ctypes.create_string_buffer(PACKET_MAX)
+    turn, sender, receiver = lib.tuv_server_start(byref(server)), server, peer
+    while turn.sends:
+        length = lib.tuv_end_packet(byref(sender), room, PACKET_MAX)
+        packet = room.raw[:length]
+        print("octets", packet.hex())
+        turn = lib.tuv_end_deliver(byref(receiver), packet, len(packet))
+        sender, receiver = receiver, sender
+
+
+def show(who, told):
+    print(who)
+    print("method", told.method, "suite", told.suite)
+    print("peer-name", bytes(told.peer)[: told.peer_length].hex())
+    print("server-name", bytes(told.server)[: told.server_length].hex())
+    print("msk", bytes(told.msk).hex())
+    print("emsk", bytes(told.emsk).hex())
+
+
+def main(path, kind, suites, key, peer_nonce, server_nonce):
+    lib, kind, suites, key = library(path), int(kind), int(suites), bytes.fromhex(key)
+    peer, server = End(), End()
+    if not (lib.tuv_end_new(byref(peer)) and lib.tuv_end_new(byref(server))):
+        return 5
+    told = settings_of(b"alice", b"srv", key, kind, suites), settings_of(b"srv", b"alice", key, kind, suites)
+    if lib.tuv_peer_begin(byref(peer), byref(told[0]), bytes.fromhex(peer_nonce)) or lib.tuv_server_begin(
+        byref(server), byref(told[1]), bytes.fromhex(server_nonce), 0, 4
+    ):
+        return 2
+    login(lib, peer, server)
+    reports = Report(), Report()
+    held = [lib.tuv_end_report(byref(end), byref(report)) for end, report in zip((peer, server), reports)]
+    if all(held):
+        show("peer", reports[0])
+        show("server", reports[1])
+    libc = ctypes.CDLL(None)
+    libc.free.argtypes = [c_void_p]
+    for end in (peer, server):
+        lib.tuv_end_close(byref(end))
+        ctypes.memset(end.at, 0, lib.tuv_end_size())
+        libc.free(end.at)
+    return 0 if all(held) and bytes(reports[0]) == bytes(reports[1]) else 1
+
+
+if __name__ == "__main__":
+    if len(sys.argv) != 7:
+        sys.exit(__doc__)
+    sys.exit(main(*sys.argv[1:]))
