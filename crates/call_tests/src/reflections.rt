@@ -1,18 +1,14 @@
 //! Tags that come back to the end that made them, and whether either end made them. Octets of packets were computed with
 //! Python from RFC 5433 and RFC 4764.
 
-ghost use Rattle.std.specs.Prelude.{IfOk};
-ghost use Rattle.scenario_text.specs.Valid.{IsValidSetup};
-
-use crate::call::{BoxedWorld, world};
-use crate::worlds::{start, step};
-use eap_base::{Event, Setup};
+use crate::call::BoxedWorld;
+use crate::worlds::{begun, step};
+use eap_base::Event;
 use eap_world::TagsVerdict;
 use scenario_text::{Item, ScenarioReader};
 use std::alloc::Global;
 use std::process::Abort;
 use std::test::Fail;
-use text_tables::LineFault;
 
 /// A peer, and a server that bars it by EAP-GPSK alone.
 const SETTINGS: &str = "\
@@ -74,17 +70,6 @@ fn event_of(verdict: TagsVerdict) -> u32 {
     }
 }
 
-/// The settings of a scenario.
-fn settings_in(scenario: &str) -> Result<Setup, LineFault>
-    ensures { IfOk result IsValidSetup }
-{
-    let mut reader = ScenarioReader::new();
-    for line in scenario.lines() {
-        let _ = reader.line(line.as_bytes(), &mut Event::Idle);
-    }
-    reader.setup()
-}
-
 /// Steps a world through the events of a scenario.
 fn run(rt: &impl Abort, world: &mut BoxedWorld, scenario: &str) -> Result<(), Fail> {
     let mut reader = ScenarioReader::new();
@@ -109,11 +94,7 @@ fn is_judged(rt: &impl Abort, alloc: Global, block: &str) -> Result<bool, Fail> 
     let (wanted, lines) = block.split_once("\n").unwrap_or((block, ""));
     let mut scenario = String::from_str(alloc, SETTINGS)?;
     scenario.push_str(lines)?;
-    let Ok(setup) = settings_in(&scenario) else {
-        return Ok(false);
-    };
-    let mut world = world(alloc, setup)?;
-    start(rt, &mut world)?;
+    let mut world = begun(rt, alloc, &scenario)?;
     run(rt, &mut world, &scenario)?;
     Ok(are_numbers(
         wanted,

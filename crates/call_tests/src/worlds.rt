@@ -1,69 +1,35 @@
-//! Runs stepped by hand.
+//! Worlds stepped by hand.
 
-ghost use Rattle.std.specs.Prelude.{◌≡◌, ◌∷◌, []};
+ghost use Rattle.std.specs.Prelude.{IfOk};
+ghost use Rattle.scenario_text.specs.Valid.{IsValidSetup};
 
-use crate::call::BoxedWorld;
-use eap_base::{
-    Accepts, Event, Identity, Kinds, Later, Mode, Party, PeerSetup, ServerSetup, Setup, Suites,
-    Users,
-};
-use eap_packet::State;
-use eap_world::{Counts, MAX_EVENTS, Methods, SentPacket, Skip, TagsVerdict, Told, Verdict, World};
+use crate::call::{BoxedWorld, world};
+use eap_base::{Event, Party, Setup};
+use eap_world::{MAX_EVENTS, SentPacket, Skip, Told};
+use scenario_text::ScenarioReader;
 use std::alloc::Global;
 use std::process::Abort;
 use std::test::Fail;
+use text_tables::LineFault;
 
-fn name(octets: &[u8]) -> Identity {
-    let mut list = Identity::new();
-    list.append(octets);
-    list
-}
-
-fn one_suite() -> Suites
-    ensures { result ≡ 1 ∷ [] }
+/// The settings of a scenario.
+fn settings_in(scenario: &str) -> Result<Setup, LineFault>
+    ensures { IfOk result IsValidSetup }
 {
-    let mut suites = Suites::new();
-    suites.push(1);
-    suites
+    let mut reader = ScenarioReader::new();
+    for line in scenario.lines() {
+        let _ = reader.line(line.as_bytes(), &mut Event::Idle);
+    }
+    reader.setup()
 }
 
-/// Alice logs in at the server srv, which sends a Request again four times; no end has a method.
-fn alice_at_srv(alloc: Global) -> BoxedWorld {
-    let setup = Setup {
-        mode: Mode::Alone,
-        first_id: 0,
-        max_retrans: 4,
-        peer: PeerSetup {
-            name: name(b"alice"),
-            accepts: Accepts::One(name(b"srv")),
-            methods: Kinds::new(),
-            suites: one_suite(),
-            psk47: None,
-            psk51: None,
-            nonce: [17; 32],
-            expanded: false,
-        },
-        server: ServerSetup {
-            name: name(b"srv"),
-            methods: Kinds::new(),
-            suites: one_suite(),
-            users: Users::new(),
-            nonce: [34; 32],
-            expanded: false,
-        },
-        later: Later::none(),
-    };
-    let methods = Methods {
-        peer: Vec::new(alloc),
-        server: Vec::new(alloc),
-    };
-    World::new(alloc, setup, methods)
-}
-
-/// What came of the start.
-pub(crate) fn start(rt: &impl Abort, world: &mut BoxedWorld) -> Result<Told, Fail> {
+/// The world of a scenario's settings, which has started.
+pub(crate) fn begun(rt: &impl Abort, alloc: Global, scenario: &str) -> Result<BoxedWorld, Fail> {
+    let setup = settings_in(scenario).expect(rt, "settings");
+    let mut world = world(alloc, setup)?;
     assert!(rt; !world.started());
-    Ok(world.start()?)
+    world.start()?;
+    Ok(world)
 }
 
 /// What came of the next event.
@@ -72,93 +38,19 @@ pub(crate) fn step(rt: &impl Abort, world: &mut BoxedWorld, event: &Event) -> Re
     Ok(world.step(event)?)
 }
 
-/// True where these are the names of the states entered, parted by spaces.
-fn is_path(told: &Told, names: &str) -> bool {
-    let mut rest = names;
-    for state in told.path.as_slice() {
-        match rest.strip_prefix(state.word()) {
-            None => return false,
-            Some(others) => rest = others.strip_prefix(" ").unwrap_or(others),
-        }
-    }
-    rest.is_empty()
-}
-
-/// What each delivery makes of the ends: the states entered.
-const ROUND: &str = "\
-RECEIVED IDENTITY SEND_RESPONSE IDLE
-RECEIVED INTEGRITY_CHECK METHOD_RESPONSE SELECT_ACTION FAILURE
-RECEIVED FAILURE";
-
-/// What is sent after the given number of deliveries.
-fn sent_after(deliveries: u32) -> &'static [u8] {
-    match deliveries {
-        1 => b"\x02\x00\x00\x0a\x01alice",
-        2 => b"\x04\x00\x00\x04",
-        _ => b"",
-    }
-}
-
-fn has_failed(world: &BoxedWorld) -> bool {
-    let counts = Counts {
-        events: 3,
-        deliveries: 3,
-        discards: 0,
-    };
-    world.counts() == counts
-        && world.mode() == Mode::Alone
-        && world.state(Party::Peer) == Some(State::Failure)
-        && world.state(Party::Server) == Some(State::Failure)
-        && world.state(Party::Pass).is_none()
-        && world.tags() == TagsVerdict::Honest
-        && world.result() == Verdict::Unfinished
-}
-
-#[test]
-fn identity_round(rt: HostRuntime) -> Result<(), Fail> {
-    let mut world = alice_at_srv(rt.alloc());
-    let begun = start(&rt, &mut world)?;
-    assert!(rt; world.octets_of(&begun) == b"\x01\x00\x00\x05\x01".as_slice());
-    let mut number: u32 = 0;
-    for path in ROUND.split("\n").take(3) {
-        number = number.wrapping_add(1);
-        let told = step(&rt, &mut world, &Event::Deliver { number })?;
-        let goes = is_path(&told, path) && world.octets_of(&told) == sent_after(number);
-        assert!(rt; goes, "{number}");
-    }
-    assert!(rt; has_failed(&world));
-    assert!(rt; world.into_methods().peer.is_empty());
-    Ok(())
-}
-
-fn sent_number(sent: &Option<SentPacket>) -> u32 {
-    match sent {
-        None => 0,
-        Some(sent) => sent.number,
-    }
-}
-
-// The start sends packet 1; the server sends again four times, and gives up at the fifth timeout.
-#[test]
-fn six_timeouts(rt: HostRuntime) -> Result<(), Fail> {
-    let event = Event::Timeout {
-        party: Party::Server,
-    };
-    let mut world = alice_at_srv(rt.alloc());
-    let begun = start(&rt, &mut world)?;
-    assert!(rt; sent_number(&begun.sent) == 1);
-    for number in 2..6 {
-        let told = step(&rt, &mut world, &event)?;
-        let again = is_path(&told, "RETRANSMIT IDLE") && sent_number(&told.sent) == number;
-        assert!(rt; again, "{number}");
-    }
-    let told = step(&rt, &mut world, &event)?;
-    let gives_up = is_path(&told, "RETRANSMIT TIMEOUT_FAILURE") && told.sent.is_none();
-    assert!(rt; gives_up);
-    let told = step(&rt, &mut world, &event)?;
-    assert!(rt; told.skip == Some(Skip::Ended) && world.peer_state() == State::Idle);
-    Ok(())
-}
+/// Alice and the server srv, without methods.
+const WITHOUT_METHODS: &str = "\
+eap-scenario 1
+mode alone
+peer-name alice
+peer-server srv
+peer-methods -
+peer-nonce 1111111111111111111111111111111111111111111111111111111111111111
+server-name srv
+server-methods -
+server-nonce 2222222222222222222222222222222222222222222222222222222222222222
+events
+";
 
 /// True where the peer's timer, which it hasn't, is skipped for this reason.
 fn skips_timer(rt: &impl Abort, world: &mut BoxedWorld, wanted: Skip) -> Result<bool, Fail> {
@@ -169,8 +61,7 @@ fn skips_timer(rt: &impl Abort, world: &mut BoxedWorld, wanted: Skip) -> Result<
 // The peer has no timer before its end, and is over after it; no text can say so.
 #[test]
 fn a_peer_has_no_timer(rt: HostRuntime) -> Result<(), Fail> {
-    let mut world = alice_at_srv(rt.alloc());
-    start(&rt, &mut world)?;
+    let mut world = begun(&rt, rt.alloc(), WITHOUT_METHODS)?;
     let has_none = skips_timer(&rt, &mut world, Skip::NoTimer)?;
     step(&rt, &mut world, &Event::Idle)?;
     let is_over = skips_timer(&rt, &mut world, Skip::Ended)?;
@@ -178,12 +69,18 @@ fn a_peer_has_no_timer(rt: HostRuntime) -> Result<(), Fail> {
     Ok(())
 }
 
+fn sent_number(sent: &Option<SentPacket>) -> u32 {
+    match sent {
+        None => 0,
+        Some(sent) => sent.number,
+    }
+}
+
 // The server's Request is sent again after the peer's Response, and then that Response: packets 3 and 4 are
 // those of packets 1 and 2, of 5 and 10 octets.
 #[test]
 fn what_is_sent_again_is_stored_once(rt: HostRuntime) -> Result<(), Fail> {
-    let mut world = alice_at_srv(rt.alloc());
-    start(&rt, &mut world)?;
+    let mut world = begun(&rt, rt.alloc(), WITHOUT_METHODS)?;
     step(&rt, &mut world, &Event::Deliver { number: 1 })?;
     assert!(rt; world.stored() == 15);
     let timeout = Event::Timeout {
