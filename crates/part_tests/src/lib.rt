@@ -1,5 +1,5 @@
-//! Tests of what stands below the world, by public calls: the base's streams, lines and lists, the ciphers, captured
-//! frames, RADIUS packets, the methods' ends and the three machines.
+//! Tests of what stands below the machines, by public calls: the base's streams, lines and lists, the block cipher, captured
+//! frames, RADIUS packets and the methods' ends.
 #![tactic(auto)]
 
 #[cfg(test)]
@@ -12,10 +12,6 @@ mod gpsk;
 mod lines;
 #[cfg(test)]
 mod login;
-#[cfg(test)]
-mod machines;
-#[cfg(test)]
-mod pass;
 #[cfg(test)]
 mod psk;
 #[cfg(test)]
