@@ -114,28 +114,29 @@ enum {
 	TUV_CAUSE_NAK_REQUEST = 5,	/* a Request of Type 3 */
 	TUV_CAUSE_BAD_NAK = 6,		/* a Response of Type 3 with no Type-Data */
 	TUV_CAUSE_WRONG_ROLE = 7,	/* the Code is one that this end doesn't take */
-	TUV_CAUSE_NOT_ALLOWED = 8,	/* a Notification while a method is selected */
-	TUV_CAUSE_METHOD_DONE = 9,	/* a Request of the method after its end */
-	TUV_CAUSE_OTHER_METHOD = 10,	/* a Request of another method */
-	TUV_CAUSE_ID_MISMATCH = 11,	/* the Identifier is not the awaited one */
-	TUV_CAUSE_EARLY_SUCCESS = 12,	/* a Success before the server is known */
-	TUV_CAUSE_LATE_FAILURE = 13,	/* a Failure after the method has succeeded */
-	TUV_CAUSE_EARLY_FAILURE = 14,	/* a Failure while the method goes on */
-	TUV_CAUSE_WRONG_METHOD = 15,	/* a Response of another Type than was asked */
-	TUV_CAUSE_NOT_WAITING = 16,	/* nothing is awaited from this side */
-	TUV_CAUSE_ENDED = 17,		/* the end has ended */
-	TUV_CAUSE_GPSK_SHAPE = 18,	/* no EAP-GPSK message */
-	TUV_CAUSE_LIST_TOO_LONG = 19,	/* an EAP-GPSK list of more than 20 suites */
-	TUV_CAUSE_PSK_SHAPE = 20,	/* no EAP-PSK message */
-	TUV_CAUSE_WRONG_OP = 21,	/* a message that the method doesn't await */
-	TUV_CAUSE_UNKNOWN_SERVER = 22,	/* the peer doesn't accept the server's name */
-	TUV_CAUSE_NO_SUITE = 23,	/* no suite of the list is allowed */
-	TUV_CAUSE_FIELD_MISMATCH = 24,	/* a field differs from the one sent before */
-	TUV_CAUSE_SUITE_NOT_OFFERED = 25, /* the selected suite was not offered */
-	TUV_CAUSE_BAD_NONCE = 26,	/* the nonce of PCHANNEL is not the awaited one */
-	TUV_CAUSE_BAD_TAG = 27,		/* a MAC or a tag is wrong */
-	TUV_CAUSE_BAD_RESULT = 28,	/* R is 0 */
-	TUV_CAUSE_EXTENDED = 29		/* the extended channel of EAP-PSK, or R = 1 */
+	TUV_CAUSE_BAD_EXPANDED = 8,	/* a Type 254 that this end does not take; none yet */
+	TUV_CAUSE_NOT_ALLOWED = 9,	/* a Notification while a method is selected */
+	TUV_CAUSE_METHOD_DONE = 10,	/* a Request of the method after its end */
+	TUV_CAUSE_OTHER_METHOD = 11,	/* a Request of another method */
+	TUV_CAUSE_ID_MISMATCH = 12,	/* the Identifier is not the awaited one */
+	TUV_CAUSE_EARLY_SUCCESS = 13,	/* a Success before the server is known */
+	TUV_CAUSE_LATE_FAILURE = 14,	/* a Failure after the method has succeeded */
+	TUV_CAUSE_EARLY_FAILURE = 15,	/* a Failure while the method goes on */
+	TUV_CAUSE_WRONG_METHOD = 16,	/* a Response of another Type than was asked */
+	TUV_CAUSE_NOT_WAITING = 17,	/* nothing is awaited from this side */
+	TUV_CAUSE_ENDED = 18,		/* the end has ended */
+	TUV_CAUSE_GPSK_SHAPE = 19,	/* no EAP-GPSK message */
+	TUV_CAUSE_LIST_TOO_LONG = 20,	/* an EAP-GPSK list of more than 20 suites */
+	TUV_CAUSE_PSK_SHAPE = 21,	/* no EAP-PSK message */
+	TUV_CAUSE_WRONG_OP = 22,	/* a message that the method doesn't await */
+	TUV_CAUSE_UNKNOWN_SERVER = 23,	/* the peer doesn't accept the server's name */
+	TUV_CAUSE_NO_SUITE = 24,	/* no suite of the list is allowed */
+	TUV_CAUSE_FIELD_MISMATCH = 25,	/* a field differs from the one sent before */
+	TUV_CAUSE_SUITE_NOT_OFFERED = 26, /* the selected suite was not offered */
+	TUV_CAUSE_BAD_NONCE = 27,	/* the nonce of PCHANNEL is not the awaited one */
+	TUV_CAUSE_BAD_TAG = 28,		/* a MAC or a tag is wrong */
+	TUV_CAUSE_BAD_RESULT = 29,	/* R is 0 */
+	TUV_CAUSE_EXTENDED = 30		/* the extended channel of EAP-PSK, or R = 1 */
 };
 
 /* methodState and decision of a method alone (RFC 4137 section 4.2). */

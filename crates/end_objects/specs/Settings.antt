@@ -38,6 +38,7 @@ peer_setup_of told nonce = record {
   psk47 = if told.kind == psk_kind then Some told.psk else None;
   psk51 = if told.kind == psk_kind then None else Some told.psk;
   nonce = nonce;
+  expanded = false;
 }
 
 -- the one user of a server: the other end, with the key that both share
@@ -52,4 +53,5 @@ server_setup_of told nonce = record {
   suites = suites_of told.suites;
   users = users_of told;
   nonce = nonce;
+  expanded = false;
 }

@@ -183,6 +183,7 @@ pub fn peer_setup(settings: &Settings, nonce: &Nonce) -> PeerSetup
             psk47: Some(Secret::of(settings.psk)),
             psk51: None,
             nonce: *nonce,
+            expanded: false,
         }
     } else {
         PeerSetup {
@@ -193,6 +194,7 @@ pub fn peer_setup(settings: &Settings, nonce: &Nonce) -> PeerSetup
             psk47: None,
             psk51: Some(Secret::of(settings.psk)),
             nonce: *nonce,
+            expanded: false,
         }
     }
 }
@@ -228,5 +230,6 @@ pub fn server_setup(settings: &Settings, nonce: &Nonce) -> ServerSetup
         suites: suites(settings.suites),
         users: one_user(settings),
         nonce: *nonce,
+        expanded: false,
     }
 }

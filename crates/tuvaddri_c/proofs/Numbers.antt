@@ -26,6 +26,7 @@ cause_tag cause.TooLong = refl
 cause_tag cause.NakRequest = refl
 cause_tag cause.BadNak = refl
 cause_tag cause.WrongRole = refl
+cause_tag cause.BadExpanded = refl
 cause_tag cause.NotAllowed = refl
 cause_tag cause.MethodDone = refl
 cause_tag cause.OtherMethod = refl
