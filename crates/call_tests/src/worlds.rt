@@ -25,7 +25,9 @@ fn settings_in(scenario: &str) -> Result<Setup, LineFault>
 
 /// The world of a scenario's settings, which has started.
 pub(crate) fn begun(rt: &impl Abort, alloc: Global, scenario: &str) -> Result<BoxedWorld, Fail> {
-    let setup = settings_in(scenario).expect(rt, "settings");
+    let Ok(setup) = settings_in(scenario) else {
+        panic!(rt; "no settings");
+    };
     let mut world = world(alloc, setup)?;
     assert!(rt; !world.started());
     world.start()?;
