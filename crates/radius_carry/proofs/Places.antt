@@ -1,5 +1,5 @@
 -- Where the tag of a packet stands, and what its authenticators cover.
-use Rattle.std.proofs.Common.{◌≡◌, ℕ, ◌+◌, ◌-◌, ◌/◌, ◌%◌, ◌≤◌, List, [], ◌∷◌, ◌++◌, length, take, drop, replicate, true, false, cond, ◌==◌}
+use Rattle.std.proofs.Common.{◌≡◌, ℕ, ◌+◌, ◌/◌, ◌%◌, ◌≤◌, List, [], ◌∷◌, ◌++◌, length, take, drop, replicate, true, false, cond, ◌==◌}
 use Rattle.std.proofs.Common.{refl, ap, ◌∙◌, sym, arith, append_assoc, length-append}
 use Rattle.std.proofs.lemmas.List.{append-nil, length-replicate, take_at, drop_at}
 use Rattle.radius_carry.specs.Packet.{Attribute, RadiusPacket, IsRadius, attribute_octets, count, head_of, joined, octets_of, spelled, tag_of}
