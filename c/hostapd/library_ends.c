@@ -9,6 +9,7 @@ struct own {
 	struct tuv_end end;
 	struct tuv_turn turn;
 	struct tuv_report report;
+	bool has_report;
 	uint8_t packet[TUV_PACKET_MAX];
 };
 
@@ -115,26 +116,31 @@ static bool server_succeeded(void)
 	return server.turn.state == TUV_STATE_SUCCESS;
 }
 
-static const unsigned char *peer_msk(void)
+/* One report has both keys: the EMSK is asked for after the MSK. */
+static const unsigned char *msk_of(struct own *own)
 {
-	return tuv_end_report(&peer.end, &peer.report) ? peer.report.msk : NULL;
+	own->has_report = tuv_end_report(&own->end, &own->report);
+	return own->has_report ? own->report.msk : NULL;
 }
 
-static const unsigned char *peer_emsk(void)
+static const unsigned char *peer_msk(void)
 {
-	return tuv_end_report(&peer.end, &peer.report) ? peer.report.emsk : NULL;
+	return msk_of(&peer);
 }
 
 static const unsigned char *server_msk(void)
 {
-	return tuv_end_report(&server.end, &server.report) ? server.report.msk
-							   : NULL;
+	return msk_of(&server);
+}
+
+static const unsigned char *peer_emsk(void)
+{
+	return peer.has_report ? peer.report.emsk : NULL;
 }
 
 static const unsigned char *server_emsk(void)
 {
-	return tuv_end_report(&server.end, &server.report) ? server.report.emsk
-							   : NULL;
+	return server.has_report ? server.report.emsk : NULL;
 }
 
 const struct side library_peer = {

@@ -27,7 +27,7 @@ struct side {
 	struct sent (*first)(void);
 	struct sent (*take)(const unsigned char *octets, size_t len);
 	bool (*succeeded)(void);
-	/* 64 octets, or null. */
+	/* 64 octets, or null; the EMSK is asked for after the MSK. */
 	const unsigned char *(*msk)(void);
 	const unsigned char *(*emsk)(void);
 };
