@@ -1,5 +1,5 @@
 -- When settings are refused, and why.
-use Rattle.std.specs.Prelude.{ℕ, List, [], ◌∷◌, length, Bool, true, false, ◌&&◌, ◌||◌, not, nat_lt, nat_le, if◌then◌else◌, Option, Some, None}
+use Rattle.std.specs.Prelude.{ℕ, List, [], ◌∷◌, length, Bool, false, ◌&&◌, not, nat_lt, nat_le, if◌then◌else◌, Option, Some, None}
 use Rattle.eap_base.specs.Setup.{is_kind, fits_kind}
 use Rattle.end_objects.specs.Settings.{SettingsValue}
 use Rattle.end_objects.specs.declared.settings.Refusal.{Refusal}
