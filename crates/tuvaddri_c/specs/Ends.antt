@@ -79,7 +79,7 @@ has_timer_pass e = elim e [ ends.Pass m ↦ pass.has_timer m.state | _ ↦ false
 abbrev pub waits_for_backend : End → Bool
 waits_for_backend e = elim e [ ends.Pass m ↦ pass.is_aaa_idle m.state | _ ↦ false ]
 
--- what the end holds after a login that succeeded
+-- what the end holds after a method that succeeded
 abbrev pub end_reports : End → Option Report
 end_reports ends.Closed = None
 end_reports (ends.PeerMethod object) = peer_report (peer_object_shown object)

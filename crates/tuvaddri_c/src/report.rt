@@ -1,4 +1,4 @@
-//! What an end holds after a login that succeeded.
+//! What an end holds after a method that succeeded.
 
 ghost use Rattle.std.specs.Prelude.{◌≡◌, ◌≤◌, ◌++◌, length, drop, IsTrue, None, IfSome};
 ghost use Rattle.tuvaddri_c.specs.Ends.{end_reports, IsReport};
@@ -7,7 +7,7 @@ use crate::handle::TuvEnd;
 use crate::session::{End, Session};
 use eap_method::{PeerMethod, Report, ServerMethod};
 
-/// What an end holds after a login that succeeded.
+/// What an end holds after a method that succeeded.
 #[repr(C)]
 #[derive(Drop)]
 pub struct TuvReport {
