@@ -65,8 +65,8 @@ KeepsWrites s before now = s ≢ status.WriteFault → now ≡ before
 abbrev pub HasRisen : Option ℕ → ℕ → ℕ → Type 0
 HasRisen last before now = now ≤ before → last ≡ Some now
 
--- how a run ends that only writes an answer: a write failed exactly where the count of faults rose, or stands
--- at its last value, and that count never falls
+-- how a run ends that only writes an answer: a write failed only where the count of faults rose, or stands at its
+-- last value, and wherever it rose; that count never falls
 pub record Finishes {S : Type 0} (written : S → Option (List ℕ)) (faults : S → ℕ) (last : Option ℕ)
     (result : Status) (before now : S) (a : Answer) : Type 0 where
   pub ends : Ends result (written before) (written now) a

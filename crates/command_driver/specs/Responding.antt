@@ -49,7 +49,7 @@ module _ {S W : Type 0} (left : S → Option (List ℕ)) (read_faults : S → �
     pub ends : (octets : List ℕ) → left before ≡ Some octets → Ends result (written old) (written new) (answer octets)
     -- with status 0 or 7 nothing is left to read
     pub drains : Drains result (left now)
-    -- a fault is answered exactly where its count rose, or stands at its last value
+    -- a fault is answered only where its count rose, or stands at its last value, and wherever it rose
     pub read_fault : result ≡ status.ReadFault → HasRisen last_read_fault (read_faults before) (read_faults now)
     pub write_fault : result ≡ status.WriteFault → HasRisen last_write_fault (write_faults old) (write_faults new)
     pub reads : KeepsReads result (read_faults before) (read_faults now)

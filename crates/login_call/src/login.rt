@@ -53,9 +53,9 @@ pub fn eap_login<P: PeerMethod, M: ServerMethod, S: Source, W: Sink>(
     // What the words ask is answered: an input is read and its answer written, or, for `bulk N K` and for words that
     // are none of the forms, an answer is written and the source is as it was. Where neither a read nor a write
     // failed and memory wasn't wanting, the whole text was written and the status is the answer's, with 0 or 7
-    // nothing is left to read, and no fault is passed over: one comes exactly where its count rose in this call, or
-    // stands at its last value. Else a front of the text was. Want of memory comes only for `replay`, after the line
-    // `events` was taken, and for `bulk N K`.
+    // nothing is left to read. Else a front of the text was. A fault comes only where its count rose in this call, or
+    // stands at its last value, and wherever it rose: none that is counted is passed over. Want of memory comes only
+    // for `replay`, after the line `events` was taken, and for `bulk N K`.
     ensures responds { Responds S.left S.read_faults S.last_read_fault W.written W.write_faults W.last_write_fault
         (asked_by (map string_bytes words.now.items)) result source.old source.new sink.old sink.new }
 

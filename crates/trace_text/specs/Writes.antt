@@ -17,8 +17,8 @@ Writes (Err fault) before after text = WritesFront before after text
 
 -- by what a sink tells of itself: its octets, its count of faults, and the last value of that count
 module _ {S : Type 0} (written : S → Option (List ℕ)) (faults : S → ℕ) (last : Option ℕ) where
-  -- what a writer does to a sink: the text was written, or a front of it; a write failed exactly where the
-  -- count of faults rose, or stands at its last value; that count never falls
+  -- what a writer does to a sink: the text was written, or a front of it; a write failed only where the
+  -- count of faults rose, or stands at its last value, and wherever it rose; that count never falls
   pub record Appended (result : Result (Unit {0}) Failed) (before after : S) (text : List ℕ) : Type 0 where
     pub writes : Writes result (written before) (written after) text
     pub counted : OnErr result (faults after ≤ faults before → last ≡ Some (faults after))
