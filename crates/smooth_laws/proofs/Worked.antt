@@ -8,7 +8,7 @@ use Rattle.eap_base.specs.declared.setup.Mode.{Mode}
 use Rattle.eap_base.specs.declared.setup.Mode.TheVariants.{Alone, Through}
 use Rattle.eap_base.specs.declared.setup.Setup.{Setup}
 use Rattle.eap_base.specs.declared.users.User.{User}
-use Rattle.eap_base.specs.Setup.{is_kind, fits_kind}
+use Rattle.eap_base.specs.Setup.{is_kind, fits_kind, no_later}
 use Rattle.eap_world.specs.Agreement.{IsWhole}
 use Rattle.smooth_laws.specs.Smooth.{EndsFit, HasShortNames, bound, common_kind, deliveries}
 
@@ -29,6 +29,7 @@ example_setup runs allowed order = record {
     psk47 = Some (replicate 16 71);
     psk51 = Some (replicate 32 81);
     nonce = replicate 32 17;
+    expanded = false;
   };
   server = record {
     name = codes "srv";
@@ -36,7 +37,9 @@ example_setup runs allowed order = record {
     suites = 2 ∷ 1 ∷ [];
     users = user_of_kind 51 (replicate 32 81) ∷ user_of_kind 47 (replicate 16 71) ∷ [];
     nonce = replicate 32 17;
+    expanded = false;
   };
+  later = no_later;
 }
 
 both : List ℕ
