@@ -1,5 +1,5 @@
-/* What libtuvaddri_c.a asks for beside memcpy, memmove, memset and memcmp: a
- * heap.  A block is cleared before it is given back, since it may hold keys. */
+/* What libtuvaddri_c.a asks for beside memcpy, memmove and memset: a heap.  A
+ * block is cleared before it is given back, since it may hold keys. */
 #define _DEFAULT_SOURCE
 #include <malloc.h>
 #include <stdbool.h>
