@@ -53,7 +53,8 @@ struct tuv_settings {
 	uint8_t suites;		/* TUV_SUITE_.., also for EAP-PSK, which has none */
 };
 
-/* What a begin answers; after any other answer than TUV_BEGUN the end stays as
+/* What a begin answers.  It makes the end anew, whatever it was before, also in
+ * the middle of a login; after any other answer than TUV_BEGUN the end stays as
  * it was.  Where several reasons apply, the lowest number is told. */
 enum {
 	TUV_BEGUN = 0,
