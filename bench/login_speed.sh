@@ -14,10 +14,10 @@ trap 'rm -rf "$work"' EXIT
 "$here/tools/prove" status >/dev/null || "$here/tools/prove"
 program=$here/out/eap_login-proved
 
-# The crates, without what earlier checks left, and a program over them.
+# The crates, without edits and what earlier checks left, and a program over them: rt ci takes what the gate keeps.
 mkdir "$work/crates"
 cp "$here/HANDLES" "$work/HANDLES"
-grep -v '_tests:\|^eap_login:' "$here/crates.txt" >"$work/crates.txt"
+grep -v '_tests:\|^eap_login:\|^tuvaddri_c ' "$here/crates.txt" >"$work/crates.txt"
 for crate in $(sed -n 's/^\([a-z_]*\):.*/\1/p' "$work/crates.txt"); do
     mkdir "$work/crates/$crate"
     for part in src specs proofs; do
@@ -29,6 +29,7 @@ echo 'login_count: eap_base eap_method eap_world gpsk_ends psk_ends scenario_tex
 crate="$work/crates/login_count"
 rm -rf "$crate/proofs" "$crate/specs" "$crate/src" "$crate/stdin" "$crate/stdout" "$crate/BUILD.bazel"
 mkdir -p "$crate/src" "$crate/proofs/login_of"
+echo 0 >"$crate/stdout"
 sed 's/call_tests\.proofs\.call\.answered/login_count.proofs.login_of/' "$here/crates/call_tests/proofs/call/answered/Answers.antt" >"$crate/proofs/login_of/Answers.antt"
 cat >"$crate/src/main.rt" <<'END'
 //! Runs a login so often, both ends, without text.
@@ -155,7 +156,7 @@ fn main(rt: HostRuntime) -> io::Result<()> {
 }
 END
 echo "login_speed: proving and building" >&2
-(cd "$crate" && rt run) >"$work/log" 2>&1 || { tail -n 20 "$work/log" >&2; exit 1; }
+(cd "$work" && rt ci) >"$work/log" 2>&1 || { tail -n 20 "$work/log" >&2; exit 1; }
 
 # Zeroing by `rep stosb` counts as one instruction an octet, so it is turned off.
 export GLIBC_TUNABLES=glibc.cpu.x86_rep_stosb_threshold=10000000
