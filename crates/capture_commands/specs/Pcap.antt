@@ -1,6 +1,6 @@
 -- The words `pcap NAME KIND HEX ..`: each EAP packet of a file of captured frames is judged by the users that the words
 -- name and by all packets before it.
-use Rattle.std.specs.Prelude.{ℕ, ◌+◌, List, [], ◌∷◌, ◌++◌, length, Bool, true, ◌==◌, not, if◌then◌else◌, codes, decimal, Option, Some, None, is_some}
+use Rattle.std.specs.Prelude.{ℕ, ◌+◌, List, [], ◌∷◌, ◌++◌, length, Bool, true, ◌==◌, not, if◌then◌else◌, codes, decimal, Option, Some, None}
 use Rattle.std.specs.List.{concat}
 use Rattle.std.specs.Str.{bytes_eq}
 use Rattle.eap_base.specs.declared.users.User.{User}
@@ -21,9 +21,6 @@ use Rattle.command_driver.specs.declared.status.Status.TheVariants as status
 abbrev pub pcap_users : List (List ℕ) → Option (List User)
 pcap_users [] = None
 pcap_users (word ∷ rest) = if bytes_eq word (codes "pcap") then users_named (Some []) rest else None
-
-abbrev pub is_pcap : List (List ℕ) → Bool
-is_pcap words = is_some (pcap_users words)
 
 -- a packet whose first octet is 2, the code of a Response, is from the peer, every other one is to the peer
 abbrev pub is_to_peer : List ℕ → Bool

@@ -3,8 +3,7 @@
 ghost use Rattle.std.specs.Prelude.{◌≡◌, ◌<◌, ◌^◌, ◌+◌, List, All, IsTrue, false};
 ghost use Rattle.eap_base.specs.Setup.{fits_kind};
 ghost use Rattle.command_driver.specs.Responding.{Responds, reading, never};
-ghost use Rattle.capture_commands.specs.Check.{check_answer};
-ghost use Rattle.capture_commands.specs.Check.{is_counted};
+ghost use Rattle.capture_commands.specs.Check.{check_answer, is_counted};
 ghost use Rattle.capture_commands.specs.CheckSteps as steps;
 
 use capture_check::{Checker, Finding};

@@ -23,8 +23,8 @@ use trace_text::{write_finding, write_pieces};
 /// The code of a Response (RFC 3748 section 4).
 const RESPONSE: u8 = 2;
 
-/// Adds the users that the words name, where they are `pcap` and users. False for all other words; where the first
-/// is `pcap`, the users that the words before the fault name were added then.
+/// Adds the users that the words name, where they are `pcap` and users. False for all other words; some
+/// users may have been added then.
 pub fn read_pcap(words: &Vec<String>, users: &mut Users) -> bool
     requires { users.old ≡ [] }
     ensures { read_as result users.new ≡ pcap_users (map string_bytes words.now.items) }

@@ -37,7 +37,7 @@ fn close<C: Command, W: Sink>(command: &C, sink: &mut W, line: u32) -> Status
 }
 
 /// Reads the lines of the source one after the other, gives each to the command, and ends at the end
-/// of the input, at a refused line, at a limit or at a fault. No read or write that failed is passed over.
+/// of the input, at a refused line, at a limit or at a fault. No failed read or write that is counted is passed over.
 pub fn drive<C: Command, S: Source, W: Sink>(
     command: &mut C,
     source: &mut S,

@@ -53,7 +53,7 @@ pub fn eap_login<P: PeerMethod, M: ServerMethod, S: Source, W: Sink>(
     // What the words ask is answered: an input is read and its answer written, or, for `bulk N K` and for words that
     // are none of the forms, an answer is written and the source is as it was. Where neither a read nor a write
     // failed and memory wasn't wanting, the whole text was written and the status is the answer's, with 0 or 7
-    // nothing is left to read. Else a front of the text was. A fault comes only where its count rose in this call, or
+    // nothing is left to read, but for `bulk N K`. Else a front of the text was. A fault comes only where its count rose in this call, or
     // stands at its last value, and wherever it rose: none that is counted is passed over. Want of memory comes only
     // for `replay`, after the line `events` was taken, and for `bulk N K`.
     ensures responds { Responds S.left S.read_faults S.last_read_fault W.written W.write_faults W.last_write_fault
@@ -64,7 +64,7 @@ pub fn eap_login<P: PeerMethod, M: ServerMethod, S: Source, W: Sink>(
     // honest`, two ends that both stand in SUCCESS at the end of its run agree in method, identities, suite,
     // MSK and EMSK, which both policies allow; the identities are their own names, the server's user has
     // the peer's key, and by EAP-GPSK the suite is the first of the server's that the peer allows. The run sent at
-    // most one packet at each event, and one at its start.
+    // most one packet more than it has events.
     ensures honest_ends_agree { (octets : List ℕ) → HonestEndsAgree octets }
 
     // Where the input is a scenario of two ends that fit, whose events deliver packet 1, packet 2 and on, each once

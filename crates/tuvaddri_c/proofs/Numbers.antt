@@ -1,4 +1,4 @@
--- The numbers of causes and of states are those of their declarations.
+-- The numbers of causes, states, methodState and decision are those of their declarations.
 use Rattle.std.proofs.Common.{◌≡◌, refl}
 use denote.Enum.Declared.{tag_of}
 use Rattle.eap_packet.specs.contracts.cause.Cause as cause_type

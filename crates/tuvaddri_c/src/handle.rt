@@ -1,6 +1,7 @@
 //! The handle that a program in C holds.
 
 ghost use Rattle.std.specs.Prelude.{◌≡◌, ◌≤◌, ◌<◌, ◌++◌, length, drop, []};
+ghost use Rattle.eap_method.specs.Tags.{no_tags};
 ghost use Rattle.tuvaddri_c.specs.declared.session.Session.{Session};
 ghost use Rattle.tuvaddri_c.specs.declared.session.End.TheVariants.{Closed};
 
@@ -70,15 +71,17 @@ pub extern "C" fn tuv_end_size() -> usize {
     size_of::<Session>()
 }
 
-/// Drops the end and what it holds, and its last packet. A handle that is closed stays so.
+/// Drops the end and what it holds, its last packet and the records of its tags. A handle that is closed stays so.
 #[unsafe(no_mangle)]
 pub extern "C" fn tuv_end_close(end: &mut TuvEnd)
     ensures closed { end.new.value.end ≡ Closed }
     ensures packet { end.new.value.packet ≡ [] }
+    ensures tags { end.new.value.tags ≡ no_tags }
 {
     let session = end.session();
     session.end = End::Closed;
     session.packet.clear();
+    session.tags.clear();
 }
 
 /// Answers the length of the packet of the last call, and copies it to the front of `room` where it fits; else it

@@ -20,7 +20,7 @@ use end_objects::{PeerObject, Settings, peer_objects, peer_refusal, peer_setup};
 use peer_machine::PeerMachine;
 use std::alloc::Global;
 
-/// Makes the end a peer with these settings, and answers 0. Else it answers the number of the refusal, 1 to 6, or 7
+/// Makes the end a peer with these settings, and answers 0. Else it answers the number of the refusal, 1 to 5, or 7
 /// for want of memory, and the end stays as it was.
 #[unsafe(no_mangle)]
 pub extern "C" fn tuv_peer_begin(

@@ -1,5 +1,5 @@
 -- The words `bulk N K`: K conversations of the number N.
-use Rattle.std.specs.Prelude.{ℕ, List, [], ◌∷◌, ◌++◌, Bool, if◌then◌else◌, codes, decimal, Option, Some, None, Result, Ok, Err, is_some}
+use Rattle.std.specs.Prelude.{ℕ, List, [], ◌∷◌, ◌++◌, if◌then◌else◌, codes, decimal, Option, Some, None, Result, Ok, Err}
 use Rattle.std.specs.List.{concat}
 use Rattle.std.specs.Str.{bytes_eq}
 use Rattle.bulk_run.specs.Summing.{summary_of}
@@ -33,9 +33,6 @@ bulk_of (word ∷ []) = None
 bulk_of (word ∷ number ∷ []) = None
 bulk_of (word ∷ number ∷ count ∷ []) = if bytes_eq word (codes "bulk") then bulk_spelled number count else None
 bulk_of (word ∷ number ∷ count ∷ more ∷ rest) = None
-
-abbrev pub is_bulk : List (List ℕ) → Bool
-is_bulk words = is_some (bulk_of words)
 
 -- the words again
 unfoldable pub bulk_line : ℕ → ℕ → List ℕ

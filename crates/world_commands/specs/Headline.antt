@@ -13,8 +13,8 @@ use Rattle.command_driver.specs.declared.status.Status.{Status}
 use Rattle.command_driver.specs.declared.status.Status.TheVariants.{Done}
 
 -- after the events: over a book that is honest of either end two ends that both succeed agree, and what they
--- report is their own; a book that the trace calls honest is such a book, and it is small; and at most one packet was
--- sent at each event, and one at the start
+-- report is their own; a book that the trace calls honest is such a book, and it is small; and at most one packet
+-- more was sent than there were events
 pub record KeepsAgreement (setup : Setup) (w : WorldNow) : Type 0 where
   pub of_either : tags_verdict w.book ≡ Honest → tags_verdict_either w.book ≡ Honest
   pub agrees : AgreesWhereHonest w

@@ -1,5 +1,5 @@
 -- A scenario, as all its lines make it, and what replaying it answers: the trace of its run.
-use Rattle.std.specs.Prelude.{◌≡◌, is_some, ℕ, ◌+◌, List, [], ◌∷◌, Bool, true, false, nat_le, ◌&&◌, if◌then◌else◌, Option, Some, None, Result, Ok, Err, codes}
+use Rattle.std.specs.Prelude.{is_some, ℕ, ◌+◌, List, [], ◌∷◌, Bool, true, false, nat_le, ◌&&◌, if◌then◌else◌, Option, Some, None, Result, Ok, Err, codes}
 use Rattle.std.specs.List.{flat_map}
 use Rattle.eap_base.specs.Lines.{Lines, ended, too_long, too_much, line, lines}
 use Rattle.eap_base.specs.declared.event.Event.{Event}
@@ -118,9 +118,6 @@ replay_answer names octets = after_text trace_header (scenario_answer names (sce
 -- the input's settings are whole, so that the run of its events begins
 abbrev pub has_setup : List ℕ → Bool
 has_setup octets = is_some (scenario_of octets).setup
-
-abbrev pub HasSetup : List ℕ → Type 0
-HasSetup octets = has_setup octets ≡ true
 
 -- what a scenario is answered, with names or without
 abbrev pub asked_replay : Bool → Asked
