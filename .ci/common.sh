@@ -7,7 +7,9 @@ crate=$here/crates/eap_login
 kept=$here/out
 work='' working='' begun=$(date +%s)
 
-say() { echo "$me: $1" >&2; }
+# What can't be said stops nothing: standard error may be closed or full.
+[ -e /proc/self/fd/2 ] || exec 2>/dev/null
+say() { echo "$me: $1" >&2 || true; }
 minutes() { echo $((($(date +%s) - begun) / 60)); }
 
 # Ends with 127 where what is needed isn't there, and warns of another logic than the README names.
