@@ -4,7 +4,7 @@
 hint() {
     case $status in
     1) hint_of_words "$@" ;;
-    2) hint_of_input "$@" ;;
+    2 | 6) hint_of_input "$@" ;;
     3) say "a read of standard input failed; what was written is a front of the text" ;;
     4) say "a write to standard output failed; what was written is a front of the text" ;;
     5) say "memory was wanting; what was written is a front of the text" ;;
