@@ -9,6 +9,7 @@ done
 here=$(cd "$(dirname "$0")/.." && pwd)
 work=$(mktemp -d)
 trap 'rm -rf "$work"' EXIT
+trap 'exit 1' HUP INT
 
 # The crates, without what earlier checks left, and a program over them.
 mkdir "$work/crates"

@@ -6,6 +6,7 @@ here=$(cd "$(dirname "$0")/.." && pwd)
 at_once=$(getconf _NPROCESSORS_ONLN)
 work=$(mktemp -d)
 trap 'rm -rf "$work"' EXIT
+trap 'exit 1' HUP INT
 cd "$here/crates/eap_login"
 
 fail() {

@@ -5,7 +5,9 @@
 #   bench/gate.sh compare BEFORE AFTER   puts what two runs wrote side by side, crate by crate
 set -eu
 
-if [ "${1:-}" = compare ]; then
+case $#:${1-} in
+0:) ;;
+3:compare)
     exec awk '
         function tell(crate,    one, other) {
             one = before[crate]
@@ -21,11 +23,17 @@ if [ "${1:-}" = compare ]; then
             for (place = 1; place <= count; place++) tell(order[place])
             tell("all")
         }' "$2" "$3"
-fi
+    ;;
+*)
+    sed -n '4,5p' "$0" | sed 's/^# */usage: /' >&2
+    exit 1
+    ;;
+esac
 
-here=$(cd "$(dirname "$0")/.." && pwd)
+here=$(dirname "$(dirname "$(readlink -f "$0")")")
 work=$(mktemp -d)
 trap 'rm -rf "$work"' EXIT
+trap 'exit 1' HUP INT
 git clone -q "$here" "$work/repository"
 
 # rt ci runs the checker once for each crate, once for its tests and, in a folder of its own each time, for each

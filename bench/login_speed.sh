@@ -9,6 +9,7 @@ done
 here=$(cd "$(dirname "$0")/.." && pwd)
 work=$(mktemp -d)
 trap 'rm -rf "$work"' EXIT
+trap 'exit 1' HUP INT
 
 # A program whose proofs were not checked is built with checks that run, and is slower.
 "$here/tools/prove" status >/dev/null || "$here/tools/prove"
