@@ -80,6 +80,8 @@ find_program() {
     return 1
 }
 
+can_keep() { mkdir -p "$kept" && (: >>"$kept/lock"); }
+
 # Keeps the program $2 as one of the kind $1 that was built of the sources with the sums $3. The record comes last and
 # has the program's sum, so that half of both counts for nothing.
 keep() {
