@@ -69,5 +69,6 @@ END {
     } else if (command == "decode") print "allowed here: one packet in hex, of 0 to 2,000 octets, `-` for none"
     else if (word[1] in allowed) print "allowed here: " allowed[word[1]]
     if (fault == "Repeated" && (word[1] in has)) print "it stands in line " has[word[1]] " too, or a method or a suite stands twice in this line"
-    if (fault == "Order") print ((opens in has) ? "`" opens "` stands in line " has[opens] (("end" in has) ? ", `end` in line " has["end"] : "") : "no line `" opens "` comes before it")
+    if (fault == "Order" && !(opens in has)) print "no line `" opens "` comes before it"
+    else if (fault == "Order") print "`" opens "` stands in line " has[opens] (("end" in has) ? ", `end` in line " has["end"] : "")
 }
