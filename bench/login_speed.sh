@@ -31,7 +31,9 @@ crate="$work/crates/login_count"
 rm -rf "$crate/proofs" "$crate/specs" "$crate/src" "$crate/stdin" "$crate/stdout" "$crate/BUILD.bazel"
 mkdir -p "$crate/src" "$crate/proofs/login_of"
 echo 0 >"$crate/stdout"
-sed 's/call_tests\.proofs\.call\.answered/login_count.proofs.login_of/' "$here/crates/call_tests/proofs/call/answered/Answers.antt" >"$crate/proofs/login_of/Answers.antt"
+# (that a box shows its object's Type is said as where the program makes them)
+sed '/^-- what holds of the words/,$d; s/login_run\.proofs\.program\.answer/login_count.proofs.login_of/; s/ g c =$/ c =/' \
+    "$here/crates/login_run/proofs/program/answer/Answers.antt" >"$crate/proofs/login_of/Answers.antt"
 cat >"$crate/src/main.rt" <<'END'
 //! Runs a login so often, both ends, without text.
 #![tactic(auto)]

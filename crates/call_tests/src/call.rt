@@ -3,29 +3,23 @@
 ghost use Rattle.scenario_text.specs.Valid.{IsValidSetup};
 
 pub(crate) use command_driver::Status;
-use eap_base::{MemSink, MemSource, Setup};
-use eap_method::{PeerMethod, ServerMethod};
+use eap_base::{GPSK_KIND, MemSink, MemSource, PSK_KIND, Setup};
 use eap_world::{Methods, World};
-use gpsk_ends::{GpskPeer, GpskServer};
+use end_objects::{PeerObject, ServerObject, peer_object, server_object};
 use login_call::eap_login;
-use psk_ends::{PskPeer, PskServer};
 use std::alloc::Global;
 use std::io;
 use world_commands::{both_peers, both_servers, world_of};
 
-/// A world over boxed objects.
-pub(crate) type BoxedWorld = World<Box<dyn PeerMethod>, Box<dyn ServerMethod>>;
+/// A world over objects of both methods.
+pub(crate) type ObjectWorld = World<PeerObject, ServerObject>;
 
 /// The world of these settings.
-pub(crate) fn world(alloc: Global, setup: Setup) -> io::Result<BoxedWorld>
+pub(crate) fn world(alloc: Global, setup: Setup) -> io::Result<ObjectWorld>
     requires { IsValidSetup setup }
 {
-    let psk_peer: Box<dyn PeerMethod> = Box::new(alloc, PskPeer::new())?;
-    let gpsk_peer: Box<dyn PeerMethod> = Box::new(alloc, GpskPeer::new())?;
-    let psk_server: Box<dyn ServerMethod> = Box::new(alloc, PskServer::new())?;
-    let gpsk_server: Box<dyn ServerMethod> = Box::new(alloc, GpskServer::new())?;
-    let peer = both_peers(alloc, psk_peer, gpsk_peer)?;
-    let server = both_servers(alloc, psk_server, gpsk_server)?;
+    let peer = both_peers(alloc, peer_object(PSK_KIND), peer_object(GPSK_KIND))?;
+    let server = both_servers(alloc, server_object(PSK_KIND), server_object(GPSK_KIND))?;
     Ok(world_of(alloc, setup, Methods { peer, server }))
 }
 
@@ -48,12 +42,8 @@ pub(crate) fn answered(
     mut sink: MemSink,
 ) -> io::Result<(Status, MemSink)> {
     let words = words_of(alloc, command)?;
-    let psk_peer: Box<dyn PeerMethod> = Box::new(alloc, PskPeer::new())?;
-    let gpsk_peer: Box<dyn PeerMethod> = Box::new(alloc, GpskPeer::new())?;
-    let psk_server: Box<dyn ServerMethod> = Box::new(alloc, PskServer::new())?;
-    let gpsk_server: Box<dyn ServerMethod> = Box::new(alloc, GpskServer::new())?;
-    let peer = both_peers(alloc, psk_peer, gpsk_peer)?;
-    let server = both_servers(alloc, psk_server, gpsk_server)?;
+    let peer = both_peers(alloc, peer_object(PSK_KIND), peer_object(GPSK_KIND))?;
+    let server = both_servers(alloc, server_object(PSK_KIND), server_object(GPSK_KIND))?;
     let methods = Methods { peer, server };
     let status = eap_login(alloc, &words, &mut source, &mut sink, methods);
     Ok((status, sink))

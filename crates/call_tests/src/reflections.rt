@@ -1,7 +1,7 @@
 //! Tags that come back to the end that made them, and whether either end made them. Octets of packets were computed with
 //! Python from RFC 5433 and RFC 4764.
 
-use crate::call::BoxedWorld;
+use crate::call::ObjectWorld;
 use crate::worlds::{begun, step};
 use eap_base::Event;
 use eap_world::TagsVerdict;
@@ -71,7 +71,7 @@ fn event_of(verdict: TagsVerdict) -> u32 {
 }
 
 /// Steps a world through the events of a scenario.
-fn run(rt: &impl Abort, world: &mut BoxedWorld, scenario: &str) -> Result<(), Fail> {
+fn run(rt: &impl Abort, world: &mut ObjectWorld, scenario: &str) -> Result<(), Fail> {
     let mut reader = ScenarioReader::new();
     let mut event = Event::Idle;
     for line in scenario.lines() {

@@ -3,7 +3,7 @@
 ghost use Rattle.std.specs.Prelude.{IfOk};
 ghost use Rattle.scenario_text.specs.Valid.{IsValidSetup};
 
-use crate::call::{BoxedWorld, world};
+use crate::call::{ObjectWorld, world};
 use eap_base::{Event, Party, Setup};
 use eap_world::{MAX_EVENTS, SentPacket, Skip, Told};
 use scenario_text::ScenarioReader;
@@ -24,7 +24,7 @@ fn settings_in(scenario: &str) -> Result<Setup, LineFault>
 }
 
 /// The world of a scenario's settings, which has started.
-pub(crate) fn begun(rt: &impl Abort, alloc: Global, scenario: &str) -> Result<BoxedWorld, Fail> {
+pub(crate) fn begun(rt: &impl Abort, alloc: Global, scenario: &str) -> Result<ObjectWorld, Fail> {
     let Ok(setup) = settings_in(scenario) else {
         panic!(rt; "no settings");
     };
@@ -35,7 +35,7 @@ pub(crate) fn begun(rt: &impl Abort, alloc: Global, scenario: &str) -> Result<Bo
 }
 
 /// What came of the next event.
-pub(crate) fn step(rt: &impl Abort, world: &mut BoxedWorld, event: &Event) -> Result<Told, Fail> {
+pub(crate) fn step(rt: &impl Abort, world: &mut ObjectWorld, event: &Event) -> Result<Told, Fail> {
     assert!(rt; world.started() && world.counts().events < MAX_EVENTS);
     Ok(world.step(event)?)
 }
@@ -55,7 +55,7 @@ events
 ";
 
 /// True where the peer's timer, which it hasn't, is skipped for this reason.
-fn skips_timer(rt: &impl Abort, world: &mut BoxedWorld, wanted: Skip) -> Result<bool, Fail> {
+fn skips_timer(rt: &impl Abort, world: &mut ObjectWorld, wanted: Skip) -> Result<bool, Fail> {
     let told = step(rt, world, &Event::Timeout { party: Party::Peer })?;
     Ok(told.skip == Some(wanted) && told.path.as_slice().is_empty())
 }
