@@ -159,7 +159,7 @@ fn main(rt: HostRuntime) -> io::Result<()> {
 }
 END
 echo "login_speed: proving and building" >&2
-(cd "$work" && rt ci) >"$work/log" 2>&1 || { tail -n 20 "$work/log" >&2; exit 1; }
+(cd "$crate" && rt fmt && cd "$work" && rt ci) >"$work/log" 2>&1 || { tail -n 20 "$work/log" >&2; exit 1; }
 
 # Zeroing by `rep stosb` counts as one instruction an octet, so it is turned off.
 export GLIBC_TUNABLES=glibc.cpu.x86_rep_stosb_threshold=10000000

@@ -1,6 +1,6 @@
 //! The settings of a scenario that have been read so far.
 
-ghost use Rattle.std.specs.Prelude.{◌≡◌, ◌∷◌, [], unwrap_or};
+ghost use Rattle.std.specs.Prelude.{◌≡◌, ◌∷◌, [], unwrap_or, is_err};
 ghost use Rattle.eap_base.specs.declared.event.Event.{Event};
 ghost use Rattle.scenario_text.specs.Contents.{entry_with};
 ghost use Rattle.scenario_text.specs.Reading.{no_settings, has_setting, with_setting, both_suites, key_for};
@@ -83,9 +83,16 @@ impl Settings {
         ensures { (event : Event) → result ≡ is_missing self.now (entry_with entry.now event) }
     {
         match entry {
-            Entry::Events => self.setup().is_err(),
+            Entry::Events => self.lacks_some(),
             _ => false,
         }
+    }
+
+    /// True where a needed setting has not come. (By itself, so that no other line makes room for a setup.)
+    fn lacks_some(&self) -> bool
+        ensures { result ≡ is_err (setup_of self.now) }
+    {
+        self.setup().is_err()
     }
 
     /// True where the setting has come before.
