@@ -1,7 +1,8 @@
--- Laws of the packets' grammar (RFC 3748 section 4), over its definitions alone.
-use Rattle.std.specs.Prelude.{◌≡◌, ◌↔◌, ℕ, List, ◌++◌, None, Ok}
-use Rattle.eap_packet.specs.Packet.{PacketValue, spelled, IsPacket, IsOctets}
+-- Laws of the packets' grammar (RFC 3748 section 4) and of Expanded Types (section 5.7), over the definitions alone.
+use Rattle.std.specs.Prelude.{◌≡◌, ◌↔◌, ◌≤◌, ◌<◌, ℕ, List, ◌++◌, length, true, false, ◌==◌, ◌&&◌, None, Ok}
+use Rattle.eap_packet.specs.Packet.{PacketValue, request, response, success, failure, spelled, IsPacket, IsOctets}
 use Rattle.eap_packet.specs.Fault.{fault, packet_of}
+use Rattle.eap_packet.specs.Expanded.{vendor_of, vendor_type_of, is_ietf, is_nak_body, inner_kind, has_plain, has_plain_form, plain, wrap, wrapped}
 
 -- the octets are the packet's spelling with some octets behind it
 pub record BeginsWith (octets : List ℕ) (packet : PacketValue) : Type 0 where
@@ -28,3 +29,54 @@ ReadsTheSpelling =
 abbrev pub FaultlessIsSpelled : Type 0
 FaultlessIsSpelled =
     (octets : List ℕ) → IsOctets octets → (fault octets ≡ None) ↔ ((packet : PacketValue) × BeginsWith octets packet)
+
+-- the fields of Type-Data are whole: Vendor-Id 0 and a Vendor-Type under 256, which is the Type
+-- inside (section 5.7)
+pub record IsOfIetf (body : List ℕ) : Type 0 where
+  pub whole : 7 ≤ length body
+  pub vendor : vendor_of body ≡ 0
+  pub small : vendor_type_of body < 256
+  pub inner : vendor_type_of body ≡ inner_kind body
+
+-- the test by octets is that of the fields
+abbrev pub IetfIsVendorZero : Type 0
+IetfIsVendorZero = (body : List ℕ) → IsOctets body → (is_ietf body ≡ true) ↔ IsOfIetf body
+
+-- so is the test for an Expanded Nak (section 5.3.2): Vendor-Id 0 and Vendor-Type 3
+abbrev pub NakIsVendorZero : Type 0
+NakIsVendorZero = (body : List ℕ) → 7 ≤ length body → is_nak_body body ≡ ((vendor_of body == 0) && (vendor_type_of body == 3))
+
+-- a packet whose Type, where it has one, has a plain form
+abbrev pub HasPlain : PacketValue → Type 0
+HasPlain (request id kind body) = has_plain kind ≡ true
+HasPlain (response id kind body) = has_plain kind ≡ true
+HasPlain (success id) = Unit {0}
+HasPlain (failure id) = Unit {0}
+
+-- the plain form of a wrapped packet is that packet (section 5.7)
+abbrev pub PlainOfWrap : Type 0
+PlainOfWrap = (packet : PacketValue) → HasPlain packet → plain (wrap packet) ≡ packet
+
+-- a packet is its plain form exactly where it has no other
+abbrev pub OnlyWrappedDiffer : Type 0
+OnlyWrappedDiffer = (packet : PacketValue) → (has_plain_form packet ≡ false) ↔ (plain packet ≡ packet)
+
+-- a Request or a Response
+abbrev pub IsTyped : PacketValue → Type 0
+IsTyped (request id kind body) = Unit {0}
+IsTyped (response id kind body) = Unit {0}
+IsTyped (success id) = ⊥
+IsTyped (failure id) = ⊥
+
+-- a packet's spelling, with any octets behind it, is wrapped as the packet is
+abbrev pub WrapsTheSpelling : Type 0
+WrapsTheSpelling =
+    (packet : PacketValue) (rest : List ℕ) → IsTyped packet → wrapped (spelled packet ++ rest) ≡ spelled (wrap packet)
+
+-- the plain form of a packet is one
+abbrev pub PlainIsPacket : Type 0
+PlainIsPacket = (packet : PacketValue) → IsPacket packet → IsPacket (plain packet)
+
+-- so is a wrapped packet, where the seven octets more fit
+abbrev pub WrapIsPacket : Type 0
+WrapIsPacket = (packet : PacketValue) → IsPacket packet → length (spelled packet) ≤ 1493 → IsPacket (wrap packet)

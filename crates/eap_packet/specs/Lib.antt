@@ -1,4 +1,5 @@
 pub mod Packet
 pub mod Fault
+pub mod Expanded
 pub mod Laws
 pub mod Words

@@ -2,13 +2,19 @@
 #![tactic(auto)]
 
 mod cause;
+mod expanded;
 mod laws;
 mod packet;
 mod path;
 mod state;
 
 pub use cause::Cause;
-pub use laws::{faultless_is_spelled, reads_the_spelling, spellings_are_apart, spellings_are_read};
+pub use expanded::{Expanded, is_bad_expanded, read_expanded, wrap, write_plain};
+pub use laws::{
+    faultless_is_spelled, ietf_is_vendor_zero, nak_is_vendor_zero, only_wrapped_differ,
+    plain_is_packet, plain_of_wrap, reads_the_spelling, spellings_are_apart, spellings_are_read,
+    wrap_is_packet, wraps_the_spelling,
+};
 pub use packet::{
     Code, PacketView, begin_into, decode, encode, encode_end, encode_end_into, encode_into,
 };

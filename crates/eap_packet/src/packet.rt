@@ -35,10 +35,10 @@ pub struct PacketView<'a> {
 const MAX_LENGTH: usize = 1500;
 
 /// Type 3, the Nak.
-const NAK: u8 = 3;
+pub const NAK: u8 = 3;
 
 /// The Length field of at least four octets.
-fn length_field(octets: &[u8]) -> usize
+pub fn length_field(octets: &[u8]) -> usize
     requires { 4 ≤ length octets.now }
     ensures { result ≡ length_of octets.now }
 {

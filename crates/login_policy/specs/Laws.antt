@@ -1,10 +1,11 @@
 -- Laws of the choices: each is the first that is allowed, and none is made where none is allowed.
 use Rattle.std.specs.Prelude.{◌≡◌, ◌↔◌, ◌≢◌, ℕ, List, [], ◌∷◌, ◌++◌, length, true, false, Option, Some, None, All, ◌<◌}
 use Rattle.std.specs.List.{concat}
-use Rattle.eap_base.specs.Setup.{is_among}
+use Rattle.eap_base.specs.Setup.{is_among, are_kinds}
 use Rattle.eap_base.specs.Suite.{suite_octets, suite_number}
 use Rattle.eap_base.specs.declared.setup.Suite.{Suite}
 use Rattle.login_policy.specs.Policy.{nak_of, picked_suite, is_desired, next_kind}
+use Rattle.login_policy.specs.Expanded.{nak_entries, expanded_kinds}
 
 -- a Type that the Nak, where one has come, desires is proposed already
 abbrev pub IsPassed : List ℕ → Option (List ℕ) → ℕ → Type 0
@@ -68,3 +69,8 @@ AllowedIsListed = (methods : List ℕ) (kind : ℕ) → is_among methods kind �
 -- a Nak lists some Type (RFC 3748 section 5.3.1)
 abbrev pub NakListsSome : Type 0
 NakListsSome = (methods : List ℕ) → nak_of methods ≢ []
+
+-- the list of an Expanded Nak for Types of the two methods, each at most once, is read as these
+-- (section 5.3.2)
+abbrev pub EntriesAreRead : Type 0
+EntriesAreRead = (kinds : List ℕ) → are_kinds kinds ≡ true → expanded_kinds (nak_entries kinds) ≡ kinds

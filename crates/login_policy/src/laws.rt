@@ -1,7 +1,7 @@
 //! Laws of the choices: each is the first that is allowed. Each law is the contract of a function that
 //! does nothing.
 
-ghost use Rattle.login_policy.specs.Laws.{NextIsFirst, NoneIsNext, PickedIsFirst, NoneIsPicked, NakIsAllowed, AllowedIsListed, NakListsSome};
+ghost use Rattle.login_policy.specs.Laws.{NextIsFirst, NoneIsNext, PickedIsFirst, NoneIsPicked, NakIsAllowed, AllowedIsListed, NakListsSome, EntriesAreRead};
 
 /// The next Type is the first of the order that is desired and not yet proposed.
 pub fn next_is_first()
@@ -41,4 +41,11 @@ pub fn allowed_is_listed()
 #[tactic(auto, using(crate::proofs::Firsts::nak_lists_a_type))]
 pub fn nak_lists_some()
     ensures { NakListsSome }
+{}
+
+/// The list of an Expanded Nak for Types of the two methods, each at most once, is read as these
+/// Types in their order (RFC 3748 section 5.3.2).
+#[tactic(auto, using(crate::proofs::Desiring::entries_are_read))]
+pub fn entries_are_read()
+    ensures { EntriesAreRead }
 {}

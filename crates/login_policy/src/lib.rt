@@ -2,11 +2,13 @@
 //! first choice that is allowed.
 #![tactic(auto)]
 
+mod expanded;
 mod laws;
 mod policy;
 
+pub use expanded::{expanded_kinds, expanded_nak};
 pub use laws::{
-    allowed_is_listed, nak_is_allowed, nak_lists_some, next_is_first, none_is_next, none_is_picked,
-    picked_is_first,
+    allowed_is_listed, entries_are_read, nak_is_allowed, nak_lists_some, next_is_first,
+    none_is_next, none_is_picked, picked_is_first,
 };
 pub use policy::{nak_list, next_method, peer_allows, pick_suite};
