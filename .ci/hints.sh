@@ -19,7 +19,7 @@ hint_of_words() {
         [ "${2-}" != names ] || form='replay names'
         say "replay takes no word but names"
         ;;
-    decode | keys | check | radius) say "$form takes no words" ;;
+    decode | keys | check | radius | peer | server) say "$form takes no words" ;;
     bulk)
         say "bulk takes N K, without leading zeros: N of 0 to 999999, K of 1 to 1000; it reads no input"
         return

@@ -39,6 +39,7 @@ cat >"$crate/src/main.rt" <<'END'
 #![tactic(auto)]
 
 ghost use Rattle.std.specs.Prelude.{IfSome};
+ghost use Rattle.eap_world.specs.World.{HasObjects};
 ghost use Rattle.scenario_text.specs.Valid.{IsValidSetup};
 ghost use Rattle.world_commands.specs.Replay.{HasBoth};
 
@@ -94,17 +95,23 @@ fn setup_of(methods: &str, suites: &str) -> Option<Setup>
     None
 }
 
-/// Delivers the first seven packets, each once. True where both ends agree.
-fn deliver_all<P: PeerMethod, S: ServerMethod>(world: &mut World<P, S>) -> bool {
-    for number in 1..8 {
-        if !world.started() || world.counts().events >= MAX_EVENTS {
-            return false;
-        }
-        if world.step(&Event::Deliver { number }).is_err() {
-            return false;
-        }
+/// Delivers the packet of this number.
+fn deliver<P: PeerMethod, S: ServerMethod>(world: &mut World<P, S>, number: u32) -> bool
+    requires { HasObjects P.peer_shown S.server_shown world.old }
+    ensures { HasObjects P.peer_shown S.server_shown world.new }
+{
+    if !world.started() || world.counts().events >= MAX_EVENTS {
+        return false;
     }
-    world.result() == Verdict::Agree
+    world.step(&Event::Deliver { number }).is_ok()
+}
+
+/// Delivers the first seven packets, each once. True where both ends agree.
+fn deliver_all<P: PeerMethod, S: ServerMethod>(world: &mut World<P, S>) -> bool
+    requires { HasObjects P.peer_shown S.server_shown world.old }
+{
+    let first = deliver(world, 1) && deliver(world, 2) && deliver(world, 3) && deliver(world, 4);
+    first && deliver(world, 5) && deliver(world, 6) && deliver(world, 7) && world.result() == Verdict::Agree
 }
 
 /// A login between objects of both methods.

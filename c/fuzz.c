@@ -2,14 +2,16 @@
  *
  * Random calls at a peer, a server or backend, and a pass-through, in and out of
  * place, with the packets that they send: as they are, altered, cut, repeated or
- * made up.  Each login begins with fresh nonces.  At every call this holds, or
- * the exit status is 1:
+ * made up.  Each login begins with fresh nonces, and so does each restart.  At
+ * every call this holds, or the exit status is 1:
  *
  * - a call that says `misplaced`, and a begin that is refused, leave the block
  *   behind the handle as it was, octet for octet;
  * - a packet is asked for by a room that is too small and then by one that fits;
  * - whenever both ends hold a report, both hold the same, and none where their
- *   keys differ.
+ *   keys differ;
+ * - after a login that nothing disturbed each end begins again by a restart,
+ *   without memory or a report, and logs in as before.
  *
  * heap.c is compiled with -Dmalloc=fuzz_malloc: in between each allocation of a
  * login fails in its turn, and what was refused succeeds when it is asked
@@ -33,7 +35,7 @@ void *fuzz_malloc(size_t size)
 enum handle { PEER, SERVER, PASS, HANDLES };
 enum call { DELIVER, PEER_METHOD, SERVER_METHOD, FROM_PEER, FROM_BACKEND,
 	    START, TIMEOUT, IDLE, ACCEPT, REJECT, PASS_START, PASS_TIMEOUT,
-	    AAA_TIMEOUT, AAA_NOREQ, CALLS };
+	    AAA_TIMEOUT, AAA_NOREQ, RESTART, PASS_RESTART, CALLS };
 enum setting { ALONE, THROUGH, METHODS };
 
 struct packet {
@@ -55,7 +57,7 @@ static enum setting setting;
 static struct tuv_settings told[2];
 static uint8_t keys[2][TUV_KEY_MAX];
 static bool keys_agree;
-static unsigned long calls, logins, discarded, misplaced, refused;
+static unsigned long calls, logins, again, discarded, misplaced, refused;
 static uint64_t state;
 
 static uint32_t any(uint32_t below)
@@ -93,6 +95,14 @@ static struct turn of(struct tuv_turn turn)
 	return (struct turn) { turn.sends, turn.discards, turn.misplaced };
 }
 
+static struct tuv_turn restarted(struct tuv_end *end)
+{
+	uint8_t nonce[TUV_NONCE_LEN];
+
+	fill(nonce, sizeof(nonce));
+	return tuv_end_restart(end, nonce);
+}
+
 static struct turn of_method(struct tuv_method_turn turn)
 {
 	return (struct turn) { turn.sends, turn.discards, turn.misplaced };
@@ -117,7 +127,9 @@ static struct turn call_of(struct tuv_end *end, enum call c,
 	case PASS_START: return of(tuv_pass_start(end));
 	case PASS_TIMEOUT: return of(tuv_pass_timeout(end));
 	case AAA_TIMEOUT: return of(tuv_pass_aaa_timeout(end));
-	default: return of(tuv_pass_aaa_noreq(end));
+	case AAA_NOREQ: return of(tuv_pass_aaa_noreq(end));
+	case RESTART: return of(restarted(end));
+	default: return of(tuv_pass_restart(end));
 	}
 }
 
@@ -318,16 +330,13 @@ static void prepare(void)
 	sent.len = 0;
 }
 
-static void login(unsigned int disturbances)
+/* Carries packets, with disturbances in so many of a hundred: whether both ends
+ * came to hold a report. */
+static bool carry(unsigned int disturbances)
 {
 	unsigned int i;
 	bool both = false;
 
-	prepare();
-	for (i = 0; i < HANDLES; i++)
-		if (begin(i, &told[i == SERVER], 3) != TUV_BEGUN)
-			fail("a sound begin was refused");
-	first_call();
 	for (i = 0; i < 24; i++) {
 		if (any(100) >= disturbances)
 			call(to, by, sent.octets, sent.len);
@@ -335,11 +344,53 @@ static void login(unsigned int disturbances)
 			disturb();
 		else if (any(3))
 			begin_spoiled(any(HANDLES));
+		else if (any(3))
+			call(any(HANDLES), any(3) ? RESTART : PASS_RESTART,
+			     sent.octets, 0);
 		else
 			tuv_end_close(&ends[any(HANDLES)]);
 		both |= compare();
 	}
+	return both;
+}
+
+/* Each end begins a new conversation: a login of which nothing is disturbed, and
+ * which ends as the one before it did. */
+static void log_in_again(bool both)
+{
+	static struct tuv_report left;
+	unsigned long places = misplaced, blocks = allocations;
+
+	call(PEER, RESTART, sent.octets, 0);
+	call(SERVER, RESTART, sent.octets, 0);
+	if (setting == THROUGH)
+		call(PASS, PASS_RESTART, sent.octets, 0);
+	if (misplaced != places)
+		fail("a restart has no place");
+	if (allocations != blocks)
+		fail("a restart takes memory");
+	if (tuv_end_report(&ends[PEER], &left) ||
+	    tuv_end_report(&ends[SERVER], &left))
+		fail("a restart leaves a report");
+	if (carry(0) != both)
+		fail("a login by a restart ends otherwise");
+	again += both;
+}
+
+static void login(unsigned int disturbances)
+{
+	unsigned int i;
+	bool both;
+
+	prepare();
+	for (i = 0; i < HANDLES; i++)
+		if (begin(i, &told[i == SERVER], 3) != TUV_BEGUN)
+			fail("a sound begin was refused");
+	first_call();
+	both = carry(disturbances);
 	logins += both;
+	if (disturbances == 0 && setting != METHODS)
+		log_in_again(both);
 }
 
 static void drop(struct tuv_end *end)
@@ -404,7 +455,7 @@ int main(int argc, char *argv[])
 	for (i = 0; i < HANDLES; i++)
 		drop(&ends[i]);
 	free(before);
-	printf("fuzz: %lu calls, %lu logins, %lu discards, %lu out of place, %lu refused, none wrong\n",
-	       calls, logins, discarded, misplaced, refused);
+	printf("fuzz: %lu calls, %lu logins, %lu by a restart, %lu discards, %lu out of place, %lu refused, none wrong\n",
+	       calls, logins, again, discarded, misplaced, refused);
 	return 0;
 }

@@ -32,8 +32,9 @@ enum { TUV_SUITE_CMAC = 1, TUV_SUITE_HMAC = 2, TUV_SUITE_BOTH = 3 };
 /* The most octets of a packet, of a name and of a key. */
 enum { TUV_PACKET_MAX = 1500, TUV_NAME_MAX = 253, TUV_KEY_MAX = 64 };
 
-/* The octets of a nonce.  Each begin wants 32 fresh ones, from getrandom(2) or
- * its like, that are never used again; EAP-PSK takes the first 16. */
+/* The octets of a nonce.  Each begin and each restart wants 32 fresh ones, from
+ * getrandom(2) or its like, that were never used before, by this end or another,
+ * and are never used again; EAP-PSK takes the first 16. */
 enum { TUV_NONCE_LEN = 32 };
 
 /* Octets that belong to the caller. */
@@ -211,6 +212,20 @@ bool tuv_end_report(struct tuv_end *end, struct tuv_report *report);
 struct tuv_turn tuv_end_deliver(struct tuv_end *end, const uint8_t *octets,
 				size_t len);
 
+/* A new conversation begins, with the settings that the end has and this nonce,
+ * which is fresh as at a begin: of a peer, a stand-alone server or a backend,
+ * wherever it stands, also in the middle of a login, after its end, and before a
+ * server's start.  Of what the end held (its report too) the settings alone are
+ * kept.  Of a stand-alone server the Identity Request, of the same first
+ * Identifier, is to be sent, as after tuv_server_start; a peer and a backend send
+ * nothing.  It takes no memory.
+ *
+ * The nonce is what keeps conversations apart: two ends that both succeed, all of
+ * whose nonces were fresh, hold each other's.  With one that was used before,
+ * packets of an old conversation may be taken for the new login. */
+struct tuv_turn tuv_end_restart(struct tuv_end *end,
+				const uint8_t nonce[TUV_NONCE_LEN]);
+
 /* --- the peer (RFC 4137 section 4) --- */
 
 uint8_t tuv_peer_begin(struct tuv_end *end, const struct tuv_settings *settings,
@@ -250,9 +265,12 @@ uint8_t tuv_pass_begin(struct tuv_end *end, uint8_t first_id,
 		       uint8_t max_retrans);
 
 /* What these send goes to the peer, but after tuv_pass_from_peer to the
- * backend.  Start: before any other.  Timeout: in IDLE and IDLE2.  The two of
- * AAA (aaaTimeout and aaaEapNoReq of section 7.1): in AAA_IDLE. */
+ * backend.  Start: before any other.  Restart: at any time, also in place of the
+ * start; the Identity Request, of the same first Identifier, is to be sent.
+ * Timeout: in IDLE and IDLE2.  The two of AAA (aaaTimeout and aaaEapNoReq of
+ * section 7.1): in AAA_IDLE. */
 struct tuv_turn tuv_pass_start(struct tuv_end *end);
+struct tuv_turn tuv_pass_restart(struct tuv_end *end);
 struct tuv_turn tuv_pass_from_peer(struct tuv_end *end, const uint8_t *octets,
 				   size_t len);
 struct tuv_turn tuv_pass_from_backend(struct tuv_end *end,

@@ -38,7 +38,7 @@ file == 2 && $1 ~ /^[0-9]+$/ {
     }
 }
 file == 2 && $1 == "state" { final[$2] = $3 }
-file == 2 && ($1 == "tags" || $1 == "result") { verdict = verdict (verdict == "" ? "" : ", ") $0 }
+file == 2 && $1 ~ /^(fresh|tags|result)$/ { verdict = verdict (verdict == "" ? "" : ", ") $0 }
 file == 2 && $1 == "refused" { verdict = $0 }
 
 # What the packets are, in the order in which they were handed to `decode`.
@@ -100,7 +100,11 @@ function plan(    k, words, number, text, at, list) {
         } else if (words[1] == "inject") row("inject", words[2], party_of(words[2]), "injected: " (k in what_is ? what_is[k] : ""), k)
         else {
             at = substr(acts[k], 2)
-            row("mark", at, at, words[1] ~ /timeout$/ ? (words[1] == "timeout" ? "the timer ends" : "the timer for the server ends") : words[1], k)
+            text = words[1]
+            if (text == "timeout") text = "the timer ends"
+            else if (text == "aaa-timeout") text = "the timer for the server ends"
+            else if (text == "restart") text = "begins anew"
+            row("mark", at, at, text, k)
         }
         at = split(sent_in[k], list, " ")
         for (number = 1; number <= at; number++)

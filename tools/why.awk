@@ -7,14 +7,18 @@ file == 1 && /^##/ { section = $0 }
 file == 1 && /^\| / {
     split($0, cell, / *\| */)
     if (section ~ /Faults/) meaning[cell[2]] = cell[3]
-    if (command == "replay" && section ~ /Settings|Events/ || command ~ /keys|check|radius/ && section ~ "`" command "`") {
+    if (command == "replay" && section ~ /Settings|Events/ || is_end && section ~ /Settings/ || command ~ /keys|check|radius|peer|server/ && section ~ "`" command "`") {
         count = split(cell[2], form, "`")
         for (at = 2; at <= count; at += 2) {
             keyword = form[at]
             sub(/ .*/, "", keyword)
-            allowed[keyword] = cell[2] ": " cell[3]
-            if (section ~ /Settings/) is_setting[keyword] = 1
-            if (cell[4] ~ /^needed/) needed[++wanted] = keyword
+            if (is_end && !is_of_end(keyword)) continue
+            # (what scenario 2 has besides, or says anew; an end has one conversation, so that only what is besides holds of it)
+            if (section ~ /scenario 2/ && !is_end) later[keyword] = cell[2] ": " cell[3]
+            else if (!is_end || !(keyword in allowed)) {
+                allowed[keyword] = cell[2] ": " cell[3]
+                if (section ~ /Settings/ && cell[4] ~ /^needed/) needed[++wanted] = keyword
+            }
         }
     }
 }
@@ -35,14 +39,22 @@ BEGIN {
     split(refused, word, " ")
     number = word[3] + 0
     fault = word[4]
-    meaning["TooMuch"] = "a line has over 4,096 octets, the input over 16,777,216, or there are over 10,000 events"
-    header = command == "check" ? "eap-capture 1" : command == "radius" ? "eap-radius 1" : "eap-scenario 1"
+    is_end = command ~ /peer|server/
+    meaning["TooMuch"] = "a line has over 4,096 octets, the input over 16,777,216, or there are over 10,000 " (is_end ? "lines of what comes to the end" : "events")
+    header = command == "check" ? "eap-capture 1" : command == "radius" ? "eap-radius 1" : is_end ? "eap-end 1" : "eap-scenario 1 or eap-scenario 2"
     # the line that parts a text in two
     opens = command == "check" ? "packets" : command == "radius" ? "secret" : "events"
 }
 
+# Whether a line of this keyword, of the tables of both ends, stands in the text of the one.
+function is_of_end(keyword) {
+    if (keyword == "packet") return 1
+    if (command == "peer") return keyword ~ /^(peer-.*|idle|alt-accept|alt-reject)$/
+    return keyword ~ /^(server-.*|user|first-id|max-retrans|timeout)$/
+}
+
 function missing(    at, list, count, told) {
-    if (command != "replay" || line[number] !~ /^events/ || number > lines) return (opens in has) ? "`end`" : "`" opens "` and `end`"
+    if (command != "replay" && !is_end || line[number] !~ /^events/ || number > lines) return (opens in has) ? "`end`" : "`" opens "` and `end`"
     for (at = 1; at <= wanted; at++)
         if (needed[at] != "peer-psk" && !(needed[at] in has)) told = told (told == "" ? "" : ", ") "`" needed[at] "`"
     count = split(methods, list, " ")
@@ -55,6 +67,7 @@ END {
     print "line " number ": " (number in line ? line[number] : "(after the last line)")
     print fault ": " meaning[fault]
     split(line[number], word, " ")
+    if (line[1] == "eap-scenario 2") for (keyword in later) allowed[keyword] = later[keyword]
     if (fault == "Missing") print "missing: " missing()
     else if (fault == "NoHeader") print "allowed here: " header
     else if (fault == "BadWord" && command != "decode" && !(word[1] in allowed)) {
@@ -63,9 +76,10 @@ END {
         # (in the order of their names, by insertion)
         count = split(told, list, " ")
         for (at = 2; at <= count; at++) for (to = at; to > 1 && list[to - 1] > list[to]; to--) { keep = list[to]; list[to] = list[to - 1]; list[to - 1] = keep }
-        told = command == "replay" ? " events end" : ""
+        told = command == "replay" || is_end ? " events end" : ""
         for (at = 1; at <= count; at++) told = told " " list[at]
         print "the first words that are known:" told
+        if (word[1] in later) print "`" word[1] "` is a word of `eap-scenario 2`"
     } else if (command == "decode") print "allowed here: one packet in hex, of 0 to 2,000 octets, `-` for none"
     else if (word[1] in allowed) print "allowed here: " allowed[word[1]]
     if (fault == "Repeated" && (word[1] in has)) print "it stands in line " has[word[1]] " too, or a method or a suite stands twice in this line"

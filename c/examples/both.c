@@ -1,19 +1,23 @@
-/* both KIND SUITES KEY PEER-NONCE SERVER-NONCE [through]
+/* both KIND SUITES KEY PEER-NONCE SERVER-NONCE [PEER-NONCE SERVER-NONCE].. [through]
  *
  * Logs the peer alice in at the server srv, by KIND (47 or 51) and SUITES (1, 2
- * or 3), with a key and nonces in hex.  It prints each packet as `octets HEX`,
- * then the names, MSK and EMSK of the peer and of the server.  With `through` a
+ * or 3), with a key and nonces in hex; where more nonces are given they log in
+ * again by a restart, with these.  It prints each packet as `octets HEX`, then
+ * the names, MSK and EMSK of the peer and of the server.  With `through` a
  * pass-through stands between the peer and a backend, which begins with the
  * user of the Identity Response.  The exit status is 0 where both succeed with
- * the same report. */
+ * the same report each time. */
 #define _DEFAULT_SOURCE
 #include <stdio.h>
 #include <stdlib.h>
 #include <string.h>
 #include "tuvaddri.h"
 
+/* The ends, what they are told, and what their next login begins with. */
 struct ends {
 	struct tuv_end peer, server, pass;
+	struct tuv_settings told_peer, told_server;
+	uint8_t peer_nonce[TUV_NONCE_LEN], server_nonce[TUV_NONCE_LEN];
 };
 
 static size_t octets_of(const char *hex, uint8_t *out, size_t room)
@@ -37,10 +41,9 @@ static void print(const char *word, const uint8_t *octets, size_t len)
 }
 
 /* Carries what the peer and the stand-alone server send until one sends
- * nothing. */
-static void converse(struct ends *e)
+ * nothing; the first packet is the server's. */
+static void converse(struct ends *e, struct tuv_turn turn)
 {
-	struct tuv_turn turn = tuv_server_start(&e->server);
 	struct tuv_end *from = &e->server, *to = &e->peer, *other;
 	uint8_t packet[TUV_PACKET_MAX];
 	size_t len;
@@ -55,12 +58,23 @@ static void converse(struct ends *e)
 	}
 }
 
-/* The same through a pass-through.  The user is looked up by the Type-Data of
- * the Identity Response, the first that the pass-through carries. */
-static int converse_through(struct ends *e, struct tuv_settings *server,
-			    const uint8_t *nonce)
+/* The user is looked up by the Type-Data of the Identity Response.  The backend
+ * begins with it, or again where it is the same user's. */
+static int begin_backend(struct ends *e, const uint8_t *packet, size_t len,
+			 int again)
 {
-	struct tuv_turn turn = tuv_pass_start(&e->pass);
+	if (len != 5 + e->told_server.other.len ||
+	    memcmp(packet + 5, e->told_server.other.at, len - 5) != 0)
+		return 1;	/* no such user */
+	if (again)
+		return tuv_end_restart(&e->server, e->server_nonce).misplaced;
+	return tuv_backend_begin(&e->server, &e->told_server, e->server_nonce);
+}
+
+/* The same through a pass-through, whose packet is the first.  The first that it
+ * carries is the Identity Response. */
+static int converse_through(struct ends *e, struct tuv_turn turn, int again)
+{
 	uint8_t packet[TUV_PACKET_MAX];
 	size_t len;
 	int begun = 0;
@@ -79,20 +93,42 @@ static int converse_through(struct ends *e, struct tuv_settings *server,
 		if (!turn.sends)
 			return !begun;
 		len = tuv_end_packet(&e->pass, packet, sizeof(packet));
-		if (!begun) {
-			if (len != 5 + server->other.len ||
-			    memcmp(packet + 5, server->other.at, len - 5) != 0)
-				return 1;	/* no such user */
-			if (tuv_backend_begin(&e->server, server, nonce))
-				return 1;
-			begun = 1;
-		}
+		if (!begun && begin_backend(e, packet, len, again))
+			return 1;
+		begun = 1;
 		turn = tuv_end_deliver(&e->server, packet, len);
 		if (!turn.sends)
 			return 1;
 		len = tuv_end_packet(&e->server, packet, sizeof(packet));
 		turn = tuv_pass_from_backend(&e->pass, packet, len);
 	}
+}
+
+/* The first login, for which the ends begin. */
+static int log_in(struct ends *e, int through)
+{
+	if (tuv_peer_begin(&e->peer, &e->told_peer, e->peer_nonce))
+		return 1;
+	if (through) {
+		if (tuv_pass_begin(&e->pass, 0, 4))
+			return 1;
+		return converse_through(e, tuv_pass_start(&e->pass), 0);
+	}
+	if (tuv_server_begin(&e->server, &e->told_server, e->server_nonce, 0, 4))
+		return 1;
+	converse(e, tuv_server_start(&e->server));
+	return 0;
+}
+
+/* One that follows: each end begins a new conversation, with what it was told. */
+static int log_in_again(struct ends *e, int through)
+{
+	if (tuv_end_restart(&e->peer, e->peer_nonce).misplaced)
+		return 1;
+	if (through)
+		return converse_through(e, tuv_pass_restart(&e->pass), 1);
+	converse(e, tuv_end_restart(&e->server, e->server_nonce));
+	return 0;
 }
 
 static void print_report(const char *who, const struct tuv_report *report)
@@ -135,40 +171,33 @@ static const struct tuv_octets srv = { (const uint8_t *) "srv", 3 };
 
 int main(int argc, char *argv[])
 {
-	struct tuv_settings peer = { alice, srv, { NULL, 0 }, 0, 0 }, server;
-	uint8_t key[TUV_KEY_MAX], nonces[2][TUV_NONCE_LEN];
+	uint8_t key[TUV_KEY_MAX];
 	struct ends e;
-	int failed, same, through = argc > 6;
+	int at, failed = 0;
+	int through = strcmp(argv[argc - 1], "through") == 0;
 
-	if (argc < 6)
+	if (argc < 6 || (argc - through) % 2 != 0)
 		return 2;
-	peer.kind = atoi(argv[1]);
-	peer.suites = atoi(argv[2]);
-	peer.psk.at = key;
-	peer.psk.len = octets_of(argv[3], key, sizeof(key));
-	server = peer;
-	server.name = srv;
-	server.other = alice;
-	if (octets_of(argv[4], nonces[0], TUV_NONCE_LEN) != TUV_NONCE_LEN ||
-	    octets_of(argv[5], nonces[1], TUV_NONCE_LEN) != TUV_NONCE_LEN)
-		return 2;
+	e.told_peer = (struct tuv_settings) { alice, srv, { key, 0 }, 0, 0 };
+	e.told_peer.kind = atoi(argv[1]);
+	e.told_peer.suites = atoi(argv[2]);
+	e.told_peer.psk.len = octets_of(argv[3], key, sizeof(key));
+	e.told_server = e.told_peer;
+	e.told_server.name = srv;
+	e.told_server.other = alice;
 	if (!tuv_end_new(&e.peer.at) || !tuv_end_new(&e.server.at) ||
 	    !tuv_end_new(&e.pass.at))
 		return 5;
-	if (tuv_peer_begin(&e.peer, &peer, nonces[0]))
-		return 2;
-	if (through) {
-		failed = tuv_pass_begin(&e.pass, 0, 4) ||
-			converse_through(&e, &server, nonces[1]);
-	} else {
-		failed = tuv_server_begin(&e.server, &server, nonces[1], 0, 4);
+	for (at = 4; !failed && at + 1 < argc; at += 2) {
+		failed = octets_of(argv[at], e.peer_nonce, TUV_NONCE_LEN) != TUV_NONCE_LEN ||
+			octets_of(argv[at + 1], e.server_nonce, TUV_NONCE_LEN) != TUV_NONCE_LEN;
 		if (!failed)
-			converse(&e);
+			failed = at == 4 ? log_in(&e, through) : log_in_again(&e, through);
+		failed = failed || !agree(&e);
 	}
-	same = agree(&e);
 	drop(&e.peer);
 	drop(&e.server);
 	drop(&e.pass);
 	explicit_bzero(key, sizeof(key));
-	return failed || !same;
+	return failed;
 }

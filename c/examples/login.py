@@ -1,8 +1,9 @@
 #!/usr/bin/env python3
-"""login.py LIBRARY KIND SUITES KEY PEER-NONCE SERVER-NONCE
+"""login.py LIBRARY KIND SUITES KEY PEER-NONCE SERVER-NONCE [PEER-NONCE SERVER-NONCE]..
 
 Logs the peer alice in at the server srv through the shared form of the library (README.md says how it is made), and
-prints what c/examples/both.c prints. The status is 0 where both ends report the same.
+again by a restart where more nonces are given; prints what c/examples/both.c prints. The status is 0 where both ends
+report the same each time.
 """
 import ctypes
 import sys
@@ -42,6 +43,7 @@ def library(path):
         ("tuv_end_packet", c_size_t, [end, ctypes.c_char_p, c_size_t]),
         ("tuv_end_report", c_bool, [end, POINTER(Report)]),
         ("tuv_end_deliver", Turn, [end, ctypes.c_char_p, c_size_t]),
+        ("tuv_end_restart", Turn, [end, ctypes.c_char_p]),
         ("tuv_peer_begin", c_uint8, [end, settings, ctypes.c_char_p]),
         ("tuv_server_begin", c_uint8, [end, settings, ctypes.c_char_p, c_uint8, c_uint8]),
         ("tuv_server_start", Turn, [end]),
@@ -55,10 +57,10 @@ def settings_of(name, other, key, kind, suites):
     return Settings(Octets(name, len(name)), Octets(other, len(other)), Octets(key, len(key)), kind, suites)
 
 
-def login(lib, peer, server):
-    """Carries what the two ends send until one sends nothing."""
+def converse(lib, peer, server, turn):
+    """Carries what the two ends send until one sends nothing; the first packet is the server's."""
     room = ctypes.create_string_buffer(PACKET_MAX)
-    turn, sender, receiver = lib.tuv_server_start(byref(server)), server, peer
+    sender, receiver = server, peer
     while turn.sends:
         length = lib.tuv_end_packet(byref(sender), room, PACKET_MAX)
         packet = room.raw[:length]
@@ -76,32 +78,52 @@ def show(who, told):
     print("emsk", bytes(told.emsk).hex())
 
 
-def main(path, kind, suites, key, peer_nonce, server_nonce):
-    lib, kind, suites, key = library(path), int(kind), int(suites), bytes.fromhex(key)
-    peer, server = End(), End()
-    if not (lib.tuv_end_new(byref(peer)) and lib.tuv_end_new(byref(server))):
-        return 5
-    told = settings_of(b"alice", b"srv", key, kind, suites), settings_of(b"srv", b"alice", key, kind, suites)
-    if lib.tuv_peer_begin(byref(peer), byref(told[0]), bytes.fromhex(peer_nonce)) or lib.tuv_server_begin(
-        byref(server), byref(told[1]), bytes.fromhex(server_nonce), 0, 4
-    ):
-        return 2
-    login(lib, peer, server)
+def agree(lib, peer, server):
+    """Whether both ends report the same."""
     reports = Report(), Report()
     held = [lib.tuv_end_report(byref(end), byref(report)) for end, report in zip((peer, server), reports)]
     if all(held):
         show("peer", reports[0])
         show("server", reports[1])
+    return all(held) and bytes(reports[0]) == bytes(reports[1])
+
+
+def login(lib, peer, server, told, nonces):
+    """The first login, for which both ends begin."""
+    if lib.tuv_peer_begin(byref(peer), byref(told[0]), nonces[0]) or lib.tuv_server_begin(
+        byref(server), byref(told[1]), nonces[1], 0, 4
+    ):
+        return False
+    converse(lib, peer, server, lib.tuv_server_start(byref(server)))
+    return agree(lib, peer, server)
+
+
+def login_again(lib, peer, server, nonces):
+    """One that follows: both ends begin a new conversation, with what they were told."""
+    lib.tuv_end_restart(byref(peer), nonces[0])
+    converse(lib, peer, server, lib.tuv_end_restart(byref(server), nonces[1]))
+    return agree(lib, peer, server)
+
+
+def main(path, kind, suites, key, *nonces):
+    lib, kind, suites, key = library(path), int(kind), int(suites), bytes.fromhex(key)
+    peer, server = End(), End()
+    if not (lib.tuv_end_new(byref(peer)) and lib.tuv_end_new(byref(server))):
+        return 5
+    told = settings_of(b"alice", b"srv", key, kind, suites), settings_of(b"srv", b"alice", key, kind, suites)
+    octets = [bytes.fromhex(nonce) for nonce in nonces]
+    first, *others = zip(octets[::2], octets[1::2])
+    good = login(lib, peer, server, told, first) and all([login_again(lib, peer, server, pair) for pair in others])
     libc = ctypes.CDLL(None)
     libc.free.argtypes = [c_void_p]
     for end in (peer, server):
         lib.tuv_end_close(byref(end))
         ctypes.memset(end.at, 0, lib.tuv_end_size())
         libc.free(end.at)
-    return 0 if all(held) and bytes(reports[0]) == bytes(reports[1]) else 1
+    return 0 if good else 1
 
 
 if __name__ == "__main__":
-    if len(sys.argv) != 7:
+    if len(sys.argv) < 7 or len(sys.argv) % 2 == 0:
         sys.exit(__doc__)
     sys.exit(main(*sys.argv[1:]))

@@ -1,5 +1,6 @@
 -- Where both ends of a conversation succeed and don't agree, an end has accepted a tag that the other hadn't made.
-use Rattle.std.proofs.Common.{◌≡◌, ◌≤◌, ℕ, zero, suc, ◌+◌, ◌*◌, List, length, refl, arith, rules}
+use Rattle.std.proofs.Common.{◌≡◌, ◌≤◌, ℕ, zero, suc, ◌+◌, ◌*◌, List, length, refl, arith, rules, inl}
+use Rattle.std.proofs.lemmas.List.Elements.{All-nil}
 use Rattle.eap_world.specs.Agreement.{IsWhole, AgreesWhereHonest}
 use Rattle.eap_world.specs.Book.{tags_verdict}
 use Rattle.eap_world.specs.Judgement.{verdict_of}
@@ -8,7 +9,7 @@ use Rattle.eap_world.specs.declared.book.TagsVerdict.{TagsVerdict}
 use Rattle.eap_world.specs.declared.book.TagsVerdict.TheVariants as tags
 use Rattle.eap_world.specs.declared.verdict.Verdict.{Verdict}
 use Rattle.eap_world.specs.declared.verdict.Verdict.TheVariants as verdict
-use Rattle.eap_world.proofs.HonestOfEither.{honest_of_either}
+use Rattle.eap_world.proofs.BeginsOnce.{begins_once}
 use Rattle.eap_world.proofs.HonestRuns.{honest_ends_agree}
 use Rattle.bulk_run.specs.Conversation.{setup_at, setup_with}
 use Rattle.bulk_run.specs.Summing.{BrokenWhereApart, CountsWell, counts_of, drawn_each, ended_at, events_of}
@@ -25,6 +26,8 @@ whole_with peer_nonce server_nonce key p s k = record {
   server = search rules;
   peer_nonce = p;
   server_nonce = s;
+  peer_later = All-nil (λ (nonce : List ℕ). length nonce ≡ 32);
+  server_later = All-nil (λ (nonce : List ℕ). length nonce ≡ 32);
 }
 
 whole_at : (number place : ℕ) → IsWhole (setup_at number place)
@@ -44,17 +47,18 @@ at_most_broken verdict.Unfinished t never = omega arith
 at_most_broken verdict.Apart tags.Honest never = absurd (never refl refl)
 at_most_broken verdict.Apart (tags.Broken event) never = omega arith
 
-counts_well : (w : WorldNow) → AgreesWhereHonest w → CountsWell (counts_of w)
+counts_well : (w : WorldNow) → length w.conversations.begun ≡ 2 → AgreesWhereHonest w → CountsWell (counts_of w)
 unfolding counts_of
-counts_well w agrees = record {
+counts_well w once agrees = record {
   all = one_verdict (verdict_of w);
-  apart_is_broken = at_most_broken (verdict_of w) (tags_verdict w.book) (λ honest apart. agrees.never_apart (honest_of_either w.book honest) apart);
+  apart_is_broken = at_most_broken (verdict_of w) (tags_verdict w.book) (λ honest apart. agrees.never_apart honest (inl once) apart);
 }
 
 each_well : (number place : ℕ) → CountsWell (counts_of (ended_at number place))
-unfolding ended_at
+unfolding ended_at setup_at
 each_well number place =
-    counts_well _ (honest_ends_agree (setup_at number place) (events_of (setup_at number place) number (place + 96)) (whole_at number place))
+    counts_well _ (begins_once (setup_at number place) (events_of (setup_at number place) number (place + 96)) refl refl)
+    (honest_ends_agree (setup_at number place) (events_of (setup_at number place) number (place + 96)) (whole_at number place))
 
 both_well : (one other : Summary) → CountsWell one → CountsWell other → CountsWell (plus one other)
 both_well one other well also = record {

@@ -52,8 +52,8 @@ stepped_by : (before : WorldNow) (event : Event) → Stepped before (world_step 
 unfolding world_step
 stepped_by before event = record {
   started = refl;
-  packets = sent_more before.sent _ _ (act before.parties before.sent event).action;
-  few = counts_more before.counts (act before.parties before.sent event).action;
+  packets = sent_more before.sent _ _ (act before.parties before.conversations before.sent event).action;
+  few = counts_more before.counts (act before.parties before.conversations before.sent event).action;
 }
 
 pub stepped : (before : WorldNow) (event : Event) (told : Told) (after : WorldNow)

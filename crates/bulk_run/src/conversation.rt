@@ -6,7 +6,7 @@ ghost use Rattle.eap_base.specs.declared.setup.Setup.{Setup};
 ghost use Rattle.eap_method.specs.Peer.{peer_kinds, have_each};
 ghost use Rattle.eap_method.specs.Server.{server_kinds};
 ghost use Rattle.eap_world.specs.Agreement.{run_of, BeginsRun};
-ghost use Rattle.eap_world.specs.World.{now_of, world_made};
+ghost use Rattle.eap_world.specs.World.{HasObjects, now_of, world_made};
 ghost use Rattle.bulk_run.specs.Kinds.{KeepsKinds, HaveSameKinds};
 ghost use Rattle.bulk_run.specs.Conversation.{alice, known_with, deliveries, chances};
 ghost use Rattle.bulk_run.specs.Draws.{state_at};
@@ -112,6 +112,7 @@ fn talk<P: PeerMethod, S: ServerMethod>(
     requires unstarted { world.old.started ≡ false }
     requires unsent { world.old.sent ≡ [] }
     requires few { AreFew world.old.counts 0 }
+    requires objects { HasObjects P.peer_shown S.server_shown world.old }
     ensures run { IfOk result (λ done. (setup : Setup) (place : ℕ)
         → now_of P.peer_shown S.server_shown world.old ≡ world_made setup → draws.old.state ≡ state_at number place
         → now_of P.peer_shown S.server_shown world.new ≡ run_of setup (events_of setup number place)) }
@@ -135,6 +136,7 @@ fn deliver_all<P: PeerMethod, S: ServerMethod>(
 ) -> Result<(), Memory>
     requires started { world.old.started ≡ true }
     requires few { AreFew world.old.counts 0 }
+    requires objects { HasObjects P.peer_shown S.server_shown world.old }
     requires packets { packets.old ≡ length world.old.sent }
     ensures run { IfOk result (λ done. (setup : Setup) → now_of P.peer_shown S.server_shown world.old ≡ run_of setup []
         → now_of P.peer_shown S.server_shown world.new ≡ run_of setup (deliveries 7)) }
@@ -155,6 +157,7 @@ fn take_chances<P: PeerMethod, S: ServerMethod>(
 ) -> Result<(), Memory>
     requires started { world.old.started ≡ true }
     requires few { AreFew world.old.counts 0 }
+    requires objects { HasObjects P.peer_shown S.server_shown world.old }
     requires packets { packets.old ≡ length world.old.sent }
     ensures run { IfOk result (λ done. (setup : Setup) (number place : ℕ)
         → now_of P.peer_shown S.server_shown world.old ≡ run_of setup [] → draws.old.state ≡ state_at number place

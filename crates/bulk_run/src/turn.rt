@@ -4,7 +4,7 @@ ghost use Rattle.std.specs.Prelude.{◌≡◌, ◌<◌, ◌≤◌, ◌+◌, ◌%
 ghost use Rattle.eap_base.specs.declared.event.Event.{Event};
 ghost use Rattle.eap_base.specs.declared.setup.Setup.{Setup};
 ghost use Rattle.eap_world.specs.Agreement.{run_of, BeginsRun, GoesOn};
-ghost use Rattle.eap_world.specs.World.{now_of, octets_of};
+ghost use Rattle.eap_world.specs.World.{HasObjects, now_of, octets_of};
 ghost use Rattle.bulk_run.specs.Kinds.{KeepsKinds};
 ghost use Rattle.eap_world.specs.Sent.{packet_numbered};
 ghost use Rattle.bulk_run.specs.Conversation.{choice, chosen, with_event};
@@ -14,13 +14,15 @@ use eap_base::{Event, Party};
 use eap_method::{PeerMethod, ServerMethod};
 use eap_world::{MAX_EVENTS, Memory, Told, World};
 
-/// Starts a world in which nothing was sent, and answers how many packets were sent then.
+/// Starts a world in which nothing was sent, and answers how many packets were sent then. Each method of an end has an object.
 #[tactic(auto, using(crate::proofs::Kept::same_kinds))]
 pub fn begin<P: PeerMethod, S: ServerMethod>(world: &mut World<P, S>) -> Result<u32, Memory>
     requires unstarted { world.old.started ≡ false }
     requires unsent { world.old.sent ≡ [] }
+    requires objects { HasObjects P.peer_shown S.server_shown world.old }
     ensures run { IfOk result (λ packets. BeginsRun P.peer_shown S.server_shown world.old world.new) }
     ensures kinds { KeepsKinds P.peer_shown S.server_shown world.old world.new }
+    ensures objects { HasObjects P.peer_shown S.server_shown world.new }
     ensures started { IfOk result (λ packets. world.new.started ≡ true) }
     ensures packets { IfOk result (λ packets. packets ≡ length world.new.sent) }
     ensures few { IfOk result (λ packets. world.new.counts ≡ world.old.counts) }
@@ -29,7 +31,7 @@ pub fn begin<P: PeerMethod, S: ServerMethod>(world: &mut World<P, S>) -> Result<
     Ok(sent_after(0, &told))
 }
 
-/// Takes an event. `packets` counts the packets that were sent.
+/// Takes an event. `packets` counts the packets that were sent. Each method of an end has an object.
 #[tactic(auto, using(crate::proofs::Kept::same_kinds))]
 pub fn take<P: PeerMethod, S: ServerMethod>(
     world: &mut World<P, S>,
@@ -39,8 +41,10 @@ pub fn take<P: PeerMethod, S: ServerMethod>(
     requires started { world.old.started ≡ true }
     requires room { world.old.counts.events < MAX_EVENTS }
     requires packets { packets.old ≡ length world.old.sent }
+    requires objects { HasObjects P.peer_shown S.server_shown world.old }
     ensures run { IfOk result (λ done. GoesOn P.peer_shown S.server_shown event.now world.old world.new) }
     ensures kinds { KeepsKinds P.peer_shown S.server_shown world.old world.new }
+    ensures objects { HasObjects P.peer_shown S.server_shown world.new }
     ensures started { IfOk result (λ done. world.new.started ≡ true) }
     ensures packets { IfOk result (λ done. packets.new ≡ length world.new.sent) }
     ensures few { IfOk result (λ done. (most : ℕ) → AreFew world.old.counts most → AreFew world.new.counts (most + 1)) }
@@ -70,9 +74,11 @@ pub fn take_chosen<P: PeerMethod, S: ServerMethod>(
     requires started { world.old.started ≡ true }
     requires room { world.old.counts.events < MAX_EVENTS }
     requires packets { packets.old ≡ length world.old.sent }
+    requires objects { HasObjects P.peer_shown S.server_shown world.old }
     ensures run { IfOk result (λ done. (setup : Setup) (events : List Event) → now_of P.peer_shown S.server_shown world.old ≡ run_of setup events
         → now_of P.peer_shown S.server_shown world.new ≡ run_of setup (with_event events (chosen world.old.sent v u))) }
     ensures kinds { KeepsKinds P.peer_shown S.server_shown world.old world.new }
+    ensures objects { HasObjects P.peer_shown S.server_shown world.new }
     ensures started { IfOk result (λ done. world.new.started ≡ true) }
     ensures packets { IfOk result (λ done. packets.new ≡ length world.new.sent) }
     ensures few { IfOk result (λ done. (most : ℕ) → AreFew world.old.counts most → AreFew world.new.counts (most + 1)) }

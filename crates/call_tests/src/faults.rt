@@ -33,7 +33,7 @@ end
 ";
 
 /// Words and inputs, which an empty line parts: packets; a request and one that is refused; captured packets; RADIUS
-/// packets.
+/// packets; what comes to one end.
 const INPUTS: &str = "\
 decode
 0100000501
@@ -60,6 +60,31 @@ reply accept - 03000004
 request 7 22222222222222222222222222222222 616c696365 - 0200000a01616c696365
 read 010203
 reply accept - 03000004
+end
+
+peer
+eap-end 1
+peer-name alice
+peer-server srv
+peer-methods -
+peer-nonce 1111111111111111111111111111111111111111111111111111111111111111
+events
+packet 0100000501
+packet 010203
+alt-reject
+idle
+end
+
+server
+eap-end 1
+server-name srv
+server-methods -
+server-nonce 2222222222222222222222222222222222222222222222222222222222222222
+max-retrans 0
+events
+packet 010203
+timeout
+timeout
 end";
 
 /// A pcap file of two frames of which the first carries an Identity Request.

@@ -9,6 +9,8 @@ mod conversations;
 #[cfg(test)]
 mod faults;
 #[cfg(test)]
+mod pipes;
+#[cfg(test)]
 mod reads;
 #[cfg(test)]
 mod reflections;

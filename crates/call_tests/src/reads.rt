@@ -15,12 +15,15 @@ const ROWS: &str = "\
 2 0 check|eap-capture 1;events;
 2 0 check|eap-capture 1;packets;< 0g;
 2 0 radius|eap-radius 1;read 00;
-2 0 replay|eap-scenario 2;
+2 0 peer|eap-end 2;
+2 0 server|eap-end 1;idle;
+2 0 replay|eap-scenario 3;
 2 0 replay|eap-scenario 1;mode sideways;
 6 0 decode|*#
 6 0 keys|name -;*#
 6 0 check|eap-capture 1;*#
 6 0 radius|eap-radius 1;*#
+6 0 peer|eap-end 1;*#
 6 0 replay|eap-scenario 1;*#
 0 1 decode|03020004;
 0 1 keys|name -;

@@ -29,14 +29,14 @@ pub(crate) fn begun(rt: &impl Abort, alloc: Global, scenario: &str) -> Result<Ob
         panic!(rt; "no settings");
     };
     let mut world = world(alloc, setup)?;
-    assert!(rt; !world.started());
+    assert!(rt; !world.started() && world.has_objects());
     world.start()?;
     Ok(world)
 }
 
 /// What came of the next event.
 pub(crate) fn step(rt: &impl Abort, world: &mut ObjectWorld, event: &Event) -> Result<Told, Fail> {
-    assert!(rt; world.started() && world.counts().events < MAX_EVENTS);
+    assert!(rt; world.started() && world.counts().events < MAX_EVENTS && world.has_objects());
     Ok(world.step(event)?)
 }
 

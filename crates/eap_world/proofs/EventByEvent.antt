@@ -36,15 +36,15 @@ module _ {E : Type 0} (before after : WorldNow) (same : Type 0) where
 
   -- the book of a world of a run is small, so it is after the start or an event
   pub begins_small : (result : Result Told E) → IfOk result (λ told. (setup : Setup) → before ≡ world_made setup → after ≡ run_of setup [])
-      → IfOk result (λ told. (setup : Setup) → before ≡ world_made setup → HasFewTags after.book)
+      → IfOk result (λ told. (setup : Setup) → before ≡ world_made setup → HasFewTags after.conversations.begun after.book)
   begins_small (Err error) h = tt
-  begins_small (Ok told) h = λ setup made. subst (λ (w : WorldNow). HasFewTags w.book) (sym (h setup made)) (few_tags setup [])
+  begins_small (Ok told) h = λ setup made. subst (λ (w : WorldNow). HasFewTags w.conversations.begun w.book) (sym (h setup made)) (few_tags setup [])
 
   pub stays_small : (e : Event) (result : Result Told E)
       → IfOk result (λ told. (setup : Setup) (events : List Event) → before ≡ run_of setup events → after ≡ run_of setup (events ++ (e ∷ [])))
-      → IfOk result (λ told. (setup : Setup) (events : List Event) → before ≡ run_of setup events → HasFewTags after.book)
+      → IfOk result (λ told. (setup : Setup) (events : List Event) → before ≡ run_of setup events → HasFewTags after.conversations.begun after.book)
   stays_small e (Err error) h = tt
-  stays_small e (Ok told) h = λ setup events is. subst (λ (w : WorldNow). HasFewTags w.book) (sym (h setup events is)) (few_tags setup (events ++ (e ∷ [])))
+  stays_small e (Ok told) h = λ setup events is. subst (λ (w : WorldNow). HasFewTags w.conversations.begun w.book) (sym (h setup events is)) (few_tags setup (events ++ (e ∷ [])))
 
   -- the step of a world of a run is lawful
   pub goes_lawfully : (e : Event) (result : Result Told E) → MatchResult result (λ told. world_step before e ≡ world_outcome told after) (λ error. same)

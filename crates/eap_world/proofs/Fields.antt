@@ -112,10 +112,10 @@ protected_fail_rands octets x e =
     let found : Message × List ℕ = (protected_fail code.0.0 [], code.0.1) in
     subst (λ (y : Message × List ℕ). HasRands y.0) {x = found} (same_Some found x code.2) tt
 
-tested : (test : Bool) (x : Message × List ℕ) (then_read else_read : Option (Message × List ℕ)) →
-    (then_read ≡ Some x → HasRands x.0) → (else_read ≡ Some x → HasRands x.0) →
-    cond test then_read else_read ≡ Some x → HasRands x.0
-tested test x then_read else_read good other e =
+-- what holds of a message that either of two readers gives
+pub tested : (P : Type 0) (test : Bool) (x : Message × List ℕ) (then_read else_read : Option (Message × List ℕ))
+    → (then_read ≡ Some x → P) → (else_read ≡ Some x → P) → cond test then_read else_read ≡ Some x → P
+tested P test x then_read else_read good other e =
     elim (cases_Bool test) [
       | inl same ↦ good (sym (cond-true _ _ _ same) ∙ e)
       | inr differs ↦ other (sym (cond-false _ _ _ differs) ∙ e)
@@ -124,12 +124,12 @@ tested test x then_read else_read good other e =
 fields_rands : (op : ℕ) (octets : List ℕ) (x : Message × List ℕ) → fields_at op octets ≡ Some x → HasRands x.0
 unfolding fields_at
 fields_rands op octets x =
-    tested (eqb op 1) x _ _ (gpsk1_rands octets x)
-    (tested (eqb op 2) x _ _ (gpsk2_rands octets x)
-    (tested (eqb op 3) x _ _ (gpsk3_rands octets x)
-    (tested (eqb op 4) x _ _ (gpsk4_rands octets x)
-    (tested (eqb op 5) x _ _ (fail_rands octets x)
-    (tested (eqb op 6) x _ _ (protected_fail_rands octets x) (λ e. absurd cc))))))
+    tested (HasRands x.0) (eqb op 1) x _ _ (gpsk1_rands octets x)
+    (tested (HasRands x.0) (eqb op 2) x _ _ (gpsk2_rands octets x)
+    (tested (HasRands x.0) (eqb op 3) x _ _ (gpsk3_rands octets x)
+    (tested (HasRands x.0) (eqb op 4) x _ _ (gpsk4_rands octets x)
+    (tested (HasRands x.0) (eqb op 5) x _ _ (fail_rands octets x)
+    (tested (HasRands x.0) (eqb op 6) x _ _ (protected_fail_rands octets x) (λ e. absurd cc))))))
 
 with_mac_rands : (message : Message) (mac : List ℕ) → HasRands message → HasRands (with_mac message mac)
 with_mac_rands (gpsk1 id_s rand_s list) mac h = h
@@ -147,7 +147,7 @@ loose_rands ks (op ∷ octets) message e =
     let g = cond_some {A = Message} (takes_mac ks fields.0.0 (length fields.0.1)) (with_mac fields.0.0 fields.0.1) message fields.2 in
     subst HasRands g.1 (with_mac_rands fields.0.0 fields.0.1 (fields_rands op octets fields.0 fields.1))
 
-judged_loose : (loose : Option Message) (message : Message) → judged loose ≡ Ok message → loose ≡ Some message
+pub judged_loose : (loose : Option Message) (message : Message) → judged loose ≡ Ok message → loose ≡ Some message
 judged_loose None message e = absurd cc
 judged_loose (Some found) message e =
     elim (cases_Bool (leb (length (list_of found)) (6 * 20))) [

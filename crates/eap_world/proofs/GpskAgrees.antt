@@ -35,7 +35,7 @@ pub record IsSame (p : peer.Login) (list : List ℕ) (s : server.Login) : Type 0
   pub offered : list ≡ suite_list s.own.suites
 
 -- equal octets before the MACs of two GPSK-2
-covers_same : (p : peer.Login) (s : server.Login) (list pd : List ℕ) → length p.nonce ≡ 32 → length s.rand_p ≡ 32 → length p.rand_s ≡ 32 → length s.nonce ≡ 32
+pub covers_same : (p : peer.Login) (s : server.Login) (list pd : List ℕ) → length p.nonce ≡ 32 → length s.rand_p ≡ 32 → length p.rand_s ≡ 32 → length s.nonce ≡ 32
     → p.cred.psk ≡ s.psk → covered_of (gpsk2_taken s pd) ≡ covered_of (peer.gpsk2_of p list) → IsSame p list s
 unfolding covered_of
 covers_same p s list pd size_1 size_2 size_3 size_4 psk e =

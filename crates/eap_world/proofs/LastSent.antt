@@ -14,12 +14,12 @@ use Rattle.peer_machine.specs.Inputs.{PeerInput, peer_takes}
 use Rattle.server_machine.specs.Inputs.{ServerInput, server_takes}
 use Rattle.server_machine.specs.ServerTable.{is_started}
 use Rattle.server_machine.specs.declared.variables.ServerVariables.{ServerVariables}
-use Rattle.pass_through.specs.Inputs.{PassInput, start, timeout, aaa_timeout, aaa_noreq, from_peer, from_backend, pass_takes}
+use Rattle.pass_through.specs.Inputs.{PassInput, start, restart, pass_takes}
 use Rattle.pass_through.specs.PassTable as passes
-use Rattle.pass_through.specs.PassTable.{PassAnswer, PassStep}
+use Rattle.pass_through.specs.PassTable.{Side, PassAnswer}
 use Rattle.pass_through.specs.declared.variables.PassVariables.{PassVariables}
 use Rattle.eap_world.specs.Sent.{Sent, last_to, or_last, same_port}
-use Rattle.eap_world.specs.World.{Call, Parties, called, goes_to, pass_port, pass_sent, sent_by, sent_to, to_pass, to_peer, to_server}
+use Rattle.eap_world.specs.World.{Call, Parties, called, goes_to, pass_port, sent_by, sent_to, to_pass, to_peer, to_server}
 use Rattle.eap_world.proofs.OneMethod.{some_same}
 use Rattle.eap_world.proofs.PassSpeaks as passing
 use Rattle.eap_world.proofs.PassSpeaks.{Goes, PassSpeaks, pass_speaks}
@@ -97,34 +97,23 @@ through_apart : (m : Mode) → m ≡ mode.Through → (same_port (goes_to party.
 through_apart mode.Alone is = cc is
 through_apart mode.Through is = (refl, refl)
 
-pass_apart : (m : Mode) (input : PassInput) → m ≡ mode.Through
-    → (same_port (pass_port input) (goes_to party.Peer m) ≡ false) × (same_port (pass_port input) (goes_to party.Server m) ≡ false)
-pass_apart mode.Alone input is = cc is
-pass_apart mode.Through start is = (refl, refl)
-pass_apart mode.Through timeout is = (refl, refl)
-pass_apart mode.Through aaa_timeout is = (refl, refl)
-pass_apart mode.Through aaa_noreq is = (refl, refl)
-pass_apart mode.Through (from_peer octets) is = (refl, refl)
-pass_apart mode.Through (from_backend octets) is = (refl, refl)
+pass_apart : (m : Mode) (side : Side) → m ≡ mode.Through
+    → (same_port (pass_port side) (goes_to party.Peer m) ≡ false) × (same_port (pass_port side) (goes_to party.Server m) ≡ false)
+pass_apart mode.Alone side is = cc is
+pass_apart mode.Through passes.Peer is = (refl, refl)
+pass_apart mode.Through passes.Server is = (refl, refl)
 
 not_both : {A : Type 0} (m : Mode) → m ≡ mode.Alone → m ≡ mode.Through → A
 not_both m alone through = absurd cc
 
-no_octets_at : (input : PassInput) → input ≡ timeout → (octets : List ℕ) → input ≡ from_peer octets → ⊥
-no_octets_at input is_timer octets is = cc
-
 begun_before : (one other : ServerVariables) → one.state ≡ other.state → is_started one ≡ true → is_started other ≡ true
 begun_before one other same begun = subst (λ (s : State). (elim s [ state.Initialize ↦ false | _ ↦ true ]) ≡ true) same begun
 
--- what isn't of the peer goes to the peer
-to_peer_sent : (sent : List Sent) (input : PassInput) (packet : List ℕ) (step : PassStep) → ((octets : List ℕ) → input ≡ from_peer octets → ⊥)
-    → step.to_peer ≡ Some packet → last_to port.Peer (sent ++ sent_to (pass_port input) (pass_sent input step)) ≡ Some packet
-to_peer_sent sent (from_peer octets) packet step no_octets is = absurd (no_octets octets refl)
-to_peer_sent sent start packet step no_octets is = own_sent port.Peer sent _ packet is
-to_peer_sent sent timeout packet step no_octets is = own_sent port.Peer sent _ packet is
-to_peer_sent sent aaa_timeout packet step no_octets is = own_sent port.Peer sent _ packet is
-to_peer_sent sent aaa_noreq packet step no_octets is = own_sent port.Peer sent _ packet is
-to_peer_sent sent (from_backend octets) packet step no_octets is = own_sent port.Peer sent _ packet is
+-- what the pass-through sends to the peer
+to_peer_sent : (sent : List Sent) (side : Side) (found : Option (List ℕ)) (packet : List ℕ) → side ≡ passes.Peer → found ≡ Some packet
+    → last_to port.Peer (sent ++ sent_to (pass_port side) found) ≡ Some packet
+to_peer_sent sent side found packet to is =
+    ap (λ (s : Side). last_to port.Peer (sent ++ sent_to (pass_port s) found)) to ∙ own_sent port.Peer sent found packet is
 
 module _ (parties : Parties) (sent : List Sent) (said : HaveSaid parties sent) where
   -- what one party sends leaves what the others sent last
@@ -160,6 +149,7 @@ module _ (parties : Parties) (sent : List Sent) (said : HaveSaid parties sent) w
         is = subst (IsResponse id) (sym same) was.is;
         is_last = own_sent _ sent _ _ is_sent ∙ ap (λ (o : List ℕ). Some o) (sym same);
       }
+  peer_says _ (peering.begins nonce _ unsent none) id is_id = absurd (let both : ◌≡◌ {A = Option ℕ} None (Some id) = sym none ∙ is_id in cc)
 
   server_says : (input : ServerInput) → ServerSpeaks parties.server input (server_takes parties.server input)
       → (let out = server_takes parties.server input in
@@ -189,41 +179,61 @@ module _ (parties : Parties) (sent : List Sent) (said : HaveSaid parties sent) w
       }
   server_says input (serving.ends was_going over new each) begun going = absurd (false≢true (sym going ∙ over))
   server_says input (serving.gives_up was_going over unsent) begun going = absurd (false≢true (sym going ∙ over))
+  server_says input (serving.awaits nonce is_restart unsent unstarted) begun going = absurd (false≢true (sym unstarted ∙ begun))
+  server_says input (serving.begins nonce is_restart packet id is is_sent new current last) begun going = record {
+    id = id;
+    is_id = current;
+    is = subst (IsRequest id) (sym last) is;
+    is_last = own_sent _ sent _ packet is_sent ∙ ap (λ (o : List ℕ). Some o) (sym last);
+  }
 
   -- in mode through
   pass_says : (input : PassInput) → PassSpeaks parties.pass input (pass_takes parties.pass input) → parties.mode ≡ mode.Through
       → (let out = pass_takes parties.pass input in
-      Goes out.after.state → last_to port.Peer (sent ++ sent_to (pass_port input) (pass_sent input out.step)) ≡ Some out.after.last_request)
+      Goes out.after.state → last_to port.Peer (sent ++ sent_to (pass_port out.step.to) out.step.sent) ≡ Some out.after.last_request)
   pass_says input (passing.rests unsent same was still) through goes =
       none_sent _ _ sent _ unsent ∙ (said.pass through (was goes) ∙ ap (λ (o : List ℕ). Some o) (sym same))
-  pass_says input (passing.onwards octets packet is_input was is_sent new same) through goes =
-      other_sent port.Peer (pass_port input) sent _ (ap (λ (i : PassInput). same_port (pass_port i) port.Peer) is_input)
+  pass_says input (passing.onwards to was new same) through goes =
+      other_sent port.Peer _ sent _ (ap (λ (s : Side). same_port (pass_port s) port.Peer) to)
       ∙ (said.pass through was ∙ ap (λ (o : List ℕ). Some o) (sym same))
-  pass_says input (passing.asks packet no_octets was_going is_sent new last begins) through goes =
-      to_peer_sent sent input packet _ no_octets is_sent ∙ ap (λ (o : List ℕ). Some o) (sym (last goes.going))
-  pass_says input (passing.repeats is_timer was is_sent same) through goes =
-      to_peer_sent sent input parties.pass.last_request _ (no_octets_at input is_timer) is_sent ∙ ap (λ (o : List ℕ). Some o) (sym same)
+  pass_says input (passing.asks packet to was_going is_sent new last begins) through goes =
+      to_peer_sent sent _ _ packet to is_sent ∙ ap (λ (o : List ℕ). Some o) (sym (last goes.going))
+  pass_says input (passing.repeats to was is_sent same) through goes =
+      to_peer_sent sent _ _ parties.pass.last_request to is_sent ∙ ap (λ (o : List ℕ). Some o) (sym same)
+  pass_says input (passing.begins_anew is_restart packet to is_sent new last) through goes =
+      to_peer_sent sent _ _ packet to is_sent ∙ ap (λ (o : List ℕ). Some o) (sym last)
+
+-- whether the pass-through begins by an input, or begins anew; a call with such an input
+abbrev pub is_begin : PassInput → Bool
+is_begin start = true
+is_begin restart = true
+is_begin input = false
+
+abbrev pub starts_pass : Call → Bool
+starts_pass (to_pass input) = is_begin input
+starts_pass call = false
 
 -- in mode alone the pass-through, which has not started, sends nothing and stays so
-pub pass_rests : (vars : PassVariables) (input : PassInput) (out : PassAnswer) → PassSpeaks vars input out → (input ≡ start → ⊥)
-    → passes.is_started vars.state ≡ false → (pass_sent input out.step ≡ None) × (passes.is_started out.after.state ≡ false)
+pub pass_rests : (vars : PassVariables) (input : PassInput) (out : PassAnswer) → PassSpeaks vars input out → is_begin input ≡ false
+    → passes.is_started vars.state ≡ false → (out.step.sent ≡ None) × (passes.is_started out.after.state ≡ false)
 pass_rests vars input out (passing.rests unsent same was still) later unstarted = (unsent, still unstarted)
-pass_rests vars input out (passing.onwards octets packet is_input goes sent new same) later unstarted = absurd (false≢true (sym unstarted ∙ goes.begun))
-pass_rests vars input out (passing.asks packet no_octets going sent new last begins) later unstarted = absurd (later (begins unstarted))
-pass_rests vars input out (passing.repeats is_timer goes sent same) later unstarted = absurd (false≢true (sym unstarted ∙ goes.begun))
+pass_rests vars input out (passing.onwards to goes new same) later unstarted = absurd (false≢true (sym unstarted ∙ goes.begun))
+pass_rests vars input out (passing.asks packet to going sent new last begins) later unstarted = absurd (false≢true (sym later ∙ ap is_begin (begins unstarted)))
+pass_rests vars input out (passing.repeats to goes sent same) later unstarted = absurd (false≢true (sym unstarted ∙ goes.begun))
+pass_rests vars input out (passing.begins_anew is_restart packet to sent new last) later unstarted = absurd (false≢true (sym later ∙ ap is_begin is_restart))
 
 -- ---- every call
 
--- a call that doesn't start the pass-through in mode alone
+-- a call that doesn't begin the pass-through in mode alone
 abbrev pub Fits : Parties → Call → Type 0
-Fits parties call = parties.mode ≡ mode.Alone → call ≡ to_pass start → ⊥
+Fits parties call = parties.mode ≡ mode.Alone → starts_pass call ≡ false
 
 module _ (parties : Parties) (sent : List Sent) (said : HaveSaid parties sent) where
   passes_on : (input : PassInput) → Fits parties (to_pass input) → (m : Mode) → parties.mode ≡ m
       → (let out = pass_takes parties.pass input in
-      HaveSaid (record parties { pass = out.after }) (sent ++ sent_to (pass_port input) (pass_sent input out.step)))
+      HaveSaid (record parties { pass = out.after }) (sent ++ sent_to (pass_port out.step.to) out.step.sent))
   passes_on input fits mode.Alone alone =
-      let quiet = pass_rests parties.pass input _ (pass_speaks parties.pass input) (λ e. fits alone (ap to_pass e)) (said.rests alone) in
+      let quiet = pass_rests parties.pass input _ (pass_speaks parties.pass input) (fits alone) (said.rests alone) in
       record {
         peer = λ id is_id. (let was = said.peer id is_id in record { is = was.is; is_last = none_sent _ _ sent _ quiet.0 ∙ was.is_last });
         server = λ begun going. (let was = said.server begun going in
@@ -233,9 +243,9 @@ module _ (parties : Parties) (sent : List Sent) (said : HaveSaid parties sent) w
       }
   passes_on input fits mode.Through through = record {
     peer = λ id is_id. (let was = said.peer id is_id in
-        record { is = was.is; is_last = other_sent _ _ sent _ (pass_apart parties.mode input through).0 ∙ was.is_last });
+        record { is = was.is; is_last = other_sent _ _ sent _ (pass_apart parties.mode _ through).0 ∙ was.is_last });
     server = λ begun going. (let was = said.server begun going in
-        record { id = was.id; is_id = was.is_id; is = was.is; is_last = other_sent _ _ sent _ (pass_apart parties.mode input through).1 ∙ was.is_last });
+        record { id = was.id; is_id = was.is_id; is = was.is; is_last = other_sent _ _ sent _ (pass_apart parties.mode _ through).1 ∙ was.is_last });
     pass = λ through goes. pass_says parties sent said input (pass_speaks parties.pass input) through goes;
     rests = λ alone. not_both parties.mode alone through;
   }

@@ -1,4 +1,4 @@
--- Every input of the peer keeps what stands of it.
+-- Every input of the peer keeps what stands of it, but for the begin of a new conversation, in which it stands anew.
 use Rattle.std.proofs.Common.{◌≡◌, ℕ, List, [], ◌∷◌, ◌++◌, Bool, true, false, if◌then◌else◌, Option, Some, None, Ok, refl, sym, ap, ◌∙◌, subst, arith, append-nil}
 use Rattle.std.specs.Prelude.{◌==◌}
 use Rattle.std.proofs.lemmas.Bool.{cond_both, eqb-true, true≢false, false≢true}
@@ -31,8 +31,8 @@ use Rattle.method_laws.specs.GpskPeerRows as gpsk_row
 use Rattle.method_laws.specs.PskPeerRows as psk_row
 use Rattle.method_laws.proofs.GpskPeerCases.{gpsk_peer_steps_are_rows}
 use Rattle.method_laws.proofs.PskPeerCases.{psk_peer_steps_are_rows}
-use Rattle.peer_machine.specs.Inputs.{PeerInput, peer_takes}
-use Rattle.peer_machine.specs.PeerTable.{PeerNow, PeerAnswer, with_vars, peer_made, is_fail}
+use Rattle.peer_machine.specs.Inputs.{PeerInput, restart, peer_takes}
+use Rattle.peer_machine.specs.PeerTable.{PeerNow, PeerAnswer, with_vars, peer_made, own_nonce, peer_restart, is_fail}
 use Rattle.peer_machine.specs.Rows as rows
 use Rattle.peer_machine.specs.Rows.{Calls, first, again}
 use Rattle.peer_machine.proofs.PeerRows.{peer_answers_are_rows}
@@ -267,28 +267,42 @@ module _ (setup : PeerSetup) (now : PeerNow) (accepted made : List TagRecord) (s
       → MethodTurned kind out
   turned_to selects kind octets out calls turned = subst (MethodTurned kind) turned (method_turned selects kind octets calls)
 
-  row_keeps : (input : PeerInput) (out : PeerAnswer) → rows.PeerRow now input out → Keeps setup accepted made out
-  row_keeps _ _ (rows.ended bytes over) = quiet setup accepted made _ refl stands
-  row_keeps _ _ (rows.rests report no_octets over) = quiet setup accepted made _ refl stands
-  row_keeps _ _ (rows.drops bytes path c going why) = quiet setup accepted made _ refl stands
-  row_keeps _ _ (rows.waits going fails goes_on) = quiet setup accepted made _ refl stands
-  row_keeps _ _ (rows.identifies bytes id kind body heard unselected is_identity) = quiet setup accepted made _ refl (remains _ _ _ stands.sure)
-  row_keeps _ _ (rows.notifies bytes id kind body heard unselected is_notification) = quiet setup accepted made _ refl (remains _ _ _ stands.sure)
-  row_keeps _ _ (rows.naks bytes id kind body heard unselected no_identity no_notification barred) =
+  row_keeps : (input : PeerInput) (out : PeerAnswer) → ((nonce : List ℕ) → input ≡ restart nonce → ⊥) → rows.PeerRow now input out → Keeps setup accepted made out
+  row_keeps _ _ same (rows.begins nonce) = absurd (same nonce refl)
+  row_keeps _ _ same (rows.ended bytes over) = quiet setup accepted made _ refl stands
+  row_keeps _ _ same (rows.rests report no_octets no_restart over) = quiet setup accepted made _ refl stands
+  row_keeps _ _ same (rows.drops bytes path c going why) = quiet setup accepted made _ refl stands
+  row_keeps _ _ same (rows.waits going fails goes_on) = quiet setup accepted made _ refl stands
+  row_keeps _ _ same (rows.identifies bytes id kind body heard unselected is_identity) = quiet setup accepted made _ refl (remains _ _ _ stands.sure)
+  row_keeps _ _ same (rows.notifies bytes id kind body heard unselected is_notification) = quiet setup accepted made _ refl (remains _ _ _ stands.sure)
+  row_keeps _ _ same (rows.naks bytes id kind body heard unselected no_identity no_notification barred) =
       quiet setup accepted made _ refl (remains _ _ _ stands.sure)
-  row_keeps _ _ (rows.resends bytes id kind body heard) = quiet setup accepted made _ refl stands
-  row_keeps _ _ (rows.ends_well input entered going sure why) = quiet setup accepted made _ refl (remains _ _ _ (λ _. sure))
-  row_keeps _ _ (rows.ends_badly input entered going why) = quiet setup accepted made _ refl (remains _ _ _ (λ e. absurd (false≢true e)))
-  row_keeps _ _ (rows.method_replies bytes selects id kind body packet m d tags views heard calls turned _) =
+  row_keeps _ _ same (rows.resends bytes id kind body heard) = quiet setup accepted made _ refl stands
+  row_keeps _ _ same (rows.ends_well input entered going sure why) = quiet setup accepted made _ refl (remains _ _ _ (λ _. sure))
+  row_keeps _ _ same (rows.ends_badly input entered going why) = quiet setup accepted made _ refl (remains _ _ _ (λ e. absurd (false≢true e)))
+  row_keeps _ _ same (rows.method_replies bytes selects id kind body packet m d tags views heard calls turned _) =
       record { stands = after_turn kind packet m d tags views (turned_to selects kind _ _ calls turned) _ _ _ (goes_on now.vars.state heard.going) }
-  row_keeps _ _ (rows.method_fails bytes selects id kind body packet m d tags views heard calls turned _) =
+  row_keeps _ _ same (rows.method_fails bytes selects id kind body packet m d tags views heard calls turned _) =
       record { stands = after_turn kind packet m d tags views (turned_to selects kind _ _ calls turned) _ _ _ false≢true }
 
--- every input keeps what stands
-pub peer_keeps : (setup : PeerSetup) (now : PeerNow) (accepted made : List TagRecord) (input : PeerInput) → PeerStands setup now accepted made
+-- every input but the begin of a new conversation keeps what stands
+pub peer_keeps : (setup : PeerSetup) (now : PeerNow) (accepted made : List TagRecord) (input : PeerInput)
+    → ((nonce : List ℕ) → input ≡ restart nonce → ⊥) → PeerStands setup now accepted made
     → (let out = peer_takes now input in
     PeerStands setup out.after (accepted ++ out.step.tags.accepted) (made ++ out.step.tags.made))
-peer_keeps setup now accepted made input stands = (row_keeps setup now accepted made stands input _ (peer_answers_are_rows now input)).stands
+peer_keeps setup now accepted made input same stands = (row_keeps setup now accepted made stands input _ same (peer_answers_are_rows now input)).stands
+
+-- a peer of these settings that begins a new conversation stands as one that has just begun, with the new nonce
+pub peer_stands_anew : (setup : PeerSetup) (now : PeerNow) (nonce : List ℕ) → now.vars.setup ≡ setup
+    → PeerStands (own_nonce setup nonce) (peer_takes now (restart nonce)).after [] []
+unfolding peer_restart
+peer_stands_anew setup now nonce own =
+    subst (λ (s : PeerSetup). PeerStands (own_nonce s nonce) (peer_made (own_nonce now.vars.setup nonce)) [] []) own (peer_begins (own_nonce now.vars.setup nonce))
+
+-- it has made no tag in it
+pub peer_tags_none : (now : PeerNow) (nonce : List ℕ) → (peer_takes now (restart nonce)).step.tags ≡ no_tags
+unfolding peer_restart
+peer_tags_none now nonce = refl
 
 -- a peer has accepted at most two tags and made at most two
 psk_few : (setup : PeerSetup) (view : psk.View) (accepted made : List TagRecord) → PskPeerTags setup view accepted made → AreFew accepted made

@@ -21,8 +21,8 @@ use Rattle.method_laws.specs.GpskPeerRows as gpsk_row
 use Rattle.method_laws.specs.PskPeerRows as psk_row
 use Rattle.method_laws.proofs.GpskPeerCases.{gpsk_peer_steps_are_rows}
 use Rattle.method_laws.proofs.PskPeerCases.{psk_peer_steps_are_rows}
-use Rattle.peer_machine.specs.Inputs.{PeerInput, octets, peer_takes}
-use Rattle.peer_machine.specs.PeerTable.{PeerNow, PeerAnswer, before_method, is_last_id}
+use Rattle.peer_machine.specs.Inputs.{PeerInput, octets, restart, peer_takes}
+use Rattle.peer_machine.specs.PeerTable.{PeerNow, PeerAnswer, before_method, is_last_id, peer_restart}
 use Rattle.peer_machine.specs.Rows as rows
 use Rattle.peer_machine.proofs.PeerRows.{peer_answers_are_rows}
 use Rattle.eap_world.specs.SingleSteps.{identifier_of, is_again}
@@ -123,6 +123,8 @@ pub data PeerSpeaks (now : PeerNow) : PeerInput → PeerAnswer → Type 0 where
   repeats : (bytes : List ℕ) (out : PeerAnswer) (was_last : now.vars.last_id ≡ Some (identifier_of bytes)) (going : is_end now.vars.state ≡ false)
       (sent : out.step.sent ≡ Some now.vars.last_response) (same_id : out.after.vars.last_id ≡ now.vars.last_id)
       (same : out.after.vars.last_response ≡ now.vars.last_response) → PeerSpeaks now (octets bytes) out
+  -- nothing is sent, and no Response stands in a new conversation
+  begins : (nonce : List ℕ) (out : PeerAnswer) (unsent : out.step.sent ≡ None) (none : out.after.vars.last_id ≡ None) → PeerSpeaks now (restart nonce) out
 
 module _ (now : PeerNow) where
   answers_to : (bytes packet : List ℕ) (id kind : ℕ) (body : List ℕ) (out : PeerAnswer) → packet_of bytes ≡ Ok (request id kind body)
@@ -138,8 +140,10 @@ module _ (now : PeerNow) where
   before_new false rest new = new
 
   row_speaks : (input : PeerInput) (out : PeerAnswer) → rows.PeerRow now input out → PeerSpeaks now input out
+  unfolding peer_restart
   row_speaks _ _ (rows.ended bytes over) = rests _ _ refl refl refl
-  row_speaks _ _ (rows.rests report no_octets over) = rests _ _ refl refl refl
+  row_speaks _ _ (rows.rests report no_octets no_restart over) = rests _ _ refl refl refl
+  row_speaks _ _ (rows.begins nonce) = begins nonce _ refl refl
   row_speaks _ _ (rows.drops bytes path c going why) = rests _ _ refl refl refl
   row_speaks _ _ (rows.waits going fails goes_on) = rests _ _ refl refl refl
   row_speaks _ _ (rows.identifies bytes id kind body heard unselected is_identity) =

@@ -34,7 +34,7 @@ pub record IsSame (p : peer.Login) (s : server.Login) : Type 0 where
   pub rand_s : p.rand_s ≡ rand_of s.nonce
 
 -- equal octets under both MACs
-covers_same : (p : peer.Login) (s : server.Login) → length (rand_of p.nonce) ≡ 16 → length s.rand_p ≡ 16 → length p.rand_s ≡ 16 → length (rand_of s.nonce) ≡ 16
+pub covers_same : (p : peer.Login) (s : server.Login) → length (rand_of p.nonce) ≡ 16 → length s.rand_p ≡ 16 → length p.rand_s ≡ 16 → length (rand_of s.nonce) ≡ 16
     → p.cred.psk ≡ s.psk → server.mac_p_covers s ≡ peer.mac_p_covers p → peer.mac_s_covers p ≡ server.mac_s_covers s → IsSame p s
 unfolding peer.mac_p_covers server.mac_p_covers peer.mac_s_covers server.mac_s_covers mac_p_octets mac_s_octets
 covers_same p s size_1 size_2 size_3 size_4 psk first second =

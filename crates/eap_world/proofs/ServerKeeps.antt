@@ -1,4 +1,5 @@
--- Every input of the server after its start keeps what stands of it.
+-- Every input of the server after its start keeps what stands of it, but for the begin of a new conversation, in which it
+-- stands anew.
 use Rattle.std.proofs.Common.{◌≡◌, ℕ, List, [], ◌∷◌, ◌++◌, Bool, true, false, Option, Some, None, Ok, refl, ap, sym, subst, ◌∙◌, arith, append-nil}
 use Rattle.std.specs.Prelude.{◌==◌, not}
 use Rattle.std.proofs.lemmas.Bool.{and_parts, cond_both, eqb-true, false≢true, not-true}
@@ -34,10 +35,10 @@ use Rattle.method_laws.specs.GpskServerRows as gpsk_row
 use Rattle.method_laws.specs.PskServerRows as psk_row
 use Rattle.method_laws.proofs.GpskServerCases.{gpsk_server_steps_are_rows}
 use Rattle.method_laws.proofs.PskServerCases.{psk_server_steps_are_rows}
-use Rattle.server_machine.specs.Inputs.{ServerInput, start, server_takes}
+use Rattle.server_machine.specs.Inputs.{ServerInput, start, restart, server_takes}
 use Rattle.server_machine.specs.Rows as rows
 use Rattle.server_machine.specs.Rows.{Selects, after_identity, after_nak, first_identity, first_nak, first_other}
-use Rattle.server_machine.specs.ServerTable.{ServerNow, ServerAnswer, identity, server_made, next_id, with_request, offers, is_proposed, is_started, awaits_first, is_backend, picked_up, server_start}
+use Rattle.server_machine.specs.ServerTable.{ServerNow, ServerAnswer, identity, own_nonce, server_made, server_restart, next_id, with_request, offers, is_proposed, is_started, awaits_first, is_backend, picked_up, server_start}
 use Rattle.server_machine.specs.declared.variables.Role.{Role}
 use Rattle.server_machine.proofs.ServerRows.{server_answers_are_rows}
 use Rattle.server_machine.specs.declared.variables.Progress.{Progress}
@@ -500,36 +501,54 @@ module _ (setup : ServerSetup) (now : ServerNow) (accepted made : List TagRecord
       → MethodTurned (record { turn = answered; after = views })
   turned_to id kind body answered views turned = subst MethodTurned turned.is_turn (method_turned _ kind turned.is_current)
 
-  row_keeps : (input : ServerInput) (out : ServerAnswer) → (input ≡ start → ⊥) → rows.ServerRow now input out → Keeps setup accepted made out
-  row_keeps _ _ later (rows.ended bytes over) = quiet setup accepted made _ refl stands
-  row_keeps _ _ later (rows.rests over) = quiet setup accepted made _ refl stands
-  row_keeps _ _ later (rows.goes_on is_begun) = absurd (later refl)
-  row_keeps _ _ later (rows.drops bytes path c going why) = quiet setup accepted made _ refl stands
-  row_keeps _ _ later (rows.starts unstarted) = absurd (later refl)
-  row_keeps _ _ later (rows.resends going in_time) = quiet setup accepted made _ refl (remains _ _ _ _ stands.unstarted stands.proposed stands.sure)
-  row_keeps _ _ later (rows.times_out going late) = quiet setup accepted made _ refl
+  row_keeps : (input : ServerInput) (out : ServerAnswer) → (input ≡ start → ⊥) → ((nonce : List ℕ) → input ≡ restart nonce → ⊥)
+      → rows.ServerRow now input out → Keeps setup accepted made out
+  row_keeps _ _ later same (rows.begins nonce) = absurd (same nonce refl)
+  row_keeps _ _ later same (rows.ended bytes over) = quiet setup accepted made _ refl stands
+  row_keeps _ _ later same (rows.rests over) = quiet setup accepted made _ refl stands
+  row_keeps _ _ later same (rows.goes_on is_begun) = absurd (later refl)
+  row_keeps _ _ later same (rows.drops bytes path c going why) = quiet setup accepted made _ refl stands
+  row_keeps _ _ later same (rows.starts unstarted) = absurd (later refl)
+  row_keeps _ _ later same (rows.resends going in_time) = quiet setup accepted made _ refl (remains _ _ _ _ stands.unstarted stands.proposed stands.sure)
+  row_keeps _ _ later same (rows.times_out going late) = quiet setup accepted made _ refl
       (remains _ _ _ _ (λ e. absurd (false≢true (sym e))) stands.proposed (λ e. absurd (false≢true e)))
-  row_keeps _ _ later (rows.proposes bytes id kind body entered vars desired next packet views heard selects next_is) =
+  row_keeps _ _ later same (rows.proposes bytes id kind body entered vars desired next packet views heard selects next_is) =
       offer_keeps entered vars desired id next _ (proposing (goes_on now.vars.state heard.going) id kind body entered vars desired selects) next_is
-  row_keeps _ _ later (rows.proposes_without bytes id kind body entered vars desired next views heard selects next_is) =
+  row_keeps _ _ later same (rows.proposes_without bytes id kind body entered vars desired next views heard selects next_is) =
       offer_keeps entered vars desired id next _ (proposing (goes_on now.vars.state heard.going) id kind body entered vars desired selects) next_is
-  row_keeps _ _ later (rows.proposes_none bytes id kind body entered vars desired heard selects none) =
+  row_keeps _ _ later same (rows.proposes_none bytes id kind body entered vars desired heard selects none) =
       quiet setup accepted made _ refl (proposing (goes_on now.vars.state heard.going) id kind body entered vars desired selects).gives_up
-  row_keeps _ _ later (rows.requests bytes id kind body packet tags views heard turned) =
+  row_keeps _ _ later same (rows.requests bytes id kind body packet tags views heard turned) =
       record {
         stands = after_request packet tags views (turned_to id kind body _ views turned) (started_by id turned.is_id) (goes_on now.vars.state heard.going);
       }
-  row_keeps _ _ later (rows.succeeds bytes id kind body tags views heard turned) =
+  row_keeps _ _ later same (rows.succeeds bytes id kind body tags views heard turned) =
       record { stands = after_end true tags views (turned_to id kind body _ views turned) _ refl (λ _. refl) }
-  row_keeps _ _ later (rows.method_fails bytes id kind body tags views heard turned) =
+  row_keeps _ _ later same (rows.method_fails bytes id kind body tags views heard turned) =
       record { stands = after_end false tags views (turned_to id kind body _ views turned) _ refl (λ e. e) }
 
--- every input after the start keeps what stands
+-- every input after the start but the begin of a new conversation keeps what stands
 pub server_keeps : (setup : ServerSetup) (now : ServerNow) (accepted made : List TagRecord) (input : ServerInput) → (input ≡ start → ⊥)
-    → ServerStands setup now accepted made
+    → ((nonce : List ℕ) → input ≡ restart nonce → ⊥) → ServerStands setup now accepted made
     → (let out = server_takes now input in ServerStands setup out.after (accepted ++ out.step.tags.accepted) (made ++ out.step.tags.made))
-server_keeps setup now accepted made input later stands =
-    (row_keeps setup now accepted made stands input _ later (server_answers_are_rows now input)).stands
+server_keeps setup now accepted made input later same stands =
+    (row_keeps setup now accepted made stands input _ later same (server_answers_are_rows now input)).stands
+
+-- a server of these settings that begins a new conversation stands as one that was made, or has started, with the new
+-- nonce
+pub server_stands_anew : (setup : ServerSetup) (now : ServerNow) (nonce : List ℕ) → now.vars.setup ≡ setup
+    → ServerStands (own_nonce setup nonce) (server_takes now (restart nonce)).after [] []
+unfolding server_restart
+server_stands_anew setup now nonce own =
+    subst (λ (s : ServerSetup). ServerStands (own_nonce s nonce) (server_restart now nonce).after [] []) own
+    (cond_both (is_backend now.vars) _ _ (λ (out : ServerAnswer). ServerStands (own_nonce now.vars.setup nonce) out.after [] [])
+    (λ _. server_begins now.vars.role (own_nonce now.vars.setup nonce) now.vars.first_id now.vars.max_retrans)
+    (λ _. started_stands now.vars.role (own_nonce now.vars.setup nonce) now.vars.first_id now.vars.max_retrans))
+
+-- it has made no tag in it
+pub server_tags_none : (now : ServerNow) (nonce : List ℕ) → (server_takes now (restart nonce)).step.tags ≡ no_tags
+unfolding server_restart server_start
+server_tags_none now nonce = cond_both (is_backend now.vars) _ _ (λ (out : ServerAnswer). out.step.tags ≡ no_tags) (λ _. refl) (λ _. refl)
 
 -- a server has accepted at most two tags and made at most two
 psk_few : (setup : ServerSetup) (view : psk.View) (accepted made : List TagRecord) → PskServerTags setup view accepted made → AreFew accepted made

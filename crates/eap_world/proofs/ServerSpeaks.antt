@@ -23,10 +23,10 @@ use Rattle.method_laws.specs.GpskServerRows as gpsk_row
 use Rattle.method_laws.specs.PskServerRows as psk_row
 use Rattle.method_laws.proofs.GpskServerCases.{gpsk_server_steps_are_rows}
 use Rattle.method_laws.proofs.PskServerCases.{psk_server_steps_are_rows}
-use Rattle.server_machine.specs.Inputs.{ServerInput, start, timeout, server_takes}
+use Rattle.server_machine.specs.Inputs.{ServerInput, start, timeout, restart, server_takes}
 use Rattle.server_machine.specs.Rows as rows
 use Rattle.server_machine.specs.Rows.{Selects, after_identity, after_nak, first_identity, first_nak, first_other}
-use Rattle.server_machine.specs.ServerTable.{ServerNow, ServerAnswer, is_started, is_backend, awaits_first, next_id, next_id_after, server_start}
+use Rattle.server_machine.specs.ServerTable.{ServerNow, ServerAnswer, is_started, is_backend, awaits_first, next_id, next_id_after, server_restart, server_start}
 use Rattle.server_machine.specs.declared.variables.ServerVariables.{ServerVariables}
 use Rattle.server_machine.proofs.ServerRows.{server_answers_are_rows}
 use Rattle.eap_world.specs.SingleSteps.{identifier_of, is_again}
@@ -152,6 +152,12 @@ pub data ServerSpeaks (now : ServerNow) (input : ServerInput) (out : ServerAnswe
   ends : (going : is_end now.vars.state ≡ false) (over : is_end out.after.vars.state ≡ true) (new : list_any is_again out.step.path ≡ false)
       (each : (packet : List ℕ) → out.step.sent ≡ Some packet → IsEnd packet) → ServerSpeaks now input out
   gives_up : (going : is_end now.vars.state ≡ false) (over : is_end out.after.vars.state ≡ true) (unsent : out.step.sent ≡ None) → ServerSpeaks now input out
+  -- a new conversation, which a backend awaits and a stand-alone server begins with the Identity Request
+  awaits : (nonce : List ℕ) (is_restart : input ≡ restart nonce) (unsent : out.step.sent ≡ None) (unstarted : is_started out.after.vars ≡ false)
+      → ServerSpeaks now input out
+  begins : (nonce : List ℕ) (is_restart : input ≡ restart nonce) (packet : List ℕ) (id : ℕ) (is : IsRequest id packet) (sent : out.step.sent ≡ Some packet)
+      (new : list_any is_again out.step.path ≡ false) (current : out.after.vars.current_id ≡ Some id) (last : out.after.vars.last_request ≡ packet)
+      → ServerSpeaks now input out
 
 unstarted_goes : (s : State) → (elim s [ state.Initialize ↦ false | _ ↦ true ]) ≡ false → is_end s ≡ false
 unstarted_goes state.Initialize e = refl
@@ -184,8 +190,15 @@ module _ (now : ServerNow) where
   selects_next id kind body _ _ _ (first_nak awaited is_nak) alone = no_backend awaited alone
   selects_next id kind body _ _ _ (first_other awaited no_nak no_identity) alone = no_backend awaited alone
 
+  restart_speaks : (nonce : List ℕ) → ServerSpeaks now (restart nonce) (server_restart now nonce)
+  unfolding server_restart server_start
+  restart_speaks nonce =
+      cond_both (is_backend now.vars) _ _ (ServerSpeaks now (restart nonce)) (λ _. awaits nonce refl refl refl)
+      (λ _. begins nonce refl _ now.vars.first_id (request_is now.vars.first_id _ _) refl refl refl refl)
+
   row_speaks : (input : ServerInput) (out : ServerAnswer) → rows.ServerRow now input out → ServerSpeaks now input out
   unfolding server_start
+  row_speaks _ _ (rows.begins nonce) = restart_speaks nonce
   row_speaks _ _ (rows.ended bytes over) = rests refl refl refl refl
   row_speaks _ _ (rows.rests over) = rests refl refl refl refl
   row_speaks _ _ (rows.goes_on is_begun) = rests refl refl refl refl

@@ -6,7 +6,8 @@ use Rattle.eap_base.specs.declared.setup.Mode.TheVariants as mode
 use Rattle.server_machine.specs.Inputs.{server_takes, start}
 use Rattle.server_machine.specs.ServerTable.{ServerNow, is_started, server_start}
 use Rattle.server_machine.specs.declared.variables.Role.TheVariants.{StandAlone}
-use Rattle.server_machine.proofs.Starting.{backend_is_ready, starts_once, stays_ready}
+use Rattle.server_machine.proofs.Starting.{backend_is_ready, stays_as_it_is}
+use Rattle.eap_world.specs.Conversations.{Conversations}
 use Rattle.eap_world.specs.Sent.{Sent}
 use Rattle.eap_world.specs.World.{Acted, Action, Call, IsServing, Parties, act, acted, call_of, called, called_unless, first_skip}
 use Rattle.eap_world.specs.World.{role_in, skip_table, start_call, to_pass, to_peer, to_server}
@@ -19,8 +20,8 @@ Serves out = IsServing out.after.mode out.after.server.vars
 call-serves : (parties : Parties) (call : Call) → IsServing parties.mode parties.server.vars → Serves (called parties call)
 call-serves parties (to_peer input) serving = serving
 call-serves parties (to_server input) serving =
-    let same = starts_once parties.server input in
-    record { role = same.role ∙ serving.role; ready = stays_ready parties.server.vars (server_takes parties.server input).after.vars same serving.ready }
+    let same = stays_as_it_is parties.server input in
+    record { role = same.role ∙ serving.role; ready = same.ready serving.ready }
 call-serves parties (to_pass input) serving = serving
 
 unless-serves : (parties : Parties) (skip : Option Skip) (call : Option Call) → IsServing parties.mode parties.server.vars
@@ -29,11 +30,12 @@ unless-serves parties (Some skip) call serving = serving
 unless-serves parties None None serving = serving
 unless-serves parties None (Some call) serving = call-serves parties call serving
 
-pub act_serves : (parties after : Parties) (sent : List Sent) (e : Event) (action : Action) → act parties sent e ≡ acted action after
+pub act_serves : (parties after : Parties) (conversations : Conversations) (sent : List Sent) (e : Event) (action : Action)
+    → act parties conversations sent e ≡ acted action after
     → IsServing parties.mode parties.server.vars → IsServing after.mode after.server.vars
 unfolding act
-act_serves parties after sent e action is serving =
-    subst Serves is (unless-serves parties (first_skip (skip_table parties sent e)) (call_of sent e) serving)
+act_serves parties after conversations sent e action is serving =
+    subst Serves is (unless-serves parties (first_skip (skip_table parties conversations sent e)) (call_of conversations sent e) serving)
 
 -- the stand-alone server starts
 alone-starts : (server : ServerNow) → server.vars.role ≡ StandAlone → is_started server.vars ≡ false

@@ -3,13 +3,14 @@ use Rattle.std.proofs.Common.{refl}
 use Rattle.std.specs.Prelude.{IsSome}
 use Rattle.eap_world.specs.Laws.{CountsAlone, SkipsKeep}
 use Rattle.eap_world.specs.World.{WorldNow, WorldOutcome, to_pass, to_peer, to_server, world_step}
-use Rattle.eap_world.proofs.Acting.{Steps, skips, calls, step_steps}
+use Rattle.eap_world.proofs.Acting.{Steps, skips, calls, peer_restarts, server_restarts, step_steps}
 
 steps-keep : (w : WorldNow) (out : WorldOutcome) → Steps w out → IsSome out.told.skip → CountsAlone w out
 steps-keep w _ (skips skip) is_skip = record {
   parties = refl;
   sent = refl;
   book = refl;
+  conversations = refl;
   held = refl;
   events = refl;
   deliveries = refl;
@@ -19,9 +20,11 @@ steps-keep w _ (skips skip) is_skip = record {
   nothing = refl;
   unnamed = refl;
 }
-steps-keep w _ (calls (to_peer input) later) is_skip = cc is_skip
-steps-keep w _ (calls (to_server input) later) is_skip = cc is_skip
-steps-keep w _ (calls (to_pass input) later) is_skip = cc is_skip
+steps-keep w _ (calls (to_peer input) later same) is_skip = cc is_skip
+steps-keep w _ (calls (to_server input) later same) is_skip = cc is_skip
+steps-keep w _ (calls (to_pass input) later same) is_skip = cc is_skip
+steps-keep w _ (peer_restarts one left next) is_skip = cc is_skip
+steps-keep w _ (server_restarts one left next) is_skip = cc is_skip
 
 pub skips_keep : SkipsKeep
 skips_keep w e = steps-keep w (world_step w e) (step_steps w e)

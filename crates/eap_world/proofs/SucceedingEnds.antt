@@ -111,26 +111,50 @@ module _ (setup : ServerSetup) (now : ServerNow) where
   server_succeeds accepted made tags (servers.gpsk_succeeded login is_current in_view) =
       server_gpsk login is_current in_view accepted made (server_calls.told_by_gpsk setup now.vars.current now.views _ accepted made is_current in_view tags)
 
+-- the first tag that an end accepted is among these
+pub record FirstIn (accepted others : List TagRecord) : Type 0 where
+  pub is : (tag : TagRecord) (rest : List TagRecord) → accepted ≡ tag ∷ rest → IsIn tag others
+
+first_same : (one tag : TagRecord) (more rest all : List TagRecord) → all ≡ one ∷ more → all ≡ tag ∷ rest → one ≡ tag
+first_same one tag more rest all e f = cc
+
+pub first_in : (accepted others : List TagRecord) (tag : TagRecord) (more : List TagRecord) → accepted ≡ tag ∷ more → IsIn tag others → FirstIn accepted others
+first_in accepted others tag more first is =
+    record { is = λ t rest e. subst (λ (u : TagRecord). IsIn u others) (first_same tag t more rest accepted first e) is }
+
 module _ (peer_setup : PeerSetup) (server_setup : ServerSetup) (p : PeerNow) (s : ServerNow)
     (peer_nonce : length peer_setup.nonce ≡ 32) (server_nonce : length server_setup.nonce ≡ 32) where
-  both_succeed : (peer_accepted peer_made server_accepted server_made : List TagRecord)
+  -- the server's first tag is the peer's; so is the peer's first tag the server's, which only EAP-PSK asks
+  pub both_succeed : (peer_accepted peer_made server_accepted server_made : List TagRecord)
       → PeerSucceeds peer_setup p peer_accepted peer_made → ServerSucceeds server_setup s server_accepted server_made
-      → AreInEither peer_accepted server_made peer_made → AreInEither server_accepted peer_made server_made → BothSucceed peer_setup server_setup p s
+      → (p.vars.selected ≡ Some psk_kind → FirstIn peer_accepted server_made) → FirstIn server_accepted peer_made → BothSucceed peer_setup server_setup p s
   both_succeed _ _ _ _ (with_psk login header sealed id is_selected in_view facts) (of_psk other _ _ other_id is_current in_other checked r_sent)
       of_peer of_server =
-      let of_mac_p = of_other _ _ _ (of_server.each _ (here _)) (psk.server_not_own server_setup other checked server_nonce other_id) in
-      let of_mac_s = of_other _ _ _ (of_peer.each _ (here _)) (psk.peer_not_own peer_setup login facts id) in
       by_psk login facts other checked is_selected in_view is_current in_other r_sent
-      (psk.same_login peer_setup server_setup login facts other checked peer_nonce server_nonce id other_id of_mac_p of_mac_s)
+      (psk.same_login peer_setup server_setup login facts other checked peer_nonce server_nonce id other_id (of_server.is _ _ refl)
+      ((of_peer is_selected).is _ _ refl))
   both_succeed _ _ _ _ (with_psk login header sealed id is_selected in_view facts) (of_gpsk other pd _ is_current in_other checked) of_peer of_server =
-      absurd (other_method _ _ _ (of_other _ _ _ (of_server.each _ (here _)) (gpsk.not_own other pd)) (λ e. apart (sym e)) (λ e. apart (sym e)))
+      absurd (other_method _ _ _ (of_server.is _ _ refl) (λ e. apart (sym e)) (λ e. apart (sym e)))
   both_succeed _ _ _ _ (with_gpsk login list pd is_selected in_view facts) (of_psk other _ _ other_id is_current in_other checked r_sent) of_peer of_server =
-      absurd
-      (other_method _ _ _ (of_other _ _ _ (of_server.each _ (here _)) (psk.server_not_own server_setup other checked server_nonce other_id)) apart apart)
+      absurd (other_method _ _ _ (of_server.is _ _ refl) apart apart)
   both_succeed _ _ _ _ (with_gpsk login list _ is_selected in_view facts) (of_gpsk other pd _ is_current in_other checked) of_peer of_server =
       by_gpsk login list facts other pd checked is_selected in_view is_current in_other
-      (gpsk.same_login peer_setup server_setup login list facts other pd checked peer_nonce server_nonce
-      (of_other _ _ _ (of_server.each _ (here _)) (gpsk.not_own other pd)))
+      (gpsk.same_login peer_setup server_setup login list facts other pd checked peer_nonce server_nonce (of_server.is _ _ refl))
+
+  -- over a book that is honest of either end: neither has made its own first tag, but that a peer may have by EAP-GPSK
+  peer_first : (accepted made others : List TagRecord) → PeerSucceeds peer_setup p accepted made → AreInEither accepted others made
+      → p.vars.selected ≡ Some psk_kind → FirstIn accepted others
+  peer_first _ _ others (with_psk login header sealed id is_selected in_view facts) of_peer is_psk =
+      first_in _ others _ _ refl (of_other _ _ _ (of_peer.each _ (here _)) (psk.peer_not_own peer_setup login facts id))
+  peer_first _ _ others (with_gpsk login list pd is_selected in_view facts) of_peer is_psk =
+      absurd (one_method p.vars.selected gpsk_kind psk_kind refl is_selected is_psk)
+
+  server_first : (accepted made others : List TagRecord) → ServerSucceeds server_setup s accepted made → AreInEither accepted others made
+      → FirstIn accepted others
+  server_first _ _ others (of_psk login _ _ id is_current in_view checked r_sent) of_server =
+      first_in _ others _ _ refl (of_other _ _ _ (of_server.each _ (here _)) (psk.server_not_own server_setup login checked server_nonce id))
+  server_first _ _ others (of_gpsk login pd _ is_current in_view checked) of_server =
+      first_in _ others _ _ refl (of_other _ _ _ (of_server.each _ (here _)) (gpsk.not_own login pd))
 
 pub ends_succeed : (peer_setup : PeerSetup) (server_setup : ServerSetup) (p : PeerNow) (s : ServerNow)
     (peer_accepted peer_made server_accepted server_made : List TagRecord)
@@ -140,9 +164,11 @@ pub ends_succeed : (peer_setup : PeerSetup) (server_setup : ServerSetup) (p : Pe
     → is_success p.vars.state ≡ true → is_success s.vars.state ≡ true
     → BothSucceed peer_setup server_setup p s
 ends_succeed peer_setup server_setup p s _ _ _ _ peer_nonce server_nonce p_in s_in of_peer of_server sure other_sure =
-    both_succeed peer_setup server_setup p s peer_nonce server_nonce _ _ _ _
-    (peer_succeeds peer_setup p _ _ p_in.tags (p_in.decided (p_in.sure sure))) (server_succeeds server_setup s _ _ s_in.tags (s_in.sure other_sure))
-    of_peer of_server
+    let p_won = peer_succeeds peer_setup p _ _ p_in.tags (p_in.decided (p_in.sure sure)) in
+    let s_won = server_succeeds server_setup s _ _ s_in.tags (s_in.sure other_sure) in
+    both_succeed peer_setup server_setup p s peer_nonce server_nonce _ _ _ _ p_won s_won
+    (peer_first peer_setup server_setup p s peer_nonce server_nonce _ _ _ p_won of_peer)
+    (server_first peer_setup server_setup p s peer_nonce server_nonce _ _ _ s_won of_server)
 
 -- what both ends report is judged to agree
 pub both_agree : (peer_setup : PeerSetup) (server_setup : ServerSetup) (p : PeerNow) (s : ServerNow)

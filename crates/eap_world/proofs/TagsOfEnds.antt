@@ -112,7 +112,7 @@ same_parts : (m n : ℕ) (l k : Label) (p q o r t u : List ℕ) → m ≡ n → 
 same_parts m n l k p q o r t u a b c d e = rw (a, b, c, d, e) refl
 
 -- records that the test finds the same are equal
-tags_equal : (one other : TagRecord) → same_tag one other ≡ true → one ≡ other
+pub tags_equal : (one other : TagRecord) → same_tag one other ≡ true → one ≡ other
 tags_equal one other e =
     let a = and_parts (one.method == other.method) _ e in
     let b = and_parts (same_label one.label other.label) _ a.1 in
@@ -125,23 +125,23 @@ tags_equal one other e =
     let tag = (bytes_eq-Decides one.tag other.tag).0 d.1 in
     same_parts one.method other.method one.label other.label one.psk other.psk one.octets other.octets one.tag other.tag method label psk octets tag
 
-is_in_front : (tag : TagRecord) (xs ys : List TagRecord) → IsIn tag xs → IsIn tag (xs ++ ys)
+pub is_in_front : (tag : TagRecord) (xs ys : List TagRecord) → IsIn tag xs → IsIn tag (xs ++ ys)
 is_in_front tag _ ys (here rest) = here (rest ++ ys)
 is_in_front tag _ ys (later other rest is) = later other (rest ++ ys) (is_in_front tag rest ys is)
 
-in_if : (b : Bool) (t : TagRecord) (xs : List TagRecord) → b ≡ true → IsIn t (if b then t ∷ xs else xs)
+pub in_if : (b : Bool) (t : TagRecord) (xs : List TagRecord) → b ≡ true → IsIn t (if b then t ∷ xs else xs)
 in_if true t xs e = here xs
 in_if false t xs e = cc
 
-skip_if : (b : Bool) (t u : TagRecord) (xs : List TagRecord) → IsIn t xs → IsIn t (if b then u ∷ xs else xs)
+pub skip_if : (b : Bool) (t u : TagRecord) (xs : List TagRecord) → IsIn t xs → IsIn t (if b then u ∷ xs else xs)
 skip_if true t u xs is = later u xs is
 skip_if false t u xs is = is
 
-not_true : (b : Bool) → not b ≡ true → b ≡ false
+pub not_true : (b : Bool) → not b ≡ true → b ≡ false
 not_true true e = cc
 not_true false e = refl
 
-use_is : (how : Use) → (elim how [ Accepted ↦ true | Made ↦ false ]) ≡ false → same_use how Made ≡ true
+pub use_is : (how : Use) → (elim how [ Accepted ↦ true | Made ↦ false ]) ≡ false → same_use how Made ≡ true
 use_is Accepted e = cc
 use_is Made e = refl
 
@@ -191,11 +191,11 @@ by_place : (tag u : TagRecord) (xs ys : List TagRecord) (P : Type 0) → (tag �
 by_place tag u xs _ P first behind (here rest) e = first (let same : tag ≡ u = cc in same)
 by_place tag u xs _ P first behind (later other rest is) e = behind (subst (IsIn tag) (let same : rest ≡ xs = cc in same) is)
 
-by_test_in : (b : Bool) (tag u : TagRecord) (xs : List TagRecord) (P : Type 0) → (b ≡ true → tag ≡ u → P) → (IsIn tag xs → P) → IsIn tag (if b then u ∷ xs else xs) → P
+pub by_test_in : (b : Bool) (tag u : TagRecord) (xs : List TagRecord) (P : Type 0) → (b ≡ true → tag ≡ u → P) → (IsIn tag xs → P) → IsIn tag (if b then u ∷ xs else xs) → P
 by_test_in true tag u xs P first behind is = by_place tag u xs (u ∷ xs) P (first refl) behind is refl
 by_test_in false tag u xs P first behind is = behind is
 
-use_accepted : (how : Use) → same_use how Accepted ≡ true → (elim how [ Accepted ↦ true | Made ↦ false ]) ≡ true
+pub use_accepted : (how : Use) → same_use how Accepted ≡ true → (elim how [ Accepted ↦ true | Made ↦ false ]) ≡ true
 use_accepted Accepted e = refl
 use_accepted Made e = cc
 

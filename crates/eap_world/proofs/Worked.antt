@@ -24,7 +24,9 @@ use Rattle.server_machine.specs.ServerTable.{server_start, server_deliver, selec
 use Rattle.server_machine.specs.declared.variables.Progress.TheVariants.{End}
 use Rattle.server_machine.specs.declared.variables.Role.TheVariants.{StandAlone}
 use Rattle.pass_through.specs.PassTable.{pass_made}
-use Rattle.eap_world.specs.World.{world_made, world_start, act, world_step, outcomes_after, run_after}
+use Rattle.eap_world.specs.Conversations.{begun}
+use Rattle.eap_world.specs.declared.book.End.TheVariants as end
+use Rattle.eap_world.specs.World.{world_made, world_start, act, conversed_by, held_before, world_step, outcomes_after, run_after}
 
 -- alice logs in at the server srv, which sends a Request again four times; no end has a method
 example_setup : Setup
@@ -90,9 +92,16 @@ identity_round : run_after (world_start (world_made example_setup)).after three
       book = [];
       counts = record { events = 3; deliveries = 3; discards = 0 };
       held = record { peer = false; server = false };
+      conversations = record {
+        peer_left = [];
+        server_left = [];
+        begun = begun 0 end.Peer (replicate 32 17) ∷ begun 0 end.Server (replicate 32 34) ∷ [];
+        fresh = true;
+      };
+      version = 1;
       started = true;
     }
-unfolding run_after world_start world_step act server_start server_deliver peer_deliver select_action next_kind packet_of fault spelled example_setup three peer.views_begun server.views_begun peer.peer_report_of server.server_report_of
+unfolding run_after world_start world_step act conversed_by held_before server_start server_deliver peer_deliver select_action next_kind packet_of fault spelled example_setup three peer.views_begun server.views_begun peer.peer_report_of server.server_report_of
 identity_round = refl
 
 -- what is told of its events
@@ -124,5 +133,5 @@ identity_round_told : map (λ out. out.told) (outcomes_after (world_start (world
       sent = None;
       named = None;
     } ∷ []
-unfolding outcomes_after world_start world_step act server_start server_deliver peer_deliver select_action next_kind packet_of fault spelled example_setup three peer.views_begun server.views_begun peer.peer_report_of server.server_report_of
+unfolding outcomes_after world_start world_step act conversed_by held_before server_start server_deliver peer_deliver select_action next_kind packet_of fault spelled example_setup three peer.views_begun server.views_begun peer.peer_report_of server.server_report_of
 identity_round_told = refl

@@ -1,5 +1,5 @@
--- Agreement over an altering network.
-use Rattle.std.specs.Prelude.{◌≡◌, ◌≤◌, ◌+◌, List, [], ◌∷◌, ◌++◌, length, true, false, Some}
+-- Agreement over an altering network, where each end may begin new conversations.
+use Rattle.std.specs.Prelude.{◌≡◌, ◌≤◌, ◌⊎◌, ◌+◌, ◌*◌, List, [], ◌∷◌, ◌++◌, length, true, false, Some, All}
 use Rattle.eap_base.specs.declared.event.Event.{Event}
 use Rattle.eap_base.specs.declared.setup.Setup.{Setup}
 use Rattle.eap_base.specs.declared.setup.Suite.{Suite}
@@ -18,7 +18,10 @@ use Rattle.eap_world.specs.Book.{tags_verdict, tags_verdict_either}
 use Rattle.eap_world.specs.declared.book.TagsVerdict.TheVariants.{Honest}
 use Rattle.eap_world.specs.declared.book.End.{End}
 use Rattle.eap_world.specs.declared.book.Entry.{Entry}
+use Rattle.eap_world.specs.declared.conversations.Begun.{Begun}
 use Rattle.eap_world.specs.declared.book.Use.{Use}
+use Rattle.eap_world.specs.Conversations.{Conversations, begun_by, front}
+use Rattle.eap_world.specs.Foreign.{peer_foreign, server_foreign}
 use Rattle.eap_world.specs.Judgement.{verdict_of, is_success}
 use Rattle.eap_world.specs.declared.verdict.Verdict.TheVariants.{Agree, Apart}
 use Rattle.eap_world.specs.World.{WorldNow, WorldValue, now_of, world_made, world_start, run_after}
@@ -31,6 +34,8 @@ pub record IsWhole (setup : Setup) : Type 0 where
   pub server : IsSoundServer setup.server
   pub peer_nonce : length setup.peer.nonce ≡ 32
   pub server_nonce : length setup.server.nonce ≡ 32
+  pub peer_later : All (λ nonce. length nonce ≡ 32) setup.later.peer
+  pub server_later : All (λ nonce. length nonce ≡ 32) setup.later.server
 
 -- the world after the run of these events
 abbrev pub run_of : Setup → List Event → WorldNow
@@ -47,18 +52,39 @@ pub record IsOfRun (w : WorldNow) : Type 0 where
 abbrev pub HonestOfEither : Type 0
 HonestOfEither = (book : List Entry) → tags_verdict book ≡ Honest → tags_verdict_either book ≡ Honest
 
--- over a book that is honest of either end, two ends that both stand in SUCCESS agree, and the verdict is never
--- that they don't
-pub record AgreesWhereHonest (w : WorldNow) : Type 0 where
-  pub agrees : tags_verdict_either w.book ≡ Honest
-      → is_success w.parties.peer.vars.state ≡ true → is_success w.parties.server.vars.state ≡ true → verdict_of w ≡ Agree
-  pub never_apart : tags_verdict_either w.book ≡ Honest → verdict_of w ≡ Apart → ⊥
+-- no end has begun a second conversation, or each conversation has begun with a fresh nonce
+abbrev pub AreApart : Conversations → Type 0
+AreApart all = (length all.begun ≡ 2) ⊎ (all.fresh ≡ true)
 
--- whatever is delivered, lost, repeated, reordered, altered, reflected or injected: where each accepted tag was
--- made earlier by either end, two ends that both stand in SUCCESS agree
+-- each end holds the nonce of the other's present conversation, of which its front tells
+pub record HoldEachOther (w : WorldNow) : Type 0 where
+  pub rand_s : peer_foreign w.parties.peer.vars.selected w.parties.peer.views ≡ Some (front w.parties.server.vars.setup.nonce)
+  pub rand_p : server_foreign w.parties.server.vars.current w.parties.server.views ≡ Some (front w.parties.peer.vars.setup.nonce)
+
+-- two ends that both stand in SUCCESS in their present conversations agree, and the verdict is never that they don't
+pub record AgreesWhereHonest (w : WorldNow) : Type 0 where
+  -- where each accepted tag was made by the other end
+  pub agrees : tags_verdict w.book ≡ Honest → AreApart w.conversations
+      → is_success w.parties.peer.vars.state ≡ true → is_success w.parties.server.vars.state ≡ true → verdict_of w ≡ Agree
+  pub never_apart : tags_verdict w.book ≡ Honest → AreApart w.conversations → verdict_of w ≡ Apart → ⊥
+  -- where it was made by either end, and no end has begun a second conversation
+  pub reflected_agrees : tags_verdict_either w.book ≡ Honest → length w.conversations.begun ≡ 2
+      → is_success w.parties.peer.vars.state ≡ true → is_success w.parties.server.vars.state ≡ true → verdict_of w ≡ Agree
+  pub reflected_never_apart : tags_verdict_either w.book ≡ Honest → length w.conversations.begun ≡ 2 → verdict_of w ≡ Apart → ⊥
+  -- where nonces are fresh, each holds the other's nonce
+  pub hold : tags_verdict w.book ≡ Honest → w.conversations.fresh ≡ true
+      → is_success w.parties.peer.vars.state ≡ true → is_success w.parties.server.vars.state ≡ true → HoldEachOther w
+
+-- whatever is delivered, lost, repeated, reordered, altered, injected or restarted: where each accepted tag was made
+-- earlier by the other end, and no end has begun again or nonces are fresh, two ends that both stand in SUCCESS agree
 abbrev pub HonestEndsAgree : Type 0
 HonestEndsAgree =
     (setup : Setup) (events : List Event) → IsWhole setup → AgreesWhereHonest (run_of setup events)
+
+-- an end that has no later nonces never begins a second conversation
+abbrev pub BeginsOnce : Type 0
+BeginsOnce = (setup : Setup) (events : List Event) → setup.later.peer ≡ [] → setup.later.server ≡ []
+    → length (run_of setup events).conversations.begun ≡ 2
 
 -- the reported suite is the first of the server's own list that the peer allows
 pub record TakesFirstSuite (setup : Setup) (report : Report) : Type 0 where
@@ -80,25 +106,27 @@ pub record AreTheirs (setup : Setup) (w : WorldNow) : Type 0 where
   pub welcome : user.barred ≡ false
   pub first_suite : report.method ≡ gpsk_kind → TakesFirstSuite setup report
 
--- over a book that is honest of either end, what two ends that both stand in SUCCESS report is their own
-abbrev pub TheirsWhereHonest : Setup → WorldNow → Type 0
-TheirsWhereHonest setup w =
-    tags_verdict_either w.book ≡ Honest → is_success w.parties.peer.vars.state ≡ true → is_success w.parties.server.vars.state ≡ true → AreTheirs setup w
+-- what two ends that both stand in SUCCESS report in their present conversations is their own
+pub record TheirsWhereHonest (setup : Setup) (w : WorldNow) : Type 0 where
+  pub theirs : tags_verdict w.book ≡ Honest → AreApart w.conversations
+      → is_success w.parties.peer.vars.state ≡ true → is_success w.parties.server.vars.state ≡ true → AreTheirs setup w
+  pub reflected_theirs : tags_verdict_either w.book ≡ Honest → length w.conversations.begun ≡ 2
+      → is_success w.parties.peer.vars.state ≡ true → is_success w.parties.server.vars.state ≡ true → AreTheirs setup w
 
 -- under the premises of agreement, what both ends report is their own: names, key and suite
 abbrev pub HonestNamesAreTheirs : Type 0
 HonestNamesAreTheirs = (setup : Setup) (events : List Event) → IsWhole setup → TheirsWhereHonest setup (run_of setup events)
 
--- at most two tags of each end and use, so at most eight entries
-pub record HasFewTags (book : List Entry) : Type 0 where
-  pub each : (end : End) (how : Use) → length (tags_by end how book) ≤ 2
-  pub all : length book ≤ 8
+-- at most two tags of each end and use in each of its conversations, so at most four a conversation
+pub record HasFewTags (begun : List Begun) (book : List Entry) : Type 0 where
+  pub each : (end : End) (how : Use) → length (tags_by end how book) ≤ 2 * begun_by end begun
+  pub all : length book ≤ 4 * length begun
 
 -- the book stays small however many events there are
 abbrev pub FewTags : Type 0
-FewTags = (setup : Setup) (events : List Event) → HasFewTags (run_of setup events).book
+FewTags = (setup : Setup) (events : List Event) → (let w = run_of setup events in HasFewTags w.conversations.begun w.book)
 
--- at most one packet is sent at the start, and at most one in each event
+-- a run of so many events sends at most one packet more
 abbrev pub FewPackets : Type 0
 FewPackets = (setup : Setup) (events : List Event) → length (run_of setup events).sent ≤ length events + 1
 
@@ -108,11 +136,11 @@ module _ {P S : Type 0} (peer_shown : P → PeerShown) (server_shown : S → Ser
   BeginsRun before after = (setup : Setup) → now_of peer_shown server_shown before ≡ world_made setup → now_of peer_shown server_shown after ≡ run_of setup []
 
   abbrev pub BeginsSmall : WorldValue P S → WorldValue P S → Type 0
-  BeginsSmall before after = (setup : Setup) → now_of peer_shown server_shown before ≡ world_made setup → HasFewTags after.book
+  BeginsSmall before after = (setup : Setup) → now_of peer_shown server_shown before ≡ world_made setup → HasFewTags after.conversations.begun after.book
 
   abbrev pub GoesOn : Event → WorldValue P S → WorldValue P S → Type 0
   GoesOn event before after = (setup : Setup) (events : List Event)
       → now_of peer_shown server_shown before ≡ run_of setup events → now_of peer_shown server_shown after ≡ run_of setup (events ++ (event ∷ []))
 
   abbrev pub StaysSmall : WorldValue P S → WorldValue P S → Type 0
-  StaysSmall before after = (setup : Setup) (events : List Event) → now_of peer_shown server_shown before ≡ run_of setup events → HasFewTags after.book
+  StaysSmall before after = (setup : Setup) (events : List Event) → now_of peer_shown server_shown before ≡ run_of setup events → HasFewTags after.conversations.begun after.book

@@ -23,11 +23,12 @@ abbrev pub DiscardsKeep : Type 0
 DiscardsKeep = (w : WorldNow) (e : Event) → IsSome (world_step w e).told.cause → KeepsBothEnds w (world_step w e).after
 
 -- nothing but the number of events changed: no party, nothing sent, nothing in the book, no report seen, no
--- other count; and it is told that no party acted, entered a state, sent a packet or showed a report
+-- other count, no conversation; and it is told that no party acted, entered a state, sent a packet or showed a report
 pub record CountsAlone (before : WorldNow) (out : WorldOutcome) : Type 0 where
   pub parties : out.after.parties ≡ before.parties
   pub sent : out.after.sent ≡ before.sent
   pub book : out.after.book ≡ before.book
+  pub conversations : out.after.conversations ≡ before.conversations
   pub held : out.after.held ≡ before.held
   pub events : out.after.counts.events ≡ before.counts.events + 1
   pub deliveries : out.after.counts.deliveries ≡ before.counts.deliveries

@@ -1,5 +1,5 @@
 -- The tags of each end, taken out of the book in their order.
-use Rattle.std.specs.Prelude.{◌≤◌, ◌⊎◌, List, [], ◌∷◌, length, Bool, true, false, ◌&&◌, if◌then◌else◌}
+use Rattle.std.specs.Prelude.{◌≤◌, ◌⊎◌, ℕ, List, [], ◌∷◌, length, filter, Bool, true, false, ◌&&◌, nat_lt, if◌then◌else◌}
 use Rattle.eap_method.specs.declared.tags.TagRecord.{TagRecord}
 use Rattle.eap_world.specs.Book.{same_end}
 use Rattle.eap_world.specs.declared.book.End.{End}
@@ -17,6 +17,13 @@ same_use Made Made = true
 unfoldable pub tags_by : End → Use → List Entry → List TagRecord
 tags_by end how [] = []
 tags_by end how (e ∷ rest) = if same_end e.end end && same_use e.used how then e.tag ∷ tags_by end how rest else tags_by end how rest
+
+-- the entries of events after this one
+abbrev pub is_after : ℕ → Entry → Bool
+is_after event e = nat_lt event e.event
+
+abbrev pub since : ℕ → List Entry → List Entry
+since event book = filter (is_after event) book
 
 -- a record is among these
 pub data IsIn (tag : TagRecord) : List TagRecord → Type 0 where

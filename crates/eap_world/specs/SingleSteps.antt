@@ -21,7 +21,7 @@ use Rattle.eap_world.specs.declared.book.End.TheVariants as end
 use Rattle.eap_world.specs.declared.book.Use.TheVariants.{Accepted}
 use Rattle.eap_world.specs.Agreement.{run_of}
 use Rattle.eap_world.specs.Judgement.{is_success}
-use Rattle.eap_world.specs.Records.{tags_by}
+use Rattle.eap_world.specs.EndsStand.{present_tags}
 use Rattle.eap_world.specs.Sent.{Sent, last_to, packet_numbered}
 use Rattle.eap_world.specs.World.{Parties, WorldNow, WorldOutcome, WorldValue, altered, now_of, octets_of, state_of, world_outcome, world_step}
 use Rattle.eap_world.specs.declared.told.Told.{Told}
@@ -38,10 +38,18 @@ handed_in sent (event.Cut n keep) = take keep (octets_of (packet_numbered sent n
 handed_in sent (event.Inject port octets) = octets
 handed_in sent _ = []
 
--- a timer ends
-abbrev pub is_timer : Event → Bool
-is_timer (event.Timeout party) = true
-is_timer _ = false
+-- octets come to a party
+abbrev pub is_delivery_of : Event → Bool
+is_delivery_of (event.Deliver n) = true
+is_delivery_of (event.Alter n place mask) = true
+is_delivery_of (event.Cut n keep) = true
+is_delivery_of (event.Inject port octets) = true
+is_delivery_of _ = false
+
+-- a party begins a new conversation
+abbrev pub is_restart : Event → Bool
+is_restart (event.Restart party) = true
+is_restart _ = false
 
 -- in an event this party acted and sent this packet
 pub record Sends (w : WorldNow) (out : WorldOutcome) (of : Party) (packet : Sent) : Type 0 where
@@ -82,12 +90,13 @@ pub record IsLawful (w : WorldNow) (e : Event) (out : WorldOutcome) : Type 0 whe
   pub repeats : (of : Party) (packet : Sent) → Sends w out of packet → list_any is_again out.told.path ≡ true
       → last_to packet.port w.sent ≡ Some packet.octets
   -- in mode alone a Request that the server sends in a delivery has the next Identifier
-  pub counts : w.parties.mode ≡ mode.Alone → is_timer e ≡ false → (packet : Sent) → Sends w out party.Server packet
+  pub counts : w.parties.mode ≡ mode.Alone → is_delivery_of e ≡ true → (packet : Sent) → Sends w out party.Server packet
       → code_of packet.octets ≡ 1 → CountsOn w.sent packet.octets
-  -- a party that has ended sends nothing
-  pub silent : (of : Party) (s : State) → state_of w.parties of ≡ Some s → has_ended of s ≡ true → (packet : Sent) → Sends w out of packet → ⊥
-  -- an end that stands in SUCCESS has accepted a tag
-  pub accepted : (of : End) → is_success (end_state out.after.parties of) ≡ true → 1 ≤ length (tags_by of Accepted out.after.book)
+  -- a party that has ended sends nothing, unless it begins anew
+  pub silent : is_restart e ≡ false → (of : Party) (s : State) → state_of w.parties of ≡ Some s → has_ended of s ≡ true → (packet : Sent) → Sends w out of packet → ⊥
+  -- an end that stands in SUCCESS has accepted a tag in its present conversation
+  pub accepted : (of : End) → is_success (end_state out.after.parties of) ≡ true
+      → 1 ≤ length (present_tags of Accepted out.after)
 
 -- each step of a run is lawful
 abbrev pub StepsAreLawful : Type 0

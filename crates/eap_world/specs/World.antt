@@ -11,8 +11,8 @@ use Rattle.eap_base.specs.declared.setup.Party.TheVariants as party
 use Rattle.eap_base.specs.declared.event.Event.{Event}
 use Rattle.eap_base.specs.declared.event.Event.TheVariants as event
 use Rattle.eap_packet.specs.declared.state.State.{State}
-use Rattle.eap_method.specs.Peer.{PeerShown}
-use Rattle.eap_method.specs.Server.{ServerShown}
+use Rattle.eap_method.specs.Peer.{PeerShown, have_each, peer_kinds}
+use Rattle.eap_method.specs.Server.{ServerShown, server_kinds}
 use Rattle.eap_method.specs.Steps.{Step, step_with, is_end}
 use Rattle.eap_method.specs.Tags.{no_tags}
 use Rattle.eap_method.specs.Unnamed.{KeepsPeers, KeepsServers}
@@ -32,15 +32,17 @@ use Rattle.server_machine.specs.declared.variables.ServerVariables.{ServerVariab
 use Rattle.pass_through.specs.Inputs as pass_inputs
 use Rattle.pass_through.specs.Inputs.{PassInput, pass_takes}
 use Rattle.pass_through.specs.PassTable as passes
-use Rattle.pass_through.specs.PassTable.{PassStep, pass_made, is_over, has_timer, is_aaa_idle}
+use Rattle.pass_through.specs.PassTable.{Side, PassStep, pass_made, is_over, has_timer, is_aaa_idle}
 use Rattle.pass_through.specs.declared.variables.PassVariables.{PassVariables}
 use Rattle.eap_world.specs.Book.{booked}
+use Rattle.eap_world.specs.Conversations.{Conversations, conversations_made, heard_by, peer_begins, server_begins}
 use Rattle.eap_world.specs.Sent.{Sent, packet_numbered}
 use Rattle.eap_world.specs.declared.act.Action as brief_action
 use Rattle.eap_world.specs.declared.act.Action.TheVariants as brief
 use Rattle.eap_world.specs.declared.act.Did as brief_did
 use Rattle.eap_world.specs.declared.act.Machines.{Machines}
 use Rattle.eap_world.specs.declared.book.Entry.{Entry}
+use Rattle.eap_world.specs.declared.conversations.Waiting.{Waiting}
 use Rattle.eap_world.specs.declared.book.End.{End}
 use Rattle.eap_world.specs.declared.book.End.TheVariants as end
 use Rattle.eap_world.specs.declared.told.Counts.{Counts}
@@ -48,12 +50,12 @@ use Rattle.eap_world.specs.declared.told.Named.{Named}
 use Rattle.eap_world.specs.declared.told.SentPacket.{SentPacket}
 use Rattle.eap_world.specs.declared.told.Told.{Told}
 use Rattle.eap_world.specs.declared.told.Skip.{Skip}
-use Rattle.eap_world.specs.declared.told.Skip.TheVariants.{NoParty, Unsent, Place, Ended, NoTimer}
+use Rattle.eap_world.specs.declared.told.Skip.TheVariants.{NoParty, Unsent, Place, Ended, NoTimer, NoNonce}
 use Rattle.eap_world.specs.declared.world.Held.{Held}
 
 -- a world as its fields show it: its mode, its machines, the packets sent so far in order and how many octets
--- are stored for them, the book of tags, the counts, which ends have held a report, and whether the world has
--- started
+-- are stored for them, the book of tags, the counts, which ends have held a report in their present conversations,
+-- the conversations, the version of the scenario's text, and whether the world has started
 pub record WorldValue (P S : Type 0) : Type 0 where
   pub mode : Mode
   pub peer : PeerValue P
@@ -64,6 +66,8 @@ pub record WorldValue (P S : Type 0) : Type 0 where
   pub book : List Entry
   pub counts : Counts
   pub held : Held
+  pub conversations : Conversations
+  pub version : ℕ
   pub started : Bool
 
 -- in which mode the parties run, and what they are, where the objects show their methods and views; in mode
@@ -81,6 +85,8 @@ pub record WorldNow : Type 0 where
   pub book : List Entry
   pub counts : Counts
   pub held : Held
+  pub conversations : Conversations
+  pub version : ℕ
   pub started : Bool
 
 abbrev pub parties_of : {P S : Type 0} → (P → PeerShown) → (S → ServerShown) → Machines P S → Parties
@@ -95,6 +101,8 @@ now_of peer_shown server_shown w = record {
   book = w.book;
   counts = w.counts;
   held = w.held;
+  conversations = w.conversations;
+  version = w.version;
   started = w.started;
 }
 
@@ -123,6 +131,14 @@ pub record NamesAlike {P S : Type 0} (before after : WorldValue P S) : Type 0 wh
   pub peer_named : after.peer.vars.setup.methods ≡ before.peer.vars.setup.methods
   pub server_named : after.server.vars.setup.methods ≡ before.server.vars.setup.methods
 
+-- each method that an end's settings name has an object
+pub record HaveObjects {P S : Type 0} (peer_shown : P → PeerShown) (server_shown : S → ServerShown) (of_peer : PeerValue P) (of_server : ServerValue S) : Type 0 where
+  pub peer : have_each (peer_kinds (map peer_shown of_peer.methods)) of_peer.vars.setup.methods ≡ true
+  pub server : have_each (server_kinds (map server_shown of_server.methods)) of_server.vars.setup.methods ≡ true
+
+abbrev pub HasObjects : {P S : Type 0} → (P → PeerShown) → (S → ServerShown) → WorldValue P S → Type 0
+HasObjects peer_shown server_shown w = HaveObjects peer_shown server_shown w.peer w.server
+
 -- the server answers by itself, or behind the pass-through
 abbrev pub role_in : Mode → Role
 role_in mode.Alone = role.StandAlone
@@ -141,6 +157,8 @@ world_made setup = record {
   book = [];
   counts = record { events = 0; deliveries = 0; discards = 0 };
   held = record { peer = false; server = false };
+  conversations = conversations_made setup;
+  version = setup.later.version;
   started = false;
 }
 
@@ -225,18 +243,28 @@ timer_skips parties party.Server = (is_end parties.server.vars.state, Ended) ∷
 abbrev pub aaa_skips : Parties → List (Bool × Skip)
 aaa_skips parties = pass_skips parties.mode parties.pass.state (is_aaa_idle parties.pass.state)
 
-abbrev pub skip_table : Parties → List Sent → Event → List (Bool × Skip)
-skip_table parties sent (event.Deliver n) = packet_skips parties.mode (packet_numbered sent n) false
-skip_table parties sent (event.Alter n place mask) =
+-- an end begins a new conversation where it has a nonce left, the pass-through where it is there
+abbrev pub has_none : List Waiting → Bool
+has_none [] = true
+has_none (one ∷ left) = false
+
+abbrev pub restart_skips : Parties → Conversations → Party → List (Bool × Skip)
+restart_skips parties conversations party.Peer = (has_none conversations.peer_left, NoNonce) ∷ []
+restart_skips parties conversations party.Pass = (is_alone parties.mode, NoParty) ∷ []
+restart_skips parties conversations party.Server = (has_none conversations.server_left, NoNonce) ∷ []
+
+abbrev pub skip_table : Parties → Conversations → List Sent → Event → List (Bool × Skip)
+skip_table parties conversations sent (event.Deliver n) = packet_skips parties.mode (packet_numbered sent n) false
+skip_table parties conversations sent (event.Alter n place mask) =
     let packet = packet_numbered sent n in packet_skips parties.mode packet (nat_le (length (octets_of packet)) place)
-skip_table parties sent (event.Cut n keep) =
+skip_table parties conversations sent (event.Cut n keep) =
     let packet = packet_numbered sent n in packet_skips parties.mode packet (nat_lt (length (octets_of packet)) keep)
-skip_table parties sent (event.Inject port octets) = (is_absent parties.mode port, NoParty) ∷ []
-skip_table parties sent (event.Timeout party) = timer_skips parties party
-skip_table parties sent event.AaaTimeout = aaa_skips parties
-skip_table parties sent event.AaaNoReq = aaa_skips parties
-skip_table parties sent (event.Restart party) = (true, NoParty) ∷ []
-skip_table parties sent _ = (is_end parties.peer.vars.state, Ended) ∷ []
+skip_table parties conversations sent (event.Inject port octets) = (is_absent parties.mode port, NoParty) ∷ []
+skip_table parties conversations sent (event.Timeout party) = timer_skips parties party
+skip_table parties conversations sent event.AaaTimeout = aaa_skips parties
+skip_table parties conversations sent event.AaaNoReq = aaa_skips parties
+skip_table parties conversations sent (event.Restart party) = restart_skips parties conversations party
+skip_table parties conversations sent _ = (is_end parties.peer.vars.state, Ended) ∷ []
 
 -- the first skip whose condition holds
 abbrev pub first_skip : List (Bool × Skip) → Option Skip
@@ -264,15 +292,26 @@ reported event.AltAccept = Some (to_peer peer_inputs.alt_accept)
 reported event.AltReject = Some (to_peer peer_inputs.alt_reject)
 reported _ = None
 
-abbrev pub call_of : List Sent → Event → Option Call
-call_of sent (event.Deliver n) = let packet = packet_numbered sent n in call_with packet (octets_of packet)
-call_of sent (event.Alter n place mask) = let packet = packet_numbered sent n in call_with packet (altered (octets_of packet) place mask)
-call_of sent (event.Cut n keep) = let packet = packet_numbered sent n in call_with packet (take keep (octets_of packet))
-call_of sent (event.Inject port octets) = Some (call_at port octets)
-call_of sent (event.Timeout party) = Some (timer_call party)
-call_of sent event.AaaTimeout = Some (to_pass pass_inputs.aaa_timeout)
-call_of sent event.AaaNoReq = Some (to_pass pass_inputs.aaa_noreq)
-call_of sent e = reported e
+-- an end begins with the next of its nonces
+abbrev pub next_call : (List ℕ → Call) → List Waiting → Option Call
+next_call make [] = None
+next_call make (one ∷ left) = Some (make one.nonce)
+
+abbrev pub restart_call : Conversations → Party → Option Call
+restart_call conversations party.Peer = next_call (λ nonce. to_peer (peer_inputs.restart nonce)) conversations.peer_left
+restart_call conversations party.Pass = Some (to_pass pass_inputs.restart)
+restart_call conversations party.Server = next_call (λ nonce. to_server (server_inputs.restart nonce)) conversations.server_left
+
+abbrev pub call_of : Conversations → List Sent → Event → Option Call
+call_of conversations sent (event.Deliver n) = let packet = packet_numbered sent n in call_with packet (octets_of packet)
+call_of conversations sent (event.Alter n place mask) = let packet = packet_numbered sent n in call_with packet (altered (octets_of packet) place mask)
+call_of conversations sent (event.Cut n keep) = let packet = packet_numbered sent n in call_with packet (take keep (octets_of packet))
+call_of conversations sent (event.Inject port octets) = Some (call_at port octets)
+call_of conversations sent (event.Timeout party) = Some (timer_call party)
+call_of conversations sent event.AaaTimeout = Some (to_pass pass_inputs.aaa_timeout)
+call_of conversations sent event.AaaNoReq = Some (to_pass pass_inputs.aaa_noreq)
+call_of conversations sent (event.Restart party) = restart_call conversations party
+call_of conversations sent e = reported e
 
 -- what a call of a party did, with what it wrote: the party, whether octets were handed to it, where what it
 -- sends goes, and its step
@@ -317,19 +356,15 @@ did_at party port is_delivery step = record { party = party; is_delivery = is_de
 abbrev pub did_by : Mode → Party → Bool → Step → Did
 did_by mode party is_delivery step = did_at party (goes_to party mode) is_delivery step
 
--- what the pass-through does: what comes from the peer it sends on to the server, all else to the peer
-abbrev pub pass_port : PassInput → Port
-pass_port (pass_inputs.from_peer octets) = port.Server
-pass_port _ = port.Peer
-
-abbrev pub pass_sent : PassInput → PassStep → Option (List ℕ)
-pass_sent (pass_inputs.from_peer octets) step = step.to_server
-pass_sent _ step = step.to_peer
+-- what the pass-through does, whose packets go to the end on a side of it
+abbrev pub pass_port : Side → Port
+pass_port passes.Peer = port.Peer
+pass_port passes.Server = port.Server
 
 abbrev pub did_pass : PassInput → PassStep → Did
 did_pass input step =
-    did_at party.Pass (pass_port input) (is_delivery (to_pass input))
-    (record { path = step.path; cause = step.cause; sent = pass_sent input step; tags = no_tags })
+    did_at party.Pass (pass_port step.to) (is_delivery (to_pass input))
+    (record { path = step.path; cause = step.cause; sent = step.sent; tags = no_tags })
 
 abbrev pub called : Parties → Call → Acted
 called parties (to_peer input) =
@@ -375,9 +410,56 @@ unanswered parties input = called_unless parties (first_skip (aaa_skips parties)
 abbrev pub told_peer : Parties → Event → Acted
 told_peer parties e = called_unless parties (first_skip ((is_end parties.peer.vars.state, Ended) ∷ [])) (reported e)
 
--- what an event makes of the parties, where these packets were sent before it
-unfoldable pub act : Parties → List Sent → Event → Acted
-act parties sent e = called_unless parties (first_skip (skip_table parties sent e)) (call_of sent e)
+-- a party begins a new conversation
+abbrev pub restarted : Parties → Conversations → Party → Acted
+restarted parties conversations party =
+    called_unless parties (first_skip (restart_skips parties conversations party)) (restart_call conversations party)
+
+-- what an event makes of the parties, where these conversations have begun and these packets were sent before it
+unfoldable pub act : Parties → Conversations → List Sent → Event → Acted
+act parties conversations sent e =
+    called_unless parties (first_skip (skip_table parties conversations sent e)) (call_of conversations sent e)
+
+-- ---- what a call makes of the conversations: octets that are handed over are heard, and an end that begins a new one
+-- takes the next of its nonces; in event number so-and-so
+
+abbrev pub heard_in : Conversations → Option (List ℕ) → Conversations
+heard_in conversations None = conversations
+heard_in conversations (Some octets) = heard_by octets conversations
+
+-- the octets that a call hands to its party
+abbrev pub peer_octets : PeerInput → Option (List ℕ)
+peer_octets (peer_inputs.octets octets) = Some octets
+peer_octets _ = None
+
+abbrev pub server_octets : ServerInput → Option (List ℕ)
+server_octets (server_inputs.octets octets) = Some octets
+server_octets _ = None
+
+abbrev pub pass_octets : PassInput → Option (List ℕ)
+pass_octets (pass_inputs.from_peer octets) = Some octets
+pass_octets (pass_inputs.from_backend octets) = Some octets
+pass_octets _ = None
+
+abbrev pub call_octets : Call → Option (List ℕ)
+call_octets (to_peer input) = peer_octets input
+call_octets (to_server input) = server_octets input
+call_octets (to_pass input) = pass_octets input
+
+abbrev pub conversed : ℕ → Conversations → Call → Conversations
+conversed event conversations (to_peer (peer_inputs.restart nonce)) = peer_begins event conversations conversations.peer_left
+conversed event conversations (to_server (server_inputs.restart nonce)) = server_begins event conversations conversations.server_left
+conversed event conversations call = heard_in conversations (call_octets call)
+
+abbrev pub conversed_unless : ℕ → Conversations → Option Skip → Option Call → Conversations
+conversed_unless event conversations (Some skip) call = conversations
+conversed_unless event conversations None None = conversations
+conversed_unless event conversations None (Some call) = conversed event conversations call
+
+-- of an event
+unfoldable pub conversed_by : ℕ → Parties → Conversations → List Sent → Event → Conversations
+conversed_by event parties conversations sent e =
+    conversed_unless event conversations (first_skip (skip_table parties conversations sent e)) (call_of conversations sent e)
 
 -- ---- what is read off an action
 
@@ -441,6 +523,22 @@ abbrev pub held_after : Held → Option Named → Held
 held_after held None = held
 held_after held (Some named) = held_by held named.party
 
+-- an end that begins a new conversation holds no report in it yet
+abbrev pub held_anew : Held → Call → Held
+held_anew held (to_peer (peer_inputs.restart nonce)) = record held { peer = false }
+held_anew held (to_server (server_inputs.restart nonce)) = record held { server = false }
+held_anew held call = held
+
+abbrev pub held_unless : Held → Option Skip → Option Call → Held
+held_unless held (Some skip) call = held
+held_unless held None None = held
+held_unless held None (Some call) = held_anew held call
+
+-- before an event is told
+unfoldable pub held_before : Held → Parties → Conversations → List Sent → Event → Held
+held_before held parties conversations sent e =
+    held_unless held (first_skip (skip_table parties conversations sent e)) (call_of conversations sent e)
+
 -- what is told of it: the number of its event, that of the packet it sends, and a first report
 abbrev pub numbered : ℕ → Port → Option (List ℕ) → Option SentPacket
 numbered number port None = None
@@ -479,17 +577,20 @@ world_outcome told after = record { told = told; after = after }
 abbrev pub Tells : {P S : Type 0} → (P → PeerShown) → (S → ServerShown) → WorldOutcome → Told → WorldValue P S → Type 0
 Tells peer_shown server_shown out told after = out ≡ world_outcome told (now_of peer_shown server_shown after)
 
--- the world after the parties have acted as event number so-and-so, with these counts; it has started
-abbrev pub world_acted : WorldNow → ℕ → Counts → Acted → WorldOutcome
-world_acted w event counts out =
-    let named = named_by w.held out.after out.action in
+-- the world after the parties have acted as event number so-and-so, with these counts, where these ends had held a
+-- report and the conversations are these; it has started
+abbrev pub world_acted : WorldNow → ℕ → Counts → Held → Conversations → Acted → WorldOutcome
+world_acted w event counts held conversations out =
+    let named = named_by held out.after out.action in
     world_outcome (told_of event (length w.sent + 1) named out.action)
     (record {
       parties = out.after;
       sent = w.sent ++ sent_by out.action;
       book = w.book ++ booked_by event out.action;
       counts = counts;
-      held = held_after w.held named;
+      held = held_after held named;
+      conversations = conversations;
+      version = w.version;
       started = true;
     })
 
@@ -499,13 +600,15 @@ start_call mode.Alone = to_server server_inputs.start
 start_call mode.Through = to_pass pass_inputs.start
 
 unfoldable pub world_start : WorldNow → WorldOutcome
-world_start w = world_acted w 0 w.counts (called w.parties (start_call w.parties.mode))
+world_start w = world_acted w 0 w.counts w.held w.conversations (called w.parties (start_call w.parties.mode))
 
 -- the next event
 unfoldable pub world_step : WorldNow → Event → WorldOutcome
 world_step w e =
-    let out = act w.parties w.sent e in
-    world_acted w (w.counts.events + 1) (counted w.counts out.action) out
+    let event = w.counts.events + 1 in
+    let out = act w.parties w.conversations w.sent e in
+    world_acted w event (counted w.counts out.action) (held_before w.held w.parties w.conversations w.sent e)
+    (conversed_by event w.parties w.conversations w.sent e) out
 
 -- the run: the start, and then the events in order
 unfoldable pub run_after : WorldNow → List Event → WorldNow

@@ -6,17 +6,20 @@ ghost use Rattle.eap_method.specs.Steps.{step_with};
 ghost use Rattle.pass_through.specs.PassTable as passes;
 ghost use Rattle.server_machine.specs.ServerTable as servers;
 ghost use Rattle.eap_method.specs.declared.tags.Tags.{Tags};
+ghost use Rattle.eap_world.specs.Conversed.{begun_anew, heard_altered, heard_cut, heard_delivered, heard_injected};
 ghost use Rattle.eap_world.specs.Store.{lent};
-ghost use Rattle.eap_world.specs.World.{IsServing, RunAlike, act, acted_with, action_with, altered, called, delivered, delivered_altered, delivered_cut};
-ghost use Rattle.eap_world.specs.World.{did_at, did_by, goes_to, injected, is_absent, parties_of, start_call, timed_out, told_peer, unanswered};
+ghost use Rattle.eap_world.specs.World.{HaveObjects, IsServing, RunAlike, act, acted_with, action_with, altered, called, conversed_by};
+ghost use Rattle.eap_world.specs.World.{delivered, delivered_altered, delivered_cut, did_at, did_by, goes_to, injected, is_absent, parties_of};
+ghost use Rattle.eap_world.specs.World.{restarted, start_call, timed_out, told_peer, unanswered};
 ghost use Rattle.eap_world.specs.World as worlds;
 ghost use Rattle.eap_world.specs.declared.act.Action.TheVariants.{Skipped};
 ghost use Rattle.eap_world.specs.World.{first_skip, pass_skips, role_in};
 ghost use Rattle.pass_through.specs.Inputs.{aaa_timeout, aaa_noreq};
-ghost use Rattle.eap_base.specs.declared.setup.Party.TheVariants.{Pass, Server};
+ghost use Rattle.eap_base.specs.declared.setup.Party.TheVariants.{Pass, Peer, Server};
 ghost use Rattle.eap_base.specs.declared.setup.Port.TheVariants.{PassPeer, PassServer};
 ghost use Rattle.eap_world.specs.declared.told.Skip.TheVariants.{NoParty, Place};
 
+use crate::conversations::Conversations;
 use crate::store::{Store, Stored};
 use crate::told::Skip;
 use eap_base::{Event, Mode, Packet, Party, Port};
@@ -55,39 +58,70 @@ pub struct Machines<P, S> {
     pub pass: PassThrough,
 }
 
-/// An event comes to the machines, where these packets were sent before it. What is sent is written into
-/// `packet`, the records of tags into `tags`, in place of what was there. A skipped event changes no
-/// variable.
-#[tactic(auto, unfolding(crate::specs::World::act))]
+/// An event of this number comes to the machines, where these packets were sent before it. What is sent is written into
+/// `packet`, the records of tags into `tags`, in place of what was there. The conversations hear what is handed to a party,
+/// and an end that begins a new conversation does so with the next of its nonces. A skipped event changes no variable and
+/// no conversation. Each method of an end's settings has an object.
+#[tactic(auto, unfolding(crate::specs::World::act, crate::specs::World::conversed_by))]
 pub fn act<P: PeerMethod, S: ServerMethod>(
     machines: &mut Machines<P, S>,
+    conversations: &mut Conversations,
+    number: u32,
     sent: &Store,
     event: &Event,
     packet: &mut Packet,
     tags: &mut Tags,
 ) -> Action
     requires serving { IsServing machines.old.mode machines.old.server.vars }
-    ensures acts { act (parties_of P.peer_shown S.server_shown machines.old) sent.now.packets event.now
+    requires objects { HaveObjects P.peer_shown S.server_shown machines.old.peer machines.old.server }
+    ensures acts { act (parties_of P.peer_shown S.server_shown machines.old) conversations.old sent.now.packets event.now
         ≡ acted_with P.peer_shown S.server_shown result packet.new tags.new machines.new }
+    ensures conversed { conversations.new
+        ≡ conversed_by number (parties_of P.peer_shown S.server_shown machines.old) conversations.old sent.now.packets event.now }
     ensures alike { RunAlike P.peer_shown S.server_shown machines.old machines.new }
 {
     match event {
-        Event::Deliver { number } => deliver(machines, sent.get(*number), packet, tags),
+        Event::Deliver { number } => {
+            deliver(machines, conversations, sent.get(*number), packet, tags)
+        }
         Event::Alter {
             number,
             place,
             mask,
-        } => alter(machines, *place, *mask, sent.get(*number), packet, tags),
-        Event::Cut { number, keep } => cut(machines, *keep, sent.get(*number), packet, tags),
-        Event::Inject { port, octets } => hand(machines, *port, octets.as_slice(), packet, tags),
+        } => alter(
+            machines,
+            conversations,
+            *place,
+            *mask,
+            sent.get(*number),
+            packet,
+            tags,
+        ),
+        Event::Cut { number, keep } => cut(
+            machines,
+            conversations,
+            *keep,
+            sent.get(*number),
+            packet,
+            tags,
+        ),
+        Event::Inject { port, octets } => hand(
+            machines,
+            conversations,
+            *port,
+            octets.as_slice(),
+            packet,
+            tags,
+        ),
         Event::Timeout { party } => end_timer(machines, *party, packet, tags),
         Event::AaaTimeout => lose_server(machines, packet, tags),
         Event::AaaNoReq => ask_nothing(machines, packet, tags),
         Event::Idle => report(machines, event, packet, tags),
         Event::AltAccept => report(machines, event, packet, tags),
         Event::AltReject => report(machines, event, packet, tags),
-        // No party can begin a new conversation so far.
-        Event::Restart { .. } => Action::Skipped(Skip::NoParty),
+        Event::Restart { party } => {
+            restart(machines, conversations, number, *party, packet, tags)
+        }
     }
 }
 
@@ -174,6 +208,7 @@ fn is_absent(mode: Mode, port: Port) -> bool
 /// Octets come to a port.
 fn hand<P: PeerMethod, S: ServerMethod>(
     machines: &mut Machines<P, S>,
+    conversations: &mut Conversations,
     port: Port,
     octets: &[u8],
     packet: &mut Packet,
@@ -182,38 +217,44 @@ fn hand<P: PeerMethod, S: ServerMethod>(
     requires serving { IsServing machines.old.mode machines.old.server.vars }
     ensures acts { injected (parties_of P.peer_shown S.server_shown machines.old) port octets.now
         ≡ acted_with P.peer_shown S.server_shown result packet.new tags.new machines.new }
+    ensures heard { (number : ℕ) → conversations.new ≡ heard_injected number machines.old.mode conversations.old port octets.now }
     ensures alike { RunAlike P.peer_shown S.server_shown machines.old machines.new }
 {
     let mode = machines.mode;
     match port {
         Port::Peer => {
+            conversations.hear(octets);
             let step = machines.peer.deliver(octets, packet, tags);
             action_of(mode, Party::Peer, true, step)
         }
         Port::Server => {
+            conversations.hear(octets);
             let step = machines.server.deliver(octets, packet, tags);
             action_of(mode, Party::Server, true, step)
         }
-        Port::PassPeer => hand_from_peer(machines, octets, packet, tags),
-        Port::PassServer => hand_from_server(machines, octets, packet, tags),
+        Port::PassPeer => hand_from_peer(machines, conversations, octets, packet, tags),
+        Port::PassServer => hand_from_server(machines, conversations, octets, packet, tags),
     }
 }
 
 /// Octets come from the peer to the pass-through, which sends on to the server.
 fn hand_from_peer<P: PeerMethod, S: ServerMethod>(
     machines: &mut Machines<P, S>,
+    conversations: &mut Conversations,
     octets: &[u8],
     packet: &mut Packet,
     tags: &mut Tags,
 ) -> Action
     ensures acts { injected (parties_of P.peer_shown S.server_shown machines.old) PassPeer octets.now
         ≡ acted_with P.peer_shown S.server_shown result packet.new tags.new machines.new }
+    ensures heard { (number : ℕ) → conversations.new ≡ heard_injected number machines.old.mode conversations.old PassPeer octets.now }
     ensures alike { RunAlike P.peer_shown S.server_shown machines.old machines.new }
 {
     tags.clear();
     match machines.mode {
         Mode::Alone => Action::Skipped(Skip::NoParty),
         Mode::Through => {
+            conversations.hear(octets);
             let step = machines.pass.from_peer(octets, packet);
             action_to(Party::Pass, Port::Server, true, step)
         }
@@ -223,18 +264,21 @@ fn hand_from_peer<P: PeerMethod, S: ServerMethod>(
 /// Octets come from the server to the pass-through, which sends on to the peer.
 fn hand_from_server<P: PeerMethod, S: ServerMethod>(
     machines: &mut Machines<P, S>,
+    conversations: &mut Conversations,
     octets: &[u8],
     packet: &mut Packet,
     tags: &mut Tags,
 ) -> Action
     ensures acts { injected (parties_of P.peer_shown S.server_shown machines.old) PassServer octets.now
         ≡ acted_with P.peer_shown S.server_shown result packet.new tags.new machines.new }
+    ensures heard { (number : ℕ) → conversations.new ≡ heard_injected number machines.old.mode conversations.old PassServer octets.now }
     ensures alike { RunAlike P.peer_shown S.server_shown machines.old machines.new }
 {
     tags.clear();
     match machines.mode {
         Mode::Alone => Action::Skipped(Skip::NoParty),
         Mode::Through => {
+            conversations.hear(octets);
             let step = machines.pass.from_backend(octets, packet);
             action_to(Party::Pass, Port::Peer, true, step)
         }
@@ -244,6 +288,7 @@ fn hand_from_server<P: PeerMethod, S: ServerMethod>(
 /// A packet comes to its port.
 fn deliver<P: PeerMethod, S: ServerMethod>(
     machines: &mut Machines<P, S>,
+    conversations: &mut Conversations,
     sent: Option<Stored>,
     packet: &mut Packet,
     tags: &mut Tags,
@@ -251,17 +296,26 @@ fn deliver<P: PeerMethod, S: ServerMethod>(
     requires serving { IsServing machines.old.mode machines.old.server.vars }
     ensures acts { delivered (parties_of P.peer_shown S.server_shown machines.old) (lent sent.entry)
         ≡ acted_with P.peer_shown S.server_shown result packet.new tags.new machines.new }
+    ensures heard { (number : ℕ) → conversations.new ≡ heard_delivered number machines.old.mode conversations.old (lent sent.entry) }
     ensures alike { RunAlike P.peer_shown S.server_shown machines.old machines.new }
 {
     match sent {
         None => Action::Skipped(Skip::Unsent),
-        Some(stored) => hand(machines, stored.port, stored.octets, packet, tags),
+        Some(stored) => hand(
+            machines,
+            conversations,
+            stored.port,
+            stored.octets,
+            packet,
+            tags,
+        ),
     }
 }
 
 /// A packet comes to its port with its octet at `place` combined with `mask` by exclusive or.
 fn alter<P: PeerMethod, S: ServerMethod>(
     machines: &mut Machines<P, S>,
+    conversations: &mut Conversations,
     place: u16,
     mask: u8,
     sent: Option<Stored>,
@@ -272,6 +326,7 @@ fn alter<P: PeerMethod, S: ServerMethod>(
     requires sizes { IfSome sent (λ s. length s.octets.now ≤ 1500) }
     ensures acts { delivered_altered (parties_of P.peer_shown S.server_shown machines.old) (lent sent.entry) place mask
         ≡ acted_with P.peer_shown S.server_shown result packet.new tags.new machines.new }
+    ensures heard { (number : ℕ) → conversations.new ≡ heard_altered number machines.old.mode conversations.old (lent sent.entry) place mask }
     ensures alike { RunAlike P.peer_shown S.server_shown machines.old machines.new }
 {
     match sent {
@@ -281,7 +336,7 @@ fn alter<P: PeerMethod, S: ServerMethod>(
             if stored.octets.len() <= place {
                 misplaced(machines.mode, stored.port)
             } else {
-                hand_altered(machines, &stored, place, mask, packet, tags)
+                hand_altered(machines, conversations, &stored, place, mask, packet, tags)
             }
         }
     }
@@ -290,6 +345,7 @@ fn alter<P: PeerMethod, S: ServerMethod>(
 /// A packet comes to its port with its octet at `place`, which it has, combined with `mask`.
 fn hand_altered<P: PeerMethod, S: ServerMethod>(
     machines: &mut Machines<P, S>,
+    conversations: &mut Conversations,
     stored: &Stored,
     place: usize,
     mask: u8,
@@ -301,10 +357,18 @@ fn hand_altered<P: PeerMethod, S: ServerMethod>(
     requires place { place < length stored.now.octets.now }
     ensures acts { injected (parties_of P.peer_shown S.server_shown machines.old) stored.now.port (altered stored.now.octets.now place mask)
         ≡ acted_with P.peer_shown S.server_shown result packet.new tags.new machines.new }
+    ensures heard { (number : ℕ) → conversations.new ≡ heard_injected number machines.old.mode conversations.old stored.now.port (altered stored.now.octets.now place mask) }
     ensures alike { RunAlike P.peer_shown S.server_shown machines.old machines.new }
 {
     let changed = altered_copy(stored.octets, place, mask);
-    hand(machines, stored.port, changed.as_slice(), packet, tags)
+    hand(
+        machines,
+        conversations,
+        stored.port,
+        changed.as_slice(),
+        packet,
+        tags,
+    )
 }
 
 /// A copy whose octet at `place` is combined with `mask` by exclusive or.
@@ -323,6 +387,7 @@ fn altered_copy(octets: &[u8], place: usize, mask: u8) -> Packet
 /// The first `keep` octets of a packet come to its port.
 fn cut<P: PeerMethod, S: ServerMethod>(
     machines: &mut Machines<P, S>,
+    conversations: &mut Conversations,
     keep: u16,
     sent: Option<Stored>,
     packet: &mut Packet,
@@ -331,6 +396,7 @@ fn cut<P: PeerMethod, S: ServerMethod>(
     requires serving { IsServing machines.old.mode machines.old.server.vars }
     ensures acts { delivered_cut (parties_of P.peer_shown S.server_shown machines.old) (lent sent.entry) keep
         ≡ acted_with P.peer_shown S.server_shown result packet.new tags.new machines.new }
+    ensures heard { (number : ℕ) → conversations.new ≡ heard_cut number machines.old.mode conversations.old (lent sent.entry) keep }
     ensures alike { RunAlike P.peer_shown S.server_shown machines.old machines.new }
 {
     match sent {
@@ -340,7 +406,14 @@ fn cut<P: PeerMethod, S: ServerMethod>(
             if stored.octets.len() < keep {
                 misplaced(machines.mode, stored.port)
             } else {
-                hand(machines, stored.port, &stored.octets[..keep], packet, tags)
+                hand(
+                    machines,
+                    conversations,
+                    stored.port,
+                    &stored.octets[..keep],
+                    packet,
+                    tags,
+                )
             }
         }
     }
@@ -507,5 +580,101 @@ fn report<P: PeerMethod, S: ServerMethod>(
         Event::AltAccept => action_of(mode, Party::Peer, false, machines.peer.alt_accept()),
         Event::AltReject => action_of(mode, Party::Peer, false, machines.peer.alt_reject()),
         _ => Action::Skipped(Skip::NoParty),
+    }
+}
+
+/// A party begins a new conversation, an end with the next of its nonces. It does so wherever it stands, also once it has ended.
+/// No octets come to a party by it.
+fn restart<P: PeerMethod, S: ServerMethod>(
+    machines: &mut Machines<P, S>,
+    conversations: &mut Conversations,
+    number: u32,
+    party: Party,
+    packet: &mut Packet,
+    tags: &mut Tags,
+) -> Action
+    requires objects { HaveObjects P.peer_shown S.server_shown machines.old.peer machines.old.server }
+    ensures acts { restarted (parties_of P.peer_shown S.server_shown machines.old) conversations.old party
+        ≡ acted_with P.peer_shown S.server_shown result packet.new tags.new machines.new }
+    ensures begun { conversations.new ≡ begun_anew number (parties_of P.peer_shown S.server_shown machines.old) conversations.old party }
+    ensures alike { RunAlike P.peer_shown S.server_shown machines.old machines.new }
+{
+    match party {
+        Party::Peer => restart_peer(machines, conversations, number, packet, tags),
+        Party::Pass => restart_pass(machines, conversations, packet, tags),
+        Party::Server => restart_server(machines, conversations, number, packet, tags),
+    }
+}
+
+/// The peer begins a new conversation (RFC 4137 section 4.5). It sends nothing.
+fn restart_peer<P: PeerMethod, S: ServerMethod>(
+    machines: &mut Machines<P, S>,
+    conversations: &mut Conversations,
+    number: u32,
+    packet: &mut Packet,
+    tags: &mut Tags,
+) -> Action
+    requires objects { HaveObjects P.peer_shown S.server_shown machines.old.peer machines.old.server }
+    ensures acts { restarted (parties_of P.peer_shown S.server_shown machines.old) conversations.old Peer
+        ≡ acted_with P.peer_shown S.server_shown result packet.new tags.new machines.new }
+    ensures begun { conversations.new ≡ begun_anew number (parties_of P.peer_shown S.server_shown machines.old) conversations.old Peer }
+    ensures alike { RunAlike P.peer_shown S.server_shown machines.old machines.new }
+{
+    packet.clear();
+    tags.clear();
+    match conversations.begin_peer(number) {
+        None => Action::Skipped(Skip::NoNonce),
+        Some(nonce) => {
+            let step = machines.peer.restart(&nonce);
+            action_of(machines.mode, Party::Peer, false, step)
+        }
+    }
+}
+
+/// The server begins a new conversation: alone it asks for the identity again (RFC 4137 section 5.5), behind the pass-through
+/// it waits (section 6.5).
+fn restart_server<P: PeerMethod, S: ServerMethod>(
+    machines: &mut Machines<P, S>,
+    conversations: &mut Conversations,
+    number: u32,
+    packet: &mut Packet,
+    tags: &mut Tags,
+) -> Action
+    requires objects { HaveObjects P.peer_shown S.server_shown machines.old.peer machines.old.server }
+    ensures acts { restarted (parties_of P.peer_shown S.server_shown machines.old) conversations.old Server
+        ≡ acted_with P.peer_shown S.server_shown result packet.new tags.new machines.new }
+    ensures begun { conversations.new ≡ begun_anew number (parties_of P.peer_shown S.server_shown machines.old) conversations.old Server }
+    ensures alike { RunAlike P.peer_shown S.server_shown machines.old machines.new }
+{
+    packet.clear();
+    tags.clear();
+    match conversations.begin_server(number) {
+        None => Action::Skipped(Skip::NoNonce),
+        Some(nonce) => {
+            let step = machines.server.restart(&nonce, packet);
+            action_of(machines.mode, Party::Server, false, step)
+        }
+    }
+}
+
+/// The pass-through begins anew and asks for the identity again (RFC 4137 section 7); no conversation of an end begins by it.
+fn restart_pass<P: PeerMethod, S: ServerMethod>(
+    machines: &mut Machines<P, S>,
+    conversations: &Conversations,
+    packet: &mut Packet,
+    tags: &mut Tags,
+) -> Action
+    ensures acts { restarted (parties_of P.peer_shown S.server_shown machines.old) conversations.now Pass
+        ≡ acted_with P.peer_shown S.server_shown result packet.new tags.new machines.new }
+    ensures begun { (number : ℕ) → conversations.now ≡ begun_anew number (parties_of P.peer_shown S.server_shown machines.old) conversations.now Pass }
+    ensures alike { RunAlike P.peer_shown S.server_shown machines.old machines.new }
+{
+    tags.clear();
+    match machines.mode {
+        Mode::Alone => Action::Skipped(Skip::NoParty),
+        Mode::Through => {
+            let step = machines.pass.restart(packet);
+            action_to(Party::Pass, Port::Peer, false, step)
+        }
     }
 }

@@ -7,8 +7,9 @@ ghost use Rattle.eap_world.specs.Book.{entry, booked, first_broken, verdict_on, 
 use eap_method::{TagList, TagRecord, Tags};
 
 /// One of the two ends of a login.
-#[derive(Clone, Copy, PartialEq, Eq, Debug)]
+#[derive(Clone, Copy, PartialEq, Eq, Debug, Default)]
 pub enum End {
+    #[default]
     Peer,
     Server,
 }

@@ -1,12 +1,15 @@
 //! Laws of both ends over events. Each is the contract of a function that does nothing.
 
-ghost use Rattle.eap_world.specs.Agreement.{HonestOfEither, HonestEndsAgree, HonestNamesAreTheirs, FewPackets, FewTags};
+ghost use Rattle.eap_world.specs.Agreement.{BeginsOnce, HonestOfEither, HonestEndsAgree, HonestNamesAreTheirs, FewPackets, FewTags};
+ghost use Rattle.eap_world.specs.Alone.{OneEndTells};
 ghost use Rattle.eap_world.specs.EndsStand.{EndsStand};
+ghost use Rattle.eap_world.specs.Fresh.{FreshIsTold};
 ghost use Rattle.eap_world.specs.Laws.{DiscardsKeep, RunsTellReports, SkipsKeep};
+ghost use Rattle.eap_world.specs.Reflected.{ReflectedEndsAgree};
 ghost use Rattle.eap_world.specs.SingleSteps.{StepsAreLawful};
 
-/// An event that an end discards changes nothing but the counts: no variable and no method's view at
-/// either end, nothing sent and nothing in the book. Where each report that an end holds was told of,
+/// An event that an end discards changes nothing but the counts and what has been heard of the nonces that are left: no variable
+/// and no method's view at either end, nothing sent and nothing in the book. Where each report that an end holds was told of,
 /// as in every run, none is told of.
 #[tactic(auto, using(crate::proofs::Discards::discards_keep))]
 pub fn discards_keep()
@@ -14,15 +17,14 @@ pub fn discards_keep()
 {}
 
 /// An event that is skipped changes nothing but the number of events: no variable and no method's view at any
-/// party, nothing sent, nothing in the book, neither the deliveries nor the discards. It is told of no party, no
-/// state, no packet and no report.
+/// party, nothing sent, nothing in the book, no conversation and nothing heard of a nonce, neither the deliveries nor the
+/// discards. It is told of no party, no state, no packet and no report.
 #[tactic(auto, using(crate::proofs::Skips::skips_keep))]
 pub fn skips_keep()
     ensures { SkipsKeep }
 {}
 
 /// In every run each report that an end holds was told of.
-#[tactic(auto, using(crate::proofs::Discards::runs_tell_reports))]
 pub fn runs_tell_reports()
     ensures { RunsTellReports }
 {}
@@ -35,39 +37,79 @@ pub fn honest_of_either()
     ensures { HonestOfEither }
 {}
 
-/// Whatever is delivered, lost, repeated, reordered, altered, reflected or injected: where each tag that an
-/// end accepted was made earlier by either end, two ends that both stand in SUCCESS agree in method,
-/// identities, suite, MSK and EMSK, which both policies allow.
-#[tactic(auto, using(crate::proofs::HonestRuns::honest_ends_agree))]
+/// Whatever is delivered, lost, repeated, reordered, altered, injected or restarted: where each tag that an end accepted was made
+/// earlier by the other end, and no end has begun a second conversation or each conversation has begun with a fresh nonce, two
+/// ends that both stand in SUCCESS agree in method, identities, suite, MSK and EMSK, which both policies allow; with fresh nonces
+/// each then holds the nonce of the other's present conversation. Where no end has begun a second one, they agree also where each
+/// accepted tag was made earlier by either end, so that reflected ones do no harm.
 pub fn honest_ends_agree()
     ensures { HonestEndsAgree }
 {}
 
-/// Under the premises of [`honest_ends_agree`], both ends report one value, and it speaks of them: ID_Peer
-/// and ID_Server are the names of their own setups, the server has a user of that name and method who is
+/// Under the premises of [`honest_ends_agree`], both ends report one value in their present conversations, and it speaks of them:
+/// ID_Peer and ID_Server are the names of their own setups, the server has a user of that name and method who is
 /// not barred, and the user's PSK is the peer's own. By EAP-GPSK the ciphersuite is the first of the
 /// server's own CSuite_List that the peer allows (RFC 5433 section 3): no alteration of GPSK-1
 /// brings both ends to a weaker one.
-#[tactic(auto, using(crate::proofs::Whose::honest_names_are_theirs))]
 pub fn honest_names_are_theirs()
     ensures { HonestNamesAreTheirs }
 {}
 
+/// What one end's success tells by itself, whatever the other end does, and in whichever of its conversations it did it.
+///
+/// Where each tag that an end accepted was made earlier by the other end and each conversation has begun with a fresh nonce, a
+/// peer in SUCCESS has been heard: a conversation of the server and the peer's present one hold each other's nonces, and that
+/// conversation has accepted a tag of the peer's that only a conversation with these nonces can have made. Its login leads to just
+/// what the peer reports, in identities, suite, MSK and EMSK; these are both ends' own names, and the server's user of that name
+/// has the peer's own PSK. By EAP-PSK so it is also where each accepted tag was made by either end.
+///
+/// Where each accepted tag was made earlier by either end, fresh nonces or not, a server in SUCCESS has heard the peer: a
+/// conversation of the peer and the server's present one hold each other's nonces, and the server has accepted a tag which that
+/// conversation has made, and only one with these nonces can have made. Its login leads to the server's method, suite, MSK and
+/// EMSK from the same PSK; by EAP-GPSK to the same identities too, by EAP-PSK to the same ones joined, as MAC_P covers them
+/// (RFC 4764 section 5.2). Where the other end made each accepted tag, and no end has begun a second conversation, to the same
+/// ones by either method.
+///
+/// It doesn't say that the other end has succeeded too, or will.
+pub fn one_end_tells()
+    ensures { OneEndTells }
+{}
+
+/// Where tags may come back to their maker and ends may begin new conversations: where each accepted tag was made earlier by
+/// either end, in whichever of its conversations, and each conversation has begun with a fresh nonce, two ends that both stand in
+/// SUCCESS, the peer by EAP-PSK, agree on names, key and suite that are their own, and each holds the nonce of the other's present
+/// conversation. Of a peer by EAP-GPSK this isn't proved.
+pub fn reflected_ends_agree()
+    ensures { ReflectedEndsAgree }
+{}
+
+/// An end whose settings have no later nonces begins no second conversation: then both ends have begun one each in every run.
+pub fn begins_once()
+    ensures { BeginsOnce }
+{}
+
+/// What a world tells of freshness is so: in every run it is true exactly where each conversation began with a nonce whose first
+/// 16 octets no conversation before it had, of either end, and which stood one after the other in nothing that had come to a
+/// party before.
+pub fn fresh_is_told()
+    ensures { FreshIsTold }
+{}
+
 /// In every run, whatever the settings and the events: where each end stands tells exactly which tags it has
-/// accepted and made, also after a login that failed; what its method keeps is of its own settings, but for the other
-/// end's name and nonce and the suite that it picked of a list; a decision other than FAIL comes of a method that has succeeded,
-/// and SUCCESS of such a decision.
+/// accepted and made in its present conversation, also after a login that failed, and no other; what its method keeps is of its own
+/// settings, with the nonce of that conversation, but for the other end's name and nonce and the suite that it picked of a list;
+/// a decision other than FAIL comes of a method that has succeeded, and SUCCESS of such a decision.
 pub fn ends_stand()
     ensures { EndsStand }
 {}
 
-/// At most one packet is sent at the start, and at most one in each event.
+/// A run of so many events sends at most one packet more.
 pub fn few_packets()
     ensures { FewPackets }
 {}
 
-/// However many events there are, each end accepts at most two tags and makes at most two, so that the
-/// book holds at most eight.
+/// However many events there are, each end accepts at most two tags and makes at most two in each of its conversations, so that
+/// the book holds at most four for each conversation that has begun.
 pub fn few_tags()
     ensures { FewTags }
 {}
@@ -75,8 +117,7 @@ pub fn few_tags()
 /// Each step of a run is lawful, seen from outside: what the peer sends is a Response with the Identifier of
 /// what was handed to it (RFC 3748 section 4.1); what is sent again is the last packet to its port; in mode
 /// alone a Request that the server sends in a delivery has the next Identifier; a party that has ended sends
-/// nothing; an end that stands in SUCCESS has accepted a tag.
-#[tactic(auto, using(crate::proofs::SingleSteps::steps_are_lawful))]
+/// nothing, unless it begins anew; an end that stands in SUCCESS has accepted a tag in its present conversation.
 pub fn steps_are_lawful()
     ensures { StepsAreLawful }
 {}

@@ -1,10 +1,11 @@
 //! Both ends of a login over events: the peer of RFC 4137 section 4 and the server of section 5, or of section
-//! 6 behind the pass-through of section 7; what they have sent, the book of the ends' tags, what each event
-//! does, and whether the ends agree.
+//! 6 behind the pass-through of section 7; what they have sent, the book of the ends' tags, the conversations that they
+//! have begun, what each event does, and whether the ends agree.
 #![tactic(auto)]
 
 mod act;
 mod book;
+mod conversations;
 mod laws;
 mod store;
 mod told;
@@ -13,9 +14,11 @@ mod world;
 
 pub use act::{Action, Did, Machines};
 pub use book::{End, Entry, Makers, TagsVerdict, Use};
+pub use conversations::{Begun, Conversations, Waiting};
 pub use laws::{
-    discards_keep, ends_stand, few_packets, few_tags, honest_ends_agree, honest_names_are_theirs,
-    honest_of_either, runs_tell_reports, skips_keep, steps_are_lawful,
+    begins_once, discards_keep, ends_stand, few_packets, few_tags, fresh_is_told,
+    honest_ends_agree, honest_names_are_theirs, honest_of_either, one_end_tells,
+    reflected_ends_agree, runs_tell_reports, skips_keep, steps_are_lawful,
 };
 pub use store::{Slot, Store, Stored};
 pub use told::{Counts, Named, SentPacket, Skip, Told};

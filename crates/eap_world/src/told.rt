@@ -17,6 +17,8 @@ pub enum Skip {
     Ended,
     /// The party has no such timer running.
     NoTimer,
+    /// The end has no nonce left with which it could begin a new conversation.
+    NoNonce,
 }
 
 /// A packet that was sent. The world lends its octets.

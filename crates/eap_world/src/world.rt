@@ -1,14 +1,17 @@
 //! Both ends over events.
 
-ghost use Rattle.std.specs.Prelude.{◌≡◌, ◌≤◌, ◌<◌, ◌+◌, ◌-◌, ◌^◌, ◌++◌, ℕ, List, true, false, map, length};
+ghost use Rattle.std.specs.Prelude.{◌≡◌, ◌↔◌, ◌≤◌, ◌<◌, ◌+◌, ◌-◌, ◌^◌, ◌++◌, ℕ, List, true, false, map, length, IsTrue};
 ghost use Rattle.std.specs.Prelude.{MatchResult, IfOk, option_copied, vec_len, vec_capacity};
 ghost use Rattle.eap_base.specs.Setup.{IsSoundPeer, IsSoundServer, HasKeys};
+ghost use Rattle.eap_base.specs.declared.event.Event.TheVariants.{Restart};
 ghost use Rattle.eap_method.specs.declared.tags.Tags.{Tags};
 ghost use Rattle.eap_world.specs.World.{action_with, parties_of, sent_by, booked_by, counted, end_of, has_held, named_by};
-ghost use Rattle.eap_world.specs.World.{first_report, held_by, held_after, held_with, report_of, role_in, told_of, told_with};
+ghost use Rattle.eap_world.specs.World.{Parties, first_report, held_before, held_by, held_after, held_with, report_of, role_in, told_of, told_with};
+ghost use Rattle.eap_world.specs.Sent.{Sent};
 
 use crate::act::{Action, Did, Machines, act, start};
 use crate::book::{End, Entry, Makers, TagsVerdict, book_tags, judge_tags};
+use crate::conversations::Conversations;
 use crate::store::Store;
 use crate::told::{Counts, Named, SentPacket, Told};
 use crate::verdict::{Verdict, judge_reports};
@@ -40,7 +43,7 @@ pub struct Methods<P, S> {
     pub server: Vec<S>,
 }
 
-/// Which ends have held a report.
+/// Which ends have held a report in their present conversations.
 #[derive(Clone, Copy, PartialEq, Eq, Debug)]
 pub struct Held {
     pub peer: bool,
@@ -48,10 +51,10 @@ pub struct Held {
 }
 
 /// The peer (RFC 4137 section 4) and the server with their methods, the packets that were sent, the book of
-/// the ends' tags, and the counts. In mode alone the server is the stand-alone one (section 5), in mode through
-/// the backend (section 6) with the pass-through (section 7) before it. Contracts see all of it; what an
-/// object shows is its ghost member. No call changes which methods an end's settings name, nor the view of an object
-/// whose method they don't name.
+/// the ends' tags, the counts, and the conversations that both ends have begun and the nonces that they have left for more. In
+/// mode alone the server is the stand-alone one (section 5), in mode through the backend (section 6) with the pass-through
+/// (section 7) before it. Contracts see all of it; what an object shows is its ghost member. No call changes which methods an
+/// end's settings name, nor the view of an object whose method they don't name.
 #[derive(Drop)]
 pub struct World<P, S> {
     machines: Machines<P, S>,
@@ -59,6 +62,9 @@ pub struct World<P, S> {
     book: Vec<Entry>,
     counts: Counts,
     held: Held,
+    conversations: Conversations,
+    /// The version of the scenario's text.
+    version: u8,
     started: bool,
     /// Where a machine writes the packet that it sends, before it is stored.
     packet: Packet,
@@ -81,6 +87,8 @@ impl<P, S> Model for World<P, S> {
       book = w.book.items;
       counts = w.counts;
       held = w.held;
+      conversations = w.conversations;
+      version = w.version;
       started = w.started;
     } };
 
@@ -90,18 +98,19 @@ impl<P, S> Model for World<P, S> {
 impl<P: PeerMethod, S: ServerMethod> World<P, S> {
     ghost use Rattle.eap_method.specs.Peer.{peer_kinds, have_each};
     ghost use Rattle.eap_method.specs.Server.{server_kinds};
-    ghost use Rattle.eap_world.specs.Agreement.{BeginsRun, BeginsSmall, GoesOn, StaysSmall, IsOfRun, IsWhole, AreTheirs, run_of};
+    ghost use Rattle.eap_world.specs.Agreement.{AreApart, AreTheirs, BeginsRun, BeginsSmall, GoesOn, HoldEachOther, IsOfRun, IsWhole, StaysSmall, run_of};
     ghost use Rattle.eap_world.specs.Book.{tags_verdict, tags_verdict_either};
     ghost use Rattle.eap_world.specs.declared.book.TagsVerdict.TheVariants.{Honest};
     ghost use Rattle.eap_world.specs.declared.verdict.Verdict.TheVariants.{Agree, Apart};
     ghost use Rattle.eap_world.specs.Judgement.{verdict_of};
     ghost use Rattle.eap_world.specs.SingleSteps.{StepsLawfully};
-    ghost use Rattle.eap_world.specs.World.{KeepObjects, KeepsObjects, NamesAlike, Tells, world_made, world_start, world_step, now_of};
+    ghost use Rattle.eap_world.specs.World.{HasObjects, KeepObjects, KeepsObjects, NamesAlike, Tells, world_made, world_start, world_step, now_of};
     ghost use Rattle.eap_world.specs.World.{octets_numbered, octets_of_sent, pass_state, state_of};
 
     /// The world of a setup, in which the peer has begun and the server, or the pass-through, hasn't started.
     /// Each method that an end allows or proposes has an object, which begins; the others stay as they came. It
     /// takes no memory.
+    #[tactic(auto, using(crate::proofs::StillThere::peer_made_with, crate::proofs::StillThere::server_made_with))]
     pub fn new(alloc: Global, setup: Setup, methods: Methods<P, S>) -> World<P, S>
         requires few { setup.max_retrans ≤ 10 }
         requires sound_peer { IsSoundPeer setup.peer }
@@ -112,7 +121,14 @@ impl<P: PeerMethod, S: ServerMethod> World<P, S> {
         ensures made { now_of P.peer_shown S.server_shown result ≡ world_made setup }
         ensures kept { KeepObjects P.peer_shown S.server_shown setup.peer.methods setup.server.methods
             methods.peer.items methods.server.items result.peer.methods result.server.methods }
+        ensures objects { HasObjects P.peer_shown S.server_shown result }
     {
+        let version = setup.later.version;
+        let conversations = Conversations::new(
+            &setup.peer.nonce,
+            &setup.server.nonce,
+            &setup.later,
+        );
         World {
             machines: Machines {
                 mode: setup.mode,
@@ -137,6 +153,8 @@ impl<P: PeerMethod, S: ServerMethod> World<P, S> {
                 peer: false,
                 server: false,
             },
+            conversations,
+            version,
             started: false,
             packet: Packet::new(),
             tags: Tags::new(),
@@ -145,10 +163,14 @@ impl<P: PeerMethod, S: ServerMethod> World<P, S> {
 
     /// The server starts, or in mode through the pass-through, as event 0: it sends packet 1, the Identity
     /// Request. `Memory` comes only for
-    /// want of memory for what it sends; the world then is as it was. The world has not started. A world
-    /// that has just been made then is that of the run without events, with at most eight tags in its book.
+    /// want of memory for what it sends; the world then is as it was. The world has not started, and each method of an end's
+    /// settings has an object, as [`World::new`] leaves it and each call keeps it. A world
+    /// that has just been made then is that of the run without events, with few tags in its book: of each end at most two that it
+    /// accepted and two that it made.
+    #[tactic(auto, using(crate::proofs::StillThere::still_there))]
     pub fn start(&mut self) -> Result<Told, Memory>
-        requires { self.old.started ≡ false }
+        requires unstarted { self.old.started ≡ false }
+        requires objects { HasObjects P.peer_shown S.server_shown self.old }
         ensures told { MatchResult result
             (λ told. Tells P.peer_shown S.server_shown (world_start (now_of P.peer_shown S.server_shown self.old)) told self.new)
             (λ _. self.new ≡ self.old) }
@@ -156,19 +178,23 @@ impl<P: PeerMethod, S: ServerMethod> World<P, S> {
         ensures few { IfOk result (λ told. BeginsSmall P.peer_shown S.server_shown self.old self.new) }
         ensures kept { KeepsObjects P.peer_shown S.server_shown self.old self.new }
         ensures names { NamesAlike self.old self.new }
+        ensures objects { HasObjects P.peer_shown S.server_shown self.new }
     {
         self.start_by_table()
     }
 
     /// The next event, numbered from 1. A delivery hands octets to the peer (RFC 4137 section 4), the server
-    /// (sections 5 and 6) or the pass-through (section 7); an event that has nobody or nothing to act on is skipped and only counted.
+    /// (sections 5 and 6) or the pass-through (section 7); a restart lets a party begin a new conversation, an end with the next of
+    /// its nonces; an event that has nobody or nothing to act on is skipped and only counted.
     /// `Memory` comes only for want of memory for one more packet and its tags; the world then is as it
-    /// was, and the event isn't counted. A world that was that of the run over some events then is that
-    /// of the run over these and this one, with at most eight tags in its book, and the step is lawful as
-    /// [`steps_are_lawful`](crate::steps_are_lawful) says. At most one packet was sent an event, and one more at
-    /// the start.
+    /// was, and the event isn't counted. The world has started, has had fewer events than [`MAX_EVENTS`], and each method of an
+    /// end's settings has an object ([`World::has_objects`]). A world that was that of the run over some events then is that
+    /// of the run over these and this one, with at most four tags in its book for each conversation that has begun, and the step is
+    /// lawful as [`steps_are_lawful`](crate::steps_are_lawful) says. So many events have sent at most one packet more.
+    #[tactic(auto, using(crate::proofs::StillThere::still_there))]
     pub fn step(&mut self, event: &Event) -> Result<Told, Memory>
         requires started { self.old.started ≡ true }
+        requires objects { HasObjects P.peer_shown S.server_shown self.old }
         requires room { self.old.counts.events < 1000000 }
         ensures told { MatchResult result
             (λ told. Tells P.peer_shown S.server_shown (world_step (now_of P.peer_shown S.server_shown self.old) event.now) told self.new)
@@ -179,6 +205,7 @@ impl<P: PeerMethod, S: ServerMethod> World<P, S> {
         ensures packets { length self.new.sent ≤ self.new.counts.events + 1 }
         ensures kept { KeepsObjects P.peer_shown S.server_shown self.old self.new }
         ensures names { NamesAlike self.old self.new }
+        ensures objects { HasObjects P.peer_shown S.server_shown self.new }
     {
         self.step_by_table(event)
     }
@@ -214,6 +241,7 @@ impl<P: PeerMethod, S: ServerMethod> World<P, S> {
     #[tactic(auto, unfolding(crate::specs::World::world_step))]
     fn step_by_table(&mut self, event: &Event) -> Result<Told, Memory>
         requires started { self.old.started ≡ true }
+        requires objects { HasObjects P.peer_shown S.server_shown self.old }
         requires room { self.old.counts.events < 1000000 }
         ensures told { MatchResult result
             (λ told. Tells P.peer_shown S.server_shown (world_step (now_of P.peer_shown S.server_shown self.old) event.now) told self.new)
@@ -225,8 +253,12 @@ impl<P: PeerMethod, S: ServerMethod> World<P, S> {
         if !make_room(&mut self.sent, &mut self.book) {
             return Err(Memory);
         }
+        let number = self.counts.events + 1;
+        self.held = held_before(self.held, &self.conversations, event);
         let action = act(
             &mut self.machines,
+            &mut self.conversations,
+            number,
             &self.sent,
             event,
             &mut self.packet,
@@ -238,7 +270,7 @@ impl<P: PeerMethod, S: ServerMethod> World<P, S> {
             &mut self.sent,
             &mut self.book,
             &mut self.held,
-            self.counts.events,
+            number,
             action,
             &self.packet,
             &self.tags,
@@ -250,6 +282,14 @@ impl<P: PeerMethod, S: ServerMethod> World<P, S> {
         ensures { result ≡ self.now.started }
     {
         self.started
+    }
+
+    /// Whether each method that an end's settings name has an object: the condition of [`World::start`] and [`World::step`]. It is
+    /// so in each world that [`World::new`] made, and each call keeps it.
+    pub fn has_objects(&self) -> bool
+        ensures { IsTrue result ↔ HasObjects P.peer_shown S.server_shown self.now }
+    {
+        self.machines.peer.has_objects() && self.machines.server.has_objects()
     }
 
     /// The mode: the server answers by itself, or through the pass-through.
@@ -334,6 +374,21 @@ impl<P: PeerMethod, S: ServerMethod> World<P, S> {
         self.counts
     }
 
+    /// Whether each conversation that has begun did so with a fresh nonce: no conversation of either end had begun before with a nonce
+    /// of the same first 16 octets, and these had not stood, one after the other, in octets that came to some party.
+    pub fn fresh(&self) -> bool
+        ensures { result ≡ self.now.conversations.fresh }
+    {
+        self.conversations.fresh()
+    }
+
+    /// The version of the scenario's text, as the setup tells it.
+    pub fn version(&self) -> u8
+        ensures { result ≡ self.now.version }
+    {
+        self.version
+    }
+
     /// Whether each accepted tag was made earlier by the other end, with the same method, label, key,
     /// octets and tag; else the first event in which an end accepted one that wasn't.
     pub fn tags(&self) -> TagsVerdict
@@ -351,17 +406,27 @@ impl<P: PeerMethod, S: ServerMethod> World<P, S> {
         judge_tags(self.book.as_slice(), Makers::Either)
     }
 
-    /// Whether both ends agree. In every run of a setup whose ends are sound, with a key of the peer for
-    /// each of its methods and nonces of 32 octets, it is never Apart where [`World::tags_either`] is Honest,
-    /// so neither where [`World::tags`] is; and where both ends then agree, what they report is their own: the names of their setups, a user of the
-    /// server with the peer's key, by EAP-GPSK the first suite of the server's that the peer allows.
-    #[tactic(auto, using(crate::proofs::HonestRuns::never_apart, crate::proofs::Whose::theirs_if_agreed))]
+    /// Whether both ends agree in their present conversations. In every run of a setup whose ends are sound, with a key of the
+    /// peer for each of its methods and nonces of 32 octets, it is never Apart where [`World::tags`] is Honest and no end has begun
+    /// a second conversation or [`World::fresh`] is true. Where no end has begun a second one, it is never Apart where
+    /// [`World::tags_either`] is Honest. Where both ends agree under these premises, what they report is their own: the names of
+    /// their setups, a user of the server with the peer's key, by EAP-GPSK the first suite of the server's that the peer allows.
+    /// And where they agree, the tags are Honest and nonces fresh, each holds the nonce of the other's present conversation.
     pub fn result(&self) -> Verdict
         ensures value { result ≡ verdict_of (now_of P.peer_shown S.server_shown self.now) }
         ensures never_apart { IsOfRun (now_of P.peer_shown S.server_shown self.now)
-            → tags_verdict_either self.now.book ≡ Honest → result ≡ Apart → ⊥ }
+            → tags_verdict self.now.book ≡ Honest → AreApart self.now.conversations → result ≡ Apart → ⊥ }
+        ensures reflected_never_apart { IsOfRun (now_of P.peer_shown S.server_shown self.now)
+            → tags_verdict_either self.now.book ≡ Honest → length self.now.conversations.begun ≡ 2 → result ≡ Apart → ⊥ }
         ensures theirs { (setup : Setup) (events : List Event) → IsWhole setup → now_of P.peer_shown S.server_shown self.now ≡ run_of setup events
-            → tags_verdict_either self.now.book ≡ Honest → result ≡ Agree → AreTheirs setup (now_of P.peer_shown S.server_shown self.now) }
+            → tags_verdict self.now.book ≡ Honest → AreApart self.now.conversations → result ≡ Agree
+            → AreTheirs setup (now_of P.peer_shown S.server_shown self.now) }
+        ensures reflected_theirs { (setup : Setup) (events : List Event) → IsWhole setup → now_of P.peer_shown S.server_shown self.now ≡ run_of setup events
+            → tags_verdict_either self.now.book ≡ Honest → length self.now.conversations.begun ≡ 2 → result ≡ Agree
+            → AreTheirs setup (now_of P.peer_shown S.server_shown self.now) }
+        ensures hold { IsOfRun (now_of P.peer_shown S.server_shown self.now)
+            → tags_verdict self.now.book ≡ Honest → self.now.conversations.fresh ≡ true → result ≡ Agree
+            → HoldEachOther (now_of P.peer_shown S.server_shown self.now) }
     {
         self.verdict_by_table()
     }
@@ -410,6 +475,48 @@ fn role_in(mode: Mode) -> Role
     match mode {
         Mode::Alone => Role::StandAlone,
         Mode::Through => Role::Backend,
+    }
+}
+
+/// Which ends have held a report in their present conversations, when this event is about to come: an end that begins a new one
+/// holds none in it yet.
+#[tactic(auto, using(crate::proofs::InConversation::still_told))]
+fn held_before(held: Held, conversations: &Conversations, event: &Event) -> Held
+    ensures { (parties : Parties) (sent : List Sent) → result ≡ held_before held parties conversations.now sent event.now }
+{
+    match event {
+        Event::Restart { party } => held_anew(held, conversations, *party),
+        _ => held,
+    }
+}
+
+/// The same where a party is about to begin a new conversation. An end does so only where it has a nonce left.
+#[tactic(auto, using(crate::proofs::InConversation::peer_anew, crate::proofs::InConversation::pass_anew, crate::proofs::InConversation::server_anew))]
+fn held_anew(held: Held, conversations: &Conversations, party: Party) -> Held
+    ensures { (parties : Parties) (sent : List Sent) → result ≡ held_before held parties conversations.now sent (Restart party) }
+{
+    match party {
+        Party::Peer => {
+            if conversations.has_peer_nonce() {
+                Held {
+                    peer: false,
+                    ..held
+                }
+            } else {
+                held
+            }
+        }
+        Party::Pass => held,
+        Party::Server => {
+            if conversations.has_server_nonce() {
+                Held {
+                    server: false,
+                    ..held
+                }
+            } else {
+                held
+            }
+        }
     }
 }
 

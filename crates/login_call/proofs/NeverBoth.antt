@@ -1,4 +1,5 @@
--- No text that ends with status 0 has both the line of honest tags and the line of ends that are apart.
+-- No text that ends with status 0 has the line of honest tags and the line of ends that are apart, and says that nonces are
+-- fresh or nothing of them.
 use Rattle.std.proofs.Common.{◌≡◌, List, ℕ, ◌++◌, Bool, true, false, Option, Some, None, sym, subst, ◌∙◌, refl, codes}
 use Rattle.std.proofs.lemmas.Bool.{true≢false}
 use Rattle.std.proofs.lemmas.Option.{same_Some}
@@ -26,17 +27,18 @@ use Rattle.world_commands.specs.Headline.{NeverBoth, WritesNeverBoth}
 use Rattle.world_commands.specs.declared.bulk.Bulk.{Bulk}
 use Rattle.world_commands.proofs.BulkQuiet.{bulk_quiet}
 use Rattle.world_commands.proofs.NeverReplayed.{Never, never_replay}
-use Rattle.login_call.specs.Login.{usage_answer, unread_answer, asked_with, login_answer, is_replay, is_replay_names, is_decode, is_keys, is_check, is_radius}
+use Rattle.end_commands.proofs.EndQuiet.{peer_quiet, server_quiet}
+use Rattle.login_call.specs.Login.{usage_answer, unread_answer, asked_with, login_answer, is_replay, is_replay_names, is_decode, is_keys, is_check, is_radius, is_peer, is_server}
 
--- a text without a line that begins as that of the result, or of the tags, has not both
+-- a text without a line that begins as that of the result, or of the tags, has not all of these
 without_result : (a : Answer) → IsQuiet begins_result a → Never a
 without_result a q = record {
-  holds = λ done honest apart. true≢false (sym (found (codes "result apart") a.text apart) ∙ none begins_result 114 (codes "esult apart\n") refl a.text true (q.holds done));
+  holds = λ done honest apart fresh. true≢false (sym (found (codes "result apart") a.text apart) ∙ none begins_result 114 (codes "esult apart\n") refl a.text true (q.holds done));
 }
 
 without_tags : (a : Answer) → IsQuiet begins_tags a → Never a
 without_tags a q = record {
-  holds = λ done honest apart. true≢false (sym (found (codes "tags honest") a.text honest) ∙ none begins_tags 116 (codes "ags honest\n") refl a.text true (q.holds done));
+  holds = λ done honest apart fresh. true≢false (sym (found (codes "tags honest") a.text honest) ∙ none begins_tags 116 (codes "ags honest\n") refl a.text true (q.holds done));
 }
 
 never_usage : Never usage_answer
@@ -65,7 +67,8 @@ never_login words octets =
     either (is_replay words) _ _ octets (never_replay false octets) (either (is_replay_names words) _ _ octets (never_replay true octets)
     (either (is_decode words) _ _ octets (without_result _ (decode_quiet octets)) (either (is_keys words) _ _ octets (without_result _ (keys_quiet octets))
     (either (is_check words) _ _ octets (without_result _ (check_quiet octets)) (either (is_radius words) _ _ octets (without_tags _ (radius_quiet octets))
-    (never_with (pcap_users words) (bulk_of words) octets (pcap_names words)))))))
+    (either (is_peer words) _ _ octets (without_result _ (peer_quiet octets)) (either (is_server words) _ _ octets (without_result _ (server_quiet octets))
+    (never_with (pcap_users words) (bulk_of words) octets (pcap_names words)))))))))
 
 -- ---- what is written
 

@@ -10,6 +10,8 @@ use Rattle.packet_commands.specs.Decode.{decode_answer}
 use Rattle.packet_commands.specs.Keys.{keys_answer}
 use Rattle.capture_commands.specs.Pcap.{pcap_users, pcap_answer}
 use Rattle.capture_commands.specs.Radius.{radius_answer}
+use Rattle.end_commands.specs.PeerCommand.{peer_answer}
+use Rattle.end_commands.specs.ServerCommand.{server_answer}
 use Rattle.command_driver.specs.Responding.{Asked, Lacking, reading, unread, never, at_any, MayLack, answer_to, lacking_of}
 use Rattle.world_commands.specs.Scenario.{asked_replay}
 use Rattle.world_commands.specs.declared.bulk.Bulk.{Bulk}
@@ -37,6 +39,12 @@ is_check words = is_alone (codes "check") words
 abbrev pub is_radius : List (List ℕ) → Bool
 is_radius words = is_alone (codes "radius") words
 
+abbrev pub is_peer : List (List ℕ) → Bool
+is_peer words = is_alone (codes "peer") words
+
+abbrev pub is_server : List (List ℕ) → Bool
+is_server words = is_alone (codes "server") words
+
 -- the words are these two
 abbrev pub are_two : List ℕ → List ℕ → List (List ℕ) → Bool
 are_two first second [] = false
@@ -49,7 +57,7 @@ is_replay_names words = are_two (codes "replay") (codes "names") words
 
 -- for all other words the program says how it is used
 unfoldable pub usage_text : List ℕ
-usage_text = line_text (codes "usage: eap_login replay | replay names | decode | keys | check | bulk N K | radius | pcap USERS")
+usage_text = line_text (codes "usage: eap_login replay | replay names | decode | keys | check | bulk N K | radius | pcap USERS | peer | server")
 
 abbrev pub usage_answer : Answer
 usage_answer = record { text = usage_text; status = status.Usage }
@@ -77,6 +85,8 @@ asked_by words =
     else if is_keys words then reading keys_answer never
     else if is_check words then reading check_answer never
     else if is_radius words then reading radius_answer never
+    else if is_peer words then reading peer_answer never
+    else if is_server words then reading server_answer never
     else asked_with (pcap_users words) (bulk_of words)
 
 -- the answer to words and an input

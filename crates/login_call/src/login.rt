@@ -17,6 +17,7 @@ use command_driver::Status;
 use eap_base::{Failed, Sink, Source, Users};
 use eap_method::{PeerMethod, ServerMethod};
 use eap_world::Methods;
+use end_commands::{answer_peer, answer_server};
 use packet_commands::{answer_keys, decode_packets};
 use std::alloc::Global;
 use trace_text::write_line;
@@ -33,6 +34,8 @@ use world_commands::{bulk_of, replay_scenario, run_bulk};
 ///   tags are right. It takes no memory.
 /// - `radius` reads a text of RADIUS packets that carry EAP, writes requests and replies under a secret, and
 ///   says of packets what they carry and whether they are good. It takes no memory.
+/// - `peer` and `server` run one end alone: each reads the end's settings and then what comes to it, and writes
+///   what the end does at each line before the next is asked for. They take no memory.
 /// - `bulk N K` runs K conversations, 1 to 1,000, of the number N, 0 to 999,999, and writes what they came to. It
 ///   takes memory; the source isn't touched.
 /// - `pcap NAME KIND HEX ..` reads a pcap file of Ethernet frames, and writes for each EAP packet in them whether its
@@ -59,12 +62,13 @@ pub fn eap_login<P: PeerMethod, M: ServerMethod, S: Source, W: Sink>(
     ensures responds { Responds S.left S.read_faults S.last_read_fault W.written W.write_faults W.last_write_fault
         (asked_by (map string_bytes words.now.items)) result source.old source.new sink.old sink.new }
 
-    // Whatever the scenario has delivered, lost, repeated, reordered, altered, reflected or injected: where
-    // each tag that an end accepted was made earlier by either end, as it is where the trace says `tags
-    // honest`, two ends that both stand in SUCCESS at the end of its run agree in method, identities, suite,
-    // MSK and EMSK, which both policies allow; the identities are their own names, the server's user has
-    // the peer's key, and by EAP-GPSK the suite is the first of the server's that the peer allows. The run sent at
-    // most one packet more than it has events.
+    // Whatever the scenario has delivered, lost, repeated, reordered, altered, reflected, injected or restarted: where
+    // each tag that an end accepted was made earlier by the other end, as it is where the trace says `tags honest`, and
+    // where nonces are fresh, as they are where it says `fresh yes`, two ends that both stand in SUCCESS at the end of
+    // its run agree in method, identities, suite, MSK and EMSK of their last conversations, which both policies allow;
+    // the identities are their own names, the server's user has the peer's key, and by EAP-GPSK the suite is the first
+    // of the server's that the peer allows. Where no end has begun a second conversation, nonces need not be fresh, and
+    // tags may have been made by either end. The run sent at most one packet more than it has events.
     ensures honest_ends_agree { (octets : List ℕ) → HonestEndsAgree octets }
 
     // Where the input is a scenario of two ends that fit, whose events deliver packet 1, packet 2 and on, each once
@@ -72,8 +76,8 @@ pub fn eap_login<P: PeerMethod, M: ServerMethod, S: Source, W: Sink>(
     // `tags honest`, `result agree` and `end`.
     ensures smooth_traces_agree { SmoothTracesAgree }
 
-    // On octets alone: no text written with status 0 has both the line `tags honest` and the line
-    // `result apart`.
+    // On octets alone: no text written with status 0 has the lines `tags honest` and `result apart`, and either the
+    // line `fresh yes` or no line that begins with `fresh`.
     ensures never_both { (octets : List ℕ) → S.left source.old ≡ Some octets → WritesNeverBoth result (W.written sink.old) (W.written sink.new) }
 
     // Where the source tells its octets and neither a read nor a write failed, the status is the answer's, or memory
@@ -110,6 +114,10 @@ fn respond<P: PeerMethod, M: ServerMethod, S: Source, W: Sink>(
         check_capture(source, sink)
     } else if are_alone(words, "radius") {
         answer_radius(source, sink)
+    } else if are_alone(words, "peer") {
+        answer_peer(source, sink, methods.peer)
+    } else if are_alone(words, "server") {
+        answer_server(source, sink, methods.server)
     } else {
         answer_arguments(alloc, words, source, sink, methods)
     }
@@ -193,6 +201,6 @@ fn write_usage<W: Sink>(sink: &mut W) -> Result<(), Failed>
 {
     write_line(
         sink,
-        b"usage: eap_login replay | replay names | decode | keys | check | bulk N K | radius | pcap USERS",
+        b"usage: eap_login replay | replay names | decode | keys | check | bulk N K | radius | pcap USERS | peer | server",
     )
 }

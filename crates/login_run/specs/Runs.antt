@@ -24,9 +24,10 @@ module _ {S W : Type 0} (left : S → Option (List ℕ)) (read_faults : S → �
     pub unwritten : new ≡ old
 
   -- words were answered with a status, or memory was wanting before that; in the run of the scenario that the input
-  -- is, over honest tags two ends that both succeed agree; the trace of a smooth login tells agreement; no text written
-  -- with status 0 says both that all tags are honest and that the ends are apart; where neither a read nor a write
-  -- failed, the status is the answer's, or memory was wanting where it may be
+  -- is, over honest tags and fresh nonces two ends that both succeed agree; the trace of a smooth login tells agreement;
+  -- no text written with status 0 says that all tags are honest and that the ends are apart, where it says that nonces
+  -- are fresh or nothing of them; where neither a read nor a write failed, the status is the answer's, or memory was
+  -- wanting where it may be
   pub record Answers (words : List (List ℕ)) (before : S) (now : S) (old : W) (new : W) (s : Status) : Type 0 where
     pub responds : Responds left read_faults last_read_fault written write_faults last_write_fault (asked_by words) s before now old new
         ⊎ Lacked before now old new s

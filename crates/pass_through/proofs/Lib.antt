@@ -1,2 +1,4 @@
--- The laws of the pass-through.
+-- What the pass-through makes of an input is one of the rows of its table.
+pub mod PassRows
+-- The laws of the pass-through, by the rows of its table.
 pub mod Carrying

@@ -1,6 +1,6 @@
 -- What comes to the pass-through, and what it makes of it (RFC 4137 section 7).
 use Rattle.std.specs.Prelude.{ℕ, List, [], if◌then◌else◌}
-use Rattle.pass_through.specs.PassTable.{PassAnswer, answer, rests, is_started, has_timer, is_aaa_idle, pass_start, pass_timeout, pass_aaa_timeout, pass_aaa_noreq, pass_from_peer, pass_from_backend}
+use Rattle.pass_through.specs.PassTable.{PassAnswer, answer, rests, is_started, has_timer, is_aaa_idle, pass_start, pass_restart, pass_timeout, pass_aaa_timeout, pass_aaa_noreq, pass_from_peer, pass_from_backend}
 use Rattle.pass_through.specs.declared.variables.PassVariables.{PassVariables}
 
 -- the start, the end of the retransmission timer, a server that is lost or has nothing to ask, or octets
@@ -12,6 +12,8 @@ pub data PassInput : Type 0 where
   aaa_noreq : PassInput
   from_peer : List ℕ → PassInput
   from_backend : List ℕ → PassInput
+  -- the pass-through begins anew
+  restart : PassInput
 
 abbrev pub pass_rests : PassVariables → PassAnswer
 pass_rests vars = answer (rests []) vars
@@ -24,3 +26,4 @@ pass_takes vars aaa_timeout = if is_aaa_idle vars.state then pass_aaa_timeout va
 pass_takes vars aaa_noreq = if is_aaa_idle vars.state then pass_aaa_noreq vars else pass_rests vars
 pass_takes vars (from_peer octets) = pass_from_peer vars octets
 pass_takes vars (from_backend octets) = pass_from_backend vars octets
+pass_takes vars restart = pass_restart vars

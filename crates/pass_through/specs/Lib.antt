@@ -1,3 +1,4 @@
 pub mod PassTable
 pub mod Inputs
+pub mod Rows
 pub mod Laws

@@ -9,22 +9,22 @@ use Rattle.eap_packet.specs.declared.state.State.TheVariants as state
 use Rattle.eap_method.specs.declared.step.Step as brief
 use Rattle.pass_through.specs.declared.variables.PassVariables.{PassVariables}
 
--- what one call does: the states that it enters, the cause of a discard, what it sends to the peer and
--- what to the server
+-- the two sides between which it stands
+pub data Side : Type 0 where
+  Peer : Side
+  Server : Side
+
+-- what one call does: the states that it enters, the cause of a discard, the side to which its packets go,
+-- and the packet that it sends
 pub record PassStep : Type 0 where
   pub path : List State
   pub cause : Option Cause
-  pub to_peer : Option (List ℕ)
-  pub to_server : Option (List ℕ)
+  pub to : Side
+  pub sent : Option (List ℕ)
 
--- the step of a call that answers so, where what it sends goes to the peer, or to the server
-abbrev pub to_peer_with : brief.Step → List ℕ → PassStep
-to_peer_with step packet =
-    record { path = step.path; cause = step.cause; to_peer = if step.sends then Some packet else None; to_server = None }
-
-abbrev pub to_server_with : brief.Step → List ℕ → PassStep
-to_server_with step packet =
-    record { path = step.path; cause = step.cause; to_peer = None; to_server = if step.sends then Some packet else None }
+-- the step of a call that answers so, whose packets go to this side, with the packet that it wrote
+abbrev pub step_to : Side → brief.Step → List ℕ → PassStep
+step_to to step packet = record { path = step.path; cause = step.cause; to = to; sent = if step.sends then Some packet else None }
 
 -- what a call answers, and the variables after it
 pub record PassAnswer : Type 0 where
@@ -34,18 +34,18 @@ pub record PassAnswer : Type 0 where
 abbrev pub answer : PassStep → PassVariables → PassAnswer
 answer step after = record { step = step; after = after }
 
--- octets go to the peer; octets go to the server; nothing is sent; a discard
+-- octets go to the peer; octets go to the server; nothing is sent; a discard of what would have gone to this side
 abbrev pub asks : List State → List ℕ → PassStep
-asks path octets = record { path = path; cause = None; to_peer = Some octets; to_server = None }
+asks path octets = record { path = path; cause = None; to = Peer; sent = Some octets }
 
 abbrev pub passes_on : List State → List ℕ → PassStep
-passes_on path octets = record { path = path; cause = None; to_peer = None; to_server = Some octets }
+passes_on path octets = record { path = path; cause = None; to = Server; sent = Some octets }
 
 abbrev pub rests : List State → PassStep
-rests path = record { path = path; cause = None; to_peer = None; to_server = None }
+rests path = record { path = path; cause = None; to = Peer; sent = None }
 
-abbrev pub discards : List State → Cause → PassStep
-discards path c = record { path = path; cause = Some c; to_peer = None; to_server = None }
+abbrev pub discards : Side → List State → Cause → PassStep
+discards to path c = record { path = path; cause = Some c; to = to; sent = None }
 
 -- before the start
 abbrev pub pass_made : ℕ → ℕ → PassVariables
@@ -78,6 +78,10 @@ pass_start vars =
     (asks (state.Initialize ∷ state.SelectAction ∷ state.ProposeMethod ∷ state.MethodRequest ∷ state.SendRequest ∷ state.Idle ∷ []) octets)
     (record vars { state = state.Idle; current_id = Some vars.first_id; retrans_count = 0; last_request = octets })
 
+-- a new one, which starts
+unfoldable pub pass_restart : PassVariables → PassAnswer
+pass_restart vars = pass_start (pass_made vars.first_id vars.max_retrans)
+
 -- whether a number is the one that is awaited
 abbrev pub is_awaited : Option ℕ → ℕ → Bool
 is_awaited None number = false
@@ -85,10 +89,10 @@ is_awaited (Some awaited) number = awaited == number
 
 -- DISCARD and DISCARD2 change nothing
 abbrev pub idle_discard : PassVariables → Cause → PassAnswer
-idle_discard vars c = answer (discards (state.Received ∷ state.Discard ∷ state.Idle ∷ []) c) vars
+idle_discard vars c = answer (discards Server (state.Received ∷ state.Discard ∷ state.Idle ∷ []) c) vars
 
 abbrev pub idle2_discard : PassVariables → Cause → PassAnswer
-idle2_discard vars c = answer (discards (state.Received2 ∷ state.Discard2 ∷ state.Idle2 ∷ []) c) vars
+idle2_discard vars c = answer (discards Server (state.Received2 ∷ state.Discard2 ∷ state.Idle2 ∷ []) c) vars
 
 -- IDLE: the Identity Response goes to the server as it came
 abbrev pub idle_response : PassVariables → List ℕ → ℕ → PassAnswer
@@ -117,17 +121,17 @@ idle2_row vars octets (Ok packet) = idle2_discard vars cause.WrongRole
 
 -- AAA_IDLE: a Request goes to the peer as it came, a Success or a Failure too, and ends it
 abbrev pub aaa_row : PassVariables → List ℕ → Result PacketValue Cause → PassAnswer
-aaa_row vars octets (Err c) = answer (discards [] c) vars
+aaa_row vars octets (Err c) = answer (discards Peer [] c) vars
 aaa_row vars octets (Ok (request id kind body)) =
     answer (asks (state.AaaResponse ∷ state.SendRequest2 ∷ state.Idle2 ∷ []) (unpadded octets))
     (record vars { state = state.Idle2; current_id = Some id; retrans_count = 0; last_request = unpadded octets })
-aaa_row vars octets (Ok (response id kind body)) = answer (discards [] cause.WrongRole) vars
+aaa_row vars octets (Ok (response id kind body)) = answer (discards Peer [] cause.WrongRole) vars
 aaa_row vars octets (Ok (success id)) = answer (asks (state.Success2 ∷ []) (unpadded octets)) (record vars { state = state.Success2 })
 aaa_row vars octets (Ok (failure id)) = answer (asks (state.Failure2 ∷ []) (unpadded octets)) (record vars { state = state.Failure2 })
 
 -- what comes from the side that isn't waited for is discarded with an empty path
-abbrev pub not_waiting : PassVariables → PassAnswer
-not_waiting vars = answer (discards [] cause.NotWaiting) vars
+abbrev pub not_waiting : Side → PassVariables → PassAnswer
+not_waiting to vars = answer (discards to [] cause.NotWaiting) vars
 
 -- whether it has ended; whether it waits for the peer's identity, for the peer, or for the server
 abbrev pub is_over : State → Bool
@@ -145,17 +149,17 @@ is_aaa_idle s = elim s [ state.AaaIdle ↦ true | _ ↦ false ]
 -- octets come from the peer
 unfoldable pub pass_from_peer : PassVariables → List ℕ → PassAnswer
 pass_from_peer vars octets =
-    if is_over vars.state then answer (discards [] cause.Ended) vars
+    if is_over vars.state then answer (discards Server [] cause.Ended) vars
     else if is_idle vars.state then idle_row vars octets (packet_of octets)
     else if is_idle2 vars.state then idle2_row vars octets (packet_of octets)
-    else not_waiting vars
+    else not_waiting Server vars
 
 -- octets come from the server
 unfoldable pub pass_from_backend : PassVariables → List ℕ → PassAnswer
 pass_from_backend vars octets =
-    if is_over vars.state then answer (discards [] cause.Ended) vars
+    if is_over vars.state then answer (discards Peer [] cause.Ended) vars
     else if is_aaa_idle vars.state then aaa_row vars octets (packet_of octets)
-    else not_waiting vars
+    else not_waiting Peer vars
 
 -- the retransmission timer ends: the Request is sent again, at most MaxRetrans times
 abbrev pub resends : PassVariables → State → State → State → PassAnswer

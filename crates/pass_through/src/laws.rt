@@ -1,6 +1,7 @@
 //! Laws of the pass-through (RFC 4137 section 7). Each is the contract of a function that does nothing.
 
 ghost use Rattle.pass_through.specs.Laws.{DiscardsKeep, SendsWhatCame};
+ghost use Rattle.pass_through.specs.Rows.{PassAnswersAreRows};
 
 /// An input that is discarded changes no variable and sends nothing.
 #[tactic(auto, using(crate::proofs::Carrying::discards_keep))]
@@ -13,4 +14,10 @@ pub fn discards_keep()
 #[tactic(auto, using(crate::proofs::Carrying::sends_what_came))]
 pub fn sends_what_came()
     ensures { SendsWhatCame }
+{}
+
+/// What the pass-through makes of every input is one row of its table, with all that is then known.
+#[tactic(auto, using(crate::proofs::PassRows::pass_answers_are_rows))]
+pub fn answers_are_rows()
+    ensures { PassAnswersAreRows }
 {}

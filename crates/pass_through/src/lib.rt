@@ -8,6 +8,6 @@ mod rows;
 mod states;
 mod variables;
 
-pub use laws::{discards_keep, sends_what_came};
+pub use laws::{answers_are_rows, discards_keep, sends_what_came};
 pub use machine::PassThrough;
 pub use variables::PassVariables;

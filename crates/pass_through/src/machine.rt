@@ -1,7 +1,7 @@
 //! The pass-through of RFC 4137 section 7.
 
 ghost use Rattle.std.specs.Prelude.{◌≡◌, ◌≤◌, true, false};
-ghost use Rattle.pass_through.specs.PassTable.{answer, to_peer_with, to_server_with, unpadded, identity_request};
+ghost use Rattle.pass_through.specs.PassTable.{Peer, Server, answer, step_to, unpadded, identity_request};
 
 use crate::rows::{resend, take_aaa_idle, take_idle, take_idle2, write_identity_request};
 use crate::states::{is_aaa_idle, is_idle, is_idle2, is_over};
@@ -30,7 +30,7 @@ impl Model for PassThrough {
 
 impl PassThrough {
     ghost use Rattle.std.specs.Prelude.{[]};
-    ghost use Rattle.pass_through.specs.PassTable.{pass_made, pass_start, pass_from_peer, pass_from_backend, pass_timeout, pass_aaa_timeout, pass_aaa_noreq};
+    ghost use Rattle.pass_through.specs.PassTable.{pass_made, pass_start, pass_restart, pass_from_peer, pass_from_backend, pass_timeout, pass_aaa_timeout, pass_aaa_noreq};
     ghost use Rattle.pass_through.specs.PassTable.{is_started, has_timer, is_aaa_idle, is_over};
 
     /// A pass-through that has not started. `max_retrans` is at most 10.
@@ -52,10 +52,28 @@ impl PassThrough {
 
     /// INITIALIZE (RFC 4137 section 5.5): proposes Identity and writes its Request, with the first
     /// Identifier, into `packet`; it goes to the peer. The pass-through has not started.
-    #[tactic(auto, unfolding(crate::specs::PassTable::pass_start))]
     pub fn start(&mut self, packet: &mut Packet) -> Step
         requires { is_started self.old.state ≡ false }
-        ensures step { pass_start self.old ≡ answer (to_peer_with result packet.new) self.new }
+        ensures step { pass_start self.old ≡ answer (step_to Peer result packet.new) self.new }
+        ensures own { packet.new ≡ identity_request self.old.first_id }
+    {
+        self.begin(packet)
+    }
+
+    /// Begins anew, wherever the pass-through stands: its variables are as INITIALIZE sets them, and it asks for the identity
+    /// again, with the first Identifier. The Request is written into `packet`; it goes to the peer.
+    #[tactic(auto, unfolding(crate::specs::PassTable::pass_restart, crate::specs::PassTable::pass_start))]
+    pub fn restart(&mut self, packet: &mut Packet) -> Step
+        ensures step { pass_restart self.old ≡ answer (step_to Peer result packet.new) self.new }
+        ensures own { packet.new ≡ identity_request self.old.first_id }
+    {
+        self.begin(packet)
+    }
+
+    /// INITIALIZE, and then the Identity Request.
+    #[tactic(auto, unfolding(crate::specs::PassTable::pass_start))]
+    fn begin(&mut self, packet: &mut Packet) -> Step
+        ensures step { pass_start self.old ≡ answer (step_to Peer result packet.new) self.new }
         ensures own { packet.new ≡ identity_request self.old.first_id }
     {
         write_identity_request(packet, self.vars.first_id);
@@ -79,7 +97,7 @@ impl PassThrough {
     /// server is waited for, and after the end with an empty path.
     #[tactic(auto, unfolding(crate::specs::PassTable::pass_from_peer))]
     pub fn from_peer(&mut self, octets: &[u8], packet: &mut Packet) -> Step
-        ensures step { pass_from_peer self.old octets.now ≡ answer (to_server_with result packet.new) self.new }
+        ensures step { pass_from_peer self.old octets.now ≡ answer (step_to Server result packet.new) self.new }
         ensures whole { result.sends ≡ true → packet.new ≡ unpadded octets.now }
     {
         let state = self.vars.state;
@@ -99,7 +117,7 @@ impl PassThrough {
     /// empty path.
     #[tactic(auto, unfolding(crate::specs::PassTable::pass_from_backend))]
     pub fn from_backend(&mut self, octets: &[u8], packet: &mut Packet) -> Step
-        ensures step { pass_from_backend self.old octets.now ≡ answer (to_peer_with result packet.new) self.new }
+        ensures step { pass_from_backend self.old octets.now ≡ answer (step_to Peer result packet.new) self.new }
         ensures whole { result.sends ≡ true → packet.new ≡ unpadded octets.now }
     {
         let state = self.vars.state;
@@ -117,7 +135,7 @@ impl PassThrough {
     #[tactic(auto, unfolding(crate::specs::PassTable::pass_timeout))]
     pub fn timeout(&mut self, packet: &mut Packet) -> Step
         requires { has_timer self.old.state ≡ true }
-        ensures step { pass_timeout self.old ≡ answer (to_peer_with result packet.new) self.new }
+        ensures step { pass_timeout self.old ≡ answer (step_to Peer result packet.new) self.new }
         ensures again { result.sends ≡ true → packet.new ≡ self.old.last_request }
     {
         if is_idle(self.vars.state) {
@@ -144,7 +162,7 @@ impl PassThrough {
     #[tactic(auto, unfolding(crate::specs::PassTable::pass_aaa_timeout))]
     pub fn aaa_timeout(&mut self) -> Step
         requires { is_aaa_idle self.old.state ≡ true }
-        ensures { pass_aaa_timeout self.old ≡ answer (to_peer_with result []) self.new }
+        ensures { pass_aaa_timeout self.old ≡ answer (step_to Peer result []) self.new }
     {
         self.vars.state = State::TimeoutFailure2;
         Step::entering(&[State::TimeoutFailure2])
@@ -155,7 +173,7 @@ impl PassThrough {
     #[tactic(auto, unfolding(crate::specs::PassTable::pass_aaa_noreq))]
     pub fn aaa_noreq(&mut self) -> Step
         requires { is_aaa_idle self.old.state ≡ true }
-        ensures { pass_aaa_noreq self.old ≡ answer (to_peer_with result []) self.new }
+        ensures { pass_aaa_noreq self.old ≡ answer (step_to Peer result []) self.new }
     {
         self.vars.state = State::Idle2;
         Step::entering(&[State::Discard2, State::Idle2])

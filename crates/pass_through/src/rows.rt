@@ -3,7 +3,7 @@
 ghost use Rattle.std.specs.Prelude.{◌≡◌, ◌≤◌, ◌∷◌, [], true, false, Some};
 ghost use Rattle.eap_packet.specs.Fault.{packet_of};
 ghost use Rattle.eap_packet.specs.declared.state.State.TheVariants.{Received, Discard, Idle, Received2, Discard2, Idle2};
-ghost use Rattle.pass_through.specs.PassTable.{answer, to_peer_with, to_server_with, unpadded, identity_request, idle_row, idle2_row, aaa_row, is_over, resends};
+ghost use Rattle.pass_through.specs.PassTable.{Peer, Server, answer, step_to, unpadded, identity_request, idle_row, idle2_row, aaa_row, is_over, resends};
 
 use crate::variables::PassVariables;
 use eap_base::Packet;
@@ -22,7 +22,7 @@ pub fn write_identity_request(packet: &mut Packet, id: u8)
 
 /// IDLE: the Identity Response goes to the server as it came.
 pub fn take_idle(vars: &mut PassVariables, octets: &[u8], packet: &mut Packet) -> Step
-    ensures step { idle_row vars.old octets.now (packet_of octets.now) ≡ answer (to_server_with result packet.new) vars.new }
+    ensures step { idle_row vars.old octets.now (packet_of octets.now) ≡ answer (step_to Server result packet.new) vars.new }
     ensures order { vars.old.retrans_count ≤ vars.old.max_retrans → vars.new.retrans_count ≤ vars.new.max_retrans }
     ensures most { vars.new.max_retrans ≡ vars.old.max_retrans }
     ensures whole { result.sends ≡ true → packet.new ≡ unpadded octets.now }
@@ -63,7 +63,7 @@ fn discard(cause: Cause) -> Step
 
 /// IDLE2: a Response with currentId goes to the server as it came.
 pub fn take_idle2(vars: &mut PassVariables, octets: &[u8], packet: &mut Packet) -> Step
-    ensures step { idle2_row vars.old octets.now (packet_of octets.now) ≡ answer (to_server_with result packet.new) vars.new }
+    ensures step { idle2_row vars.old octets.now (packet_of octets.now) ≡ answer (step_to Server result packet.new) vars.new }
     ensures order { vars.old.retrans_count ≤ vars.old.max_retrans → vars.new.retrans_count ≤ vars.new.max_retrans }
     ensures most { vars.new.max_retrans ≡ vars.old.max_retrans }
     ensures whole { result.sends ≡ true → packet.new ≡ unpadded octets.now }
@@ -94,7 +94,7 @@ fn discard2(cause: Cause) -> Step
 /// AAA_IDLE: a Request goes to the peer as it came, to be answered; a Success or a Failure too, and ends
 /// the conversation.
 pub fn take_aaa_idle(vars: &mut PassVariables, octets: &[u8], packet: &mut Packet) -> Step
-    ensures step { aaa_row vars.old octets.now (packet_of octets.now) ≡ answer (to_peer_with result packet.new) vars.new }
+    ensures step { aaa_row vars.old octets.now (packet_of octets.now) ≡ answer (step_to Peer result packet.new) vars.new }
     ensures order { vars.old.retrans_count ≤ vars.old.max_retrans → vars.new.retrans_count ≤ vars.new.max_retrans }
     ensures most { vars.new.max_retrans ≡ vars.old.max_retrans }
     ensures whole { result.sends ≡ true → packet.new ≡ unpadded octets.now }
@@ -136,7 +136,7 @@ pub fn resend(
 ) -> Step
     requires count { vars.old.retrans_count ≤ 10 }
     requires over { is_over over ≡ true }
-    ensures step { resends vars.old entered back over ≡ answer (to_peer_with result packet.new) vars.new }
+    ensures step { resends vars.old entered back over ≡ answer (step_to Peer result packet.new) vars.new }
     ensures order { is_over vars.new.state ≡ false → vars.new.retrans_count ≤ vars.new.max_retrans }
     ensures most { vars.new.max_retrans ≡ vars.old.max_retrans }
     ensures again { result.sends ≡ true → packet.new ≡ vars.old.last_request }

@@ -6,3 +6,5 @@ pub mod Settling
 pub mod PeerRows
 -- A discard changes nothing.
 pub mod Discards
+-- The settings with another nonce are sound.
+pub mod Restarting

@@ -12,9 +12,9 @@ use Rattle.eap_method.specs.declared.values.Decision.{Decision}
 use Rattle.eap_method.specs.declared.values.Decision.TheVariants as decision
 use Rattle.eap_method.specs.Peer.{PeerViews, peer_turn}
 use Rattle.eap_method.specs.Steps.{is_end}
-use Rattle.peer_machine.specs.Inputs.{PeerInput, octets, idle, alt_accept, alt_reject, unless_ended}
+use Rattle.peer_machine.specs.Inputs.{PeerInput, octets, idle, alt_accept, alt_reject, restart, unless_ended}
 use Rattle.peer_machine.specs.PeerTable.{PeerNow, PeerAnswer, is_cont, is_done, is_fail, is_last_id, is_uncond, method_answers, peer_method, new_request, peer_success, peer_failure, peer_row, peer_deliver, peer_idle, peer_alt_accept, peer_alt_reject, peer_ends}
-use Rattle.peer_machine.specs.Rows.{no_packet, no_request, other_success, other_failure, early_success, late_failure, early_failure, late_notification, other_method, done_method, by_method, Hears, Calls, first, again, by_success, by_idle, by_accept, late_success, by_failure, by_idle_unsure, late_accept, by_reject, PeerRow, ended, rests, drops, waits, identifies, notifies, naks, resends, ends_well, ends_badly, method_replies, method_fails, PeerAnswersAreRows}
+use Rattle.peer_machine.specs.Rows.{no_packet, no_request, other_success, other_failure, early_success, late_failure, early_failure, late_notification, other_method, done_method, by_method, Hears, Calls, first, again, by_success, by_idle, by_accept, late_success, by_failure, by_idle_unsure, late_accept, by_reject, PeerRow, begins, ended, rests, drops, waits, identifies, notifies, naks, resends, ends_well, ends_badly, method_replies, method_fails, PeerAnswersAreRows}
 
 uncond_is_sure : (d : Decision) → is_uncond d ≡ true → is_fail d ≡ false
 uncond_is_sure decision.Fail sure = cc
@@ -91,9 +91,9 @@ module _ (now : PeerNow) where
       cond_both (is_end now.vars.state) _ _ (PeerRow now (octets bytes)) (λ over. ended bytes over)
       (λ going. packet-row bytes going (packet_of bytes) refl)
 
-  report-row : (report : PeerInput) (out : PeerAnswer) → ((bytes : List ℕ) → report ≡ octets bytes → ⊥)
+  report-row : (report : PeerInput) (out : PeerAnswer) → ((bytes : List ℕ) → report ≡ octets bytes → ⊥) → ((nonce : List ℕ) → report ≡ restart nonce → ⊥)
       → (is_end now.vars.state ≡ false → PeerRow now report out) → PeerRow now report (unless_ended now out)
-  report-row report out no_octets row = cond_both (is_end now.vars.state) _ _ (PeerRow now report) (λ over. rests report no_octets over) row
+  report-row report out no_octets no_restart row = cond_both (is_end now.vars.state) _ _ (PeerRow now report) (λ over. rests report no_octets no_restart over) row
 
   idle-row : is_end now.vars.state ≡ false → PeerRow now idle (peer_idle now)
   unfolding peer_idle
@@ -116,6 +116,7 @@ module _ (now : PeerNow) where
 
 pub peer_answers_are_rows : PeerAnswersAreRows
 peer_answers_are_rows now (octets bytes) = octets-row now bytes
-peer_answers_are_rows now idle = report-row now idle _ (λ bytes e. cc e) (idle-row now)
-peer_answers_are_rows now alt_accept = report-row now alt_accept _ (λ bytes e. cc e) (accept-row now)
-peer_answers_are_rows now alt_reject = report-row now alt_reject _ (λ bytes e. cc e) (reject-row now)
+peer_answers_are_rows now idle = report-row now idle _ (λ bytes e. cc e) (λ nonce e. cc e) (idle-row now)
+peer_answers_are_rows now alt_accept = report-row now alt_accept _ (λ bytes e. cc e) (λ nonce e. cc e) (accept-row now)
+peer_answers_are_rows now alt_reject = report-row now alt_reject _ (λ bytes e. cc e) (λ nonce e. cc e) (reject-row now)
+peer_answers_are_rows now (restart nonce) = begins nonce

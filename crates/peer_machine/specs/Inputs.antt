@@ -2,7 +2,7 @@
 use Rattle.std.specs.Prelude.{ℕ, List, [], if◌then◌else◌}
 use Rattle.eap_method.specs.Steps.{enters, is_end}
 use Rattle.eap_method.specs.Tags.{no_tags}
-use Rattle.peer_machine.specs.PeerTable.{PeerNow, PeerAnswer, answer, peer_deliver, peer_idle, peer_alt_accept, peer_alt_reject}
+use Rattle.peer_machine.specs.PeerTable.{PeerNow, PeerAnswer, answer, peer_restart, peer_deliver, peer_idle, peer_alt_accept, peer_alt_reject}
 
 -- octets from the server, or a report of the lower layer (section 4.1.1)
 pub data PeerInput : Type 0 where
@@ -10,6 +10,8 @@ pub data PeerInput : Type 0 where
   idle : PeerInput
   alt_accept : PeerInput
   alt_reject : PeerInput
+  -- the end begins a new conversation with this nonce
+  restart : List ℕ → PeerInput
 
 -- a report of the lower layer; after the end it does nothing
 abbrev pub unless_ended : PeerNow → PeerAnswer → PeerAnswer
@@ -20,3 +22,4 @@ peer_takes now (octets bytes) = peer_deliver now bytes
 peer_takes now idle = unless_ended now (peer_idle now)
 peer_takes now alt_accept = unless_ended now (peer_alt_accept now)
 peer_takes now alt_reject = unless_ended now (peer_alt_reject now)
+peer_takes now (restart nonce) = peer_restart now nonce

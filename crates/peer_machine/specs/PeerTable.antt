@@ -1,7 +1,7 @@
 -- The peer of RFC 4137 section 4, over the views of its methods: each call as a function.
-use Rattle.std.specs.Prelude.{ℕ, List, [], ◌∷◌, ◌++◌, Bool, true, false, ◌==◌, ◌&&◌, if◌then◌else◌, Option, Some, None, Result, Ok, Err, map}
+use Rattle.std.specs.Prelude.{◌≡◌, ℕ, List, [], ◌∷◌, ◌++◌, Bool, true, false, ◌==◌, ◌&&◌, if◌then◌else◌, Option, Some, None, Result, Ok, Err, map}
 use Rattle.eap_base.specs.declared.setup.PeerSetup.{PeerSetup}
-use Rattle.eap_base.specs.Setup.{is_among}
+use Rattle.eap_base.specs.Setup.{is_among, IsSoundPeer, HasKeys}
 use Rattle.eap_packet.specs.Packet.{PacketValue, request, response, success, failure, spelled}
 use Rattle.eap_packet.specs.Fault.{packet_of}
 use Rattle.eap_packet.specs.declared.cause.Cause.{Cause}
@@ -62,6 +62,14 @@ vars_begun setup = record {
 
 abbrev pub peer_made : PeerSetup → PeerNow
 peer_made setup = record { vars = vars_begun setup; views = views_begun setup }
+
+-- the settings with this nonce
+abbrev pub own_nonce : PeerSetup → List ℕ → PeerSetup
+own_nonce setup nonce = record setup { nonce = nonce }
+
+-- a new conversation with it: every variable and the view of each allowed method as INITIALIZE sets it
+unfoldable pub peer_restart : PeerNow → List ℕ → PeerAnswer
+peer_restart now nonce = answer (enters (state.Initialize ∷ state.Idle ∷ []) no_tags) (peer_made (own_nonce now.vars.setup nonce))
 
 -- whether the Identifier is lastId
 abbrev pub is_last_id : Option ℕ → ℕ → Bool
@@ -213,3 +221,11 @@ peer_reports now = selected_report now.views now.vars.selected
 abbrev pub is_allowed : List ℕ → Option ℕ → Bool
 is_allowed methods None = true
 is_allowed methods (Some kind) = is_among methods kind
+
+-- what holds of the variables at every moment
+pub record AreInOrder (vars : PeerVariables) : Type 0 where
+  -- the settings are sound, with a key for each allowed method
+  pub sound : IsSoundPeer vars.setup
+  pub keys : HasKeys vars.setup
+  -- a selected method is one that the policy allows
+  pub selected : is_allowed vars.setup.methods vars.selected ≡ true

@@ -14,8 +14,8 @@ use Rattle.eap_method.specs.declared.values.MethodState.{MethodState}
 use Rattle.eap_method.specs.Peer.{PeerViews, peer_turn}
 use Rattle.eap_method.specs.Steps.{sends, enters, discards, is_end}
 use Rattle.eap_method.specs.Tags.{no_tags}
-use Rattle.peer_machine.specs.Inputs.{PeerInput, octets, idle, alt_accept, alt_reject, peer_takes}
-use Rattle.peer_machine.specs.PeerTable.{PeerNow, PeerAnswer, answer, is_last_id, is_done, is_cont, is_fail, is_uncond, before_method, peer_respond, peer_retransmit, peer_ends, identity_response, notification_response, nak_response}
+use Rattle.peer_machine.specs.Inputs.{PeerInput, octets, idle, alt_accept, alt_reject, restart, peer_takes}
+use Rattle.peer_machine.specs.PeerTable.{PeerNow, PeerAnswer, answer, is_last_id, is_done, is_cont, is_fail, is_uncond, before_method, peer_respond, peer_restart, peer_retransmit, peer_ends, identity_response, notification_response, nak_response}
 
 -- this packet has come to a peer that has not ended; its Identifier is lastId, or isn't
 pub record Hears (now : PeerNow) (bytes : List ℕ) (id : ℕ) (packet : PacketValue) (is_last : Bool) : Type 0 where
@@ -78,8 +78,10 @@ pub data EndsBadly (now : PeerNow) : PeerInput → List State → Type 0 where
 pub data PeerRow (now : PeerNow) : PeerInput → PeerAnswer → Type 0 where
   -- after the end octets are discarded, and a report does nothing
   ended : (bytes : List ℕ) (over : is_end now.vars.state ≡ true) → PeerRow now (octets bytes) (answer (discards [] cause.Ended) now)
-  rests : (report : PeerInput) (no_octets : (bytes : List ℕ) → report ≡ octets bytes → ⊥) (over : is_end now.vars.state ≡ true)
+  rests : (report : PeerInput) (no_octets : (bytes : List ℕ) → report ≡ octets bytes → ⊥) (no_restart : (nonce : List ℕ) → report ≡ restart nonce → ⊥) (over : is_end now.vars.state ≡ true)
       → PeerRow now report (answer (enters [] no_tags) now)
+  -- a new conversation, wherever the peer stood
+  begins : (nonce : List ℕ) → PeerRow now (restart nonce) (peer_restart now nonce)
   -- octets that are no packet or out of place, and what the method discards
   drops : (bytes : List ℕ) (path : List State) (c : Cause) (going : is_end now.vars.state ≡ false) (why : Drops now bytes c path)
       → PeerRow now (octets bytes) (answer (discards path c) now)

@@ -10,10 +10,10 @@ ghost use Rattle.eap_method.specs.Steps.{step_with};
 ghost use Rattle.eap_method.specs.Tags.{no_tags};
 ghost use Rattle.eap_method.specs.Unnamed.{KeepsPeers};
 ghost use Rattle.peer_machine.specs.PeerTable.{before_method, method_answers, settled, answer, is_allowed};
-ghost use Rattle.eap_method.specs.Peer.{IsRequest, PeerViews, peer_views, peer_turn, peer_kinds};
+ghost use Rattle.eap_method.specs.Peer.{IsRequest, PeerViews, have_each, peer_views, peer_turn, peer_kinds};
 
 use crate::variables::PeerVariables;
-use eap_base::{Packet, PeerSetup};
+use eap_base::{Nonce, Packet, PeerSetup};
 use eap_method::{
     Decision, MethodState, PeerMethod, PeerTurn, Report, Step, Tags, begin_peers, hand_to_peer,
     has_ended, peer_report,
@@ -32,8 +32,8 @@ const NOTIFICATION: u8 = 2;
 const NAK: u8 = 3;
 
 /// The peer of RFC 4137 section 4: its variables, and the objects of its methods. Contracts see both;
-/// what an object shows is its ghost member `peer_shown`. No call changes the settings, nor the view of an object
-/// whose method they don't name.
+/// what an object shows is its ghost member `peer_shown`. No call changes the settings but [`restart`](PeerMachine::restart)
+/// their nonce, nor the view of an object whose method they don't name.
 #[derive(Drop)]
 pub struct PeerMachine<M> {
     vars: PeerVariables,
@@ -41,20 +41,18 @@ pub struct PeerMachine<M> {
 }
 
 impl<M> Model for PeerMachine<M> {
-    ghost use Rattle.std.specs.Prelude.{◌≡◌, true};
-    ghost use Rattle.peer_machine.specs.PeerTable.{PeerValue, is_allowed};
+    ghost use Rattle.peer_machine.specs.PeerTable.{PeerValue, AreInOrder};
 
     ghost Value = { PeerValue M };
 
     ghost view = { λ m. record { vars = m.vars; methods = m.methods.items } };
 
-    ghost invariant = { λ m. is_allowed m.vars.setup.methods m.vars.selected ≡ true };
+    ghost invariant = { λ m. AreInOrder m.vars };
 }
 
 impl<M: PeerMethod> PeerMachine<M> {
-    ghost use Rattle.eap_method.specs.Peer.{have_each};
     ghost use Rattle.eap_method.specs.Steps.{is_end};
-    ghost use Rattle.peer_machine.specs.PeerTable.{PeerAnswer, now_of, peer_made, peer_deliver, peer_idle, peer_alt_accept, peer_alt_reject, peer_reports, peer_row, peer_success, peer_failure, new_request, peer_method, is_last_id};
+    ghost use Rattle.peer_machine.specs.PeerTable.{PeerAnswer, now_of, own_nonce, peer_made, peer_restart, peer_deliver, peer_idle, peer_alt_accept, peer_alt_reject, peer_reports, peer_row, peer_success, peer_failure, new_request, peer_method, is_last_id};
 
     /// INITIALIZE (RFC 4137 section 4.5): begins the objects of the methods that the setup allows; the
     /// peer then stands in IDLE. Each of these methods has an object.
@@ -79,6 +77,27 @@ impl<M: PeerMethod> PeerMachine<M> {
             },
             methods,
         }
+    }
+
+    /// Begins a new conversation with this nonce, wherever the peer stands: its variables and the objects of its methods are
+    /// as INITIALIZE sets them (RFC 4137 section 4.5), and of the settings the nonce alone changes. Nothing is sent, and no
+    /// tag is accepted or made. Each of its methods has an object.
+    #[tactic(auto, unfolding(crate::specs::PeerTable::peer_restart), using(crate::proofs::Restarting::still_sound, crate::proofs::Restarting::still_keyed))]
+    pub fn restart(&mut self, nonce: &Nonce) -> Step
+        requires objects { have_each (peer_kinds (map M.peer_shown self.old.methods)) self.old.vars.setup.methods ≡ true }
+        ensures step { peer_restart (now_of M.peer_shown self.old) nonce.now ≡ answer (step_with result [] no_tags) (now_of M.peer_shown self.new) }
+        ensures kept { KeepsPeers self.old.vars.setup.methods (map M.peer_shown self.old.methods) (map M.peer_shown self.new.methods) }
+        ensures setup { self.new.vars.setup ≡ own_nonce self.old.vars.setup nonce.now }
+    {
+        self.vars.setup.nonce = *nonce;
+        begin_peers(self.methods.as_mut_slice(), &self.vars.setup);
+        self.vars.state = State::Idle;
+        self.vars.selected = None;
+        self.vars.method_state = MethodState::NotSet;
+        self.vars.decision = Decision::Fail;
+        self.vars.last_id = None;
+        self.vars.last_response.clear();
+        Step::entering(&[State::Initialize, State::Idle])
     }
 
     /// Octets come from the server. The packet that they begin with is taken through RECEIVED (RFC 4137
@@ -177,6 +196,13 @@ impl<M: PeerMethod> PeerMachine<M> {
             None => None,
             Some(kind) => peer_report(self.methods.as_slice(), kind),
         }
+    }
+
+    /// Whether each method that the settings allow has an object: the condition of [`restart`](PeerMachine::restart).
+    pub fn has_objects(&self) -> bool
+        ensures { result ≡ have_each (peer_kinds (map M.peer_shown self.now.methods)) self.now.vars.setup.methods }
+    {
+        has_each(self.methods.as_slice(), self.vars.setup.methods.as_slice())
     }
 
     /// The objects, in the order in which they were handed in, with the views that they have.
@@ -515,5 +541,22 @@ fn method_replies(selects: bool) -> Step
             State::Idle,
         ];
         Step::sending(&states)
+    }
+}
+
+/// Whether there is an object of each of these Types.
+fn has_each<M: PeerMethod>(methods: &[M], kinds: &[u8]) -> bool
+    ensures { result ≡ have_each (peer_kinds (map M.peer_shown methods.now)) kinds.now }
+{
+    kinds.iter().all(|kind| has_object(methods, *kind))
+}
+
+/// Whether there is an object of this Type.
+fn has_object<M: PeerMethod>(methods: &[M], kind: u8) -> bool
+    ensures { result ≡ is_among (peer_kinds (map M.peer_shown methods.now)) kind }
+{
+    match methods.split_first() {
+        None => false,
+        Some((first, rest)) => first.kind() == kind || has_object(rest, kind),
     }
 }

@@ -1,3 +1,7 @@
+-- A keyword is looked for among those of both versions, and then among those of the second.
+pub mod Finding
+-- No line of the first version tells of a later conversation.
+pub mod FirstVersion
 -- A line is refused with the first fault that it has, by its keyword, its words and its place, and taken where it has
 -- none.
 pub mod Judging

@@ -2,6 +2,7 @@
 use Rattle.std.proofs.Common.{◌≡◌, List, ℕ, false, [], ◌∷◌, ◌++◌, replicate, Some, None, find, Result, Ok, Err, refl}
 use Rattle.std.specs.Prelude.{codes}
 use Rattle.eap_base.specs.Setup.{no_later}
+use Rattle.eap_base.specs.declared.setup.Later.{Later}
 use Rattle.eap_base.specs.declared.setup.Accepts.TheVariants.{Any}
 use Rattle.eap_base.specs.declared.setup.Mode.TheVariants as mode
 use Rattle.eap_base.specs.declared.setup.Party.TheVariants as party
@@ -13,16 +14,21 @@ use Rattle.text_tables.specs.Rows.{faults, unless, keyword_in, line_has}
 use Rattle.scenario_text.specs.Entries.{item_of, has_fault, said_by}
 use Rattle.scenario_text.specs.Contents.{Entry, Set, Happens}
 use Rattle.text_tables.specs.Users.{with_user}
-use Rattle.scenario_text.specs.Reading.{peer_setup_of, server_setup_of, setup_of, body_has, read_body, read_line}
+use Rattle.scenario_text.specs.Reading.{with_later, peer_setup_of, server_setup_of, setup_of, body_has, read_body, read_line}
 use Rattle.scenario_text.specs.Whole.{IsScript, read_lines, read_all}
 use Rattle.text_tables.specs.declared.fault.LineFault.{LineFault}
 use Rattle.text_tables.specs.declared.fault.LineFault.TheVariants as fault
 use Rattle.scenario_text.specs.declared.entry.Setting.TheVariants as setting
+use Rattle.scenario_text.specs.declared.version.Version.{Version}
+use Rattle.scenario_text.specs.declared.version.Version.TheVariants.{First, Second}
 use Rattle.scenario_text.proofs.Telling.{scenarios_are_read}
 
--- what a line says, or the first fault of its words
+-- what a line of a version says, or the first fault of its words
+abbrev says_in : Version → List ℕ → Result Entry LineFault
+says_in version line = unless (find (has_fault version line) faults) (said_by version line)
+
 abbrev says : List ℕ → Result Entry LineFault
-says line = unless (find (has_fault line) faults) (said_by line)
+says line = says_in First line
 
 -- a number has no leading zero, and is in its range; one space parts words, and their number comes before what they are
 numbers : (says (codes "deliver 1000000") ≡ Ok (Happens (event.Deliver 1000000)))
@@ -54,6 +60,19 @@ users : (says (codes "user  48 0g maybe") ≡ Err fault.BadChoice)
 unfolding line_has keyword_in item_of spells_octets
 users = (refl, refl, refl, refl)
 
+-- the words of the second version are none of the first
+later-words : (says (codes "restart peer") ≡ Err fault.BadWord)
+    × (says (codes "peer-expanded no") ≡ Err fault.BadWord)
+    × (says_in Second (codes "restart pass") ≡ Ok (Happens (event.Restart party.Pass)))
+    × (says_in Second (codes "restart peer") ≡ Ok (Happens (event.Restart party.Peer)))
+    × (says_in Second (codes "restart pass-peer") ≡ Err fault.BadChoice)
+    × (says_in Second (codes "restart") ≡ Err fault.BadCount)
+    × (says_in Second (codes "server-expanded no") ≡ Ok (Set (setting.ServerExpanded false)))
+    × (says_in Second (codes "server-expanded yes") ≡ Err fault.BadChoice)
+    × (says_in Second (codes "deliver 1") ≡ Ok (Happens (event.Deliver 1)))
+unfolding line_has keyword_in item_of spells_number
+later-words = (refl, refl, refl, refl, refl, refl, refl, refl, refl)
+
 nonce : List ℕ
 nonce = replicate 64 48
 
@@ -66,8 +85,8 @@ front =
 abbrev sample : List (List ℕ)
 sample = codes "eap-scenario 1" ∷ (front ++ codes "events" ∷ codes "idle" ∷ codes "deliver 2" ∷ codes "end" ∷ codes "" ∷ [])
 
-abbrev setup : Setup
-setup = record {
+abbrev setup : Later → Setup
+setup later = record {
   mode = mode.Alone;
   first_id = 0;
   max_retrans = 4;
@@ -82,15 +101,41 @@ setup = record {
     expanded = false;
   };
   server = record { name = codes "home"; methods = []; suites = 1 ∷ 2 ∷ []; users = []; nonce = replicate 32 0; expanded = false };
-  later = no_later;
+  later = later;
 }
 
-reads : read_all sample ≡ Ok (record { setup = Some setup; events = event.Idle ∷ event.Deliver 2 ∷ [] })
+reads : read_all sample ≡ Ok (record { setup = Some (setup no_later); events = event.Idle ∷ event.Deliver 2 ∷ [] })
 unfolding read_lines read_line read_body body_has line_has keyword_in item_of spells_number spells_octets peer_setup_of server_setup_of setup_of with_user nonce
 reads = refl
 
-stands : IsScript sample (record { setup = Some setup; events = event.Idle ∷ event.Deliver 2 ∷ [] })
+stands : IsScript sample (record { setup = Some (setup no_later); events = event.Idle ∷ event.Deliver 2 ∷ [] })
 stands = scenarios_are_read.only sample _ reads
+
+-- in the second version the nonces come again, in their order
+ones : List ℕ
+ones = replicate 64 49
+
+abbrev later_sample : List (List ℕ)
+later_sample =
+    codes "eap-scenario 2" ∷ (codes "peer-expanded no" ∷ front ++ (codes "peer-nonce " ++ ones) ∷ (codes "peer-nonce " ++ nonce) ∷ codes "events" ∷ codes "restart peer" ∷ codes "end" ∷ [])
+
+reads-later : read_all later_sample
+    ≡ Ok (record {
+      setup = Some (setup (record { version = 2; peer = replicate 32 17 ∷ replicate 32 0 ∷ []; server = [] }));
+      events = event.Restart party.Peer ∷ [];
+    })
+unfolding read_lines read_line read_body body_has line_has keyword_in item_of spells_number spells_octets with_later peer_setup_of server_setup_of setup_of with_user nonce ones
+reads-later = refl
+
+nonces : ℕ → List (List ℕ)
+nonces count = replicate count (codes "server-nonce " ++ nonce)
+
+twice : (read_all (codes "eap-scenario 1" ∷ nonces 2) ≡ Err fault.Repeated)
+    × (read_all (codes "eap-scenario 2" ∷ nonces 16) ≡ Err fault.Missing)
+    × (read_all (codes "eap-scenario 2" ∷ nonces 17) ≡ Err fault.BadCount)
+    × (read_all (codes "eap-scenario 3" ∷ []) ≡ Err fault.NoHeader)
+unfolding read_lines read_line read_body body_has line_has keyword_in item_of spells_octets with_later nonce nonces
+twice = (refl, refl, refl, refl)
 
 refused : (read_all [] ≡ Err fault.NoHeader)
     × (read_all (codes "eap-scenario 1" ∷ front) ≡ Err fault.Missing)

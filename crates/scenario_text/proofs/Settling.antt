@@ -1,10 +1,10 @@
 -- Settings that come one after another, the values that their lines give, and the users among them.
 use Rattle.std.proofs.Common.{◌≡◌, ℕ, zero, suc, ◌<◌, ◌≤◌, List, [], ◌∷◌, ◌++◌, length, get_or, Bool, true, false, nat_le, Option, Some, None, find}
-use Rattle.std.proofs.Common.{is_some, unwrap_or, Result, Ok, Err, IfOk, refl, sym, ap, subst, ◌∙◌, inl, inr, arith, append_assoc, append-nil, length-append, lit≤, not-suc-le-zero}
-use Rattle.std.proofs.lemmas.Bool.{cases_Bool, cond_both, leb-false, lt-leb}
+use Rattle.std.proofs.Common.{is_some, unwrap_or, not, ◌&&◌, nat_lt, Result, Ok, Err, IfOk, refl, sym, ap, ap₂, subst, ◌∙◌, inl, inr, arith, append_assoc, append-nil, length-append, lit≤, not-suc-le-zero}
+use Rattle.std.proofs.lemmas.Bool.{cases_Bool, cond_both, leb-false, lt-leb, lt-ltb, ltb-true}
 use Rattle.std.proofs.lemmas.List.{get_or_append_left}
 use Rattle.std.proofs.Math.Seq.{get_or-append_seam}
-use Rattle.eap_base.specs.Setup.{psk_kind, gpsk_kind, is_among}
+use Rattle.eap_base.specs.Setup.{psk_kind, gpsk_kind, is_among, no_later}
 use Rattle.eap_base.specs.Users.{user_of, is_named, HasRoom, AreDistinct}
 use Rattle.eap_base.specs.declared.users.User.{User}
 use Rattle.eap_base.specs.declared.setup.Later.{Later}
@@ -15,28 +15,62 @@ use Rattle.eap_base.proofs.UserLists.{AreDistinct-push}
 use Rattle.text_tables.specs.Fields.{◌>>=◌}
 use Rattle.text_tables.specs.Users.{with_user}
 use Rattle.text_tables.proofs.Adding.{empty, with_user_is, with_user_holds}
-use Rattle.scenario_text.specs.Reading.{has_setting, with_setting, both_suites, needed, key_for, peer_setup_of, server_setup_of, setup_of}
-use Rattle.scenario_text.specs.Valid.{AreUsers}
-use Rattle.scenario_text.specs.Whole.{Values, no_values, with_value, values_of, IsGivenOr, IsGivenOrNone, IsKeyFor, MakesPeer, MakesServer, MakesSetup}
+use Rattle.scenario_text.specs.Reading.{begun, has_setting, with_later, with_nonce, is_full, with_setting, both_suites, needed, key_for, later_nonces, later_of, peer_setup_of, server_setup_of, setup_of}
+use Rattle.scenario_text.specs.Valid.{AreUsers, AreFew, IsKept}
+use Rattle.scenario_text.specs.Versions.{has_later, most_later}
+use Rattle.scenario_text.specs.Whole.{Values, no_values, with_value, values_of, IsGivenOr, IsGivenOrNone, IsKeyFor, AreNoncesOf, MakesPeer, MakesServer, MakesSetup}
 use Rattle.text_tables.specs.declared.fault.LineFault.{LineFault}
 use Rattle.text_tables.specs.declared.fault.LineFault.TheVariants.{Missing}
 use Rattle.scenario_text.specs.declared.entry.Setting.{Setting}
 use Rattle.scenario_text.specs.declared.entry.Setting.TheVariants as setting
+use Rattle.scenario_text.specs.declared.settings.GivenNonces.{GivenNonces}
 use Rattle.scenario_text.specs.declared.settings.Settings.{Settings}
+use Rattle.scenario_text.specs.declared.version.Version.{Version}
+use Rattle.scenario_text.specs.declared.version.Version.TheVariants.{First, Second}
 
-pub no-users : AreUsers []
+no-users : AreUsers []
 no-users = record { few = lit≤ tt; distinct = λ i j d low high. absurd (not-suc-le-zero high) }
 
-pub users-kept : (s : Settings) (x : Setting) → AreUsers s.users → AreUsers ((with_setting s x).users)
-users-kept s (setting.User user) h =
-    with_user_holds AreUsers s.users user h (λ r.
-    record { few = omega (arith, length-append s.users (user ∷ []), r.few); distinct = AreDistinct-push s.users user (h.distinct) (r.absent) })
-users-kept s other h = h
+users-kept : (users : List User) (user : User) → AreUsers users → AreUsers (with_user users user)
+users-kept users user h =
+    with_user_holds AreUsers users user h (λ r.
+    record { few = omega (arith, length-append users (user ∷ []), r.few); distinct = AreDistinct-push users user (h.distinct) (r.absent) })
+
+later-few : (version : Version) (later : List (List ℕ)) (nonce : List ℕ) → length later ≤ most_later version → length (with_later version later nonce) ≤ most_later version
+unfolding with_later
+later-few version later nonce h =
+    cond_both (nat_lt (length later) (most_later version)) (later ++ nonce ∷ []) later (λ l. length l ≤ most_later version)
+    (λ e. let below = ltb-true (length later) (most_later version) e in omega (arith, length-append later (nonce ∷ []))) (λ e. h)
+
+few-kept : (version : Version) (slot : Option GivenNonces) (nonce : List ℕ) → AreFew version slot → AreFew version (with_nonce version slot nonce)
+few-kept First None nonce h = lit≤ tt
+few-kept Second None nonce h = lit≤ tt
+few-kept version (Some given) nonce h = later-few version given.later nonce h
+
+pub none-kept : (version : Version) → IsKept (begun version)
+none-kept version = record { users = no-users; peer_nonces = tt; server_nonces = tt }
+
+pub kept : (s : Settings) (x : Setting) → IsKept s → IsKept (with_setting s x)
+kept s (setting.User user) h = record { users = users-kept s.users user h.users; peer_nonces = h.peer_nonces; server_nonces = h.server_nonces }
+kept s (setting.PeerNonce nonce) h =
+    record { users = h.users; peer_nonces = few-kept s.version s.peer_nonces nonce h.peer_nonces; server_nonces = h.server_nonces }
+kept s (setting.ServerNonce nonce) h =
+    record { users = h.users; peer_nonces = h.peer_nonces; server_nonces = few-kept s.version s.server_nonces nonce h.server_nonces }
+kept s other h = record { users = h.users; peer_nonces = h.peer_nonces; server_nonces = h.server_nonces }
+
+-- a setting leaves the version
+pub same-version : (s : Settings) (x : Setting) → (with_setting s x).version ≡ s.version
+same-version s (setting.User user) = refl
+same-version s other = refl
 
 -- the values that come to what is set
 abbrev pub plus : {A : Type 0} → Option A → List A → List A
 plus None xs = xs
 plus (Some a) xs = a ∷ xs
+
+abbrev pub plus_nonces : Option GivenNonces → List (List ℕ) → List (List ℕ)
+plus_nonces None xs = xs
+plus_nonces (Some given) xs = given.first ∷ (given.later ++ xs)
 
 abbrev pub joined : Settings → Values → Values
 joined s v = record {
@@ -49,23 +83,27 @@ joined s v = record {
   peer_suites = plus s.peer_suites v.peer_suites;
   peer_psk47 = plus s.peer_psk47 v.peer_psk47;
   peer_psk51 = plus s.peer_psk51 v.peer_psk51;
-  peer_nonce = plus s.peer_nonce v.peer_nonce;
+  peer_nonce = plus_nonces s.peer_nonces v.peer_nonce;
   server_name = plus s.server_name v.server_name;
   server_methods = plus s.server_methods v.server_methods;
   server_suites = plus s.server_suites v.server_suites;
-  server_nonce = plus s.server_nonce v.server_nonce;
+  server_nonce = plus_nonces s.server_nonces v.server_nonce;
   users = s.users ++ v.users;
+  peer_expanded = plus s.peer_expanded v.peer_expanded;
+  server_expanded = plus s.server_expanded v.server_expanded;
 }
 
--- a user comes where 16 are there
-abbrev pub is_full : Settings → Setting → Bool
-is_full s (setting.User user) = nat_le 16 (length s.users)
-is_full s v = false
+-- a user, or in the second version a nonce of an end, comes where 16 are there
+abbrev pub is_over : Settings → Setting → Bool
+is_over s (setting.User user) = nat_le 16 (length s.users)
+is_over s (setting.PeerNonce nonce) = has_later s.version && is_full s.peer_nonces
+is_over s (setting.ServerNonce nonce) = has_later s.version && is_full s.server_nonces
+is_over s v = false
 
 -- each setting that comes is new
 abbrev pub AllNew : Settings → List Setting → Type 0
 AllNew s [] = Unit {0}
-AllNew s (v ∷ rest) = (is_full s v ≡ false) × (has_setting s v ≡ false) × AllNew (with_setting s v) rest
+AllNew s (v ∷ rest) = (is_over s v ≡ false) × (has_setting s v ≡ false) × AllNew (with_setting s v) rest
 
 abbrev pub settings_after : Settings → List Setting → Settings
 settings_after s [] = s
@@ -84,18 +122,37 @@ pushed users user h = with_user_is users (users ++ user ∷ []) user (λ k. refl
 added : (users : List User) (user : User) (rest : List User) → HasRoom users user → users ++ user ∷ rest ≡ with_user users user ++ rest
 added users user rest h = sym (append_assoc users (user ∷ []) rest) ∙ ap (λ l. l ++ rest) (pushed users user h)
 
+-- so does a nonce for which there is room
+later-added : (later : List (List ℕ)) (nonce : List ℕ) (rest : List (List ℕ)) → nat_le 15 (length later) ≡ false → later ++ nonce ∷ rest ≡ with_later Second later nonce ++ rest
+unfolding with_later
+later-added later nonce rest f =
+    let room : nat_lt (length later) 15 ≡ true = lt-ltb (length later) 15 (leb-false 15 (length later) f) in
+    rw room (sym (append_assoc later (nonce ∷ []) rest))
+
+nonce-added : (version : Version) (slot : Option GivenNonces) (nonce : List ℕ) (rest : List (List ℕ)) → (has_later version && is_full slot) ≡ false →
+    (not (has_later version) && is_some slot) ≡ false → plus_nonces slot (nonce ∷ rest) ≡ plus_nonces (with_nonce version slot nonce) rest
+nonce-added version None nonce rest f n = refl
+nonce-added First (Some given) nonce rest f n = absurd cc
+nonce-added Second (Some given) nonce rest f n = ap (λ l. given.first ∷ l) (later-added given.later nonce rest f)
+
 -- a new setting goes from what comes to what is set
-moves : (s : Settings) (x : Setting) (v : Values) → is_full s x ≡ false → has_setting s x ≡ false → joined s (with_value x v) ≡ joined (with_setting s x) v
+moves : (s : Settings) (x : Setting) (v : Values) → is_over s x ≡ false → has_setting s x ≡ false → joined s (with_value x v) ≡ joined (with_setting s x) v
 moves s (setting.User a) v f n = ap (λ l. record (joined s v) { users = l }) (added s.users a v.users (room s.users a f n))
+moves s (setting.PeerNonce a) v f n = ap (λ l. record (joined s v) { peer_nonce = l }) (nonce-added s.version s.peer_nonces a v.peer_nonce f n)
+moves s (setting.ServerNonce a) v f n = ap (λ l. record (joined s v) { server_nonce = l }) (nonce-added s.version s.server_nonces a v.server_nonce f n)
 moves s other v f n = rw fresh refl
 
 pub gathers : (s : Settings) (settings : List Setting) → AllNew s settings → joined s (values_of settings) ≡ joined (settings_after s settings) no_values
 gathers s [] h = refl
 gathers s (x ∷ rest) h = moves s x (values_of rest) (h.0) (h.1) ∙ gathers (with_setting s x) rest (h.2)
 
-pub users-after : (s : Settings) (settings : List Setting) → AreUsers s.users → AreUsers ((settings_after s settings).users)
-users-after s [] k = k
-users-after s (x ∷ rest) k = users-after (with_setting s x) rest (users-kept s x k)
+pub kept-after : (s : Settings) (settings : List Setting) → IsKept s → IsKept (settings_after s settings)
+kept-after s [] k = k
+kept-after s (x ∷ rest) k = kept-after (with_setting s x) rest (kept s x k)
+
+pub version-after : (s : Settings) (settings : List Setting) → (settings_after s settings).version ≡ s.version
+version-after s [] = refl
+version-after s (x ∷ rest) = version-after (with_setting s x) rest ∙ same-version s x
 
 -- whole settings are those that the lines give
 module _ {A B : Type 0} (Q : B → Type 0) where
@@ -117,36 +174,66 @@ key-given methods kind None =
     cond_both (is_among methods kind) (Err Missing) (Ok None) (λ x. IfOk x (IsKeyFor methods kind [])) (λ e. tt)
     (λ e. record { given = refl; needed = λ k. absurd cc })
 
-peers-given : (s : Settings) → IfOk (peer_setup_of s) (MakesPeer (joined s no_values))
+nonces-given : (version : Version) (slot : Option GivenNonces) (given : GivenNonces) → AreFew version slot → slot ≡ Some given →
+    AreNoncesOf version (plus_nonces slot []) given.first (later_nonces slot)
+nonces-given version None given few e = absurd cc
+nonces-given version (Some other) given few e =
+    let same : other ≡ given = cc in
+    subst (λ g. AreNoncesOf version (plus_nonces (Some other) []) g.first other.later) same
+    (record { given = ap (λ l. other.first ∷ l) (append-nil other.later); few = few })
+
+-- (the slot stays in what is made of it, which tells the later nonces too)
+with_given : {A B : Type 0} (Q : B → Type 0) (slot : Option A) (f : A → Result B LineFault) → ((a : A) → slot ≡ Some a → IfOk (f a) Q) → IfOk (needed slot >>= f) Q
+with_given Q None f h = tt
+with_given Q (Some a) f h = h a refl
+
+pub peers-given : (s : Settings) → IsKept s → IfOk (peer_setup_of s) (MakesPeer s.version (joined s no_values) (later_nonces s.peer_nonces))
 unfolding peer_setup_of
-peers-given s =
-    let Q = MakesPeer (joined s no_values) in
+peers-given s h =
+    let Q = MakesPeer s.version (joined s no_values) (later_nonces s.peer_nonces) in
     with_needed Q s.peer_name _ (λ name a.
     with_needed Q s.peer_server _ (λ accepts b.
     with_needed Q s.peer_methods _ (λ methods c.
-    with_needed Q s.peer_nonce _ (λ nonce d.
+    with_given Q s.peer_nonces _ (λ nonces d.
     with_made Q (key_for methods psk_kind s.peer_psk47) _ _ (key-given methods psk_kind s.peer_psk47) (λ psk47 f.
     with_made Q (key_for methods gpsk_kind s.peer_psk51) _ _ (key-given methods gpsk_kind s.peer_psk51) (λ psk51 g.
-    record { name = a; accepts = b; methods = c; suites = given-or s.peer_suites both_suites; psk47 = f; psk51 = g; nonce = d; expanded = refl }))))))
+    record {
+      name = a;
+      accepts = b;
+      methods = c;
+      suites = given-or s.peer_suites both_suites;
+      psk47 = f;
+      psk51 = g;
+      nonces = nonces-given s.version s.peer_nonces nonces h.peer_nonces d;
+      expanded = given-or s.peer_expanded false;
+    }))))))
 
-servers-given : (s : Settings) → AreUsers s.users → IfOk (server_setup_of s) (MakesServer (joined s no_values))
+pub servers-given : (s : Settings) → IsKept s → IfOk (server_setup_of s) (MakesServer s.version (joined s no_values) (later_nonces s.server_nonces))
 unfolding server_setup_of
 servers-given s h =
-    let Q = MakesServer (joined s no_values) in
-    let suites = given-or s.server_suites both_suites in
+    let Q = MakesServer s.version (joined s no_values) (later_nonces s.server_nonces) in
     with_needed Q s.server_name _ (λ name a.
     with_needed Q s.server_methods _ (λ methods b.
-    with_needed Q s.server_nonce _ (λ nonce c.
-    record { name = a; methods = b; suites = suites; nonce = c; users = append-nil s.users; few_users = h.few; distinct_users = h.distinct; expanded = refl })))
+    with_given Q s.server_nonces _ (λ nonces c.
+    record {
+      name = a;
+      methods = b;
+      suites = given-or s.server_suites both_suites;
+      nonces = nonces-given s.version s.server_nonces nonces h.server_nonces c;
+      users = append-nil s.users;
+      few_users = h.users.few;
+      distinct_users = h.users.distinct;
+      expanded = given-or s.server_expanded false;
+    })))
 
-pub all-given : (s : Settings) → AreUsers s.users → IfOk (setup_of s) (MakesSetup (joined s no_values))
+pub all-given : (s : Settings) → IsKept s → IfOk (setup_of s) (MakesSetup s.version (joined s no_values))
 unfolding setup_of
 all-given s h =
-    let Q = MakesSetup (joined s no_values) in
+    let Q = MakesSetup s.version (joined s no_values) in
     with_needed Q s.mode _ (λ mode a.
-    with_made Q (peer_setup_of s) (MakesPeer (joined s no_values)) _ (peers-given s) (λ peer b.
-    with_made Q (server_setup_of s) (MakesServer (joined s no_values)) _ (servers-given s h) (λ server c.
-    record { mode = a; first_id = given-or s.first_id 0; max_retrans = given-or s.max_retrans 4; peer = b; server = c; later = refl })))
+    with_made Q (peer_setup_of s) (MakesPeer s.version (joined s no_values) (later_nonces s.peer_nonces)) _ (peers-given s h) (λ peer b.
+    with_made Q (server_setup_of s) (MakesServer s.version (joined s no_values) (later_nonces s.server_nonces)) _ (servers-given s h) (λ server c.
+    record { mode = a; first_id = given-or s.first_id 0; max_retrans = given-or s.max_retrans 4; peer = b; server = c; number = refl })))
 
 -- a setting that comes where it is set would be given twice
 once : {A : Type 0} (slot : Option A) (a b : A) (xs : List A) → plus slot (a ∷ xs) ≡ b ∷ [] → is_some slot ≡ false
@@ -172,23 +259,45 @@ unique users user rest h =
     let second : get_or (users ++ user ∷ rest) (length users) d ≡ user = get_or-append_seam users user rest d in
     rw (first, second) at (h k (length users) d below (omega (arith, length-append users (user ∷ rest)))))
 
-new-of : (s : Settings) (x : Setting) (v : Values) (setup : Setup) → MakesSetup (joined s (with_value x v)) setup → has_setting s x ≡ false
+-- nonces that are no more than the version has leave room for the one that comes
+nonce-new : (version : Version) (slot : Option GivenNonces) (a first : List ℕ) (rest later : List (List ℕ)) → AreNoncesOf version (plus_nonces slot (a ∷ rest)) first later →
+    (not (has_later version) && is_some slot) ≡ false
+nonce-new Second slot a first rest later h = refl
+nonce-new First None a first rest later h = refl
+nonce-new First (Some given) a first rest later h =
+    let none : length later ≤ 0 = h.few in
+    absurd (omega (arith, none, length-append given.later (a ∷ rest), ap length h.given))
+
+nonce-room : (version : Version) (slot : Option GivenNonces) (a first : List ℕ) (rest later : List (List ℕ)) → AreNoncesOf version (plus_nonces slot (a ∷ rest)) first later →
+    (has_later version && is_full slot) ≡ false
+nonce-room First slot a first rest later h = refl
+nonce-room Second None a first rest later h = refl
+nonce-room Second (Some given) a first rest later h =
+    let few : length later ≤ 15 = h.few in
+    lt-leb 15 (length given.later) (omega (arith, few, length-append given.later (a ∷ rest), ap length h.given))
+
+new-of : (s : Settings) (x : Setting) (v : Values) (setup : Setup) → MakesSetup s.version (joined s (with_value x v)) setup → has_setting s x ≡ false
 new-of s (setting.User a) v setup h = unique s.users a v.users (subst AreDistinct (sym (h.server.users)) (h.server.distinct_users))
+new-of s (setting.PeerNonce a) v setup h = nonce-new s.version s.peer_nonces a _ v.peer_nonce _ (h.peer.nonces)
+new-of s (setting.ServerNonce a) v setup h = nonce-new s.version s.server_nonces a _ v.server_nonce _ (h.server.nonces)
 new-of s other v setup h = search (once, once-or, once-or-none)
 
 few-left : (users : List User) (user : User) (rest all : List User) → users ++ user ∷ rest ≡ all → length all ≤ 16 → nat_le 16 (length users) ≡ false
 few-left users user rest all e h = lt-leb 16 (length users) (omega (arith, length-append users (user ∷ rest), ap length e))
 
-fits-of : (s : Settings) (x : Setting) (v : Values) (setup : Setup) → MakesSetup (joined s (with_value x v)) setup → is_full s x ≡ false
+fits-of : (s : Settings) (x : Setting) (v : Values) (setup : Setup) → MakesSetup s.version (joined s (with_value x v)) setup → is_over s x ≡ false
 fits-of s (setting.User a) v setup h = few-left s.users a v.users setup.server.users (h.server.users) (h.server.few_users)
+fits-of s (setting.PeerNonce a) v setup h = nonce-room s.version s.peer_nonces a _ v.peer_nonce _ (h.peer.nonces)
+fits-of s (setting.ServerNonce a) v setup h = nonce-room s.version s.server_nonces a _ v.server_nonce _ (h.server.nonces)
 fits-of s other v setup h = refl
 
-pub all-new : (s : Settings) (settings : List Setting) (setup : Setup) → MakesSetup (joined s (values_of settings)) setup → AllNew s settings
+pub all-new : (s : Settings) (settings : List Setting) (setup : Setup) → MakesSetup s.version (joined s (values_of settings)) setup → AllNew s settings
 all-new s [] setup h = tt
 all-new s (x ∷ rest) setup h =
     let f = fits-of s x (values_of rest) setup h in
     let n = new-of s x (values_of rest) setup h in
-    (f, n, all-new (with_setting s x) rest setup (subst (λ v. MakesSetup v setup) (moves s x (values_of rest) f n) h))
+    let moved = subst (λ v. MakesSetup s.version v setup) (moves s x (values_of rest) f n) h in
+    (f, n, all-new (with_setting s x) rest setup (subst (λ w. MakesSetup w (joined (with_setting s x) (values_of rest)) setup) (sym (same-version s x)) moved))
 
 -- the settings that the lines give are whole
 set-is : {A : Type 0} (slot : Option A) (b : A) → plus slot [] ≡ b ∷ [] → slot ≡ Some b
@@ -207,34 +316,62 @@ key-set methods kind None key h =
       | inr e ↦ rw e (ap Ok (sym (h.given)))
     ]
 
-peers-set : (s : Settings) (peer : PeerSetup) → MakesPeer (joined s no_values) peer → peer_setup_of s ≡ Ok peer
+-- the nonces too
+pub nonces-set : (slot : Option GivenNonces) (first : List ℕ) (later : List (List ℕ)) → plus_nonces slot [] ≡ first ∷ later → slot ≡ Some (record { first = first; later = later })
+nonces-set None first later e = absurd cc
+nonces-set (Some given) first later e =
+    let one : given.first ≡ first = cc in
+    let more : given.later ++ [] ≡ later = cc in
+    ap₂ (λ a b. Some (record { first = a; later = b })) one (sym (append-nil given.later) ∙ more)
+
+peers-set : (version : Version) (s : Settings) (later : List (List ℕ)) (peer : PeerSetup) → MakesPeer version (joined s no_values) later peer → peer_setup_of s ≡ Ok peer
 unfolding peer_setup_of
-peers-set s peer h =
+peers-set version s later peer h =
     let name = set-is s.peer_name peer.name (h.name) in
     let accepts = set-is s.peer_server peer.accepts (h.accepts) in
     let methods = set-is s.peer_methods peer.methods (h.methods) in
-    let nonce = set-is s.peer_nonce peer.nonce (h.nonce) in
+    let nonces = nonces-set s.peer_nonces peer.nonce later (h.nonces.given) in
     let psk47 = key-set peer.methods psk_kind s.peer_psk47 peer.psk47 (h.psk47) in
     let psk51 = key-set peer.methods gpsk_kind s.peer_psk51 peer.psk51 (h.psk51) in
     let suites = set-or s.peer_suites both_suites peer.suites (h.suites) in
-    rw (name, accepts, methods, nonce, psk47, psk51, suites) (ap (λ (x : Bool). Ok (record peer { expanded = x })) (sym (h.expanded)))
+    let expanded = set-or s.peer_expanded false peer.expanded (h.expanded) in
+    rw (name, accepts, methods, nonces, psk47, psk51, suites, expanded) refl
 
-servers-set : (s : Settings) (server : ServerSetup) → MakesServer (joined s no_values) server → server_setup_of s ≡ Ok server
+servers-set : (version : Version) (s : Settings) (later : List (List ℕ)) (server : ServerSetup) → MakesServer version (joined s no_values) later server → server_setup_of s ≡ Ok server
 unfolding server_setup_of
-servers-set s server h =
+servers-set version s later server h =
     let name = set-is s.server_name server.name (h.name) in
     let methods = set-is s.server_methods server.methods (h.methods) in
-    let nonce = set-is s.server_nonce server.nonce (h.nonce) in
+    let nonces = nonces-set s.server_nonces server.nonce later (h.nonces.given) in
     let suites = set-or s.server_suites both_suites server.suites (h.suites) in
     let users : s.users ≡ server.users = sym (append-nil s.users) ∙ h.users in
-    rw (name, methods, nonce, suites, users) (ap (λ (x : Bool). Ok (record server { expanded = x })) (sym (h.expanded)))
+    let expanded = set-or s.server_expanded false server.expanded (h.expanded) in
+    rw (name, methods, nonces, suites, users, expanded) refl
 
-pub all-set : (s : Settings) (setup : Setup) → MakesSetup (joined s no_values) setup → setup_of s ≡ Ok setup
+later-set : (s : Settings) (setup : Setup) → MakesSetup s.version (joined s no_values) setup → later_of s ≡ setup.later
+later-set s setup h =
+    let peer = nonces-set s.peer_nonces setup.peer.nonce setup.later.peer (h.peer.nonces.given) in
+    let server = nonces-set s.server_nonces setup.server.nonce setup.later.server (h.server.nonces.given) in
+    let number = sym (h.number) in
+    rw (number, peer, server) refl
+
+pub all-set : (s : Settings) (setup : Setup) → MakesSetup s.version (joined s no_values) setup → setup_of s ≡ Ok setup
 unfolding setup_of
 all-set s setup h =
     let mode = set-is s.mode setup.mode (h.mode) in
     let first_id = set-or s.first_id 0 setup.first_id (h.first_id) in
     let max_retrans = set-or s.max_retrans 4 setup.max_retrans (h.max_retrans) in
-    let peer = peers-set s setup.peer (h.peer) in
-    let server = servers-set s setup.server (h.server) in
-    rw (peer, server, mode, first_id, max_retrans) (ap (λ (x : Later). Ok (record setup { later = x })) (sym (h.later)))
+    let peer = peers-set s.version s setup.later.peer setup.peer (h.peer) in
+    let server = servers-set s.version s setup.later.server setup.server (h.server) in
+    rw (peer, server, mode, first_id, max_retrans) (ap (λ (x : Later). Ok (record setup { later = x })) (later-set s setup h))
+
+-- the first version has no later nonces
+no-more : (later : List (List ℕ)) → length later ≤ 0 → later ≡ []
+no-more [] h = refl
+no-more (nonce ∷ rest) h = absurd (omega arith)
+
+pub none-later : (v : Values) (setup : Setup) → MakesSetup First v setup → setup.later ≡ no_later
+none-later v setup h =
+    let number : setup.later.version ≡ 1 = h.number in
+    ap₂ (λ p s. record { version = setup.later.version; peer = p; server = s }) (no-more setup.later.peer (h.peer.nonces.few)) (no-more setup.later.server (h.server.nonces.few))
+    ∙ ap (λ n. record { version = n; peer = []; server = [] }) number

@@ -1,5 +1,5 @@
 -- What a line can say at each place of a scenario; lines that are read in order are those of a scenario.
-use Rattle.std.proofs.Common.{◌≡◌, ℕ, List, Bool, true, false, not, cond, ◌==◌, ◌||◌, None, find, Result, Ok, Err, is_err, inl, inr, refl, sym, ap, ap₂, subst, ◌∙◌, [], ◌∷◌, ◌++◌, map, Some}
+use Rattle.std.proofs.Common.{◌≡◌, ℕ, List, Bool, true, false, not, cond, ◌==◌, ◌||◌, Option, None, find, Result, Ok, Err, is_err, inl, inr, refl, sym, ap, ap₂, subst, ◌∙◌, [], ◌∷◌, ◌++◌, map, Some}
 use Rattle.std.proofs.lemmas.Bool.{cases_Bool, or_parts, not-false}
 use Rattle.std.proofs.lemmas.Slice.Eq.{bytes_eq-Decides}
 use Rattle.std.specs.Str.{bytes_eq}
@@ -12,7 +12,8 @@ use Rattle.text_tables.specs.Rows.{faults}
 use Rattle.scenario_text.specs.Entries.{has_fault, keyword_of, item_of, said_by}
 use Rattle.scenario_text.specs.Contents.{Entry}
 use Rattle.scenario_text.specs.Contents as entry
-use Rattle.scenario_text.specs.Reading.{Reading, ReadLine, said, has_setting, with_setting, no_settings, setup_of, header, is_crowded, came_before, is_missing, may_stand, place_has, body_has, ready, taken, read_body, read_at, read_line}
+use Rattle.scenario_text.specs.Reading.{Reading, ReadLine, said, has_setting, with_setting, no_settings, begun, setup_of, read_begin, is_crowded, came_before, is_missing, may_stand, place_has, body_has, ready, taken, read_body, read_at, read_line}
+use Rattle.scenario_text.specs.Versions.{header, version_of}
 use Rattle.scenario_text.specs.Items as item
 use Rattle.scenario_text.specs.Whole.{IsFaultless, no_values, MakesSetup, told, IsScenario, Script, no_script, with_item, read_lines, read_all, IsScript, ScenariosAreRead}
 use Rattle.text_tables.specs.declared.fault.LineFault.{LineFault}
@@ -22,20 +23,22 @@ use Rattle.scenario_text.specs.declared.keyword.Keyword.TheVariants as key
 use Rattle.scenario_text.specs.declared.entry.Setting.{Setting}
 use Rattle.scenario_text.specs.declared.entry.Setting.TheVariants as setting
 use Rattle.scenario_text.specs.declared.settings.Settings.{Settings}
+use Rattle.scenario_text.specs.declared.version.Version.{Version}
+use Rattle.scenario_text.specs.declared.version.Version.TheVariants.{First, Second}
 use Rattle.scenario_text.specs.declared.scenario.Phase.{Phase}
 use Rattle.scenario_text.specs.declared.scenario.Phase.TheVariants as phase
-use Rattle.scenario_text.proofs.Settling.{is_full, joined, AllNew, settings_after, gathers, no-users, users-after, all-given, all-new, all-set}
+use Rattle.scenario_text.proofs.Settling.{is_over, joined, AllNew, settings_after, gathers, none-kept, kept-after, version-after, same-version, all-given, all-new, all-set}
 use Rattle.text_tables.proofs.Fitting.{no_fault, none-found, unless-ok}
 use Rattle.std.proofs.lemmas.List.Elements.{All-from_recursion, recursion_from_All}
 use Rattle.std.proofs.lemmas.Result.{IfOk-at_ok}
 use Rattle.std.specs.List.{AllByRecursion}
 
--- a 17th user, by what the line says
+-- a 17th user or nonce, by what the line says
 abbrev is_late : Settings → Entry → Bool
-is_late s (entry.Set v) = is_full s v
+is_late s (entry.Set v) = is_over s v
 is_late s e = false
 
-no-key : (s : Settings) (b : Bool) (k : List ℕ) → false ≡ is_full s (cond b (setting.PeerPsk47 k) (setting.PeerPsk51 k))
+no-key : (s : Settings) (b : Bool) (k : List ℕ) → false ≡ is_over s (cond b (setting.PeerPsk47 k) (setting.PeerPsk51 k))
 no-key s true k = refl
 no-key s false k = refl
 
@@ -52,16 +55,16 @@ pub record MayCome (p : Phase) (s : Settings) (e : Entry) : Type 0 where
   pub stands : may_stand p e ≡ true
 
 module _ (p : Phase) (s : Settings) (line : List ℕ) where
-  may-come : ((f : LineFault) → place_has p s (keyword_of line) (said_by line) f ≡ false) → MayCome p s (said_by line)
+  may-come : ((f : LineFault) → place_has p s (keyword_of s.version line) (said_by s.version line) f ≡ false) → MayCome p s (said_by s.version line)
   may-come h = record {
-    few = sym (crowded s (keyword_of line) (words line)) ∙ h fault.BadCount;
+    few = sym (crowded s (keyword_of s.version line) (words line)) ∙ h fault.BadCount;
     fresh = h fault.Repeated;
     whole = h fault.Missing;
-    stands = not-false (may_stand p (said_by line)) (h fault.Order);
+    stands = not-false (may_stand p (said_by s.version line)) (h fault.Order);
   }
 
-  no-place : MayCome p s (said_by line) → (f : LineFault) → place_has p s (keyword_of line) (said_by line) f ≡ false
-  no-place m fault.BadCount = crowded s (keyword_of line) (words line) ∙ m.few
+  no-place : MayCome p s (said_by s.version line) → (f : LineFault) → place_has p s (keyword_of s.version line) (said_by s.version line) f ≡ false
+  no-place m fault.BadCount = crowded s (keyword_of s.version line) (words line) ∙ m.few
   no-place m fault.Repeated = m.fresh
   no-place m fault.Missing = m.whole
   no-place m fault.Order = ap not (m.stands)
@@ -70,7 +73,7 @@ module _ (p : Phase) (s : Settings) (line : List ℕ) where
   -- a line is passed over, or enters
   pub data Stepped : ReadLine → Type 0 where
     Passed : is_passed_over line ≡ true → Stepped (said item.Nothing p s)
-    Entered : is_passed_over line ≡ false → IsFaultless line → MayCome p s (said_by line) → Stepped (taken p s (said_by line))
+    Entered : is_passed_over line ≡ false → IsFaultless s.version line → MayCome p s (said_by s.version line) → Stepped (taken p s (said_by s.version line))
 
   pub stepped : (out : ReadLine) → read_body p s line ≡ Ok out → Stepped out
   unfolding read_body body_has
@@ -81,12 +84,12 @@ module _ (p : Phase) (s : Settings) (line : List ℕ) where
             let is : said item.Nothing p s ≡ out = cc in
             subst Stepped is (Passed k)
         | inr k ↦
-            let u = unless-ok (find (body_has p s line) faults) (taken p s (said_by line)) out (rw k at e) in
+            let u = unless-ok (find (body_has p s line) faults) (taken p s (said_by s.version line)) out (rw k at e) in
             let none : (f : LineFault) → body_has p s line f ≡ false = no_fault (body_has p s line) (u.0) in
-            subst Stepped (u.1) (Entered k (λ f. (or_parts (has_fault line f) _ (none f)).0) (may-come (λ f. (or_parts (has_fault line f) _ (none f)).1)))
+            subst Stepped (u.1) (Entered k (λ f. (or_parts (has_fault s.version line f) _ (none f)).0) (may-come (λ f. (or_parts (has_fault s.version line f) _ (none f)).1)))
       ]
 
-  pub step-cases : (P : ReadLine → Type 0) → P (said item.Nothing p s) → (IsFaultless line → MayCome p s (said_by line) → P (taken p s (said_by line))) →
+  pub step-cases : (P : ReadLine → Type 0) → P (said item.Nothing p s) → (IsFaultless s.version line → MayCome p s (said_by s.version line) → P (taken p s (said_by s.version line))) →
       (out : ReadLine) → Stepped out → P out
   step-cases P passed entered _ (Passed k) = passed
   step-cases P passed entered _ (Entered k own may) = entered own may
@@ -95,7 +98,7 @@ module _ (p : Phase) (s : Settings) (line : List ℕ) where
   unfolding read_body
   passes k = rw k refl
 
-  pub enters : is_passed_over line ≡ false → IsFaultless line → MayCome p s (said_by line) → read_body p s line ≡ Ok (taken p s (said_by line))
+  pub enters : is_passed_over line ≡ false → IsFaultless s.version line → MayCome p s (said_by s.version line) → read_body p s line ≡ Ok (taken p s (said_by s.version line))
   unfolding read_body body_has
   enters k own m =
       let none : find (body_has p s line) faults ≡ None = none-found (body_has p s line) faults (λ f. ap₂ (λ a b. a || b) (own f) (no-place m f)) in
@@ -136,33 +139,50 @@ read_line_at : (r : Reading) (p : Phase) (line : List ℕ) → r.phase ≡ p →
 unfolding read_line
 read_line_at r p line e = ap (λ q. read_at q r.settings line) e
 
-module _ (r : Reading) (line : List ℕ) (out : ReadLine) where
-  -- the first line is the header, and there are no settings then
-  pub starts : r.phase ≡ phase.Unread → read_line r line ≡ Ok out → (line ≡ header) × (out ≡ said item.Nothing phase.Settings no_settings)
-  starts at h =
-      let e = sym (read_line_at r phase.Unread line at) ∙ h in
-      elim (cases_Bool (bytes_eq line header)) [
-        | inl k ↦ let is : Ok (said item.Nothing phase.Settings no_settings) ≡ Ok out = rw k at e in ((bytes_eq-Decides line header).0 k, cc)
-        | inr k ↦ let no = rw k at e in absurd cc
-      ]
+-- the first line is the header of a version, and there are no settings then
+pub record Starts (line : List ℕ) (out : ReadLine) : Type 0 where
+  pub version : Version
+  pub line_is : line ≡ header version
+  pub out_is : out ≡ said item.Nothing phase.Settings (begun version)
 
-  pub read_line_from_unread : r.phase ≡ phase.Unread → read_line r line ≡ Ok out → out ≡ said item.Nothing phase.Settings no_settings
-  read_line_from_unread at h = (starts at h).1
+header-of : (line : List ℕ) (version : Version) → version_of line ≡ Some version → line ≡ header version
+header-of line version e =
+    elim (cases_Bool (bytes_eq line (header First))) [
+      | inl k ↦
+          let found : Some First ≡ Some version = rw k at e in
+          let is : First ≡ version = cc in
+          subst (λ v. line ≡ header v) is ((bytes_eq-Decides line (header First)).0 k)
+      | inr k ↦ elim (cases_Bool (bytes_eq line (header Second))) [
+        | inl q ↦
+            let found : Some Second ≡ Some version = rw (k, q) at e in
+            let is : Second ≡ version = cc in
+            subst (λ v. line ≡ header v) is ((bytes_eq-Decides line (header Second)).0 q)
+        | inr q ↦ let found = rw (k, q) at e in absurd cc
+      ]
+    ]
+
+starts-in : (line : List ℕ) (out : ReadLine) (found : Option Version) → version_of line ≡ found → read_begin found ≡ Ok out → Starts line out
+starts-in line out None e h = absurd cc
+starts-in line out (Some version) e h = record { version = version; line_is = header-of line version e; out_is = cc }
+
+module _ (r : Reading) (line : List ℕ) (out : ReadLine) where
+  pub read_line_from_unread : r.phase ≡ phase.Unread → read_line r line ≡ Ok out → Starts line out
+  read_line_from_unread at h = starts-in line out (version_of line) refl (sym (read_line_at r phase.Unread line at) ∙ h)
 
   by-step : (p : Phase) (P : ReadLine → Type 0) → read_at p r.settings line ≡ read_body p r.settings line → P (said item.Nothing p r.settings) →
-      (MayCome p r.settings (said_by line) → P (taken p r.settings (said_by line))) → r.phase ≡ p → read_line r line ≡ Ok out → P out
+      (MayCome p r.settings (said_by r.settings.version line) → P (taken p r.settings (said_by r.settings.version line))) → r.phase ≡ p → read_line r line ≡ Ok out → P out
   by-step p P is passed entered at h =
       step-cases p r.settings line P passed (λ own. entered) out (stepped p r.settings line out (sym is ∙ sym (read_line_at r p line at) ∙ h))
 
   -- a line before `events`, one before `end`, and one after it, which is passed over
   pub read_line_from_settings : r.phase ≡ phase.Settings → read_line r line ≡ Ok out → FromSettings r.settings out
-  read_line_from_settings = by-step phase.Settings (FromSettings r.settings) refl PassedBefore (settings-from r.settings (said_by line))
+  read_line_from_settings = by-step phase.Settings (FromSettings r.settings) refl PassedBefore (settings-from r.settings (said_by r.settings.version line))
 
   pub read_line_from_events : r.phase ≡ phase.Events → read_line r line ≡ Ok out → FromEvents r.settings out
-  read_line_from_events = by-step phase.Events (FromEvents r.settings) refl PassedBetween (events-from r.settings (said_by line))
+  read_line_from_events = by-step phase.Events (FromEvents r.settings) refl PassedBetween (events-from r.settings (said_by r.settings.version line))
 
   pub read_line_from_ended : r.phase ≡ phase.Ended → read_line r line ≡ Ok out → out ≡ said item.Nothing phase.Ended r.settings
-  read_line_from_ended = by-step phase.Ended (λ o. o ≡ said item.Nothing phase.Ended r.settings) refl refl (λ may. absurd (none-stands (said_by line) may.stands))
+  read_line_from_ended = by-step phase.Ended (λ o. o ≡ said item.Nothing phase.Ended r.settings) refl refl (λ may. absurd (none-stands (said_by r.settings.version line) may.stands))
 
 abbrev at : Phase → Settings → Reading
 at p s = record { phase = p; settings = s }
@@ -174,9 +194,9 @@ data Runs : Phase → Settings → List Entry → Script → Type 0 where
       Runs (taken p s e).after.phase (taken p s e).after.settings es m → Runs p s (e ∷ es) (with_item (taken p s e).item m)
 
 -- the same of lines, none of which has a fault of its own
-record AreTold (p : Phase) (s : Settings) (kept : List (List ℕ)) (script : Script) : Type 0 where
-  pub faultless : AllByRecursion IsFaultless kept
-  pub runs : Runs p s (map said_by kept) script
+record AreTold (version : Version) (p : Phase) (s : Settings) (kept : List (List ℕ)) (script : Script) : Type 0 where
+  pub faultless : AllByRecursion (IsFaultless version) kept
+  pub runs : Runs p s (map (said_by version) kept) script
 
 -- after the header
 abbrev is_open : Phase → Bool
@@ -191,6 +211,12 @@ stays : (p : Phase) (s : Settings) (e : Entry) → is_open p ≡ true → is_ope
 stays p s (entry.Set v) o = o
 stays p s (entry.Happens e) o = o
 stays p s other o = refl
+
+-- a line leaves the version
+stays-in : (p : Phase) (s : Settings) (e : Entry) (version : Version) → s.version ≡ version → (taken p s e).after.settings.version ≡ version
+stays-in p s (entry.Set v) version is = same-version s v ∙ is
+stays-in p s (entry.Happens e) version is = is
+stays-in p s other version is = is
 
 -- one line, and the lines after it
 bound : {A B : Type 0} (x : Result A LineFault) (f : A → Result B LineFault) (b : B) → (x >>= f) ≡ Ok b → (a : A) × (x ≡ Ok a) × (f a ≡ Ok b)
@@ -218,44 +244,56 @@ goes r line rest script h =
     record { out = a.0; read = a.1; more = b.0; rests = b.1; is = cc }
 
 -- lines that are read are told
-tells-line : (p : Phase) (s : Settings) (line : List ℕ) (rest : List (List ℕ)) (out : ReadLine) (m : Script) → is_open p ≡ true → Stepped p s line out →
-    ((q : Phase) (t : Settings) → is_open q ≡ true → read_lines (at q t) rest ≡ Ok m → AreTold q t (told rest) m) →
-    read_lines out.after rest ≡ Ok m → AreTold p s (told (line ∷ rest)) (with_item out.item m)
-tells-line p s line rest _ m o (Passed k) more h = rw k (more p s o h)
-tells-line p s line rest _ m o (Entered k own may) more h =
-    let i = more _ _ (stays p s (said_by line) o) h in
-    rw k (record { faultless = (own, i.faultless); runs = Then may (i.runs) })
+tells-line : (version : Version) (p : Phase) (s : Settings) (line : List ℕ) (rest : List (List ℕ)) (out : ReadLine) (m : Script) → s.version ≡ version → is_open p ≡ true →
+    Stepped p s line out →
+    ((q : Phase) (t : Settings) → t.version ≡ version → is_open q ≡ true → read_lines (at q t) rest ≡ Ok m → AreTold version q t (told rest) m) →
+    read_lines out.after rest ≡ Ok m → AreTold version p s (told (line ∷ rest)) (with_item out.item m)
+tells-line version p s line rest _ m v o (Passed k) more h = rw k (more p s v o h)
+tells-line version p s line rest _ m v o (Entered k own may) more h =
+    let i = more _ _ (stays-in p s (said_by s.version line) version v) (stays p s (said_by s.version line) o) h in
+    rw k (subst (λ w. AreTold w p s (line ∷ told rest) (with_item (taken p s (said_by s.version line)).item m)) v
+    (record {
+      faultless = (own, subst (λ w. AllByRecursion (IsFaultless w) (told rest)) (sym v) (i.faultless));
+      runs = Then may (subst (λ w. Runs (taken p s (said_by s.version line)).after.phase (taken p s (said_by s.version line)).after.settings (map (said_by w) (told rest)) m) (sym v) (i.runs));
+    }))
 
-tells : (lines : List (List ℕ)) (p : Phase) (s : Settings) (script : Script) → is_open p ≡ true → read_lines (at p s) lines ≡ Ok script → AreTold p s (told lines) script
+tells : (lines : List (List ℕ)) (version : Version) (p : Phase) (s : Settings) (script : Script) → s.version ≡ version → is_open p ≡ true →
+    read_lines (at p s) lines ≡ Ok script → AreTold version p s (told lines) script
 unfolding read_lines read_line
-tells [] phase.Ended s script o h = let is : no_script ≡ script = cc in subst (AreTold phase.Ended s []) is (record { faultless = tt; runs = Over s })
-tells [] other s script o h = absurd cc
-tells (line ∷ rest) p s script o h =
+tells [] version phase.Ended s script v o h = let is : no_script ≡ script = cc in subst (AreTold version phase.Ended s []) is (record { faultless = tt; runs = Over s })
+tells [] version other s script v o h = absurd cc
+tells (line ∷ rest) version p s script v o h =
     let g = goes (at p s) line rest script h in
-    subst (AreTold p s (told (line ∷ rest))) (g.is)
-    (tells-line p s line rest (g.out) (g.more) o (stepped p s line (g.out) (sym (body-at p s line o) ∙ g.read)) (λ q t. tells rest q t (g.more)) (g.rests))
+    subst (AreTold version p s (told (line ∷ rest))) (g.is)
+    (tells-line version p s line rest (g.out) (g.more) v o (stepped p s line (g.out) (sym (body-at p s line o) ∙ g.read)) (λ q t. tells rest version q t (g.more)) (g.rests))
 
 -- and lines that are told are read
 ends : (p : Phase) (s : Settings) (script : Script) → Runs p s [] script → read_lines (at p s) [] ≡ Ok script
 unfolding read_lines
 ends _ _ _ (Over s) = refl
 
-reads-line : (p : Phase) (s : Settings) (line : List ℕ) (rest : List (List ℕ)) (script : Script) → is_open p ≡ true → is_passed_over line ≡ false →
-    AllByRecursion IsFaultless (line ∷ told rest) → Runs p s (said_by line ∷ map said_by (told rest)) script →
-    ((q : Phase) (t : Settings) (m : Script) → is_open q ≡ true → AreTold q t (told rest) m → read_lines (at q t) rest ≡ Ok m) →
+reads-line : (version : Version) (p : Phase) (s : Settings) (line : List ℕ) (rest : List (List ℕ)) (script : Script) → s.version ≡ version → is_open p ≡ true →
+    is_passed_over line ≡ false → IsFaultless s.version line → AllByRecursion (IsFaultless version) (told rest) →
+    Runs p s (said_by s.version line ∷ map (said_by version) (told rest)) script →
+    ((q : Phase) (t : Settings) (m : Script) → t.version ≡ version → is_open q ≡ true → AreTold version q t (told rest) m → read_lines (at q t) rest ≡ Ok m) →
     read_lines (at p s) (line ∷ rest) ≡ Ok script
 unfolding read_line
-reads-line p s line rest _ o k own (Then {m = m} may next) more =
-    both (at p s) line rest (taken p s (said_by line)) m (body-at p s line o ∙ enters p s line k (own.0) may)
-    (more _ _ m (stays p s (said_by line) o) (record { faultless = own.1; runs = next }))
+reads-line version p s line rest _ v o k own others (Then {m = m} may next) more =
+    let out : ReadLine = taken p s (said_by s.version line) in
+    both (at p s) line rest out m (body-at p s line o ∙ enters p s line k own may)
+    (more _ _ m (stays-in p s (said_by s.version line) version v) (stays p s (said_by s.version line) o) (record { faultless = others; runs = next }))
 
-reads : (lines : List (List ℕ)) (p : Phase) (s : Settings) (script : Script) → is_open p ≡ true → AreTold p s (told lines) script → read_lines (at p s) lines ≡ Ok script
+reads : (lines : List (List ℕ)) (version : Version) (p : Phase) (s : Settings) (script : Script) → s.version ≡ version → is_open p ≡ true →
+    AreTold version p s (told lines) script → read_lines (at p s) lines ≡ Ok script
 unfolding read_line
-reads [] p s script o h = ends p s script (h.runs)
-reads (line ∷ rest) p s script o h =
+reads [] version p s script v o h = ends p s script (h.runs)
+reads (line ∷ rest) version p s script v o h =
     elim (cases_Bool (is_passed_over line)) [
-      | inl k ↦ both (at p s) line rest (said item.Nothing p s) script (body-at p s line o ∙ passes p s line k) (reads rest p s script o (rw k at h))
-      | inr k ↦ let t : AreTold p s (line ∷ told rest) script = rw k at h in reads-line p s line rest script o k (t.faultless) (t.runs) (reads rest)
+      | inl k ↦ both (at p s) line rest (said item.Nothing p s) script (body-at p s line o ∙ passes p s line k) (reads rest version p s script v o (rw k at h))
+      | inr k ↦
+          let t : AreTold version p s (line ∷ told rest) script = rw k at h in
+          reads-line version p s line rest script v o k (subst (λ w. IsFaultless w line) (sym v) (t.faultless.0)) (t.faultless.1)
+          (subst (λ w. Runs p s (said_by w line ∷ map (said_by version) (told rest)) script) (sym v) (t.runs)) (reads rest version)
     ]
 
 -- what is said is settings, the line `events`, events and the line `end`
@@ -311,9 +349,10 @@ run-settings s [] setup events new made =
 run-settings s (v ∷ more) setup events new made =
     Then (record { few = new.0; fresh = new.1; whole = refl; stands = refl }) (run-settings (with_setting s v) more setup events (new.2) made)
 
-starts-with : read_line (at phase.Unread no_settings) header ≡ Ok (said item.Nothing phase.Settings no_settings)
+starts-with : (version : Version) → read_line (at phase.Unread no_settings) (header version) ≡ Ok (said item.Nothing phase.Settings (begun version))
 unfolding read_line
-starts-with = refl
+starts-with First = refl
+starts-with Second = refl
 
 no-lines : (script : Script) → read_all [] ≡ Ok script → IsScript [] script
 unfolding read_lines
@@ -321,34 +360,42 @@ no-lines script h = absurd cc
 
 read-taken : (lines : List (List ℕ)) (setup : Setup) (events : List Event) → IsScenario lines setup events → read_all lines ≡ Ok (record { setup = Some setup; events = events })
 read-taken lines setup events h =
-    let new = all-new no_settings (h.settings) setup (h.made) in
-    let made = all-set (settings_after no_settings (h.settings)) setup (subst (λ v. MakesSetup v setup) (gathers no_settings (h.settings) new) (h.made)) in
-    let runs = subst (λ es. Runs phase.Settings no_settings es (record { setup = Some setup; events = events })) (sym (h.order)) (run-settings no_settings (h.settings) setup events new made) in
-    let rests = reads (h.body) phase.Settings no_settings _ refl (record { faultless = recursion_from_All IsFaultless (told (h.body)) (h.faultless); runs = runs }) in
-    subst (λ all. read_all all ≡ Ok (record { setup = Some setup; events = events })) (sym (h.begins))
-    (both (at phase.Unread no_settings) header (h.body) (said item.Nothing phase.Settings no_settings) _ starts-with rests)
+    let none = begun h.version in
+    let script : Script = record { setup = Some setup; events = events } in
+    let new = all-new none (h.settings) setup (h.made) in
+    let after = settings_after none (h.settings) in
+    let gathered = subst (λ v. MakesSetup h.version v setup) (gathers none (h.settings) new) (h.made) in
+    let made = all-set after setup (subst (λ w. MakesSetup w (joined after no_values) setup) (sym (version-after none (h.settings))) gathered) in
+    let runs = subst (λ es. Runs phase.Settings none es script) (sym (h.order)) (run-settings none (h.settings) setup events new made) in
+    let rests = reads (h.body) h.version phase.Settings none _ refl refl
+    (record { faultless = recursion_from_All (IsFaultless h.version) (told (h.body)) (h.faultless); runs = runs }) in
+    subst (λ all. read_all all ≡ Ok script) (sym (h.begins))
+    (both (at phase.Unread no_settings) (header h.version) (h.body) (said item.Nothing phase.Settings none) _ (starts-with h.version) rests)
 
 read-only : (lines : List (List ℕ)) (script : Script) → read_all lines ≡ Ok script → IsScript lines script
 read-only [] script h = no-lines script h
 read-only (line ∷ rest) script h =
     let g = goes (at phase.Unread no_settings) line rest script h in
-    let b = starts (at phase.Unread no_settings) line (g.out) refl (g.read) in
-    let rests : read_lines (at phase.Settings no_settings) rest ≡ Ok (g.more) = subst (λ o. read_lines o.after rest ≡ Ok (g.more)) (b.1) (g.rests) in
-    let same : g.more ≡ script = subst (λ o. with_item o.item (g.more) ≡ script) (b.1) (g.is) in
-    let told-of = tells rest phase.Settings no_settings (g.more) refl rests in
-    let i = subst (AfterHeader no_settings (map said_by (told rest))) same (after-header no_settings _ (g.more) (told-of.runs)) in
-    let after = settings_after no_settings (i.settings) in
+    let b = read_line_from_unread (at phase.Unread no_settings) line (g.out) refl (g.read) in
+    let none = begun b.version in
+    let rests : read_lines (at phase.Settings none) rest ≡ Ok (g.more) = subst (λ o. read_lines o.after rest ≡ Ok (g.more)) (b.out_is) (g.rests) in
+    let same : g.more ≡ script = subst (λ o. with_item o.item (g.more) ≡ script) (b.out_is) (g.is) in
+    let told-of = tells rest b.version phase.Settings none (g.more) refl refl rests in
+    let i = subst (AfterHeader none (map (said_by b.version) (told rest))) same (after-header none _ (g.more) (told-of.runs)) in
+    let after = settings_after none (i.settings) in
+    let given = IfOk-at_ok (MakesSetup after.version (joined after no_values)) (i.made) (all-given after (kept-after none (i.settings) (none-kept b.version))) in
     record {
       setup = i.setup;
       whole = i.set;
       scenario = record {
+        version = b.version;
         body = rest;
         settings = i.settings;
-        begins = ap (λ l. l ∷ rest) (b.0);
-        faultless = All-from_recursion IsFaultless (told rest) (told-of.faultless);
+        begins = ap (λ l. l ∷ rest) (b.line_is);
+        faultless = All-from_recursion (IsFaultless b.version) (told rest) (told-of.faultless);
         order = i.order;
-        made = subst (λ v. MakesSetup v (i.setup)) (sym (gathers no_settings (i.settings) (i.new)))
-            (IfOk-at_ok (MakesSetup (joined after no_values)) (i.made) (all-given after (users-after no_settings (i.settings) no-users)));
+        made = subst (λ v. MakesSetup b.version v (i.setup)) (sym (gathers none (i.settings) (i.new)))
+            (subst (λ w. MakesSetup w (joined after no_values) (i.setup)) (version-after none (i.settings)) given);
       };
     }
 

@@ -1,12 +1,12 @@
 -- What has been read is within its limits, line by line.
-use Rattle.std.proofs.Common.{◌≡◌, ℕ, ◌≤◌, ◌<◌, ◌⊎◌, inl, inr, Bool, true, false, ◌||◌, ◌&&◌, List, [], ◌∷◌, length, Option, Some, None, IfSome, Result, Ok, Err, IfOk, IsOk, is_err}
+use Rattle.std.proofs.Common.{◌≡◌, ◌==◌, ℕ, ◌≤◌, ◌<◌, ◌⊎◌, inl, inr, Bool, true, false, ◌||◌, ◌&&◌, List, [], ◌∷◌, ◌++◌, nat_lt, length, Option, Some, None, IfSome, Result, Ok, Err, IfOk, IsOk, is_err}
 use Rattle.std.proofs.Common.{refl, sym, subst, ◌∙◌, lit<, lit≤, append-nil, IsTrue, codes, leb, arith, All}
-use Rattle.std.proofs.lemmas.Bool.{leb-false, cond_both, cases_Bool}
-use Rattle.std.proofs.lemmas.List.Elements.{All-nil, All-weaker}
+use Rattle.std.proofs.lemmas.Bool.{leb-false, cond_both, cases_Bool, eq-eqb, true≢false}
+use Rattle.std.proofs.lemmas.List.Elements.{All-nil, All-push, All-weaker}
 use Rattle.std.proofs.lemmas.Result.{IfOk-weaker}
 use Rattle.std.proofs.lemmas.Slice.Eq.{bytes_eq-Decides}
 use Rattle.std.specs.Str.{bytes_eq}
-use Rattle.eap_base.specs.Setup.{psk_kind, gpsk_kind, is_kind, are_kinds, are_suites, fits_kind}
+use Rattle.eap_base.specs.Setup.{psk_kind, gpsk_kind, is_kind, are_kinds, are_suites, fits_kind, no_later}
 use Rattle.eap_base.specs.declared.event.Event.{Event}
 use Rattle.eap_base.specs.declared.setup.Accepts.TheVariants.{Any, One}
 use Rattle.eap_base.specs.declared.setup.PeerSetup.{PeerSetup}
@@ -16,13 +16,14 @@ use Rattle.text_tables.specs.Words.{words}
 use Rattle.text_tables.specs.Fields.{word_in, is_dash, octets_of, spells_kind, kind_of, spells_suite, suite_of}
 use Rattle.text_tables.specs.Rows.{is_kind_or_none, fault_of_words}
 use Rattle.text_tables.specs.Fits.{IsName, IsOther, Fits}
-use Rattle.scenario_text.specs.Keywords.{row_of, keywords}
+use Rattle.scenario_text.specs.Keywords.{row_of, keywords_in}
 use Rattle.scenario_text.specs.Entries.{accepts_of, kinds_of, suites_of, key_setting, item_of, entry_for, keyword_of, said_by}
 use Rattle.scenario_text.specs.Contents.{Entry, entry_with}
 use Rattle.scenario_text.specs.Contents as entry
-use Rattle.scenario_text.specs.Reading.{Reading, ReadLine, with_setting, no_settings, both_suites, setup_of, ready, taken, read_body, read_at, read_line}
-use Rattle.scenario_text.specs.Valid.{AcceptsName, IsValidUser, IsValidSetting, IsValidEntry, IsValidTold, AreValid, IsValidPeer, IsValidServer, IsValidSetup, IsValidItem, IsValidReadLine}
-use Rattle.scenario_text.specs.Whole.{IsFaultless, no_values, IsGivenOr, IsGivenOrNone, MakesPeer, MakesServer, MakesSetup}
+use Rattle.scenario_text.specs.Reading.{Reading, ReadLine, with_setting, with_later, with_nonce, no_settings, begun, both_suites, peer_setup_of, server_setup_of, later_nonces, setup_of, ready, taken, read_body, read_at, read_line}
+use Rattle.scenario_text.specs.Valid.{AcceptsName, IsValidUser, IsNonce, IsValidSetting, IsValidEntry, IsValidTold, AreValidNonces, AreValid, IsValidPeer, IsValidServer, IsValidSetup, IsValidItem, IsValidReadLine}
+use Rattle.scenario_text.specs.Versions.{most_later}
+use Rattle.scenario_text.specs.Whole.{IsFaultless, Values, no_values, IsGivenOr, IsGivenOrNone, AreNoncesOf, MakesPeer, MakesServer, MakesSetup}
 use Rattle.scenario_text.specs.declared.entry.Entry as told
 use Rattle.scenario_text.specs.declared.entry.Setting.{Setting}
 use Rattle.scenario_text.specs.declared.entry.Setting.TheVariants as setting
@@ -31,11 +32,14 @@ use Rattle.scenario_text.specs.declared.keyword.Keyword.{Keyword}
 use Rattle.scenario_text.specs.declared.keyword.Keyword.TheVariants as key
 use Rattle.scenario_text.specs.declared.scenario.Phase.{Phase}
 use Rattle.scenario_text.specs.declared.scenario.Phase.TheVariants as phase
+use Rattle.scenario_text.specs.declared.settings.GivenNonces.{GivenNonces}
 use Rattle.scenario_text.specs.declared.settings.Settings.{Settings}
+use Rattle.scenario_text.specs.declared.version.Version.{Version}
+use Rattle.scenario_text.specs.declared.version.Version.TheVariants.{First, Second}
 use Rattle.text_tables.proofs.Fitting.{unless-ok, fits, faultless-fits}
-use Rattle.scenario_text.proofs.Telling.{stepped, step-cases, starts}
+use Rattle.scenario_text.proofs.Telling.{stepped, step-cases, read_line_from_unread}
 use Rattle.text_tables.proofs.Adding.{with_user-all}
-use Rattle.scenario_text.proofs.Settling.{plus, joined, no-users, users-kept, all-given}
+use Rattle.scenario_text.proofs.Settling.{plus, plus_nonces, joined, none-kept, kept, nonces-set, peers-given, servers-given, all-given, none-later}
 
 accepts-valid : (word : List ℕ) → IsName word → AcceptsName (accepts_of word)
 accepts-valid word h = cond_both (bytes_eq word (codes "any")) Any (One word) AcceptsName (λ e. tt) (λ e. h)
@@ -136,22 +140,55 @@ valid_entry k ws e h =
     let u = unless-ok (fault_of_words (row_of k).least (row_of k).fields ws) (item_of k ws) e (sym h) in
     subst IsValidEntry (u.1) (item_of_valid k ws (fits (row_of k) ws (u.0)))
 
-pub said_by_valid : (line : List ℕ) → IsFaultless line → IsValidEntry (said_by line)
-said_by_valid line own = item_of_valid (keyword_of line) (words line) (faultless-fits row_of keywords key.End line own)
+pub said_by_valid : (version : Version) (line : List ℕ) → IsFaultless version line → IsValidEntry (said_by version line)
+said_by_valid version line own = item_of_valid (keyword_of version line) (words line) (faultless-fits row_of (keywords_in version) key.End line own)
 
 -- and of what is told of it
 pub valid_told : (it : told.Entry) (e : Event) → IsValidEntry (entry_with it e) → IsValidTold it
 valid_told (told.TheVariants.Set v) e h = h
 valid_told other e h = tt
 
+pub begun_valid : (version : Version) → AreValid (begun version)
+begun_valid version = record {
+  first_id = tt;
+  max_retrans = tt;
+  peer_name = tt;
+  peer_server = tt;
+  peer_methods = tt;
+  peer_suites = tt;
+  peer_psk47 = tt;
+  peer_psk51 = tt;
+  peer_nonces = tt;
+  server_name = tt;
+  server_methods = tt;
+  server_suites = tt;
+  server_nonces = tt;
+  users = All-nil IsValidUser;
+  kept = none-kept version;
+}
+
 pub no_settings_valid : AreValid no_settings
-no_settings_valid = record { first_id = tt; max_retrans = tt; peer_name = tt; peer_server = tt; peer_methods = tt; peer_suites = tt; peer_psk47 = tt; peer_psk51 = tt; peer_nonce = tt; server_name = tt; server_methods = tt; server_suites = tt; server_nonce = tt; users = All-nil IsValidUser; kept = no-users }
+no_settings_valid = begun_valid First
+
+-- one more nonce
+later-valid : (version : Version) (later : List (List ℕ)) (nonce : List ℕ) → All IsNonce later → IsNonce nonce → All IsNonce (with_later version later nonce)
+unfolding with_later
+later-valid version later nonce h k =
+    cond_both (nat_lt (length later) (most_later version)) (later ++ nonce ∷ []) later (All IsNonce) (λ e. All-push IsNonce later nonce h k) (λ e. h)
+
+nonces-valid : (version : Version) (slot : Option GivenNonces) (nonce : List ℕ) → IfSome slot AreValidNonces → IsNonce nonce → IfSome (with_nonce version slot nonce) AreValidNonces
+nonces-valid version None nonce h k = record { first = k; later = All-nil IsNonce }
+nonces-valid version (Some given) nonce h k = record { first = h.first; later = later-valid version given.later nonce h.later k }
 
 -- one more setting
 pub with_setting_valid : (s : Settings) (v : Setting) → AreValid s → IsValidSetting v → AreValid (with_setting s v)
 with_setting_valid s (setting.User user) h k =
-    assumption (with_user-all IsValidUser s.users user h.users k, users-kept s (setting.User user) h.kept)
-with_setting_valid s other h k = assumption
+    assumption (with_user-all IsValidUser s.users user h.users k, kept s (setting.User user) h.kept)
+with_setting_valid s (setting.PeerNonce nonce) h k =
+    assumption (nonces-valid s.version s.peer_nonces nonce h.peer_nonces k, kept s (setting.PeerNonce nonce) h.kept)
+with_setting_valid s (setting.ServerNonce nonce) h k =
+    assumption (nonces-valid s.version s.server_nonces nonce h.server_nonces k, kept s (setting.ServerNonce nonce) h.kept)
+with_setting_valid s other h k = assumption (kept s other h.kept)
 
 -- what holds of a slot holds of the value that is given, or else of the default
 held : {A : Type 0} (P : A → Type 0) (slot : Option A) (a : A) → IfSome slot P → plus slot [] ≡ a ∷ [] → P a
@@ -166,8 +203,18 @@ held-key : {A : Type 0} (P : A → Type 0) (slot key : Option A) → IfSome slot
 held-key P None key h e = rw e tt
 held-key P (Some b) key h e = rw e h
 
-valid-peer : (s : Settings) (peer : PeerSetup) → AreValid s → MakesPeer (joined s no_values) peer → IsValidPeer peer
-valid-peer s peer h m = record {
+-- and of the nonces
+held-nonces : (version : Version) (slot : Option GivenNonces) (first : List ℕ) (later : List (List ℕ)) → IfSome slot AreValidNonces →
+    AreNoncesOf version (plus_nonces slot []) first later → AreValidNonces (record { first = first; later = later })
+held-nonces version slot first later h m = subst (λ o. IfSome o AreValidNonces) (nonces-set slot first later m.given) h
+
+-- no version but the second has the number 2
+alone : (version : Version) (v : Values) (setup : Setup) → MakesSetup version v setup → (setup.later.version == 2) ≡ false → setup.later ≡ no_later
+alone First v setup m other = none-later v setup m
+alone Second v setup m other = absurd (true≢false (sym (eq-eqb setup.later.version 2 m.number) ∙ other))
+
+valid-peer : (version : Version) (s : Settings) (later : List (List ℕ)) (peer : PeerSetup) → AreValid s → MakesPeer version (joined s no_values) later peer → IsValidPeer peer
+valid-peer version s later peer h m = record {
   sound = record {
     methods = held (λ kinds. IsTrue (are_kinds kinds)) s.peer_methods peer.methods h.peer_methods m.methods;
     suites = held-or (λ suites. IsTrue (are_suites suites)) s.peer_suites both_suites peer.suites h.peer_suites refl m.suites;
@@ -177,11 +224,12 @@ valid-peer s peer h m = record {
   keys = record { psk47 = m.psk47.needed; psk51 = m.psk51.needed };
   name = held IsName s.peer_name peer.name h.peer_name m.name;
   accepts = held AcceptsName s.peer_server peer.accepts h.peer_server m.accepts;
-  nonce = held (λ nonce. length nonce ≡ 32) s.peer_nonce peer.nonce h.peer_nonce m.nonce;
+  nonce = (held-nonces version s.peer_nonces peer.nonce later h.peer_nonces m.nonces).first;
 }
 
-valid-server : (s : Settings) (server : ServerSetup) → AreValid s → MakesServer (joined s no_values) server → IsValidServer server
-valid-server s server h m =
+valid-server : (version : Version) (s : Settings) (later : List (List ℕ)) (server : ServerSetup) → AreValid s → MakesServer version (joined s no_values) later server →
+    IsValidServer server
+valid-server version s later server h m =
     let users : All IsValidUser server.users = subst (All IsValidUser) (sym (append-nil s.users) ∙ m.users) h.users in
     record {
       sound = record {
@@ -192,18 +240,34 @@ valid-server s server h m =
       };
       name = held IsName s.server_name server.name h.server_name m.name;
       users = users;
-      nonce = held (λ nonce. length nonce ≡ 32) s.server_nonce server.nonce h.server_nonce m.nonce;
+      nonce = (held-nonces version s.server_nonces server.nonce later h.server_nonces m.nonces).first;
     }
+
+-- the settings of one end
+pub peer_setup_of_valid : (s : Settings) → AreValid s → IfOk (peer_setup_of s) IsValidPeer
+peer_setup_of_valid s h =
+    IfOk-weaker (peer_setup_of s) (MakesPeer s.version (joined s no_values) (later_nonces s.peer_nonces)) IsValidPeer
+    (λ peer m. valid-peer s.version s (later_nonces s.peer_nonces) peer h m) (peers-given s h.kept)
+
+pub server_setup_of_valid : (s : Settings) → AreValid s → IfOk (server_setup_of s) IsValidServer
+server_setup_of_valid s h =
+    IfOk-weaker (server_setup_of s) (MakesServer s.version (joined s no_values) (later_nonces s.server_nonces)) IsValidServer
+    (λ server m. valid-server s.version s (later_nonces s.server_nonces) server h m) (servers-given s h.kept)
 
 -- the settings of a run
 pub setup_of_valid : (s : Settings) → AreValid s → IfOk (setup_of s) IsValidSetup
 setup_of_valid s h =
-    IfOk-weaker (setup_of s) (MakesSetup (joined s no_values)) IsValidSetup
+    IfOk-weaker (setup_of s) (MakesSetup s.version (joined s no_values)) IsValidSetup
     (λ setup m. record {
       first_id = held-or (λ id. id < 256) s.first_id 0 setup.first_id h.first_id (lit< tt) m.first_id;
       few_retrans = held-or (λ count. count ≤ 10) s.max_retrans 4 setup.max_retrans h.max_retrans (lit≤ tt) m.max_retrans;
-      peer = valid-peer s setup.peer h m.peer;
-      server = valid-server s setup.server h m.server;
+      peer = valid-peer s.version s setup.later.peer setup.peer h m.peer;
+      server = valid-server s.version s setup.later.server setup.server h m.server;
+      later = record {
+        peer = (held-nonces s.version s.peer_nonces setup.peer.nonce setup.later.peer h.peer_nonces m.peer.nonces).later;
+        server = (held-nonces s.version s.server_nonces setup.server.nonce setup.later.server h.server_nonces m.server.nonces).later;
+        alone = alone s.version (joined s no_values) setup m;
+      };
     })
     (all-given s h.kept)
 
@@ -218,14 +282,15 @@ taken-valid p s other h k = record { item = tt; settings = h }
 
 step-valid : (p : Phase) (s : Settings) (line : List ℕ) (out : ReadLine) → AreValid s → read_body p s line ≡ Ok out → IsValidReadLine out
 step-valid p s line out h e =
-    step-cases p s line IsValidReadLine (record { item = tt; settings = h }) (λ own may. taken-valid p s (said_by line) h (said_by_valid line own)) out
+    step-cases p s line IsValidReadLine (record { item = tt; settings = h }) (λ own may. taken-valid p s (said_by s.version line) h (said_by_valid s.version line own)) out
     (stepped p s line out e)
 
 -- what a line says and adds
 line-valid : (p : Phase) (s : Settings) (line : List ℕ) (out : ReadLine) → AreValid s → read_at p s line ≡ Ok out → IsValidReadLine out
 unfolding read_line
 line-valid phase.Unread s line out h e =
-    rw ((starts (record { phase = phase.Unread; settings = s }) line out refl e).1) (record { item = tt; settings = no_settings_valid })
+    let begins = read_line_from_unread (record { phase = phase.Unread; settings = s }) line out refl e in
+    subst IsValidReadLine (sym begins.out_is) (record { item = tt; settings = begun_valid begins.version })
 line-valid other s line out h e = step-valid other s line out h e
 
 if-ok : (x : Result ReadLine LineFault) → ((out : ReadLine) → x ≡ Ok out → IsValidReadLine out) → IfOk x IsValidReadLine

@@ -14,10 +14,11 @@ use Rattle.eap_base.specs.declared.event.Event.TheVariants as event
 use Rattle.text_tables.specs.Words.{words}
 use Rattle.text_tables.specs.Fields.{word_in, is_dash, number, octets_of, kind_of, suite_of}
 use Rattle.text_tables.specs.Rows.{unless, fault_of_words, keyword_in, line_has}
-use Rattle.scenario_text.specs.Keywords.{row_of, keywords}
+use Rattle.scenario_text.specs.Keywords.{row_of, keywords_in}
 use Rattle.text_tables.specs.declared.fault.LineFault.{LineFault}
 use Rattle.scenario_text.specs.declared.keyword.Keyword.{Keyword}
 use Rattle.scenario_text.specs.declared.keyword.Keyword.TheVariants as key
+use Rattle.scenario_text.specs.declared.version.Version.{Version}
 use Rattle.scenario_text.specs.declared.entry.Setting.{Setting}
 use Rattle.scenario_text.specs.declared.entry.Setting.TheVariants as setting
 use Rattle.scenario_text.specs.Contents.{Entry}
@@ -55,10 +56,16 @@ port_of word =
     else port.PassServer
 
 abbrev pub party_of : List ℕ → Party
-party_of word = if bytes_eq word (codes "pass") then party.Pass else party.Server
+party_of word =
+    if bytes_eq word (codes "pass") then party.Pass
+    else if bytes_eq word (codes "peer") then party.Peer
+    else party.Server
 
 abbrev pub is_barred : List ℕ → Bool
 is_barred word = bytes_eq word (codes "barred")
+
+abbrev pub is_yes : List ℕ → Bool
+is_yes word = bytes_eq word (codes "yes")
 
 -- what a keyword says with the words of its line
 unfoldable pub item_of : Keyword → List (List ℕ) → Entry
@@ -89,17 +96,20 @@ item_of key.Idle ws = Happens event.Idle
 item_of key.AltAccept ws = Happens event.AltAccept
 item_of key.AltReject ws = Happens event.AltReject
 item_of key.End ws = End
+item_of key.PeerExpanded ws = Set (setting.PeerExpanded (is_yes (word_in ws 1)))
+item_of key.ServerExpanded ws = Set (setting.ServerExpanded (is_yes (word_in ws 1)))
+item_of key.Restart ws = Happens (event.Restart (party_of (word_in ws 1)))
 
--- the line has this fault, whatever came before it
-abbrev pub has_fault : List ℕ → LineFault → Bool
-has_fault line e = line_has row_of keywords line e
+-- a line of this version has this fault, whatever came before it
+abbrev pub has_fault : Version → List ℕ → LineFault → Bool
+has_fault version line e = line_has row_of (keywords_in version) line e
 
 -- its keyword, if it has one, and what it says
-abbrev pub keyword_of : List ℕ → Keyword
-keyword_of line = unwrap_or (keyword_in row_of keywords (words line)) key.End
+abbrev pub keyword_of : Version → List ℕ → Keyword
+keyword_of version line = unwrap_or (keyword_in row_of (keywords_in version) (words line)) key.End
 
-abbrev pub said_by : List ℕ → Entry
-said_by line = item_of (keyword_of line) (words line)
+abbrev pub said_by : Version → List ℕ → Entry
+said_by version line = item_of (keyword_of version line) (words line)
 
 -- the same of a keyword and its words
 unfoldable pub entry_for : Keyword → List (List ℕ) → Result Entry LineFault

@@ -1,10 +1,12 @@
 -- The table of a scenario's lines: each keyword, and what the words after it stand for.
-use Rattle.std.specs.Prelude.{List, [], ◌∷◌, codes}
+use Rattle.std.specs.Prelude.{List, [], ◌∷◌, ◌++◌, codes}
 use Rattle.text_tables.specs.Rows.{Row, row}
 use Rattle.text_tables.specs.declared.rows.Field.TheVariants.{Choice, Number, Kind, KindOrNone, OtherKind, Suite, OtherSuite, Name, Hex, Key}
 use Rattle.text_tables.specs.declared.rows.Choices.TheVariants as choices
 use Rattle.scenario_text.specs.declared.keyword.Keyword.{Keyword}
 use Rattle.scenario_text.specs.declared.keyword.Keyword.TheVariants as key
+use Rattle.scenario_text.specs.declared.version.Version.{Version}
+use Rattle.scenario_text.specs.declared.version.Version.TheVariants.{First, Second}
 
 abbrev pub row_of : Keyword → Row
 row_of key.Mode = row (codes "mode") 1 (Choice choices.Mode ∷ [])
@@ -33,10 +35,21 @@ row_of key.Idle = row (codes "idle") 0 []
 row_of key.AltAccept = row (codes "alt-accept") 0 []
 row_of key.AltReject = row (codes "alt-reject") 0 []
 row_of key.End = row (codes "end") 0 []
+row_of key.PeerExpanded = row (codes "peer-expanded") 1 (Choice choices.YesNo ∷ [])
+row_of key.ServerExpanded = row (codes "server-expanded") 1 (Choice choices.YesNo ∷ [])
+row_of key.Restart = row (codes "restart") 1 (Choice choices.Party ∷ [])
 
+-- the keywords of both versions
 abbrev pub keywords : List Keyword
 keywords =
-    key.Mode ∷ key.FirstId ∷ key.MaxRetrans ∷ key.PeerName ∷ key.PeerServer ∷ key.PeerMethods ∷ key.PeerSuites ∷ key.PeerPsk
-    ∷ key.PeerNonce ∷ key.ServerName ∷ key.ServerMethods ∷ key.ServerSuites ∷ key.ServerNonce ∷ key.User ∷ key.Events
-    ∷ key.Deliver ∷ key.Alter ∷ key.Cut ∷ key.Inject ∷ key.Timeout ∷ key.AaaTimeout ∷ key.AaaNoReq ∷ key.Idle
-    ∷ key.AltAccept ∷ key.AltReject ∷ key.End ∷ []
+    key.Deliver ∷ key.Alter ∷ key.Cut ∷ key.Inject ∷ key.Timeout ∷ key.AaaTimeout ∷ key.AaaNoReq ∷ key.Idle ∷ key.AltAccept ∷ key.AltReject ∷ key.End
+    ∷ key.Mode ∷ key.FirstId ∷ key.MaxRetrans ∷ key.PeerName ∷ key.PeerServer ∷ key.PeerMethods ∷ key.PeerSuites ∷ key.PeerPsk
+    ∷ key.PeerNonce ∷ key.ServerName ∷ key.ServerMethods ∷ key.ServerSuites ∷ key.ServerNonce ∷ key.User ∷ key.Events ∷ []
+
+-- those that the second version has besides
+abbrev pub later_keywords : List Keyword
+later_keywords = key.PeerExpanded ∷ key.ServerExpanded ∷ key.Restart ∷ []
+
+abbrev pub keywords_in : Version → List Keyword
+keywords_in First = keywords
+keywords_in Second = keywords ++ later_keywords

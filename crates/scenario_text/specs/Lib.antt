@@ -5,4 +5,5 @@ pub mod Keywords
 pub mod Laws
 pub mod Reading
 pub mod Valid
+pub mod Versions
 pub mod Whole

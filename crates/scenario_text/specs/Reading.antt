@@ -1,8 +1,8 @@
 -- A scenario, line by line: what has been read, and what each line adds.
-use Rattle.std.specs.Prelude.{ℕ, List, [], ◌∷◌, length, nat_le, not, ◌||◌, Bool, true, false, if◌then◌else◌, codes, Option, Some, None, find, Result, Ok, Err, IsOk, ok_or, is_err, is_some, unwrap_or}
-use Rattle.std.specs.Str.{bytes_eq}
-use Rattle.eap_base.specs.Setup.{psk_kind, gpsk_kind, is_among, no_later}
+use Rattle.std.specs.Prelude.{ℕ, List, [], ◌∷◌, ◌++◌, length, nat_le, nat_lt, not, ◌&&◌, ◌||◌, Bool, true, false, if◌then◌else◌, Option, Some, None, find, Result, Ok, Err, IsOk, ok_or, is_err, is_some, unwrap_or}
+use Rattle.eap_base.specs.Setup.{psk_kind, gpsk_kind, is_among}
 use Rattle.eap_base.specs.Users.{user_of}
+use Rattle.eap_base.specs.declared.setup.Later.{Later}
 use Rattle.eap_base.specs.declared.setup.PeerSetup.{PeerSetup}
 use Rattle.eap_base.specs.declared.setup.ServerSetup.{ServerSetup}
 use Rattle.eap_base.specs.declared.setup.Setup.{Setup}
@@ -20,7 +20,11 @@ use Rattle.scenario_text.specs.declared.entry.Setting.{Setting}
 use Rattle.scenario_text.specs.declared.entry.Setting.TheVariants as setting
 use Rattle.scenario_text.specs.Contents.{Entry}
 use Rattle.scenario_text.specs.Contents as entry
+use Rattle.scenario_text.specs.declared.settings.GivenNonces.{GivenNonces}
 use Rattle.scenario_text.specs.declared.settings.Settings.{Settings}
+use Rattle.scenario_text.specs.declared.version.Version.{Version}
+use Rattle.scenario_text.specs.declared.version.Version.TheVariants as version
+use Rattle.scenario_text.specs.Versions.{version_of, version_number, has_later, most_later}
 use Rattle.scenario_text.specs.Items.{Item}
 use Rattle.scenario_text.specs.Items as item
 use Rattle.scenario_text.specs.declared.scenario.Item as answer
@@ -29,9 +33,45 @@ use Rattle.scenario_text.specs.declared.scenario.Phase.TheVariants as phase
 
 -- no settings
 abbrev pub no_settings : Settings
-no_settings = record { mode = None; first_id = None; max_retrans = None; peer_name = None; peer_server = None; peer_methods = None; peer_suites = None; peer_psk47 = None; peer_psk51 = None; peer_nonce = None; server_name = None; server_methods = None; server_suites = None; server_nonce = None; users = [] }
+no_settings = record {
+  version = version.First;
+  mode = None;
+  first_id = None;
+  max_retrans = None;
+  peer_name = None;
+  peer_server = None;
+  peer_methods = None;
+  peer_suites = None;
+  peer_psk47 = None;
+  peer_psk51 = None;
+  peer_nonces = None;
+  peer_expanded = None;
+  server_name = None;
+  server_methods = None;
+  server_suites = None;
+  server_nonces = None;
+  server_expanded = None;
+  users = [];
+}
 
--- whether the setting has come before
+-- none of a text of this version
+abbrev pub begun : Version → Settings
+begun v = record no_settings { version = v }
+
+-- the nonces of an end with one more, the first or a later one, unless there are as many as the version has
+unfoldable pub with_later : Version → List (List ℕ) → List ℕ → List (List ℕ)
+with_later v later nonce = if nat_lt (length later) (most_later v) then later ++ nonce ∷ [] else later
+
+abbrev pub with_nonce : Version → Option GivenNonces → List ℕ → Option GivenNonces
+with_nonce v None nonce = Some (record { first = nonce; later = [] })
+with_nonce v (Some given) nonce = Some (record given { later = with_later v given.later nonce })
+
+-- 16 nonces
+abbrev pub is_full : Option GivenNonces → Bool
+is_full None = false
+is_full (Some given) = nat_le 15 (length given.later)
+
+-- whether the setting has come before and may come once; the nonces may come again in the second version
 abbrev pub has_setting : Settings → Setting → Bool
 has_setting s (setting.Mode v) = is_some s.mode
 has_setting s (setting.FirstId v) = is_some s.first_id
@@ -42,12 +82,14 @@ has_setting s (setting.PeerMethods v) = is_some s.peer_methods
 has_setting s (setting.PeerSuites v) = is_some s.peer_suites
 has_setting s (setting.PeerPsk47 v) = is_some s.peer_psk47
 has_setting s (setting.PeerPsk51 v) = is_some s.peer_psk51
-has_setting s (setting.PeerNonce v) = is_some s.peer_nonce
+has_setting s (setting.PeerNonce v) = not (has_later s.version) && is_some s.peer_nonces
 has_setting s (setting.ServerName v) = is_some s.server_name
 has_setting s (setting.ServerMethods v) = is_some s.server_methods
 has_setting s (setting.ServerSuites v) = is_some s.server_suites
-has_setting s (setting.ServerNonce v) = is_some s.server_nonce
+has_setting s (setting.ServerNonce v) = not (has_later s.version) && is_some s.server_nonces
 has_setting s (setting.User user) = is_some (user_of s.users user.name user.kind)
+has_setting s (setting.PeerExpanded v) = is_some s.peer_expanded
+has_setting s (setting.ServerExpanded v) = is_some s.server_expanded
 
 -- the settings with one more
 abbrev pub with_setting : Settings → Setting → Settings
@@ -60,12 +102,14 @@ with_setting s (setting.PeerMethods v) = record s { peer_methods = Some v }
 with_setting s (setting.PeerSuites v) = record s { peer_suites = Some v }
 with_setting s (setting.PeerPsk47 v) = record s { peer_psk47 = Some v }
 with_setting s (setting.PeerPsk51 v) = record s { peer_psk51 = Some v }
-with_setting s (setting.PeerNonce v) = record s { peer_nonce = Some v }
+with_setting s (setting.PeerNonce v) = record s { peer_nonces = with_nonce s.version s.peer_nonces v }
 with_setting s (setting.ServerName v) = record s { server_name = Some v }
 with_setting s (setting.ServerMethods v) = record s { server_methods = Some v }
 with_setting s (setting.ServerSuites v) = record s { server_suites = Some v }
-with_setting s (setting.ServerNonce v) = record s { server_nonce = Some v }
+with_setting s (setting.ServerNonce v) = record s { server_nonces = with_nonce s.version s.server_nonces v }
 with_setting s (setting.User user) = record s { users = with_user s.users user }
+with_setting s (setting.PeerExpanded v) = record s { peer_expanded = Some v }
+with_setting s (setting.ServerExpanded v) = record s { server_expanded = Some v }
 
 -- a needed setting
 abbrev pub needed : {A : Type 0} → Option A → Result A LineFault
@@ -86,7 +130,7 @@ peer_setup_of s = do
   name ← needed s.peer_name
   accepts ← needed s.peer_server
   methods ← needed s.peer_methods
-  nonce ← needed s.peer_nonce
+  nonces ← needed s.peer_nonces
   psk47 ← key_for methods psk_kind s.peer_psk47
   psk51 ← key_for methods gpsk_kind s.peer_psk51
   Ok (record {
@@ -96,23 +140,45 @@ peer_setup_of s = do
     suites = unwrap_or s.peer_suites both_suites;
     psk47 = psk47;
     psk51 = psk51;
-    nonce = nonce;
-    expanded = false;
+    nonce = nonces.first;
+    expanded = unwrap_or s.peer_expanded false;
   })
 
 unfoldable pub server_setup_of : Settings → Result ServerSetup LineFault
 server_setup_of s = do
   name ← needed s.server_name
   methods ← needed s.server_methods
-  nonce ← needed s.server_nonce
-  Ok (record { name = name; methods = methods; suites = unwrap_or s.server_suites both_suites; users = s.users; nonce = nonce; expanded = false })
+  nonces ← needed s.server_nonces
+  Ok (record {
+    name = name;
+    methods = methods;
+    suites = unwrap_or s.server_suites both_suites;
+    users = s.users;
+    nonce = nonces.first;
+    expanded = unwrap_or s.server_expanded false;
+  })
+
+-- the version, and the nonces of later conversations
+abbrev pub later_nonces : Option GivenNonces → List (List ℕ)
+later_nonces None = []
+later_nonces (Some given) = given.later
+
+abbrev pub later_of : Settings → Later
+later_of s = record { version = version_number s.version; peer = later_nonces s.peer_nonces; server = later_nonces s.server_nonces }
 
 unfoldable pub setup_of : Settings → Result Setup LineFault
 setup_of s = do
   mode ← needed s.mode
   peer ← peer_setup_of s
   server ← server_setup_of s
-  Ok (record { mode = mode; first_id = unwrap_or s.first_id 0; max_retrans = unwrap_or s.max_retrans 4; peer = peer; server = server; later = no_later })
+  Ok (record {
+    mode = mode;
+    first_id = unwrap_or s.first_id 0;
+    max_retrans = unwrap_or s.max_retrans 4;
+    peer = peer;
+    server = server;
+    later = later_of s;
+  })
 
 -- what has been read of a scenario: how far it has come, and its settings
 pub record Reading : Type 0 where
@@ -146,9 +212,11 @@ HasSetup other after = Unit {0}
 
 -- the faults of a line where it stands
 
--- BadCount: a 17th user
+-- BadCount: a 17th user; in the second version a 17th nonce of an end
 abbrev pub is_crowded : Settings → Keyword → Bool
 is_crowded s key.User = nat_le 16 (length s.users)
+is_crowded s key.PeerNonce = has_later s.version && is_full s.peer_nonces
+is_crowded s key.ServerNonce = has_later s.version && is_full s.server_nonces
 is_crowded s k = false
 
 -- Repeated: a setting that came before
@@ -184,7 +252,7 @@ place_has p s k e other = entry_has p s e other
 
 -- a line after the first that isn't passed over has the fault, by its words or by its place
 unfoldable pub body_has : Phase → Settings → List ℕ → LineFault → Bool
-body_has p s line f = has_fault line f || place_has p s (keyword_of line) (said_by line) f
+body_has p s line f = has_fault s.version line f || place_has p s (keyword_of s.version line) (said_by s.version line) f
 
 -- what it says and adds, where it has none
 abbrev pub ready : Result Setup LineFault → Item
@@ -207,14 +275,15 @@ read_words p s k ws = if is_crowded s k then Err fault.BadCount else entry_for k
 unfoldable pub read_body : Phase → Settings → List ℕ → Result ReadLine LineFault
 read_body p s line =
     if is_passed_over line then reads item.Nothing p s
-    else unless (find (body_has p s line) faults) (taken p s (said_by line))
+    else unless (find (body_has p s line) faults) (taken p s (said_by s.version line))
 
 -- the first line
-abbrev pub header : List ℕ
-header = codes "eap-scenario 1"
+abbrev pub read_begin : Option Version → Result ReadLine LineFault
+read_begin None = Err fault.NoHeader
+read_begin (Some v) = reads item.Nothing phase.Settings (begun v)
 
 abbrev pub read_header : List ℕ → Result ReadLine LineFault
-read_header line = if bytes_eq line header then reads item.Nothing phase.Settings no_settings else Err fault.NoHeader
+read_header line = read_begin (version_of line)
 
 -- a line of a scenario that has come so far
 abbrev pub read_at : Phase → Settings → List ℕ → Result ReadLine LineFault

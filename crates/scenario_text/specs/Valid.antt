@@ -1,21 +1,25 @@
 -- What every setting that was read keeps: its number, its name or its nonce is within its limits.
-use Rattle.std.specs.Prelude.{◌≡◌, ◌≤◌, ◌<◌, length, IfSome, IsTrue, All, List}
-use Rattle.eap_base.specs.Setup.{psk_kind, gpsk_kind, is_kind, are_kinds, are_suites, fits_kind, IsSoundPeer, IsSoundServer, HasKeys}
+use Rattle.std.specs.Prelude.{◌≡◌, ◌==◌, false, ◌≤◌, ◌<◌, length, IfSome, IsTrue, All, Option, ℕ, List}
+use Rattle.eap_base.specs.Setup.{psk_kind, gpsk_kind, is_kind, are_kinds, are_suites, fits_kind, no_later, IsSoundPeer, IsSoundServer, HasKeys}
 use Rattle.eap_base.specs.Users.{AreDistinct}
 use Rattle.eap_base.specs.declared.users.User.{User}
 use Rattle.eap_base.specs.declared.setup.Accepts.{Accepts}
 use Rattle.eap_base.specs.declared.setup.Accepts.TheVariants.{Any, One}
+use Rattle.eap_base.specs.declared.setup.Later.{Later}
 use Rattle.eap_base.specs.declared.setup.PeerSetup.{PeerSetup}
 use Rattle.eap_base.specs.declared.setup.ServerSetup.{ServerSetup}
 use Rattle.eap_base.specs.declared.setup.Setup.{Setup}
 use Rattle.text_tables.specs.Fits.{IsName}
 use Rattle.scenario_text.specs.Reading.{ReadLine}
+use Rattle.scenario_text.specs.Versions.{most_later}
 use Rattle.scenario_text.specs.declared.entry.Setting.{Setting}
 use Rattle.scenario_text.specs.declared.entry.Setting.TheVariants as setting
 use Rattle.scenario_text.specs.Contents.{Entry}
 use Rattle.scenario_text.specs.Contents as entry
 use Rattle.scenario_text.specs.declared.entry.Entry as told
+use Rattle.scenario_text.specs.declared.settings.GivenNonces.{GivenNonces}
 use Rattle.scenario_text.specs.declared.settings.Settings.{Settings}
+use Rattle.scenario_text.specs.declared.version.Version.{Version}
 use Rattle.scenario_text.specs.Items.{Item}
 use Rattle.scenario_text.specs.Items as item
 
@@ -30,6 +34,9 @@ pub record IsValidUser (user : User) : Type 0 where
   pub kind : IsTrue (is_kind user.kind)
   pub psk : IsTrue (fits_kind user.kind user.psk)
 
+abbrev pub IsNonce : List ℕ → Type 0
+IsNonce nonce = length nonce ≡ 32
+
 abbrev pub IsValidSetting : Setting → Type 0
 IsValidSetting (setting.Mode m) = Unit {0}
 IsValidSetting (setting.FirstId id) = id < 256
@@ -40,12 +47,14 @@ IsValidSetting (setting.PeerMethods kinds) = IsTrue (are_kinds kinds)
 IsValidSetting (setting.PeerSuites suites) = IsTrue (are_suites suites)
 IsValidSetting (setting.PeerPsk47 key) = IsTrue (fits_kind psk_kind key)
 IsValidSetting (setting.PeerPsk51 key) = IsTrue (fits_kind gpsk_kind key)
-IsValidSetting (setting.PeerNonce nonce) = length nonce ≡ 32
+IsValidSetting (setting.PeerNonce nonce) = IsNonce nonce
 IsValidSetting (setting.ServerName name) = IsName name
 IsValidSetting (setting.ServerMethods kinds) = IsTrue (are_kinds kinds)
 IsValidSetting (setting.ServerSuites suites) = IsTrue (are_suites suites)
-IsValidSetting (setting.ServerNonce nonce) = length nonce ≡ 32
+IsValidSetting (setting.ServerNonce nonce) = IsNonce nonce
 IsValidSetting (setting.User user) = IsValidUser user
+IsValidSetting (setting.PeerExpanded expanded) = Unit {0}
+IsValidSetting (setting.ServerExpanded expanded) = Unit {0}
 
 abbrev pub IsValidEntry : Entry → Type 0
 IsValidEntry (entry.Set v) = IsValidSetting v
@@ -61,6 +70,20 @@ pub record AreUsers (users : List User) : Type 0 where
   pub few : length users ≤ 16
   pub distinct : AreDistinct users
 
+pub record AreValidNonces (given : GivenNonces) : Type 0 where
+  pub first : IsNonce given.first
+  pub later : All IsNonce given.later
+
+-- no more later nonces than the version has
+abbrev pub AreFew : Version → Option GivenNonces → Type 0
+AreFew version slot = IfSome slot (λ given. length given.later ≤ most_later version)
+
+-- what comes on several lines
+pub record IsKept (s : Settings) : Type 0 where
+  pub users : AreUsers s.users
+  pub peer_nonces : AreFew s.version s.peer_nonces
+  pub server_nonces : AreFew s.version s.server_nonces
+
 -- each setting that has come is valid
 pub record AreValid (s : Settings) : Type 0 where
   pub first_id : IfSome s.first_id (λ id. id < 256)
@@ -71,13 +94,13 @@ pub record AreValid (s : Settings) : Type 0 where
   pub peer_suites : IfSome s.peer_suites (λ suites. IsTrue (are_suites suites))
   pub peer_psk47 : IfSome s.peer_psk47 (λ key. IsTrue (fits_kind psk_kind key))
   pub peer_psk51 : IfSome s.peer_psk51 (λ key. IsTrue (fits_kind gpsk_kind key))
-  pub peer_nonce : IfSome s.peer_nonce (λ nonce. length nonce ≡ 32)
+  pub peer_nonces : IfSome s.peer_nonces AreValidNonces
   pub server_name : IfSome s.server_name IsName
   pub server_methods : IfSome s.server_methods (λ kinds. IsTrue (are_kinds kinds))
   pub server_suites : IfSome s.server_suites (λ suites. IsTrue (are_suites suites))
-  pub server_nonce : IfSome s.server_nonce (λ nonce. length nonce ≡ 32)
+  pub server_nonces : IfSome s.server_nonces AreValidNonces
   pub users : All IsValidUser s.users
-  pub kept : AreUsers s.users
+  pub kept : IsKept s
 
 -- the settings of each end and of a run, within their limits
 pub record IsValidPeer (peer : PeerSetup) : Type 0 where
@@ -85,19 +108,26 @@ pub record IsValidPeer (peer : PeerSetup) : Type 0 where
   pub keys : HasKeys peer
   pub name : IsName peer.name
   pub accepts : AcceptsName peer.accepts
-  pub nonce : length peer.nonce ≡ 32
+  pub nonce : IsNonce peer.nonce
 
 pub record IsValidServer (server : ServerSetup) : Type 0 where
   pub sound : IsSoundServer server
   pub name : IsName server.name
   pub users : All IsValidUser server.users
-  pub nonce : length server.nonce ≡ 32
+  pub nonce : IsNonce server.nonce
+
+pub record IsValidLater (later : Later) : Type 0 where
+  pub peer : All IsNonce later.peer
+  pub server : All IsNonce later.server
+  -- but for the second version no end has a later conversation
+  pub alone : (later.version == 2) ≡ false → later ≡ no_later
 
 pub record IsValidSetup (setup : Setup) : Type 0 where
   pub first_id : setup.first_id < 256
   pub few_retrans : setup.max_retrans ≤ 10
   pub peer : IsValidPeer setup.peer
   pub server : IsValidServer setup.server
+  pub later : IsValidLater setup.later
 
 abbrev pub IsValidItem : Item → Type 0
 IsValidItem (item.Ready setup) = IsValidSetup setup

@@ -1,5 +1,6 @@
 -- What a scenario is, by all its lines: its settings, its events, and what reading it makes of them.
-use Rattle.std.specs.Prelude.{◌≡◌, ℕ, ◌≤◌, List, [], ◌∷◌, ◌++◌, length, map, filter, not, All, Option, Some, None, IsSome, IsTrue, false, Result, Ok}
+use Rattle.std.specs.Prelude.{◌≡◌, ℕ, ◌≤◌, List, [], ◌∷◌, ◌++◌, length, map, filter, not, All, Option, Some, None, IsSome, IsTrue, Bool, true, false, Result, Ok}
+use Rattle.std.specs.List.{list_any}
 use Rattle.eap_base.specs.Setup.{psk_kind, gpsk_kind, is_among, no_later}
 use Rattle.eap_base.specs.Users.{AreDistinct}
 use Rattle.eap_base.specs.declared.users.User.{User}
@@ -9,17 +10,21 @@ use Rattle.eap_base.specs.declared.setup.PeerSetup.{PeerSetup}
 use Rattle.eap_base.specs.declared.setup.ServerSetup.{ServerSetup}
 use Rattle.eap_base.specs.declared.setup.Setup.{Setup}
 use Rattle.eap_base.specs.declared.event.Event.{Event}
+use Rattle.eap_base.specs.declared.event.Event.TheVariants as event
 use Rattle.text_tables.specs.Words.{is_passed_over}
 use Rattle.text_tables.specs.Fields.{◌>>=◌}
 use Rattle.scenario_text.specs.Entries.{has_fault, said_by}
 use Rattle.scenario_text.specs.Contents.{Set, Events, Happens, End}
-use Rattle.scenario_text.specs.Reading.{Reading, no_settings, header, read_line, finish_of, both_suites}
+use Rattle.scenario_text.specs.Reading.{Reading, no_settings, read_line, finish_of, both_suites}
+use Rattle.scenario_text.specs.Versions.{header, version_number, most_later}
 use Rattle.scenario_text.specs.Items.{Item}
 use Rattle.scenario_text.specs.Items as item
 use Rattle.text_tables.specs.declared.fault.LineFault.{LineFault}
 use Rattle.scenario_text.specs.declared.entry.Setting.{Setting}
 use Rattle.scenario_text.specs.declared.entry.Setting.TheVariants as setting
 use Rattle.scenario_text.specs.declared.scenario.Phase.TheVariants as phase
+use Rattle.scenario_text.specs.declared.version.Version.{Version}
+use Rattle.scenario_text.specs.declared.version.Version.TheVariants.{First}
 
 -- the values of each setting, one for each line that gives it, in the order of the lines
 pub record Values : Type 0 where
@@ -38,6 +43,8 @@ pub record Values : Type 0 where
   pub server_suites : List (List ℕ)
   pub server_nonce : List (List ℕ)
   pub users : List User
+  pub peer_expanded : List Bool
+  pub server_expanded : List Bool
 
 abbrev pub no_values : Values
 no_values = record {
@@ -56,6 +63,8 @@ no_values = record {
   server_suites = [];
   server_nonce = [];
   users = [];
+  peer_expanded = [];
+  server_expanded = [];
 }
 
 abbrev pub with_value : Setting → Values → Values
@@ -74,6 +83,8 @@ with_value (setting.ServerMethods v) rest = record rest { server_methods = v ∷
 with_value (setting.ServerSuites v) rest = record rest { server_suites = v ∷ rest.server_suites }
 with_value (setting.ServerNonce v) rest = record rest { server_nonce = v ∷ rest.server_nonce }
 with_value (setting.User v) rest = record rest { users = v ∷ rest.users }
+with_value (setting.PeerExpanded v) rest = record rest { peer_expanded = v ∷ rest.peer_expanded }
+with_value (setting.ServerExpanded v) rest = record rest { server_expanded = v ∷ rest.server_expanded }
 
 abbrev pub values_of : List Setting → Values
 values_of [] = no_values
@@ -99,52 +110,58 @@ pub record IsKeyFor (methods : List ℕ) (kind : ℕ) (values : List (List ℕ))
   pub given : IsGivenOrNone values key
   pub needed : IsTrue (is_among methods kind) → IsSome key
 
+-- the nonces of an end, in the order of their lines: the first conversation's, and in the second version at most 15 later ones
+pub record AreNoncesOf (version : Version) (values : List (List ℕ)) (first : List ℕ) (later : List (List ℕ)) : Type 0 where
+  pub given : values ≡ first ∷ later
+  pub few : length later ≤ most_later version
+
 -- the settings of each end and of a run are those that the lines give
-pub record MakesPeer (v : Values) (peer : PeerSetup) : Type 0 where
+pub record MakesPeer (version : Version) (v : Values) (later : List (List ℕ)) (peer : PeerSetup) : Type 0 where
   pub name : IsGiven v.peer_name peer.name
   pub accepts : IsGiven v.peer_server peer.accepts
   pub methods : IsGiven v.peer_methods peer.methods
   pub suites : IsGivenOr both_suites v.peer_suites peer.suites
   pub psk47 : IsKeyFor peer.methods psk_kind v.peer_psk47 peer.psk47
   pub psk51 : IsKeyFor peer.methods gpsk_kind v.peer_psk51 peer.psk51
-  pub nonce : IsGiven v.peer_nonce peer.nonce
-  pub expanded : peer.expanded ≡ false
+  pub nonces : AreNoncesOf version v.peer_nonce peer.nonce later
+  pub expanded : IsGivenOr false v.peer_expanded peer.expanded
 
-pub record MakesServer (v : Values) (server : ServerSetup) : Type 0 where
+pub record MakesServer (version : Version) (v : Values) (later : List (List ℕ)) (server : ServerSetup) : Type 0 where
   pub name : IsGiven v.server_name server.name
   pub methods : IsGiven v.server_methods server.methods
   pub suites : IsGivenOr both_suites v.server_suites server.suites
-  pub nonce : IsGiven v.server_nonce server.nonce
+  pub nonces : AreNoncesOf version v.server_nonce server.nonce later
   pub users : v.users ≡ server.users
   pub few_users : length server.users ≤ 16
   pub distinct_users : AreDistinct server.users
-  pub expanded : server.expanded ≡ false
+  pub expanded : IsGivenOr false v.server_expanded server.expanded
 
-pub record MakesSetup (v : Values) (setup : Setup) : Type 0 where
+pub record MakesSetup (version : Version) (v : Values) (setup : Setup) : Type 0 where
   pub mode : IsGiven v.mode setup.mode
   pub first_id : IsGivenOr 0 v.first_id setup.first_id
   pub max_retrans : IsGivenOr 4 v.max_retrans setup.max_retrans
-  pub peer : MakesPeer v setup.peer
-  pub server : MakesServer v setup.server
-  pub later : setup.later ≡ no_later
+  pub peer : MakesPeer version v setup.later.peer setup.peer
+  pub server : MakesServer version v setup.later.server setup.server
+  pub number : setup.later.version ≡ version_number version
 
 -- the lines that aren't passed over
 abbrev pub told : List (List ℕ) → List (List ℕ)
 told lines = filter (λ line. not (is_passed_over line)) lines
 
 -- no fault of its own
-abbrev pub IsFaultless : List ℕ → Type 0
-IsFaultless line = (f : LineFault) → has_fault line f ≡ false
+abbrev pub IsFaultless : Version → List ℕ → Type 0
+IsFaultless version line = (f : LineFault) → has_fault version line f ≡ false
 
--- a scenario: the header, and then, but for lines that are passed over, settings, the line `events`,
+-- a scenario: the header of a version, and then, but for lines that are passed over, settings, the line `events`,
 -- events and the line `end`
 pub record IsScenario (lines : List (List ℕ)) (setup : Setup) (events : List Event) : Type 0 where
+  pub version : Version
   pub body : List (List ℕ)
   pub settings : List Setting
-  pub begins : lines ≡ header ∷ body
-  pub faultless : All IsFaultless (told body)
-  pub order : map said_by (told body) ≡ map Set settings ++ Events ∷ (map Happens events ++ End ∷ [])
-  pub made : MakesSetup (values_of settings) setup
+  pub begins : lines ≡ header version ∷ body
+  pub faultless : All (IsFaultless version) (told body)
+  pub order : map (said_by version) (told body) ≡ map Set settings ++ Events ∷ (map Happens events ++ End ∷ [])
+  pub made : MakesSetup version (values_of settings) setup
 
 -- what reading lines makes: the setup, where the line `events` came, and the events
 pub record Script : Type 0 where
@@ -179,3 +196,19 @@ pub record ScenariosAreRead : Type 0 where
   pub taken : (lines : List (List ℕ)) (setup : Setup) (events : List Event) → IsScenario lines setup events →
       read_all lines ≡ Ok (record { setup = Some setup; events = events })
   pub only : (lines : List (List ℕ)) (script : Script) → read_all lines ≡ Ok script → IsScript lines script
+
+abbrev pub is_restart : Event → Bool
+is_restart (event.Restart party) = true
+is_restart e = false
+
+-- each end has one conversation, no end reads Expanded Types, and none begins again
+pub record IsAlone (setup : Setup) (events : List Event) : Type 0 where
+  pub later : setup.later ≡ no_later
+  pub peer : setup.peer.expanded ≡ false
+  pub server : setup.server.expanded ≡ false
+  pub no_restart : list_any is_restart events ≡ false
+
+-- so it is in every scenario of the first version
+abbrev pub FirstScenariosAreAlone : Type 0
+FirstScenariosAreAlone =
+    (lines : List (List ℕ)) (setup : Setup) (events : List Event) → (s : IsScenario lines setup events) → s.version ≡ First → IsAlone setup events

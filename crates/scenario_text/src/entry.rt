@@ -5,7 +5,7 @@ ghost use Rattle.text_tables.specs.Words.{words};
 ghost use Rattle.scenario_text.specs.Contents.{entry_with, entered};
 ghost use Rattle.text_tables.specs.Fits.{Fits};
 ghost use Rattle.scenario_text.specs.Keywords.{row_of};
-ghost use Rattle.scenario_text.specs.Entries.{accepts_of, kinds_of, suites_of, key_setting, port_of, party_of, mode_of, item_of, entry_for};
+ghost use Rattle.scenario_text.specs.Entries.{accepts_of, kinds_of, suites_of, key_setting, port_of, party_of, is_yes, mode_of, item_of, entry_for};
 
 use crate::keyword::Keyword;
 use eap_base::{
@@ -33,6 +33,8 @@ pub enum Setting {
     ServerSuites(Suites),
     ServerNonce(Nonce),
     User(User),
+    PeerExpanded(bool),
+    ServerExpanded(bool),
 }
 
 /// What a line of a scenario holds after its header.
@@ -57,9 +59,9 @@ pub fn read_entry(keyword: Keyword, line: &[u8], event: &mut Event) -> Result<En
     }
 }
 
-/// What a keyword says with the words of its line.
+/// What a keyword says with the words of its line, which fit its row. An event is written to `event`.
 #[tactic(auto, unfolding(crate::specs::Entries::item_of))]
-fn item_of(keyword: Keyword, line: &[u8], event: &mut Event) -> Entry
+pub fn item_of(keyword: Keyword, line: &[u8], event: &mut Event) -> Entry
     requires { Fits (row_of keyword) (words line.now) }
     ensures { item_of keyword (words line.now) ≡ entry_with result event.new }
 {
@@ -140,6 +142,14 @@ fn item_of(keyword: Keyword, line: &[u8], event: &mut Event) -> Entry
             *event = Event::AltReject;
             Entry::Happens
         }
+        Keyword::PeerExpanded => Entry::Set(Setting::PeerExpanded(is_yes(first))),
+        Keyword::ServerExpanded => Entry::Set(Setting::ServerExpanded(is_yes(first))),
+        Keyword::Restart => {
+            *event = Event::Restart {
+                party: party_of(first),
+            };
+            Entry::Happens
+        }
     }
 }
 
@@ -208,15 +218,24 @@ fn port_of(word: &[u8]) -> Port
     }
 }
 
-/// A party that has a timer.
+/// A party.
 fn party_of(word: &[u8]) -> Party
     ensures { result ≡ party_of word.now }
 {
     if word == b"pass".as_slice() {
         Party::Pass
+    } else if word == b"peer".as_slice() {
+        Party::Peer
     } else {
         Party::Server
     }
+}
+
+/// Whether the answer is `yes`.
+fn is_yes(word: &[u8]) -> bool
+    ensures { result ≡ is_yes word.now }
+{
+    word == b"yes".as_slice()
 }
 
 /// Whether the server answers by itself.

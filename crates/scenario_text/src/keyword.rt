@@ -3,8 +3,9 @@
 ghost use Rattle.std.specs.Prelude.{◌≡◌};
 ghost use Rattle.text_tables.specs.Words.{words};
 ghost use Rattle.text_tables.specs.Rows.{keyword_in};
-ghost use Rattle.scenario_text.specs.Keywords.{row_of, keywords};
+ghost use Rattle.scenario_text.specs.Keywords.{row_of, keywords, later_keywords, keywords_in};
 
+use crate::version::Version;
 use text_tables::{Choices, Field, Row, word_in};
 
 /// The first word of a line.
@@ -36,9 +37,24 @@ pub enum Keyword {
     AltAccept,
     AltReject,
     End,
+    PeerExpanded,
+    ServerExpanded,
+    Restart,
 }
 
+/// The keywords of both versions, first those of events, which a scenario has the most of.
 const KEYWORDS: [Keyword; 26] = [
+    Keyword::Deliver,
+    Keyword::Alter,
+    Keyword::Cut,
+    Keyword::Inject,
+    Keyword::Timeout,
+    Keyword::AaaTimeout,
+    Keyword::AaaNoReq,
+    Keyword::Idle,
+    Keyword::AltAccept,
+    Keyword::AltReject,
+    Keyword::End,
     Keyword::Mode,
     Keyword::FirstId,
     Keyword::MaxRetrans,
@@ -54,17 +70,13 @@ const KEYWORDS: [Keyword; 26] = [
     Keyword::ServerNonce,
     Keyword::User,
     Keyword::Events,
-    Keyword::Deliver,
-    Keyword::Alter,
-    Keyword::Cut,
-    Keyword::Inject,
-    Keyword::Timeout,
-    Keyword::AaaTimeout,
-    Keyword::AaaNoReq,
-    Keyword::Idle,
-    Keyword::AltAccept,
-    Keyword::AltReject,
-    Keyword::End,
+];
+
+/// The keywords that the second version has besides.
+const LATER_KEYWORDS: [Keyword; 3] = [
+    Keyword::PeerExpanded,
+    Keyword::ServerExpanded,
+    Keyword::Restart,
 ];
 
 const PACKET: Field = Field::Number {
@@ -77,6 +89,8 @@ const METHODS: [Field; 2] = [Field::KindOrNone, Field::OtherKind { place: 1 }];
 const SUITES: [Field; 2] = [Field::Suite, Field::OtherSuite { place: 1 }];
 
 const NONCE: Field = Field::Hex { low: 32, high: 32 };
+
+const YES_NO: [Field; 1] = [Field::Choice(Choices::YesNo)];
 
 impl Keyword {
     /// The keyword's row.
@@ -140,16 +154,45 @@ impl Keyword {
             Keyword::AltAccept => Row::new(b"alt-accept", 0, &[]),
             Keyword::AltReject => Row::new(b"alt-reject", 0, &[]),
             Keyword::End => Row::new(b"end", 0, &[]),
+            Keyword::PeerExpanded => Row::new(b"peer-expanded", 1, &YES_NO),
+            Keyword::ServerExpanded => Row::new(b"server-expanded", 1, &YES_NO),
+            Keyword::Restart => Row::new(b"restart", 1, &[Field::Choice(Choices::Party)]),
         }
     }
 
-    /// The keyword that a line begins with, if it is one.
+    /// The keyword of this version that a line begins with, if it is one.
+    #[tactic(auto, using(crate::proofs::Finding::found_later))]
+    pub fn of_line(version: Version, line: &[u8]) -> Option<Keyword>
+        ensures { result ≡ keyword_in row_of (keywords_in version) (words line.now) }
+    {
+        match version {
+            Version::First => Keyword::of_both(line),
+            Version::Second => match Keyword::of_both(line) {
+                Some(keyword) => Some(keyword),
+                None => Keyword::of_second(line),
+            },
+        }
+    }
+
+    /// The keyword of both versions that a line begins with, if it is one.
     #[tactic(auto, unfolding(text_tables::specs::Rows::keyword_in))]
-    pub fn of_line(line: &[u8]) -> Option<Keyword>
+    fn of_both(line: &[u8]) -> Option<Keyword>
         ensures { result ≡ keyword_in row_of keywords (words line.now) }
     {
         let word = word_in(line, 0);
         KEYWORDS
+            .iter()
+            .copied()
+            .find(|keyword| word == keyword.row().word)
+    }
+
+    /// The keyword of the second version alone that a line begins with, if it is one.
+    #[tactic(auto, unfolding(text_tables::specs::Rows::keyword_in))]
+    fn of_second(line: &[u8]) -> Option<Keyword>
+        ensures { result ≡ keyword_in row_of later_keywords (words line.now) }
+    {
+        let word = word_in(line, 0);
+        LATER_KEYWORDS
             .iter()
             .copied()
             .find(|keyword| word == keyword.row().word)

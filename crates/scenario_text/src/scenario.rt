@@ -1,5 +1,5 @@
-//! Reading a scenario, line by line: its header, its settings, the line `events`, its events, the
-//! line `end`. After the header an empty line and one that begins with `#` are passed over.
+//! Reading a scenario, line by line: the header of its version, its settings, the line `events`, its events,
+//! the line `end`. After the header an empty line and one that begins with `#` are passed over.
 
 ghost use Rattle.std.specs.Prelude.{◌≡◌, false, IfOk, OnErr, Ok};
 ghost use Rattle.scenario_text.specs.Reading.{no_settings, answered, read_words, taken, fault_of_entry, is_missing, may_stand, setup_of, finish_of, HasSetup};
@@ -12,6 +12,7 @@ ghost use Rattle.scenario_text.specs.Valid.{IsValidTold, IsValidSetup};
 use crate::entry::{Entry, read_entry};
 use crate::keyword::Keyword;
 use crate::settings::Settings;
+use crate::version::Version;
 use eap_base::{Event, Setup};
 use std::marker::Model;
 use text_tables::{LineFault, is_comment, is_printable_line};
@@ -111,12 +112,15 @@ impl ScenarioReader {
         ensures ready { IfOk result (λ item. HasSetup item self.new) }
         ensures unchanged { OnErr result (self.new ≡ self.old) }
     {
-        if line != b"eap-scenario 1".as_slice() {
-            return Err(LineFault::NoHeader);
+        match Version::of_header(line) {
+            None => Err(LineFault::NoHeader),
+            Some(version) => {
+                self.phase = Phase::Settings;
+                self.settings = Settings::new();
+                self.settings.version = version;
+                Ok(Item::Nothing)
+            }
         }
-        self.phase = Phase::Settings;
-        self.settings = Settings::new();
-        Ok(Item::Nothing)
     }
 
     /// Reads a line after the first.
@@ -131,7 +135,7 @@ impl ScenarioReader {
         if !is_printable_line(line) {
             return Err(LineFault::BadWord);
         }
-        match Keyword::of_line(line) {
+        match Keyword::of_line(self.settings.version, line) {
             None => Err(LineFault::BadWord),
             Some(keyword) => self.read_words(keyword, line, event),
         }

@@ -3,20 +3,32 @@
 ghost use Rattle.std.specs.Prelude.{◌≡◌, ◌∷◌, [], unwrap_or, is_err};
 ghost use Rattle.eap_base.specs.declared.event.Event.{Event};
 ghost use Rattle.scenario_text.specs.Contents.{entry_with};
-ghost use Rattle.scenario_text.specs.Reading.{no_settings, has_setting, with_setting, both_suites, key_for};
-ghost use Rattle.scenario_text.specs.Reading.{peer_setup_of, server_setup_of, setup_of, is_crowded, came_before, is_missing};
+ghost use Rattle.scenario_text.specs.Reading.{no_settings, is_full, with_later, with_nonce, has_setting, with_setting, both_suites, key_for};
+ghost use Rattle.scenario_text.specs.Reading.{later_nonces, later_of, peer_setup_of, server_setup_of, setup_of, is_crowded, came_before, is_missing};
 
 use crate::entry::{Entry, Setting};
 use crate::keyword::Keyword;
+use crate::version::Version;
 use eap_base::{
-    Accepts, GPSK_KIND, Identity, Kinds, Later, Mode, Nonce, PSK_KIND, PeerSetup, Secret,
+    Accepts, GPSK_KIND, Identity, Kinds, Later, Mode, Nonce, Nonces, PSK_KIND, PeerSetup, Secret,
     ServerSetup, Setup, Suites, Users, is_among,
 };
 use text_tables::{LineFault, add_user};
 
+/// The nonces of an end that have come, at most 16.
+#[derive(Drop)]
+pub struct GivenNonces {
+    /// The nonce of its first conversation.
+    pub first: Nonce,
+    /// Those of its later conversations, in their order.
+    pub later: Nonces,
+}
+
 /// The settings so far; each is None until it has come.
 #[derive(Drop)]
 pub struct Settings {
+    /// The version of the text.
+    pub version: Version,
     pub mode: Option<Mode>,
     pub first_id: Option<u8>,
     pub max_retrans: Option<u8>,
@@ -26,11 +38,13 @@ pub struct Settings {
     pub peer_suites: Option<Suites>,
     pub peer_psk47: Option<Secret>,
     pub peer_psk51: Option<Secret>,
-    pub peer_nonce: Option<Nonce>,
+    pub peer_nonces: Option<GivenNonces>,
+    pub peer_expanded: Option<bool>,
     pub server_name: Option<Identity>,
     pub server_methods: Option<Kinds>,
     pub server_suites: Option<Suites>,
-    pub server_nonce: Option<Nonce>,
+    pub server_nonces: Option<GivenNonces>,
+    pub server_expanded: Option<bool>,
     pub users: Users,
 }
 
@@ -40,6 +54,7 @@ impl Settings {
         ensures { result ≡ no_settings }
     {
         Settings {
+            version: Version::First,
             mode: None,
             first_id: None,
             max_retrans: None,
@@ -49,21 +64,25 @@ impl Settings {
             peer_suites: None,
             peer_psk47: None,
             peer_psk51: None,
-            peer_nonce: None,
+            peer_nonces: None,
+            peer_expanded: None,
             server_name: None,
             server_methods: None,
             server_suites: None,
-            server_nonce: None,
+            server_nonces: None,
+            server_expanded: None,
             users: Users::new(),
         }
     }
 
-    /// True where the line gives a user and 16 are there.
+    /// True where the line gives a user and 16 are there, or in the second version a nonce of an end that has 16.
     pub fn is_crowded(&self, keyword: Keyword) -> bool
         ensures { result ≡ is_crowded self.now keyword }
     {
         match keyword {
             Keyword::User => self.users.as_slice().len() >= 16,
+            Keyword::PeerNonce => self.version.has_later() && is_full(&self.peer_nonces),
+            Keyword::ServerNonce => self.version.has_later() && is_full(&self.server_nonces),
             _ => false,
         }
     }
@@ -96,7 +115,7 @@ impl Settings {
     }
 
     /// True where the setting has come before.
-    fn has(&self, setting: &Setting) -> bool
+    pub fn has(&self, setting: &Setting) -> bool
         ensures { result ≡ has_setting self.now setting.now }
     {
         match setting {
@@ -109,12 +128,14 @@ impl Settings {
             Setting::PeerSuites(_) => self.peer_suites.is_some(),
             Setting::PeerPsk47(_) => self.peer_psk47.is_some(),
             Setting::PeerPsk51(_) => self.peer_psk51.is_some(),
-            Setting::PeerNonce(_) => self.peer_nonce.is_some(),
+            Setting::PeerNonce(_) => !self.version.has_later() && self.peer_nonces.is_some(),
             Setting::ServerName(_) => self.server_name.is_some(),
             Setting::ServerMethods(_) => self.server_methods.is_some(),
             Setting::ServerSuites(_) => self.server_suites.is_some(),
-            Setting::ServerNonce(_) => self.server_nonce.is_some(),
+            Setting::ServerNonce(_) => { !self.version.has_later() && self.server_nonces.is_some() }
             Setting::User(user) => self.users.find(user.name.as_slice(), user.kind).is_some(),
+            Setting::PeerExpanded(_) => self.peer_expanded.is_some(),
+            Setting::ServerExpanded(_) => self.server_expanded.is_some(),
         }
     }
 
@@ -132,12 +153,14 @@ impl Settings {
             Setting::PeerSuites(suites) => self.peer_suites = Some(suites),
             Setting::PeerPsk47(key) => self.peer_psk47 = Some(key),
             Setting::PeerPsk51(key) => self.peer_psk51 = Some(key),
-            Setting::PeerNonce(nonce) => self.peer_nonce = Some(nonce),
+            Setting::PeerNonce(nonce) => add_nonce(self.version, &mut self.peer_nonces, nonce),
             Setting::ServerName(name) => self.server_name = Some(name),
             Setting::ServerMethods(kinds) => self.server_methods = Some(kinds),
             Setting::ServerSuites(suites) => self.server_suites = Some(suites),
-            Setting::ServerNonce(nonce) => self.server_nonce = Some(nonce),
+            Setting::ServerNonce(nonce) => add_nonce(self.version, &mut self.server_nonces, nonce),
             Setting::User(user) => add_user(&mut self.users, user),
+            Setting::PeerExpanded(expanded) => self.peer_expanded = Some(expanded),
+            Setting::ServerExpanded(expanded) => self.server_expanded = Some(expanded),
         }
     }
 
@@ -155,19 +178,30 @@ impl Settings {
             max_retrans: self.max_retrans.unwrap_or(4),
             peer,
             server,
-            later: Later::none(),
+            later: self.later(),
         })
     }
 
-    /// The settings of the peer, or `Missing`.
+    /// What is told of later conversations.
+    fn later(&self) -> Later
+        ensures { result ≡ later_of self.now }
+    {
+        Later {
+            version: self.version.number(),
+            peer: later_nonces(&self.peer_nonces),
+            server: later_nonces(&self.server_nonces),
+        }
+    }
+
+    /// The settings of the peer, or `Missing` where one that it needs has not come.
     #[tactic(auto, unfolding(crate::specs::Reading::peer_setup_of))]
-    fn peer(&self) -> Result<PeerSetup, LineFault>
+    pub fn peer(&self) -> Result<PeerSetup, LineFault>
         ensures { result ≡ peer_setup_of self.now }
     {
         let name = self.peer_name.as_ref().ok_or(LineFault::Missing)?;
         let accepts = self.peer_server.as_ref().ok_or(LineFault::Missing)?;
         let methods = self.peer_methods.as_ref().ok_or(LineFault::Missing)?;
-        let nonce = self.peer_nonce.ok_or(LineFault::Missing)?;
+        let nonces = self.peer_nonces.as_ref().ok_or(LineFault::Missing)?;
         let psk47 = key_for(methods, PSK_KIND, &self.peer_psk47)?;
         let psk51 = key_for(methods, GPSK_KIND, &self.peer_psk51)?;
         Ok(PeerSetup {
@@ -177,27 +211,78 @@ impl Settings {
             suites: suites_or_both(&self.peer_suites),
             psk47,
             psk51,
-            nonce,
-            expanded: false,
+            nonce: nonces.first,
+            expanded: self.peer_expanded.unwrap_or(false),
         })
     }
 
-    /// The settings of the server, or `Missing`.
+    /// The settings of the server, or `Missing` where one that it needs has not come.
     #[tactic(auto, unfolding(crate::specs::Reading::server_setup_of))]
-    fn server(&self) -> Result<ServerSetup, LineFault>
+    pub fn server(&self) -> Result<ServerSetup, LineFault>
         ensures { result ≡ server_setup_of self.now }
     {
         let name = self.server_name.as_ref().ok_or(LineFault::Missing)?;
         let methods = self.server_methods.as_ref().ok_or(LineFault::Missing)?;
-        let nonce = self.server_nonce.ok_or(LineFault::Missing)?;
+        let nonces = self.server_nonces.as_ref().ok_or(LineFault::Missing)?;
         Ok(ServerSetup {
             name: name.copy(),
             methods: methods.copy(),
             suites: suites_or_both(&self.server_suites),
             users: self.users.copy(),
-            nonce,
-            expanded: false,
+            nonce: nonces.first,
+            expanded: self.server_expanded.unwrap_or(false),
         })
+    }
+}
+
+/// True where 16 nonces have come.
+fn is_full(slot: &Option<GivenNonces>) -> bool
+    ensures { result ≡ is_full slot.now }
+{
+    match slot {
+        None => false,
+        Some(given) => given.later.as_slice().len() >= 15,
+    }
+}
+
+/// Adds a nonce, the first or a later one, unless there are as many as the version has.
+fn add_nonce(version: Version, slot: &mut Option<GivenNonces>, nonce: Nonce)
+    ensures { slot.new ≡ with_nonce version slot.old nonce }
+{
+    match slot {
+        None => *slot = Some(only(nonce)),
+        Some(given) => add_later(version, &mut given.later, nonce),
+    }
+}
+
+/// A first nonce alone.
+fn only(nonce: Nonce) -> GivenNonces
+    ensures first { result.first ≡ nonce }
+    ensures later { result.later ≡ [] }
+{
+    GivenNonces {
+        first: nonce,
+        later: Nonces::new(),
+    }
+}
+
+/// Adds a nonce of a later conversation, unless there are as many as the version has.
+#[tactic(auto, unfolding(crate::specs::Reading::with_later))]
+fn add_later(version: Version, later: &mut Nonces, nonce: Nonce)
+    ensures { later.new ≡ with_later version later.old nonce }
+{
+    if later.as_slice().len() < version.most_later() {
+        later.push(nonce);
+    }
+}
+
+/// The nonces of later conversations.
+fn later_nonces(slot: &Option<GivenNonces>) -> Nonces
+    ensures { result ≡ later_nonces slot.now }
+{
+    match slot {
+        None => Nonces::new(),
+        Some(given) => given.later.copy(),
     }
 }
 

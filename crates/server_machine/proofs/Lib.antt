@@ -8,7 +8,9 @@ pub mod Proposed
 pub mod Responses
 -- An offer and a turn of a method, settled in the variables, are the server's rows.
 pub mod Settling
--- A server that has started never stands in INITIALIZE again, and its role stays.
+-- No input changes the role, and a server to which octets may come stays one.
 pub mod Starting
+-- The settings with another nonce are sound.
+pub mod Restarting
 -- The readiness and the timer of a server that was made, and of one that has started, from the definitions alone.
 mod Worked

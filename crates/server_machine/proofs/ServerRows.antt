@@ -11,8 +11,8 @@ use Rattle.eap_method.specs.ServerTurn.{ServerTurn}
 use Rattle.eap_method.specs.ServerTurn as turn
 use Rattle.eap_method.specs.Server.{ServerViews}
 use Rattle.eap_method.specs.Steps.{is_end}
-use Rattle.server_machine.specs.Inputs.{start, timeout, octets}
-use Rattle.server_machine.specs.Rows.{outside, received, no_packet, no_response, other_id, other_method, by_method, Hears, Selects, after_identity, after_nak, first_identity, first_nak, first_other, Proposes, Turns, ServerRow, ended, rests, goes_on, drops, starts, resends, times_out, proposes, proposes_without, proposes_none, requests, succeeds, method_fails, ServerAnswersAreRows}
+use Rattle.server_machine.specs.Inputs.{start, timeout, octets, restart}
+use Rattle.server_machine.specs.Rows.{outside, received, no_packet, no_response, other_id, other_method, by_method, Hears, Selects, after_identity, after_nak, first_identity, first_nak, first_other, Proposes, Turns, ServerRow, ended, rests, goes_on, drops, starts, begins, resends, times_out, proposes, proposes_without, proposes_none, requests, succeeds, method_fails, ServerAnswersAreRows}
 use Rattle.server_machine.specs.ServerTable as table
 use Rattle.server_machine.specs.ServerTable.{ServerNow, ServerAnswer, identity, nak, offers, select_action, method_answers, server_method, is_awaited, is_proposed, is_started, awaits_first, current_response, first_response, pick_up, server_row, server_start, server_deliver, server_timeout}
 use Rattle.server_machine.specs.declared.variables.ServerVariables.{ServerVariables}
@@ -114,3 +114,4 @@ server_answers_are_rows now start =
 server_answers_are_rows now timeout =
     cond_both (is_end now.vars.state) _ _ (ServerRow now timeout) (λ over. rests over) (λ going. timeout-row now going)
 server_answers_are_rows now (octets bytes) = octets-row now bytes
+server_answers_are_rows now (restart nonce) = begins nonce

@@ -1,18 +1,35 @@
--- A server that has started never stands in INITIALIZE again, and its role stays.
+-- No input changes the role, and a server to which octets may come stays one.
 use Rattle.std.proofs.Common.{◌≡◌, ℕ, List, Bool, true, false, ◌&&◌, ◌||◌, not, Option, refl, sym, ap, ◌∙◌}
+use Rattle.std.proofs.lemmas.Bool.{cond_both, or_left, or_right}
 use Rattle.eap_packet.specs.declared.state.State.{State}
 use Rattle.eap_method.specs.Server.{ServerViews}
 use Rattle.eap_method.specs.Steps.{Step, is_end}
 use Rattle.server_machine.specs.Inputs.{ServerInput, server_takes}
 use Rattle.server_machine.specs.Inputs as inputs
-use Rattle.server_machine.specs.Laws.{StaysStarted, StartsOnce}
+use Rattle.server_machine.specs.Laws.{StaysReady, StaysAsItIs}
 use Rattle.server_machine.specs.Rows.{Selects, after_identity, after_nak, first_identity, first_nak, first_other, ServerRow, ended, rests}
-use Rattle.server_machine.specs.Rows.{goes_on, drops, starts, resends, times_out, proposes, proposes_without, proposes_none, requests}
+use Rattle.server_machine.specs.Rows.{goes_on, drops, starts, resends, times_out, proposes, proposes_without, proposes_none, requests, begins}
 use Rattle.server_machine.specs.Rows.{succeeds, method_fails}
-use Rattle.server_machine.specs.ServerTable.{ServerNow, ServerAnswer, answer, has_timer, is_backend, is_ready, is_started, server_deliver}
+use Rattle.server_machine.specs.ServerTable.{ServerNow, ServerAnswer, answer, has_timer, is_backend, is_ready, is_started, server_deliver, server_restart, server_start}
 use Rattle.server_machine.specs.declared.variables.Role.TheVariants.{Backend, StandAlone}
 use Rattle.server_machine.specs.declared.variables.ServerVariables.{ServerVariables}
 use Rattle.server_machine.proofs.ServerRows.{server_answers_are_rows}
+
+-- the role is the same, and a server that has started doesn't stand in INITIALIZE again
+record StaysStarted (before after : ServerVariables) : Type 0 where
+  pub role : after.role ≡ before.role
+  pub started : is_started before ≡ true → is_started after ≡ true
+
+-- a server that may hear still may
+or-step : (backend before after : Bool) → (before ≡ true → after ≡ true) → (backend || before) ≡ true → (backend || after) ≡ true
+or-step true before after step is = refl
+or-step false before after step is = step is
+
+still_ready : (before after : ServerVariables) → StaysStarted before after → StaysReady before after
+still_ready before after same = record {
+  role = same.role;
+  ready = λ is. (rw same.role (or-step (is_backend before) (is_started before) (is_started after) same.started is));
+}
 
 stays : (vars : ServerVariables) → StaysStarted vars vars
 stays vars = record { role = refl; started = λ was. was }
@@ -25,36 +42,44 @@ selects-stays now id kind body _ _ _ (first_identity awaited is_identity) = reco
 selects-stays now id kind body _ _ _ (first_nak awaited is_nak) = record { role = refl; started = λ was. refl }
 selects-stays now id kind body _ _ _ (first_other awaited no_nak no_identity) = record { role = refl; started = λ was. refl }
 
-row-stays : (now : ServerNow) (input : ServerInput) (out : ServerAnswer) → ServerRow now input out → StaysStarted now.vars out.after.vars
-row-stays now _ _ (ended bytes over) = stays now.vars
-row-stays now _ _ (rests over) = stays now.vars
-row-stays now _ _ (goes_on is_begun) = stays now.vars
-row-stays now _ _ (drops bytes path c going why) = stays now.vars
-row-stays now _ _ (starts unstarted) = record { role = refl; started = λ was. refl }
-row-stays now _ _ (resends going in_time) = record { role = refl; started = λ was. was }
-row-stays now _ _ (times_out going late) = record { role = refl; started = λ was. refl }
-row-stays now _ _ (proposes bytes id kind body entered vars desired next packet views heard selects next_is) =
+-- the rows of a conversation
+row-stays : (now : ServerNow) (input : ServerInput) (out : ServerAnswer) → ServerRow now input out → ((nonce : List ℕ) → input ≡ inputs.restart nonce → ⊥)
+    → StaysStarted now.vars out.after.vars
+row-stays now _ _ (ended bytes over) same = stays now.vars
+row-stays now _ _ (rests over) same = stays now.vars
+row-stays now _ _ (goes_on is_begun) same = stays now.vars
+row-stays now _ _ (drops bytes path c going why) same = stays now.vars
+row-stays now _ _ (starts unstarted) same = record { role = refl; started = λ was. refl }
+row-stays now _ _ (resends going in_time) same = record { role = refl; started = λ was. was }
+row-stays now _ _ (times_out going late) same = record { role = refl; started = λ was. refl }
+row-stays now _ _ (proposes bytes id kind body entered vars desired next packet views heard selects next_is) same =
     let before = selects-stays now id kind body entered vars desired selects in
     record { role = before.role; started = before.started }
-row-stays now _ _ (proposes_without bytes id kind body entered vars desired next views heard selects next_is) =
+row-stays now _ _ (proposes_without bytes id kind body entered vars desired next views heard selects next_is) same =
     record { role = (selects-stays now id kind body entered vars desired selects).role; started = λ was. refl }
-row-stays now _ _ (proposes_none bytes id kind body entered vars desired heard selects none) =
+row-stays now _ _ (proposes_none bytes id kind body entered vars desired heard selects none) same =
     record { role = (selects-stays now id kind body entered vars desired selects).role; started = λ was. refl }
-row-stays now _ _ (requests bytes id kind body packet tags views heard turned) = record { role = refl; started = λ was. was }
-row-stays now _ _ (succeeds bytes id kind body tags views heard turned) = record { role = refl; started = λ was. refl }
-row-stays now _ _ (method_fails bytes id kind body tags views heard turned) = record { role = refl; started = λ was. refl }
+row-stays now _ _ (requests bytes id kind body packet tags views heard turned) same = record { role = refl; started = λ was. was }
+row-stays now _ _ (succeeds bytes id kind body tags views heard turned) same = record { role = refl; started = λ was. refl }
+row-stays now _ _ (method_fails bytes id kind body tags views heard turned) same = record { role = refl; started = λ was. refl }
+row-stays now _ _ (begins nonce) same = absurd (same nonce refl)
 
-pub starts_once : StartsOnce
-starts_once now input = row-stays now input (server_takes now input) (server_answers_are_rows now input)
+-- a new one: a backend is ready from the first, and a stand-alone server has started
+again_ready : (now : ServerNow) (nonce : List ℕ) → StaysReady now.vars (server_restart now nonce).after.vars
+unfolding server_restart server_start
+again_ready now nonce =
+    cond_both (is_backend now.vars) _ _ (λ (out : ServerAnswer). StaysReady now.vars out.after.vars)
+    (λ backend. record { role = refl; ready = λ _. or_left (is_backend now.vars) false backend })
+    (λ _. record { role = refl; ready = λ _. or_right (is_backend now.vars) true refl })
 
--- a server that may hear still may
-or-step : (backend before after : Bool) → (before ≡ true → after ≡ true) → (backend || before) ≡ true → (backend || after) ≡ true
-or-step true before after step is = refl
-or-step false before after step is = step is
+of_conversation : (now : ServerNow) (input : ServerInput) → ((nonce : List ℕ) → input ≡ inputs.restart nonce → ⊥) → StaysReady now.vars (server_takes now input).after.vars
+of_conversation now input same = still_ready now.vars (server_takes now input).after.vars (row-stays now input (server_takes now input) (server_answers_are_rows now input) same)
 
-pub stays_ready : (before after : ServerVariables) → StaysStarted before after → is_ready before ≡ true → is_ready after ≡ true
-stays_ready before after same is =
-    rw same.role (or-step (is_backend before) (is_started before) (is_started after) same.started is)
+pub stays_as_it_is : StaysAsItIs
+stays_as_it_is now inputs.start = of_conversation now inputs.start (λ nonce e. cc e)
+stays_as_it_is now inputs.timeout = of_conversation now inputs.timeout (λ nonce e. cc e)
+stays_as_it_is now (inputs.octets bytes) = of_conversation now (inputs.octets bytes) (λ nonce e. cc e)
+stays_as_it_is now (inputs.restart nonce) = again_ready now nonce
 
 -- a backend is ready from the first, and stays one
 pub backend_is_ready : (vars : ServerVariables) → vars.role ≡ Backend → is_ready vars ≡ true
@@ -64,7 +89,7 @@ pub backend_stays : (before after : ServerVariables) (shown views : ServerViews)
     → server_deliver (record { vars = before; views = shown }) octets ≡ answer step (record { vars = after; views = views })
     → before.role ≡ Backend → after.role ≡ Backend
 backend_stays before after shown views octets step delivered is =
-    let same = starts_once (record { vars = before; views = shown }) (inputs.octets octets) in
+    let same = stays_as_it_is (record { vars = before; views = shown }) (inputs.octets octets) in
     ap (λ (out : ServerAnswer). out.after.vars.role) (sym delivered) ∙ (same.role ∙ is)
 
 -- the retransmission timer of a stand-alone server that has started and has not ended

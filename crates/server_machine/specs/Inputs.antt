@@ -3,13 +3,15 @@
 use Rattle.std.specs.Prelude.{ℕ, List, [], if◌then◌else◌}
 use Rattle.eap_method.specs.Steps.{enters, is_end}
 use Rattle.eap_method.specs.Tags.{no_tags}
-use Rattle.server_machine.specs.ServerTable.{ServerNow, ServerAnswer, answer, is_started, server_start, server_deliver, server_timeout}
+use Rattle.server_machine.specs.ServerTable.{ServerNow, ServerAnswer, answer, is_started, server_restart, server_start, server_deliver, server_timeout}
 
 -- the start, the end of the retransmission timer, or octets from the peer
 pub data ServerInput : Type 0 where
   start : ServerInput
   timeout : ServerInput
   octets : List ℕ → ServerInput
+  -- the server begins a new conversation with this nonce
+  restart : List ℕ → ServerInput
 
 abbrev pub server_rests : ServerNow → ServerAnswer
 server_rests now = answer (enters [] no_tags) now
@@ -19,3 +21,4 @@ abbrev pub server_takes : ServerNow → ServerInput → ServerAnswer
 server_takes now start = if is_started now.vars then server_rests now else server_start now
 server_takes now timeout = if is_end now.vars.state then server_rests now else server_timeout now
 server_takes now (octets bytes) = server_deliver now bytes
+server_takes now (restart nonce) = server_restart now nonce

@@ -2,7 +2,7 @@
 use Rattle.std.specs.Prelude.{◌≡◌, None, IsSome, true}
 use Rattle.eap_method.specs.Tags.{no_tags}
 use Rattle.server_machine.specs.Inputs.{ServerInput, server_takes}
-use Rattle.server_machine.specs.ServerTable.{ServerNow, ServerAnswer, is_started}
+use Rattle.server_machine.specs.ServerTable.{ServerNow, ServerAnswer, is_ready}
 use Rattle.server_machine.specs.declared.variables.ServerVariables.{ServerVariables}
 
 -- no variable and no view of a method changed, nothing was sent, and no tag was accepted or made
@@ -16,11 +16,11 @@ abbrev pub DiscardsKeep : Type 0
 DiscardsKeep =
     (now : ServerNow) (input : ServerInput) → IsSome (server_takes now input).step.cause → KeepsTheServer now (server_takes now input)
 
--- the role is the same, and a server that has started doesn't stand in INITIALIZE again
-pub record StaysStarted (before after : ServerVariables) : Type 0 where
+-- the role is the same, and a server to which octets may come is one afterwards
+pub record StaysReady (before after : ServerVariables) : Type 0 where
   pub role : after.role ≡ before.role
-  pub started : is_started before ≡ true → is_started after ≡ true
+  pub ready : is_ready before ≡ true → is_ready after ≡ true
 
--- every input leaves the role, and no input leads back to INITIALIZE
-abbrev pub StartsOnce : Type 0
-StartsOnce = (now : ServerNow) (input : ServerInput) → StaysStarted now.vars (server_takes now input).after.vars
+-- every input leaves the role and the readiness
+abbrev pub StaysAsItIs : Type 0
+StaysAsItIs = (now : ServerNow) (input : ServerInput) → StaysReady now.vars (server_takes now input).after.vars

@@ -13,8 +13,8 @@ use Rattle.eap_method.specs.ServerTurn as turn
 use Rattle.eap_method.specs.Server.{ServerViews, Offer, side_of, server_offer, server_turn}
 use Rattle.eap_method.specs.Steps.{sends, enters, discards, is_end}
 use Rattle.eap_method.specs.Tags.{no_tags}
-use Rattle.server_machine.specs.Inputs.{ServerInput, start, timeout, octets, server_rests, server_takes}
-use Rattle.server_machine.specs.ServerTable.{ServerNow, ServerAnswer, answer, identity, nak, next_id, identity_request, success_packet, failure_packet, before_proposal, is_awaited, is_proposed, is_started, awaits_first, picked_up}
+use Rattle.server_machine.specs.Inputs.{ServerInput, start, timeout, octets, restart, server_rests, server_takes}
+use Rattle.server_machine.specs.ServerTable.{ServerNow, ServerAnswer, answer, identity, nak, next_id, identity_request, success_packet, failure_packet, before_proposal, is_awaited, is_proposed, is_started, awaits_first, picked_up, server_restart}
 use Rattle.server_machine.specs.declared.variables.Progress.TheVariants as progress
 use Rattle.server_machine.specs.declared.variables.Way.TheVariants as way
 use Rattle.server_machine.specs.declared.variables.ServerVariables.{ServerVariables}
@@ -106,6 +106,8 @@ pub data ServerRow (now : ServerNow) : ServerInput → ServerAnswer → Type 0 w
         };
         views = now.views;
       }))
+  -- a new conversation, wherever the server stood
+  begins : (nonce : List ℕ) → ServerRow now (restart nonce) (server_restart now nonce)
   -- RETRANSMIT, at most MaxRetrans times, and TIMEOUT_FAILURE
   resends : (going : is_end now.vars.state ≡ false) (in_time : nat_le (now.vars.retrans_count + 1) now.vars.max_retrans ≡ true)
       → ServerRow now timeout

@@ -261,6 +261,19 @@ awaits_first vars = is_backend vars && not (is_started vars)
 abbrev pub is_ready : ServerVariables → Bool
 is_ready vars = is_backend vars || is_started vars
 
+-- the settings with this nonce
+abbrev pub own_nonce : ServerSetup → List ℕ → ServerSetup
+own_nonce setup nonce = record setup { nonce = nonce }
+
+-- every variable and the view of each method as INITIALIZE sets it, with this nonce
+abbrev pub made_again : ServerNow → List ℕ → ServerNow
+made_again now nonce = server_made now.vars.role (own_nonce now.vars.setup nonce) now.vars.first_id now.vars.max_retrans
+
+-- a new conversation: a stand-alone server starts, and a backend waits for its first Response
+unfoldable pub server_restart : ServerNow → List ℕ → ServerAnswer
+server_restart now nonce =
+    if is_backend now.vars then answer (enters (state.Initialize ∷ []) no_tags) (made_again now nonce) else server_start (made_again now nonce)
+
 -- whether the retransmission timer may end: at a stand-alone server that has started and has not ended
 abbrev pub has_timer : ServerVariables → Bool
 has_timer vars = not (is_backend vars) && (is_started vars && not (is_end vars.state))

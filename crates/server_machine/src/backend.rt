@@ -1,16 +1,17 @@
 //! The backend of RFC 4137 section 6 over the objects of its methods.
 
-ghost use Rattle.std.specs.Prelude.{◌≡◌, map, true};
+ghost use Rattle.std.specs.Prelude.{◌≡◌, [], map, true};
 ghost use Rattle.eap_base.specs.Setup.{IsSoundServer};
 ghost use Rattle.eap_method.specs.Peer.{have_each};
 ghost use Rattle.eap_method.specs.Server.{server_kinds};
 ghost use Rattle.eap_method.specs.Steps.{is_end, step_with};
+ghost use Rattle.eap_method.specs.Tags.{no_tags};
 ghost use Rattle.eap_method.specs.Unnamed.{KeepsServers};
-ghost use Rattle.server_machine.specs.ServerTable.{answer, backend_made, now_of, server_deliver, server_reports};
+ghost use Rattle.server_machine.specs.ServerTable.{answer, backend_made, now_of, own_nonce, server_deliver, server_reports, server_restart};
 
 use crate::machine::ServerMachine;
 use crate::variables::Role;
-use eap_base::{Packet, ServerSetup};
+use eap_base::{Nonce, Packet, ServerSetup};
 use eap_method::{Report, ServerMethod, Step, Tags};
 use eap_packet::State;
 use std::marker::Model;
@@ -64,6 +65,21 @@ impl<M: ServerMethod> Backend<M> {
         self.machine.deliver(octets, packet, tags)
     }
 
+    /// Begins a new conversation with this nonce, wherever the backend stands: its variables and the objects of its methods
+    /// are as INITIALIZE sets them, no tag is accepted or made, and of the settings the nonce alone changes. It waits for its
+    /// first Response and sends nothing (RFC 4137 section 6.5). Each of its methods has an object.
+    #[tactic(auto, unfolding(crate::specs::ServerTable::server_restart))]
+    pub fn restart(&mut self, nonce: &Nonce) -> Step
+        requires objects { have_each (server_kinds (map M.server_shown self.old.methods)) self.old.vars.setup.methods ≡ true }
+        ensures step { server_restart (now_of M.server_shown self.old) nonce.now
+            ≡ answer (step_with result [] no_tags) (now_of M.server_shown self.new) }
+        ensures kept { KeepsServers self.old.vars.setup.methods (map M.server_shown self.old.methods) (map M.server_shown self.new.methods) }
+        ensures setup { self.new.vars.setup ≡ own_nonce self.old.vars.setup nonce.now }
+    {
+        self.machine.make_again(nonce);
+        Step::entering(&[State::Initialize])
+    }
+
     /// The state in which the backend stands: INITIALIZE before the first Response, then IDLE, SUCCESS or
     /// FAILURE.
     pub fn state(&self) -> State
@@ -84,6 +100,13 @@ impl<M: ServerMethod> Backend<M> {
         ensures { result ≡ server_reports (now_of M.server_shown self.now) }
     {
         self.machine.report()
+    }
+
+    /// Whether each method that the settings name has an object: the condition of [`restart`](Backend::restart).
+    pub fn has_objects(&self) -> bool
+        ensures { result ≡ have_each (server_kinds (map M.server_shown self.now.methods)) self.now.vars.setup.methods }
+    {
+        self.machine.has_objects()
     }
 
     /// The objects, in the order in which they were handed in, with the views that they have.

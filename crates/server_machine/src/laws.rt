@@ -1,6 +1,6 @@
 //! Laws of the server (RFC 4137 section 5). Each is the contract of a function that does nothing.
 
-ghost use Rattle.server_machine.specs.Laws.{DiscardsKeep, StartsOnce};
+ghost use Rattle.server_machine.specs.Laws.{DiscardsKeep, StaysAsItIs};
 ghost use Rattle.server_machine.specs.Rows.{ServerAnswersAreRows};
 
 /// An input that is discarded changes no variable and no method's view, sends nothing and makes no
@@ -16,9 +16,9 @@ pub fn answers_are_rows()
     ensures { ServerAnswersAreRows }
 {}
 
-/// Nothing that comes to the server changes its role, and a server that has started never stands in
-/// INITIALIZE again.
-#[tactic(auto, using(crate::proofs::Starting::starts_once))]
-pub fn starts_once()
-    ensures { StartsOnce }
+/// Nothing that comes to the server changes its role, and a server to which octets may come, which has started or is a
+/// backend, stays one: also where it begins a new conversation.
+#[tactic(auto, using(crate::proofs::Starting::stays_as_it_is))]
+pub fn stays_as_it_is()
+    ensures { StaysAsItIs }
 {}

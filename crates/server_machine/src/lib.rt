@@ -8,7 +8,7 @@ mod machine;
 mod variables;
 
 pub use backend::Backend;
-pub use laws::{answers_are_rows, discards_keep, starts_once};
+pub use laws::{answers_are_rows, discards_keep, stays_as_it_is};
 pub use machine::ServerMachine;
 pub use variables::{Progress, Role, ServerVariables, Way};
 

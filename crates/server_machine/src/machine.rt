@@ -16,7 +16,7 @@ ghost use Rattle.server_machine.specs.declared.variables.Way.TheVariants.{AfterR
 ghost use Rattle.server_machine.specs.ServerTable.{answer, before_proposal, identity_request, next_id, with_request, ends_well, ends_badly, offers, method_answers, settled, awaits_first, AreInOrder, is_current};
 
 use crate::variables::{Progress, Role, ServerVariables, Way};
-use eap_base::{Kinds, Packet, ServerSetup};
+use eap_base::{Kinds, Nonce, Packet, ServerSetup};
 use eap_method::{
     Report, ServerMethod, ServerSide, ServerTurn, Step, Tags, begin_servers, hand_to_server,
     has_ended, offer_method, server_report,
@@ -51,8 +51,8 @@ const SUCCEEDING: [State; 5] = [
 
 /// The server of RFC 4137, stand-alone (section 5) or, for a world with a pass-through, in the role of the
 /// backend (section 6): its variables, and the objects of its methods. Contracts see both; what an object
-/// shows is its ghost member `server_shown`. No call changes the settings, nor the view of an object whose method
-/// they don't name. [`Backend`](crate::Backend) is the backend by itself.
+/// shows is its ghost member `server_shown`. No call changes the settings but [`restart`](ServerMachine::restart) their nonce,
+/// nor the view of an object whose method they don't name. [`Backend`](crate::Backend) is the backend by itself.
 #[derive(Drop)]
 pub struct ServerMachine<M> {
     vars: ServerVariables,
@@ -71,7 +71,7 @@ impl<M> Model for ServerMachine<M> {
 
 impl<M: ServerMethod> ServerMachine<M> {
     ghost use Rattle.eap_method.specs.Steps.{is_end};
-    ghost use Rattle.server_machine.specs.ServerTable.{ServerAnswer, now_of, server_made, server_start, server_deliver, server_timeout, server_reports, is_started, server_row, select_action, server_method, current_response};
+    ghost use Rattle.server_machine.specs.ServerTable.{ServerAnswer, now_of, made_again, own_nonce, server_made, server_restart, server_start, server_deliver, server_timeout, server_reports, is_started, server_row, select_action, server_method, current_response};
     ghost use Rattle.server_machine.specs.ServerTable.{first_response, has_timer, is_backend, is_ready, pick_up};
     ghost use Rattle.server_machine.specs.declared.variables.Role.TheVariants.{StandAlone};
 
@@ -154,6 +154,44 @@ impl<M: ServerMethod> ServerMachine<M> {
             State::Idle,
         ];
         Step::sending(&states)
+    }
+
+    /// Begins a new conversation with this nonce, wherever the server stands: its variables and the objects of its
+    /// methods are as INITIALIZE sets them, no tag is accepted or made, and of the settings the nonce alone changes. A
+    /// stand-alone server then asks for the identity again, with the first Identifier, in `packet` (RFC 4137 section 5.5); a
+    /// backend waits for its first Response and sends nothing (section 6.5). Each of its methods has an object.
+    #[tactic(auto, unfolding(crate::specs::ServerTable::server_restart))]
+    pub fn restart(&mut self, nonce: &Nonce, packet: &mut Packet) -> Step
+        requires objects { have_each (server_kinds (map M.server_shown self.old.methods)) self.old.vars.setup.methods ≡ true }
+        ensures step { server_restart (now_of M.server_shown self.old) nonce.now ≡ answer (step_with result packet.new no_tags) (now_of M.server_shown self.new) }
+        ensures kept { KeepsServers self.old.vars.setup.methods (map M.server_shown self.old.methods) (map M.server_shown self.new.methods) }
+        ensures setup { self.new.vars.setup ≡ own_nonce self.old.vars.setup nonce.now }
+    {
+        self.make_again(nonce);
+        match self.vars.role {
+            Role::Backend => Step::entering(&[State::Initialize]),
+            Role::StandAlone => self.start(packet),
+        }
+    }
+
+    /// Sets the variables and begins the objects as INITIALIZE does, with this nonce. Each of the methods has an object.
+    #[tactic(auto, using(crate::proofs::Restarting::still_sound))]
+    pub(crate) fn make_again(&mut self, nonce: &Nonce)
+        requires objects { have_each (server_kinds (map M.server_shown self.old.methods)) self.old.vars.setup.methods ≡ true }
+        ensures made { made_again (now_of M.server_shown self.old) nonce.now ≡ now_of M.server_shown self.new }
+        ensures kept { KeepsServers self.old.vars.setup.methods (map M.server_shown self.old.methods) (map M.server_shown self.new.methods) }
+        ensures setup { self.new.vars.setup ≡ own_nonce self.old.vars.setup nonce.now }
+        ensures role { self.new.vars.role ≡ self.old.vars.role }
+    {
+        self.vars.setup.nonce = *nonce;
+        begin_servers(self.methods.as_mut_slice(), &self.vars.setup);
+        self.vars.state = State::Initialize;
+        self.vars.current_id = None;
+        self.vars.current = None;
+        self.vars.progress = Progress::Continue;
+        self.vars.retrans_count = 0;
+        self.vars.last_request.clear();
+        self.vars.proposed.clear();
     }
 
     /// Octets come from the peer, to a server that is [ready](ServerMachine::ready). The packet that they
@@ -279,6 +317,13 @@ impl<M: ServerMethod> ServerMachine<M> {
                 }
             }
         }
+    }
+
+    /// Whether each method that the settings name has an object: the condition of [`restart`](ServerMachine::restart).
+    pub fn has_objects(&self) -> bool
+        ensures { result ≡ have_each (server_kinds (map M.server_shown self.now.methods)) self.now.vars.setup.methods }
+    {
+        has_each(self.methods.as_slice(), self.vars.setup.methods.as_slice())
     }
 
     /// The objects, in the order in which they were handed in, with the views that they have.
@@ -700,5 +745,22 @@ fn end_method(vars: &mut ServerVariables, id: u8, success: bool, packet: &mut Pa
         vars.state = State::Failure;
         write_end(packet, Code::Failure, id);
         Step::sending(&FAILING)
+    }
+}
+
+/// Whether there is an object of each of these Types.
+fn has_each<M: ServerMethod>(methods: &[M], kinds: &[u8]) -> bool
+    ensures { result ≡ have_each (server_kinds (map M.server_shown methods.now)) kinds.now }
+{
+    kinds.iter().all(|kind| has_object(methods, *kind))
+}
+
+/// Whether there is an object of this Type.
+fn has_object<M: ServerMethod>(methods: &[M], kind: u8) -> bool
+    ensures { result ≡ is_among (server_kinds (map M.server_shown methods.now)) kind }
+{
+    match methods.split_first() {
+        None => false,
+        Some((first, rest)) => first.kind() == kind || has_object(rest, kind),
     }
 }

@@ -24,13 +24,15 @@ use Rattle.pass_through.specs.PassTable as passes
 use Rattle.pass_through.specs.PassTable.{PassAnswer, pass_from_peer, pass_from_backend}
 use Rattle.pass_through.specs.declared.variables.PassVariables.{PassVariables}
 use Rattle.eap_world.specs.Book.{first_broken}
+use Rattle.eap_world.specs.Conversations.{Conversations}
 use Rattle.eap_world.specs.Judgement.{is_success}
 use Rattle.eap_world.specs.Sent.{Sent, packet_numbered}
 use Rattle.eap_world.specs.World.{WorldNow, Parties, Acted, Called, acted, act, call_at, call_with, called, called_unless, did_by, did_pass, first_skip}
-use Rattle.eap_world.specs.World.{goes_to, is_absent, octets_of, packet_skips, run_after, skipped, world_step}
+use Rattle.eap_world.specs.World.{WorldOutcome, conversed, conversed_by, conversed_unless, goes_to, held_before, is_absent, octets_of, packet_skips, run_after, skipped, world_step}
 use Rattle.eap_world.specs.declared.book.End.{End}
 use Rattle.eap_world.specs.declared.book.End.TheVariants as end
 use Rattle.eap_world.specs.declared.book.Makers.TheVariants.{Other}
+use Rattle.eap_world.specs.declared.told.Skip.{Skip}
 use Rattle.eap_world.specs.declared.told.Skip.TheVariants.{NoParty, Unsent, Place}
 use Rattle.eap_world.proofs.Acting.{counted_acted}
 use Rattle.smooth_laws.specs.Smooth.{deliveries}
@@ -67,6 +69,30 @@ pub record BothIn (w : WorldNow) (number : ℕ) : Type 0 where
 abbrev pub delivered : WorldNow → ℕ → WorldNow
 delivered w number = (world_step w (Deliver number)).after
 
+-- a delivery begins no conversation
+at_port_begun : (event : ℕ) (all : Conversations) (to : Port) (octets : List ℕ) → (conversed event all (call_at to octets)).begun ≡ all.begun
+at_port_begun event all port.Peer octets = refl
+at_port_begun event all port.Server octets = refl
+at_port_begun event all port.PassPeer octets = refl
+at_port_begun event all port.PassServer octets = refl
+
+unless_begun : (event : ℕ) (all : Conversations) (skip : Option Skip) (packet : Option Sent) (octets : List ℕ)
+    → (conversed_unless event all skip (call_with packet octets)).begun ≡ all.begun
+unless_begun event all (Some skip) packet octets = refl
+unless_begun event all None None octets = refl
+unless_begun event all None (Some packet) octets = at_port_begun event all packet.port octets
+
+delivered_begun : (w : WorldNow) (number : ℕ) → (delivered w number).conversations.begun ≡ w.conversations.begun
+unfolding world_step conversed_by
+delivered_begun w number =
+    unless_begun (w.counts.events + 1) w.conversations (first_skip (packet_skips w.parties.mode (packet_numbered w.sent number) false))
+    (packet_numbered w.sent number) (octets_of (packet_numbered w.sent number))
+
+pub all_begun : (w : WorldNow) (first count : ℕ) → (run_after w (deliveries first count)).conversations.begun ≡ w.conversations.begun
+unfolding run_after deliveries
+all_begun w first zero = refl
+all_begun w first (suc count) = all_begun (delivered w first) (first + 1) count ∙ delivered_begun w first
+
 last_numbered : (before : List Sent) (last : Sent) (number : ℕ) → length before + 1 ≡ number → packet_numbered (before ++ last ∷ []) number ≡ Some last
 last_numbered before last number count =
     let size = length_push before last in
@@ -75,16 +101,23 @@ last_numbered before last number count =
     ∙ ap (λ (x : Sent). Some x) (get_or_push before last last (number - 1) (omega arith))
 
 called_at : (w : WorldNow) (number : ℕ) (packet : Sent) → packet_numbered w.sent number ≡ Some packet → is_absent w.parties.mode packet.port ≡ false
-    → act w.parties w.sent (Deliver number) ≡ called w.parties (call_at packet.port packet.octets)
+    → act w.parties w.conversations w.sent (Deliver number) ≡ called w.parties (call_at packet.port packet.octets)
 unfolding act
 called_at w number packet is there =
     ap (λ (found : Option Sent). called_unless w.parties (first_skip (packet_skips w.parties.mode found false)) (call_with found (octets_of found))) is
     ∙ ap (λ (absent : Bool). called_unless w.parties (first_skip ((absent, NoParty) ∷ (false, Unsent) ∷ (false, Place) ∷ []))
     (Some (call_at packet.port packet.octets))) there
 
-after_is : (w : WorldNow) (number : ℕ) (out : Acted) → act w.parties w.sent (Deliver number) ≡ out → delivered w number ≡ (counted_acted w out).after
+-- where the parties have done so
+abbrev delivered_as : WorldNow → ℕ → Acted → WorldOutcome
+delivered_as w number out =
+    counted_acted w (held_before w.held w.parties w.conversations w.sent (Deliver number))
+    (conversed_by (w.counts.events + 1) w.parties w.conversations w.sent (Deliver number)) out
+
+after_is : (w : WorldNow) (number : ℕ) (out : Acted) → act w.parties w.conversations w.sent (Deliver number) ≡ out
+    → delivered w number ≡ (delivered_as w number out).after
 unfolding world_step
-after_is w number out is = ap (λ (one : Acted). (counted_acted w one).after) is
+after_is w number out is = ap (λ (one : Acted). (delivered_as w number one).after) is
 
 peer_there : (runs : Mode) → is_absent runs port.Peer ≡ false
 peer_there mode.Alone = refl
@@ -99,7 +132,7 @@ module _ (w : WorldNow) (runs : Mode) (number : ℕ) (p : PeerNow) (s : ServerNo
   handed : (last : Sent) (accepts : End) (tags : List TagRecord) → Stage w runs number p s v last accepts tags
       → is_absent w.parties.mode last.port ≡ false
       → (out : Acted) → called (parties_at runs p s v) (call_at last.port last.octets) ≡ out
-      → delivered w number ≡ (counted_acted w out).after
+      → delivered w number ≡ (delivered_as w number out).after
   handed last accepts tags stage there out is =
       after_is w number out
       (called_at w number last (ap (λ (sent : List Sent). packet_numbered sent number) stage.sent ∙ last_numbered stage.before last number stage.count) there

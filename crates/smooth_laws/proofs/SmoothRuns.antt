@@ -1,5 +1,5 @@
 -- A smooth login succeeds within its bound.
-use Rattle.std.proofs.Common.{◌≡◌, ℕ, zero, suc, ◌+◌, ◌-◌, ◌≤◌, List, [], ◌∷◌, length, take, Bool, true, false, None, Some, refl, sym, ap, subst, ◌∙◌, arith}
+use Rattle.std.proofs.Common.{◌≡◌, ℕ, zero, suc, ◌+◌, ◌-◌, ◌≤◌, List, [], ◌∷◌, length, take, Bool, true, false, None, Some, inl, refl, sym, ap, subst, ◌∙◌, arith}
 use Rattle.std.specs.Prelude.{◌==◌, ◌||◌, find}
 use Rattle.std.specs.List.{list_any, list_all}
 use Rattle.std.proofs.lemmas.Bool.{and_parts, or_left, eq-eqb}
@@ -20,7 +20,6 @@ use Rattle.eap_world.specs.Book.{verdict_on, tags_verdict}
 use Rattle.eap_world.specs.declared.book.TagsVerdict.TheVariants.{Honest}
 use Rattle.eap_world.specs.Judgement.{is_success}
 use Rattle.eap_world.specs.World.{WorldNow, run_after, world_made, world_start}
-use Rattle.eap_world.proofs.HonestOfEither.{honest_of_either}
 use Rattle.eap_world.proofs.HonestRuns.{honest_ends_agree}
 use Rattle.smooth_laws.specs.Smooth.{EndsFit, HasShortNames, IsLoggedIn, SmoothLoginsSucceed, bound, bound_in, deliveries, takes_first}
 use Rattle.smooth_laws.proofs.Choosing.{few_kinds, few_suites, some_suites, found_passes, found_among, found_as_all, first_is_next, allowed_is_common}
@@ -32,7 +31,7 @@ use Rattle.smooth_laws.proofs.Opening.{in_mode, made_in, number_opened, opened, 
 use Rattle.smooth_laws.proofs.PskTalk.{psk_talks}
 use Rattle.smooth_laws.proofs.ServerSide.{after_id}
 use Rattle.smooth_laws.proofs.Talk.{EndsWell, Talks, ids_differ, last_number, talked, talks_through}
-use Rattle.smooth_laws.proofs.Moves.{BothIn, delivered, stay_in}
+use Rattle.smooth_laws.proofs.Moves.{BothIn, all_begun, delivered, stay_in}
 
 -- both ends have succeeded after so many deliveries, and the peer not before
 abbrev SucceedsAt : Setup → ℕ → Type 0
@@ -162,16 +161,22 @@ module _ (setup : Setup) (whole : IsWhole setup) (names : HasShortNames setup) w
     logs_in : SucceedsAt setup (bound setup)
     logs_in = logs_in_at setup.mode setup.server.methods refl
 
+-- deliveries alone begin no second conversation
+begun_once : (setup : Setup) (count : ℕ) → length (run_of setup (deliveries 1 count)).conversations.begun ≡ 2
+unfolding world_start
+begun_once setup count = ap length (all_begun (world_start (world_made setup)).after 1 count)
+
 -- both ends in SUCCESS over an honest book agree
-is_logged_in : (setup : Setup) (events : List Event) (number : ℕ) → IsWhole setup → BothIn (run_of setup events) number → IsLoggedIn (run_of setup events)
-is_logged_in setup events number whole both =
+is_logged_in : (setup : Setup) (events : List Event) (number : ℕ) → IsWhole setup → length (run_of setup events).conversations.begun ≡ 2
+    → BothIn (run_of setup events) number → IsLoggedIn (run_of setup events)
+is_logged_in setup events number whole once both =
     let honest : tags_verdict (run_of setup events).book ≡ Honest = ap verdict_on both.honest in
     record {
       peer = both.peer;
       server = both.server;
       none_discarded = both.none_discarded;
       honest = honest;
-      agree = (honest_ends_agree setup events whole).agrees (honest_of_either (run_of setup events).book honest) both.peer both.server;
+      agree = (honest_ends_agree setup events whole).agrees honest (inl once) both.peer both.server;
     }
 
 -- the run over more deliveries goes on where that over fewer ends
@@ -199,9 +204,11 @@ smooth_logins_succeed setup events whole names fit order enough =
     let stays : BothIn (run_of setup events) most =
     subst (λ (w : WorldNow). BothIn w most) (sym all)
     (stay_in (run_of setup (deliveries 1 most)) most (1 + most) (length events - most) succeeds.both (omega arith)) in
+    let once : length (run_of setup events).conversations.begun ≡ 2 =
+    subst (λ (some : List Event). length (run_of setup some).conversations.begun ≡ 2) (sym order) (begun_once setup (length events)) in
     record {
       not_before = ap (λ (some : List Event). is_success (run_of setup some).parties.peer.vars.state) (first (most - 1) (omega arith)) ∙ succeeds.waits;
       in_time = subst (λ (some : List Event). IsLoggedIn (run_of setup some)) (sym (first most enough))
-          (is_logged_in setup (deliveries 1 most) most whole succeeds.both);
-      stays = is_logged_in setup events most whole stays;
+          (is_logged_in setup (deliveries 1 most) most whole (begun_once setup most) succeeds.both);
+      stays = is_logged_in setup events most whole once stays;
     }

@@ -1,6 +1,6 @@
 -- Worked values of the definitions: how many deliveries, between which ends.
 use Rattle.std.proofs.Common.{◌≡◌, List, [], ◌∷◌, false, None, Some, refl, arith, IsTrue}
-use Rattle.std.specs.Prelude.{ℕ, codes, replicate}
+use Rattle.std.specs.Prelude.{ℕ, codes, length, replicate}
 use Rattle.std.proofs.lemmas.List.Elements.{All-from_recursion}
 use Rattle.eap_base.specs.declared.event.Event.TheVariants.{Deliver}
 use Rattle.eap_base.specs.declared.setup.Accepts.TheVariants.{One}
@@ -118,6 +118,8 @@ whole_at_once = record {
   };
   peer_nonce = refl;
   server_nonce = refl;
+  peer_later = All-from_recursion (λ (nonce : List ℕ). length nonce ≡ 32) [] tt;
+  server_later = All-from_recursion (λ (nonce : List ℕ). length nonce ≡ 32) [] tt;
 }
 
 short_at_once : HasShortNames (example_setup Alone both both)

@@ -26,8 +26,10 @@ abbrev pub choices_of : Choices → List (List ℕ)
 choices_of choices.Mode = codes "alone" ∷ codes "through" ∷ []
 choices_of choices.Port = codes "peer" ∷ codes "server" ∷ codes "pass-peer" ∷ codes "pass-server" ∷ []
 choices_of choices.Timer = codes "server" ∷ codes "pass" ∷ []
+choices_of choices.Party = codes "peer" ∷ codes "server" ∷ codes "pass" ∷ []
 choices_of choices.Access = codes "allowed" ∷ codes "barred" ∷ []
 choices_of choices.Reply = codes "accept" ∷ codes "reject" ∷ codes "challenge" ∷ []
+choices_of choices.YesNo = codes "no" ∷ []
 
 abbrev pub is_choice : Choices → List ℕ → Bool
 is_choice c word = list_any (bytes_eq word) (choices_of c)

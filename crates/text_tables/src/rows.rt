@@ -48,10 +48,14 @@ pub enum Choices {
     Port,
     /// `server` or `pass`.
     Timer,
+    /// `peer`, `server` or `pass`.
+    Party,
     /// `allowed` or `barred`.
     Access,
     /// `accept`, `reject` or `challenge`.
     Reply,
+    /// `no`, the only answer so far.
+    YesNo,
 }
 
 /// A row of a text's table.
@@ -207,9 +211,17 @@ fn is_choice(choices: Choices, word: &[u8]) -> bool
         Choices::Mode => word == b"alone".as_slice() || word == b"through".as_slice(),
         Choices::Port => is_port(word),
         Choices::Timer => word == b"server".as_slice() || word == b"pass".as_slice(),
+        Choices::Party => is_party(word),
         Choices::Access => word == b"allowed".as_slice() || word == b"barred".as_slice(),
         Choices::Reply => is_reply(word),
+        Choices::YesNo => word == b"no".as_slice(),
     }
+}
+
+fn is_party(word: &[u8]) -> bool
+    ensures { result ≡ is_choice Choices.Party word.now }
+{
+    word == b"peer".as_slice() || word == b"server".as_slice() || word == b"pass".as_slice()
 }
 
 fn is_reply(word: &[u8]) -> bool

@@ -3,6 +3,7 @@ use Rattle.std.proofs.Common.{◌≡◌, ℕ, zero, suc, ◌≤◌, ◌<◌, ◌
 use Rattle.std.proofs.lemmas.Bool.{eqb-true, ne_eqb, lt-ltb, true≢false}
 use Rattle.std.specs.Fmt.{digits, digits_onto, digit_glyph}
 use Rattle.hex.specs.Hex.{encode_with, encode_lower, lower_digits}
+use Rattle.trace_text.specs.Lines.{HasLine, later}
 use Rattle.trace_text.proofs.Scanning.{begins_with, has_mark}
 
 pub after_test : (t next : Bool) → (if t then false else next) ≡ true → (t ≡ false) × (next ≡ true)
@@ -56,6 +57,28 @@ module _ (bad : ℕ → Bool) where
   through (o ∷ piece) rest h k =
       let parts = after_test (o == 10) (is_within piece) h in
       ap (λ (b : Bool). plain b (piece ++ rest)) parts.0 ∙ through piece rest parts.1 k
+
+-- a line that stands after a plain text stands in both
+module _ (bad : ℕ → Bool) (line : List ℕ) where
+  after_octet : (ends : Bool) (o : ℕ) (passed rest : List ℕ) → (o == 10) ≡ ends → (ends ≡ true → HasLine line rest)
+      → (ends ≡ false → HasLine line ((passed ++ (o ∷ [])) ++ rest)) → HasLine line (passed ++ (o ∷ rest))
+  after_octet true o passed rest e at_end within =
+      subst (λ (x : ℕ). HasLine line (passed ++ (x ∷ rest))) (sym (eqb-true o 10 e)) (later passed rest (at_end refl))
+  after_octet false o passed rest e at_end within =
+      subst (λ (x : List ℕ). HasLine line x) (append_assoc passed (o ∷ []) rest) (within refl)
+
+  passes_from : (begins : Bool) (passed text rest : List ℕ) → (begins ≡ true → passed ≡ []) → plain bad begins text ≡ true → HasLine line rest
+      → HasLine line (passed ++ (text ++ rest))
+  passes_from true passed [] rest empty h k = subst (λ (x : List ℕ). HasLine line (x ++ rest)) (sym (empty refl)) k
+  passes_from false passed [] rest empty h k = absurd (true≢false (sym h))
+  passes_from begins passed (o ∷ text) rest empty h k =
+      let next = (after_test (begins && bad o) (plain bad (o == 10) text) h).1 in
+      after_octet (o == 10) o passed (text ++ rest) refl
+      (λ e. passes_from true [] text rest (λ _. refl) (ap (λ (b : Bool). plain bad b text) (sym e) ∙ next) k)
+      (λ e. passes_from false (passed ++ (o ∷ [])) text rest (λ b. absurd (true≢false (sym b))) (ap (λ (b : Bool). plain bad b text) (sym e) ∙ next) k)
+
+  pub passes : (text rest : List ℕ) → plain bad true text ≡ true → HasLine line rest → HasLine line (text ++ rest)
+  passes text rest h k = passes_from true [] text rest (λ _. refl) h k
 
 pub skips : (t : Bool) (next : Bool) → t ≡ false → next ≡ true → (if t then false else next) ≡ true
 skips true next h k = absurd (true≢false h)

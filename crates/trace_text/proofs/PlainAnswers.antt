@@ -26,7 +26,7 @@ use Rattle.trace_text.specs.Keys.{hex_line, sealed_text, exported_text, gpsk_tex
 use Rattle.trace_text.specs.Pieces.{hex_text}
 use Rattle.trace_text.specs.Packets.{numbers_text, psk_note, gpsk_note, note_text, typed_text, end_line_text}
 use Rattle.trace_text.specs.Packets.{value_text, packet_text_by, packet_text, packets_text}
-use Rattle.trace_text.proofs.Plain.{is_within, plain, join, through, within_join, decimal_within, decimal_first, numbered, skips, after_test}
+use Rattle.trace_text.proofs.Plain.{is_within, plain, join, through, within_join, decimal_within, decimal_first, skips, after_test}
 use Rattle.trace_text.proofs.PlainTexts.{cause_within, hex_within, either_within}
 
 -- the first octet of `result`

@@ -1,5 +1,5 @@
 -- No line of `check` begins as the line of the verdict does.
-use Rattle.std.proofs.Common.{◌≡◌, ℕ, ◌≤◌, List, [], ◌∷◌, ◌++◌, Bool, true, false, refl, decimal, codes}
+use Rattle.std.proofs.Common.{◌≡◌, ℕ, ◌≤◌, Bool, true, false, refl, decimal}
 use Rattle.eap_packet.specs.Words.{cause_word}
 use Rattle.capture_check.specs.declared.finding.Finding.{Finding}
 use Rattle.capture_check.specs.declared.finding.Finding.TheVariants.{Good, Malformed, TagBad, TagGood, NoKey, NoContext}

@@ -30,7 +30,7 @@ pub cause_within : (c : Cause) → is_within (cause_word c) ≡ true
 cause_within cause.Short = refl
 cause_within other = refl
 
-state_within : (s : State) → is_within (state_word s) ≡ true
+pub state_within : (s : State) → is_within (state_word s) ≡ true
 state_within state.Initialize = refl
 state_within other = refl
 
@@ -71,7 +71,7 @@ module _ (bad : ℕ → Bool) (no_digit : (o : ℕ) → 48 ≤ o → o ≤ 57 �
   states_plain [] = refl
   states_plain (s ∷ rest) = through bad (state_word s ++ []) (states_text rest) (within_join (state_word s) [] (state_within s) refl) (states_plain rest)
 
-  path_plain : (path : List State) → plain bad false (path_text path) ≡ true
+  pub path_plain : (path : List State) → plain bad false (path_text path) ≡ true
   path_plain [] = refl
   path_plain (s ∷ rest) = states_plain (s ∷ rest)
 
@@ -80,7 +80,7 @@ module _ (bad : ℕ → Bool) (no_digit : (o : ℕ) → 48 ≤ o → o ≤ 57 �
   party_plain event (Some p) path =
       numbered bad no_digit event (codes " " ++ (party_word p ++ [])) (path_text path) (within_join (party_word p) [] (party_within p) refl) (path_plain path)
 
-  cause_plain : (event : ℕ) (c : Option Cause) → plain bad true (cause_text event c) ≡ true
+  pub cause_plain : (event : ℕ) (c : Option Cause) → plain bad true (cause_text event c) ≡ true
   cause_plain event None = refl
   cause_plain event (Some c) = decimal_first bad no_digit event _ (through bad (cause_word c) _ (cause_within c) refl)
 
@@ -136,13 +136,15 @@ module _ (bad : ℕ → Bool) (no_digit : (o : ℕ) → 48 ≤ o → o ≤ 57 �
 
 -- ---- the lines of the start and the end
 
--- the first octets of `tags` and `result`
+-- the first octets of `fresh`, `tags` and `result`
 abbrev pub begins_verdict : ℕ → Bool
-begins_verdict o = o == 116 || o == 114
+begins_verdict o = o == 102 || (o == 116 || o == 114)
 
 -- no number begins so
 pub no_verdict : (o : ℕ) → 48 ≤ o → o ≤ 57 → begins_verdict o ≡ false
-no_verdict o h k = or_from (o == 116) (o == 114) (ne_eqb o 116 (λ e. omega (arith, k, e))) (ne_eqb o 114 (λ e. omega (arith, k, e)))
+no_verdict o h k =
+    or_from (o == 102) (o == 116 || o == 114) (ne_eqb o 102 (λ e. omega (arith, k, e)))
+    (or_from (o == 116) (o == 114) (ne_eqb o 116 (λ e. omega (arith, k, e))) (ne_eqb o 114 (λ e. omega (arith, k, e))))
 
 server_start_plain : (m : Mode) → plain begins_verdict true (server_start_text m) ≡ true
 unfolding server_start_text

@@ -1,5 +1,5 @@
 -- The trace of a run: the lines of its start, of each event, and of its end.
-use Rattle.std.specs.Prelude.{ℕ, List, [], ◌∷◌, ◌++◌, length, Bool, ◌==◌, nat_le, if◌then◌else◌, Option, Some, None, codes, decimal, slice_index}
+use Rattle.std.specs.Prelude.{ℕ, List, [], ◌∷◌, ◌++◌, length, Bool, true, false, ◌==◌, nat_le, if◌then◌else◌, Option, Some, None, codes, decimal, slice_index}
 use Rattle.std.specs.List.{concat}
 use Rattle.eap_base.specs.declared.setup.Mode.{Mode}
 use Rattle.eap_base.specs.declared.setup.Mode.TheVariants as mode
@@ -43,6 +43,7 @@ skip_word skip.Unsent = codes "Unsent"
 skip_word skip.Place = codes "Place"
 skip_word skip.Ended = codes "Ended"
 skip_word skip.NoTimer = codes "NoTimer"
+skip_word skip.NoNonce = codes "NoNonce"
 
 -- the name of a Code
 abbrev pub code_word : ℕ → List ℕ
@@ -72,6 +73,10 @@ path_text (s ∷ rest) = states_text (s ∷ rest)
 abbrev pub party_text : ℕ → Option Party → List State → List ℕ
 party_text event None path = []
 party_text event (Some party) path = concat (decimal event ∷ codes " " ∷ party_word party ∷ []) ++ path_text path
+
+-- the states of a path behind a number
+abbrev pub states_line : ℕ → List State → List ℕ
+states_line number path = decimal number ++ path_text path
 
 -- the line of a discard
 abbrev pub cause_text : ℕ → Option Cause → List ℕ
@@ -165,6 +170,15 @@ counts_text counts = concat (
     codes "events " ∷ decimal counts.events ∷ codes "\ndeliveries " ∷ decimal counts.deliveries ∷
     codes "\ndiscards " ∷ decimal counts.discards ∷ codes "\n" ∷ [])
 
+-- whether each conversation began with a fresh nonce; a scenario of version 1 has one conversation an end, and isn't told
+abbrev pub fresh_told : WorldNow → Option Bool
+fresh_told w = if w.version == 2 then Some w.conversations.fresh else None
+
+unfoldable pub fresh_text : Option Bool → List ℕ
+fresh_text None = []
+fresh_text (Some true) = codes "fresh yes\n"
+fresh_text (Some false) = codes "fresh no\n"
+
 -- whether each accepted tag was made earlier by the other end, and else the event of the first that wasn't
 unfoldable pub tags_text : TagsVerdict → List ℕ
 tags_text tags.Honest = codes "tags honest\n"
@@ -180,11 +194,11 @@ unfoldable pub result_text : Verdict → List ℕ
 result_text v = concat (codes "result " ∷ verdict_word v ∷ codes "\nend\n" ∷ [])
 
 -- the lines of the end
-unfoldable pub end_text_of : State → Option State → State → Counts → TagsVerdict → Verdict → List ℕ
-end_text_of peer pass server counts tags verdict =
-    stands_text peer pass server ++ (counts_text counts ++ (tags_text tags ++ result_text verdict))
+unfoldable pub end_text_of : State → Option State → State → Counts → Option Bool → TagsVerdict → Verdict → List ℕ
+end_text_of peer pass server counts fresh tags verdict =
+    stands_text peer pass server ++ (counts_text counts ++ (fresh_text fresh ++ (tags_text tags ++ result_text verdict)))
 
 abbrev pub end_text : WorldNow → List ℕ
 end_text w =
     end_text_of w.parties.peer.vars.state (pass_state w.parties.mode w.parties.pass) w.parties.server.vars.state
-    w.counts (tags_verdict w.book) (verdict_of w)
+    w.counts (fresh_told w) (tags_verdict w.book) (verdict_of w)

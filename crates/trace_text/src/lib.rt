@@ -15,5 +15,5 @@ pub use finding::{write_finding, write_finding_counts};
 pub use keys::write_key_line;
 pub use lines::{write_line, write_refused};
 pub use packet::{write_packet, write_packet_counts};
-pub use pieces::{Piece, write_pieces};
-pub use run::{write_end, write_start, write_told};
+pub use pieces::{Piece, write_nothing, write_pieces};
+pub use run::{write_cause, write_end, write_start, write_states, write_told};

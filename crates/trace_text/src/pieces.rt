@@ -123,7 +123,7 @@ fn put_hex<W: Sink>(sink: &mut W, line: &mut LineBuffer, octets: &[u8]) -> Resul
 }
 
 /// Appends a decimal number to a line.
-fn put_number<W: Sink>(sink: &mut W, line: &mut LineBuffer, number: u64) -> Result<(), Failed>
+pub fn put_number<W: Sink>(sink: &mut W, line: &mut LineBuffer, number: u64) -> Result<(), Failed>
     ensures { Puts W.written W.write_faults W.last_write_fault result sink.old sink.new line.old line.new (decimal number) }
 {
     let mut buffer = Buffer::new();

@@ -5,15 +5,15 @@ ghost use Rattle.std.specs.Prelude.{◌≡◌, Some, length, slice_index, [], �
 ghost use Rattle.std.specs.List.{concat};
 ghost use Rattle.trace_text.specs.Writes.{Appends, Puts};
 ghost use Rattle.trace_text.specs.Pieces.{hex_text};
-ghost use Rattle.trace_text.specs.Run.{state_text, party_word, port_word, skip_word, code_word, states_text, path_text, party_text};
+ghost use Rattle.trace_text.specs.Run.{state_text, party_word, port_word, skip_word, code_word, states_text, path_text, party_text, states_line};
 ghost use Rattle.trace_text.specs.Run.{cause_text, sent_text, octets_line, octets_text, keys_line, keys_text, shown_text, acted_text};
-ghost use Rattle.trace_text.specs.Run.{told_text, peer_start_text, server_start_text, start_text, stands_text, counts_text, tags_text, verdict_word};
+ghost use Rattle.trace_text.specs.Run.{told_text, peer_start_text, server_start_text, start_text, stands_text, counts_text, fresh_text, fresh_told, tags_text, verdict_word};
 ghost use Rattle.trace_text.specs.Run.{result_text, end_text_of, end_text, peer_state_line, pass_state_line, server_state_line};
 ghost use Rattle.eap_world.specs.World.{now_of};
 
 use crate::line_buffer::LineBuffer;
 use crate::pieces::Piece::{Hex, Number, Text};
-use crate::pieces::{put_pieces, send, write_nothing, write_pieces};
+use crate::pieces::{put_number, put_pieces, send, write_nothing, write_pieces};
 use eap_base::{Failed, Mode, Party, Port, Sink};
 use eap_method::{PeerMethod, ServerMethod};
 use eap_packet::{Cause, State};
@@ -50,6 +50,7 @@ fn name_of_skip(skip: Skip) -> &'static str
         Skip::Place => "Place",
         Skip::Ended => "Ended",
         Skip::NoTimer => "NoTimer",
+        Skip::NoNonce => "NoNonce",
     }
 }
 
@@ -178,8 +179,33 @@ fn write_party<W: Sink>(
     }
 }
 
-/// Writes the line of a discard, if there was one.
-fn write_cause<W: Sink>(sink: &mut W, event: u32, cause: Option<Cause>) -> Result<(), Failed>
+/// Puts a number and the states of a path, and the end of the line.
+#[tactic(auto, using(crate::proofs::Putting::puts_both, crate::proofs::Putting::puts_front))]
+fn put_states_line<W: Sink>(
+    sink: &mut W,
+    line: &mut LineBuffer,
+    number: u32,
+    path: &[State],
+) -> Result<(), Failed>
+    ensures { Puts W.written W.write_faults W.last_write_fault result sink.old sink.new line.old line.new (states_line number path.now) }
+{
+    put_number(sink, line, u64::from(number))?;
+    put_path(sink, line, path)
+}
+
+/// Writes a number and the states of a path in one line, `-` for no states. `Failed`: a write failed, and a front of the
+/// line was appended.
+#[tactic(auto, using(crate::proofs::Putting::appends_sent, crate::proofs::Putting::appends_cut))]
+pub fn write_states<W: Sink>(sink: &mut W, number: u32, path: &[State]) -> Result<(), Failed>
+    ensures { Appends W.written W.write_faults W.last_write_fault result sink.old sink.new (states_line number path.now) }
+{
+    let mut line = LineBuffer::new();
+    put_states_line(sink, &mut line, number, path)?;
+    send(sink, &mut line)
+}
+
+/// Writes the line of a discard, if there was one. `Failed`: a write failed, and a front of the line was appended.
+pub fn write_cause<W: Sink>(sink: &mut W, event: u32, cause: Option<Cause>) -> Result<(), Failed>
     ensures { Appends W.written W.write_faults W.last_write_fault result sink.old sink.new (cause_text event cause) }
 {
     match cause {
@@ -436,13 +462,15 @@ pub fn write_end_of<W: Sink>(
     pass: Option<State>,
     server: State,
     counts: Counts,
+    fresh: Option<bool>,
     tags: TagsVerdict,
     verdict: Verdict,
 ) -> Result<(), Failed>
-    ensures { Appends W.written W.write_faults W.last_write_fault result sink.old sink.new (end_text_of peer pass server counts tags verdict) }
+    ensures { Appends W.written W.write_faults W.last_write_fault result sink.old sink.new (end_text_of peer pass server counts fresh tags verdict) }
 {
     write_stands(sink, peer, pass, server)?;
     write_counts(sink, counts)?;
+    write_fresh(sink, fresh)?;
     write_tags(sink, tags)?;
     write_result(sink, verdict)
 }
@@ -531,6 +559,29 @@ fn write_counts<W: Sink>(sink: &mut W, counts: Counts) -> Result<(), Failed>
     )
 }
 
+/// Writes whether each conversation began with a fresh nonce, where that is told.
+#[tactic(auto, unfolding(crate::specs::Run::fresh_text))]
+fn write_fresh<W: Sink>(sink: &mut W, fresh: Option<bool>) -> Result<(), Failed>
+    ensures { Appends W.written W.write_faults W.last_write_fault result sink.old sink.new (fresh_text fresh) }
+{
+    match fresh {
+        None => write_pieces(sink, &[]),
+        Some(true) => write_pieces(sink, &[Text(b"fresh yes\n")]),
+        Some(false) => write_pieces(sink, &[Text(b"fresh no\n")]),
+    }
+}
+
+/// Whether each conversation began with a fresh nonce; None for a scenario of version 1, which doesn't tell it.
+fn fresh_told<P: PeerMethod, S: ServerMethod>(world: &World<P, S>) -> Option<bool>
+    ensures { result ≡ fresh_told (now_of P.peer_shown S.server_shown world.now) }
+{
+    if world.version() == 2 {
+        Some(world.fresh())
+    } else {
+        None
+    }
+}
+
 /// Writes whether each accepted tag was made earlier by the other end, and else the event of the first
 /// that wasn't.
 #[tactic(auto, unfolding(crate::specs::Run::tags_text))]
@@ -562,7 +613,8 @@ fn write_result<W: Sink>(sink: &mut W, verdict: Verdict) -> Result<(), Failed>
     )
 }
 
-/// Writes the lines of the end: where each party stands, the counts, and the two verdicts. `Failed`: a write
+/// Writes the lines of the end: where each party stands, the counts, whether nonces
+/// were fresh, and the two verdicts. `Failed`: a write
 /// failed, and a front of the lines was appended.
 pub fn write_end<W: Sink, P: PeerMethod, S: ServerMethod>(
     sink: &mut W,
@@ -576,6 +628,7 @@ pub fn write_end<W: Sink, P: PeerMethod, S: ServerMethod>(
         world.pass_state(),
         world.server_state(),
         world.counts(),
+        fresh_told(world),
         world.tags(),
         world.result(),
     )

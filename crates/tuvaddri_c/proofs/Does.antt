@@ -1,6 +1,6 @@
 -- What a machine's step says is what is told of it.
 use Rattle.std.proofs.Common.{◌≡◌, refl, ℕ, List, sym, subst, Bool, true, false, None}
-use Rattle.std.specs.Prelude.{IfSome, if◌then◌else◌, Some, ◌||◌}
+use Rattle.std.specs.Prelude.{IfSome, if◌then◌else◌, Some}
 use Rattle.eap_method.specs.Steps.{step_with}
 use Rattle.eap_method.specs.declared.step.Step as brief
 use Rattle.eap_method.specs.declared.tags.Tags.{Tags}
@@ -10,7 +10,7 @@ use Rattle.server_machine.specs.ServerTable.{ServerValue, ServerAnswer}
 use Rattle.server_machine.specs.ServerTable as server
 use Rattle.end_objects.specs.Objects.{peer_object_shown, server_object_shown}
 use Rattle.tuvaddri_c.specs.Turns.{turn_of, PeerDoes, ServerDoes, PassDoes, is_some}
-use Rattle.pass_through.specs.PassTable.{PassAnswer, to_peer_with, to_server_with}
+use Rattle.pass_through.specs.PassTable.{Side, PassAnswer, step_to}
 use Rattle.pass_through.specs.PassTable as pass
 use Rattle.pass_through.specs.declared.variables.PassVariables.{PassVariables}
 use Rattle.eap_method.specs.Peer.{PeerShown}
@@ -46,29 +46,10 @@ pub server_does : (row : ServerAnswer) (step : brief.Step) (packet : List ℕ) (
 server_does row step packet tags after e = subst (λ (r : ServerAnswer). ServerDoes r (turn_of step after.vars.state) packet after) (sym e)
     (record { turn_is = (λ i. record { sends = sym (sends_so step.sends packet) i; discards = is_some step.cause; misplaced = false; cause = (turn_of step after.vars.state).cause; state = (turn_of step after.vars.state).state }); sent = sent_so step.sends packet; machine = refl })
 
-sends_so_first : (b : Bool) (p : List ℕ) → (is_some (if b then Some p else None) || false) ≡ b
-sends_so_first true p = refl
-sends_so_first false p = refl
-
-pub pass_does_to_peer : (row : PassAnswer) (step : brief.Step) (packet : List ℕ) (after : PassVariables)
-    → row ≡ pass.answer (to_peer_with step packet) after → PassDoes row (turn_of step after.state) packet after
-pass_does_to_peer row step packet after e = subst (λ (r : PassAnswer). PassDoes r (turn_of step after.state) packet after) (sym e)
-    (record {
-      turn_is = (λ i. record { sends = sym (sends_so_first step.sends packet) i; discards = is_some step.cause; misplaced = false; cause = (turn_of step after.state).cause; state = (turn_of step after.state).state });
-      to_peer = sent_so step.sends packet;
-      to_server = tt;
-      machine = refl;
-    })
-
-pub pass_does_to_server : (row : PassAnswer) (step : brief.Step) (packet : List ℕ) (after : PassVariables)
-    → row ≡ pass.answer (to_server_with step packet) after → PassDoes row (turn_of step after.state) packet after
-pass_does_to_server row step packet after e = subst (λ (r : PassAnswer). PassDoes r (turn_of step after.state) packet after) (sym e)
-    (record {
-      turn_is = (λ i. record { sends = sym (sends_so step.sends packet) i; discards = is_some step.cause; misplaced = false; cause = (turn_of step after.state).cause; state = (turn_of step after.state).state });
-      to_peer = tt;
-      to_server = sent_so step.sends packet;
-      machine = refl;
-    })
+pub pass_does : (to : Side) (row : PassAnswer) (step : brief.Step) (packet : List ℕ) (after : PassVariables)
+    → row ≡ pass.answer (step_to to step packet) after → PassDoes row (turn_of step after.state) packet after
+pass_does to row step packet after e = subst (λ (r : PassAnswer). PassDoes r (turn_of step after.state) packet after) (sym e)
+    (record { turn_is = (λ i. record { sends = sym (sends_so step.sends packet) i; discards = is_some step.cause; misplaced = false; cause = (turn_of step after.state).cause; state = (turn_of step after.state).state }); sent = sent_so step.sends packet; machine = refl })
 
 pub peer_turns : (out : PeerOutcome PeerShown) (b : peer_briefs.PeerTurn) (packet : List ℕ) (tags : Tags) (after : PeerObject)
     → out ≡ record { turn = peer_turn_with b packet tags; after = peer_object_shown after } → PeerTurns out (peer_brief b) packet after

@@ -1,8 +1,8 @@
 -- Which end a session is, which calls it takes, and what it holds.
-use Rattle.std.specs.Prelude.{◌≡◌, ◌++◌, Bool, true, false, ◌&&◌, not, ⊤, Option, None, length, drop}
+use Rattle.std.specs.Prelude.{◌≡◌, ◌++◌, Bool, true, false, ◌&&◌, not, ⊤, Option, None, length, drop, map}
 use Rattle.eap_method.specs.declared.values.Report.{Report}
-use Rattle.eap_method.specs.Peer.{peer_report}
-use Rattle.eap_method.specs.Server.{server_report}
+use Rattle.eap_method.specs.Peer.{peer_report, peer_kinds, have_each}
+use Rattle.eap_method.specs.Server.{server_report, server_kinds}
 use Rattle.eap_method.specs.Steps.{is_end}
 use Rattle.peer_machine.specs.PeerTable.{PeerValue, peer_reports}
 use Rattle.peer_machine.specs.PeerTable as peer
@@ -64,6 +64,17 @@ can_start e = elim e [ ends.Server m ↦ not (is_started m.vars) && not (is_back
 -- whether a server's retransmission timer runs
 abbrev pub has_timer : End → Bool
 has_timer e = elim e [ ends.Server m ↦ server.has_timer m.vars | _ ↦ false ]
+
+-- whether each method of a peer's settings has an object; of a server's
+abbrev pub peer_has_objects : PeerValue PeerObject → Bool
+peer_has_objects m = have_each (peer_kinds (map peer_object_shown m.methods)) m.vars.setup.methods
+
+abbrev pub server_has_objects : ServerValue ServerObject → Bool
+server_has_objects m = have_each (server_kinds (map server_object_shown m.methods)) m.vars.setup.methods
+
+-- whether an end may begin a new conversation: a peer, a stand-alone server, also before its start, or a backend
+abbrev pub can_restart : End → Bool
+can_restart e = elim e [ ends.Peer m ↦ peer_has_objects m | ends.Server m ↦ server_has_objects m | ends.Backend m ↦ server_has_objects m | _ ↦ false ]
 
 -- whether the end is a pass-through; one that may start; one whose retransmission timer runs; one that waits for the
 -- backend

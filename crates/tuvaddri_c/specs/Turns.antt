@@ -1,11 +1,12 @@
 -- What a call came to, as numbers.
-use Rattle.std.specs.Prelude.{◌≡◌, ℕ, List, Bool, true, false, ◌||◌, Option, Some, None, IfSome}
+use Rattle.std.specs.Prelude.{◌≡◌, ℕ, List, Bool, true, false, Option, Some, None, IfSome}
 use Rattle.eap_packet.specs.declared.cause.Cause.{Cause}
 use Rattle.eap_packet.specs.declared.cause.Cause.TheVariants as cause
 use Rattle.eap_packet.specs.declared.state.State.{State}
 use Rattle.eap_packet.specs.declared.state.State.TheVariants as state
 use Rattle.eap_method.specs.declared.step.Step as brief
 use Rattle.eap_method.specs.Steps.{Step}
+use Rattle.eap_method.specs.Tags.{no_tags}
 use Rattle.peer_machine.specs.PeerTable.{PeerValue, PeerAnswer}
 use Rattle.peer_machine.specs.PeerTable as peer
 use Rattle.server_machine.specs.ServerTable.{ServerValue, ServerAnswer}
@@ -129,17 +130,10 @@ pub record ServerDoes (row : ServerAnswer) (turn : TuvTurn) (packet : List ℕ) 
 
 -- what a step of the pass-through comes to, whichever side it sends to
 abbrev pub pass_told : PassStep → State → TuvTurn
-pass_told step s = record {
-  sends = is_some step.to_peer || is_some step.to_server;
-  discards = is_some step.cause;
-  misplaced = false;
-  cause = number_of_cause step.cause;
-  state = state_number s;
-}
+pass_told step s = told (record { path = step.path; cause = step.cause; sent = step.sent; tags = no_tags }) s
 
 -- the same of a pass-through's
 pub record PassDoes (row : PassAnswer) (turn : TuvTurn) (packet : List ℕ) (after : PassVariables) : Type 0 where
   pub turn_is : turn ≡ pass_told row.step row.after.state
-  pub to_peer : IfSome row.step.to_peer (λ octets. packet ≡ octets)
-  pub to_server : IfSome row.step.to_server (λ octets. packet ≡ octets)
+  pub sent : IfSome row.step.sent (λ octets. packet ≡ octets)
   pub machine : row.after ≡ after

@@ -10,6 +10,7 @@ mod methods;
 mod pass;
 mod peer;
 mod report;
+mod restart;
 mod server;
 mod session;
 mod turn;

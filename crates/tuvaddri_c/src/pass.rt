@@ -1,7 +1,7 @@
 //! The pass-through of RFC 4137 section 7.
 
 ghost use Rattle.std.specs.Prelude.{◌≡◌, [], true, false, None, IfSome};
-ghost use Rattle.pass_through.specs.PassTable.{pass_made, pass_start, pass_from_peer, pass_from_backend, pass_timeout, pass_aaa_timeout, pass_aaa_noreq, is_started, has_timer, is_aaa_idle};
+ghost use Rattle.pass_through.specs.PassTable.{pass_made, pass_start, pass_restart, pass_from_peer, pass_from_backend, pass_timeout, pass_aaa_timeout, pass_aaa_noreq, is_started, has_timer, is_aaa_idle};
 ghost use Rattle.end_objects.specs.Refusals.{retry_refusal};
 ghost use Rattle.tuvaddri_c.specs.Answers.{begun, refusal_number};
 ghost use Rattle.tuvaddri_c.specs.Ends.{IfPass, AsPass, is_pass, can_start_pass, has_timer_pass, waits_for_backend};
@@ -35,7 +35,7 @@ pub extern "C" fn tuv_pass_begin(end: &mut TuvEnd, first_id: u8, max_retrans: u8
     }
 }
 
-#[tactic(auto, using(crate::proofs::Does::pass_does_to_peer))]
+#[tactic(auto, using(crate::proofs::Does::pass_does))]
 fn start(machine: &mut PassThrough, packet: &mut Packet) -> TuvTurn
     requires { is_started machine.old.state ≡ false }
     ensures { PassDoes (pass_start machine.old) result packet.new machine.new }
@@ -44,7 +44,15 @@ fn start(machine: &mut PassThrough, packet: &mut Packet) -> TuvTurn
     TuvTurn::of(&step, machine.state())
 }
 
-#[tactic(auto, using(crate::proofs::Does::pass_does_to_server))]
+#[tactic(auto, using(crate::proofs::Does::pass_does))]
+fn restart(machine: &mut PassThrough, packet: &mut Packet) -> TuvTurn
+    ensures { PassDoes (pass_restart machine.old) result packet.new machine.new }
+{
+    let step = machine.restart(packet);
+    TuvTurn::of(&step, machine.state())
+}
+
+#[tactic(auto, using(crate::proofs::Does::pass_does))]
 fn from_peer(machine: &mut PassThrough, octets: &[u8], packet: &mut Packet) -> TuvTurn
     ensures { PassDoes (pass_from_peer machine.old octets.now) result packet.new machine.new }
 {
@@ -52,7 +60,7 @@ fn from_peer(machine: &mut PassThrough, octets: &[u8], packet: &mut Packet) -> T
     TuvTurn::of(&step, machine.state())
 }
 
-#[tactic(auto, using(crate::proofs::Does::pass_does_to_peer))]
+#[tactic(auto, using(crate::proofs::Does::pass_does))]
 fn from_backend(machine: &mut PassThrough, octets: &[u8], packet: &mut Packet) -> TuvTurn
     ensures { PassDoes (pass_from_backend machine.old octets.now) result packet.new machine.new }
 {
@@ -60,7 +68,7 @@ fn from_backend(machine: &mut PassThrough, octets: &[u8], packet: &mut Packet) -
     TuvTurn::of(&step, machine.state())
 }
 
-#[tactic(auto, using(crate::proofs::Does::pass_does_to_peer))]
+#[tactic(auto, using(crate::proofs::Does::pass_does))]
 fn timeout(machine: &mut PassThrough, packet: &mut Packet) -> TuvTurn
     requires { has_timer machine.old.state ≡ true }
     ensures { PassDoes (pass_timeout machine.old) result packet.new machine.new }
@@ -69,7 +77,7 @@ fn timeout(machine: &mut PassThrough, packet: &mut Packet) -> TuvTurn
     TuvTurn::of(&step, machine.state())
 }
 
-#[tactic(auto, using(crate::proofs::Does::pass_does_to_peer))]
+#[tactic(auto, using(crate::proofs::Does::pass_does))]
 fn aaa_timeout(machine: &mut PassThrough) -> TuvTurn
     requires { is_aaa_idle machine.old.state ≡ true }
     ensures { PassDoes (pass_aaa_timeout machine.old) result [] machine.new }
@@ -78,7 +86,7 @@ fn aaa_timeout(machine: &mut PassThrough) -> TuvTurn
     TuvTurn::of(&step, machine.state())
 }
 
-#[tactic(auto, using(crate::proofs::Does::pass_does_to_peer))]
+#[tactic(auto, using(crate::proofs::Does::pass_does))]
 fn aaa_noreq(machine: &mut PassThrough) -> TuvTurn
     requires { is_aaa_idle machine.old.state ≡ true }
     ensures { PassDoes (pass_aaa_noreq machine.old) result [] machine.new }
@@ -103,6 +111,21 @@ pub extern "C" fn tuv_pass_start(end: &mut TuvEnd) -> TuvTurn
                 start(machine, &mut session.packet)
             }
         }
+        _ => TuvTurn::none(),
+    }
+}
+
+/// It begins anew, wherever it stands, also before its start: its Request, with the first Identifier, goes to the
+/// peer.
+#[unsafe(no_mangle)]
+pub extern "C" fn tuv_pass_restart(end: &mut TuvEnd) -> TuvTurn
+    ensures pass { IfPass end.old.value.end (λ m. AsPass end.new.value.end (λ n.
+        PassDoes (pass_restart m) result end.new.value.packet n)) }
+    ensures misplaced { is_pass end.old.value.end ≡ false → IsMisplaced end.old.value result end.new.value }
+{
+    let session = end.session();
+    match &mut session.end {
+        End::Pass(machine) => restart(machine, &mut session.packet),
         _ => TuvTurn::none(),
     }
 }

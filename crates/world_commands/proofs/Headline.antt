@@ -62,12 +62,17 @@ whole_if_valid setup valid = record {
   server = valid.server.sound;
   peer_nonce = valid.peer.nonce;
   server_nonce = valid.server.nonce;
+  peer_later = valid.later.peer;
+  server_later = valid.later.server;
 }
+
+pub valid_setup : (octets : List ℕ) (setup : Setup) → (scenario_of octets).setup ≡ Some setup → IsValidSetup setup
+valid_setup octets setup is = setup_valid (lines octets) 0 0 (record { phase = phase.Unread; settings = no_settings }) setup no_settings_valid is
 
 pub headline : (octets : List ℕ) → HonestEndsAgree octets
 headline octets setup is =
     let events = (scenario_of octets).events in
-    let whole = whole_if_valid setup (setup_valid (lines octets) 0 0 (record { phase = phase.Unread; settings = no_settings }) setup no_settings_valid is) in
+    let whole = whole_if_valid setup (valid_setup octets setup is) in
     record {
       of_either = honest_of_either _;
       agrees = honest_ends_agree setup events whole;

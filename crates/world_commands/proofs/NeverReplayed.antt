@@ -1,32 +1,36 @@
 -- No trace with status 0 has both the line of honest tags and the line of ends that are apart.
-use Rattle.std.proofs.Common.{◌≡◌, ℕ, ◌+◌, List, [], ◌∷◌, ◌++◌, Bool, true, false, Option, Some, None, Result, Ok, Err, flat_map, refl, sym, ◌∙◌, codes}
+use Rattle.std.proofs.Common.{◌≡◌, ℕ, ◌+◌, List, [], ◌∷◌, ◌++◌, Bool, true, false, Option, Some, None, Result, Ok, Err, flat_map, length, refl, sym, ap, subst, ◌∙◌, codes, inl, inr}
 use Rattle.std.proofs.lemmas.Bool.{true≢false}
-use Rattle.std.specs.Prelude.{if◌then◌else◌, ◌&&◌, nat_le}
+use Rattle.std.specs.Prelude.{if◌then◌else◌, ◌&&◌, ◌==◌, nat_le}
 use Rattle.eap_base.specs.Lines.{Lines, ended, too_long, too_much, line, lines}
 use Rattle.eap_base.specs.declared.event.Event.{Event}
+use Rattle.eap_base.specs.declared.setup.Later.{Later}
 use Rattle.eap_base.specs.declared.setup.Setup.{Setup}
-use Rattle.eap_world.specs.Agreement.{run_of, AgreesWhereHonest}
+use Rattle.eap_world.specs.Agreement.{run_of, AgreesWhereHonest, AreApart}
 use Rattle.eap_world.specs.Book.{tags_verdict}
 use Rattle.eap_world.specs.Judgement.{verdict_of}
-use Rattle.eap_world.proofs.HonestOfEither.{honest_of_either}
-use Rattle.eap_world.specs.World.{WorldOutcome, outcomes_after, pass_state, told_octets, world_made, world_start}
+use Rattle.eap_world.proofs.BeginsOnce.{begins_once}
+use Rattle.eap_world.proofs.Versions.{version_kept}
+use Rattle.eap_world.specs.World.{WorldNow, WorldOutcome, outcomes_after, pass_state, told_octets, world_made, world_start}
 use Rattle.scenario_text.specs.Reading.{Reading, ReadLine, read_line, finish_of}
 use Rattle.scenario_text.specs.Items.{Item}
 use Rattle.scenario_text.specs.Items as item
+use Rattle.scenario_text.specs.Valid.{IsValidSetup}
 use Rattle.text_tables.specs.declared.fault.LineFault.{LineFault}
-use Rattle.trace_text.specs.Run.{begin_text, outcome_text, end_text}
-use Rattle.trace_text.proofs.Plain.{plain, over, join}
+use Rattle.trace_text.specs.Run.{begin_text, outcome_text, end_text, end_text_of, fresh_told}
+use Rattle.trace_text.specs.Lines.{HasLine}
+use Rattle.trace_text.proofs.Plain.{plain, over, passes, join}
 use Rattle.trace_text.proofs.PlainTexts.{begins_verdict, no_verdict, told_plain, start_plain}
 use Rattle.trace_text.proofs.Scanning.{has_mark, found}
-use Rattle.trace_text.proofs.Verdicts.{honest_line, apart_line, end_tells_honest, end_tells_apart}
+use Rattle.trace_text.proofs.Verdicts.{honest_line, apart_line, fresh_line, fresh_words, end_tells_honest, end_tells_apart, end_tells_fresh, end_has_fresh}
 use Rattle.command_driver.specs.Answers.{Answer, after_text, IsRefusal}
 use Rattle.command_driver.specs.declared.status.Status.TheVariants as status
 use Rattle.command_driver.proofs.Quiet.{never_done}
-use Rattle.world_commands.specs.Headline.{NeverBoth}
+use Rattle.world_commands.specs.Headline.{NeverBoth, SaysFresh}
 use Rattle.world_commands.specs.Replay.{max_events}
 use Rattle.world_commands.specs.Scenario.{Outcome, whole, refused, Scenario, stops, adds, is_event, with_line, events_after, read_after, scenario_from, scenario_of}
 use Rattle.world_commands.specs.Scenario.{too_much_at, finish_outcome, events_text, setup_answer, trace_header, replay_answer}
-use Rattle.world_commands.proofs.Headline.{headline}
+use Rattle.world_commands.proofs.Headline.{headline, valid_setup}
 
 -- an answer with status 0 has not both lines
 pub record Never (a : Answer) : Type 0 where
@@ -80,7 +84,7 @@ nothing_told : has_mark apart_line true (trace_header ++ []) ≡ false
 nothing_told = over begins_verdict 114 (codes "esult apart\n") refl trace_header [] true header_plain
 
 never_unset : NeverBoth (trace_header ++ [])
-never_unset honest apart = true≢false (sym (found (codes "result apart") (trace_header ++ []) apart) ∙ nothing_told)
+never_unset honest apart says = true≢false (sym (found (codes "result apart") (trace_header ++ []) apart) ∙ nothing_told)
 
 module _ (names : Bool) (setup : Setup) (events : List Event) where
   run_text : List ℕ
@@ -101,27 +105,73 @@ module _ (names : Bool) (setup : Setup) (events : List Event) where
       → has_mark mark true (end_text (run_of setup events)) ≡ true
   tells mark text e h = sym e ∙ h
 
-  never_run : AgreesWhereHonest (run_of setup events) → NeverBoth run_text
-  never_run agrees honest apart =
-      let w = run_of setup events in
-      agrees.never_apart
-      (honest_of_either w.book
-      (end_tells_honest w.parties.peer.vars.state (pass_state w.parties.mode w.parties.pass) w.parties.server.vars.state w.counts
+  -- freshness is told where the version tells it
+  w : WorldNow
+  w = run_of setup events
+
+  told_so : (w.version == 2) ≡ true → fresh_told w ≡ Some w.conversations.fresh
+  told_so two = ap (λ (t : Bool). if t then Some w.conversations.fresh else None) two
+
+  shown_so : Option Bool → List ℕ
+  shown_so f =
+      end_text_of w.parties.peer.vars.state (pass_state w.parties.mode w.parties.pass) w.parties.server.vars.state w.counts f (tags_verdict w.book) (verdict_of w)
+
+  is_fresh : (w.version == 2) ≡ true → HasLine (codes "fresh yes") run_text → w.conversations.fresh ≡ true
+  unfolding w shown_so
+  is_fresh two says =
+      end_tells_fresh w.parties.peer.vars.state (pass_state w.parties.mode w.parties.pass) w.parties.server.vars.state w.counts w.conversations.fresh
       (tags_verdict w.book) (verdict_of w)
-      (tells honest_line run_text (over_events 116 (codes "ags honest\n") refl) (found (codes "tags honest") run_text honest))))
-      (end_tells_apart w.parties.peer.vars.state (pass_state w.parties.mode w.parties.pass) w.parties.server.vars.state w.counts
+      (subst (λ (f : Option Bool). has_mark fresh_line true (shown_so f) ≡ true) (told_so two)
+      (tells fresh_line run_text (over_events 102 (codes "resh yes\n") refl) (found (codes "fresh yes") run_text says)))
+
+  has_fresh : (w.version == 2) ≡ true → HasLine (codes "fresh " ++ fresh_words w.conversations.fresh) run_text
+  unfolding run_text w shown_so
+  has_fresh two =
+      let begun = world_start (world_made setup) in
+      let line = codes "fresh " ++ fresh_words w.conversations.fresh in
+      passes begins_verdict line trace_header _ header_plain
+      (passes begins_verdict line (begin_text names begun) _ (start_plain begun.after.parties.mode names (told_octets begun) begun.told)
+      (passes begins_verdict line (events_text names begun.after events) _ (outcomes_plain names (outcomes_after begun.after events))
+      (subst (λ (f : Option Bool). HasLine line (shown_so f)) (sym (told_so two))
+      (end_has_fresh w.parties.peer.vars.state (pass_state w.parties.mode w.parties.pass) w.parties.server.vars.state w.counts w.conversations.fresh
+      (tags_verdict w.book) (verdict_of w)))))
+
+  by_words : (w.version == 2) ≡ true → SaysFresh run_text → w.conversations.fresh ≡ true
+  by_words two (inl says) = is_fresh two says
+  by_words two (inr none) = absurd (none (fresh_words w.conversations.fresh) (has_fresh two))
+
+  are_apart : (two : Bool) → (w.version == 2) ≡ two → ((w.version == 2) ≡ false → length w.conversations.begun ≡ 2) → SaysFresh run_text → AreApart w.conversations
+  are_apart true is once says = inr (by_words is says)
+  are_apart false is once says = inl (once is)
+
+  never_run : AgreesWhereHonest (run_of setup events) → (((run_of setup events).version == 2) ≡ false → length (run_of setup events).conversations.begun ≡ 2) → NeverBoth run_text
+  unfolding w
+  never_run agrees once honest apart says =
+      agrees.never_apart
+      (end_tells_honest w.parties.peer.vars.state (pass_state w.parties.mode w.parties.pass) w.parties.server.vars.state w.counts (fresh_told w)
+      (tags_verdict w.book) (verdict_of w)
+      (tells honest_line run_text (over_events 116 (codes "ags honest\n") refl) (found (codes "tags honest") run_text honest)))
+      (are_apart (w.version == 2) refl once says)
+      (end_tells_apart w.parties.peer.vars.state (pass_state w.parties.mode w.parties.pass) w.parties.server.vars.state w.counts (fresh_told w)
       (tags_verdict w.book) (verdict_of w)
       (tells apart_line run_text (over_events 114 (codes "esult apart\n") refl) (found (codes "result apart") run_text apart)))
 
+-- without later nonces no end begins a second conversation
+once_told : (setup : Setup) (events : List Event) → IsValidSetup setup → ((run_of setup events).version == 2) ≡ false → length (run_of setup events).conversations.begun ≡ 2
+once_told setup events valid other =
+    let none = valid.later.alone (ap (λ (v : ℕ). v == 2) (sym (version_kept setup events)) ∙ other) in
+    begins_once setup events (ap (λ (later : Later). later.peer) none) (ap (λ (later : Later). later.server) none)
+
 never_setup : (names : Bool) (x : Option Setup) (events : List Event) (o : Outcome)
-    → ((setup : Setup) → x ≡ Some setup → AgreesWhereHonest (run_of setup events)) → IsSound o → Never (after_text trace_header (setup_answer names x events o))
+    → ((setup : Setup) → x ≡ Some setup → AgreesWhereHonest (run_of setup events) × IsValidSetup setup) → IsSound o → Never (after_text trace_header (setup_answer names x events o))
 unfolding run_text
-never_setup names None events whole agrees sound = record { holds = λ done. never_unset }
-never_setup names None events (refused number word s) agrees sound = record { holds = λ done. absurd (never_done s sound done) }
-never_setup names (Some setup) events whole agrees sound = record { holds = λ done. never_run names setup events (agrees setup refl) }
-never_setup names (Some setup) events (refused number word s) agrees sound = record { holds = λ done. absurd (never_done s sound done) }
+never_setup names None events whole holds sound = record { holds = λ done. never_unset }
+never_setup names None events (refused number word s) holds sound = record { holds = λ done. absurd (never_done s sound done) }
+never_setup names (Some setup) events whole holds sound =
+    let both = holds setup refl in record { holds = λ done. never_run names setup events both.0 (once_told setup events both.1) }
+never_setup names (Some setup) events (refused number word s) holds sound = record { holds = λ done. absurd (never_done s sound done) }
 
 pub never_replay : (names : Bool) (octets : List ℕ) → Never (replay_answer names octets)
 never_replay names octets =
     let s = scenario_of octets in
-    never_setup names s.setup s.events s.outcome (λ setup is. (headline octets setup is).agrees) (sound_outcome (lines octets) 0 0 _)
+    never_setup names s.setup s.events s.outcome (λ setup is. ((headline octets setup is).agrees, valid_setup octets setup is)) (sound_outcome (lines octets) 0 0 _)

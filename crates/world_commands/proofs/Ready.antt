@@ -7,7 +7,7 @@ use Rattle.eap_base.specs.Setup.{psk_kind, gpsk_kind, is_kind, is_among, are_kin
 use Rattle.eap_method.specs.Peer.{PeerShown, have_each}
 use Rattle.eap_method.specs.Server.{ServerShown}
 use Rattle.eap_method.proofs.Amongs.{each_one}
-use Rattle.eap_world.specs.World.{WorldValue}
+use Rattle.eap_world.specs.World.{HasObjects, WorldValue}
 use Rattle.eap_world.specs.declared.world.Methods.{Methods}
 use Rattle.world_commands.specs.Replay.{HasBoth, AreThere, IsReady}
 use Rattle.world_commands.specs.declared.replay.Replay.{Replay}
@@ -39,10 +39,11 @@ pub both_there : {P S : Type 0} (peer_shown : P → PeerShown) (server_shown : S
 both_there peer_shown server_shown c taken methods ready none same is =
     subst (AreThere peer_shown server_shown) (sym same ∙ is) (ready.objects (none_unless c.world none))
 
--- a command whose world has started is ready
+-- a command whose world has started, with its objects, is ready
 pub ready_in : {P S : Type 0} (peer_shown : P → PeerShown) (server_shown : S → ServerShown) (c : Replay P S) (w : WorldValue P S)
-    → c.world ≡ Some w → w.started ≡ true → IsReady peer_shown server_shown c 0
-ready_in {P = P} {S = S} peer_shown server_shown c w is started = record {
+    → c.world ≡ Some w → w.started ≡ true → HasObjects peer_shown server_shown w → IsReady peer_shown server_shown c 0
+ready_in {P = P} {S = S} peer_shown server_shown c w is started has = record {
   objects = λ none. absurd (let e = sym is ∙ none in cc);
   started = subst (λ (o : Option (WorldValue P S)). IfSome o (λ v. v.started ≡ true)) (sym is) started;
+  each = subst (λ (o : Option (WorldValue P S)). IfSome o (λ v. HasObjects peer_shown server_shown v)) (sym is) has;
 }

@@ -5,13 +5,13 @@ use Rattle.eap_base.specs.Lines.{Lines, ended, too_long, too_much, line}
 use Rattle.eap_base.specs.declared.event.Event.{Event}
 use Rattle.eap_world.specs.World.{WorldNow, world_made, world_start, world_step, run_after, outcomes_after}
 use Rattle.world_commands.proofs.Runs.{world_step_events}
-use Rattle.scenario_text.specs.Reading.{Reading, ReadLine, said, with_setting, no_settings, read_line, finish_of}
+use Rattle.scenario_text.specs.Reading.{Reading, ReadLine, said, with_setting, begun, read_line, finish_of}
 use Rattle.text_tables.specs.declared.fault.LineFault.{LineFault}
 use Rattle.scenario_text.specs.Items as item
 use Rattle.scenario_text.specs.declared.scenario.Phase.{Phase}
 use Rattle.scenario_text.specs.declared.scenario.Phase.TheVariants as phase
 use Rattle.scenario_text.specs.declared.settings.Settings.{Settings}
-use Rattle.scenario_text.proofs.Telling.{FromSettings, FromEvents, PassedBefore, NewSetting, AllSet, PassedBetween, NewEvent, AllRead, read_line_from_unread, read_line_from_settings, read_line_from_events, read_line_from_ended}
+use Rattle.scenario_text.proofs.Telling.{Starts, FromSettings, FromEvents, PassedBefore, NewSetting, AllSet, PassedBetween, NewEvent, AllRead, read_line_from_unread, read_line_from_settings, read_line_from_events, read_line_from_ended}
 use Rattle.trace_text.specs.Run.{begin_text, outcome_text, end_text}
 use Rattle.command_driver.specs.Answers.{Answer, after_text}
 use Rattle.command_driver.specs.Commands.{Took, refuses, after_ruling, lacking_after, closing_answer, answer, lacking}
@@ -125,16 +125,16 @@ module _ (c : ReplayNow) where
       ap (after_text (begin_text c.names (world_start (world_made setup))))
       (answers_in_world rest (n + 1) (record { phase = phase.Events; settings = s }) (world_start (world_made setup)).after (AtEvents refl))
 
-  line_at_first : (n : ℕ) (r : Reading) (rest : Lines) → Waits (n + 1) rest → (out : ReadLine) → out ≡ said item.Nothing phase.Settings no_settings
+  line_at_first : (n : ℕ) (r : Reading) (l : List ℕ) (rest : Lines) → Waits (n + 1) rest → (out : ReadLine) → Starts l out
       → line_answer n (in_none c r) rest (Ok out) ≡ scenario_answer c.names (line_scenario n 0 r rest (Ok out))
-  line_at_first n r rest ih out e =
+  line_at_first n r l rest ih out starts =
       let P : ReadLine → Type 0 = λ o. line_answer n (in_none c r) rest (Ok o) ≡ scenario_answer c.names (line_scenario n 0 r rest (Ok o)) in
-      subst P (sym e) (ih (record { phase = phase.Settings; settings = no_settings }) (AtSettings refl))
+      subst P (sym starts.out_is) (ih (record { phase = phase.Settings; settings = begun starts.version }) (AtSettings refl))
 
   line_before : (n : ℕ) (r : Reading) (l : List ℕ) (rest : Lines) → BeforeRun r.phase → Waits (n + 1) rest → (x : Result ReadLine LineFault) → read_line r l ≡ x
       → line_answer n (in_none c r) rest x ≡ scenario_answer c.names (line_scenario n 0 r rest x)
   line_before n r l rest h ih (Err fault) e = refl
-  line_before n r l rest (AtUnread p) ih (Ok out) e = line_at_first n r rest ih out (read_line_from_unread r l out p e)
+  line_before n r l rest (AtUnread p) ih (Ok out) e = line_at_first n r l rest ih out (read_line_from_unread r l out p e)
   line_before n r l rest (AtSettings p) ih (Ok out) e = line_at_settings n r.settings r rest ih out (read_line_from_settings r l out p e)
 
   -- before the run the command answers what the scenario does
@@ -158,16 +158,16 @@ module _ (c : ReplayNow) where
   lacks_at_settings n s r rest ih _ (NewSetting v new) h = ih (record { phase = phase.Settings; settings = with_setting s v }) (AtSettings refl) h
   lacks_at_settings n s r rest ih _ (AllSet setup set) h = refl
 
-  lacks_at_first : (n : ℕ) (r : Reading) (rest : Lines) → Lacks (n + 1) rest → (out : ReadLine) → out ≡ said item.Nothing phase.Settings no_settings
+  lacks_at_first : (n : ℕ) (r : Reading) (l : List ℕ) (rest : Lines) → Lacks (n + 1) rest → (out : ReadLine) → Starts l out
       → line_lacks (in_none c r) rest (Ok out) ≡ true → is_some (line_scenario n 0 r rest (Ok out)).setup ≡ true
-  lacks_at_first n r rest ih out e =
+  lacks_at_first n r l rest ih out starts =
       let P : ReadLine → Type 0 = λ o. line_lacks (in_none c r) rest (Ok o) ≡ true → is_some (line_scenario n 0 r rest (Ok o)).setup ≡ true in
-      subst P (sym e) (ih (record { phase = phase.Settings; settings = no_settings }) (AtSettings refl))
+      subst P (sym starts.out_is) (ih (record { phase = phase.Settings; settings = begun starts.version }) (AtSettings refl))
 
   lacks_before : (n : ℕ) (r : Reading) (l : List ℕ) (rest : Lines) → BeforeRun r.phase → Lacks (n + 1) rest → (x : Result ReadLine LineFault) → read_line r l ≡ x
       → line_lacks (in_none c r) rest x ≡ true → is_some (line_scenario n 0 r rest x).setup ≡ true
   lacks_before n r l rest h ih (Err fault) e lack = absurd cc
-  lacks_before n r l rest (AtUnread p) ih (Ok out) e lack = lacks_at_first n r rest ih out (read_line_from_unread r l out p e) lack
+  lacks_before n r l rest (AtUnread p) ih (Ok out) e lack = lacks_at_first n r l rest ih out (read_line_from_unread r l out p e) lack
   lacks_before n r l rest (AtSettings p) ih (Ok out) e lack = lacks_at_settings n r.settings r rest ih out (read_line_from_settings r l out p e) lack
 
   pub lacks_only_with_setup : (ls : Lines) (n : ℕ) → Lacks n ls

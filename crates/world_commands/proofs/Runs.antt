@@ -16,7 +16,7 @@ counted-events c (Called did) = refl
 -- each event counts
 pub world_step_events : (w : WorldNow) (e : Event) → (world_step w e).after.counts.events ≡ w.counts.events + 1
 unfolding world_step
-world_step_events w e = counted-events w.counts (act w.parties w.sent e).action
+world_step_events w e = counted-events w.counts (act w.parties w.conversations w.sent e).action
 
 -- a world that has started, or taken an event, is one that has started
 pub start_starts : (w after : WorldNow) (told : Told) → world_start w ≡ world_outcome told after → after.started ≡ true
@@ -43,7 +43,7 @@ more_sent w a most h = omega (arith, h, one_by a, length-append w.sent (sent_by 
 step_sends : (w : WorldNow) (e : Event) → length w.sent ≤ w.counts.events + 1 → length (world_step w e).after.sent ≤ (world_step w e).after.counts.events + 1
 unfolding world_step
 step_sends w e h =
-    let out = act w.parties w.sent e in
+    let out = act w.parties w.conversations w.sent e in
     let counts = counted-events w.counts out.action in
     let few = more_sent w out.action (w.counts.events + 1) h in
     omega (arith, counts, few)

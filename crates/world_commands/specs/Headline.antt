@@ -1,7 +1,7 @@
--- What holds of the run of every scenario: whatever is delivered, lost, repeated, reordered, altered, reflected
--- or injected, two ends that both succeed agree, where each accepted tag was made earlier by either end. So it is
--- where each was made earlier by the other end, which the trace tells.
-use Rattle.std.specs.Prelude.{◌≡◌, ◌≤◌, ℕ, ◌+◌, List, ◌++◌, length, Option, Some, codes}
+-- What holds of the run of every scenario: whatever is delivered, lost, repeated, reordered, altered, injected or restarted,
+-- two ends that both succeed agree, where each accepted tag was made earlier by the other end and no end has begun again or
+-- nonces are fresh. The trace tells both.
+use Rattle.std.specs.Prelude.{◌≡◌, ◌≤◌, ◌⊎◌, ℕ, ◌+◌, List, ◌++◌, length, Option, Some, codes}
 use Rattle.eap_base.specs.declared.setup.Setup.{Setup}
 use Rattle.eap_world.specs.Agreement.{run_of, AgreesWhereHonest, TheirsWhereHonest, HasFewTags}
 use Rattle.eap_world.specs.Book.{tags_verdict, tags_verdict_either}
@@ -12,14 +12,14 @@ use Rattle.world_commands.specs.Scenario.{scenario_of}
 use Rattle.command_driver.specs.declared.status.Status.{Status}
 use Rattle.command_driver.specs.declared.status.Status.TheVariants.{Done}
 
--- after the events: over a book that is honest of either end two ends that both succeed agree, and what they
--- report is their own; a book that the trace calls honest is such a book, and it is small; and at most one packet
--- more was sent than there were events
+-- after the events: two ends that both succeed agree, and what they report is their own, over tags and nonces as the laws
+-- ask; a book whose tags are honest is honest of either end, and it is small; and at most one packet more was sent than
+-- there were events
 pub record KeepsAgreement (setup : Setup) (w : WorldNow) : Type 0 where
   pub of_either : tags_verdict w.book ≡ Honest → tags_verdict_either w.book ≡ Honest
   pub agrees : AgreesWhereHonest w
   pub theirs : TheirsWhereHonest setup w
-  pub few_tags : HasFewTags w.book
+  pub few_tags : HasFewTags w.conversations.begun w.book
   pub few_packets : length w.sent ≤ w.counts.events + 1
 
 -- so it is after the events of the scenario that an input is
@@ -27,9 +27,13 @@ abbrev pub HonestEndsAgree : List ℕ → Type 0
 HonestEndsAgree octets =
     (setup : Setup) → (scenario_of octets).setup ≡ Some setup → KeepsAgreement setup (run_of setup (scenario_of octets).events)
 
--- the text doesn't say both that all tags are honest and that the ends are apart
+-- the text says that nonces are fresh, or nothing of them, as where no end can begin again
+abbrev pub SaysFresh : List ℕ → Type 0
+SaysFresh text = HasLine (codes "fresh yes") text ⊎ ((word : List ℕ) → HasLine (codes "fresh " ++ word) text → ⊥)
+
+-- the text doesn't say both that all tags are honest and that the ends are apart, where it says so
 abbrev pub NeverBoth : List ℕ → Type 0
-NeverBoth text = HasLine (codes "tags honest") text → HasLine (codes "result apart") text → ⊥
+NeverBoth text = HasLine (codes "tags honest") text → HasLine (codes "result apart") text → SaysFresh text → ⊥
 
 -- so it is with what was written, where the status is 0
 pub record WritesNeverBoth (s : Status) (before now : Option (List ℕ)) : Type 0 where

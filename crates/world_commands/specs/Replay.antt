@@ -5,7 +5,7 @@ use Rattle.eap_base.specs.declared.setup.Setup.{Setup}
 use Rattle.eap_base.specs.Setup.{psk_kind, gpsk_kind}
 use Rattle.eap_method.specs.Peer.{PeerShown, peer_kinds, have_each}
 use Rattle.eap_method.specs.Server.{ServerShown, server_kinds}
-use Rattle.eap_world.specs.World.{WorldNow, now_of, world_made, world_start, world_step}
+use Rattle.eap_world.specs.World.{HasObjects, WorldNow, now_of, world_made, world_start, world_step}
 use Rattle.eap_world.specs.declared.world.Methods.{Methods}
 use Rattle.text_tables.specs.Words.{fault_word}
 use Rattle.scenario_text.specs.Reading.{Reading, ReadLine, read_line, finish_of}
@@ -41,10 +41,11 @@ module _ {P S : Type 0} (peer_shown : P → PeerShown) (server_shown : S → Ser
   AreThere None = ⊥
   AreThere (Some methods) = HasBoth methods
 
-  -- before the world begins the methods are there, and a world has started
+  -- before the world begins the methods are there; a world has started, and each method of an end's settings has an object
   pub record IsReady (c : Replay P S) (lines : ℕ) : Type 0 where
     pub objects : c.world ≡ None → AreThere c.methods
     pub started : IfSome c.world (λ w. w.started ≡ true)
+    pub each : IfSome c.world (λ w. HasObjects peer_shown server_shown w)
 
 -- a line that brings nothing to write
 abbrev pub goes_silently : ReplayNow → Took ReplayNow

@@ -3,15 +3,15 @@
 ghost use Rattle.std.specs.Prelude.{◌≡◌};
 ghost use Rattle.scenario_text.specs.Valid.{IsValidSetup};
 ghost use Rattle.world_commands.specs.Replay.{HasBoth};
-ghost use Rattle.eap_world.specs.World.{now_of, world_made};
+ghost use Rattle.eap_world.specs.World.{HasObjects, now_of, world_made};
 
 use eap_base::Setup;
 use eap_method::{PeerMethod, ServerMethod};
 use eap_world::{Methods, World};
 use std::alloc::Global;
 
-/// The world of a setup that a scenario gives, where each end has an object of both methods. It hasn't
-/// started, and takes no memory yet.
+/// The world of a setup that a scenario gives, where each end has an object of both methods, and so one of each that its
+/// settings name. It hasn't started, and takes no memory yet.
 pub fn world_of<P: PeerMethod, S: ServerMethod>(
     alloc: Global,
     setup: Setup,
@@ -19,7 +19,8 @@ pub fn world_of<P: PeerMethod, S: ServerMethod>(
 ) -> World<P, S>
     requires valid { IsValidSetup setup }
     requires both { HasBoth P.peer_shown S.server_shown methods }
-    ensures { now_of P.peer_shown S.server_shown result ≡ world_made setup }
+    ensures made { now_of P.peer_shown S.server_shown result ≡ world_made setup }
+    ensures objects { HasObjects P.peer_shown S.server_shown result }
 {
     World::new(alloc, setup, methods)
 }

@@ -9,6 +9,7 @@ loop-passed-init g c = record {
   started = c.requires.started;
   packets = c.requires.packets;
   few = c.requires.few;
+  objects = c.requires.objects;
   kinds = refl;
 }
 
@@ -19,5 +20,6 @@ loop-passed-preserved g c = record {
   started = c.in_ok-take.ensures.started;
   packets = c.in_ok-take.ensures.packets;
   few = c.in_ok-take.ensures.few c.loop-passed.passed c.loop-passed.invariant.few;
+  objects = c.take.ensures.objects;
   kinds = c.take.ensures.kinds ∙ c.loop-passed.invariant.kinds;
 }

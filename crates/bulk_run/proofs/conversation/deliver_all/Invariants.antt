@@ -1,7 +1,7 @@
 use Rattle.std.proofs.Common.{◌≡◌, [], length, true}
 use Rattle.eap_base.specs.declared.setup.Setup.{Setup}
 use Rattle.eap_world.specs.Agreement.{run_of}
-use Rattle.eap_world.specs.World.{now_of}
+use Rattle.eap_world.specs.World.{HasObjects, now_of}
 use Rattle.bulk_run.specs.Kinds.{KeepsKinds}
 use Rattle.bulk_run.specs.Conversation.{deliveries}
 use Rattle.bulk_run.specs.Going.{AreFew}
@@ -14,5 +14,6 @@ invariant-loop-passed g l = record {
   started : l.world.started ≡ true;
   packets : l.packets ≡ length l.world.sent;
   few : AreFew l.world.counts l.passed;
+  objects : HasObjects g.P.PeerMethod.peer_shown g.S.ServerMethod.server_shown l.world;
   kinds : KeepsKinds g.P.PeerMethod.peer_shown g.S.ServerMethod.server_shown l.initial.world l.world;
 }

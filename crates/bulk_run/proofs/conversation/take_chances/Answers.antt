@@ -12,6 +12,7 @@ loop-init g c = record {
   started = c.requires.started;
   packets = c.requires.packets;
   few = c.requires.few;
+  objects = c.requires.objects;
   kinds = refl;
 }
 
@@ -34,5 +35,6 @@ loop-preserved g c =
       started = c.in_ok-take_chosen.ensures.started;
       packets = c.in_ok-take_chosen.ensures.packets;
       few = c.in_ok-take_chosen.ensures.few turns c.loop.invariant.few;
+      objects = c.take_chosen.ensures.objects;
       kinds = c.take_chosen.ensures.kinds ∙ c.loop.invariant.kinds;
     }

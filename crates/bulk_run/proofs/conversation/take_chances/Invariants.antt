@@ -1,7 +1,7 @@
 use Rattle.std.proofs.Common.{◌≡◌, ℕ, ◌+◌, ◌*◌, [], length, true}
 use Rattle.eap_base.specs.declared.setup.Setup.{Setup}
 use Rattle.eap_world.specs.Agreement.{run_of}
-use Rattle.eap_world.specs.World.{now_of}
+use Rattle.eap_world.specs.World.{HasObjects, now_of}
 use Rattle.bulk_run.specs.Kinds.{KeepsKinds}
 use Rattle.bulk_run.specs.Conversation.{chances}
 use Rattle.bulk_run.specs.Draws.{state_at}
@@ -17,5 +17,6 @@ invariant-loop g l = record {
   started : l.world.started ≡ true;
   packets : l.packets ≡ length l.world.sent;
   few : AreFew l.world.counts l.counter;
+  objects : HasObjects g.P.PeerMethod.peer_shown g.S.ServerMethod.server_shown l.world;
   kinds : KeepsKinds g.P.PeerMethod.peer_shown g.S.ServerMethod.server_shown l.initial.world l.world;
 }

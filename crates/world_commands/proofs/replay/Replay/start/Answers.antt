@@ -14,3 +14,4 @@ returns-in-Ok-written-clause-ready_after g c =
     let server_shown = g.S.ServerMethod.server_shown in
     ready_in peer_shown server_shown _ c.start.new.self refl
     (start_starts _ (now_of peer_shown server_shown c.start.new.self) c.in-Ok-start.told c.in-Ok-start.ensures.told)
+    c.start.ensures.objects

@@ -10,3 +10,4 @@ returns-in-Ok-write_outcome-clause-ready_after g c =
     let server_shown = g.S.ServerMethod.server_shown in
     ready_in peer_shown server_shown _ c.step.new.self refl
     (step_starts _ (now_of peer_shown server_shown c.step.new.self) c.args.event.now c.in-Ok.told c.in-Ok.ensures.told)
+    c.step.ensures.objects

@@ -1,0 +1,139 @@
+//! The lines that tell what an end does. Each call answers `Failed` exactly where a write of the sink failed; a front of the
+//! lines was then appended.
+
+ghost use Rattle.std.specs.Prelude.{◌≡◌, ◌∷◌, [], Some, None, codes, decimal, if◌then◌else◌};
+ghost use Rattle.std.specs.List.{concat};
+ghost use Rattle.eap_method.specs.declared.tags.Tags.{Tags};
+ghost use Rattle.trace_text.specs.Pieces.{hex_text};
+ghost use Rattle.trace_text.specs.Writes.{Appends};
+ghost use Rattle.end_pipe.specs.EndRun.{told_with};
+ghost use Rattle.end_commands.specs.EndText.{acted_text, keys_line, keys_text, last_text, send_text, skip_line, told_text};
+
+use eap_base::{Failed, Sink};
+use eap_method::Report;
+use eap_packet::State;
+use end_pipe::EndStep;
+use login_keys::key_name;
+use trace_text::Piece::{Hex, Number, Text};
+use trace_text::{write_cause, write_nothing, write_pieces, write_states};
+
+/// Writes the lines of what an end does at the input of this number, 0 for its start; the packet that it sends, if it
+/// sends one, has these octets.
+#[tactic(auto, unfolding(crate::specs::EndText::told_text))]
+pub fn write_step<W: Sink>(
+    sink: &mut W,
+    number: u32,
+    step: &EndStep,
+    octets: &[u8],
+) -> Result<(), Failed>
+    ensures { (tags : Tags) → Appends W.written W.write_faults W.last_write_fault result sink.old sink.new
+        (told_text number (told_with step.now octets.now tags)) }
+{
+    if step.skipped {
+        write_skip(sink, number)
+    } else {
+        write_acted(sink, number, step, octets)
+    }
+}
+
+/// Writes the last lines: where the end stands, and `end`.
+#[tactic(auto, unfolding(crate::specs::EndText::last_text))]
+pub fn write_last<W: Sink>(sink: &mut W, state: State) -> Result<(), Failed>
+    ensures { Appends W.written W.write_faults W.last_write_fault result sink.old sink.new (last_text state) }
+{
+    write_pieces(
+        sink,
+        &[
+            Text(b"state "),
+            Text(state.word().as_bytes()),
+            Text(b"\nend\n"),
+        ],
+    )
+}
+
+/// Writes the line of an input that is skipped.
+fn write_skip<W: Sink>(sink: &mut W, number: u32) -> Result<(), Failed>
+    ensures { Appends W.written W.write_faults W.last_write_fault result sink.old sink.new (skip_line number) }
+{
+    write_pieces(sink, &[Number(u64::from(number)), Text(b" skip Ended\n")])
+}
+
+/// Writes the lines of what an end does at an input that isn't skipped.
+#[tactic(auto, using(trace_text::proofs::Fronts::appends_both, trace_text::proofs::Fronts::appends_front))]
+fn write_acted<W: Sink>(
+    sink: &mut W,
+    number: u32,
+    step: &EndStep,
+    octets: &[u8],
+) -> Result<(), Failed>
+    ensures { (tags : Tags) → Appends W.written W.write_faults W.last_write_fault result sink.old sink.new
+        (acted_text number (told_with step.now octets.now tags)) }
+{
+    write_states(sink, number, step.path.as_slice())?;
+    write_cause(sink, number, step.cause)?;
+    write_sent(sink, number, octets, step.sends)?;
+    write_keys(sink, number, &step.named)
+}
+
+/// Writes the line of the packet that is sent, if one is.
+fn write_sent<W: Sink>(sink: &mut W, number: u32, octets: &[u8], sends: bool) -> Result<(), Failed>
+    ensures { Appends W.written W.write_faults W.last_write_fault result sink.old sink.new
+        (send_text number (if sends then Some octets.now else None)) }
+{
+    if sends {
+        write_packet(sink, number, octets)
+    } else {
+        write_nothing(sink)
+    }
+}
+
+/// Writes all octets of a packet in hex, in one line.
+fn write_packet<W: Sink>(sink: &mut W, number: u32, octets: &[u8]) -> Result<(), Failed>
+    ensures { Appends W.written W.write_faults W.last_write_fault result sink.old sink.new (send_text number (Some octets.now)) }
+{
+    write_pieces(
+        sink,
+        &[
+            Number(u64::from(number)),
+            Text(b" send "),
+            Hex(octets),
+            Text(b"\n"),
+        ],
+    )
+}
+
+/// Writes the names of the keys of a report that the end first holds, if there is one.
+fn write_keys<W: Sink>(sink: &mut W, number: u32, named: &Option<Report>) -> Result<(), Failed>
+    ensures { Appends W.written W.write_faults W.last_write_fault result sink.old sink.new (keys_text number named.now) }
+{
+    match named {
+        None => write_nothing(sink),
+        Some(report) => {
+            let msk = key_name(&report.msk);
+            let emsk = key_name(&report.emsk);
+            write_key_names(sink, number, &msk, &emsk)
+        }
+    }
+}
+
+/// Writes the names of keys, in one line.
+fn write_key_names<'a, W: Sink>(
+    sink: &mut W,
+    number: u32,
+    msk: &'a [u8],
+    emsk: &'a [u8],
+) -> Result<(), Failed>
+    ensures { Appends W.written W.write_faults W.last_write_fault result sink.old sink.new (keys_line number msk.now emsk.now) }
+{
+    write_pieces(
+        sink,
+        &[
+            Number(u64::from(number)),
+            Text(b" keys msk "),
+            Hex(msk),
+            Text(b" emsk "),
+            Hex(emsk),
+            Text(b"\n"),
+        ],
+    )
+}

@@ -1,0 +1,7 @@
+pub mod EndContents
+pub mod EndLaws
+pub mod EndReading
+pub mod EndRun
+pub mod EndTable
+pub mod Inputs
+pub mod Joined

@@ -1,0 +1,19 @@
+//! One end of a login alone, over inputs: the text that tells its settings and its inputs, read line by line, and the
+//! peer and the stand-alone server that take them one after the other.
+#![tactic(auto)]
+
+mod entry;
+mod input;
+mod laws;
+mod peer_pipe;
+mod reader;
+mod server_pipe;
+mod table;
+mod told;
+
+pub use input::EndInput;
+pub use laws::{end_lines_are_judged, interleavings_are_runs, joined_ends_agree};
+pub use peer_pipe::PeerPipe;
+pub use reader::{EndItem, EndReader};
+pub use server_pipe::ServerPipe;
+pub use told::EndStep;

@@ -1,0 +1,100 @@
+//! A peer, a stand-alone server or a backend begins a new conversation.
+
+ghost use Rattle.std.specs.Prelude.{◌≡◌, [], true, false};
+ghost use Rattle.peer_machine.specs.PeerTable.{peer_restart};
+ghost use Rattle.peer_machine.specs.PeerTable as peer;
+ghost use Rattle.server_machine.specs.ServerTable.{server_restart};
+ghost use Rattle.server_machine.specs.ServerTable as server;
+ghost use Rattle.end_objects.specs.Objects.{peer_object_shown, server_object_shown};
+ghost use Rattle.tuvaddri_c.specs.Ends.{IfPeer, AsPeer, IfServer, AsServer, IfBackend, AsBackend, peer_has_objects, server_has_objects, can_restart};
+ghost use Rattle.tuvaddri_c.specs.Turns.{PeerDoes, ServerDoes, IsMisplaced};
+
+use crate::handle::TuvEnd;
+use crate::session::{End, Session};
+use crate::turn::TuvTurn;
+use eap_base::{Nonce, Packet};
+use end_objects::{PeerObject, ServerObject};
+use peer_machine::PeerMachine;
+use server_machine::{Backend, ServerMachine};
+
+#[tactic(auto, using(crate::proofs::Does::peer_does))]
+fn restart_peer(machine: &mut PeerMachine<PeerObject>, nonce: &Nonce) -> TuvTurn
+    requires { peer_has_objects machine.old ≡ true }
+    ensures { PeerDoes (peer_restart (peer.now_of peer_object_shown machine.old) nonce.now) result [] machine.new }
+{
+    let step = machine.restart(nonce);
+    TuvTurn::of(&step, machine.state())
+}
+
+#[tactic(auto, using(crate::proofs::Does::server_does))]
+fn restart_server(
+    machine: &mut ServerMachine<ServerObject>,
+    nonce: &Nonce,
+    packet: &mut Packet,
+) -> TuvTurn
+    requires { server_has_objects machine.old ≡ true }
+    ensures { ServerDoes (server_restart (server.now_of server_object_shown machine.old) nonce.now) result packet.new machine.new }
+{
+    let step = machine.restart(nonce, packet);
+    TuvTurn::of(&step, machine.state())
+}
+
+#[tactic(auto, using(crate::proofs::Does::server_does))]
+fn restart_backend(machine: &mut Backend<ServerObject>, nonce: &Nonce) -> TuvTurn
+    requires { server_has_objects machine.old ≡ true }
+    ensures { ServerDoes (server_restart (server.now_of server_object_shown machine.old) nonce.now) result [] machine.new }
+{
+    let step = machine.restart(nonce);
+    TuvTurn::of(&step, machine.state())
+}
+
+fn restart(session: &mut Session, nonce: &Nonce) -> TuvTurn
+    ensures peer { IfPeer session.old.end (λ m. peer_has_objects m ≡ true → AsPeer session.new.end (λ n.
+        PeerDoes (peer_restart (peer.now_of peer_object_shown m) nonce.now) result [] n)) }
+    ensures server { IfServer session.old.end (λ m. server_has_objects m ≡ true → AsServer session.new.end (λ n.
+        ServerDoes (server_restart (server.now_of server_object_shown m) nonce.now) result session.new.packet n)) }
+    ensures backend { IfBackend session.old.end (λ m. server_has_objects m ≡ true → AsBackend session.new.end (λ n.
+        ServerDoes (server_restart (server.now_of server_object_shown m) nonce.now) result [] n)) }
+    ensures misplaced { can_restart session.old.end ≡ false → IsMisplaced session.old result session.new }
+{
+    match &mut session.end {
+        End::Peer(machine) => {
+            if machine.has_objects() {
+                restart_peer(machine, nonce)
+            } else {
+                TuvTurn::none()
+            }
+        }
+        End::Server(machine) => {
+            if machine.has_objects() {
+                restart_server(machine, nonce, &mut session.packet)
+            } else {
+                TuvTurn::none()
+            }
+        }
+        End::Backend(machine) => {
+            if machine.has_objects() {
+                restart_backend(machine, nonce)
+            } else {
+                TuvTurn::none()
+            }
+        }
+        _ => TuvTurn::none(),
+    }
+}
+
+/// A new conversation begins, with this nonce and the settings that the end has, wherever it stands, also before a
+/// server's start: of a peer, a stand-alone server or a backend, each of whose methods has an object. A stand-alone
+/// server asks for the identity, by its first Identifier; a peer and a backend send nothing.
+#[unsafe(no_mangle)]
+pub extern "C" fn tuv_end_restart(end: &mut TuvEnd, nonce: &Nonce) -> TuvTurn
+    ensures peer { IfPeer end.old.value.end (λ m. peer_has_objects m ≡ true → AsPeer end.new.value.end (λ n.
+        PeerDoes (peer_restart (peer.now_of peer_object_shown m) nonce.now) result [] n)) }
+    ensures server { IfServer end.old.value.end (λ m. server_has_objects m ≡ true → AsServer end.new.value.end (λ n.
+        ServerDoes (server_restart (server.now_of server_object_shown m) nonce.now) result end.new.value.packet n)) }
+    ensures backend { IfBackend end.old.value.end (λ m. server_has_objects m ≡ true → AsBackend end.new.value.end (λ n.
+        ServerDoes (server_restart (server.now_of server_object_shown m) nonce.now) result [] n)) }
+    ensures misplaced { can_restart end.old.value.end ≡ false → IsMisplaced end.old.value result end.new.value }
+{
+    restart(end.session(), nonce)
+}
