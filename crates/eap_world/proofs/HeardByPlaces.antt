@@ -3,12 +3,13 @@ use Rattle.std.proofs.Common.{◌≡◌, ◌≤◌, ◌<◌, ℕ, ◌+◌, ◌-�
 use Rattle.std.specs.Prelude.{Decides, slice_index, All, eqb}
 use Rattle.std.specs.Str.{bytes_eq}
 use Rattle.std.proofs.lemmas.List.{drop_more, drop_all, take_all, length-drop, length-take, length-take-le, get_or-set_same, get_or-set_other}
-use Rattle.std.proofs.lemmas.List.Elements.{All-head, All-tail, All-map, All-more, All-weaker}
+use Rattle.std.proofs.lemmas.List.Elements.{All-cons, All-head, All-more, All-nil, All-tail, All-weaker}
 use Rattle.std.proofs.lemmas.Slice.Eq.{bytes_eq-Decides}
 use Rattle.std.proofs.lemmas.Bool.{false_from_ne_true, false≢true, true≢false}
 use Rattle.std.proofs.lemmas.Bool.Decides.{Decides-eqb}
-use Rattle.eap_world.specs.Conversations.{front, hears, stands_in}
+use Rattle.eap_world.specs.Conversations.{front, hears, stands_in, waiting}
 use Rattle.eap_world.specs.Hearing.{IsMarked, hears_at, is_first, starts_with}
+use Rattle.eap_world.specs.Kept.{AreMarked, waits}
 use Rattle.eap_world.specs.declared.conversations.Waiting.{Waiting}
 
 abbrev with_heard : List ℕ → Bool → Waiting
@@ -78,14 +79,15 @@ each_unheard firsts (one ∷ left) marked =
 pub none_heard : (firsts : List Bool) (octets : List ℕ) (left : List Waiting) → All (IsMarked firsts) left → left ≡ map (hears (drop (length octets - 0) octets)) left
 none_heard firsts octets left marked = sym (rw (drop_all (length octets - 0) octets (omega arith)) (each_unheard firsts left marked))
 
--- the first octets stay marked
-hears_marked : (firsts : List Bool) (octets : List ℕ) (one : Waiting) → IsMarked firsts one → IsMarked firsts (hears octets one)
-hears_marked firsts octets one is = record { size = is.size; first = is.first }
-
-pub still_marked : (firsts : List Bool) (octets : List ℕ) (left : List Waiting) → All (IsMarked firsts) left → All (IsMarked firsts) (map (hears octets) left)
-still_marked firsts octets left marked =
-    All-map (IsMarked firsts) (hears octets) left
-    (All-weaker (IsMarked firsts) (λ (one : Waiting). IsMarked firsts (hears octets one)) (λ (one : Waiting) (is : IsMarked firsts one). hears_marked firsts octets one is) left marked)
+-- what is marked of the nonces is marked of them with what has been heard
+pub marked_waits : (firsts : List Bool) (nonces : List (List ℕ)) (marks : List Bool) → AreMarked firsts nonces → All (IsMarked firsts) (waits nonces marks)
+marked_waits firsts [] marks marked = All-nil (IsMarked firsts)
+marked_waits firsts (nonce ∷ nonces) [] marked = All-nil (IsMarked firsts)
+marked_waits firsts (nonce ∷ nonces) (heard ∷ marks) marked =
+    let first = All-head (λ (n : List ℕ). IsMarked firsts (waiting n)) nonce nonces marked in
+    let others = All-tail (λ (n : List ℕ). IsMarked firsts (waiting n)) nonce nonces marked in
+    All-cons (IsMarked firsts) (with_heard nonce heard) (waits nonces marks) (record { size = first.size; first = first.first })
+    (marked_waits firsts nonces marks others)
 
 -- octets whose first one is that of no nonce begin with none
 other_first : (x y : ℕ) (part rest : List ℕ) → (x ≡ y → ⊥) → starts_with (y ∷ part) (x ∷ rest) ≡ false
@@ -112,10 +114,15 @@ each_not_here firsts (one ∷ left) x rest marked unmarked =
     let others = each_not_here firsts left x rest (All-tail (IsMarked firsts) one left marked) unmarked in
     rw (first, others) refl
 
-pub none_here : (firsts : List Bool) (left : List Waiting) (octets : List ℕ) → 0 < length octets → All (IsMarked firsts) left
+none_of : (firsts : List Bool) (left : List Waiting) (octets : List ℕ) → 0 < length octets → All (IsMarked firsts) left
     → is_first firsts (slice_index octets 0) ≡ false → left ≡ map (hears_at octets) left
-none_here firsts left [] some marked unmarked = absurd (omega (arith, some))
-none_here firsts left (x ∷ rest) some marked unmarked = sym (each_not_here firsts left x rest marked unmarked)
+none_of firsts left [] some marked unmarked = absurd (omega (arith, some))
+none_of firsts left (x ∷ rest) some marked unmarked = sym (each_not_here firsts left x rest marked unmarked)
+
+pub none_here : (firsts : List Bool) (nonces : List (List ℕ)) (marks : List Bool) (octets : List ℕ) → 0 < length octets → AreMarked firsts nonces
+    → is_first firsts (slice_index octets 0) ≡ false → waits nonces marks ≡ map (hears_at octets) (waits nonces marks)
+none_here firsts nonces marks octets some marked unmarked =
+    none_of firsts (waits nonces marks) octets some (marked_waits firsts nonces marks marked) unmarked
 
 -- an octet more is marked
 marks_stay-by : (firsts : List Bool) (octet other : ℕ) (same : Bool) → Decides same (other ≡ octet) → octet < length firsts
@@ -127,16 +134,17 @@ marks_stay-by firsts octet other false same below was =
 pub marks_stay : (firsts : List Bool) (octet other : ℕ) → octet < length firsts → is_first firsts other ≡ true → is_first (set firsts octet true) other ≡ true
 marks_stay firsts octet other below was = marks_stay-by firsts octet other (eqb other octet) (Decides-eqb other octet) below was
 
-pub one_more_marked : (firsts after : List Bool) (left : List Waiting) (i : ℕ) (d : Waiting) → i < length left
-    → length (get_or left i d).nonce ≡ 32 → is_first after (slice_index (get_or left i d).nonce 0) ≡ true
-    → ((octet : ℕ) → is_first firsts octet ≡ true → is_first after octet ≡ true) → All (IsMarked firsts) (take i left) → All (IsMarked after) (take (i + 1) left)
-one_more_marked firsts after left i d below size first stay so_far =
-    All-more (IsMarked after) left i d below
-    (All-weaker (IsMarked firsts) (IsMarked after) (λ (other : Waiting) (was : IsMarked firsts other). record { size = was.size; first = stay (slice_index other.nonce 0) was.first }) (take i left) so_far)
+pub one_more_marked : (firsts after : List Bool) (nonces : List (List ℕ)) (i : ℕ) (d : List ℕ) → i < length nonces
+    → length (get_or nonces i d) ≡ 32 → is_first after (slice_index (get_or nonces i d) 0) ≡ true
+    → ((octet : ℕ) → is_first firsts octet ≡ true → is_first after octet ≡ true) → AreMarked firsts (take i nonces) → AreMarked after (take (i + 1) nonces)
+one_more_marked firsts after nonces i d below size first stay so_far =
+    All-more (λ (n : List ℕ). IsMarked after (waiting n)) nonces i d below
+    (All-weaker (λ (n : List ℕ). IsMarked firsts (waiting n)) (λ (n : List ℕ). IsMarked after (waiting n))
+    (λ (other : List ℕ) (was : IsMarked firsts (waiting other)). record { size = was.size; first = stay (slice_index other 0) was.first }) (take i nonces) so_far)
     (record { size = size; first = first })
 
-pub all_marked : (firsts : List Bool) (left : List Waiting) (i : ℕ) → length left ≤ i → All (IsMarked firsts) (take i left) → All (IsMarked firsts) left
-all_marked firsts left i all marked = subst (All (IsMarked firsts)) (take_all i left all) marked
+pub all_marked : (firsts : List Bool) (nonces : List (List ℕ)) (i : ℕ) → length nonces ≤ i → AreMarked firsts (take i nonces) → AreMarked firsts nonces
+all_marked firsts nonces i all marked = subst (AreMarked firsts) (take_all i nonces all) marked
 
 -- octets begin with the front of a nonce where they are long enough and have its octets
 pub begins_where_same : (octets nonce : List ℕ) → length nonce ≡ 32 → starts_with (front nonce) octets ≡ bytes_eq (take 16 octets) (take 16 nonce)

@@ -32,6 +32,8 @@ pub mod FreshRuns
 pub mod GpskAgrees
 -- The nonces of GPSK-1 and GPSK-2 stand in their octets.
 pub mod GpskNonces
+-- The nonces that are left, as they are kept, and whether the first two conversations differ.
+pub mod Kept
 -- Octets are heard from their end, place by place.
 pub mod HeardByPlaces
 -- What an end holds of the other's nonce after a call: what it held before, or what came in it.
@@ -111,3 +113,5 @@ pub mod Whose
 mod Worked
 -- What is heard, used and fresh, computed from the definitions alone.
 mod WorkedFreshness
+-- What is told of a call, with the report that is told.
+pub mod Telling

@@ -3,6 +3,7 @@ pub mod Sent
 pub mod Store
 pub mod Conversations
 pub mod Hearing
+pub mod Kept
 pub mod Foreign
 pub mod World
 pub mod Conversed

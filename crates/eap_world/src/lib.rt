@@ -7,6 +7,7 @@ mod act;
 mod book;
 mod conversations;
 mod laws;
+mod nonces_left;
 mod store;
 mod told;
 mod verdict;

@@ -1,11 +1,12 @@
 //! Both ends over events.
 
 ghost use Rattle.std.specs.Prelude.{◌≡◌, ◌↔◌, ◌≤◌, ◌<◌, ◌+◌, ◌-◌, ◌^◌, ◌++◌, ℕ, List, true, false, map, length, IsTrue};
-ghost use Rattle.std.specs.Prelude.{MatchResult, IfOk, option_copied, vec_len, vec_capacity};
+ghost use Rattle.std.specs.Prelude.{Bool, MatchResult, IfOk, None, option_copied, vec_len, vec_capacity};
 ghost use Rattle.eap_base.specs.Setup.{IsSoundPeer, IsSoundServer, HasKeys};
 ghost use Rattle.eap_base.specs.declared.event.Event.TheVariants.{Restart};
 ghost use Rattle.eap_method.specs.declared.tags.Tags.{Tags};
-ghost use Rattle.eap_world.specs.World.{action_with, parties_of, sent_by, booked_by, counted, end_of, has_held, named_by};
+ghost use Rattle.eap_method.specs.Steps.{step_with};
+ghost use Rattle.eap_world.specs.World.{Called, Skipped, action_with, parties_of, sent_by, booked_by, counted, end_of, has_held};
 ghost use Rattle.eap_world.specs.World.{Parties, first_report, held_before, held_by, held_after, held_with, report_of, role_in, told_of, told_with};
 ghost use Rattle.eap_world.specs.Sent.{Sent};
 
@@ -13,10 +14,10 @@ use crate::act::{Action, Did, Machines, act, start};
 use crate::book::{End, Entry, Makers, TagsVerdict, book_tags, judge_tags};
 use crate::conversations::Conversations;
 use crate::store::Store;
-use crate::told::{Counts, Named, SentPacket, Told};
+use crate::told::{Counts, Named, SentPacket, Skip, Told};
 use crate::verdict::{Verdict, judge_reports};
-use eap_base::{Event, Mode, Packet, Party, Setup};
-use eap_method::{PeerMethod, Report, ServerMethod, Tags};
+use eap_base::{Event, Mode, Packet, Party, Port, Setup};
+use eap_method::{PeerMethod, Report, ServerMethod, Step, Tags};
 use eap_packet::{Path, State};
 use pass_through::PassThrough;
 use peer_machine::PeerMachine;
@@ -124,11 +125,7 @@ impl<P: PeerMethod, S: ServerMethod> World<P, S> {
         ensures objects { HasObjects P.peer_shown S.server_shown result }
     {
         let version = setup.later.version;
-        let conversations = Conversations::new(
-            &setup.peer.nonce,
-            &setup.server.nonce,
-            &setup.later,
-        );
+        let conversations = Conversations::new(setup.peer.nonce, setup.server.nonce, setup.later);
         World {
             machines: Machines {
                 mode: setup.mode,
@@ -559,40 +556,40 @@ fn keep<P: PeerMethod, S: ServerMethod>(
     let number = next_number(sent.len());
     keep_sent(sent, &action, packet);
     keep_tags(book, event, &action, tags);
-    let named = report_to_tell(machines, *held, &action);
-    *held = with_named(*held, &named);
-    tell(event, number, named, action)
-}
-
-/// The report that the party which acted is the first time seen to hold.
-fn report_to_tell<P: PeerMethod, S: ServerMethod>(
-    machines: &Machines<P, S>,
-    held: Held,
-    action: &Action,
-) -> Option<Named>
-    ensures { (packet : List ℕ) (tags : Tags)
-        → result ≡ named_by held (parties_of P.peer_shown S.server_shown machines.now) (action_with action.now packet tags) }
-{
     match action {
-        Action::Skipped(_) => None,
-        Action::Called(did) => first_report(machines, has_held(held, did.party), did.party),
+        Action::Skipped(skip) => tell_skip(event, skip),
+        Action::Called(
+            Did {
+                party,
+                port,
+                step,
+                ..
+            },
+        ) => {
+            let mut told = tell(event, number, party, port, step);
+            tell_report(machines, party, held, &mut told.named);
+            told
+        }
     }
 }
 
-/// The report of a party that held none before.
-fn first_report<P: PeerMethod, S: ServerMethod>(
+/// Tells of the report that a party which acted is the first time seen to hold, and keeps that it was told.
+fn tell_report<P: PeerMethod, S: ServerMethod>(
     machines: &Machines<P, S>,
-    was: bool,
     party: Party,
-) -> Option<Named>
-    ensures { result ≡ first_report was party (report_of (parties_of P.peer_shown S.server_shown machines.now) party) }
+    held: &mut Held,
+    named: &mut Option<Named>,
+)
+    requires { named.old ≡ None }
+    ensures named { named.new
+        ≡ first_report (has_held held.old party) party (report_of (parties_of P.peer_shown S.server_shown machines.now) party) }
+    ensures held { held.new ≡ held_after held.old named.new }
 {
-    if was {
-        return None;
-    }
-    match report_of(machines, party) {
-        None => None,
-        Some(report) => Some(Named { party, report }),
+    if !has_held(*held, party) {
+        if let Some(report) = report_of(machines, party) {
+            *held = with_party(*held, party);
+            *named = Some(Named { party, report });
+        }
     }
 }
 
@@ -618,16 +615,6 @@ fn has_held(held: Held, party: Party) -> bool
         Party::Peer => held.peer,
         Party::Pass => false,
         Party::Server => held.server,
-    }
-}
-
-/// Which ends have held a report, after one was told.
-fn with_named(held: Held, named: &Option<Named>) -> Held
-    ensures { result ≡ held_after held named.now }
-{
-    match named {
-        None => held,
-        Some(named) => with_party(held, named.party),
     }
 }
 
@@ -713,39 +700,39 @@ fn count(counts: Counts, action: &Action) -> Counts
     }
 }
 
-/// What is told of an action: the number of its event, and that of the packet that it sends.
-fn tell(event: u32, number: u32, named: Option<Named>, action: Action) -> Told
-    ensures { (packet : List ℕ) (tags : Tags) → result ≡ told_of event number named (action_with action packet tags) }
+/// What is told of an event that was skipped.
+fn tell_skip(event: u32, skip: Skip) -> Told
+    ensures { result ≡ told_of event 0 None (Skipped skip) }
 {
-    match action {
-        Action::Skipped(skip) => Told {
-            event,
-            party: None,
-            path: Path::new(),
-            cause: None,
-            skip: Some(skip),
-            sent: None,
-            named: None,
+    Told {
+        event,
+        party: None,
+        path: Path::new(),
+        cause: None,
+        skip: Some(skip),
+        sent: None,
+        named: None,
+    }
+}
+
+/// What is told of a call, but for a report: the number of its event, and that of the packet that it sends.
+fn tell(event: u32, number: u32, party: Party, port: Port, step: Step) -> Told
+    ensures told { (is_delivery : Bool) (packet : List ℕ) (tags : Tags)
+        → result ≡ told_of event number None
+        (Called (record { party = party; is_delivery = is_delivery; port = port; step = step_with step packet tags })) }
+    ensures unnamed { result.named ≡ None }
+{
+    Told {
+        event,
+        party: Some(party),
+        path: step.path,
+        cause: step.cause,
+        skip: None,
+        sent: if step.sends {
+            Some(SentPacket { number, port })
+        } else {
+            None
         },
-        Action::Called(
-            Did {
-                party,
-                port,
-                step,
-                ..
-            },
-        ) => Told {
-            event,
-            party: Some(party),
-            path: step.path,
-            cause: step.cause,
-            skip: None,
-            sent: if step.sends {
-                Some(SentPacket { number, port })
-            } else {
-                None
-            },
-            named,
-        },
+        named: None,
     }
 }
