@@ -54,7 +54,7 @@ heard_begun : (all : Conversations) (came : Option (List ℕ)) → (heard_in all
 heard_begun all None = refl
 heard_begun all (Some octets) = refl
 
-heard_fresh : (all : Conversations) (came : Option (List ℕ)) → (heard_in all came).fresh ≡ all.fresh
+pub heard_fresh : (all : Conversations) (came : Option (List ℕ)) → (heard_in all came).fresh ≡ all.fresh
 heard_fresh all None = refl
 heard_fresh all (Some octets) = refl
 
@@ -82,7 +82,7 @@ server_hears all came before after (hears_now octets x is_came is_after stands) 
     (marked_now octets x all.peer_left after is_after (stands_if x octets stands))
 
 -- nonces of 32 octets
-abbrev LeftSized : List Waiting → Type 0
+abbrev pub LeftSized : List Waiting → Type 0
 LeftSized [] = Unit {0}
 LeftSized (one ∷ rest) = (length one.nonce ≡ 32) × LeftSized rest
 
@@ -396,7 +396,7 @@ module _ (setup : Setup) where
 
   -- ---- every event
 
-  step_converses : (w : WorldNow) (out : WorldOutcome) → Steps w out → BothConverse setup w → BothConverse setup out.after
+  pub step_converses : (w : WorldNow) (out : WorldOutcome) → Steps w out → BothConverse setup w → BothConverse setup out.after
   step_converses w _ (skips skip) h = quiet w None h _ refl refl refl refl refl
   step_converses w _ (calls (to_peer input) later same) h = peer_called w w.held input (peer_same input same) h
   step_converses w _ (calls (to_server input) later same) h = server_called w w.held input (λ e. later (ap to_server e)) (server_same input same) h
@@ -416,12 +416,12 @@ all_sized : (later : List (List ℕ)) → All IsSized later → LeftSized (map w
 all_sized [] sizes = tt
 all_sized (nonce ∷ rest) sizes = (All-head IsSized nonce rest sizes, all_sized rest (All-tail IsSized nonce rest sizes))
 
-record StartIs (setup : Setup) (out : Acted) : Type 0 where
+pub record StartIs (setup : Setup) (out : Acted) : Type 0 where
   pub peer : PeerIs setup.peer setup.peer.nonce out.after.peer None [] []
   pub server : ServerIs setup.server setup.server.nonce out.after.server None [] []
   pub book : booked_by 0 out.action ≡ []
 
-starts_so : (runs : Mode) (setup : Setup) → (let w = world_made setup in StartIs setup (called w.parties (start_call runs)))
+pub starts_so : (runs : Mode) (setup : Setup) → (let w = world_made setup in StartIs setup (called w.parties (start_call runs)))
 unfolding server_start
 starts_so mode.Alone setup = record {
   peer = record { stands = peer_begins setup.peer; held_is = refl };
@@ -440,7 +440,7 @@ used_itself nonce = (bytes_eq-Decides (front nonce) (front nonce)).1 refl
 begun_itself : (nonce : List ℕ) → bytes_eq nonce nonce ≡ true
 begun_itself nonce = (bytes_eq-Decides nonce nonce).1 refl
 
-start_converses : (setup : Setup) → IsWhole setup → BothConverse setup (world_start (world_made setup)).after
+pub start_converses : (setup : Setup) → IsWhole setup → BothConverse setup (world_start (world_made setup)).after
 unfolding world_start since_from tags_by
 start_converses setup whole =
     let out = called (world_made setup).parties (start_call setup.mode) in

@@ -53,7 +53,7 @@ four_lists (e ∷ rest) =
 
 -- ---- the conversations of both ends
 
-begun_more : (end : End) (all : List Begun) (b : Begun) → begun_by end (all ++ b ∷ []) ≡ begun_by end all + one_of end b
+pub begun_more : (end : End) (all : List Begun) (b : Begun) → begun_by end (all ++ b ∷ []) ≡ begun_by end all + one_of end b
 unfolding begun_by
 begun_more end [] b = omega arith
 begun_more end (first ∷ rest) b = omega (arith, begun_more end rest b)

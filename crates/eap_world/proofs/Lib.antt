@@ -12,6 +12,10 @@ pub mod Conversing
 pub mod Dates
 -- An event that is discarded changes nothing but the counts, and each report that an end holds was told of.
 pub mod Discards
+-- What holds of all conversations of an end in a run, by what holds of each event.
+pub mod EachOf
+-- What each event does to the conversations of both ends: the present one goes on, or the next one begins.
+pub mod EachTurn
 -- In every run both ends stand as their views tell, in their present conversations.
 pub mod EndsStand
 -- Equal reports that both policies allow agree.
@@ -48,14 +52,20 @@ pub mod HonestRuns
 pub mod InConversation
 -- What each party sent last is the last packet to the port where its packets go.
 pub mod LastSent
+-- Each conversation in SUCCESS rests on one of the other end, and no two of an end on the same.
+pub mod Matching
 -- The nonces that an end has left, those with which conversations have begun, and which nonce is new.
 pub mod NoncesLeft
 -- Two ends in success are in one login: the order of their conversations alone shows it.
 pub mod OneLogin
 -- An end has one method at a time.
 pub mod OneMethod
+-- Conversations among others, and their tags among all.
+pub mod OneOf
 -- What the pass-through sends: what came, on to the other side, or the last packet to the peer again.
 pub mod PassSpeaks
+-- The pass-through in a run is the pass-through alone over what comes to it, which is what was sent or injected.
+pub mod Passing
 -- What holds of the conversations of an end, past and present.
 pub mod PastConversations
 -- What the peer hears of the server's nonce stands in what came.
@@ -68,14 +78,20 @@ pub mod PeerSpeaks
 pub mod PeerTells
 -- Two ends that have succeeded by EAP-PSK agree.
 pub mod PskAgrees
+-- The PSK-4 that a server accepts tells which conversation of the peer made it: that has accepted PSK-3.
+pub mod PskAnswered
 -- The sizes of the nonces that a reader of EAP-PSK gives.
 pub mod PskFields
+-- The header that EAX covers of an EAP-PSK message ends in RAND_S.
+pub mod PskHeaders
 -- The nonces of PSK-1 and PSK-2 stand in their octets.
 pub mod PskNonces
 -- No end takes its own tags for the other's, in whichever conversation it made them, where the peer succeeds by EAP-PSK.
 pub mod Reflected
 -- The login of an end that has succeeded is that of the other end's conversation on whose tags it rests.
 pub mod SameLogins
+-- A conversation of the peer on which one of the server in SUCCESS rests leads to what that reports.
+pub mod SameReports
 -- What the server hears of the peer's nonce stands in what came.
 pub mod ServerHears
 -- Every input of the server after its start keeps what stands of it, but for the begin of a new conversation.
@@ -115,3 +131,5 @@ mod Worked
 mod WorkedFreshness
 -- What is told of a call, with the report that is told.
 pub mod Telling
+-- The conversations of both ends, on what they rest, and whether they are fresh, computed from the definitions alone.
+mod WorkedMatching

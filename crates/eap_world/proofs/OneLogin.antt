@@ -11,7 +11,7 @@ use Rattle.eap_world.proofs.PastConversations.{Moment, PastConversation, Past, C
 use Rattle.eap_world.specs.ToldTags.{PeerTold, MadeByPeer, NotByServer, ServerTold}
 use Rattle.eap_world.proofs.ServerTells.{AsksPeer, AsksServer, server_asks, some_is}
 
-one_held : (held : Option (List ℕ)) (x y : List ℕ) → held ≡ Some x → held ≡ Some y → x ≡ y
+pub one_held : (held : Option (List ℕ)) (x y : List ℕ) → held ≡ Some x → held ≡ Some y → x ≡ y
 one_held held x y a b = some_is x y (sym a ∙ b)
 
 pub first_is_in : (t : TagRecord) (rest all : List TagRecord) → all ≡ t ∷ rest → IsIn t all

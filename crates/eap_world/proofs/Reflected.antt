@@ -80,7 +80,7 @@ pub record AsksAnother (setup : PeerSetup) (nonce : List ℕ) (accepted made : L
   pub no_other : (other : List ℕ) (held : Option (List ℕ)) (their_accepted their_made : List TagRecord) → length other ≡ 32
       → PeerTold setup other held their_accepted their_made → IsIn asks.tag their_made → front other ≡ front nonce
 
-asks_another : (setup : PeerSetup) (nonce : List ℕ) (now : PeerNow) (accepted made : List TagRecord) → length nonce ≡ 32
+pub asks_another : (setup : PeerSetup) (nonce : List ℕ) (now : PeerNow) (accepted made : List TagRecord) → length nonce ≡ 32
     → PeerSucceeds (peers.own_nonce setup nonce) now accepted made → now.vars.selected ≡ Some psk_kind → AsksAnother setup nonce accepted made
 unfolding psk.mac_s_covers
 asks_another setup nonce now _ _ size (with_psk login header sealed id is_selected in_psk facts) by_psk =

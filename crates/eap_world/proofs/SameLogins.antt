@@ -81,7 +81,7 @@ module _ (peer_setup : PeerSetup) (server_setup : ServerSetup) (peer_nonce : len
     psk_view _ _ _ (server_stands.psk_asked ordered) is first = elim is [ ]
     psk_view _ _ _ (server_stands.psk_checked other other_id checked) is first = psk_checked other other_id checked is (first.is _ _ refl)
     psk_view _ _ _ server_stands.psk_refused is first = elim is [ ]
-    psk_view _ _ _ (server_stands.psk_over other good header sealed other_id checked r_sent) is first =
+    psk_view _ _ _ (server_stands.psk_over other good header sealed other_id checked r_sent rand_in) is first =
         psk_checked other other_id checked is (first.is _ _ refl)
 
     psk_tags : (current : Option ℕ) (views : ServerViews) (accepted made : List TagRecord) → ServerTags server_setup current views accepted made
@@ -302,7 +302,7 @@ module _ (peer_setup : PeerSetup) (server_setup : ServerSetup) (peer_nonce : len
           | inr e ↦ absurd (not_fail login other pd code checked.size (ap (λ (r : TagRecord). r.octets) e))
         ]
 
-    gpsk_of_tags : (selected : Option ℕ) (views : PeerViews) (accepted made : List TagRecord) → PeerTags peer_setup selected views accepted made
+    pub gpsk_of_tags : (selected : Option ℕ) (views : PeerViews) (accepted made : List TagRecord) → PeerTags peer_setup selected views accepted made
         → IsIn gpsk2 made → LeadsTo peer_setup (peer_login selected views) (gpsk_server.report_of login) login.psk
     gpsk_of_tags selected views _ _ (peer_stands.none_selected unselected psk_told gpsk_told) is = elim is [ ]
     gpsk_of_tags selected views _ _ (peer_stands.psk_selected accepted made is_selected told) is =
@@ -360,7 +360,7 @@ module _ (peer_setup : PeerSetup) (server_setup : ServerSetup) (peer_nonce : len
     abbrev PskWhole : Option Report → Type 0
     PskWhole o = o ≡ Some (psk_server.report_of login)
 
-    psk_over : (other : psk_peer.Login) → PskBegun peer_setup other → server_stands.psk2_record login ≡ peer_stands.psk2_record other
+    pub psk_over : (other : psk_peer.Login) → PskBegun peer_setup other → server_stands.psk2_record login ≡ peer_stands.psk2_record other
         → IsIn (ak_record other.cred.psk (psk_peer.mac_s_covers other) (psk_peer.mac_s_of other)) (psk_server.psk3_records login id)
         → PskWhole (Some (psk_peer.report_of other))
     psk_over other facts e is =
@@ -393,7 +393,7 @@ module _ (peer_setup : PeerSetup) (server_setup : ServerSetup) (peer_nonce : len
     whole_tags selected views _ _ (peer_stands.gpsk_selected accepted made is_selected told) is last back =
         kinds_apart psk_kind refl (peer_tells.gpsk_method peer_setup views.gpsk accepted made (server_stands.psk2_record login) told is)
 
-  whole_gpsk : (login : gpsk_server.Login) (theirs : Option Report) → LeadsTo peer_setup theirs (gpsk_server.report_of login) login.psk
+  pub whole_gpsk : (login : gpsk_server.Login) (theirs : Option Report) → LeadsTo peer_setup theirs (gpsk_server.report_of login) login.psk
       → theirs ≡ Some (gpsk_server.report_of login)
   unfolding gpsk_server.report_of
   whole_gpsk login theirs found = found.leads ∙ ap Some (sym (found.same.whole refl))

@@ -100,7 +100,7 @@ psk_none : (setup : ServerSetup) (view : psk.View) (accepted made : List TagReco
 psk_none setup _ _ _ (psk_asked ordered) e = refl
 psk_none setup _ _ _ (psk_checked login id facts) e = absurd cc
 psk_none setup _ _ _ psk_refused e = refl
-psk_none setup _ _ _ (psk_over login good header sealed id facts r_sent) e = absurd cc
+psk_none setup _ _ _ (psk_over login good header sealed id facts r_sent rand_in) e = absurd cc
 
 gpsk_none : (setup : ServerSetup) (view : gpsk.View) (accepted made : List TagRecord) → GpskServerTags setup view accepted made → accepted ≡ []
     → gpsk_rand_p view ≡ None

@@ -1,6 +1,6 @@
 -- Every input of the server after its start keeps what stands of it, but for the begin of a new conversation, in which it
 -- stands anew.
-use Rattle.std.proofs.Common.{◌≡◌, ℕ, List, [], ◌∷◌, ◌++◌, Bool, true, false, Option, Some, None, Ok, refl, ap, sym, subst, ◌∙◌, arith, append-nil}
+use Rattle.std.proofs.Common.{◌≡◌, ℕ, List, [], ◌∷◌, ◌++◌, Bool, true, false, Option, Some, None, Ok, refl, ap, sym, subst, ◌∙◌, arith, append-nil, drop}
 use Rattle.std.specs.Prelude.{◌==◌, not}
 use Rattle.std.proofs.lemmas.Bool.{and_parts, cond_both, eqb-true, false≢true, not-true}
 use Rattle.eap_base.specs.declared.setup.ServerSetup.{ServerSetup}
@@ -47,6 +47,7 @@ use Rattle.server_machine.specs.declared.variables.ServerVariables.{ServerVariab
 use Rattle.eap_world.specs.Judgement.{is_success}
 use Rattle.eap_world.specs.Records.{AreFew, AreNone, untagged}
 use Rattle.eap_world.specs.ServerStands.{psk2_record, GpskChecked, gpsk2_taken, PskServerTags, psk_asked, psk_checked, psk_refused, psk_over, GpskServerTags, gpsk_asked, gpsk_refusing, gpsk_refused, gpsk_barring, gpsk_checked, gpsk_barred, gpsk_confirmed, ServerTags, none_current, identity_current, psk_current, gpsk_current, HasSucceeded, psk_succeeded, gpsk_succeeded, IsUntouched, ServerStands}
+use Rattle.eap_world.proofs.PskHeaders.{header_read}
 use Rattle.eap_world.proofs.Fields.{read_rands}
 use Rattle.eap_world.proofs.OneMethod.{apart, goes_on}
 use Rattle.eap_world.proofs.PskFields.{read_rand}
@@ -124,13 +125,14 @@ module _ (setup : ServerSetup) where
         size = read_rand body _ is_read;
       })))
 
-  psk_ends : (login : psk.Login) (good : Bool) (header tag : List ℕ) (sealed : ℕ) → (good ≡ true → login.r ≡ 2) → (accepted made : List TagRecord)
-      → PskServerTags setup (psk.checked login) accepted made → eax_tag (psk.keys_of login).tek (channel_nonce 1) header (sealed ∷ []) ≡ tag
+  psk_ends : (login : psk.Login) (good : Bool) (header tag : List ℕ) (sealed : ℕ) → (good ≡ true → login.r ≡ 2)
+      → drop 6 header ≡ psk.rand_s_of login → (accepted made : List TagRecord) → PskServerTags setup (psk.checked login) accepted made
+      → eax_tag (psk.keys_of login).tek (channel_nonce 1) header (sealed ∷ []) ≡ tag
       → PskServerTags setup (psk.over login good) (accepted ++ tek_record login.psk 1 header sealed tag ∷ []) (made ++ [])
-  psk_ends login good header tag sealed r_sent _ _ (psk_checked _ id facts) has_tag =
+  psk_ends login good header tag sealed r_sent rand_in _ _ (psk_checked _ id facts) has_tag =
       subst
       (λ (t : List ℕ). PskServerTags setup (psk.over login good) (psk2_record login ∷ tek_record login.psk 1 header sealed t ∷ []) (psk.psk3_records login id))
-      has_tag (psk_over login good header sealed id facts r_sent)
+      has_tag (psk_over login good header sealed id facts r_sent rand_in)
 
   gpsk_refuses : (own : ServerSide) (nonce : List ℕ) (accepted made : List TagRecord) → GpskServerTags setup (gpsk.asked own nonce) accepted made
       → GpskServerTags setup (gpsk.refusing own nonce) (accepted ++ []) (made ++ [])
@@ -227,13 +229,15 @@ module _ (setup : ServerSetup) where
         requests _ _ _
         (psk_answers own nonce rand_s rand_p mac id_p _ user next_id accepted made (at_psk setup accepted made view _ in_view told)
         is_read known has_mac)
-    psk_turned view _ told (psk_row.ends_success login _ _ tag sealed in_view _ _ _ _ has_tag _ _ own_success _) =
+    psk_turned view _ told (psk_row.ends_success login rand_s _ tag sealed in_view is_read own_nonce _ _ has_tag _ _ own_success _) =
         ends true _ _
-        (psk_ends login true _ tag sealed (λ _. own_success) accepted made (at_psk setup accepted made view _ in_view told) has_tag)
+        (psk_ends login true _ tag sealed (λ _. own_success) (header_read octets rand_s _ tag sealed is_read ∙ own_nonce) accepted made
+        (at_psk setup accepted made view _ in_view told) has_tag)
         (λ _. (login, refl))
-    psk_turned view _ told (psk_row.ends_failure login _ _ tag sealed in_view _ _ _ _ has_tag _ _ _ _) =
+    psk_turned view _ told (psk_row.ends_failure login rand_s _ tag sealed in_view is_read own_nonce _ _ has_tag _ _ _ _) =
         ends false _ _
-        (psk_ends login false _ tag sealed (λ e. absurd (false≢true e)) accepted made (at_psk setup accepted made view _ in_view told) has_tag)
+        (psk_ends login false _ tag sealed (λ e. absurd (false≢true e)) (header_read octets rand_s _ tag sealed is_read ∙ own_nonce) accepted made
+        (at_psk setup accepted made view _ in_view told) has_tag)
         (λ e. absurd (false≢true e))
 
     gpsk_turned : (view : gpsk.View) (out : ServerOutcome gpsk.View) → GpskServerTags setup view accepted made

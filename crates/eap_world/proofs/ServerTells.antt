@@ -39,7 +39,7 @@ psk_method setup _ _ _ t (psk_asked ordered) is = elim is [ ]
 psk_method setup _ _ _ t (psk_checked login id facts) is =
     elim (among_two _ _ _ is) [ inl e ↦ ap (λ (r : TagRecord). r.method) e | inr e ↦ ap (λ (r : TagRecord). r.method) e ]
 psk_method setup _ _ _ t psk_refused is = elim is [ ]
-psk_method setup _ _ _ t (psk_over login good header sealed id facts r_sent) is =
+psk_method setup _ _ _ t (psk_over login good header sealed id facts r_sent rand_in) is =
     elim (among_two _ _ _ is) [ inl e ↦ ap (λ (r : TagRecord). r.method) e | inr e ↦ ap (λ (r : TagRecord). r.method) e ]
 
 pub gpsk_method : (setup : ServerSetup) (view : gpsk.View) (accepted made : List TagRecord) (t : TagRecord) → GpskServerTags setup view accepted made → IsIn t made
@@ -77,7 +77,7 @@ module _ (key id_s rand_p mac : List ℕ) (p_size : length rand_p ≡ 16) where
   psk_view_tells setup _ _ _ (psk_asked ordered) is = elim is [ ]
   psk_view_tells setup _ _ _ (psk_checked login id facts) is = psk3_tells setup login id facts is
   psk_view_tells setup _ _ _ psk_refused is = elim is [ ]
-  psk_view_tells setup _ _ _ (psk_over login good header sealed id facts r_sent) is = psk3_tells setup login id facts is
+  psk_view_tells setup _ _ _ (psk_over login good header sealed id facts r_sent rand_in) is = psk3_tells setup login id facts is
 
   psk_tags_tell : (setup : ServerSetup) (current : Option ℕ) (views : ServerViews) (accepted made : List TagRecord)
       → ServerTags setup current views accepted made → IsIn mac_s_tag made → server_foreign current views ≡ Some rand_p
@@ -194,7 +194,7 @@ module _ (setup : ServerSetup) (nonce : List ℕ) (login : psk.Login) (facts : P
   psk2_not_in other _ _ _ (psk_asked ordered) is = elim is [ ]
   psk2_not_in other _ _ _ (psk_checked theirs id checked) is = not_psk3 other theirs id checked is
   psk2_not_in other _ _ _ psk_refused is = elim is [ ]
-  psk2_not_in other _ _ _ (psk_over theirs good header sealed id checked r_sent) is = not_psk3 other theirs id checked is
+  psk2_not_in other _ _ _ (psk_over theirs good header sealed id checked r_sent rand_in) is = not_psk3 other theirs id checked is
 
   psk2_not_made : (other : List ℕ) (current : Option ℕ) (views : ServerViews) (accepted made : List TagRecord)
       → ServerTags (servers.own_nonce setup other) current views accepted made
@@ -323,7 +323,7 @@ module _ (setup : ServerSetup) (nonce foreign : List ℕ) (size : length nonce �
   psk_view_asks _ _ _ (psk_asked ordered) holds = absurd cc
   psk_view_asks _ _ _ (psk_checked login id facts) holds = psk_asks login _ facts holds
   psk_view_asks _ _ _ psk_refused holds = absurd cc
-  psk_view_asks _ _ _ (psk_over login good header sealed id facts r_sent) holds = psk_asks login _ facts holds
+  psk_view_asks _ _ _ (psk_over login good header sealed id facts r_sent rand_in) holds = psk_asks login _ facts holds
 
   gpsk_asks : (login : gpsk.Login) (barred : Bool) (pd : List ℕ) (rest : List TagRecord) → GpskChecked own login barred → Some (front login.rand_p) ≡ Some foreign
       → AsksPeer setup nonce foreign (sk_record login.psk (gpsk2_taken login pd) ∷ rest)

@@ -20,3 +20,6 @@ pub mod Fresh
 pub mod Logins
 pub mod Alone
 pub mod Reflected
+pub mod EachConversation
+pub mod Matching
+pub mod Passing

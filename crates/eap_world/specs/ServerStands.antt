@@ -1,6 +1,6 @@
 -- What holds of the server at every moment of a run, with the tags that it has accepted and made: the view
 -- of its current method tells them exactly, also where the login has failed.
-use Rattle.std.specs.Prelude.{◌≡◌, ℕ, List, [], ◌∷◌, length, Bool, true, false, Option, None, Some}
+use Rattle.std.specs.Prelude.{◌≡◌, ℕ, List, [], ◌∷◌, length, drop, Bool, true, false, Option, None, Some}
 use Rattle.eap_base.specs.declared.setup.ServerSetup.{ServerSetup}
 use Rattle.eap_base.specs.declared.users.User.{User}
 use Rattle.eap_base.specs.Setup.{psk_kind, gpsk_kind, is_among}
@@ -45,9 +45,9 @@ pub data PskServerTags (setup : ServerSetup) : psk.View → List TagRecord → L
       → PskServerTags setup (psk.checked login) (psk2_record login ∷ []) (psk.psk3_records login id)
   -- the user is unknown
   psk_refused : PskServerTags setup (psk.refused (side_of setup) setup.nonce) [] []
-  -- PSK-4 is accepted too
+  -- PSK-4 is accepted too, whose header ends in RAND_S
   psk_over : (login : psk.Login) (good : Bool) (header : List ℕ) (sealed id : ℕ) (facts : PskChecked setup login)
-      (r_sent : good ≡ true → login.r ≡ done_success)
+      (r_sent : good ≡ true → login.r ≡ done_success) (rand_in : drop 6 header ≡ psk.rand_s_of login)
       → PskServerTags setup (psk.over login good) (psk2_record login ∷ psk4_taken login header sealed ∷ []) (psk.psk3_records login id)
 
 -- the GPSK-2 and the GPSK-4 that it accepts

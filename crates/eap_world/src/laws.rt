@@ -5,6 +5,8 @@ ghost use Rattle.eap_world.specs.Alone.{OneEndTells};
 ghost use Rattle.eap_world.specs.EndsStand.{EndsStand};
 ghost use Rattle.eap_world.specs.Fresh.{FreshIsTold};
 ghost use Rattle.eap_world.specs.Laws.{DiscardsKeep, RunsTellReports, SkipsKeep};
+ghost use Rattle.eap_world.specs.Matching.{ConversationsAreAll, ConversationsMatch};
+ghost use Rattle.eap_world.specs.Passing.{PassCarries, PassIsAlone, PassIsHanded, PassLearnsNothing};
 ghost use Rattle.eap_world.specs.Reflected.{ReflectedEndsAgree};
 ghost use Rattle.eap_world.specs.SingleSteps.{StepsAreLawful};
 
@@ -83,6 +85,32 @@ pub fn reflected_ends_agree()
     ensures { ReflectedEndsAgree }
 {}
 
+/// Matching conversations, in every run and in both modes: what is said of two present ones holds of all, past and
+/// present, each as it stood when its end began the next one. A conversation rests on one of the other end where the
+/// first tag that it accepted was made there.
+///
+/// Where nonces are fresh, no two conversations of an end in SUCCESS rest on the same one of the other end. Where each
+/// accepted tag was made earlier by either end besides, each conversation of the server in SUCCESS rests on one of the
+/// peer and on no other, and they hold each other's nonces; without fresh nonces, on one at least. Where the other end
+/// made it, each one of the peer in SUCCESS rests on one of the server and on no other, which rests on it in its turn,
+/// and they hold each other's nonces; by EAP-PSK so it is also where either end made it. Where both have succeeded,
+/// their reports agree.
+///
+/// Over honest tags and fresh nonces the login of the peer's conversation on which one of the server in SUCCESS rests
+/// leads to just what that reports, names, suite and keys; and by EAP-PSK that conversation has accepted PSK-3, as
+/// PSK-4's header tells (RFC 4764 section 5.4). It doesn't say that the conversation on which one in SUCCESS rests has
+/// succeeded too, or will.
+pub fn conversations_match()
+    ensures { ConversationsMatch }
+{}
+
+/// The conversations of [`conversations_match`] are all: each end has one for each time that it has begun, in order and
+/// with the nonce with which it began, and stands in the last of them; their tags joined are those of the book; and
+/// where an end stands, or stood as it began the next one, tells exactly the tags that it accepted and made in it.
+pub fn conversations_are_all()
+    ensures { ConversationsAreAll }
+{}
+
 /// An end whose settings have no later nonces begins no second conversation: then both ends have begun one each in every run.
 pub fn begins_once()
     ensures { BeginsOnce }
@@ -93,6 +121,27 @@ pub fn begins_once()
 /// party before.
 pub fn fresh_is_told()
     ensures { FreshIsTold }
+{}
+
+/// In every run in mode through, whatever the setup: where the pass-through stands and what it has sent are made of what
+/// came to it alone, from its first Identifier and MaxRetrans, by its own table (RFC 4137 section 7); and what it sent is
+/// all that was sent to an end. The octets that come to it are those of a packet that was sent to its port, as they are,
+/// altered or cut by the event that brings them, or are injected there.
+pub fn pass_is_alone()
+    ensures alone { PassIsAlone }
+    ensures handed { PassIsHanded }
+{}
+
+/// The pass-through learns nothing that it isn't told: two runs in mode through in which the same came to it leave it the
+/// same and make it send the same, whatever keys, names, nonces, methods, users and policies the ends have in either.
+pub fn pass_learns_nothing()
+    ensures { PassLearnsNothing }
+{}
+
+/// In every run in mode through each packet that the pass-through sends is its own Identity Request, or came to it from
+/// the other side, and goes on without its padding.
+pub fn pass_carries()
+    ensures { PassCarries }
 {}
 
 /// In every run, whatever the settings and the events: where each end stands tells exactly which tags it has

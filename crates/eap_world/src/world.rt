@@ -103,7 +103,9 @@ impl<P: PeerMethod, S: ServerMethod> World<P, S> {
     ghost use Rattle.eap_world.specs.Book.{tags_verdict, tags_verdict_either};
     ghost use Rattle.eap_world.specs.declared.book.TagsVerdict.TheVariants.{Honest};
     ghost use Rattle.eap_world.specs.declared.verdict.Verdict.TheVariants.{Agree, Apart};
+    ghost use Rattle.eap_world.specs.EachConversation.{peer_conversations, server_conversations};
     ghost use Rattle.eap_world.specs.Judgement.{verdict_of};
+    ghost use Rattle.eap_world.specs.Matching.{Match};
     ghost use Rattle.eap_world.specs.SingleSteps.{StepsLawfully};
     ghost use Rattle.eap_world.specs.World.{HasObjects, KeepObjects, KeepsObjects, NamesAlike, Tells, world_made, world_start, world_step, now_of};
     ghost use Rattle.eap_world.specs.World.{octets_numbered, octets_of_sent, pass_state, state_of};
@@ -409,6 +411,8 @@ impl<P: PeerMethod, S: ServerMethod> World<P, S> {
     /// [`World::tags_either`] is Honest. Where both ends agree under these premises, what they report is their own: the names of
     /// their setups, a user of the server with the peer's key, by EAP-GPSK the first suite of the server's that the peer allows.
     /// And where they agree, the tags are Honest and nonces fresh, each holds the nonce of the other's present conversation.
+    /// Whatever it is, the conversations of the run, past and present, match as [`crate::laws::conversations_match`]
+    /// says.
     pub fn result(&self) -> Verdict
         ensures value { result ≡ verdict_of (now_of P.peer_shown S.server_shown self.now) }
         ensures never_apart { IsOfRun (now_of P.peer_shown S.server_shown self.now)
@@ -424,6 +428,8 @@ impl<P: PeerMethod, S: ServerMethod> World<P, S> {
         ensures hold { IsOfRun (now_of P.peer_shown S.server_shown self.now)
             → tags_verdict self.now.book ≡ Honest → self.now.conversations.fresh ≡ true → result ≡ Agree
             → HoldEachOther (now_of P.peer_shown S.server_shown self.now) }
+        ensures matching { (setup : Setup) (events : List Event) → IsWhole setup → now_of P.peer_shown S.server_shown self.now ≡ run_of setup events
+            → Match (now_of P.peer_shown S.server_shown self.now) (peer_conversations setup events) (server_conversations setup events) }
     {
         self.verdict_by_table()
     }

@@ -2,3 +2,5 @@
 pub mod PassRows
 -- The laws of the pass-through, by the rows of its table.
 pub mod Carrying
+-- Each packet that it sends over all that comes to it is its Identity Request, or came to it.
+pub mod Running

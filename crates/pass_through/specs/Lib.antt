@@ -2,3 +2,4 @@ pub mod PassTable
 pub mod Inputs
 pub mod Rows
 pub mod Laws
+pub mod Runs

@@ -2,6 +2,7 @@
 
 ghost use Rattle.pass_through.specs.Laws.{DiscardsKeep, SendsWhatCame};
 ghost use Rattle.pass_through.specs.Rows.{PassAnswersAreRows};
+ghost use Rattle.pass_through.specs.Runs.{CarriesWhatCame};
 
 /// An input that is discarded changes no variable and sends nothing.
 #[tactic(auto, using(crate::proofs::Carrying::discards_keep))]
@@ -14,6 +15,13 @@ pub fn discards_keep()
 #[tactic(auto, using(crate::proofs::Carrying::sends_what_came))]
 pub fn sends_what_came()
     ensures { SendsWhatCame }
+{}
+
+/// Over all that comes to it from its start on: each packet that it sends is its own Identity Request, or came to it,
+/// from the other side and so far, and goes on without its padding. It makes no Success and no Failure of its own.
+#[tactic(auto, using(crate::proofs::Running::carries_what_came))]
+pub fn carries_what_came()
+    ensures { CarriesWhatCame }
 {}
 
 /// What the pass-through makes of every input is one row of its table, with all that is then known.

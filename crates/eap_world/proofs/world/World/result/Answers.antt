@@ -1,5 +1,6 @@
 use Rattle.eap_world.specs.World.{now_of}
 use Rattle.eap_world.proofs.HonestRuns.{hold_each_other, never_apart, reflected_never_apart}
+use Rattle.eap_world.proofs.Matching.{world_matches}
 use Rattle.eap_world.proofs.Whose.{reflected_theirs_if_agreed, theirs_if_agreed}
 use Rattle.eap_world.proofs.world.World.result.Goals as goal
 
@@ -22,3 +23,7 @@ returns-clause-reflected_theirs g c setup events =
 pub returns-clause-hold : goal.returns-clause-hold
 returns-clause-hold g c =
     hold_each_other (now_of g.P.PeerMethod.peer_shown g.S.ServerMethod.server_shown c.args.self.now) c.verdict_by_table.result c.verdict_by_table.ensures
+
+pub returns-clause-matching : goal.returns-clause-matching
+returns-clause-matching g c setup events =
+    world_matches setup events (now_of g.P.PeerMethod.peer_shown g.S.ServerMethod.server_shown c.args.self.now)
