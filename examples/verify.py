@@ -73,6 +73,18 @@ def packet(code, number, data):
     return bytes([code, number]) + struct.pack(">H", 4 + len(data)) + data
 
 
+def expanded(code, number, kind, data):
+    """A packet of Type 254: Vendor-Id 0, the Type as its Vendor-Type, and the data."""
+    return packet(code, number, b"\xfe" + bytes(6) + bytes([kind]) + data)
+
+
+def plain(given):
+    """The packet of the Type inside one of Type 254; any other as it is."""
+    if given[4:11] != b"\xfe" + bytes(6) or len(given) < 12:
+        return given
+    return packet(given[0], given[1], given[11:])
+
+
 class Scenario:
     def __init__(self, text):
         self.version = int(text.splitlines()[0].split(" ")[1])
@@ -83,6 +95,7 @@ class Scenario:
         self.id_p, self.id_s = (self.said[it][0].encode() for it in ("peer-name", "server-name"))
         self.nonces = {who: [bytes.fromhex(it[1]) for it in lines if it[0] == f"{who}-nonce"] for who in ("peer", "server")}
         self.known = [suite(int(it)) for it in self.said.get("peer-suites", ["1", "2"])]
+        self.expanded = {who: self.said.get(f"{who}-expanded") == ["yes"] for who in ("peer", "server")}
         self.suites = b"".join(suite(int(it)) for it in self.said.get("server-suites", ["1", "2"]))
         at = [it[0] for it in lines].index("events")
         self.events = [it for it in lines[at + 1 :] if it[0] != "end"]
@@ -97,6 +110,7 @@ class End:
 
     def __init__(self, who, nonce):
         self.who, self.own, self.other, self.kind, self.heard, self.suite = who, nonce, None, None, None, None
+        self.asked_expanded = False  # whether the peer's last Request is of Type 254
 
     def nonces(self):
         """Those of the peer and of the server."""
@@ -104,6 +118,8 @@ class End:
 
     def hear(self, scenario, given):
         """Takes the other end's nonce from the first message of a method that has it."""
+        if scenario.expanded[self.who]:
+            self.asked_expanded, given = given[0] == 1 and given[4] == 254, plain(given)
         kind, message = (given[4], given[5] if given[4] == 51 else given[5] >> 6) if len(given) > 5 else (None, None)
         if (self.who, given[0], kind, message) == ("peer", 1, 51, 1):
             at = 8 + int.from_bytes(given[6:8], "big")
@@ -166,6 +182,15 @@ class End:
         code, number = given[0], given[1]
         if code > 2:
             return packet(code, number, b"")
+        made = self.in_plain(scenario, plain(given))
+        if self.asked_expanded if self.who == "peer" else scenario.expanded["server"] and made[4] != 1:
+            entries = b"".join(b"\xfe" + bytes(6) + bytes([kind]) for kind in made[5:])
+            return expanded(code, number, made[4], entries if made[4] == 3 else made[5:])
+        return made
+
+    def in_plain(self, scenario, given):
+        """The same in the plain form."""
+        code, number = given[0], given[1]
         if given[4] == 1:
             return packet(code, number, b"\x01" + (scenario.id_p if code == 2 else b""))
         if given[4] == 3:

@@ -18,6 +18,8 @@ pub mod ServerObjects
 pub mod ServerOffers
 -- The report of a server's list of objects.
 pub mod ServerReports
+-- A packet that is spelled has room for an Expanded Type where its Type-Data is short enough.
+pub mod Rooms
 -- The octets that a MAC of EAP-PSK covers, from their pieces.
 pub mod PskMacs
 -- The objects of the methods that an end doesn't name stay, whichever of the others begins or has a turn.

@@ -4,9 +4,11 @@ pub mod GpskServer
 pub mod GpskTags
 pub mod Peer
 pub mod PeerTurn
+pub mod Plain
 pub mod PskPeer
 pub mod PskServer
 pub mod PskTags
+pub mod Room
 pub mod Server
 pub mod ServerTurn
 pub mod Steps

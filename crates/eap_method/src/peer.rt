@@ -1,9 +1,10 @@
 //! A peer's method: the trait that an object of EAP-PSK or EAP-GPSK meets.
 
-ghost use Rattle.std.specs.Prelude.{◌≡◌, IsTrue};
+ghost use Rattle.std.specs.Prelude.{◌≡◌, true, IsTrue};
 ghost use Rattle.eap_base.specs.Setup.{fits_kind};
 ghost use Rattle.eap_method.specs.Peer.{peer_kind, peer_begun, peer_step, peer_report, IsRequest};
 ghost use Rattle.eap_method.specs.PeerTurn.{peer_turn_with, peer_tags};
+ghost use Rattle.eap_method.specs.Room.{HasRoom, replies};
 
 use crate::tags::Tags;
 use crate::turn::PeerTurn;
@@ -29,13 +30,15 @@ pub trait PeerMethod: Drop {
         ensures { peer_shown self.new ≡ peer_begun cred.now nonce.now (peer_shown self.old) };
 
     /// The turn for a Request of this Type with nothing past its Length. The Response is written into
-    /// `packet` in place of what was there, the records of its tags into `tags`. A discard leaves no
-    /// record, and nothing that counts in `packet`.
+    /// `packet` in place of what was there, the records of its tags into `tags`. It leaves room for an
+    /// Expanded Type: it has at most 1,493 octets. A discard leaves no record, and nothing that counts
+    /// in `packet`.
     fn handle(&mut self, request: &[u8], packet: &mut Packet, tags: &mut Tags) -> PeerTurn
         requires { IsRequest (peer_kind (peer_shown self.old)) request.now }
         ensures turn { peer_step (peer_shown self.old) request.now
             ≡ record { turn = peer_turn_with result packet.new tags.new; after = peer_shown self.new } }
-        ensures tags { tags.new ≡ peer_tags (peer_turn_with result packet.new tags.new) };
+        ensures tags { tags.new ≡ peer_tags (peer_turn_with result packet.new tags.new) }
+        ensures room { replies result ≡ true → HasRoom packet.new };
 
     /// What the peer holds after a login that succeeded; None before and after any other.
     fn report(&self) -> Option<Report>

@@ -6,6 +6,7 @@ ghost use Rattle.eap_method.specs.Peer.{peer_kinds, peer_views, peer_turn, IsReq
 ghost use Rattle.eap_method.specs.Begun.{peer_begun_in};
 ghost use Rattle.eap_method.specs.Unnamed.{peers_unnamed};
 ghost use Rattle.eap_method.specs.PeerTurn.{peer_turn_with, peer_tags};
+ghost use Rattle.eap_method.specs.Room.{HasRoom, replies};
 
 use crate::peer::PeerMethod;
 use crate::tags::Tags;
@@ -29,8 +30,9 @@ pub fn begin_peers<M: PeerMethod>(methods: &mut [M], setup: &PeerSetup)
 }
 
 /// The turn of the object of this Type, which is allowed, for a Request of this Type with nothing past
-/// its Length: its Response is written into `packet`, the records of its tags into `tags`. Where there
-/// is no such object, the Request is discarded as one that no method awaits. The objects of other methods stay.
+/// its Length: its Response is written into `packet`, with room for an Expanded Type, the records of its
+/// tags into `tags`. Where there is no such object, the Request is discarded as one that no method
+/// awaits. The objects of other methods stay.
 pub fn hand_to_peer<M: PeerMethod>(
     methods: &mut [M],
     kind: u8,
@@ -42,6 +44,7 @@ pub fn hand_to_peer<M: PeerMethod>(
     ensures turn { (allowed : List ℕ) → is_among allowed kind ≡ true → peer_turn kind (peer_views allowed (map M.peer_shown methods.old)) request.now
         ≡ record { turn = peer_turn_with result packet.new tags.new; after = peer_views allowed (map M.peer_shown methods.new) } }
     ensures tags { tags.new ≡ peer_tags (peer_turn_with result packet.new tags.new) }
+    ensures room { replies result ≡ true → HasRoom packet.new }
     ensures kinds { peer_kinds (map M.peer_shown methods.new) ≡ peer_kinds (map M.peer_shown methods.old) }
     ensures unnamed { (allowed : List ℕ) → is_among allowed kind ≡ true
         → peers_unnamed allowed (map M.peer_shown methods.new) ≡ peers_unnamed allowed (map M.peer_shown methods.old) }

@@ -3,6 +3,7 @@
 ghost use Rattle.std.specs.Prelude.{◌≡◌, true, IsTrue, All};
 ghost use Rattle.eap_base.specs.Setup.{fits_kind, are_suites};
 ghost use Rattle.eap_method.specs.Server.{server_kind, server_begun, has_begun, server_first_step, server_step, server_report, IsResponse};
+ghost use Rattle.eap_method.specs.Room.{HasRoom, requests};
 ghost use Rattle.eap_method.specs.ServerTurn.{server_turn_with, server_tags};
 
 use crate::tags::Tags;
@@ -28,15 +29,17 @@ pub trait ServerMethod: Drop {
         ensures { server_shown self.new ≡ server_begun own.now nonce.now (server_shown self.old) };
 
     /// Writes the method's first Request, with this Identifier, into `packet` in place of what was
-    /// there. The object has begun and made none.
+    /// there: at most 1,493 octets, so that an Expanded Type has room. The object has begun and made none.
     fn first(&mut self, id: u8, packet: &mut Packet)
         requires { has_begun (server_shown self.old) ≡ true }
-        ensures { server_first_step (server_shown self.old) id ≡ record { packet = packet.new; after = server_shown self.new } };
+        ensures first { server_first_step (server_shown self.old) id ≡ record { packet = packet.new; after = server_shown self.new } }
+        ensures room { HasRoom packet.new };
 
     /// The turn for a Response of this Type with nothing past its Length. A Request that follows has
     /// the Identifier `next_id` and is written into `packet` in place of what was there, the records of
-    /// the turn's tags into `tags`. A discard leaves no record; without a Request nothing counts in
-    /// `packet`. The users' keys have 16 octets for EAP-PSK, 32 to 64 for EAP-GPSK.
+    /// the turn's tags into `tags`. It leaves room for an Expanded Type: it has at most 1,493 octets. A
+    /// discard leaves no record; without a Request nothing counts in `packet`. The users' keys have 16
+    /// octets for EAP-PSK, 32 to 64 for EAP-GPSK.
     fn handle(
         &mut self,
         response: &[u8],
@@ -49,7 +52,8 @@ pub trait ServerMethod: Drop {
         requires keys { All (λ user. IsTrue (fits_kind user.kind user.psk)) users.now }
         ensures turn { server_step users.now next_id (server_shown self.old) response.now
             ≡ record { turn = server_turn_with result packet.new tags.new; after = server_shown self.new } }
-        ensures tags { tags.new ≡ server_tags (server_turn_with result packet.new tags.new) };
+        ensures tags { tags.new ≡ server_tags (server_turn_with result packet.new tags.new) }
+        ensures room { requests result ≡ true → HasRoom packet.new };
 
     /// What the server holds after a login that succeeded; None before and after any other.
     fn report(&self) -> Option<Report>

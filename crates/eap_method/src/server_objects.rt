@@ -4,6 +4,7 @@ ghost use Rattle.std.specs.Prelude.{◌≡◌, ℕ, List, true, map, IsTrue, All
 ghost use Rattle.eap_base.specs.Setup.{is_among, fits_kind, are_suites};
 ghost use Rattle.eap_method.specs.Begun.{server_begun_in};
 ghost use Rattle.eap_method.specs.Peer.{have_each};
+ghost use Rattle.eap_method.specs.Room.{HasRoom, requests};
 ghost use Rattle.eap_method.specs.ServerTurn.{server_turn_with, server_tags};
 ghost use Rattle.eap_method.specs.Server.{server_kinds, server_views, server_offer, server_turn, IsResponse, server_report_of, side_of, views_begun};
 ghost use Rattle.eap_method.specs.Unnamed.{servers_unnamed};
@@ -41,6 +42,7 @@ pub fn offer_method<M: ServerMethod>(
     ensures offer { (order : List ℕ) → is_among order kind ≡ true
         → server_offer own.now nonce.now kind id (server_views order (map M.server_shown methods.old))
         ≡ record { packet = if result then Some packet.new else None; after = server_views order (map M.server_shown methods.new) } }
+    ensures room { result ≡ true → HasRoom packet.new }
     ensures kinds { server_kinds (map M.server_shown methods.new) ≡ server_kinds (map M.server_shown methods.old) }
     ensures unnamed { (order : List ℕ) → is_among order kind ≡ true
         → servers_unnamed order (map M.server_shown methods.new) ≡ servers_unnamed order (map M.server_shown methods.old) }
@@ -78,6 +80,7 @@ pub fn hand_to_server<M: ServerMethod>(
         → server_turn users.now next_id kind (server_views order (map M.server_shown methods.old)) response.now
         ≡ record { turn = server_turn_with result packet.new tags.new; after = server_views order (map M.server_shown methods.new) } }
     ensures tags { tags.new ≡ server_tags (server_turn_with result packet.new tags.new) }
+    ensures room { requests result ≡ true → HasRoom packet.new }
     ensures kinds { server_kinds (map M.server_shown methods.new) ≡ server_kinds (map M.server_shown methods.old) }
     ensures unnamed { (order : List ℕ) → is_among order kind ≡ true
         → servers_unnamed order (map M.server_shown methods.new) ≡ servers_unnamed order (map M.server_shown methods.old) }

@@ -117,6 +117,8 @@ pub mod Storing
 pub mod SucceedingEnds
 -- The tags of each end in a book that grows, and what its honesty says of them.
 pub mod TagsOfEnds
+-- What holds of each answer of a table, and of each delivery as it is heard, holds of all that an end takes.
+pub mod Taking
 -- What two ends that have succeeded in one login report is their own.
 pub mod Theirs
 -- The Type-Data of a packet stands in the octets that begin with it.
@@ -127,9 +129,11 @@ pub mod Versions
 pub mod Whose
 -- The Identity round (RFC 3748 section 2), computed from the definitions alone.
 mod Worked
+-- A proposal that is refused between ends that read Expanded Types, computed from the definitions alone.
+mod WorkedExpanded
 -- What is heard, used and fresh, computed from the definitions alone.
 mod WorkedFreshness
--- What is told of a call, with the report that is told.
-pub mod Telling
 -- The conversations of both ends, on what they rest, and whether they are fresh, computed from the definitions alone.
 mod WorkedMatching
+-- What is told of a call, with the report that is told.
+pub mod Telling

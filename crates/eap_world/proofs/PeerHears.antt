@@ -4,8 +4,10 @@ use Rattle.std.specs.Prelude.{◌==◌}
 use Rattle.std.proofs.lemmas.Bool.{cond_both}
 use Rattle.eap_base.specs.declared.setup.PeerSetup.{PeerSetup}
 use Rattle.eap_base.specs.Setup.{psk_kind, gpsk_kind}
+use Rattle.eap_packet.specs.Fault.{packet_of}
 use Rattle.eap_packet.specs.Packet.{request, spelled}
 use Rattle.eap_method.specs.declared.tags.TagRecord.{TagRecord}
+use Rattle.eap_method.specs.Plain.{plain_octets}
 use Rattle.eap_method.specs.Turns.{PeerOutcome, body_of}
 use Rattle.eap_method.specs.GpskPeer as gpsk
 use Rattle.eap_method.specs.PskPeer as psk
@@ -14,19 +16,23 @@ use Rattle.method_laws.specs.GpskPeerRows as gpsk_row
 use Rattle.method_laws.specs.PskPeerRows as psk_row
 use Rattle.method_laws.proofs.GpskPeerCases.{gpsk_peer_steps_are_rows}
 use Rattle.method_laws.proofs.PskPeerCases.{psk_peer_steps_are_rows}
+use Rattle.peer_machine.specs.Expanded.{expressed}
+use Rattle.peer_machine.specs.Inputs as inputs
 use Rattle.peer_machine.specs.Inputs.{PeerInput, restart, peer_takes}
-use Rattle.peer_machine.specs.PeerTable.{PeerNow, PeerAnswer}
+use Rattle.peer_machine.specs.PeerTable.{PeerNow, PeerAnswer, peer_deliver}
 use Rattle.peer_machine.specs.Rows as rows
 use Rattle.peer_machine.specs.Rows.{Calls, first, again}
+use Rattle.peer_machine.proofs.Hearing as hearing
+use Rattle.peer_machine.proofs.Hearing.{PeerHearing, as_it_is, bad, expresses, peer_hears_so}
 use Rattle.peer_machine.proofs.PeerRows.{peer_answers_are_rows}
 use Rattle.eap_world.specs.PeerStands.{PskPeerTags, psk_unset, psk_fresh, psk_waits, psk_over, GpskPeerTags, gpsk_unset, gpsk_fresh, gpsk_waits, gpsk_confirmed, gpsk_failed, gpsk_barred, PeerTags, none_selected, psk_selected, gpsk_selected, PeerStands}
 use Rattle.eap_world.specs.World.{peer_octets}
 use Rattle.eap_world.specs.Foreign.{by_kind, psk_rand_s, gpsk_rand_s, peer_foreign_of, peer_foreign}
-use Rattle.eap_world.proofs.StandsIn.{StandsIn, within, front_within}
+use Rattle.eap_world.proofs.StandsIn.{StandsIn, front_within, rest_of}
 use Rattle.eap_world.proofs.PskNonces as psk_stand
 use Rattle.eap_world.proofs.GpskNonces as gpsk_stand
-use Rattle.eap_world.proofs.TypeData.{body_stands, request_body}
-use Rattle.eap_world.proofs.Hearing.{Hears, as_before, hears_now}
+use Rattle.eap_world.proofs.TypeData.{data_read, data_stands, plain_request, request_body, request_data}
+use Rattle.eap_world.proofs.Hearing.{Hears, as_before, hears_now, heard_in, method_holds}
 
 module _ (octets : List ℕ) where
   psk_heard : (view : psk.View) (out : PeerOutcome psk.View) → psk_row.PskPeerRow view octets out
@@ -101,6 +107,11 @@ unselected_none setup selected views _ _ kind (none_selected unselected psk_told
 unselected_none setup selected views _ _ kind (psk_selected accepted made is_selected told) e = absurd cc
 unselected_none setup selected views _ _ kind (gpsk_selected accepted made is_selected told) e = absurd cc
 
+-- the Type-Data of a method that comes
+abbrev peer_data : PeerInput → Option (List ℕ)
+peer_data (inputs.octets bytes) = Some (data_read (packet_of bytes))
+peer_data _ = None
+
 module _ (setup : PeerSetup) (now : PeerNow) (accepted made : List TagRecord) (stands : PeerStands setup now accepted made) where
   foreign_called : {selects : Bool} (kind : ℕ) → Calls now kind selects → peer_foreign_of now.views kind ≡ peer_foreign now.vars.selected now.views
   foreign_called kind (first unselected allowed) =
@@ -111,22 +122,23 @@ module _ (setup : PeerSetup) (now : PeerNow) (accepted made : List TagRecord) (s
   called_heard : {selects : Bool} (bytes : List ℕ) (id kind : ℕ) (body : List ℕ) (after : PeerViews) → Calls now kind selects
       → rows.Hears now bytes id (request id kind body) false
       → (peer_turn kind now.views (spelled (request id kind body))).after ≡ after
-      → Hears (Some bytes) (peer_foreign now.vars.selected now.views) (peer_foreign (Some kind) after)
+      → Hears (Some (data_read (packet_of bytes))) (peer_foreign now.vars.selected now.views) (peer_foreign (Some kind) after)
   called_heard bytes id kind body after calls heard is_after =
       by (turn_heard kind now.views (spelled (request id kind body)))
     where
       by : Hears (Some (body_of (spelled (request id kind body)))) (peer_foreign_of now.views kind)
           (peer_foreign_of (peer_turn kind now.views (spelled (request id kind body))).after kind)
-          → Hears (Some bytes) (peer_foreign now.vars.selected now.views) (peer_foreign (Some kind) after)
+          → Hears (Some (data_read (packet_of bytes))) (peer_foreign now.vars.selected now.views) (peer_foreign (Some kind) after)
       by (as_before same) =
           as_before (ap (λ (v : PeerViews). peer_foreign_of v kind) (sym is_after) ∙ (same ∙ foreign_called kind calls))
       by (hears_now octets x is_came is_x stands) =
-          hears_now bytes x refl (ap (λ (v : PeerViews). peer_foreign_of v kind) (sym is_after) ∙ is_x)
-          (within x body bytes (subst (StandsIn x) (let same : octets ≡ body_of (spelled (request id kind body)) = cc in same ∙ request_body id kind body) stands)
-          (body_stands bytes (request id kind body) heard.is_packet))
+          let same : octets ≡ body_of (spelled (request id kind body)) = cc in
+          let is_data = request_data bytes id kind body heard.is_packet (method_holds (kind == psk_kind) (kind == gpsk_kind) _ _ x is_x) in
+          hears_now _ x refl (ap (λ (v : PeerViews). peer_foreign_of v kind) (sym is_after) ∙ is_x)
+          (subst (StandsIn x) (same ∙ (request_body id kind body ∙ sym is_data)) stands)
 
   row_heard : (input : PeerInput) (out : PeerAnswer) → ((nonce : List ℕ) → input ≡ restart nonce → ⊥) → rows.PeerRow now input out
-      → Hears (peer_octets input) (peer_foreign now.vars.selected now.views) (peer_foreign out.after.vars.selected out.after.views)
+      → Hears (peer_data input) (peer_foreign now.vars.selected now.views) (peer_foreign out.after.vars.selected out.after.views)
   row_heard _ _ no_restart (rows.ended bytes over) = as_before refl
   row_heard _ _ no_restart (rows.rests report no_octets other over) = as_before refl
   row_heard _ _ no_restart (rows.begins nonce) = absurd (no_restart nonce refl)
@@ -143,8 +155,33 @@ module _ (setup : PeerSetup) (now : PeerNow) (accepted made : List TagRecord) (s
   row_heard _ _ no_restart (rows.method_fails bytes selects id kind body packet m d tags views heard calls turn _) =
       called_heard bytes id kind body views calls heard (ap (λ (out : PeerOutcome PeerViews). out.after) turn)
 
+  -- by the table alone, to others in which the Type-Data stands
+  abbrev HeardIn : List ℕ → PeerAnswer → Type 0
+  HeardIn bytes out = Hears (Some bytes) (peer_foreign now.vars.selected now.views) (peer_foreign out.after.vars.selected out.after.views)
+
+  answer_heard : (bytes whole : List ℕ) → StandsIn (body_of bytes) whole → HeardIn whole (peer_deliver now bytes)
+  answer_heard bytes whole stands =
+      heard_in _ whole _ _ (data_stands bytes whole stands)
+      (row_heard (inputs.octets bytes) _ (λ nonce e. cc e) (peer_answers_are_rows now (inputs.octets bytes)))
+
+  expressed_heard : (bytes : List ℕ) (out : PeerAnswer) (sent : Option (List ℕ)) → HeardIn bytes out → HeardIn bytes (expressed out sent)
+  expressed_heard bytes out None heard = heard
+  expressed_heard bytes out (Some packet) heard = heard
+
+  hearing_heard : (bytes : List ℕ) (out : PeerAnswer) → PeerHearing now bytes out → HeardIn bytes out
+  hearing_heard bytes _ as_it_is = answer_heard bytes bytes (rest_of 5 bytes)
+  hearing_heard bytes _ (bad id kind body asks is_bad) = as_before refl
+  hearing_heard bytes _ (hearing.again id kind body asks last) = answer_heard _ bytes (plain_request bytes id kind body asks.asks.is_packet)
+  hearing_heard bytes _ (expresses id kind body asks new) =
+      let out = peer_deliver now (plain_octets bytes (request id kind body)) in
+      expressed_heard bytes out out.step.sent (answer_heard _ bytes (plain_request bytes id kind body asks.asks.is_packet))
+
   -- every input but a restart
   pub peer_heard : (input : PeerInput) → ((nonce : List ℕ) → input ≡ restart nonce → ⊥)
       → (let out = peer_takes now input in
       Hears (peer_octets input) (peer_foreign now.vars.selected now.views) (peer_foreign out.after.vars.selected out.after.views))
-  peer_heard input no_restart = row_heard input _ no_restart (peer_answers_are_rows now input)
+  peer_heard (inputs.octets bytes) no_restart = hearing_heard bytes _ (peer_hears_so now bytes)
+  peer_heard inputs.idle no_restart = row_heard inputs.idle _ no_restart (peer_answers_are_rows now inputs.idle)
+  peer_heard inputs.alt_accept no_restart = row_heard inputs.alt_accept _ no_restart (peer_answers_are_rows now inputs.alt_accept)
+  peer_heard inputs.alt_reject no_restart = row_heard inputs.alt_reject _ no_restart (peer_answers_are_rows now inputs.alt_reject)
+  peer_heard (restart nonce) no_restart = absurd (no_restart nonce refl)

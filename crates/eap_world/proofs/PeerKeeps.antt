@@ -31,10 +31,13 @@ use Rattle.method_laws.specs.GpskPeerRows as gpsk_row
 use Rattle.method_laws.specs.PskPeerRows as psk_row
 use Rattle.method_laws.proofs.GpskPeerCases.{gpsk_peer_steps_are_rows}
 use Rattle.method_laws.proofs.PskPeerCases.{psk_peer_steps_are_rows}
-use Rattle.peer_machine.specs.Inputs.{PeerInput, restart, peer_takes}
+use Rattle.peer_machine.specs.Expanded.{expressed}
+use Rattle.peer_machine.specs.Inputs.{PeerInput, restart, peer_answers, peer_takes}
+use Rattle.peer_machine.specs.Inputs as inputs
 use Rattle.peer_machine.specs.PeerTable.{PeerNow, PeerAnswer, with_vars, peer_made, own_nonce, peer_restart, is_fail}
 use Rattle.peer_machine.specs.Rows as rows
-use Rattle.peer_machine.specs.Rows.{Calls, first, again}
+use Rattle.peer_machine.specs.Rows.{Calls, first}
+use Rattle.peer_machine.proofs.Hearing.{PeerHearing, as_it_is, bad, again, expresses}
 use Rattle.peer_machine.proofs.PeerRows.{peer_answers_are_rows}
 use Rattle.eap_world.specs.Judgement.{is_success}
 use Rattle.eap_world.specs.Records.{AreFew}
@@ -42,6 +45,7 @@ use Rattle.eap_world.specs.PeerStands.{psk2_record, psk3_taken, gpsk2_record, gp
 use Rattle.eap_world.proofs.Fields.{read_rands}
 use Rattle.eap_world.proofs.OneMethod.{apart, goes_on}
 use Rattle.eap_world.proofs.PskFields.{read_rand}
+use Rattle.eap_world.proofs.Taking.{peer_taken}
 
 -- ---- the begin
 
@@ -197,7 +201,7 @@ told_by_gpsk setup selected views _ _ alone (gpsk_selected accepted made is_sele
 alone : {selects : Bool} (now : PeerNow) (kind called other : ℕ) → Calls now kind selects → kind ≡ called → (called == other) ≡ false
     → now.vars.selected ≡ Some other → ⊥
 alone now kind called other (first unselected allowed) same differ is_other = cc
-alone now kind called other (again is_selected undone) same differ is_other =
+alone now kind called other (rows.again is_selected undone) same differ is_other =
     apart now.vars.selected called other differ (is_selected ∙ ap (λ (k : ℕ). Some k) same) is_other
 
 -- what stands after a call, with the tags of its step
@@ -285,12 +289,36 @@ module _ (setup : PeerSetup) (now : PeerNow) (accepted made : List TagRecord) (s
   row_keeps _ _ same (rows.method_fails bytes selects id kind body packet m d tags views heard calls turned _) =
       record { stands = after_turn kind packet m d tags views (turned_to selects kind _ _ calls turned) _ _ _ false≢true }
 
+  -- by the table alone
+  abbrev IsKept : PeerInput → PeerAnswer → Type 0
+  IsKept input out = ((nonce : List ℕ) → input ≡ restart nonce → ⊥) → Keeps setup accepted made out
+
+  answer_keeps : (input : PeerInput) → IsKept input (peer_answers now input)
+  answer_keeps input same = row_keeps input _ same (peer_answers_are_rows now input)
+
+  of_octets : (bytes : List ℕ) → Keeps setup accepted made (peer_answers now (inputs.octets bytes))
+  of_octets bytes = answer_keeps (inputs.octets bytes) (λ nonce e. cc e)
+
+  -- lastRespData alone is another where a Response is expressed
+  expressed_keeps : (out : PeerAnswer) (sent : Option (List ℕ)) → Keeps setup accepted made out → Keeps setup accepted made (expressed out sent)
+  expressed_keeps out None kept = kept
+  expressed_keeps out (Some packet) kept =
+      let s = kept.stands in record { stands = record { own = s.own; tags = s.tags; decided = s.decided; sure = s.sure } }
+
+  hearing_keeps : (bytes : List ℕ) (out : PeerAnswer) → PeerHearing now bytes out → IsKept (inputs.octets bytes) out
+  hearing_keeps bytes _ as_it_is same = of_octets bytes
+  hearing_keeps bytes _ (bad id kind body asks is_bad) same = quiet setup accepted made _ refl stands
+  hearing_keeps bytes _ (again id kind body asks last) same = of_octets _
+  hearing_keeps bytes _ (expresses id kind body asks new) same = expressed_keeps _ _ (of_octets _)
+
 -- every input but the begin of a new conversation keeps what stands
 pub peer_keeps : (setup : PeerSetup) (now : PeerNow) (accepted made : List TagRecord) (input : PeerInput)
     → ((nonce : List ℕ) → input ≡ restart nonce → ⊥) → PeerStands setup now accepted made
     → (let out = peer_takes now input in
     PeerStands setup out.after (accepted ++ out.step.tags.accepted) (made ++ out.step.tags.made))
-peer_keeps setup now accepted made input same stands = (row_keeps setup now accepted made stands input _ same (peer_answers_are_rows now input)).stands
+peer_keeps setup now accepted made input same stands =
+    (peer_taken now (IsKept setup now accepted made stands) (answer_keeps setup now accepted made stands) (hearing_keeps setup now accepted made stands)
+    input same).stands
 
 -- a peer of these settings that begins a new conversation stands as one that has just begun, with the new nonce
 pub peer_stands_anew : (setup : PeerSetup) (now : PeerNow) (nonce : List ℕ) → now.vars.setup ≡ setup

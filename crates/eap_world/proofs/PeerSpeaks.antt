@@ -2,10 +2,12 @@
 use Rattle.std.proofs.Common.{◌≡◌, ℕ, List, ◌++◌, Bool, true, false, Option, Some, None, Ok, refl, sym, ap, subst, ◌∙◌}
 use Rattle.std.specs.Prelude.{◌==◌}
 use Rattle.std.specs.List.{list_any}
-use Rattle.std.proofs.lemmas.Bool.{cond_both, eqb-true}
+use Rattle.std.proofs.lemmas.Bool.{cond_both, eqb-true, eq-eqb, false≢true}
 use Rattle.eap_base.specs.Setup.{psk_kind, gpsk_kind}
-use Rattle.eap_packet.specs.Fault.{code_of, fault, fields_of, packet_of, packet_unless}
-use Rattle.eap_packet.specs.Packet.{PacketValue, request, response, success, failure, spelled}
+use Rattle.eap_packet.specs.Fault.{code_of, type_of, packet_of}
+use Rattle.eap_packet.specs.Expanded.{is_wrapped}
+use Rattle.eap_packet.specs.Packet.{request, response, spelled}
+use Rattle.eap_packet.specs.declared.packet.Code.TheVariants.{Request}
 use Rattle.eap_packet.specs.declared.cause.Cause.{Cause}
 use Rattle.eap_packet.specs.declared.state.State.{State}
 use Rattle.eap_method.specs.declared.tags.Tags.{Tags}
@@ -14,6 +16,7 @@ use Rattle.eap_method.specs.declared.values.MethodState.{MethodState}
 use Rattle.eap_method.specs.GpskPeer as gpsk
 use Rattle.eap_method.specs.PskPeer as psk
 use Rattle.eap_method.specs.Peer.{PeerViews, peer_turn}
+use Rattle.eap_method.specs.Plain.{plain_octets}
 use Rattle.eap_method.specs.Steps.{is_end}
 use Rattle.eap_method.specs.PeerTurn.{PeerTurn, Discard, Reply}
 use Rattle.eap_method.specs.Turns.{PeerOutcome}
@@ -21,36 +24,22 @@ use Rattle.method_laws.specs.GpskPeerRows as gpsk_row
 use Rattle.method_laws.specs.PskPeerRows as psk_row
 use Rattle.method_laws.proofs.GpskPeerCases.{gpsk_peer_steps_are_rows}
 use Rattle.method_laws.proofs.PskPeerCases.{psk_peer_steps_are_rows}
-use Rattle.peer_machine.specs.Inputs.{PeerInput, octets, restart, peer_takes}
+use Rattle.peer_machine.specs.Expanded.{express, expressed, expanded_nak_response}
+use Rattle.peer_machine.specs.Inputs.{PeerInput, octets, restart, peer_answers, peer_takes}
 use Rattle.peer_machine.specs.PeerTable.{PeerNow, PeerAnswer, before_method, is_last_id, peer_restart}
 use Rattle.peer_machine.specs.Rows as rows
+use Rattle.peer_machine.proofs.Hearing.{PeerHearing, as_it_is, bad, again, expresses}
+use Rattle.peer_machine.proofs.Identifiers.{plain_second_is_id, second_is_id}
 use Rattle.peer_machine.proofs.PeerRows.{peer_answers_are_rows}
 use Rattle.eap_world.specs.SingleSteps.{identifier_of, is_again}
+use Rattle.eap_world.proofs.Taking.{peer_taken}
 
 -- ---- the Identifier of a packet
 
-abbrev pub id_in : PacketValue → ℕ
-id_in (request id kind body) = id
-id_in (response id kind body) = id
-id_in (success id) = id
-id_in (failure id) = id
+came_with : (bytes : List ℕ) (id kind : ℕ) (body : List ℕ) → packet_of bytes ≡ Ok (request id kind body) → id ≡ identifier_of bytes
+came_with bytes id kind body is_packet = sym (second_is_id Request id kind body bytes is_packet)
 
-fields_id : (code : ℕ) (bytes : List ℕ) → id_in (fields_of code bytes) ≡ identifier_of bytes
-fields_id code bytes =
-    let Same : PacketValue → Type 0 = λ p. id_in p ≡ identifier_of bytes in
-    cond_both (code == 1) _ _ Same (λ _. refl)
-    (λ _. cond_both (code == 2) _ _ Same (λ _. refl) (λ _. cond_both (code == 3) _ _ Same (λ _. refl) (λ _. refl)))
-
-read_unless : (f : Option Cause) (bytes : List ℕ) (packet : PacketValue) → packet_unless f bytes ≡ Ok packet → id_in packet ≡ identifier_of bytes
-read_unless (Some c) bytes packet e = cc e
-read_unless None bytes packet e = let same : fields_of (code_of bytes) bytes ≡ packet = cc in ap id_in (sym same) ∙ fields_id (code_of bytes) bytes
-
--- the Identifier of the packet that octets begin with is their second octet
-pub read_id : (bytes : List ℕ) (packet : PacketValue) → packet_of bytes ≡ Ok packet → id_in packet ≡ identifier_of bytes
-unfolding packet_of
-read_id bytes packet e = read_unless (fault bytes) bytes packet e
-
-pub last_is : (held : Option ℕ) (id : ℕ) → is_last_id held id ≡ true → held ≡ Some id
+last_is : (held : Option ℕ) (id : ℕ) → is_last_id held id ≡ true → held ≡ Some id
 last_is None id e = cc e
 last_is (Some last) id e = ap (λ (n : ℕ). Some n) (eqb-true last id e)
 
@@ -131,7 +120,7 @@ module _ (now : PeerNow) where
       → is_end now.vars.state ≡ false → IsResponse id packet → out.step.sent ≡ Some packet → list_any is_again out.step.path ≡ false
       → out.after.vars.last_id ≡ Some id → out.after.vars.last_response ≡ packet → PeerSpeaks now (octets bytes) out
   answers_to bytes packet id kind body out is_packet going is sent new last_id last =
-      let came : id ≡ identifier_of bytes = read_id bytes (request id kind body) is_packet in
+      let came : id ≡ identifier_of bytes = came_with bytes id kind body is_packet in
       answers bytes packet out (subst (λ (n : ℕ). IsResponse n packet) came is) going sent new (last_id ∙ ap (λ (n : ℕ). Some n) came) last
 
   -- the states before METHOD are new ones
@@ -153,7 +142,7 @@ module _ (now : PeerNow) where
   row_speaks _ _ (rows.naks bytes id kind body heard unselected no_identity no_notification barred) =
       answers_to bytes _ id kind body _ heard.is_packet heard.going (response_is id _ _) refl refl refl refl
   row_speaks _ _ (rows.resends bytes id kind body heard) =
-      repeats bytes _ (last_is now.vars.last_id id heard.last ∙ ap (λ (n : ℕ). Some n) (read_id bytes (request id kind body) heard.is_packet))
+      repeats bytes _ (last_is now.vars.last_id id heard.last ∙ ap (λ (n : ℕ). Some n) (came_with bytes id kind body heard.is_packet))
       heard.going refl refl refl
   row_speaks _ _ (rows.ends_well input entered going sure why) = rests _ _ refl refl refl
   row_speaks _ _ (rows.ends_badly input entered going why) = rests _ _ refl refl refl
@@ -162,5 +151,61 @@ module _ (now : PeerNow) where
       refl (before_new selects _ refl) refl refl
   row_speaks _ _ (rows.method_fails bytes selects id kind body packet m d tags views heard calls turned _) = rests _ _ refl refl refl
 
+-- ---- with Expanded Types
+
+-- the plain form of a Request has its Identifier
+plain_id : (bytes : List ℕ) (id kind : ℕ) (body : List ℕ) → packet_of bytes ≡ Ok (request id kind body)
+    → identifier_of (plain_octets bytes (request id kind body)) ≡ identifier_of bytes
+plain_id bytes id kind body is_packet =
+    cond_both (is_wrapped kind body) _ _ (λ (o : List ℕ). identifier_of o ≡ identifier_of bytes)
+    (λ _. plain_second_is_id Request id kind body ∙ came_with bytes id kind body is_packet) (λ _. refl)
+
+-- a Response that is expressed has its Identifier
+express_is : (id : ℕ) (methods packet : List ℕ) → IsResponse id packet → IsResponse id (express methods packet)
+express_is id methods packet is =
+    cond_both (type_of packet == 3) _ _ (IsResponse id)
+    (λ _. subst (λ (n : ℕ). IsResponse n (expanded_nak_response (identifier_of packet) methods)) is.same (response_is (identifier_of packet) _ _))
+    (λ _. record { code = is.code; same = is.same })
+
+was_last_id : (held : Option ℕ) (id : ℕ) → held ≡ Some id → is_last_id held id ≡ true
+was_last_id None id e = absurd cc
+was_last_id (Some last) id e = eq-eqb last id (let same : last ≡ id = cc in same)
+
+module _ (now : PeerNow) where
+  abbrev Speaks : PeerInput → PeerAnswer → Type 0
+  Speaks input out = PeerSpeaks now input out
+
+  answer_speaks : (input : PeerInput) → Speaks input (peer_answers now input)
+  answer_speaks input = row_speaks now input _ (peer_answers_are_rows now input)
+
+  -- what answers other octets with the same Identifier, as it is, and expressed where they are no Request again
+  module _ (bytes plain : List ℕ) (same : identifier_of plain ≡ identifier_of bytes) where
+    still_speaks : (out : PeerAnswer) → Speaks (octets plain) out → Speaks (octets bytes) out
+    still_speaks _ (rests _ out unsent same_id still) = rests _ out unsent same_id still
+    still_speaks _ (answers _ packet out is going sent new last_id last) =
+        answers bytes packet out (subst (λ (n : ℕ). IsResponse n packet) same is) going sent new (last_id ∙ ap (λ (n : ℕ). Some n) same) last
+    still_speaks _ (repeats _ out was_last going sent same_id still) =
+        repeats bytes out (was_last ∙ ap (λ (n : ℕ). Some n) same) going sent same_id still
+
+    expressed_speaks : is_last_id now.vars.last_id (identifier_of bytes) ≡ false → (out : PeerAnswer) → Speaks (octets plain) out
+        → Speaks (octets bytes) (expressed out out.step.sent)
+    expressed_speaks new_id _ (rests _ out unsent same_id still) =
+        subst (λ (sent : Option (List ℕ)). Speaks (octets bytes) (expressed out sent)) (sym unsent) (rests _ out unsent same_id still)
+    expressed_speaks new_id _ (answers _ packet out is going sent new last_id last) =
+        subst (λ (sent : Option (List ℕ)). Speaks (octets bytes) (expressed out sent)) (sym sent)
+        (answers bytes _ _ (express_is _ _ packet (subst (λ (n : ℕ). IsResponse n packet) same is)) going refl new
+        (last_id ∙ ap (λ (n : ℕ). Some n) same) refl)
+    expressed_speaks new_id _ (repeats _ out was_last going sent same_id still) =
+        absurd (false≢true (sym new_id ∙ was_last_id now.vars.last_id (identifier_of bytes) (was_last ∙ ap (λ (n : ℕ). Some n) same)))
+
+  hearing_speaks : (bytes : List ℕ) (out : PeerAnswer) → PeerHearing now bytes out → Speaks (octets bytes) out
+  hearing_speaks bytes _ as_it_is = answer_speaks (octets bytes)
+  hearing_speaks bytes _ (bad id kind body asks is_bad) = rests _ _ refl refl refl
+  hearing_speaks bytes _ (again id kind body asks last) =
+      still_speaks bytes (plain_octets bytes (request id kind body)) (plain_id bytes id kind body asks.asks.is_packet) _ (answer_speaks (octets _))
+  hearing_speaks bytes _ (expresses id kind body asks new) =
+      expressed_speaks bytes (plain_octets bytes (request id kind body)) (plain_id bytes id kind body asks.asks.is_packet)
+      (ap (is_last_id now.vars.last_id) (sym (came_with bytes id kind body asks.asks.is_packet)) ∙ new) _ (answer_speaks (octets _))
+
 pub peer_speaks : (now : PeerNow) (input : PeerInput) → PeerSpeaks now input (peer_takes now input)
-peer_speaks now input = row_speaks now input _ (peer_answers_are_rows now input)
+peer_speaks now = peer_taken now (PeerSpeaks now) (answer_speaks now) (hearing_speaks now)

@@ -1,10 +1,12 @@
 -- What the server hears of the peer's nonce stands in what came.
-use Rattle.std.proofs.Common.{◌≡◌, ℕ, List, [], Bool, true, false, Option, Some, None, refl, sym, ap, subst, ◌∙◌}
+use Rattle.std.proofs.Common.{◌≡◌, ℕ, List, [], Bool, true, false, ◌&&◌, Option, Some, None, Ok, refl, sym, ap, subst, ◌∙◌}
 use Rattle.std.specs.Prelude.{◌==◌, not}
 use Rattle.std.proofs.lemmas.Bool.{and_parts, cond_both, not-true}
 use Rattle.eap_base.specs.declared.setup.ServerSetup.{ServerSetup}
 use Rattle.eap_base.specs.declared.users.User.{User}
 use Rattle.eap_base.specs.Setup.{psk_kind, gpsk_kind}
+use Rattle.eap_packet.specs.Expanded.{expanded_kind, is_nak_body}
+use Rattle.eap_packet.specs.Fault.{code_of, packet_of}
 use Rattle.eap_packet.specs.Packet.{response, spelled}
 use Rattle.eap_packet.specs.declared.state.State.{State}
 use Rattle.eap_method.specs.declared.tags.TagRecord.{TagRecord}
@@ -18,21 +20,24 @@ use Rattle.method_laws.specs.GpskServerRows as gpsk_row
 use Rattle.method_laws.specs.PskServerRows as psk_row
 use Rattle.method_laws.proofs.GpskServerCases.{gpsk_server_steps_are_rows}
 use Rattle.method_laws.proofs.PskServerCases.{psk_server_steps_are_rows}
+use Rattle.server_machine.specs.Expanded.{response_octets, takes_nak, wraps_sent}
+use Rattle.server_machine.specs.Inputs as inputs
 use Rattle.server_machine.specs.Inputs.{ServerInput, start, restart, server_takes}
-use Rattle.server_machine.specs.ServerTable.{ServerNow, ServerAnswer, next_id, awaits_first, is_backend, is_started}
+use Rattle.server_machine.specs.ServerTable.{ServerNow, ServerAnswer, server_deliver, next_id, awaits_first, is_backend, is_started}
 use Rattle.server_machine.specs.declared.variables.ServerVariables.{ServerVariables}
 use Rattle.server_machine.specs.Rows as rows
 use Rattle.server_machine.specs.Rows.{Selects, after_identity, after_nak, first_identity, first_nak, first_other}
+use Rattle.server_machine.proofs.Hearing.{ServerHearing, as_it_is, bad, wrapping, server_hears_so}
 use Rattle.server_machine.proofs.ServerRows.{server_answers_are_rows}
 use Rattle.eap_world.specs.Records.{AreNone, untagged}
 use Rattle.eap_world.specs.ServerStands.{PskServerTags, psk_asked, psk_checked, psk_refused, psk_over, GpskServerTags, gpsk_asked, gpsk_refusing, gpsk_refused, gpsk_barring, gpsk_checked, gpsk_barred, gpsk_confirmed, ServerTags, none_current, identity_current, psk_current, gpsk_current, ServerStands}
 use Rattle.eap_world.specs.World.{server_octets}
 use Rattle.eap_world.specs.Foreign.{by_kind, psk_rand_p, gpsk_rand_p, psk_rand_p_in, gpsk_rand_p_in, server_foreign_of, server_foreign}
-use Rattle.eap_world.proofs.StandsIn.{StandsIn, within, front_within}
+use Rattle.eap_world.proofs.StandsIn.{StandsIn, front_within}
 use Rattle.eap_world.proofs.PskNonces as psk_stand
 use Rattle.eap_world.proofs.GpskNonces as gpsk_stand
-use Rattle.eap_world.proofs.TypeData.{body_stands, response_body}
-use Rattle.eap_world.proofs.Hearing.{Hears, as_before, hears_now}
+use Rattle.eap_world.proofs.TypeData.{data_read, data_stands, nak_data, own_data, plain_response, response_body, response_data}
+use Rattle.eap_world.proofs.Hearing.{Hears, as_before, hears_now, heard_in, method_holds}
 
 module _ (users : List User) (next_id : ℕ) (octets : List ℕ) where
   psk_heard : (view : psk.View) (out : ServerOutcome psk.View) → psk_row.PskServerRow users next_id view octets out
@@ -156,13 +161,18 @@ module _ (own : ServerSide) (nonce : List ℕ) (kind id : ℕ) (views : ServerVi
 none_accepted : (accepted made : List TagRecord) → AreNone accepted made → accepted ≡ []
 none_accepted _ _ untagged = refl
 
+-- the Type-Data of a method that comes
+abbrev server_data : ServerInput → Option (List ℕ)
+server_data (inputs.octets bytes) = Some (data_read (packet_of bytes))
+server_data _ = None
+
 module _ (setup : ServerSetup) (now : ServerNow) (accepted made : List TagRecord) (stands : ServerStands setup now accepted made) where
   abbrev before : Option (List ℕ)
   before = server_foreign now.vars.current now.views
 
   called_heard : (bytes : List ℕ) (id kind : ℕ) (body : List ℕ) (answered : ServerTurn) (after : ServerViews)
       → rows.Hears now bytes id kind body → rows.Turns now id kind body answered after
-      → Hears (Some bytes) before (server_foreign now.vars.current after)
+      → Hears (Some (data_read (packet_of bytes))) before (server_foreign now.vars.current after)
   called_heard bytes id kind body answered after heard turned =
       by (turn_heard now.vars.setup.users (next_id now.vars) kind now.views (spelled (response id kind body)))
     where
@@ -171,16 +181,17 @@ module _ (setup : ServerSetup) (now : ServerNow) (accepted made : List TagRecord
 
       by : Hears (Some (body_of (spelled (response id kind body)))) (server_foreign_of now.views kind)
           (server_foreign_of (server_turn now.vars.setup.users (next_id now.vars) kind now.views (spelled (response id kind body))).after kind)
-          → Hears (Some bytes) before (server_foreign now.vars.current after)
+          → Hears (Some (data_read (packet_of bytes))) before (server_foreign now.vars.current after)
       by (as_before same) =
           as_before
           (current_of now.vars.current after kind turned.is_current
           ∙ (ap (λ (v : ServerViews). server_foreign_of v kind) (sym is_after) ∙ (same ∙ sym (current_of now.vars.current now.views kind turned.is_current))))
       by (hears_now octets x is_came is_x stands) =
-          hears_now bytes x refl
+          let same : octets ≡ body_of (spelled (response id kind body)) = cc in
+          let is_data = response_data bytes id kind body heard.is_packet (method_holds (kind == psk_kind) (kind == gpsk_kind) _ _ x is_x) in
+          hears_now _ x refl
           (current_of now.vars.current after kind turned.is_current ∙ (ap (λ (v : ServerViews). server_foreign_of v kind) (sym is_after) ∙ is_x))
-          (within x body bytes (subst (StandsIn x) (let same : octets ≡ body_of (spelled (response id kind body)) = cc in same ∙ response_body id kind body) stands)
-          (body_stands bytes (response id kind body) heard.is_packet))
+          (subst (StandsIn x) (same ∙ (response_body id kind body ∙ sym is_data)) stands)
 
   -- where a method is to be proposed, none was heard, and the current method stays
   record Unheard (vars : ServerVariables) : Type 0 where
@@ -219,7 +230,7 @@ module _ (setup : ServerSetup) (now : ServerNow) (accepted made : List TagRecord
       as_before (ap (λ (v : ServerViews). server_foreign vars.current v) same ∙ ap (λ (o : Option ℕ). server_foreign o now.views) current)
 
   row_heard : (input : ServerInput) (out : ServerAnswer) → (input ≡ start → ⊥) → ((nonce : List ℕ) → input ≡ restart nonce → ⊥) → rows.ServerRow now input out
-      → Hears (server_octets input) before (server_foreign out.after.vars.current out.after.views)
+      → Hears (server_data input) before (server_foreign out.after.vars.current out.after.views)
   row_heard _ _ later no_restart (rows.ended bytes over) = as_before refl
   row_heard _ _ later no_restart (rows.rests over) = as_before refl
   row_heard _ _ later no_restart (rows.goes_on is_begun) = as_before refl
@@ -238,8 +249,39 @@ module _ (setup : ServerSetup) (now : ServerNow) (accepted made : List TagRecord
   row_heard _ _ later no_restart (rows.succeeds bytes id kind body tags views heard turned) = called_heard bytes id kind body _ views heard turned
   row_heard _ _ later no_restart (rows.method_fails bytes id kind body tags views heard turned) = called_heard bytes id kind body _ views heard turned
 
+  -- by the table alone, to others in which the Type-Data stands
+  abbrev HeardIn : List ℕ → ServerAnswer → Type 0
+  HeardIn bytes out = Hears (Some bytes) before (server_foreign out.after.vars.current out.after.views)
+
+  answer_heard : (bytes whole : List ℕ) → StandsIn (data_read (packet_of bytes)) whole → HeardIn whole (server_deliver now bytes)
+  answer_heard bytes whole stands =
+      heard_in _ whole _ _ stands
+      (row_heard (inputs.octets bytes) _ (λ e. cc e) (λ nonce e. cc e) (server_answers_are_rows now (inputs.octets bytes)))
+
+  wraps_heard : (bytes : List ℕ) (out : ServerAnswer) (sent : Option (List ℕ)) → HeardIn bytes out → HeardIn bytes (wraps_sent out sent)
+  wraps_heard bytes out None heard = heard
+  wraps_heard bytes out (Some packet) heard = cond_both (code_of packet == 1) _ _ (HeardIn bytes) (λ _. heard) (λ _. heard)
+
+  -- what the table takes of a Response: a Nak, or the plain form
+  taken_stands : (bytes : List ℕ) (id kind : ℕ) (body : List ℕ) → packet_of bytes ≡ Ok (response id kind body)
+      → StandsIn (data_read (packet_of (response_octets now.vars bytes id kind body))) bytes
+  taken_stands bytes id kind body is_packet =
+      cond_both ((kind == expanded_kind) && (is_nak_body body && takes_nak now.vars)) _ _ (λ (o : List ℕ). StandsIn (data_read (packet_of o)) bytes)
+      (λ _. nak_data id _ bytes) (λ _. data_stands _ bytes (plain_response bytes id kind body is_packet))
+
+  hearing_heard : (bytes : List ℕ) (out : ServerAnswer) → ServerHearing now bytes out → HeardIn bytes out
+  hearing_heard bytes _ as_it_is = answer_heard bytes bytes (own_data bytes)
+  hearing_heard bytes _ (bad id kind body answers is_bad) =
+      cond_both (awaits_first now.vars) _ _ (HeardIn bytes) (λ _. as_before refl) (λ _. as_before refl)
+  hearing_heard bytes _ (wrapping id kind body answers good) =
+      let out = server_deliver now (response_octets now.vars bytes id kind body) in
+      wraps_heard bytes out out.step.sent (answer_heard _ bytes (taken_stands bytes id kind body answers.is_packet))
+
   -- every input but the start and a restart
   pub server_heard : (input : ServerInput) → (input ≡ start → ⊥) → ((nonce : List ℕ) → input ≡ restart nonce → ⊥)
       → (let out = server_takes now input in
       Hears (server_octets input) (server_foreign now.vars.current now.views) (server_foreign out.after.vars.current out.after.views))
-  server_heard input later no_restart = row_heard input _ later no_restart (server_answers_are_rows now input)
+  server_heard start later no_restart = absurd (later refl)
+  server_heard inputs.timeout later no_restart = row_heard inputs.timeout _ later no_restart (server_answers_are_rows now inputs.timeout)
+  server_heard (inputs.octets bytes) later no_restart = hearing_heard bytes _ (server_hears_so now bytes)
+  server_heard (restart nonce) later no_restart = absurd (no_restart nonce refl)

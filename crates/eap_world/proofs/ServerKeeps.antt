@@ -9,6 +9,7 @@ use Rattle.eap_base.specs.declared.users.User.{User}
 use Rattle.eap_base.specs.Setup.{psk_kind, gpsk_kind, is_among}
 use Rattle.eap_base.specs.Suite.{suite_number}
 use Rattle.eap_base.specs.Users.{user_of}
+use Rattle.eap_packet.specs.Fault.{code_of}
 use Rattle.eap_packet.specs.declared.cause.Cause.{Cause}
 use Rattle.eap_packet.specs.declared.state.State.{State}
 use Rattle.eap_packet.specs.declared.state.State.TheVariants as state
@@ -35,11 +36,14 @@ use Rattle.method_laws.specs.GpskServerRows as gpsk_row
 use Rattle.method_laws.specs.PskServerRows as psk_row
 use Rattle.method_laws.proofs.GpskServerCases.{gpsk_server_steps_are_rows}
 use Rattle.method_laws.proofs.PskServerCases.{psk_server_steps_are_rows}
-use Rattle.server_machine.specs.Inputs.{ServerInput, start, restart, server_takes}
+use Rattle.server_machine.specs.Expanded.{response_octets, discards_bad, wraps_sent}
+use Rattle.server_machine.specs.Inputs.{ServerInput, start, restart, server_answers, server_takes}
+use Rattle.server_machine.specs.Inputs as inputs
 use Rattle.server_machine.specs.Rows as rows
 use Rattle.server_machine.specs.Rows.{Selects, after_identity, after_nak, first_identity, first_nak, first_other}
-use Rattle.server_machine.specs.ServerTable.{ServerNow, ServerAnswer, identity, own_nonce, server_made, server_restart, next_id, with_request, offers, is_proposed, is_started, awaits_first, is_backend, picked_up, server_start}
+use Rattle.server_machine.specs.ServerTable.{ServerNow, ServerAnswer, identity, own_nonce, server_made, server_restart, next_id, with_request, offers, is_proposed, is_started, awaits_first, is_backend, picked_up, server_deliver, server_start}
 use Rattle.server_machine.specs.declared.variables.Role.{Role}
+use Rattle.server_machine.proofs.Hearing.{ServerHearing, as_it_is, bad, wrapping}
 use Rattle.server_machine.proofs.ServerRows.{server_answers_are_rows}
 use Rattle.server_machine.specs.declared.variables.Progress.{Progress}
 use Rattle.server_machine.specs.declared.variables.Progress.TheVariants as progress
@@ -51,6 +55,7 @@ use Rattle.eap_world.proofs.PskHeaders.{header_read}
 use Rattle.eap_world.proofs.Fields.{read_rands}
 use Rattle.eap_world.proofs.OneMethod.{apart, goes_on}
 use Rattle.eap_world.proofs.PskFields.{read_rand}
+use Rattle.eap_world.proofs.Taking.{server_taken}
 
 -- ---- the begin
 
@@ -531,12 +536,51 @@ module _ (setup : ServerSetup) (now : ServerNow) (accepted made : List TagRecord
   row_keeps _ _ later same (rows.method_fails bytes id kind body tags views heard turned) =
       record { stands = after_end false tags views (turned_to id kind body _ views turned) _ refl (λ e. e) }
 
+  -- by the table alone
+  abbrev IsKept : ServerInput → ServerAnswer → Type 0
+  IsKept input out = (input ≡ start → ⊥) → ((nonce : List ℕ) → input ≡ restart nonce → ⊥) → Keeps setup accepted made out
+
+  answer_keeps : (input : ServerInput) → IsKept input (server_answers now input)
+  answer_keeps input later same = row_keeps input _ later same (server_answers_are_rows now input)
+
+  of_octets : (bytes : List ℕ) → Keeps setup accepted made (server_answers now (inputs.octets bytes))
+  of_octets bytes = answer_keeps (inputs.octets bytes) (λ e. cc e) (λ nonce e. cc e)
+
+  -- lastReqData alone is another where a Request is wrapped
+  wraps_keep : (out : ServerAnswer) (sent : Option (List ℕ)) → Keeps setup accepted made out → Keeps setup accepted made (wraps_sent out sent)
+  wraps_keep out None kept = kept
+  wraps_keep out (Some packet) kept =
+      let s = kept.stands in
+      cond_both (code_of packet == 1) _ _ (Keeps setup accepted made)
+      (λ _. record {
+        stands = record {
+          own = s.own;
+          tags = s.tags;
+          unstarted = λ e. record { no_method = (s.unstarted e).no_method; no_id = (s.unstarted e).no_id };
+          proposed = s.proposed;
+          sure = s.sure;
+        };
+      })
+      (λ _. kept)
+
+  bad_keeps : Keeps setup accepted made (discards_bad now)
+  bad_keeps =
+      cond_both (awaits_first now.vars) _ _ (Keeps setup accepted made) (λ _. quiet setup accepted made _ refl stands)
+      (λ _. quiet setup accepted made _ refl stands)
+
+  hearing_keeps : (bytes : List ℕ) (out : ServerAnswer) → ServerHearing now bytes out → IsKept (inputs.octets bytes) out
+  hearing_keeps bytes _ as_it_is later same = of_octets bytes
+  hearing_keeps bytes _ (bad id kind body answers is_bad) later same = bad_keeps
+  hearing_keeps bytes _ (wrapping id kind body answers good) later same =
+      let out = server_deliver now (response_octets now.vars bytes id kind body) in wraps_keep out out.step.sent (of_octets _)
+
 -- every input after the start but the begin of a new conversation keeps what stands
 pub server_keeps : (setup : ServerSetup) (now : ServerNow) (accepted made : List TagRecord) (input : ServerInput) → (input ≡ start → ⊥)
     → ((nonce : List ℕ) → input ≡ restart nonce → ⊥) → ServerStands setup now accepted made
     → (let out = server_takes now input in ServerStands setup out.after (accepted ++ out.step.tags.accepted) (made ++ out.step.tags.made))
 server_keeps setup now accepted made input later same stands =
-    (row_keeps setup now accepted made stands input _ later same (server_answers_are_rows now input)).stands
+    (server_taken now (IsKept setup now accepted made stands) (answer_keeps setup now accepted made stands) (hearing_keeps setup now accepted made stands)
+    input later same).stands
 
 -- a server of these settings that begins a new conversation stands as one that was made, or has started, with the new
 -- nonce

@@ -2,7 +2,7 @@
 use Rattle.std.proofs.Common.{◌≡◌, ℕ, ◌+◌, List, ◌++◌, Bool, true, false, Option, Some, None, refl, sym, ap, subst, ◌∙◌}
 use Rattle.std.specs.Prelude.{◌==◌, ◌%◌, not}
 use Rattle.std.specs.List.{list_any}
-use Rattle.std.proofs.lemmas.Bool.{and_parts, cond_both, false≢true}
+use Rattle.std.proofs.lemmas.Bool.{and_parts, cond_both, eqb-true, false≢true}
 use Rattle.eap_base.specs.Setup.{psk_kind, gpsk_kind}
 use Rattle.eap_base.specs.declared.users.User.{User}
 use Rattle.eap_packet.specs.Fault.{code_of}
@@ -23,13 +23,16 @@ use Rattle.method_laws.specs.GpskServerRows as gpsk_row
 use Rattle.method_laws.specs.PskServerRows as psk_row
 use Rattle.method_laws.proofs.GpskServerCases.{gpsk_server_steps_are_rows}
 use Rattle.method_laws.proofs.PskServerCases.{psk_server_steps_are_rows}
-use Rattle.server_machine.specs.Inputs.{ServerInput, start, timeout, restart, server_takes}
+use Rattle.server_machine.specs.Expanded.{response_octets, discards_bad, wraps, wraps_sent}
+use Rattle.server_machine.specs.Inputs.{ServerInput, start, timeout, octets, restart, server_answers, server_takes}
 use Rattle.server_machine.specs.Rows as rows
 use Rattle.server_machine.specs.Rows.{Selects, after_identity, after_nak, first_identity, first_nak, first_other}
 use Rattle.server_machine.specs.ServerTable.{ServerNow, ServerAnswer, is_started, is_backend, awaits_first, next_id, next_id_after, server_restart, server_start}
 use Rattle.server_machine.specs.declared.variables.ServerVariables.{ServerVariables}
+use Rattle.server_machine.proofs.Hearing.{ServerHearing, as_it_is, bad, wrapping}
 use Rattle.server_machine.proofs.ServerRows.{server_answers_are_rows}
 use Rattle.eap_world.specs.SingleSteps.{identifier_of, is_again}
+use Rattle.eap_world.proofs.Taking.{server_taken}
 
 -- ---- a Request with an Identifier
 
@@ -224,5 +227,53 @@ module _ (now : ServerNow) where
   row_speaks _ _ (rows.succeeds bytes id kind body tags views heard turned) = ends heard.going refl refl (one_end _ (success_is id))
   row_speaks _ _ (rows.method_fails bytes id kind body tags views heard turned) = ends heard.going refl refl (one_end _ (failure_is id))
 
+-- ---- with Expanded Types
+
+module _ (now : ServerNow) where
+  abbrev Speaks : ServerInput → ServerAnswer → Type 0
+  Speaks input out = ServerSpeaks now input out
+
+  answer_speaks : (input : ServerInput) → Speaks input (server_answers now input)
+  answer_speaks input = row_speaks now input _ (server_answers_are_rows now input)
+
+  -- a Success and a Failure aren't wrapped
+  end_wraps : (out : ServerAnswer) (packet : List ℕ) → IsEnd packet → wraps_sent out (Some packet) ≡ out
+  end_wraps out packet is =
+      cond_both (code_of packet == 1) _ _ (λ (o : ServerAnswer). o ≡ out) (λ e. absurd (is.code (eqb-true (code_of packet) 1 e))) (λ _. refl)
+
+  -- what answers other octets, wrapped
+  module _ (bytes plain : List ℕ) where
+    wraps_end : (out : ServerAnswer) (sent : Option (List ℕ)) → ((packet : List ℕ) → sent ≡ Some packet → IsEnd packet) → Speaks (octets bytes) out
+        → Speaks (octets bytes) (wraps_sent out sent)
+    wraps_end out None each speaks = speaks
+    wraps_end out (Some packet) each speaks = subst (Speaks (octets bytes)) (sym (end_wraps out packet (each packet refl))) speaks
+
+    -- where nothing is sent nothing is wrapped
+    wraps_none : (out : ServerAnswer) → out.step.sent ≡ None → Speaks (octets bytes) out → Speaks (octets bytes) (wraps out)
+    wraps_none out unsent speaks = subst (λ (sent : Option (List ℕ)). Speaks (octets bytes) (wraps_sent out sent)) (sym unsent) speaks
+
+    wraps_speak : (out : ServerAnswer) → Speaks (octets plain) out → Speaks (octets bytes) (wraps out)
+    wraps_speak out (rests unsent same_state same_id same) = wraps_none out unsent (rests unsent same_state same_id same)
+    wraps_speak out (asks packet id is going sent new current last follows) =
+        subst (λ (sent : Option (List ℕ)). Speaks (octets bytes) (wraps_sent out sent)) (sym sent)
+        (cond_both (code_of packet == 1) _ _ (Speaks (octets bytes))
+        (λ _. asks _ id (record { code = is.code; same = is.same }) going refl new current refl (λ alone _. follows alone (λ e. cc e)))
+        (λ _. asks packet id is going sent new current last (λ alone _. follows alone (λ e. cc e))))
+    wraps_speak out (repeats is_timer going sent same_state same_id same) = absurd (let e = is_timer in cc)
+    wraps_speak out (ends going over new each) = wraps_end out out.step.sent each (ends going over new each)
+    wraps_speak out (gives_up going over unsent) = wraps_none out unsent (gives_up going over unsent)
+    wraps_speak out (awaits nonce is_restart unsent unstarted) = absurd (let e = is_restart in cc)
+    wraps_speak out (begins nonce is_restart packet id is sent new current last) = absurd (let e = is_restart in cc)
+
+  bad_speaks : (bytes : List ℕ) → Speaks (octets bytes) (discards_bad now)
+  bad_speaks bytes =
+      cond_both (awaits_first now.vars) _ _ (Speaks (octets bytes)) (λ _. rests refl refl refl refl) (λ _. rests refl refl refl refl)
+
+  hearing_speaks : (bytes : List ℕ) (out : ServerAnswer) → ServerHearing now bytes out → Speaks (octets bytes) out
+  hearing_speaks bytes _ as_it_is = answer_speaks (octets bytes)
+  hearing_speaks bytes _ (bad id kind body answers is_bad) = bad_speaks bytes
+  hearing_speaks bytes _ (wrapping id kind body answers good) =
+      wraps_speak bytes (response_octets now.vars bytes id kind body) _ (answer_speaks (octets _))
+
 pub server_speaks : (now : ServerNow) (input : ServerInput) → ServerSpeaks now input (server_takes now input)
-server_speaks now input = row_speaks now input _ (server_answers_are_rows now input)
+server_speaks now = server_taken now (ServerSpeaks now) (answer_speaks now) (hearing_speaks now)

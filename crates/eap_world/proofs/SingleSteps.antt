@@ -1,8 +1,8 @@
 -- Each step of a run is lawful.
 use Rattle.std.proofs.Common.{◌≡◌, ◌≤◌, ℕ, ◌+◌, List, [], ◌∷◌, ◌++◌, length, Bool, true, false, Option, Some, None, refl, sym, ap, subst, ◌∙◌, arith, append-nil}
-use Rattle.std.specs.Prelude.{◌%◌, not}
+use Rattle.std.specs.Prelude.{◌||◌, ◌%◌, not}
 use Rattle.std.specs.List.{list_any}
-use Rattle.std.proofs.lemmas.Bool.{cond_both, false≢true}
+use Rattle.std.proofs.lemmas.Bool.{false≢true, or_right}
 use Rattle.eap_base.specs.declared.event.Event.{Event}
 use Rattle.eap_base.specs.declared.event.Event.TheVariants as event
 use Rattle.eap_base.specs.declared.setup.Mode.{Mode}
@@ -25,12 +25,10 @@ use Rattle.peer_machine.specs.Inputs.{PeerInput, peer_takes}
 use Rattle.server_machine.specs.Inputs as server_inputs
 use Rattle.server_machine.specs.Inputs.{ServerInput, server_takes}
 use Rattle.server_machine.specs.ServerTable as servers
-use Rattle.server_machine.specs.ServerTable.{ServerNow, ServerAnswer, is_backend, is_started, server_restart, server_start}
-use Rattle.server_machine.specs.Rows as rows
+use Rattle.server_machine.specs.ServerTable.{ServerNow, is_backend, is_started, server_start}
 use Rattle.server_machine.specs.declared.variables.Role.{Role}
 use Rattle.server_machine.specs.declared.variables.Role.TheVariants as role
-use Rattle.server_machine.specs.declared.variables.ServerVariables.{ServerVariables}
-use Rattle.server_machine.proofs.ServerRows.{server_answers_are_rows}
+use Rattle.server_machine.proofs.Starting.{stays_as_it_is}
 use Rattle.pass_through.specs.Inputs.{PassInput, pass_takes}
 use Rattle.pass_through.specs.PassTable.{Side, is_over}
 use Rattle.eap_world.specs.Agreement.{run_of}
@@ -194,55 +192,26 @@ pub record Holds (w : WorldNow) : Type 0 where
   pub said : HaveSaid w.parties w.sent
   pub begun : Begun w.parties
 
--- a row keeps the role, and a stand-alone server that has started
-record RowKeeps (now : ServerNow) (out : ServerAnswer) : Type 0 where
-  pub role : out.after.vars.role ≡ now.vars.role
-  pub begun : is_backend now.vars ≡ false → is_started now.vars ≡ true → is_started out.after.vars ≡ true
+-- a server to which octets may come has started, unless it is a backend
+alone_begun : (backend begun : Bool) → backend ≡ false → (backend || begun) ≡ true → begun ≡ true
+alone_begun true begun alone ready = cc alone
+alone_begun false begun alone ready = ready
 
 -- the role of a backend
 abbrev is_backend_role : Role → Bool
 is_backend_role of = elim of [ role.Backend ↦ true | role.StandAlone ↦ false ]
 
-restart_keeps : (now : ServerNow) (nonce : List ℕ) → RowKeeps now (server_restart now nonce)
-unfolding server_restart server_start
-restart_keeps now nonce =
-    cond_both (is_backend now.vars) _ _ (RowKeeps now)
-    (λ backend. record { role = refl; begun = λ alone e. absurd (false≢true (sym alone ∙ backend)) })
-    (λ _. record { role = refl; begun = λ alone e. refl })
-
-selects_keep : (now : ServerNow) (id kind : ℕ) (body : List ℕ) (entered : List State) (vars : ServerVariables) (desired : Option (List ℕ))
-    → rows.Selects now id kind body entered vars desired → (vars.role ≡ now.vars.role) × (is_started now.vars ≡ true → is_started vars ≡ true)
-selects_keep now id kind body _ _ _ (rows.after_identity is_id is_identity is_current unawaited) = (refl, λ e. e)
-selects_keep now id kind body _ _ _ (rows.after_nak is_id is_nak waits unawaited) = (refl, λ e. e)
-selects_keep now id kind body _ _ _ (rows.first_identity awaited is_identity) = (refl, λ e. refl)
-selects_keep now id kind body _ _ _ (rows.first_nak awaited is_nak) = (refl, λ e. refl)
-selects_keep now id kind body _ _ _ (rows.first_other awaited no_nak no_identity) = (refl, λ e. refl)
-
-row_keeps : (now : ServerNow) (input : ServerInput) (out : ServerAnswer) → rows.ServerRow now input out → RowKeeps now out
-unfolding server_start
-row_keeps now _ _ (rows.ended bytes over) = record { role = refl; begun = λ alone e. e }
-row_keeps now _ _ (rows.rests over) = record { role = refl; begun = λ alone e. e }
-row_keeps now _ _ (rows.goes_on is_begun) = record { role = refl; begun = λ alone e. e }
-row_keeps now _ _ (rows.drops bytes path c going why) = record { role = refl; begun = λ alone e. e }
-row_keeps now _ _ (rows.starts unstarted) = record { role = refl; begun = λ alone e. refl }
-row_keeps now _ _ (rows.resends going in_time) = record { role = refl; begun = λ alone e. e }
-row_keeps now _ _ (rows.times_out going late) = record { role = refl; begun = λ alone e. refl }
-row_keeps now _ _ (rows.proposes bytes id kind body entered vars desired next packet views heard selects next_is) =
-    let keep = selects_keep now id kind body entered vars desired selects in record { role = keep.0; begun = λ alone. keep.1 }
-row_keeps now _ _ (rows.proposes_without bytes id kind body entered vars desired next views heard selects next_is) =
-    let keep = selects_keep now id kind body entered vars desired selects in record { role = keep.0; begun = λ alone e. refl }
-row_keeps now _ _ (rows.proposes_none bytes id kind body entered vars desired heard selects none) =
-    let keep = selects_keep now id kind body entered vars desired selects in record { role = keep.0; begun = λ alone e. refl }
-row_keeps now _ _ (rows.requests bytes id kind body packet tags views heard turned) = record { role = refl; begun = λ alone e. e }
-row_keeps now _ _ (rows.succeeds bytes id kind body tags views heard turned) = record { role = refl; begun = λ alone e. refl }
-row_keeps now _ _ (rows.method_fails bytes id kind body tags views heard turned) = record { role = refl; begun = λ alone e. refl }
-row_keeps now _ _ (rows.begins nonce) = restart_keeps now nonce
-
 call_begun : (parties : Parties) (call : Call) → Begun parties → Begun (called parties call).after
 call_begun parties (to_peer input) was = record { role = was.role; begun = was.begun }
 call_begun parties (to_server input) was =
-    let keep = row_keeps parties.server input _ (server_answers_are_rows parties.server input) in
-    record { role = keep.role ∙ was.role; begun = λ alone. keep.begun (ap is_backend_role (was.role ∙ ap role_in alone)) (was.begun alone) }
+    let before = parties.server.vars in
+    let same = stays_as_it_is parties.server input in
+    let of_mode = same.role ∙ was.role in
+    record {
+      role = of_mode;
+      begun = λ alone.
+          alone_begun _ _ (ap is_backend_role (of_mode ∙ ap role_in alone)) (same.ready (or_right (is_backend before) (is_started before) (was.begun alone)));
+    }
 call_begun parties (to_pass input) was = record { role = was.role; begun = was.begun }
 
 fits_unstarted : (parties : Parties) (call : Call) → is_start call ≡ false → Fits parties call

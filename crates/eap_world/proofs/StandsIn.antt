@@ -1,5 +1,5 @@
 -- Octets that stand in others, one after the other.
-use Rattle.std.proofs.Common.{◌≡◌, ℕ, List, [], ◌∷◌, ◌++◌, length, take, drop, true, refl, sym, ap, ◌∙◌, append_assoc, take_at}
+use Rattle.std.proofs.Common.{◌≡◌, ℕ, List, [], ◌∷◌, ◌++◌, length, take, drop, true, refl, sym, ap, ◌∙◌, append_assoc, append-nil, take_at}
 use Rattle.std.proofs.lemmas.Bool.{or_left, or_right}
 use Rattle.std.proofs.lemmas.List.{take-append-drop}
 use Rattle.std.proofs.lemmas.Slice.Eq.{bytes_eq-Decides}
@@ -32,6 +32,16 @@ front_within n part whole x = record {
 
 pub part_of : (n : ℕ) (octets : List ℕ) → StandsIn (take n octets) octets
 part_of n octets = record { before = []; after = drop n octets; joined = sym (take-append-drop n octets) }
+
+pub rest_of : (n : ℕ) (octets : List ℕ) → StandsIn (drop n octets) octets
+rest_of n octets = record {
+  before = take n octets;
+  after = [];
+  joined = sym (ap (λ (l : List ℕ). take n octets ++ l) (append-nil (drop n octets)) ∙ take-append-drop n octets);
+}
+
+pub none_within : (octets : List ℕ) → StandsIn [] octets
+none_within octets = record { before = []; after = octets; joined = refl }
 
 pub behind_of : (n m : ℕ) (octets : List ℕ) → StandsIn (take m (drop n octets)) octets
 behind_of n m octets = record {

@@ -19,7 +19,9 @@ use Rattle.eap_method.specs.Peer as peer
 use Rattle.eap_method.specs.Server as server
 use Rattle.eap_method.specs.declared.values.MethodState.TheVariants.{NotSet}
 use Rattle.eap_method.specs.declared.values.Decision.TheVariants.{Fail}
+use Rattle.peer_machine.specs.Expanded.{peer_hears}
 use Rattle.peer_machine.specs.PeerTable.{peer_deliver}
+use Rattle.server_machine.specs.Expanded.{server_hears}
 use Rattle.server_machine.specs.ServerTable.{server_start, server_deliver, select_action}
 use Rattle.server_machine.specs.declared.variables.Progress.TheVariants.{End}
 use Rattle.server_machine.specs.declared.variables.Role.TheVariants.{StandAlone}
@@ -101,7 +103,7 @@ identity_round : run_after (world_start (world_made example_setup)).after three
       version = 1;
       started = true;
     }
-unfolding run_after world_start world_step act conversed_by held_before server_start server_deliver peer_deliver select_action next_kind packet_of fault spelled example_setup three peer.views_begun server.views_begun peer.peer_report_of server.server_report_of
+unfolding run_after world_start world_step act conversed_by held_before server_start server_hears server_deliver peer_hears peer_deliver select_action next_kind packet_of fault spelled example_setup three peer.views_begun server.views_begun peer.peer_report_of server.server_report_of
 identity_round = refl
 
 -- what is told of its events
@@ -133,5 +135,5 @@ identity_round_told : map (λ out. out.told) (outcomes_after (world_start (world
       sent = None;
       named = None;
     } ∷ []
-unfolding outcomes_after world_start world_step act conversed_by held_before server_start server_deliver peer_deliver select_action next_kind packet_of fault spelled example_setup three peer.views_begun server.views_begun peer.peer_report_of server.server_report_of
+unfolding outcomes_after world_start world_step act conversed_by held_before server_start server_hears server_deliver peer_hears peer_deliver select_action next_kind packet_of fault spelled example_setup three peer.views_begun server.views_begun peer.peer_report_of server.server_report_of
 identity_round_told = refl

@@ -8,7 +8,7 @@ use Rattle.eap_packet.specs.declared.packet.Code.{Code}
 use Rattle.eap_packet.specs.declared.packet.Code.TheVariants.{Request, Response, Success, Failure}
 use Rattle.eap_packet.specs.Packet.{has_type, value_with, number_of, framed, two_octets}
 use Rattle.eap_packet.specs.Packet as packets
-use Rattle.gpsk_messages.specs.Message.{Message, gpsk1, gpsk2, gpsk3, gpsk4, fail, protected_fail, op_code, covered_of, mac_of, spelled, without_mac}
+use Rattle.gpsk_messages.specs.Message.{Message, gpsk1, gpsk2, gpsk3, gpsk4, fail, protected_fail, op_code, covered_of, mac_of, size_of, spelled, without_mac}
 use Rattle.gpsk_messages.specs.Reading.{with_mac}
 use Rattle.login_keys.specs.Gkdf.{gpsk_tag_of}
 use Rattle.eap_method.specs.declared.tags.Label.TheVariants.{Sk}
@@ -78,6 +78,16 @@ spelled_with suite message mac e =
     let c = covered_with message mac in
     let m = mac_with suite message mac e in
     cc
+
+-- and keeps its size, where the one that is put has KS octets too
+pub size_with : (suite : Suite) (message : Message) (mac : List ℕ) → length (mac_of message) ≡ ks_of suite → length mac ≡ ks_of suite →
+    size_of (with_mac message mac) ≡ size_of message
+size_with suite (gpsk1 id_s rand_s list) mac e f = refl
+size_with suite (gpsk2 id_p id_s rand_p rand_s list chosen pd none) mac e f = omega arith
+size_with suite (gpsk3 rand_p rand_s id_s chosen pd none) mac e f = omega arith
+size_with suite (gpsk4 pd none) mac e f = omega arith
+size_with suite (fail code) mac e f = refl
+size_with suite (protected_fail code none) mac e f = omega arith
 
 -- ---- a packet up to the MAC
 

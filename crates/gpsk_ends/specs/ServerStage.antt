@@ -1,5 +1,5 @@
 -- Where a server of EAP-GPSK stands, and what a call makes of it, as its definition says it.
-use Rattle.std.specs.Prelude.{ℕ, List, Result}
+use Rattle.std.specs.Prelude.{ℕ, List, Bool, true, false, Result}
 use Rattle.eap_packet.specs.declared.cause.Cause.{Cause}
 use Rattle.gpsk_messages.specs.Message.{Message}
 use Rattle.eap_method.specs.declared.tags.Tags.{Tags}
@@ -46,6 +46,12 @@ abbrev pub answered_with : Answered → List ℕ → Tags → ServerSide → Lis
 answered_with (answered.Dropped cause) packet tags own nonce = dropped (asked own nonce) cause
 answered_with answered.Refused packet tags own nonce = outcome_with turn.Request packet tags (refusing own nonce)
 answered_with (answered.Known login phase) packet tags own nonce = outcome_with turn.Request packet tags (view_in login phase)
+
+-- whether GPSK-2 is answered
+abbrev pub is_answered : Answered → Bool
+is_answered (answered.Dropped cause) = false
+is_answered answered.Refused = true
+is_answered (answered.Known login phase) = true
 
 -- the Type-Data at a server in a login
 abbrev pub reads_in : Login → Phase → Result Message Cause → ServerOutcome View

@@ -4,6 +4,7 @@ ghost use Rattle.std.specs.Prelude.{◌≡◌, ◌≤◌, ◌+◌, ◌∷◌, []
 ghost use Rattle.eap_base.specs.Suite.{ks_of};
 ghost use Rattle.eap_packet.specs.Packet.{has_type};
 ghost use Rattle.gpsk_messages.specs.Message.{message_of, mac_of, size_of, spelled, without_mac};
+ghost use Rattle.eap_method.specs.Room.{HasRoom};
 ghost use Rattle.gpsk_ends.specs.Sealed.{packet_of, record_of};
 
 use crate::records::set_alone;
@@ -102,10 +103,11 @@ impl Keys {
         made: &mut TagList,
     )
         requires typed { IsTrue (has_type code) }
-        requires fits { size_of (message_of view.now) + 5 ≤ 1500 }
+        requires fits { size_of (message_of view.now) + 5 ≤ 1493 }
         requires mac { length (mac_of (message_of view.now)) ≡ ks_of self.now.suite }
         ensures packet { packet.new ≡ packet_of code id self.now.suite self.now.keys.sk (without_mac (message_of view.now)) }
         ensures record { made.new ≡ record_of self.now.suite self.now.keys.sk psk.now (without_mac (message_of view.now)) ∷ [] }
+        ensures room { HasRoom packet.new }
     {
         write_front(view, code, id, self.suite, packet);
         let covered = &packet.as_slice()[BEFORE_COVERED..];

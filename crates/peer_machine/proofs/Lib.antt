@@ -1,10 +1,16 @@
+-- Worked values of the definitions of Expanded Types.
+mod Worked
 -- A decoded Request is one that its method may be handed.
 pub mod Requests
 -- A method's turn, settled in the variables, is METHOD's row.
 pub mod Settling
 -- What the peer makes of an input is one of the rows of its table.
 pub mod PeerRows
+-- What a delivery comes to: the row of its table, a refusal, or the row of the plain form, expressed.
+pub mod Hearing
 -- A discard changes nothing.
 pub mod Discards
 -- The settings with another nonce are sound.
 pub mod Restarting
+-- The Identifier of a packet is the second octet of what begins with it, and of its plain form.
+pub mod Identifiers

@@ -2,6 +2,7 @@
 use Rattle.std.specs.Prelude.{ℕ, List, [], if◌then◌else◌}
 use Rattle.eap_method.specs.Steps.{enters, is_end}
 use Rattle.eap_method.specs.Tags.{no_tags}
+use Rattle.peer_machine.specs.Expanded.{peer_hears}
 use Rattle.peer_machine.specs.PeerTable.{PeerNow, PeerAnswer, answer, peer_restart, peer_deliver, peer_idle, peer_alt_accept, peer_alt_reject}
 
 -- octets from the server, or a report of the lower layer (section 4.1.1)
@@ -17,9 +18,15 @@ pub data PeerInput : Type 0 where
 abbrev pub unless_ended : PeerNow → PeerAnswer → PeerAnswer
 unless_ended now out = if is_end now.vars.state then answer (enters [] no_tags) now else out
 
+-- by the table alone
+abbrev pub peer_answers : PeerNow → PeerInput → PeerAnswer
+peer_answers now (octets bytes) = peer_deliver now bytes
+peer_answers now idle = unless_ended now (peer_idle now)
+peer_answers now alt_accept = unless_ended now (peer_alt_accept now)
+peer_answers now alt_reject = unless_ended now (peer_alt_reject now)
+peer_answers now (restart nonce) = peer_restart now nonce
+
+-- by the table, with Expanded Types where the settings say so
 abbrev pub peer_takes : PeerNow → PeerInput → PeerAnswer
-peer_takes now (octets bytes) = peer_deliver now bytes
-peer_takes now idle = unless_ended now (peer_idle now)
-peer_takes now alt_accept = unless_ended now (peer_alt_accept now)
-peer_takes now alt_reject = unless_ended now (peer_alt_reject now)
-peer_takes now (restart nonce) = peer_restart now nonce
+peer_takes now (octets bytes) = peer_hears now bytes
+peer_takes now input = peer_answers now input

@@ -14,7 +14,7 @@ use Rattle.eap_method.specs.declared.values.MethodState.{MethodState}
 use Rattle.eap_method.specs.Peer.{PeerViews, peer_turn}
 use Rattle.eap_method.specs.Steps.{sends, enters, discards, is_end}
 use Rattle.eap_method.specs.Tags.{no_tags}
-use Rattle.peer_machine.specs.Inputs.{PeerInput, octets, idle, alt_accept, alt_reject, restart, peer_takes}
+use Rattle.peer_machine.specs.Inputs.{PeerInput, octets, idle, alt_accept, alt_reject, restart, peer_answers}
 use Rattle.peer_machine.specs.PeerTable.{PeerNow, PeerAnswer, answer, is_last_id, is_done, is_cont, is_fail, is_uncond, before_method, peer_respond, peer_restart, peer_retransmit, peer_ends, identity_response, notification_response, nak_response}
 
 -- this packet has come to a peer that has not ended; its Identifier is lastId, or isn't
@@ -123,6 +123,6 @@ pub data PeerRow (now : PeerNow) : PeerInput → PeerAnswer → Type 0 where
       (answer (enters (before_method selects ++ state.Method ∷ state.Failure ∷ []) tags)
       (record { vars = record now.vars { state = state.Failure; selected = Some kind; method_state = m; decision = d }; views = views }))
 
--- what comes of every input is one of the rows
+-- what comes of every input by the table is one of the rows
 abbrev pub PeerAnswersAreRows : Type 0
-PeerAnswersAreRows = (now : PeerNow) (input : PeerInput) → PeerRow now input (peer_takes now input)
+PeerAnswersAreRows = (now : PeerNow) (input : PeerInput) → PeerRow now input (peer_answers now input)

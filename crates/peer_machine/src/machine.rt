@@ -1,14 +1,19 @@
 //! The peer of RFC 4137 section 4 over the objects of its methods.
 
-ghost use Rattle.std.specs.Prelude.{◌≡◌, ◌≢◌, ◌≤◌, [], ◌∷◌, ◌++◌, length, true, false, map, None, Some, Ok, ℕ, List};
+ghost use Rattle.std.specs.Prelude.{◌≡◌, ◌≢◌, ◌≤◌, [], ◌∷◌, ◌++◌, length, slice_index, true, false, map, None, Some, Ok, ℕ, List};
 ghost use Rattle.eap_base.specs.Setup.{IsSoundPeer, HasKeys, is_among};
 ghost use Rattle.eap_packet.specs.Packet.{spelled, value_of, IsPacket};
+ghost use Rattle.eap_packet.specs.Fault.{packet_of};
+ghost use Rattle.eap_packet.specs.Expanded.{expanded_kind, ietf};
 ghost use Rattle.eap_packet.specs.Packet as packets;
 ghost use Rattle.eap_packet.specs.declared.state.State.TheVariants.{Received, Method, Discard, Idle, Failure, Retransmit, SendResponse};
 ghost use Rattle.eap_method.specs.PeerTurn.{peer_turn_with, peer_tags};
+ghost use Rattle.eap_method.specs.Plain.{plain_octets};
+ghost use Rattle.eap_method.specs.Room.{HasRoom, replies};
 ghost use Rattle.eap_method.specs.Steps.{step_with};
 ghost use Rattle.eap_method.specs.Tags.{no_tags};
 ghost use Rattle.eap_method.specs.Unnamed.{KeepsPeers};
+ghost use Rattle.peer_machine.specs.Expanded.{express};
 ghost use Rattle.peer_machine.specs.PeerTable.{before_method, method_answers, settled, answer, is_allowed};
 ghost use Rattle.eap_method.specs.Peer.{IsRequest, PeerViews, have_each, peer_views, peer_turn, peer_kinds};
 
@@ -18,8 +23,11 @@ use eap_method::{
     Decision, MethodState, PeerMethod, PeerTurn, Report, Step, Tags, begin_peers, hand_to_peer,
     has_ended, peer_report,
 };
-use eap_packet::{Cause, Code, PacketView, State, decode, encode_into};
-use login_policy::{nak_list, peer_allows};
+use eap_packet::{
+    Cause, Code, PacketView, State, begin_into, decode, encode_into, is_bad_expanded, wrap,
+    write_plain,
+};
+use login_policy::{expanded_nak, nak_list, peer_allows};
 use std::marker::Model;
 
 /// Type 1, Identity.
@@ -31,9 +39,17 @@ const NOTIFICATION: u8 = 2;
 /// Type 3, Nak.
 const NAK: u8 = 3;
 
+/// Type 254, of a packet with an Expanded Type.
+const EXPANDED: u8 = 254;
+
+/// Vendor-Id 0, that of the IETF, and Vendor-Type 3, the Nak (RFC 3748 section 5.3.2).
+const NAK_FIELDS: [u8; 7] = [0, 0, 0, 0, 0, 0, NAK];
+
 /// The peer of RFC 4137 section 4: its variables, and the objects of its methods. Contracts see both;
 /// what an object shows is its ghost member `peer_shown`. No call changes the settings but [`restart`](PeerMachine::restart)
-/// their nonce, nor the view of an object whose method they don't name.
+/// their nonce, nor the view of an object whose method they don't name. Where the settings say `expanded`, the peer
+/// reads Expanded Types (RFC 3748 section 5.7), as [`deliver`](PeerMachine::deliver) says; else Type 254 is to it a Type
+/// like any other.
 #[derive(Drop)]
 pub struct PeerMachine<M> {
     vars: PeerVariables,
@@ -53,6 +69,7 @@ impl<M> Model for PeerMachine<M> {
 impl<M: PeerMethod> PeerMachine<M> {
     ghost use Rattle.eap_method.specs.Steps.{is_end};
     ghost use Rattle.peer_machine.specs.PeerTable.{PeerAnswer, now_of, own_nonce, peer_made, peer_restart, peer_deliver, peer_idle, peer_alt_accept, peer_alt_reject, peer_reports, peer_row, peer_success, peer_failure, new_request, peer_method, is_last_id};
+    ghost use Rattle.peer_machine.specs.Expanded.{peer_hears, reads_request, expressed_unless};
 
     /// INITIALIZE (RFC 4137 section 4.5): begins the objects of the methods that the setup allows; the
     /// peer then stands in IDLE. Each of these methods has an object.
@@ -106,19 +123,25 @@ impl<M: PeerMethod> PeerMachine<M> {
     /// in place of what was there. A discard changes neither a variable nor a method's view, and leaves
     /// no record; a selection that GET_METHOD had just made is undone. Without a packet that is sent,
     /// nothing counts in `packet`.
-    #[tactic(auto, unfolding(crate::specs::PeerTable::peer_deliver))]
+    ///
+    /// Where the settings say `expanded`, a Request of Type 254 is taken in its plain form, and what is
+    /// sent of that is expressed in Type 254, and kept so for RETRANSMIT (RFC 3748 section 5.7): a Nak as
+    /// the Expanded Nak of 12 octets and 8 for each method that the peer allows, at least 20 (section
+    /// 5.3.2); any other Response, of at most 1,493 octets, wrapped, which adds 7. A repeated Request is
+    /// answered in either form by what was sent last, unchanged. A Request of Type 254 that no party
+    /// takes is discarded for BadExpanded, unless the peer has ended: one with under 7 octets of
+    /// Type-Data, or an Expanded Nak. What isn't a Request of Type 254 is taken as without `expanded`.
+    #[tactic(auto, unfolding(crate::specs::Expanded::peer_hears))]
     pub fn deliver(&mut self, octets: &[u8], packet: &mut Packet, tags: &mut Tags) -> Step
-        ensures step { peer_deliver (now_of M.peer_shown self.old) octets.now ≡ answer (step_with result packet.new tags.new) (now_of M.peer_shown self.new) }
+        ensures step { peer_hears (now_of M.peer_shown self.old) octets.now ≡ answer (step_with result packet.new tags.new) (now_of M.peer_shown self.new) }
         ensures kept { KeepsPeers self.old.vars.setup.methods (map M.peer_shown self.old.methods) (map M.peer_shown self.new.methods) }
         ensures setup { self.new.vars.setup ≡ self.old.vars.setup }
     {
         tags.clear();
-        if self.ended() {
-            return Step::discarding(&[], Cause::Ended);
-        }
-        match decode(octets) {
-            Err(cause) => discard(cause),
-            Ok(view) => self.take(&view, packet, tags),
+        if self.vars.setup.expanded {
+            self.read(octets, packet, tags)
+        } else {
+            self.take_octets(octets, packet, tags)
         }
     }
 
@@ -212,6 +235,125 @@ impl<M: PeerMethod> PeerMachine<M> {
         self.methods
     }
 
+    /// A delivery to a peer that reads Expanded Types; `tags` has no record yet. It is never inlined, so
+    /// that the packets of the functions below widen no frame of a peer that doesn't.
+    #[inline(never)]
+    #[tactic(auto, unfolding(crate::specs::Expanded::peer_hears))]
+    fn read(&mut self, octets: &[u8], packet: &mut Packet, tags: &mut Tags) -> Step
+        requires expanded { self.old.vars.setup.expanded ≡ true }
+        requires tags { tags.old ≡ no_tags }
+        ensures step { peer_hears (now_of M.peer_shown self.old) octets.now ≡ answer (step_with result packet.new tags.new) (now_of M.peer_shown self.new) }
+        ensures kept { KeepsPeers self.old.vars.setup.methods (map M.peer_shown self.old.methods) (map M.peer_shown self.new.methods) }
+        ensures setup { self.new.vars.setup ≡ self.old.vars.setup }
+    {
+        match decode(octets) {
+            Ok(view) if view.code == Code::Request && !self.ended() => {
+                self.read_request(&view, octets, packet, tags)
+            }
+            _ => self.take_octets(octets, packet, tags),
+        }
+    }
+
+    /// A Request that the octets begin with, to a peer that reads Expanded Types and has not ended;
+    /// `tags` has no record yet.
+    fn read_request(
+        &mut self,
+        view: &PacketView,
+        octets: &[u8],
+        packet: &mut Packet,
+        tags: &mut Tags,
+    ) -> Step
+        requires request { view.now.code ≡ Code.Request }
+        requires packet { packet_of octets.now ≡ Ok (value_of view.now) }
+        requires size { length view.now.body.now ≤ 1495 }
+        requires tags { tags.old ≡ no_tags }
+        ensures step { reads_request (now_of M.peer_shown self.old) octets.now view.now.id view.now.kind view.now.body.now
+            ≡ answer (step_with result packet.new tags.new) (now_of M.peer_shown self.new) }
+        ensures kept { KeepsPeers self.old.vars.setup.methods (map M.peer_shown self.old.methods) (map M.peer_shown self.new.methods) }
+        ensures setup { self.new.vars.setup ≡ self.old.vars.setup }
+    {
+        if is_bad_expanded(view) {
+            discard(Cause::BadExpanded)
+        } else if view.kind == EXPANDED {
+            self.take_expanded(view, octets, packet, tags)
+        } else {
+            self.take_octets(octets, packet, tags)
+        }
+    }
+
+    /// A Request of Type 254 is taken in its plain form, and what is sent of that is expressed in Type 254,
+    /// but for what RETRANSMIT sends. `tags` has no record yet.
+    fn take_expanded(
+        &mut self,
+        view: &PacketView,
+        octets: &[u8],
+        packet: &mut Packet,
+        tags: &mut Tags,
+    ) -> Step
+        requires request { view.now.code ≡ Code.Request }
+        requires packet { packet_of octets.now ≡ Ok (value_of view.now) }
+        requires size { length view.now.body.now ≤ 1495 }
+        requires tags { tags.old ≡ no_tags }
+        ensures step { expressed_unless (is_last_id self.old.vars.last_id view.now.id)
+            (peer_deliver (now_of M.peer_shown self.old) (plain_octets octets.now (value_of view.now)))
+            ≡ answer (step_with result packet.new tags.new) (now_of M.peer_shown self.new) }
+        ensures kept { KeepsPeers self.old.vars.setup.methods (map M.peer_shown self.old.methods) (map M.peer_shown self.new.methods) }
+        ensures setup { self.new.vars.setup ≡ self.old.vars.setup }
+    {
+        let is_last = self.vars.last_id == Some(view.id);
+        let step = self.take_plain(view, octets, packet, tags);
+        if step.sends && !is_last {
+            express(&mut self.vars, packet);
+        }
+        step
+    }
+
+    /// The packet that the octets begin with is taken in its plain form, by the table; `tags` has no
+    /// record yet.
+    #[tactic(auto, using(crate::proofs::Identifiers::second_is_id, crate::proofs::Identifiers::plain_second_is_id))]
+    fn take_plain(
+        &mut self,
+        view: &PacketView,
+        octets: &[u8],
+        packet: &mut Packet,
+        tags: &mut Tags,
+    ) -> Step
+        requires packet { packet_of octets.now ≡ Ok (value_of view.now) }
+        requires size { length view.now.body.now ≤ 1495 }
+        requires tags { tags.old ≡ no_tags }
+        ensures step { peer_deliver (now_of M.peer_shown self.old) (plain_octets octets.now (value_of view.now))
+            ≡ answer (step_with result packet.new tags.new) (now_of M.peer_shown self.new) }
+        ensures kept { KeepsPeers self.old.vars.setup.methods (map M.peer_shown self.old.methods) (map M.peer_shown self.new.methods) }
+        ensures setup { self.new.vars.setup ≡ self.old.vars.setup }
+        ensures room { is_last_id self.old.vars.last_id view.now.id ≡ false → result.sends ≡ true → HasRoom packet.new }
+    {
+        let mut plain = Packet::new();
+        if write_plain(view, &mut plain) {
+            self.take_octets(plain.as_slice(), packet, tags)
+        } else {
+            self.take_octets(octets, packet, tags)
+        }
+    }
+
+    /// A delivery, by the table alone, to which Type 254 is a Type like any other. What it sends has room
+    /// for an Expanded Type, but for what RETRANSMIT sends. `tags` has no record yet.
+    #[tactic(auto, unfolding(crate::specs::PeerTable::peer_deliver), using(crate::proofs::Identifiers::second_is_id))]
+    fn take_octets(&mut self, octets: &[u8], packet: &mut Packet, tags: &mut Tags) -> Step
+        requires tags { tags.old ≡ no_tags }
+        ensures step { peer_deliver (now_of M.peer_shown self.old) octets.now ≡ answer (step_with result packet.new tags.new) (now_of M.peer_shown self.new) }
+        ensures kept { KeepsPeers self.old.vars.setup.methods (map M.peer_shown self.old.methods) (map M.peer_shown self.new.methods) }
+        ensures setup { self.new.vars.setup ≡ self.old.vars.setup }
+        ensures room { is_last_id self.old.vars.last_id (slice_index octets.now 1) ≡ false → result.sends ≡ true → HasRoom packet.new }
+    {
+        if self.ended() {
+            return Step::discarding(&[], Cause::Ended);
+        }
+        match decode(octets) {
+            Err(cause) => discard(cause),
+            Ok(view) => self.take(&view, packet, tags),
+        }
+    }
+
     /// RECEIVED, of a packet; `tags` has no record yet.
     #[tactic(auto, using(crate::proofs::Requests::is_request))]
     fn take(&mut self, view: &PacketView, packet: &mut Packet, tags: &mut Tags) -> Step
@@ -222,6 +364,7 @@ impl<M: PeerMethod> PeerMachine<M> {
             ≡ answer (step_with result packet.new tags.new) (now_of M.peer_shown self.new) }
         ensures kept { KeepsPeers self.old.vars.setup.methods (map M.peer_shown self.old.methods) (map M.peer_shown self.new.methods) }
         ensures setup { self.new.vars.setup ≡ self.old.vars.setup }
+        ensures room { is_last_id self.old.vars.last_id view.now.id ≡ false → result.sends ≡ true → HasRoom packet.new }
     {
         let is_last = self.vars.last_id == Some(view.id);
         match view.code {
@@ -297,6 +440,7 @@ impl<M: PeerMethod> PeerMachine<M> {
             ≡ answer (step_with result packet.new tags.new) (now_of M.peer_shown self.new) }
         ensures kept { KeepsPeers self.old.vars.setup.methods (map M.peer_shown self.old.methods) (map M.peer_shown self.new.methods) }
         ensures setup { self.new.vars.setup ≡ self.old.vars.setup }
+        ensures room { result.sends ≡ true → HasRoom packet.new }
     {
         match self.vars.selected {
             None => self.first_request(id, kind, request, packet, tags),
@@ -332,6 +476,7 @@ impl<M: PeerMethod> PeerMachine<M> {
             ≡ answer (step_with result packet.new tags.new) (now_of M.peer_shown self.new) }
         ensures kept { KeepsPeers self.old.vars.setup.methods (map M.peer_shown self.old.methods) (map M.peer_shown self.new.methods) }
         ensures setup { self.new.vars.setup ≡ self.old.vars.setup }
+        ensures room { result.sends ≡ true → HasRoom packet.new }
     {
         if kind == IDENTITY {
             write_response(packet, id, IDENTITY, self.vars.setup.name.as_slice());
@@ -365,6 +510,7 @@ impl<M: PeerMethod> PeerMachine<M> {
             ≡ answer (step_with result packet.new tags.new) (now_of M.peer_shown self.new) }
         ensures kept { KeepsPeers self.old.vars.setup.methods (map M.peer_shown self.old.methods) (map M.peer_shown self.new.methods) }
         ensures setup { self.new.vars.setup ≡ self.old.vars.setup }
+        ensures room { result.sends ≡ true → HasRoom packet.new }
     {
         let turn = hand(&mut self.methods, kind, request, packet, tags);
         settle(&mut self.vars, selects, kind, id, turn, packet)
@@ -379,12 +525,47 @@ fn discard(cause: Cause) -> Step
 }
 
 /// Writes a Response of this Type and Type-Data in place of what was there.
+#[tactic(auto, using(eap_method::proofs::Rooms::response_has_room))]
 fn write_response(packet: &mut Packet, id: u8, kind: u8, body: &[u8])
-    requires fits { length body.now ≤ 1495 }
+    requires fits { length body.now ≤ 1488 }
     requires nak_desires { kind ≡ 3 → body.now ≢ [] }
-    ensures { packet.new ≡ spelled (packets.response id kind body.now) }
+    ensures response { packet.new ≡ spelled (packets.response id kind body.now) }
+    ensures room { HasRoom packet.new }
 {
     encode_into(packet, Code::Response, id, kind, body);
+}
+
+/// A Response to a Request of Type 254, written in place of the plain one that is sent: the Expanded
+/// Nak for a Nak (RFC 3748 section 5.3.2), any other wrapped (section 5.7). lastRespData is set to it.
+fn express(vars: &mut PeerVariables, packet: &mut Packet)
+    requires { HasRoom packet.old }
+    ensures packet { packet.new ≡ express vars.old.setup.methods packet.old }
+    ensures vars { vars.new ≡ record vars.old { last_response = packet.new } }
+{
+    let octets = packet.as_slice();
+    let id = octets[1];
+    if octets[4] == NAK {
+        write_expanded_nak(packet, id, expanded_nak(&vars.setup).as_slice());
+    } else {
+        wrap(packet);
+    }
+    vars.last_response.set(packet.as_slice());
+}
+
+/// Writes the Expanded Nak with these entries in place of what was there (RFC 3748 section 5.3.2).
+fn write_expanded_nak(packet: &mut Packet, id: u8, entries: &[u8])
+    requires { length entries.now ≤ 16 }
+    ensures { packet.new ≡ spelled (packets.response id expanded_kind (ietf ++ 3 ∷ entries.now)) }
+{
+    begin_into(
+        packet,
+        Code::Response,
+        id,
+        EXPANDED,
+        NAK_FIELDS.len() + entries.len(),
+    );
+    packet.put(&NAK_FIELDS);
+    packet.put(entries);
 }
 
 /// SEND_RESPONSE, after the state `entered`: sets lastId and lastRespData.
@@ -445,6 +626,7 @@ fn hand<M: PeerMethod>(
     ensures tags { tags.new ≡ peer_tags (peer_turn_with result packet.new tags.new) }
     ensures kept { (allowed : List ℕ) → is_among allowed kind ≡ true
         → KeepsPeers allowed (map M.peer_shown methods.old.items) (map M.peer_shown methods.new.items) }
+    ensures room { replies result ≡ true → HasRoom packet.new }
 {
     hand_to_peer(methods.as_mut_slice(), kind, request, packet, tags)
 }
@@ -462,6 +644,7 @@ fn settle(
         method_answers selects (record { vars = vars.old; views = before }) kind id after whole
         ≡ answer (step_with result packet.now (peer_tags whole)) (record { vars = vars.new; views = settled before after whole }) }
     ensures setup { vars.new.setup ≡ vars.old.setup }
+    ensures sends { result.sends ≡ true → replies turn ≡ true }
     ensures selected { is_allowed vars.old.setup.methods vars.old.selected ≡ true → is_among vars.old.setup.methods kind ≡ true
         → is_allowed vars.new.setup.methods vars.new.selected ≡ true }
 {

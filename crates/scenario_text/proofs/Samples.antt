@@ -1,5 +1,5 @@
 -- Lines, and a whole scenario, read by the definitions alone.
-use Rattle.std.proofs.Common.{◌≡◌, List, ℕ, false, [], ◌∷◌, ◌++◌, replicate, Some, None, find, Result, Ok, Err, refl}
+use Rattle.std.proofs.Common.{◌≡◌, List, ℕ, true, false, [], ◌∷◌, ◌++◌, replicate, Some, None, find, Result, Ok, Err, refl}
 use Rattle.std.specs.Prelude.{codes}
 use Rattle.eap_base.specs.Setup.{no_later}
 use Rattle.eap_base.specs.declared.setup.Later.{Later}
@@ -68,10 +68,11 @@ later-words : (says (codes "restart peer") ≡ Err fault.BadWord)
     × (says_in Second (codes "restart pass-peer") ≡ Err fault.BadChoice)
     × (says_in Second (codes "restart") ≡ Err fault.BadCount)
     × (says_in Second (codes "server-expanded no") ≡ Ok (Set (setting.ServerExpanded false)))
-    × (says_in Second (codes "server-expanded yes") ≡ Err fault.BadChoice)
+    × (says_in Second (codes "server-expanded yes") ≡ Ok (Set (setting.ServerExpanded true)))
+    × (says_in Second (codes "peer-expanded maybe") ≡ Err fault.BadChoice)
     × (says_in Second (codes "deliver 1") ≡ Ok (Happens (event.Deliver 1)))
 unfolding line_has keyword_in item_of spells_number
-later-words = (refl, refl, refl, refl, refl, refl, refl, refl, refl)
+later-words = (refl, refl, refl, refl, refl, refl, refl, refl, refl, refl)
 
 nonce : List ℕ
 nonce = replicate 64 48

@@ -1,5 +1,7 @@
 -- What the server makes of an input is one of the rows of its table.
 pub mod ServerRows
+-- What a delivery comes to: the row of its table, a refusal, or the row of the plain form, whose Request is wrapped.
+pub mod Hearing
 -- A discard changes nothing.
 pub mod Discards
 -- The methods already proposed: two kinds there are, so a kind that isn't among them finds room.
@@ -8,9 +10,13 @@ pub mod Proposed
 pub mod Responses
 -- An offer and a turn of a method, settled in the variables, are the server's rows.
 pub mod Settling
+-- What is sent by a server that reads Expanded Types.
+pub mod Wrapping
 -- No input changes the role, and a server to which octets may come stays one.
 pub mod Starting
 -- The settings with another nonce are sound.
 pub mod Restarting
 -- The readiness and the timer of a server that was made, and of one that has started, from the definitions alone.
 mod Worked
+-- Worked values of a server that reads Expanded Types.
+mod WorkedExpanded

@@ -1,18 +1,22 @@
 -- No input changes the role, and a server to which octets may come stays one.
-use Rattle.std.proofs.Common.{◌≡◌, ℕ, List, Bool, true, false, ◌&&◌, ◌||◌, not, Option, refl, sym, ap, ◌∙◌}
+use Rattle.std.proofs.Common.{◌≡◌, ℕ, List, Bool, true, false, ◌&&◌, ◌||◌, not, Option, Some, None, refl, sym, ap, ◌∙◌}
 use Rattle.std.proofs.lemmas.Bool.{cond_both, or_left, or_right}
+use Rattle.std.specs.Prelude.{◌==◌}
+use Rattle.eap_packet.specs.Fault.{code_of}
 use Rattle.eap_packet.specs.declared.state.State.{State}
 use Rattle.eap_method.specs.Server.{ServerViews}
 use Rattle.eap_method.specs.Steps.{Step, is_end}
-use Rattle.server_machine.specs.Inputs.{ServerInput, server_takes}
+use Rattle.server_machine.specs.Expanded.{response_octets, discards_bad, server_hears, wraps_sent}
+use Rattle.server_machine.specs.Inputs.{ServerInput, server_answers}
 use Rattle.server_machine.specs.Inputs as inputs
 use Rattle.server_machine.specs.Laws.{StaysReady, StaysAsItIs}
 use Rattle.server_machine.specs.Rows.{Selects, after_identity, after_nak, first_identity, first_nak, first_other, ServerRow, ended, rests}
 use Rattle.server_machine.specs.Rows.{goes_on, drops, starts, resends, times_out, proposes, proposes_without, proposes_none, requests, begins}
 use Rattle.server_machine.specs.Rows.{succeeds, method_fails}
-use Rattle.server_machine.specs.ServerTable.{ServerNow, ServerAnswer, answer, has_timer, is_backend, is_ready, is_started, server_deliver, server_restart, server_start}
+use Rattle.server_machine.specs.ServerTable.{ServerNow, ServerAnswer, answer, awaits_first, has_timer, is_backend, is_ready, is_started, server_deliver, server_restart, server_start}
 use Rattle.server_machine.specs.declared.variables.Role.TheVariants.{Backend, StandAlone}
 use Rattle.server_machine.specs.declared.variables.ServerVariables.{ServerVariables}
+use Rattle.server_machine.proofs.Hearing.{ServerHearing, as_it_is, bad, wrapping, server_hears_so}
 use Rattle.server_machine.proofs.ServerRows.{server_answers_are_rows}
 
 -- the role is the same, and a server that has started doesn't stand in INITIALIZE again
@@ -72,13 +76,34 @@ again_ready now nonce =
     (λ backend. record { role = refl; ready = λ _. or_left (is_backend now.vars) false backend })
     (λ _. record { role = refl; ready = λ _. or_right (is_backend now.vars) true refl })
 
-of_conversation : (now : ServerNow) (input : ServerInput) → ((nonce : List ℕ) → input ≡ inputs.restart nonce → ⊥) → StaysReady now.vars (server_takes now input).after.vars
-of_conversation now input same = still_ready now.vars (server_takes now input).after.vars (row-stays now input (server_takes now input) (server_answers_are_rows now input) same)
+of_conversation : (now : ServerNow) (input : ServerInput) → ((nonce : List ℕ) → input ≡ inputs.restart nonce → ⊥) → StaysReady now.vars (server_answers now input).after.vars
+of_conversation now input same = still_ready now.vars (server_answers now input).after.vars (row-stays now input (server_answers now input) (server_answers_are_rows now input) same)
+
+of_octets : (now : ServerNow) (bytes : List ℕ) → StaysReady now.vars (server_deliver now bytes).after.vars
+of_octets now bytes = of_conversation now (inputs.octets bytes) (λ nonce e. cc e)
+
+-- what is wrapped changes lastReqData alone
+wraps-ready : (vars : ServerVariables) (out : ServerAnswer) (sent : Option (List ℕ)) → StaysReady vars out.after.vars → StaysReady vars (wraps_sent out sent).after.vars
+wraps-ready vars out None same = same
+wraps-ready vars out (Some packet) same =
+    cond_both (code_of packet == 1) _ _ (λ (next : ServerAnswer). StaysReady vars next.after.vars) (λ _. record { role = same.role; ready = same.ready }) (λ _. same)
+
+bad-ready : (now : ServerNow) → StaysReady now.vars (discards_bad now).after.vars
+bad-ready now =
+    cond_both (awaits_first now.vars) _ _ (λ (next : ServerAnswer). StaysReady now.vars next.after.vars) (λ _. record { role = refl; ready = λ was. was })
+    (λ _. record { role = refl; ready = λ was. was })
+
+of_hearing : (now : ServerNow) (bytes : List ℕ) (out : ServerAnswer) → ServerHearing now bytes out → StaysReady now.vars out.after.vars
+of_hearing now bytes _ as_it_is = of_octets now bytes
+of_hearing now bytes _ (bad id kind body answers is_bad) = bad-ready now
+of_hearing now bytes _ (wrapping id kind body answers good) =
+    let plain = response_octets now.vars bytes id kind body in
+    wraps-ready now.vars (server_deliver now plain) (server_deliver now plain).step.sent (of_octets now plain)
 
 pub stays_as_it_is : StaysAsItIs
 stays_as_it_is now inputs.start = of_conversation now inputs.start (λ nonce e. cc e)
 stays_as_it_is now inputs.timeout = of_conversation now inputs.timeout (λ nonce e. cc e)
-stays_as_it_is now (inputs.octets bytes) = of_conversation now (inputs.octets bytes) (λ nonce e. cc e)
+stays_as_it_is now (inputs.octets bytes) = of_hearing now bytes _ (server_hears_so now bytes)
 stays_as_it_is now (inputs.restart nonce) = again_ready now nonce
 
 -- a backend is ready from the first, and stays one
@@ -86,10 +111,11 @@ pub backend_is_ready : (vars : ServerVariables) → vars.role ≡ Backend → is
 backend_is_ready vars is = rw is refl
 
 pub backend_stays : (before after : ServerVariables) (shown views : ServerViews) (octets : List ℕ) (step : Step)
-    → server_deliver (record { vars = before; views = shown }) octets ≡ answer step (record { vars = after; views = views })
+    → server_hears (record { vars = before; views = shown }) octets ≡ answer step (record { vars = after; views = views })
     → before.role ≡ Backend → after.role ≡ Backend
 backend_stays before after shown views octets step delivered is =
-    let same = stays_as_it_is (record { vars = before; views = shown }) (inputs.octets octets) in
+    let now : ServerNow = record { vars = before; views = shown } in
+    let same = stays_as_it_is now (inputs.octets octets) in
     ap (λ (out : ServerAnswer). out.after.vars.role) (sym delivered) ∙ (same.role ∙ is)
 
 -- the retransmission timer of a stand-alone server that has started and has not ended

@@ -3,6 +3,7 @@
 use Rattle.std.specs.Prelude.{ℕ, List, [], if◌then◌else◌}
 use Rattle.eap_method.specs.Steps.{enters, is_end}
 use Rattle.eap_method.specs.Tags.{no_tags}
+use Rattle.server_machine.specs.Expanded.{server_hears}
 use Rattle.server_machine.specs.ServerTable.{ServerNow, ServerAnswer, answer, is_started, server_restart, server_start, server_deliver, server_timeout}
 
 -- the start, the end of the retransmission timer, or octets from the peer
@@ -16,9 +17,14 @@ pub data ServerInput : Type 0 where
 abbrev pub server_rests : ServerNow → ServerAnswer
 server_rests now = answer (enters [] no_tags) now
 
--- a second start, and a timer that ends after the end, do nothing
+-- by the table alone; a second start, and a timer that ends after the end, do nothing
+abbrev pub server_answers : ServerNow → ServerInput → ServerAnswer
+server_answers now start = if is_started now.vars then server_rests now else server_start now
+server_answers now timeout = if is_end now.vars.state then server_rests now else server_timeout now
+server_answers now (octets bytes) = server_deliver now bytes
+server_answers now (restart nonce) = server_restart now nonce
+
+-- by the table, with Expanded Types where the settings say so
 abbrev pub server_takes : ServerNow → ServerInput → ServerAnswer
-server_takes now start = if is_started now.vars then server_rests now else server_start now
-server_takes now timeout = if is_end now.vars.state then server_rests now else server_timeout now
-server_takes now (octets bytes) = server_deliver now bytes
-server_takes now (restart nonce) = server_restart now nonce
+server_takes now (octets bytes) = server_hears now bytes
+server_takes now input = server_answers now input

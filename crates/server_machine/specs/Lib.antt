@@ -1,4 +1,5 @@
 pub mod ServerTable
+pub mod Expanded
 pub mod Inputs
 pub mod Rows
 pub mod Laws

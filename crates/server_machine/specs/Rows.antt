@@ -13,7 +13,7 @@ use Rattle.eap_method.specs.ServerTurn as turn
 use Rattle.eap_method.specs.Server.{ServerViews, Offer, side_of, server_offer, server_turn}
 use Rattle.eap_method.specs.Steps.{sends, enters, discards, is_end}
 use Rattle.eap_method.specs.Tags.{no_tags}
-use Rattle.server_machine.specs.Inputs.{ServerInput, start, timeout, octets, restart, server_rests, server_takes}
+use Rattle.server_machine.specs.Inputs.{ServerInput, start, timeout, octets, restart, server_rests, server_answers}
 use Rattle.server_machine.specs.ServerTable.{ServerNow, ServerAnswer, answer, identity, nak, next_id, identity_request, success_packet, failure_packet, before_proposal, is_awaited, is_proposed, is_started, awaits_first, picked_up, server_restart}
 use Rattle.server_machine.specs.declared.variables.Progress.TheVariants as progress
 use Rattle.server_machine.specs.declared.variables.Way.TheVariants as way
@@ -171,4 +171,4 @@ pub data ServerRow (now : ServerNow) : ServerInput → ServerAnswer → Type 0 w
 
 -- what comes of every input is one of the rows
 abbrev pub ServerAnswersAreRows : Type 0
-ServerAnswersAreRows = (now : ServerNow) (input : ServerInput) → ServerRow now input (server_takes now input)
+ServerAnswersAreRows = (now : ServerNow) (input : ServerInput) → ServerRow now input (server_answers now input)

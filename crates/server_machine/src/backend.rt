@@ -7,7 +7,8 @@ ghost use Rattle.eap_method.specs.Server.{server_kinds};
 ghost use Rattle.eap_method.specs.Steps.{is_end, step_with};
 ghost use Rattle.eap_method.specs.Tags.{no_tags};
 ghost use Rattle.eap_method.specs.Unnamed.{KeepsServers};
-ghost use Rattle.server_machine.specs.ServerTable.{answer, backend_made, now_of, own_nonce, server_deliver, server_reports, server_restart};
+ghost use Rattle.server_machine.specs.ServerTable.{answer, backend_made, now_of, own_nonce, server_reports, server_restart};
+ghost use Rattle.server_machine.specs.Expanded.{server_hears};
 
 use crate::machine::ServerMachine;
 use crate::variables::Role;
@@ -18,7 +19,8 @@ use std::marker::Model;
 
 /// The backend authenticator of RFC 4137 section 6: a login server behind a pass-through, which asks for
 /// the identity and sends again in its place. It begins with the first Response; from then on its rows are
-/// those of the stand-alone server. Contracts see it as that machine.
+/// those of the stand-alone server. Where its settings say `expanded`, it reads Expanded Types (RFC 3748 section
+/// 5.7) and asks in them. Contracts see it as that machine.
 #[derive(Drop)]
 pub struct Backend<M> {
     machine: ServerMachine<M>,
@@ -55,9 +57,12 @@ impl<M: ServerMethod> Backend<M> {
     /// those of [`ServerMachine::deliver`]. The packet that is sent is written into `packet`, the records of the
     /// turn's tags into `tags`, in place of what was there. A discard changes neither a variable nor a method's
     /// view, and leaves no record.
+    ///
+    /// Where the settings say `expanded`, Expanded Types (RFC 3748 section 5.7) are read and sent as that call does;
+    /// before the first Response a BadExpanded too has an empty path, and an Expanded Nak may be the first.
     #[tactic(auto, using(crate::proofs::Starting::backend_is_ready))]
     pub fn deliver(&mut self, octets: &[u8], packet: &mut Packet, tags: &mut Tags) -> Step
-        ensures step { server_deliver (now_of M.server_shown self.old) octets.now
+        ensures step { server_hears (now_of M.server_shown self.old) octets.now
             ≡ answer (step_with result packet.new tags.new) (now_of M.server_shown self.new) }
         ensures kept { KeepsServers self.old.vars.setup.methods (map M.server_shown self.old.methods) (map M.server_shown self.new.methods) }
         ensures setup { self.new.vars.setup ≡ self.old.vars.setup }

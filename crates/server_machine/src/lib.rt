@@ -3,8 +3,10 @@
 #![tactic(auto)]
 
 mod backend;
+mod expanded;
 mod laws;
 mod machine;
+mod outcome;
 mod variables;
 
 pub use backend::Backend;

@@ -1,27 +1,31 @@
 //! The server of RFC 4137 over the objects of its methods: stand-alone (section 5), or a backend (section
 //! 6).
 
-ghost use Rattle.std.specs.Prelude.{◌≡◌, ◌≤◌, ◌<◌, [], ◌∷◌, ◌++◌, ℕ, List, true, false, not, map, length, Some, None, Ok, option_copied, All, IsTrue, if◌then◌else◌};
+ghost use Rattle.std.specs.Prelude.{◌≡◌, ◌≤◌, [], ◌∷◌, true, false, map, length, Some, None, Ok, option_copied, All, IsTrue, if◌then◌else◌};
 ghost use Rattle.eap_base.specs.Setup.{IsSoundServer, is_among, are_suites, fits_kind};
-ghost use Rattle.eap_packet.specs.Packet.{spelled, value_of, value_with, has_type, IsPacket};
+ghost use Rattle.eap_packet.specs.Packet.{spelled, value_of, IsPacket};
 ghost use Rattle.eap_packet.specs.Packet as packets;
-ghost use Rattle.eap_packet.specs.declared.state.State.TheVariants.{ProposeMethod, MethodRequest, SendRequest, Received, Discard, Idle, Failure};
+ghost use Rattle.eap_packet.specs.Fault.{packet_of};
+ghost use Rattle.eap_packet.specs.declared.state.State.TheVariants.{Received, Discard, Idle};
 ghost use Rattle.eap_method.specs.Peer.{have_each};
-ghost use Rattle.eap_method.specs.Server.{IsResponse, ServerViews, server_views, server_kinds, server_offer, server_turn, side_of};
+ghost use Rattle.eap_method.specs.Server.{IsResponse, server_views, server_kinds, server_offer, server_turn, side_of};
 ghost use Rattle.eap_method.specs.ServerTurn.{server_turn_with, server_tags};
+ghost use Rattle.eap_method.specs.Room.{HasRoom, requests};
 ghost use Rattle.eap_method.specs.Steps.{step_with};
 ghost use Rattle.eap_method.specs.Tags.{no_tags};
 ghost use Rattle.eap_method.specs.Unnamed.{KeepsServers};
-ghost use Rattle.server_machine.specs.declared.variables.Way.TheVariants.{AfterResponse};
-ghost use Rattle.server_machine.specs.ServerTable.{answer, before_proposal, identity_request, next_id, with_request, ends_well, ends_badly, offers, method_answers, settled, awaits_first, AreInOrder, is_current};
+ghost use Rattle.server_machine.specs.Expanded.{MayWrap, reads_response};
+ghost use Rattle.server_machine.specs.ServerTable.{answer, before_proposal, identity_request, next_id, AreInOrder};
 
+use crate::expanded::{awaits_first, wrap_sent, write_taken};
+use crate::outcome::{end_badly, next_id, settle, settle_offer};
 use crate::variables::{Progress, Role, ServerVariables, Way};
 use eap_base::{Kinds, Nonce, Packet, ServerSetup};
 use eap_method::{
     Report, ServerMethod, ServerSide, ServerTurn, Step, Tags, begin_servers, hand_to_server,
     has_ended, offer_method, server_report,
 };
-use eap_packet::{Cause, Code, PacketView, State, decode, encode_end_into, encode_into};
+use eap_packet::{Cause, Code, PacketView, State, decode, encode_into, is_bad_expanded};
 use login_policy::next_method;
 use std::marker::Model;
 
@@ -31,28 +35,11 @@ const IDENTITY: u8 = 1;
 /// Type 3, Nak.
 const NAK: u8 = 3;
 
-/// The states of a method, or the Identity round, after which nothing follows but FAILURE.
-const FAILING: [State; 5] = [
-    State::Received,
-    State::IntegrityCheck,
-    State::MethodResponse,
-    State::SelectAction,
-    State::Failure,
-];
-
-/// The states of a method's last Response, after which SUCCESS follows.
-const SUCCEEDING: [State; 5] = [
-    State::Received,
-    State::IntegrityCheck,
-    State::MethodResponse,
-    State::SelectAction,
-    State::Success,
-];
-
 /// The server of RFC 4137, stand-alone (section 5) or, for a world with a pass-through, in the role of the
 /// backend (section 6): its variables, and the objects of its methods. Contracts see both; what an object
 /// shows is its ghost member `server_shown`. No call changes the settings but [`restart`](ServerMachine::restart) their nonce,
-/// nor the view of an object whose method they don't name. [`Backend`](crate::Backend) is the backend by itself.
+/// nor the view of an object whose method they don't name. Where the settings say `expanded`, it reads Expanded Types
+/// (RFC 3748 section 5.7) and asks in them. [`Backend`](crate::Backend) is the backend by itself.
 #[derive(Drop)]
 pub struct ServerMachine<M> {
     vars: ServerVariables,
@@ -73,6 +60,7 @@ impl<M: ServerMethod> ServerMachine<M> {
     ghost use Rattle.eap_method.specs.Steps.{is_end};
     ghost use Rattle.server_machine.specs.ServerTable.{ServerAnswer, now_of, made_again, own_nonce, server_made, server_restart, server_start, server_deliver, server_timeout, server_reports, is_started, server_row, select_action, server_method, current_response};
     ghost use Rattle.server_machine.specs.ServerTable.{first_response, has_timer, is_backend, is_ready, pick_up};
+    ghost use Rattle.server_machine.specs.Expanded.{server_hears, server_reads};
     ghost use Rattle.server_machine.specs.declared.variables.Role.TheVariants.{StandAlone};
 
     /// A stand-alone server that has not started: begins the objects of the methods that the setup
@@ -200,11 +188,91 @@ impl<M: ServerMethod> ServerMachine<M> {
     /// once the server has ended. The packet that is sent is written into `packet`, the records of the turn's
     /// tags into `tags`, in place of what was there. A discard changes neither a variable nor a method's view,
     /// and leaves no record. Without a packet that is sent, nothing counts in `packet`.
-    #[tactic(auto, unfolding(crate::specs::ServerTable::server_deliver))]
+    ///
+    /// Where the settings say `expanded`, a Response may have an Expanded Type (RFC 3748 section 5.7). One of Type
+    /// 254 with under 7 octets of Type-Data, and an Expanded Nak whose list isn't one or more entries of 8 octets
+    /// that each begin with 254 (section 5.3.2), is discarded as BadExpanded; by a backend that awaits its first
+    /// Response with an empty path. Any other is taken in its plain form, and an Expanded Nak as a Nak where it is
+    /// a backend's first Response or answers a Request of Type 254. Each Request of a method is sent with Type 254,
+    /// 7 octets longer, at most 1,500 in all, and again so by the timer; the Identity Request, a Success and a
+    /// Failure are sent as they are.
+    #[tactic(auto, unfolding(crate::specs::Expanded::server_hears))]
     pub fn deliver(&mut self, octets: &[u8], packet: &mut Packet, tags: &mut Tags) -> Step
+        requires ready { is_ready self.old.vars ≡ true }
+        ensures step { server_hears (now_of M.server_shown self.old) octets.now
+            ≡ answer (step_with result packet.new tags.new) (now_of M.server_shown self.new) }
+        ensures kept { KeepsServers self.old.vars.setup.methods (map M.server_shown self.old.methods) (map M.server_shown self.new.methods) }
+        ensures setup { self.new.vars.setup ≡ self.old.vars.setup }
+    {
+        if self.vars.setup.expanded && !self.ended() {
+            self.read(octets, packet, tags)
+        } else {
+            self.deliver_plain(octets, packet, tags)
+        }
+    }
+
+    /// Octets come to a server that reads Expanded Types and has not ended. It isn't inlined, so that no other
+    /// server has the octets of a plain form on its stack.
+    #[inline(never)]
+    fn read(&mut self, octets: &[u8], packet: &mut Packet, tags: &mut Tags) -> Step
+        requires ready { is_ready self.old.vars ≡ true }
+        ensures step { server_reads (now_of M.server_shown self.old) octets.now (packet_of octets.now)
+            ≡ answer (step_with result packet.new tags.new) (now_of M.server_shown self.new) }
+        ensures kept { KeepsServers self.old.vars.setup.methods (map M.server_shown self.old.methods) (map M.server_shown self.new.methods) }
+        ensures setup { self.new.vars.setup ≡ self.old.vars.setup }
+    {
+        match decode(octets) {
+            Err(_) => self.deliver_plain(octets, packet, tags),
+            Ok(view) => match view.code {
+                Code::Response => self.read_response(octets, &view, packet, tags),
+                Code::Request | Code::Success | Code::Failure => {
+                    self.deliver_plain(octets, packet, tags)
+                }
+            },
+        }
+    }
+
+    /// These octets begin with a Response, which is taken in its plain form; a Request that is sent is wrapped.
+    fn read_response(
+        &mut self,
+        octets: &[u8],
+        view: &PacketView,
+        packet: &mut Packet,
+        tags: &mut Tags,
+    ) -> Step
+        requires ready { is_ready self.old.vars ≡ true }
+        requires response { view.now.code ≡ Code.Response }
+        requires fits { length view.now.body.now ≤ 1495 }
+        ensures step { reads_response (now_of M.server_shown self.old) octets.now view.now.id view.now.kind view.now.body.now
+            ≡ answer (step_with result packet.new tags.new) (now_of M.server_shown self.new) }
+        ensures kept { KeepsServers self.old.vars.setup.methods (map M.server_shown self.old.methods) (map M.server_shown self.new.methods) }
+        ensures setup { self.new.vars.setup ≡ self.old.vars.setup }
+    {
+        if is_bad_expanded(view) {
+            tags.clear();
+            if awaits_first(&self.vars) {
+                Step::discarding(&[], Cause::BadExpanded)
+            } else {
+                discard(Cause::BadExpanded)
+            }
+        } else {
+            let mut plain = Packet::new();
+            let has_form = write_taken(&self.vars, view, &mut plain);
+            let taken = if has_form { plain.as_slice() } else { octets };
+            let step = self.deliver_plain(taken, packet, tags);
+            wrap_sent(&mut self.vars, step.sends, packet);
+            step
+        }
+    }
+
+    /// Octets come, and are taken by the rows of RFC 4137 alone, which know of no Expanded Type. A Request that is
+    /// sent has room for one.
+    #[tactic(auto, unfolding(crate::specs::ServerTable::server_deliver))]
+    fn deliver_plain(&mut self, octets: &[u8], packet: &mut Packet, tags: &mut Tags) -> Step
         requires ready { is_ready self.old.vars ≡ true }
         ensures step { server_deliver (now_of M.server_shown self.old) octets.now
             ≡ answer (step_with result packet.new tags.new) (now_of M.server_shown self.new) }
+        ensures room { MayWrap result.sends packet.new }
         ensures kept { KeepsServers self.old.vars.setup.methods (map M.server_shown self.old.methods) (map M.server_shown self.new.methods) }
         ensures setup { self.new.vars.setup ≡ self.old.vars.setup }
     {
@@ -339,6 +407,7 @@ impl<M: ServerMethod> ServerMachine<M> {
         requires going { is_end self.old.vars.state ≡ false }
         ensures step { pick_up (now_of M.server_shown self.old) (Ok (value_of view.now))
             ≡ answer (step_with result packet.new no_tags) (now_of M.server_shown self.new) }
+        ensures room { MayWrap result.sends packet.new }
         ensures kept { KeepsServers self.old.vars.setup.methods (map M.server_shown self.old.methods) (map M.server_shown self.new.methods) }
         ensures setup { self.new.vars.setup ≡ self.old.vars.setup }
     {
@@ -355,6 +424,7 @@ impl<M: ServerMethod> ServerMachine<M> {
         requires going { is_end self.old.vars.state ≡ false }
         ensures step { first_response (now_of M.server_shown self.old) id kind body.now
             ≡ answer (step_with result packet.new no_tags) (now_of M.server_shown self.new) }
+        ensures room { MayWrap result.sends packet.new }
         ensures kept { KeepsServers self.old.vars.setup.methods (map M.server_shown self.old.methods) (map M.server_shown self.new.methods) }
         ensures setup { self.new.vars.setup ≡ self.old.vars.setup }
     {
@@ -378,6 +448,7 @@ impl<M: ServerMethod> ServerMachine<M> {
         requires tags { tags.old ≡ no_tags }
         ensures step { server_row (now_of M.server_shown self.old) (Ok (value_of view.now))
             ≡ answer (step_with result packet.new tags.new) (now_of M.server_shown self.new) }
+        ensures room { MayWrap result.sends packet.new }
         ensures kept { KeepsServers self.old.vars.setup.methods (map M.server_shown self.old.methods) (map M.server_shown self.new.methods) }
         ensures setup { self.new.vars.setup ≡ self.old.vars.setup }
     {
@@ -401,6 +472,7 @@ impl<M: ServerMethod> ServerMachine<M> {
         requires tags { tags.old ≡ no_tags }
         ensures step { current_response (now_of M.server_shown self.old) view.now.id view.now.kind view.now.body.now
             ≡ answer (step_with result packet.new tags.new) (now_of M.server_shown self.new) }
+        ensures room { MayWrap result.sends packet.new }
         ensures kept { KeepsServers self.old.vars.setup.methods (map M.server_shown self.old.methods) (map M.server_shown self.new.methods) }
         ensures setup { self.new.vars.setup ≡ self.old.vars.setup }
     {
@@ -422,6 +494,7 @@ impl<M: ServerMethod> ServerMachine<M> {
     fn propose(&mut self, way: Way, id: u8, desired: Option<&[u8]>, packet: &mut Packet) -> Step
         ensures step { let now = now_of M.server_shown self.old in select_action (before_proposal way) now.vars now.views id (option_copied desired.entry)
             ≡ answer (step_with result packet.new no_tags) (now_of M.server_shown self.new) }
+        ensures room { MayWrap result.sends packet.new }
         ensures kept { KeepsServers self.old.vars.setup.methods (map M.server_shown self.old.methods) (map M.server_shown self.new.methods) }
         ensures setup { self.new.vars.setup ≡ self.old.vars.setup }
     {
@@ -448,19 +521,13 @@ impl<M: ServerMethod> ServerMachine<M> {
         requires ordered { is_among self.old.vars.setup.methods kind ≡ true }
         ensures step { server_method (now_of M.server_shown self.old) id kind response.now
             ≡ answer (step_with result packet.new tags.new) (now_of M.server_shown self.new) }
+        ensures room { MayWrap result.sends packet.new }
         ensures kept { KeepsServers self.old.vars.setup.methods (map M.server_shown self.old.methods) (map M.server_shown self.new.methods) }
         ensures setup { self.new.vars.setup ≡ self.old.vars.setup }
     {
         let turn = turn_of(&mut self.methods, &self.vars, kind, response, packet, tags);
         settle(&mut self.vars, id, turn, packet)
     }
-}
-
-/// True for a backend that still waits for its first Response.
-fn awaits_first(vars: &ServerVariables) -> bool
-    ensures { result ≡ awaits_first vars.now }
-{
-    matches!(vars.role, Role::Backend) && matches!(vars.state, State::Initialize)
 }
 
 /// DISCARD: nothing changes.
@@ -475,24 +542,6 @@ fn write_identity(packet: &mut Packet, id: u8)
     ensures { packet.new ≡ identity_request id }
 {
     encode_into(packet, Code::Request, id, IDENTITY, &[]);
-}
-
-/// Writes a Success or a Failure in place of what was there.
-fn write_end(packet: &mut Packet, code: Code, id: u8)
-    requires { IsTrue (not (has_type code)) }
-    ensures { packet.new ≡ spelled (value_with code id 0 []) }
-{
-    encode_end_into(packet, code, id);
-}
-
-/// The Identifier of the next Request: the first one, or one more modulo 256.
-fn next_id(vars: &ServerVariables) -> u8
-    ensures { result ≡ next_id vars.now }
-{
-    match vars.current_id {
-        None => vars.first_id,
-        Some(id) => id.wrapping_add(1),
-    }
 }
 
 /// What the server brings into a method.
@@ -520,6 +569,7 @@ fn write_first<M: ServerMethod>(
     ensures offer { server_offer (side_of vars.now.setup) vars.now.setup.nonce kind (next_id vars.now)
         (server_views vars.now.setup.methods (map M.server_shown methods.old.items))
         ≡ record { packet = if result then Some packet.new else None; after = server_views vars.now.setup.methods (map M.server_shown methods.new.items) } }
+    ensures room { result ≡ true → HasRoom packet.new }
     ensures kept { KeepsServers vars.now.setup.methods (map M.server_shown methods.old.items) (map M.server_shown methods.new.items) }
 {
     offer_method(
@@ -548,6 +598,7 @@ fn turn_of<M: ServerMethod>(
         (server_views vars.now.setup.methods (map M.server_shown methods.old.items)) response.now
         ≡ record { turn = server_turn_with result packet.new tags.new; after = server_views vars.now.setup.methods (map M.server_shown methods.new.items) } }
     ensures tags { tags.new ≡ server_tags (server_turn_with result packet.new tags.new) }
+    ensures room { requests result ≡ true → HasRoom packet.new }
     ensures kept { KeepsServers vars.now.setup.methods (map M.server_shown methods.old.items) (map M.server_shown methods.new.items) }
 {
     hand_to_server(
@@ -559,193 +610,6 @@ fn turn_of<M: ServerMethod>(
         packet,
         tags,
     )
-}
-
-/// FAILURE, where a method was to be proposed: a Failure with currentId.
-fn end_badly(vars: &mut ServerVariables, way: Way, id: u8, packet: &mut Packet) -> Step
-    ensures step { (views : ServerViews) → ends_badly (before_proposal way) vars.old views id no_tags
-        ≡ answer (step_with result packet.new no_tags) (record { vars = vars.new; views = views }) }
-    ensures setup { vars.new.setup ≡ vars.old.setup }
-    ensures order { AreInOrder vars.old → AreInOrder vars.new }
-{
-    vars.state = State::Failure;
-    write_end(packet, Code::Failure, id);
-    failing(way)
-}
-
-/// The step of a proposal that nothing is left for.
-fn failing(way: Way) -> Step
-    ensures { result ≡ record { path = before_proposal way ++ Failure ∷ []; cause = None; sends = true } }
-{
-    match way {
-        Way::AfterResponse => Step::sending(&FAILING),
-        Way::AfterNak => Step::sending(&[
-            State::Received,
-            State::Nak,
-            State::SelectAction,
-            State::Failure,
-        ]),
-        Way::FirstIdentity => Step::sending(&[
-            State::PickUpMethod,
-            State::MethodResponse,
-            State::SelectAction,
-            State::Failure,
-        ]),
-        Way::FirstNak => Step::sending(&[State::Nak, State::SelectAction, State::Failure]),
-        Way::FirstOther => {
-            Step::sending(&[State::PickUpMethod, State::SelectAction, State::Failure])
-        }
-    }
-}
-
-/// PROPOSE_METHOD, METHOD_REQUEST and SEND_REQUEST of a method that isn't yet proposed, whose first
-/// Request is `packet`; without one, FAILURE.
-#[tactic(auto, using(crate::proofs::Proposed::proposed_has_room, crate::proofs::Proposed::proposed_grows, crate::proofs::Proposed::order_is_kind))]
-fn settle_offer(
-    vars: &mut ServerVariables,
-    way: Way,
-    id: u8,
-    kind: u8,
-    has_first: bool,
-    packet: &mut Packet,
-) -> Step
-    requires ordered { is_among vars.old.setup.methods kind ≡ true }
-    requires unproposed { is_among vars.old.proposed kind ≡ false }
-    requires in_order { AreInOrder vars.old }
-    ensures step { (views : ServerViews) → offers (before_proposal way) vars.old views id kind (if has_first then Some packet.old else None)
-        ≡ answer (step_with result packet.new no_tags) (record { vars = vars.new; views = views }) }
-    ensures setup { vars.new.setup ≡ vars.old.setup }
-    ensures order { AreInOrder vars.new }
-{
-    if has_first {
-        send_request(vars, packet);
-        vars.current = Some(kind);
-        vars.progress = Progress::Proposed;
-        vars.proposed.push(kind);
-        proposing(way)
-    } else {
-        end_badly(vars, way, id, packet)
-    }
-}
-
-/// The step of a proposal.
-fn proposing(way: Way) -> Step
-    ensures { result ≡ record { path = before_proposal way ++ ProposeMethod ∷ MethodRequest ∷ SendRequest ∷ Idle ∷ []; cause = None; sends = true } }
-{
-    match way {
-        Way::AfterResponse => Step::sending(&[
-            State::Received,
-            State::IntegrityCheck,
-            State::MethodResponse,
-            State::SelectAction,
-            State::ProposeMethod,
-            State::MethodRequest,
-            State::SendRequest,
-            State::Idle,
-        ]),
-        Way::AfterNak => Step::sending(&[
-            State::Received,
-            State::Nak,
-            State::SelectAction,
-            State::ProposeMethod,
-            State::MethodRequest,
-            State::SendRequest,
-            State::Idle,
-        ]),
-        Way::FirstIdentity => Step::sending(&[
-            State::PickUpMethod,
-            State::MethodResponse,
-            State::SelectAction,
-            State::ProposeMethod,
-            State::MethodRequest,
-            State::SendRequest,
-            State::Idle,
-        ]),
-        Way::FirstNak => Step::sending(&[
-            State::Nak,
-            State::SelectAction,
-            State::ProposeMethod,
-            State::MethodRequest,
-            State::SendRequest,
-            State::Idle,
-        ]),
-        Way::FirstOther => Step::sending(&[
-            State::PickUpMethod,
-            State::SelectAction,
-            State::ProposeMethod,
-            State::MethodRequest,
-            State::SendRequest,
-            State::Idle,
-        ]),
-    }
-}
-
-/// SEND_REQUEST: a Request with the next Identifier, which is sent again from now on.
-fn send_request(vars: &mut ServerVariables, request: &Packet)
-    ensures { vars.new ≡ with_request vars.old request.now }
-{
-    vars.current_id = Some(next_id(vars));
-    vars.retrans_count = 0;
-    vars.last_request.set(request.as_slice());
-}
-
-/// INTEGRITY_CHECK, of the turn of the method's object, whose Request is `packet`: a discard writes
-/// nothing, and after the method's end a Success or a Failure takes the place of what was there.
-fn settle(vars: &mut ServerVariables, id: u8, turn: ServerTurn, packet: &mut Packet) -> Step
-    ensures step { (before after : ServerViews) (tags : Tags) → let whole = server_turn_with turn packet.old tags in
-        method_answers (record { vars = vars.old; views = before }) id after whole
-        ≡ answer (step_with result packet.new (server_tags whole)) (record { vars = vars.new; views = settled before after whole }) }
-    ensures setup { vars.new.setup ≡ vars.old.setup }
-    ensures order { AreInOrder vars.old → AreInOrder vars.new }
-{
-    match turn {
-        ServerTurn::Discard(cause) => {
-            let states = [
-                State::Received,
-                State::IntegrityCheck,
-                State::Discard,
-                State::Idle,
-            ];
-            Step::discarding(&states, cause)
-        }
-        ServerTurn::Request => {
-            send_request(vars, packet);
-            vars.progress = Progress::Continue;
-            let states = [
-                State::Received,
-                State::IntegrityCheck,
-                State::MethodResponse,
-                State::MethodRequest,
-                State::SendRequest,
-                State::Idle,
-            ];
-            Step::sending(&states)
-        }
-        ServerTurn::Done { success } => {
-            vars.progress = Progress::End;
-            end_method(vars, id, success, packet)
-        }
-    }
-}
-
-/// SUCCESS or FAILURE after the current method: a Success or a Failure with currentId.
-fn end_method(vars: &mut ServerVariables, id: u8, success: bool, packet: &mut Packet) -> Step
-    ensures step { (views : ServerViews) (tags : Tags)
-        → (if success then ends_well (before_proposal AfterResponse) vars.old views id tags
-        else ends_badly (before_proposal AfterResponse) vars.old views id tags)
-        ≡ answer (step_with result packet.new tags) (record { vars = vars.new; views = views }) }
-    ensures setup { vars.new.setup ≡ vars.old.setup }
-    ensures order { AreInOrder vars.old → AreInOrder vars.new }
-{
-    if success {
-        vars.state = State::Success;
-        write_end(packet, Code::Success, id);
-        Step::sending(&SUCCEEDING)
-    } else {
-        vars.state = State::Failure;
-        write_end(packet, Code::Failure, id);
-        Step::sending(&FAILING)
-    }
 }
 
 /// Whether there is an object of each of these Types.

@@ -11,14 +11,17 @@ use Rattle.eap_packet.specs.declared.state.State.TheVariants as state
 use Rattle.eap_method.specs.Steps.{sends}
 use Rattle.eap_method.specs.declared.tags.TagRecord.{TagRecord}
 use Rattle.peer_machine.specs.PeerTable as peers
-use Rattle.peer_machine.specs.PeerTable.{PeerNow, peer_deliver}
+use Rattle.peer_machine.specs.PeerTable.{PeerNow}
+use Rattle.peer_machine.specs.Expanded.{peer_hears}
 use Rattle.server_machine.specs.ServerTable as servers
-use Rattle.server_machine.specs.ServerTable.{ServerNow, server_deliver}
+use Rattle.server_machine.specs.ServerTable.{ServerNow}
+use Rattle.server_machine.specs.Expanded.{server_hears}
+use Rattle.pass_through.specs.PassTable.{unpadded}
 use Rattle.pass_through.specs.declared.variables.PassVariables.{PassVariables}
 use Rattle.eap_world.specs.World.{WorldNow}
 use Rattle.eap_world.specs.declared.book.End.TheVariants as end
 use Rattle.smooth_laws.proofs.Moves.{Stage, delivered, packet_to, peer_moves, server_moves, hands_to_server, hands_to_peer}
-use Rattle.smooth_laws.proofs.Packets.{response_whole, request_whole, success_whole, success_read}
+use Rattle.smooth_laws.proofs.Packets.{success_whole, success_read}
 use Rattle.smooth_laws.proofs.PassSide.{pass_at, hands_response, hands_request, hands_success}
 
 -- the pass-through, where there is one, waits for the peer's Response to the Request of this Identifier
@@ -61,67 +64,67 @@ number_after mode.Through number = number + 1 + 1
 peer_turns_in : (runs : Mode) (pass : PassVariables) (w : WorldNow) (number id kind : ℕ) (p : PeerNow) (s : ServerNow) (x : List ℕ) (accepted : List TagRecord)
     → AwaitsPeer id runs pass
     → Stage w runs number p s pass (packet_to port.Peer x) end.Peer accepted
-    → (path : List State) (body : List ℕ) (made : List TagRecord) (after : PeerNow)
-    → packet_of (spelled (response id kind body)) ≡ Ok (response id kind body)
-    → peer_deliver p x ≡ peers.answer (sends path (spelled (response id kind body)) (record { accepted = accepted; made = made })) after
-    → ToServer (exchanged runs w number) runs (number_after runs number) after s (spelled (response id kind body)) made
-peer_turns_in runs pass w number id kind p s x accepted (alone v) stage path body made after read takes =
+    → (path : List State) (y body : List ℕ) (made : List TagRecord) (after : PeerNow)
+    → packet_of y ≡ Ok (response id kind body) → unpadded y ≡ y
+    → peer_hears p x ≡ peers.answer (sends path y (record { accepted = accepted; made = made })) after
+    → ToServer (exchanged runs w number) runs (number_after runs number) after s y made
+peer_turns_in runs pass w number id kind p s x accepted (alone v) stage path y body made after read whole takes =
     record { pass = v; awaits = alone v; stage = peer_moves w mode.Alone number p s v x accepted stage path _ made after takes }
-peer_turns_in runs pass w number id kind p s x accepted (in_idle2 first_id max_retrans last) stage path body made after read takes =
+peer_turns_in runs pass w number id kind p s x accepted (in_idle2 first_id max_retrans last) stage path y body made after read whole takes =
     let was : PassVariables = pass_at first_id max_retrans state.Idle2 id last in
     record {
       pass = pass_at first_id max_retrans state.AaaIdle id last;
       awaits = in_aaa_idle first_id max_retrans id last;
-      stage = hands_to_server (delivered w number) (number + 1) after s was (spelled (response id kind body)) end.Server made
+      stage = hands_to_server (delivered w number) (number + 1) after s was y end.Server made
           (peer_moves w mode.Through number p s was x accepted stage path _ made after takes) _ _ _
-          (hands_response first_id max_retrans (spelled (response id kind body)) id kind body last read (response_whole id kind body));
+          (hands_response first_id max_retrans y id kind body last read whole);
     }
 
 pub peer_turns : (runs : Mode) (w : WorldNow) (number id kind : ℕ) (p : PeerNow) (s : ServerNow) (x : List ℕ) (accepted : List TagRecord)
     → ToPeer w runs number id p s x accepted
-    → (path : List State) (body : List ℕ) (made : List TagRecord) (after : PeerNow)
-    → packet_of (spelled (response id kind body)) ≡ Ok (response id kind body)
-    → peer_deliver p x ≡ peers.answer (sends path (spelled (response id kind body)) (record { accepted = accepted; made = made })) after
-    → ToServer (exchanged runs w number) runs (number_after runs number) after s (spelled (response id kind body)) made
-peer_turns runs w number id kind p s x accepted to path body made after read takes =
-    peer_turns_in runs to.pass w number id kind p s x accepted to.awaits to.stage path body made after read takes
+    → (path : List State) (y body : List ℕ) (made : List TagRecord) (after : PeerNow)
+    → packet_of y ≡ Ok (response id kind body) → unpadded y ≡ y
+    → peer_hears p x ≡ peers.answer (sends path y (record { accepted = accepted; made = made })) after
+    → ToServer (exchanged runs w number) runs (number_after runs number) after s y made
+peer_turns runs w number id kind p s x accepted to path y body made after read whole takes =
+    peer_turns_in runs to.pass w number id kind p s x accepted to.awaits to.stage path y body made after read whole takes
 
 -- the server asks again
 server_turns_in : (runs : Mode) (pass : PassVariables) (w : WorldNow) (number id kind : ℕ) (p : PeerNow) (s : ServerNow) (x : List ℕ)
     (accepted : List TagRecord)
     → AwaitsServer runs pass
     → Stage w runs number p s pass (packet_to port.Server x) end.Server accepted
-    → (path : List State) (body : List ℕ) (made : List TagRecord) (after : ServerNow)
-    → packet_of (spelled (request id kind body)) ≡ Ok (request id kind body)
-    → server_deliver s x ≡ servers.answer (sends path (spelled (request id kind body)) (record { accepted = accepted; made = made })) after
-    → ToPeer (exchanged runs w number) runs (number_after runs number) id p after (spelled (request id kind body)) made
-server_turns_in runs pass w number id kind p s x accepted (alone v) stage path body made after read takes =
+    → (path : List State) (y body : List ℕ) (made : List TagRecord) (after : ServerNow)
+    → packet_of y ≡ Ok (request id kind body) → unpadded y ≡ y
+    → server_hears s x ≡ servers.answer (sends path y (record { accepted = accepted; made = made })) after
+    → ToPeer (exchanged runs w number) runs (number_after runs number) id p after y made
+server_turns_in runs pass w number id kind p s x accepted (alone v) stage path y body made after read whole takes =
     record { pass = v; awaits = alone v; stage = server_moves w mode.Alone number p s v x accepted stage path _ made after takes }
-server_turns_in runs pass w number id kind p s x accepted (in_aaa_idle first_id max_retrans was_id last) stage path body made after read takes =
+server_turns_in runs pass w number id kind p s x accepted (in_aaa_idle first_id max_retrans was_id last) stage path y body made after read whole takes =
     let was : PassVariables = pass_at first_id max_retrans state.AaaIdle was_id last in
     record {
-      pass = pass_at first_id max_retrans state.Idle2 id (spelled (request id kind body));
-      awaits = in_idle2 first_id max_retrans (spelled (request id kind body));
-      stage = hands_to_peer (delivered w number) (number + 1) p after was (spelled (request id kind body)) end.Peer made
+      pass = pass_at first_id max_retrans state.Idle2 id y;
+      awaits = in_idle2 first_id max_retrans y;
+      stage = hands_to_peer (delivered w number) (number + 1) p after was y end.Peer made
           (server_moves w mode.Through number p s was x accepted stage path _ made after takes) _ _ _
-          (hands_request first_id max_retrans (spelled (request id kind body)) id kind body was_id last read (request_whole id kind body));
+          (hands_request first_id max_retrans y id kind body was_id last read whole);
     }
 
 pub server_turns : (runs : Mode) (w : WorldNow) (number id kind : ℕ) (p : PeerNow) (s : ServerNow) (x : List ℕ) (accepted : List TagRecord)
     → ToServer w runs number p s x accepted
-    → (path : List State) (body : List ℕ) (made : List TagRecord) (after : ServerNow)
-    → packet_of (spelled (request id kind body)) ≡ Ok (request id kind body)
-    → server_deliver s x ≡ servers.answer (sends path (spelled (request id kind body)) (record { accepted = accepted; made = made })) after
-    → ToPeer (exchanged runs w number) runs (number_after runs number) id p after (spelled (request id kind body)) made
-server_turns runs w number id kind p s x accepted to path body made after read takes =
-    server_turns_in runs to.pass w number id kind p s x accepted to.awaits to.stage path body made after read takes
+    → (path : List State) (y body : List ℕ) (made : List TagRecord) (after : ServerNow)
+    → packet_of y ≡ Ok (request id kind body) → unpadded y ≡ y
+    → server_hears s x ≡ servers.answer (sends path y (record { accepted = accepted; made = made })) after
+    → ToPeer (exchanged runs w number) runs (number_after runs number) id p after y made
+server_turns runs w number id kind p s x accepted to path y body made after read whole takes =
+    server_turns_in runs to.pass w number id kind p s x accepted to.awaits to.stage path y body made after read whole takes
 
 -- the server ends in SUCCESS
 server_ends_in : (runs : Mode) (pass : PassVariables) (w : WorldNow) (number id : ℕ) (p : PeerNow) (s : ServerNow) (x : List ℕ) (accepted : List TagRecord)
     → AwaitsServer runs pass
     → Stage w runs number p s pass (packet_to port.Server x) end.Server accepted
     → (path : List State) (made : List TagRecord) (after : ServerNow)
-    → server_deliver s x ≡ servers.answer (sends path (spelled (success id)) (record { accepted = accepted; made = made })) after
+    → server_hears s x ≡ servers.answer (sends path (spelled (success id)) (record { accepted = accepted; made = made })) after
     → EndsAtPeer (exchanged runs w number) runs (number_after runs number) p after (spelled (success id)) made
 server_ends_in runs pass w number id p s x accepted (alone v) stage path made after takes =
     record { pass = v; stage = server_moves w mode.Alone number p s v x accepted stage path _ made after takes }
@@ -137,7 +140,7 @@ server_ends_in runs pass w number id p s x accepted (in_aaa_idle first_id max_re
 pub server_ends : (runs : Mode) (w : WorldNow) (number id : ℕ) (p : PeerNow) (s : ServerNow) (x : List ℕ) (accepted : List TagRecord)
     → ToServer w runs number p s x accepted
     → (path : List State) (made : List TagRecord) (after : ServerNow)
-    → server_deliver s x ≡ servers.answer (sends path (spelled (success id)) (record { accepted = accepted; made = made })) after
+    → server_hears s x ≡ servers.answer (sends path (spelled (success id)) (record { accepted = accepted; made = made })) after
     → EndsAtPeer (exchanged runs w number) runs (number_after runs number) p after (spelled (success id)) made
 server_ends runs w number id p s x accepted to path made after takes =
     server_ends_in runs to.pass w number id p s x accepted to.awaits to.stage path made after takes

@@ -75,7 +75,7 @@ own_suites peer server user suite shares = shares.short.suites
 -- ---- the sizes of the messages
 
 module _ (ends : Ends) (fit : Fit ends) where
-  answers_fit : length ends.own.suites ≤ 2 → length (spelled (gpsk_peer.gpsk2_of (peer_login ends) (suite_list ends.own.suites))) ≤ 1495
+  answers_fit : length ends.own.suites ≤ 2 → length (spelled (gpsk_peer.gpsk2_of (peer_login ends) (suite_list ends.own.suites))) ≤ 1488
   answers_fit few =
       let size = spellings_are_sized (gpsk_peer.gpsk2_of (peer_login ends) (suite_list ends.own.suites)) in
       let mac : length (mac_of (gpsk_peer.gpsk2_of (peer_login ends) (suite_list ends.own.suites))) ≡ ks_of ends.suite = length_gpsk_tag_of _ _ _ in
@@ -87,7 +87,7 @@ module _ (ends : Ends) (fit : Fit ends) where
       let server_nonce = fit.server_nonce in
       omega arith
 
-  checks_fit : length (spelled (gpsk_server.gpsk3_of (server_login ends))) ≤ 1495
+  checks_fit : length (spelled (gpsk_server.gpsk3_of (server_login ends))) ≤ 1488
   checks_fit =
       let size = spellings_are_sized (gpsk_server.gpsk3_of (server_login ends)) in
       let mac : length (mac_of (gpsk_server.gpsk3_of (server_login ends))) ≡ ks_of ends.suite = length_gpsk_tag_of _ _ _ in
@@ -97,7 +97,7 @@ module _ (ends : Ends) (fit : Fit ends) where
       let server_nonce = fit.server_nonce in
       omega arith
 
-  confirms_fit : length (spelled (gpsk_peer.gpsk4_of (peer_login ends))) ≤ 1495
+  confirms_fit : length (spelled (gpsk_peer.gpsk4_of (peer_login ends))) ≤ 1488
   confirms_fit =
       let size = spellings_are_sized (gpsk_peer.gpsk4_of (peer_login ends)) in
       let mac : length (mac_of (gpsk_peer.gpsk4_of (peer_login ends))) ≡ ks_of ends.suite = length_gpsk_tag_of _ _ _ in
@@ -150,7 +150,7 @@ module _ (peer : PeerSetup) (made : Made) (user : User) (suite : Suite) (shares 
       let asked : ServerViews = record begun { gpsk = Some (gpsk_server.asked (side_of made.setup) made.setup.nonce) } in
       let checked : ServerViews = record begun { gpsk = Some (gpsk_server.checked (server_login e)) } in
       record {
-        is_method = record { not_identity = refl; not_notification = refl; not_nak = refl };
+        is_method = record { not_identity = refl; not_notification = refl; not_nak = refl; not_expanded = refl; has_plain = refl };
         asks = spelled (gpsk_server.gpsk1_of (side_of made.setup) made.setup.nonce);
         answers = spelled gpsk2;
         checks = spelled gpsk3;

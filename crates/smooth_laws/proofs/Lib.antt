@@ -1,5 +1,9 @@
 -- A packet that was spelled is read as it was, whatever octets it has.
 mod Packets
+-- A packet as it travels: as it is, or wrapped.
+mod Carried
+-- An Expanded Nak is read as the Nak that it was written for.
+mod Naks
 -- What the peer makes of each packet of a smooth login.
 mod PeerSide
 -- What the server, or the backend, makes of each.

@@ -16,9 +16,11 @@ use Rattle.eap_method.specs.Steps.{Step, sends, enters}
 use Rattle.eap_method.specs.Tags.{no_tags}
 use Rattle.eap_method.specs.declared.tags.TagRecord.{TagRecord}
 use Rattle.peer_machine.specs.PeerTable as peers
-use Rattle.peer_machine.specs.PeerTable.{PeerNow, PeerAnswer, peer_deliver}
+use Rattle.peer_machine.specs.PeerTable.{PeerNow, PeerAnswer}
+use Rattle.peer_machine.specs.Expanded.{peer_hears}
 use Rattle.server_machine.specs.ServerTable as servers
-use Rattle.server_machine.specs.ServerTable.{ServerNow, ServerAnswer, server_deliver}
+use Rattle.server_machine.specs.ServerTable.{ServerNow, ServerAnswer}
+use Rattle.server_machine.specs.Expanded.{server_hears}
 use Rattle.pass_through.specs.Inputs as pass_inputs
 use Rattle.pass_through.specs.PassTable as passes
 use Rattle.pass_through.specs.PassTable.{PassAnswer, pass_from_peer, pass_from_backend}
@@ -148,7 +150,7 @@ module _ (w : WorldNow) (runs : Mode) (number : ℕ) (p : PeerNow) (s : ServerNo
   -- the peer answers
   pub peer_moves : (x : List ℕ) (accepted : List TagRecord) → Stage w runs number p s v (packet_to port.Peer x) end.Peer accepted
       → (path : List State) (y : List ℕ) (made : List TagRecord) (after : PeerNow)
-      → peer_deliver p x ≡ peers.answer (sends path y (record { accepted = accepted; made = made })) after
+      → peer_hears p x ≡ peers.answer (sends path y (record { accepted = accepted; made = made })) after
       → Stage (delivered w number) runs (number + 1) after s v (packet_to (goes_to party.Peer runs) y) end.Server made
   peer_moves x accepted stage path y made after takes =
       let step : Step = sends path y (record { accepted = accepted; made = made }) in
@@ -172,7 +174,7 @@ module _ (w : WorldNow) (runs : Mode) (number : ℕ) (p : PeerNow) (s : ServerNo
   -- the server answers
   pub server_moves : (x : List ℕ) (accepted : List TagRecord) → Stage w runs number p s v (packet_to port.Server x) end.Server accepted
       → (path : List State) (y : List ℕ) (made : List TagRecord) (after : ServerNow)
-      → server_deliver s x ≡ servers.answer (sends path y (record { accepted = accepted; made = made })) after
+      → server_hears s x ≡ servers.answer (sends path y (record { accepted = accepted; made = made })) after
       → Stage (delivered w number) runs (number + 1) p after v (packet_to (goes_to party.Server runs) y) end.Peer made
   server_moves x accepted stage path y made after takes =
       let step : Step = sends path y (record { accepted = accepted; made = made }) in
@@ -196,7 +198,7 @@ module _ (w : WorldNow) (runs : Mode) (number : ℕ) (p : PeerNow) (s : ServerNo
   -- the peer takes the last packet and sends nothing
   pub peer_ends : (x : List ℕ) (accepted : List TagRecord) → Stage w runs number p s v (packet_to port.Peer x) end.Peer accepted
       → (path : List State) (after : PeerNow)
-      → peer_deliver p x ≡ peers.answer (enters path no_tags) after
+      → peer_hears p x ≡ peers.answer (enters path no_tags) after
       → is_success after.vars.state ≡ true → is_success s.vars.state ≡ true
       → BothIn (delivered w number) number
   peer_ends x accepted stage path after takes peer_in server_in =

@@ -18,7 +18,7 @@ use Rattle.eap_method.specs.PskTags.{psk_request, rand_of}
 use Rattle.eap_method.specs.Server.{ServerViews, psk_offer, gpsk_offer, server_offer, side_of, views_begun}
 use Rattle.smooth_laws.proofs.Choosing.{either}
 use Rattle.smooth_laws.proofs.ServerSide.{Made, IsOffer}
-use Rattle.smooth_laws.proofs.Talk.{IsMethod}
+use Rattle.smooth_laws.proofs.Carried.{IsMethod}
 
 -- the server has an object of this method
 pub data Has (views : ServerViews) : ℕ → Type 0 where
@@ -29,7 +29,7 @@ pub data Has (views : ServerViews) : ℕ → Type 0 where
 pub record Offers (made : Made) (kind id : ℕ) (begun : ServerViews) : Type 0 where
   pub is_method : IsMethod kind
   pub asks : List ℕ
-  pub fits : length asks ≤ 1495
+  pub fits : length asks ≤ 1488
   pub asked : ServerViews
   pub offered : IsOffer made kind id begun (packets.spelled (request id kind asks)) asked
   pub keeps : (other : ℕ) → Has begun other → Has asked other
@@ -46,7 +46,7 @@ pub record IsShort (setup : ServerSetup) : Type 0 where
   pub suites : length setup.suites ≤ 2
 
 module _ (made : Made) (short : IsShort made.setup) (id : ℕ) (begun : ServerViews) where
-  pub gpsk_fits : length (gpsk_messages.spelled (gpsk_server.gpsk1_of (side_of made.setup) made.setup.nonce)) ≤ 1495
+  pub gpsk_fits : length (gpsk_messages.spelled (gpsk_server.gpsk1_of (side_of made.setup) made.setup.nonce)) ≤ 1488
   unfolding side_of
   gpsk_fits =
       let size = gpsk_grammar.spellings_are_sized (gpsk_server.gpsk1_of (side_of made.setup) made.setup.nonce) in
@@ -56,7 +56,7 @@ module _ (made : Made) (short : IsShort made.setup) (id : ℕ) (begun : ServerVi
       let few = short.suites in
       omega arith
 
-  pub psk_fits : length (psk_messages.spelled (psk_messages.psk1 (rand_of made.setup.nonce) (side_of made.setup).id_s)) ≤ 1495
+  pub psk_fits : length (psk_messages.spelled (psk_messages.psk1 (rand_of made.setup.nonce) (side_of made.setup).id_s)) ≤ 1488
   unfolding side_of
   psk_fits =
       let size = psk_grammar.spellings_are_sized (psk_messages.psk1 (rand_of made.setup.nonce) made.setup.name) in
@@ -87,7 +87,7 @@ module _ (made : Made) (short : IsShort made.setup) (id : ℕ) (begun : ServerVi
 
   gpsk_offers : (view : gpsk_server.View) → begun.gpsk ≡ Some view → Offers made gpsk_kind id begun
   gpsk_offers view is = record {
-    is_method = record { not_identity = refl; not_notification = refl; not_nak = refl };
+    is_method = record { not_identity = refl; not_notification = refl; not_nak = refl; not_expanded = refl; has_plain = refl };
     asks = gpsk_messages.spelled (gpsk_server.gpsk1_of (side_of made.setup) made.setup.nonce);
     fits = gpsk_fits;
     asked = record begun { gpsk = Some (gpsk_server.asked (side_of made.setup) made.setup.nonce) };
@@ -97,7 +97,7 @@ module _ (made : Made) (short : IsShort made.setup) (id : ℕ) (begun : ServerVi
 
   psk_offers : (view : psk_server.View) → begun.psk ≡ Some view → Offers made psk_kind id begun
   psk_offers view is = record {
-    is_method = record { not_identity = refl; not_notification = refl; not_nak = refl };
+    is_method = record { not_identity = refl; not_notification = refl; not_nak = refl; not_expanded = refl; has_plain = refl };
     asks = psk_messages.spelled (psk_messages.psk1 (rand_of made.setup.nonce) (side_of made.setup).id_s);
     fits = psk_fits;
     asked = record begun { psk = Some (psk_server.asked (side_of made.setup) made.setup.nonce) };

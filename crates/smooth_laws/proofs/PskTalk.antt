@@ -81,7 +81,7 @@ unfolding psk_peer.psk4_sealed
 length_psk4_tag login id r = length_sealed_tag _ _ _ _
 
 module _ (ends : Ends) (fit : Fit ends) where
-  answers_fit : length (spelled (psk_peer.psk2_of (peer_login ends))) ≤ 1495
+  answers_fit : length (spelled (psk_peer.psk2_of (peer_login ends))) ≤ 1488
   answers_fit =
       let size = spellings_are_sized (psk_peer.psk2_of (peer_login ends)) in
       let mac = length_mac_p (peer_login ends) in
@@ -90,7 +90,7 @@ module _ (ends : Ends) (fit : Fit ends) where
       let name = fit.peer_name in
       omega arith
 
-  checks_fit : (id : ℕ) → length (spelled (psk_server.psk3_of (server_login ends) id)) ≤ 1495
+  checks_fit : (id : ℕ) → length (spelled (psk_server.psk3_of (server_login ends) id)) ≤ 1488
   checks_fit id =
       let size = spellings_are_sized (psk_server.psk3_of (server_login ends) id) in
       let mac = length_mac_s (server_login ends) in
@@ -98,7 +98,7 @@ module _ (ends : Ends) (fit : Fit ends) where
       let rand_s = length_rand ends.own_nonce fit.server_nonce in
       omega arith
 
-  confirms_fit : (id : ℕ) → length (spelled (psk_peer.psk4_of (peer_login ends) id done_success)) ≤ 1495
+  confirms_fit : (id : ℕ) → length (spelled (psk_peer.psk4_of (peer_login ends) id done_success)) ≤ 1488
   confirms_fit id =
       let size = spellings_are_sized (psk_peer.psk4_of (peer_login ends) id done_success) in
       let tag = length_psk4_tag (peer_login ends) id done_success in
@@ -147,7 +147,7 @@ module _ (peer : PeerSetup) (made : Made) (user : User) (shares : Shares peer ma
       let asked : ServerViews = record begun { psk = Some (psk_server.asked (side_of made.setup) made.setup.nonce) } in
       let checked : ServerViews = record begun { psk = Some (psk_server.checked (server_login e)) } in
       record {
-        is_method = record { not_identity = refl; not_notification = refl; not_nak = refl };
+        is_method = record { not_identity = refl; not_notification = refl; not_nak = refl; not_expanded = refl; has_plain = refl };
         asks = spelled (psk1_of e);
         answers = spelled psk2;
         checks = spelled psk3;

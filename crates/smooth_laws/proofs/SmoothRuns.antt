@@ -26,6 +26,7 @@ use Rattle.smooth_laws.proofs.Choosing.{few_kinds, few_suites, some_suites, foun
 use Rattle.smooth_laws.proofs.Choosing.{common_is_next, some_picked}
 use Rattle.smooth_laws.proofs.Exchange.{exchanged, number_after}
 use Rattle.smooth_laws.proofs.GpskTalk.{gpsk_talks}
+use Rattle.smooth_laws.proofs.Naks.{reads_back}
 use Rattle.smooth_laws.proofs.Offers.{Has, IsShort, has_each, offers_of, psk, gpsk}
 use Rattle.smooth_laws.proofs.Opening.{in_mode, made_in, number_opened, opened, opens, proposes_next, started}
 use Rattle.smooth_laws.proofs.PskTalk.{psk_talks}
@@ -88,6 +89,10 @@ module _ (setup : Setup) (whole : IsWhole setup) (names : HasShortNames setup) w
       id begun view is
 
   module _ (fit : EndsFit setup) where
+    -- how a method's packets travel
+    abbrev form : Bool
+    form = setup.server.expanded
+
     allowed : is_among setup.peer.methods fit.kind ≡ true
     allowed = found_passes (is_among setup.peer.methods) setup.server.methods fit.kind fit.common
 
@@ -116,9 +121,9 @@ module _ (setup : Setup) (whole : IsWhole setup) (names : HasShortNames setup) w
         let id : ℕ = after_id setup.first_id in
         let talk = talks runs id (views_begun setup.server) begins in
         let same = allowed_is_common setup.peer.methods first fit.kind rest takes (common_in first rest order) in
-        talks_through setup.peer (made_in runs setup) fit.kind id (views_begun setup.server) talk runs (opened runs (started runs setup)) (number_opened runs)
-        setup.first_id _ _ (fit.kind ∷ []) (ids_differ setup.first_id) allowed
-        (opens setup runs fit.kind talk.asks talk.asked names.peer talk.is_method talk.asks_fits
+        talks_through setup.peer (made_in runs setup) fit.kind id (views_begun setup.server) talk runs form (opened runs (started runs setup))
+        (number_opened runs) setup.first_id _ _ (fit.kind ∷ []) fit.reads refl (ids_differ setup.first_id) allowed
+        (opens setup runs form refl fit.kind talk.asks talk.asked names.peer talk.is_method talk.asks_fits
         (first_chosen first rest order ∙ ap (λ (kind : ℕ). Some kind) same) talk.offered)
 
     -- the peer refuses it
@@ -137,13 +142,14 @@ module _ (setup : Setup) (whole : IsWhole setup) (names : HasShortNames setup) w
         let talk = talks runs (after_id id) offer.asked (offer.keeps fit.kind begins) in
         let next = ap (λ (methods : List ℕ). next_kind methods (first ∷ []) (Some (nak_of setup.peer.methods))) order
         ∙ common_is_next setup.peer.methods first fit.kind rest refuses (common_in first rest order) in
-        talks_through setup.peer (made_in runs setup) fit.kind (after_id id) offer.asked talk runs
+        talks_through setup.peer (made_in runs setup) fit.kind (after_id id) offer.asked talk runs form
         (exchanged runs (exchanged runs w n) (number_after runs n)) (number_after runs (number_after runs n))
-        id _ _ (first ∷ fit.kind ∷ []) (ids_differ id) allowed
-        (proposes_next setup.peer (made_in runs setup) runs w n id first fit.kind setup.first_id offer.asks _ _ talk.asks offer.asked talk.asked
-        offer.is_method talk.is_method offer.fits talk.asks_fits (few_kinds setup.peer.methods whole.peer.methods) (ids_differ setup.first_id)
+        id _ _ (first ∷ fit.kind ∷ []) fit.reads refl (ids_differ id) allowed
+        (proposes_next setup.peer (made_in runs setup) runs form w n id first fit.kind setup.first_id offer.asks _ talk.asks offer.asked talk.asked
+        fit.reads refl offer.is_method talk.is_method offer.fits talk.asks_fits
+        (reads_back setup.peer.methods whole.peer.methods (few_kinds setup.peer.methods whole.peer.methods)) (ids_differ setup.first_id)
         refuses next talk.offered
-        (opens setup runs first offer.asks offer.asked names.peer offer.is_method offer.fits (first_chosen first rest order) offer.offered))
+        (opens setup runs form refl first offer.asks offer.asked names.peer offer.is_method offer.fits (first_chosen first rest order) offer.offered))
 
     logs_in_by : (runs : Mode) (first : ℕ) (rest : List ℕ) → setup.server.methods ≡ first ∷ rest → (takes : Bool) → is_among setup.peer.methods first ≡ takes
         → SucceedsAt (in_mode runs setup) (bound_in runs takes)

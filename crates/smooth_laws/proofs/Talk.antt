@@ -1,12 +1,11 @@
 -- A method's four messages, from its first Request to the Success.
-use Rattle.std.proofs.Common.{◌≡◌, ℕ, ◌≤◌, List, [], length, true, false, Some, refl, ap, arith}
-use Rattle.std.specs.Prelude.{◌==◌, Ok}
-use Rattle.std.proofs.lemmas.Bool.{ne_eqb, eqb-false}
+use Rattle.std.proofs.Common.{◌≡◌, ℕ, ◌≤◌, List, [], length, Bool, true, false, Some, refl, ap, arith}
+use Rattle.std.specs.Prelude.{◌==◌}
+use Rattle.std.proofs.lemmas.Bool.{ne_eqb}
 use Rattle.eap_base.specs.declared.setup.Mode.{Mode}
 use Rattle.eap_base.specs.declared.setup.PeerSetup.{PeerSetup}
 use Rattle.eap_base.specs.Setup.{is_among}
 use Rattle.eap_packet.specs.Packet.{request, response, success, spelled}
-use Rattle.eap_packet.specs.Fault.{packet_of}
 use Rattle.eap_method.specs.Peer.{PeerViews, peer_turn, views_begun}
 use Rattle.eap_method.specs.PeerTurn.{Reply}
 use Rattle.eap_method.specs.Server.{ServerViews, server_turn}
@@ -23,17 +22,12 @@ use Rattle.eap_world.specs.Judgement.{is_success}
 use Rattle.eap_world.specs.World.{WorldNow, Parties}
 use Rattle.smooth_laws.proofs.Exchange.{ToPeer, ToServer, EndsAtPeer, exchanged, number_after, peer_turns, server_turns, server_ends}
 use Rattle.smooth_laws.proofs.Moves.{BothIn, delivered, peer_ends}
-use Rattle.smooth_laws.proofs.Packets.{request_read, response_read, success_read}
+use Rattle.smooth_laws.proofs.Carried.{IsMethod, carried, kind_as, body_as, asks_read, answers_read, request_carried_whole, response_carried_whole}
+use Rattle.smooth_laws.proofs.Packets.{success_read}
 use Rattle.smooth_laws.proofs.PeerSide as peers
 use Rattle.smooth_laws.proofs.PeerSide.{peer_at, peer_unbound}
 use Rattle.smooth_laws.proofs.ServerSide as servers
 use Rattle.smooth_laws.proofs.ServerSide.{Made, IsOffer, after_id, server_at, server_done}
-
--- a Type that is no Identity, no Notification and no Nak
-pub record IsMethod (kind : ℕ) : Type 0 where
-  pub not_identity : (kind == 1) ≡ false
-  pub not_notification : (kind == 2) ≡ false
-  pub not_nak : (kind == 3) ≡ false
 
 abbrev pub tags_of : List TagRecord → List TagRecord → Tags
 tags_of accepted made = record { accepted = accepted; made = made }
@@ -46,10 +40,10 @@ pub record Talks (peer : PeerSetup) (made : Made) (kind id : ℕ) (begun : Serve
   pub answers : List ℕ
   pub checks : List ℕ
   pub confirms : List ℕ
-  pub asks_fits : length asks ≤ 1495
-  pub answers_fits : length answers ≤ 1495
-  pub checks_fits : length checks ≤ 1495
-  pub confirms_fits : length confirms ≤ 1495
+  pub asks_fits : length asks ≤ 1488
+  pub answers_fits : length answers ≤ 1488
+  pub checks_fits : length checks ≤ 1488
+  pub confirms_fits : length confirms ≤ 1488
   pub waiting : PeerViews
   pub over : PeerViews
   pub asked : ServerViews
@@ -74,12 +68,6 @@ pub record Talks (peer : PeerSetup) (made : Made) (kind id : ℕ) (begun : Serve
 pub ids_differ : (id : ℕ) → (id == after_id id) ≡ false
 ids_differ id = ne_eqb id (after_id id) (λ e. omega arith)
 
-pub asks_read : (id kind : ℕ) (body : List ℕ) → IsMethod kind → length body ≤ 1495 → packet_of (spelled (request id kind body)) ≡ Ok (request id kind body)
-asks_read id kind body is fits = request_read id kind body fits (eqb-false kind 3 is.not_nak)
-
-pub answers_read : (id kind : ℕ) (body : List ℕ) → IsMethod kind → length body ≤ 1495 → packet_of (spelled (response id kind body)) ≡ Ok (response id kind body)
-answers_read id kind body is fits = response_read id kind body fits (λ e. absurd (eqb-false kind 3 is.not_nak e))
-
 -- the world after the four messages, before the Success comes to the peer
 abbrev pub talked : Mode → WorldNow → ℕ → WorldNow
 talked runs w number =
@@ -99,12 +87,13 @@ pub record EndsWell (before after : WorldNow) (number : ℕ) : Type 0 where
 
 -- where the method's first Request comes to a peer that allows the method, both ends come to succeed
 pub talks_through : (peer : PeerSetup) (made : Made) (kind id : ℕ) (begun : ServerViews) (talk : Talks peer made kind id begun)
-    (runs : Mode) (w : WorldNow) (number last : ℕ) (said was : List ℕ) (proposed : List ℕ)
+    (runs : Mode) (form : Bool) (w : WorldNow) (number last : ℕ) (said was : List ℕ) (proposed : List ℕ)
+    → (form ≡ true → peer.expanded ≡ true) → made.setup.expanded ≡ form
     → (last == id) ≡ false → is_among peer.methods kind ≡ true
     → ToPeer w runs number id (peer_unbound peer last said) (server_at made id kind progress.Proposed was proposed talk.asked)
-    (spelled (request id kind talk.asks)) []
+    (carried form (spelled (request id kind talk.asks))) []
     → EndsWell (talked runs w number) (delivered (talked runs w number) (last_number runs number)) (last_number runs number)
-talks_through peer made kind id begun talk runs w number last said was proposed new allowed to =
+talks_through peer made kind id begun talk runs form w number last said was proposed reads writes new allowed to =
     let next : ℕ = after_id id in
     let n_2 : ℕ = number_after runs number in
     let n_3 : ℕ = number_after runs n_2 in
@@ -115,9 +104,10 @@ talks_through peer made kind id begun talk runs w number last said was proposed 
     let w_4 : WorldNow = exchanged runs w_3 n_3 in
     let w_5 : WorldNow = exchanged runs w_4 n_4 in
     let m : IsMethod kind = talk.is_method in
-    let second : List ℕ = spelled (response id kind talk.answers) in
-    let third : List ℕ = spelled (request next kind talk.checks) in
-    let fourth : List ℕ = spelled (response next kind talk.confirms) in
+    let first : List ℕ = carried form (spelled (request id kind talk.asks)) in
+    let second : List ℕ = carried form (spelled (response id kind talk.answers)) in
+    let third : List ℕ = carried form (spelled (request next kind talk.checks)) in
+    let fourth : List ℕ = carried form (spelled (response next kind talk.confirms)) in
     let p_1 : PeerNow = peer_unbound peer last said in
     let p_2 : PeerNow = peer_at peer (Some kind) method.Cont decision.Fail id second talk.waiting in
     let p_3 : PeerNow = peer_at peer (Some kind) method.Done talk.decided next fourth talk.over in
@@ -125,27 +115,27 @@ talks_through peer made kind id begun talk runs w number last said was proposed 
     let s_2 : ServerNow = server_at made next kind progress.Continue third proposed talk.checked in
     let s_3 : ServerNow = server_done made next kind third proposed talk.finished in
     let answered : ToServer w_2 runs n_2 p_2 s_1 second talk.answer_tags =
-    peer_turns runs w number id kind p_1 s_1 (spelled (request id kind talk.asks)) [] to _ talk.answers talk.answer_tags p_2
-    (answers_read id kind talk.answers m talk.answers_fits)
-    (peers.begins peer (spelled (request id kind talk.asks)) id kind talk.asks last said second method.Cont decision.Fail _ talk.waiting
-    (asks_read id kind talk.asks m talk.asks_fits) new m.not_identity m.not_notification allowed talk.answered refl) in
+    peer_turns runs w number id (kind_as form kind) p_1 s_1 first [] to _ second (body_as form kind talk.answers) talk.answer_tags p_2
+    (answers_read form id kind talk.answers m talk.answers_fits) (response_carried_whole form id kind talk.answers)
+    (peers.begins_as peer form reads id kind talk.asks last said talk.answers method.Cont decision.Fail _ talk.waiting
+    m talk.asks_fits new allowed talk.answered refl) in
     let checked : ToPeer w_3 runs n_3 next p_2 s_2 third talk.check_tags =
-    server_turns runs w_2 n_2 next kind p_2 s_1 second talk.answer_tags answered _ talk.checks talk.check_tags s_2
-    (asks_read next kind talk.checks m talk.checks_fits)
-    (servers.goes_on made second id kind talk.answers was progress.Proposed proposed talk.asked talk.checked third _
-    (answers_read id kind talk.answers m talk.answers_fits) m.not_nak m.not_identity talk.was_checked) in
+    server_turns runs w_2 n_2 next (kind_as form kind) p_2 s_1 second talk.answer_tags answered _ third (body_as form kind talk.checks) talk.check_tags s_2
+    (asks_read form next kind talk.checks m talk.checks_fits) (request_carried_whole form next kind talk.checks)
+    (servers.goes_on_as made form writes id kind talk.answers was progress.Proposed proposed talk.asked talk.checked talk.checks _
+    m talk.answers_fits talk.was_checked) in
     let confirmed : ToServer w_4 runs n_4 p_3 s_2 fourth talk.confirm_tags =
-    peer_turns runs w_3 n_3 next kind p_2 s_2 third talk.check_tags checked _ talk.confirms talk.confirm_tags p_3
-    (answers_read next kind talk.confirms m talk.confirms_fits)
-    (peers.goes_on peer third next kind talk.checks id second method.Cont decision.Fail talk.waiting fourth method.Done talk.decided _ talk.over
-    (asks_read next kind talk.checks m talk.checks_fits) (ids_differ id) m.not_notification refl talk.confirmed talk.sure) in
+    peer_turns runs w_3 n_3 next (kind_as form kind) p_2 s_2 third talk.check_tags checked _ fourth (body_as form kind talk.confirms) talk.confirm_tags p_3
+    (answers_read form next kind talk.confirms m talk.confirms_fits) (response_carried_whole form next kind talk.confirms)
+    (peers.goes_on_as peer form reads next kind talk.checks id second method.Cont decision.Fail talk.waiting talk.confirms method.Done talk.decided _
+    talk.over m talk.checks_fits (ids_differ id) refl talk.confirmed talk.sure) in
     let ended : EndsAtPeer w_5 runs n_5 p_3 s_3 (spelled (success next)) [] =
     server_ends runs w_4 n_4 next p_3 s_2 fourth talk.confirm_tags confirmed _ [] s_3
-    (servers.finishes made fourth next kind talk.confirms third progress.Continue proposed talk.checked talk.finished _
-    (answers_read next kind talk.confirms m talk.confirms_fits) m.not_nak m.not_identity talk.was_finished) in
+    (servers.finishes_as made form writes next kind talk.confirms third progress.Continue proposed talk.checked talk.finished _
+    m talk.confirms_fits talk.was_finished) in
     record {
       waits = ap (λ (all : Parties). is_success all.peer.vars.state) ended.stage.parties;
       both = peer_ends w_5 runs n_5 p_3 s_3 ended.pass (spelled (success next)) [] ended.stage _ _
-          (peers.succeeds peer (spelled (success next)) next kind method.Done talk.decided fourth talk.over (success_read next) talk.sure)
+          (peers.succeeds_as peer (spelled (success next)) next kind method.Done talk.decided fourth talk.over (success_read next) talk.sure)
           refl refl;
     }

@@ -89,6 +89,7 @@ fit_at_once = record {
   one_key = refl;
   accepted = refl;
   suite = λ is. refl;
+  reads = λ is. is;
 }
 
 fit_after_nak : EndsFit (example_setup Through (47 ∷ []) both)
@@ -102,6 +103,7 @@ fit_after_nak = record {
   one_key = refl;
   accepted = refl;
   suite = λ is. refl;
+  reads = λ is. is;
 }
 
 -- and their setup is whole

@@ -25,8 +25,8 @@ abbrev pub common_kind : PeerSetup → ServerSetup → Option ℕ
 common_kind peer server = find (is_among peer.methods) server.methods
 
 -- the ends fit: there is a first common method; by it the server knows the peer, under the key that the peer
--- has for it, and doesn't bar it; the peer accepts the server's name; and by EAP-GPSK it allows some suite that
--- the server offers
+-- has for it, and doesn't bar it; the peer accepts the server's name; by EAP-GPSK it allows some suite that the
+-- server offers; and where the server reads Expanded Types, so does the peer (RFC 3748 section 5.7)
 pub record EndsFit (setup : Setup) : Type 0 where
   pub kind : ℕ
   pub common : common_kind setup.peer setup.server ≡ Some kind
@@ -36,6 +36,7 @@ pub record EndsFit (setup : Setup) : Type 0 where
   pub one_key : user.psk ≡ key_for setup.peer kind
   pub accepted : accepts_name setup.peer.accepts setup.server.name ≡ true
   pub suite : kind ≡ gpsk_kind → list_any (is_among setup.peer.suites) setup.server.suites ≡ true
+  pub reads : setup.server.expanded ≡ true → setup.peer.expanded ≡ true
 
 -- names of at most 253 octets, as every setup's are
 pub record HasShortNames (setup : Setup) : Type 0 where

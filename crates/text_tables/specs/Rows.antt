@@ -29,7 +29,7 @@ choices_of choices.Timer = codes "server" ∷ codes "pass" ∷ []
 choices_of choices.Party = codes "peer" ∷ codes "server" ∷ codes "pass" ∷ []
 choices_of choices.Access = codes "allowed" ∷ codes "barred" ∷ []
 choices_of choices.Reply = codes "accept" ∷ codes "reject" ∷ codes "challenge" ∷ []
-choices_of choices.YesNo = codes "no" ∷ []
+choices_of choices.YesNo = codes "yes" ∷ codes "no" ∷ []
 
 abbrev pub is_choice : Choices → List ℕ → Bool
 is_choice c word = list_any (bytes_eq word) (choices_of c)

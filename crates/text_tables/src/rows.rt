@@ -214,7 +214,7 @@ fn is_choice(choices: Choices, word: &[u8]) -> bool
         Choices::Party => is_party(word),
         Choices::Access => word == b"allowed".as_slice() || word == b"barred".as_slice(),
         Choices::Reply => is_reply(word),
-        Choices::YesNo => word == b"no".as_slice(),
+        Choices::YesNo => word == b"yes".as_slice() || word == b"no".as_slice(),
     }
 }
 

@@ -1,11 +1,13 @@
 -- No line of `decode` or `keys` begins as the line of the verdict does.
-use Rattle.std.proofs.Common.{◌≡◌, ℕ, ◌≤◌, ◌-◌, ◌==◌, List, [], ◌∷◌, ◌++◌, length, Bool, true, false, if◌then◌else◌, None, Result, Ok, Err, refl, codes, decimal, arith}
+use Rattle.std.proofs.Common.{◌≡◌, ℕ, ◌≤◌, ◌-◌, ◌==◌, List, [], ◌∷◌, ◌++◌, length, Bool, true, false, if◌then◌else◌, Option, Some, None, Result, Ok, Err, refl, codes, decimal, arith}
 use Rattle.std.proofs.lemmas.Bool.{ne_eqb, false≢true}
 use Rattle.eap_base.specs.Setup.{psk_kind, gpsk_kind}
 use Rattle.eap_packet.specs.Fault.{packet_of}
+use Rattle.eap_packet.specs.Expanded.{ExpandedValue, expanded_kind, expanded_of}
 use Rattle.eap_packet.specs.Words.{cause_word}
 use Rattle.eap_packet.specs.Packet.{PacketValue, request, response, success, failure, spelled}
 use Rattle.eap_packet.specs.declared.cause.Cause.{Cause}
+use Rattle.eap_packet.specs.declared.cause.Cause.TheVariants as cause
 use Rattle.psk_messages.specs.Message as psk
 use Rattle.psk_messages.specs.Reading as psk_reading
 use Rattle.gpsk_messages.specs.Message as gpsk
@@ -24,7 +26,7 @@ use Rattle.request_text.specs.declared.key_line.KeyLine.{KeyLine}
 use Rattle.request_text.specs.declared.key_line.KeyLine.TheVariants as asked
 use Rattle.trace_text.specs.Keys.{hex_line, sealed_text, exported_text, gpsk_text, long_text, session_text, key_text}
 use Rattle.trace_text.specs.Pieces.{hex_text}
-use Rattle.trace_text.specs.Packets.{numbers_text, psk_note, gpsk_note, note_text, typed_text, end_line_text}
+use Rattle.trace_text.specs.Packets.{numbers_text, psk_note, gpsk_note, expanded_note, note_text, typed_text, end_line_text}
 use Rattle.trace_text.specs.Packets.{value_text, packet_text_by, packet_text, packets_text}
 use Rattle.trace_text.proofs.Plain.{is_within, plain, join, through, within_join, decimal_within, decimal_first, skips, after_test}
 use Rattle.trace_text.proofs.PlainTexts.{cause_within, hex_within, either_within}
@@ -53,13 +55,20 @@ gpsk_within (Ok (gpsk.fail code)) = within_join (decimal code) [] (decimal_withi
 gpsk_within (Ok (gpsk.protected_fail code mac)) = within_join (decimal code) [] (decimal_within code) refl
 gpsk_within (Ok other) = refl
 
+expanded_within : (x : Option ExpandedValue) → is_within (expanded_note x) ≡ true
+expanded_within None = cause_within cause.BadExpanded
+expanded_within (Some fields) =
+    within_join (decimal fields.vendor) _ (decimal_within fields.vendor)
+    (within_join (decimal fields.vendor_type) _ (decimal_within fields.vendor_type) (within_join (hex_text fields.rest) [] (hex_within fields.rest) refl))
+
 note_within : (kind : ℕ) (body : List ℕ) → is_within (note_text kind body) ≡ true
 unfolding note_text
 note_within kind body =
     either_within (kind == 1) (codes "identity " ++ (hex_text body ++ [])) _ (within_join (hex_text body) [] (hex_within body) refl)
     (either_within (kind == 3) (codes "nak" ++ numbers_text body) _ (numbers_within body)
     (either_within (kind == psk_kind) (psk_note (psk_reading.read_of body)) _ (psk_within (psk_reading.read_of body))
-    (either_within (kind == gpsk_kind) (gpsk_note (gpsk_reading.read_of None body)) (codes "-") (gpsk_within (gpsk_reading.read_of None body)) refl)))
+    (either_within (kind == gpsk_kind) (gpsk_note (gpsk_reading.read_of None body)) _ (gpsk_within (gpsk_reading.read_of None body))
+    (either_within (kind == expanded_kind) (expanded_note (expanded_of body)) (codes "-") (expanded_within (expanded_of body)) refl))))
 
 typed_plain : (number : ℕ) (code : List ℕ) (id kind : ℕ) (body : List ℕ) (whole octets : ℕ) → is_within code ≡ true
     → plain begins_result true (typed_text number code id kind body whole octets) ≡ true

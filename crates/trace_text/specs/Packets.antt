@@ -1,11 +1,13 @@
 -- What a packet is, in one line.
-use Rattle.std.specs.Prelude.{ℕ, ◌-◌, List, [], ◌∷◌, ◌++◌, length, ◌==◌, if◌then◌else◌, None, Result, Ok, Err, codes, decimal}
+use Rattle.std.specs.Prelude.{ℕ, ◌-◌, List, [], ◌∷◌, ◌++◌, length, ◌==◌, if◌then◌else◌, Option, Some, None, Result, Ok, Err, codes, decimal}
 use Rattle.std.specs.List.{concat}
 use Rattle.eap_base.specs.Setup.{psk_kind, gpsk_kind}
 use Rattle.eap_packet.specs.Words.{cause_word}
 use Rattle.eap_packet.specs.Packet.{PacketValue, request, response, success, failure, spelled}
 use Rattle.eap_packet.specs.Fault.{packet_of}
+use Rattle.eap_packet.specs.Expanded.{ExpandedValue, expanded_kind, expanded_of}
 use Rattle.eap_packet.specs.declared.cause.Cause.{Cause}
+use Rattle.eap_packet.specs.declared.cause.Cause.TheVariants as cause
 use Rattle.psk_messages.specs.Message as psk
 use Rattle.psk_messages.specs.Reading as psk_reading
 use Rattle.gpsk_messages.specs.Message as gpsk
@@ -35,13 +37,21 @@ gpsk_note (Ok (gpsk.gpsk4 pd mac)) = codes "gpsk-4"
 gpsk_note (Ok (gpsk.fail code)) = concat (codes "gpsk-fail " ∷ decimal code ∷ [])
 gpsk_note (Ok (gpsk.protected_fail code mac)) = concat (codes "gpsk-protected-fail " ∷ decimal code ∷ [])
 
--- what the Type-Data of a Type says: an identity in hex, the methods that a Nak desires, a message
+-- the vendor, the Vendor-Type and the Vendor data of an Expanded Type, or that it is too short for them
+abbrev pub expanded_note : Option ExpandedValue → List ℕ
+expanded_note None = cause_word cause.BadExpanded
+expanded_note (Some fields) =
+    concat (codes "expanded " ∷ decimal fields.vendor ∷ codes " " ∷ decimal fields.vendor_type ∷ codes " " ∷ hex_text fields.rest ∷ [])
+
+-- what the Type-Data of a Type says: an identity in hex, the methods that a Nak desires, a message, an
+-- Expanded Type
 unfoldable pub note_text : ℕ → List ℕ → List ℕ
 note_text kind body =
     if kind == 1 then concat (codes "identity " ∷ hex_text body ∷ [])
     else if kind == 3 then codes "nak" ++ numbers_text body
     else if kind == psk_kind then psk_note (psk_reading.read_of body)
     else if kind == gpsk_kind then gpsk_note (gpsk_reading.read_of None body)
+    else if kind == expanded_kind then expanded_note (expanded_of body)
     else codes "-"
 
 -- the line of a Request or a Response: its number, Code, Identifier, Type and Length, how many of the octets are

@@ -9,7 +9,8 @@ ghost use Rattle.gpsk_messages.specs.Reading as gpsk_reading;
 ghost use Rattle.trace_text.specs.Writes.{Appends, Puts};
 ghost use Rattle.trace_text.specs.Pieces.{hex_text};
 ghost use Rattle.eap_packet.specs.Packet.{value_of};
-ghost use Rattle.trace_text.specs.Packets.{numbers_text, psk_note, gpsk_note, note_text, typed_text, end_line_text};
+ghost use Rattle.eap_packet.specs.Expanded.{expanded_of};
+ghost use Rattle.trace_text.specs.Packets.{numbers_text, psk_note, gpsk_note, expanded_note, note_text, typed_text, end_line_text};
 ghost use Rattle.trace_text.specs.Packets.{malformed_text, value_text, packet_text, packets_text};
 ghost use Rattle.trace_text.specs.PacketParts.{nak_word, number_text, head_text, line_end};
 
@@ -17,9 +18,12 @@ use crate::line_buffer::LineBuffer;
 use crate::pieces::Piece::{Hex, Number, Text};
 use crate::pieces::{put_pieces, send, write_pieces};
 use eap_base::{Failed, GPSK_KIND, PSK_KIND, Sink};
-use eap_packet::{Cause, Code, PacketView, decode};
+use eap_packet::{Cause, Code, PacketView, decode, read_expanded};
 use gpsk_messages::{GpskView, read_gpsk};
 use psk_messages::{PskView, read_psk};
+
+/// Type 254, of a packet with an Expanded Type.
+const EXPANDED: u8 = 254;
 
 /// Puts the identity of an Identity Request or Response.
 fn put_identity<W: Sink>(sink: &mut W, line: &mut LineBuffer, name: &[u8]) -> Result<(), Failed>
@@ -118,22 +122,44 @@ fn put_gpsk_note<W: Sink>(sink: &mut W, line: &mut LineBuffer, body: &[u8]) -> R
     }
 }
 
-/// Puts what the Type-Data of a Type says.
-#[tactic(auto, unfolding(crate::specs::Packets::note_text, crate::specs::PacketParts::nak_word))]
-fn put_note<W: Sink>(
+/// Puts the fields of an Expanded Type, or that it is too short for them.
+fn put_expanded<W: Sink>(
     sink: &mut W,
     line: &mut LineBuffer,
-    kind: u8,
-    body: &[u8],
+    view: &PacketView,
 ) -> Result<(), Failed>
-    requires { length body.now ≤ 1500 }
-    ensures { Puts W.written W.write_faults W.last_write_fault result sink.old sink.new line.old line.new (note_text kind body.now) }
+    requires { view.now.kind ≡ 254 }
+    ensures { Puts W.written W.write_faults W.last_write_fault result sink.old sink.new line.old line.new (expanded_note (expanded_of view.now.body.now)) }
 {
-    match kind {
-        1 => put_identity(sink, line, body),
-        3 => put_nak(sink, line, body),
-        PSK_KIND => put_psk_note(sink, line, body),
-        GPSK_KIND => put_gpsk_note(sink, line, body),
+    match read_expanded(view) {
+        None => put_pieces(sink, line, &[Text(Cause::BadExpanded.word().as_bytes())]),
+        Some(fields) => put_pieces(
+            sink,
+            line,
+            &[
+                Text(b"expanded "),
+                Number(u64::from(fields.vendor)),
+                Text(b" "),
+                Number(u64::from(fields.vendor_type)),
+                Text(b" "),
+                Hex(fields.rest),
+            ],
+        ),
+    }
+}
+
+/// Puts what the Type-Data of a Type says.
+#[tactic(auto, unfolding(crate::specs::Packets::note_text, crate::specs::PacketParts::nak_word))]
+fn put_note<W: Sink>(sink: &mut W, line: &mut LineBuffer, view: &PacketView) -> Result<(), Failed>
+    requires { length view.now.body.now ≤ 1500 }
+    ensures { Puts W.written W.write_faults W.last_write_fault result sink.old sink.new line.old line.new (note_text view.now.kind view.now.body.now) }
+{
+    match view.kind {
+        1 => put_identity(sink, line, view.body),
+        3 => put_nak(sink, line, view.body),
+        PSK_KIND => put_psk_note(sink, line, view.body),
+        GPSK_KIND => put_gpsk_note(sink, line, view.body),
+        EXPANDED => put_expanded(sink, line, view),
         _ => put_pieces(sink, line, &[Text(b"-")]),
     }
 }
@@ -196,7 +222,7 @@ fn put_parts<W: Sink>(
         ++ (note_text view.now.kind view.now.body.now ++ line_end)) }
 {
     put_head(sink, line, number, code, view, octets)?;
-    put_note(sink, line, view.kind, view.body)?;
+    put_note(sink, line, view)?;
     put_line_end(sink, line)
 }
 

@@ -143,11 +143,18 @@ pub extern "C" fn tuv_server_method_begin(
             object.begin(&own, nonce);
             let session = end.session();
             object.first(id, &mut session.packet);
-            let users = one_user(settings);
-            session.end = End::ServerMethod(object, Known { users });
+            hold_server_method(&mut session.end, object, one_user(settings));
             BEGUN
         }
     }
+}
+
+/// Makes the end this server's method. (By itself, since the compiler then builds it where it stays.)
+fn hold_server_method(end: &mut End, object: ServerObject, users: Users)
+    requires { All (λ user. IsTrue (fits_kind user.kind user.psk)) users }
+    ensures { AsServerMethod end.new (λ n known. (n ≡ object) × (known.users ≡ users)) }
+{
+    *end = End::ServerMethod(object, Known { users });
 }
 
 #[tactic(auto, using(crate::proofs::Does::server_turns))]

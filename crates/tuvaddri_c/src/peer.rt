@@ -1,6 +1,6 @@
 //! The peer of RFC 4137 section 4.
 
-ghost use Rattle.std.specs.Prelude.{◌≡◌, [], false, None, IfSome};
+ghost use Rattle.std.specs.Prelude.{◌≡◌, [], true, false, None, IfSome};
 ghost use Rattle.eap_method.specs.Steps.{is_end};
 ghost use Rattle.peer_machine.specs.PeerTable.{peer_idle, peer_alt_accept, peer_alt_reject, peer_made};
 ghost use Rattle.peer_machine.specs.PeerTable as peer;
@@ -8,7 +8,8 @@ ghost use Rattle.end_objects.specs.Objects.{peer_object_shown};
 ghost use Rattle.end_objects.specs.Refusals.{peer_refusal};
 ghost use Rattle.end_objects.specs.Settings.{settings_of, peer_setup_of};
 ghost use Rattle.tuvaddri_c.specs.Answers.{begun, no_memory, refusal_number};
-ghost use Rattle.tuvaddri_c.specs.Ends.{IfPeer, AsPeer, is_going_peer};
+ghost use Rattle.tuvaddri_c.specs.Ends.{IfPeer, AsPeer, is_going_peer, peer_has_objects, can_restart};
+ghost use Rattle.tuvaddri_c.specs.declared.session.End.TheVariants as ends;
 ghost use Rattle.tuvaddri_c.specs.Turns.{PeerDoes, IsMisplaced};
 
 use crate::answers::{BEGUN, NO_MEMORY, number_of_refusal};
@@ -23,6 +24,7 @@ use std::alloc::Global;
 /// Makes the end a peer with these settings, and answers 0. Else it answers the number of the refusal, 1 to 5, or 7
 /// for want of memory, and the end stays as it was.
 #[unsafe(no_mangle)]
+#[tactic(auto, using(crate::proofs::StillThere::peer_made_with))]
 pub extern "C" fn tuv_peer_begin(
     alloc: Global,
     end: &mut TuvEnd,
@@ -33,6 +35,7 @@ pub extern "C" fn tuv_peer_begin(
     ensures begun { peer_refusal (settings_of settings.now) ≡ None → (result ≡ no_memory → ⊥) → result ≡ begun }
     ensures made { result ≡ begun → AsPeer end.new.value.end (λ n.
         peer.now_of peer_object_shown n ≡ peer_made (peer_setup_of (settings_of settings.now) nonce.now)) }
+    ensures objects { result ≡ begun → can_restart end.new.value.end ≡ true }
     ensures unchanged { (result ≡ begun → ⊥) → end.new.value ≡ end.old.value }
 {
     match peer_refusal(settings) {
@@ -42,35 +45,45 @@ pub extern "C" fn tuv_peer_begin(
             Ok(methods) => {
                 let setup = peer_setup(settings, nonce);
                 let session = end.session();
-                session.end = End::Peer(PeerMachine::new(setup, methods));
+                hold_peer(&mut session.end, PeerMachine::new(setup, methods));
                 BEGUN
             }
         },
     }
 }
 
-#[tactic(auto, using(crate::proofs::Does::peer_does))]
+/// Makes the end this peer. (By itself, since the compiler then builds it where it stays.)
+fn hold_peer(end: &mut End, machine: PeerMachine<PeerObject>)
+    ensures { end.new ≡ ends.Peer machine }
+{
+    *end = End::Peer(machine);
+}
+
+#[tactic(auto, using(crate::proofs::Does::peer_does, crate::proofs::StillThere::peer_still_has))]
 fn idle(machine: &mut PeerMachine<PeerObject>) -> TuvTurn
     requires { is_end machine.old.vars.state ≡ false }
-    ensures { PeerDoes (peer_idle (peer.now_of peer_object_shown machine.old)) result [] machine.new }
+    ensures row { PeerDoes (peer_idle (peer.now_of peer_object_shown machine.old)) result [] machine.new }
+    ensures objects { peer_has_objects machine.old ≡ true → peer_has_objects machine.new ≡ true }
 {
     let step = machine.idle();
     TuvTurn::of(&step, machine.state())
 }
 
-#[tactic(auto, using(crate::proofs::Does::peer_does))]
+#[tactic(auto, using(crate::proofs::Does::peer_does, crate::proofs::StillThere::peer_still_has))]
 fn alt_accept(machine: &mut PeerMachine<PeerObject>) -> TuvTurn
     requires { is_end machine.old.vars.state ≡ false }
-    ensures { PeerDoes (peer_alt_accept (peer.now_of peer_object_shown machine.old)) result [] machine.new }
+    ensures row { PeerDoes (peer_alt_accept (peer.now_of peer_object_shown machine.old)) result [] machine.new }
+    ensures objects { peer_has_objects machine.old ≡ true → peer_has_objects machine.new ≡ true }
 {
     let step = machine.alt_accept();
     TuvTurn::of(&step, machine.state())
 }
 
-#[tactic(auto, using(crate::proofs::Does::peer_does))]
+#[tactic(auto, using(crate::proofs::Does::peer_does, crate::proofs::StillThere::peer_still_has))]
 fn alt_reject(machine: &mut PeerMachine<PeerObject>) -> TuvTurn
     requires { is_end machine.old.vars.state ≡ false }
-    ensures { PeerDoes (peer_alt_reject (peer.now_of peer_object_shown machine.old)) result [] machine.new }
+    ensures row { PeerDoes (peer_alt_reject (peer.now_of peer_object_shown machine.old)) result [] machine.new }
+    ensures objects { peer_has_objects machine.old ≡ true → peer_has_objects machine.new ≡ true }
 {
     let step = machine.alt_reject();
     TuvTurn::of(&step, machine.state())
@@ -82,6 +95,7 @@ pub extern "C" fn tuv_peer_idle(end: &mut TuvEnd) -> TuvTurn
     ensures peer { IfPeer end.old.value.end (λ m. is_end m.vars.state ≡ false → AsPeer end.new.value.end (λ n.
         PeerDoes (peer_idle (peer.now_of peer_object_shown m)) result [] n)) }
     ensures misplaced { is_going_peer end.old.value.end ≡ false → IsMisplaced end.old.value result end.new.value }
+    ensures objects { can_restart end.old.value.end ≡ true → can_restart end.new.value.end ≡ true }
 {
     let session = end.session();
     match &mut session.end {
@@ -102,6 +116,7 @@ pub extern "C" fn tuv_peer_alt_accept(end: &mut TuvEnd) -> TuvTurn
     ensures peer { IfPeer end.old.value.end (λ m. is_end m.vars.state ≡ false → AsPeer end.new.value.end (λ n.
         PeerDoes (peer_alt_accept (peer.now_of peer_object_shown m)) result [] n)) }
     ensures misplaced { is_going_peer end.old.value.end ≡ false → IsMisplaced end.old.value result end.new.value }
+    ensures objects { can_restart end.old.value.end ≡ true → can_restart end.new.value.end ≡ true }
 {
     let session = end.session();
     match &mut session.end {
@@ -122,6 +137,7 @@ pub extern "C" fn tuv_peer_alt_reject(end: &mut TuvEnd) -> TuvTurn
     ensures peer { IfPeer end.old.value.end (λ m. is_end m.vars.state ≡ false → AsPeer end.new.value.end (λ n.
         PeerDoes (peer_alt_reject (peer.now_of peer_object_shown m)) result [] n)) }
     ensures misplaced { is_going_peer end.old.value.end ≡ false → IsMisplaced end.old.value result end.new.value }
+    ensures objects { can_restart end.old.value.end ≡ true → can_restart end.new.value.end ≡ true }
 {
     let session = end.session();
     match &mut session.end {

@@ -34,10 +34,33 @@ pub extern "C" fn tuv_end_report(end: &mut TuvEnd, report: &mut TuvReport) -> bo
     ensures held { IfSome (end_reports end.old.value.end) (λ held. IsTrue result × IsReport held report.old report.new) }
     ensures none { end_reports end.old.value.end ≡ None → (IsTrue result → ⊥) × (report.new ≡ report.old) }
 {
-    match report_of(end.session()) {
+    tell(end.session(), report)
+}
+
+fn tell(session: &Session, report: &mut TuvReport) -> bool
+    ensures held { IfSome (end_reports session.now.end) (λ held. IsTrue result × IsReport held report.old report.new) }
+    ensures none { end_reports session.now.end ≡ None → (IsTrue result → ⊥) × (report.new ≡ report.old) }
+{
+    match &session.end {
+        End::Closed => false,
+        End::PeerMethod(method) => write_held(&method.report(), report),
+        End::ServerMethod(method, _) => write_held(&method.report(), report),
+        End::Peer(machine) => write_held(&machine.report(), report),
+        End::Server(machine) => write_held(&machine.report(), report),
+        End::Backend(machine) => write_held(&machine.report(), report),
+        End::Pass(_) => false,
+    }
+}
+
+/// (By reference, since a report by value is moved at each step.)
+fn write_held(held: &Option<Report>, report: &mut TuvReport) -> bool
+    ensures held { IfSome held.now (λ held. IsTrue result × IsReport held report.old report.new) }
+    ensures none { held.now ≡ None → (IsTrue result → ⊥) × (report.new ≡ report.old) }
+{
+    match held {
         None => false,
         Some(held) => {
-            write(&held, report);
+            write(held, report);
             true
         }
     }
@@ -64,18 +87,4 @@ fn write_name(name: &[u8], room: &mut [u8; 253]) -> u8
 {
     room[..name.len()].copy_from_slice(name);
     name.len() as u8
-}
-
-fn report_of(session: &Session) -> Option<Report>
-    ensures { result ≡ end_reports session.now.end }
-{
-    match &session.end {
-        End::Closed => None,
-        End::PeerMethod(method) => method.report(),
-        End::ServerMethod(method, _) => method.report(),
-        End::Peer(machine) => machine.report(),
-        End::Server(machine) => machine.report(),
-        End::Backend(machine) => machine.report(),
-        End::Pass(_) => None,
-    }
 }

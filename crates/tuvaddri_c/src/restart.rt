@@ -17,32 +17,35 @@ use end_objects::{PeerObject, ServerObject};
 use peer_machine::PeerMachine;
 use server_machine::{Backend, ServerMachine};
 
-#[tactic(auto, using(crate::proofs::Does::peer_does))]
+#[tactic(auto, using(crate::proofs::Does::peer_does, crate::proofs::StillThere::peer_still_has))]
 fn restart_peer(machine: &mut PeerMachine<PeerObject>, nonce: &Nonce) -> TuvTurn
     requires { peer_has_objects machine.old ≡ true }
-    ensures { PeerDoes (peer_restart (peer.now_of peer_object_shown machine.old) nonce.now) result [] machine.new }
+    ensures row { PeerDoes (peer_restart (peer.now_of peer_object_shown machine.old) nonce.now) result [] machine.new }
+    ensures objects { peer_has_objects machine.new ≡ true }
 {
     let step = machine.restart(nonce);
     TuvTurn::of(&step, machine.state())
 }
 
-#[tactic(auto, using(crate::proofs::Does::server_does))]
+#[tactic(auto, using(crate::proofs::Does::server_does, crate::proofs::StillThere::server_still_has))]
 fn restart_server(
     machine: &mut ServerMachine<ServerObject>,
     nonce: &Nonce,
     packet: &mut Packet,
 ) -> TuvTurn
     requires { server_has_objects machine.old ≡ true }
-    ensures { ServerDoes (server_restart (server.now_of server_object_shown machine.old) nonce.now) result packet.new machine.new }
+    ensures row { ServerDoes (server_restart (server.now_of server_object_shown machine.old) nonce.now) result packet.new machine.new }
+    ensures objects { server_has_objects machine.new ≡ true }
 {
     let step = machine.restart(nonce, packet);
     TuvTurn::of(&step, machine.state())
 }
 
-#[tactic(auto, using(crate::proofs::Does::server_does))]
+#[tactic(auto, using(crate::proofs::Does::server_does, crate::proofs::StillThere::server_still_has))]
 fn restart_backend(machine: &mut Backend<ServerObject>, nonce: &Nonce) -> TuvTurn
     requires { server_has_objects machine.old ≡ true }
-    ensures { ServerDoes (server_restart (server.now_of server_object_shown machine.old) nonce.now) result [] machine.new }
+    ensures row { ServerDoes (server_restart (server.now_of server_object_shown machine.old) nonce.now) result [] machine.new }
+    ensures objects { server_has_objects machine.new ≡ true }
 {
     let step = machine.restart(nonce);
     TuvTurn::of(&step, machine.state())
@@ -56,6 +59,7 @@ fn restart(session: &mut Session, nonce: &Nonce) -> TuvTurn
     ensures backend { IfBackend session.old.end (λ m. server_has_objects m ≡ true → AsBackend session.new.end (λ n.
         ServerDoes (server_restart (server.now_of server_object_shown m) nonce.now) result [] n)) }
     ensures misplaced { can_restart session.old.end ≡ false → IsMisplaced session.old result session.new }
+    ensures objects { can_restart session.old.end ≡ true → can_restart session.new.end ≡ true }
 {
     match &mut session.end {
         End::Peer(machine) => {
@@ -84,8 +88,9 @@ fn restart(session: &mut Session, nonce: &Nonce) -> TuvTurn
 }
 
 /// A new conversation begins, with this nonce and the settings that the end has, wherever it stands, also before a
-/// server's start: of a peer, a stand-alone server or a backend, each of whose methods has an object. A stand-alone
-/// server asks for the identity, by its first Identifier; a peer and a backend send nothing.
+/// server's start: of a peer, a stand-alone server or a backend, each of whose methods has an object, as its begin
+/// leaves it and each call keeps it. A stand-alone server asks for the identity, by its first Identifier; a peer and
+/// a backend send nothing.
 #[unsafe(no_mangle)]
 pub extern "C" fn tuv_end_restart(end: &mut TuvEnd, nonce: &Nonce) -> TuvTurn
     ensures peer { IfPeer end.old.value.end (λ m. peer_has_objects m ≡ true → AsPeer end.new.value.end (λ n.
@@ -95,6 +100,7 @@ pub extern "C" fn tuv_end_restart(end: &mut TuvEnd, nonce: &Nonce) -> TuvTurn
     ensures backend { IfBackend end.old.value.end (λ m. server_has_objects m ≡ true → AsBackend end.new.value.end (λ n.
         ServerDoes (server_restart (server.now_of server_object_shown m) nonce.now) result [] n)) }
     ensures misplaced { can_restart end.old.value.end ≡ false → IsMisplaced end.old.value result end.new.value }
+    ensures objects { can_restart end.old.value.end ≡ true → can_restart end.new.value.end ≡ true }
 {
     restart(end.session(), nonce)
 }

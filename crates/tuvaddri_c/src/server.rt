@@ -8,7 +8,7 @@ ghost use Rattle.end_objects.specs.Objects.{server_object_shown};
 ghost use Rattle.end_objects.specs.Refusals.{server_refusal, stand_alone_refusal};
 ghost use Rattle.end_objects.specs.Settings.{settings_of, server_setup_of};
 ghost use Rattle.tuvaddri_c.specs.Answers.{begun, no_memory, refusal_number};
-ghost use Rattle.tuvaddri_c.specs.Ends.{IfServer, AsServer, AsBackend};
+ghost use Rattle.tuvaddri_c.specs.Ends.{IfServer, AsServer, AsBackend, server_has_objects, can_restart};
 ghost use Rattle.tuvaddri_c.specs.Ends as ends;
 ghost use Rattle.tuvaddri_c.specs.Turns.{ServerDoes, IsMisplaced};
 
@@ -27,6 +27,7 @@ use std::alloc::Global;
 /// the Identifier `first_id`; a Request is sent again at most `max_retrans` times, at most 10. Else it answers as
 /// `tuv_peer_begin`.
 #[unsafe(no_mangle)]
+#[tactic(auto, using(crate::proofs::StillThere::server_made_with))]
 pub extern "C" fn tuv_server_begin(
     alloc: Global,
     end: &mut TuvEnd,
@@ -39,6 +40,7 @@ pub extern "C" fn tuv_server_begin(
     ensures begun { stand_alone_refusal (settings_of settings.now) max_retrans ≡ None → (result ≡ no_memory → ⊥) → result ≡ begun }
     ensures made { result ≡ begun → AsServer end.new.value.end (λ n. server.now_of server_object_shown n
         ≡ server_made StandAlone (server_setup_of (settings_of settings.now) nonce.now) first_id max_retrans) }
+    ensures objects { result ≡ begun → can_restart end.new.value.end ≡ true }
     ensures unchanged { (result ≡ begun → ⊥) → end.new.value ≡ end.old.value }
 {
     match stand_alone_refusal(settings, max_retrans) {
@@ -63,6 +65,7 @@ pub extern "C" fn tuv_server_begin(
 /// Makes the end a backend with one user, which waits for its first Response, and answers 0. Else it answers as
 /// `tuv_peer_begin`.
 #[unsafe(no_mangle)]
+#[tactic(auto, using(crate::proofs::StillThere::server_made_with))]
 pub extern "C" fn tuv_backend_begin(
     alloc: Global,
     end: &mut TuvEnd,
@@ -73,6 +76,7 @@ pub extern "C" fn tuv_backend_begin(
     ensures begun { server_refusal (settings_of settings.now) ≡ None → (result ≡ no_memory → ⊥) → result ≡ begun }
     ensures made { result ≡ begun → AsBackend end.new.value.end (λ n. server.now_of server_object_shown n
         ≡ backend_made (server_setup_of (settings_of settings.now) nonce.now)) }
+    ensures objects { result ≡ begun → can_restart end.new.value.end ≡ true }
     ensures unchanged { (result ≡ begun → ⊥) → end.new.value ≡ end.old.value }
 {
     match server_refusal(settings) {
@@ -89,20 +93,22 @@ pub extern "C" fn tuv_backend_begin(
     }
 }
 
-#[tactic(auto, using(crate::proofs::Does::server_does))]
+#[tactic(auto, using(crate::proofs::Does::server_does, crate::proofs::StillThere::server_still_has))]
 fn start(machine: &mut ServerMachine<ServerObject>, packet: &mut Packet) -> TuvTurn
     requires unstarted { is_started machine.old.vars ≡ false }
     requires stand_alone { is_backend machine.old.vars ≡ false }
-    ensures { ServerDoes (server_start (server.now_of server_object_shown machine.old)) result packet.new machine.new }
+    ensures row { ServerDoes (server_start (server.now_of server_object_shown machine.old)) result packet.new machine.new }
+    ensures objects { server_has_objects machine.old ≡ true → server_has_objects machine.new ≡ true }
 {
     let step = machine.start(packet);
     TuvTurn::of(&step, machine.state())
 }
 
-#[tactic(auto, using(crate::proofs::Does::server_does))]
+#[tactic(auto, using(crate::proofs::Does::server_does, crate::proofs::StillThere::server_still_has))]
 fn timeout(machine: &mut ServerMachine<ServerObject>, packet: &mut Packet) -> TuvTurn
     requires { has_timer machine.old.vars ≡ true }
-    ensures { ServerDoes (server_timeout (server.now_of server_object_shown machine.old)) result packet.new machine.new }
+    ensures row { ServerDoes (server_timeout (server.now_of server_object_shown machine.old)) result packet.new machine.new }
+    ensures objects { server_has_objects machine.old ≡ true → server_has_objects machine.new ≡ true }
 {
     let step = machine.timeout(packet);
     TuvTurn::of(&step, machine.state())
@@ -114,6 +120,7 @@ pub extern "C" fn tuv_server_start(end: &mut TuvEnd) -> TuvTurn
     ensures server { IfServer end.old.value.end (λ m. is_started m.vars ≡ false → is_backend m.vars ≡ false → AsServer end.new.value.end (λ n.
         ServerDoes (server_start (server.now_of server_object_shown m)) result end.new.value.packet n)) }
     ensures misplaced { ends.can_start end.old.value.end ≡ false → IsMisplaced end.old.value result end.new.value }
+    ensures objects { can_restart end.old.value.end ≡ true → can_restart end.new.value.end ≡ true }
 {
     let session = end.session();
     match &mut session.end {
@@ -134,6 +141,7 @@ pub extern "C" fn tuv_server_timeout(end: &mut TuvEnd) -> TuvTurn
     ensures server { IfServer end.old.value.end (λ m. has_timer m.vars ≡ true → AsServer end.new.value.end (λ n.
         ServerDoes (server_timeout (server.now_of server_object_shown m)) result end.new.value.packet n)) }
     ensures misplaced { ends.has_timer end.old.value.end ≡ false → IsMisplaced end.old.value result end.new.value }
+    ensures objects { can_restart end.old.value.end ≡ true → can_restart end.new.value.end ≡ true }
 {
     let session = end.session();
     match &mut session.end {

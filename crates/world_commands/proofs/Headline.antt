@@ -5,9 +5,13 @@ use Rattle.eap_base.specs.declared.event.Event.{Event}
 use Rattle.eap_base.specs.declared.setup.Setup.{Setup}
 use Rattle.eap_base.specs.Lines.{Lines, ended, too_long, too_much, line, lines}
 use Rattle.eap_world.specs.Agreement.{IsWhole}
+use Rattle.eap_world.proofs.Alone.{one_end_tells}
 use Rattle.eap_world.proofs.HonestOfEither.{honest_of_either}
 use Rattle.eap_world.proofs.HonestRuns.{honest_ends_agree}
 use Rattle.eap_world.proofs.Few.{few_tags}
+use Rattle.eap_world.proofs.Matching.{conversations_match}
+use Rattle.eap_world.proofs.Passing.{pass_is_alone}
+use Rattle.eap_world.proofs.Reflected.{reflected_ends_agree}
 use Rattle.eap_world.proofs.Whose.{honest_names_are_theirs}
 use Rattle.scenario_text.specs.Reading.{Reading, ReadLine, no_settings, read_line}
 use Rattle.scenario_text.specs.Valid.{AreValid, IsValidSetup, IsValidItem, IsValidReadLine}
@@ -77,6 +81,10 @@ headline octets setup is =
       of_either = honest_of_either _;
       agrees = honest_ends_agree setup events whole;
       theirs = honest_names_are_theirs setup events whole;
+      reflected = reflected_ends_agree setup events whole;
+      tells = one_end_tells setup events whole;
+      matching = conversations_match setup events whole;
+      pass = pass_is_alone setup events;
       few_tags = few_tags setup events;
       few_packets = few_packets setup events;
     }

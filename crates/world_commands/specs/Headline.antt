@@ -2,10 +2,17 @@
 -- two ends that both succeed agree, where each accepted tag was made earlier by the other end and no end has begun again or
 -- nonces are fresh. The trace tells both.
 use Rattle.std.specs.Prelude.{◌≡◌, ◌≤◌, ◌⊎◌, ℕ, ◌+◌, List, ◌++◌, length, Option, Some, codes}
+use Rattle.eap_base.specs.declared.event.Event.{Event}
+use Rattle.eap_base.specs.declared.setup.Mode.TheVariants.{Through}
 use Rattle.eap_base.specs.declared.setup.Setup.{Setup}
 use Rattle.eap_world.specs.Agreement.{run_of, AgreesWhereHonest, TheirsWhereHonest, HasFewTags}
+use Rattle.eap_world.specs.Alone.{TellsAlone}
 use Rattle.eap_world.specs.Book.{tags_verdict, tags_verdict_either}
 use Rattle.eap_world.specs.declared.book.TagsVerdict.TheVariants.{Honest}
+use Rattle.eap_world.specs.EachConversation.{peer_conversations, server_conversations}
+use Rattle.eap_world.specs.Matching.{Match}
+use Rattle.eap_world.specs.Passing.{IsAlone}
+use Rattle.eap_world.specs.Reflected.{AgreesReflected}
 use Rattle.eap_world.specs.World.{WorldNow}
 use Rattle.trace_text.specs.Lines.{HasLine}
 use Rattle.world_commands.specs.Scenario.{scenario_of}
@@ -13,19 +20,26 @@ use Rattle.command_driver.specs.declared.status.Status.{Status}
 use Rattle.command_driver.specs.declared.status.Status.TheVariants.{Done}
 
 -- after the events: two ends that both succeed agree, and what they report is their own, over tags and nonces as the laws
--- ask; a book whose tags are honest is honest of either end, and it is small; and at most one packet more was sent than
--- there were events
-pub record KeepsAgreement (setup : Setup) (w : WorldNow) : Type 0 where
+-- ask; so do they over tags that came back to their maker, where the peer has succeeded by EAP-PSK; what one end's success
+-- tells by itself; the conversations of both ends match, past and present; what the pass-through sends is made of what came
+-- to it alone; a book whose tags are honest is honest of either end, and it is small; and at most one packet more was sent
+-- than there were events
+pub record KeepsAgreement (setup : Setup) (events : List Event) (w : WorldNow) : Type 0 where
   pub of_either : tags_verdict w.book ≡ Honest → tags_verdict_either w.book ≡ Honest
   pub agrees : AgreesWhereHonest w
   pub theirs : TheirsWhereHonest setup w
+  pub reflected : AgreesReflected setup w
+  pub tells : TellsAlone setup w
+  pub matching : Match w (peer_conversations setup events) (server_conversations setup events)
+  pub pass : setup.mode ≡ Through → IsAlone setup events
   pub few_tags : HasFewTags w.conversations.begun w.book
   pub few_packets : length w.sent ≤ w.counts.events + 1
 
 -- so it is after the events of the scenario that an input is
 abbrev pub HonestEndsAgree : List ℕ → Type 0
 HonestEndsAgree octets =
-    (setup : Setup) → (scenario_of octets).setup ≡ Some setup → KeepsAgreement setup (run_of setup (scenario_of octets).events)
+    (setup : Setup) → (scenario_of octets).setup ≡ Some setup
+    → (let events = (scenario_of octets).events in KeepsAgreement setup events (run_of setup events))
 
 -- the text says that nonces are fresh, or nothing of them, as where no end can begin again
 abbrev pub SaysFresh : List ℕ → Type 0

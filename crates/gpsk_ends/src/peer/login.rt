@@ -5,6 +5,7 @@ ghost use Rattle.eap_base.specs.Suite.{ks_of};
 ghost use Rattle.eap_packet.specs.declared.packet.Code.TheVariants as code;
 ghost use Rattle.gpsk_messages.specs.Message.{message_of, mac_of, size_of, without_mac};
 ghost use Rattle.eap_method.specs.GpskTags.{gpsk_response, sk_record};
+ghost use Rattle.eap_method.specs.Room.{HasRoom};
 ghost use Rattle.gpsk_ends.specs.Heard.{IsHeard};
 ghost use Rattle.gpsk_ends.specs.Sealed.{packet_of, record_of};
 
@@ -120,10 +121,11 @@ impl Login {
 
     /// Writes the Response with a message whose MAC is yet to come, with the MAC of the login.
     fn seal(&self, view: &GpskView, id: u8, packet: &mut Packet, made: &mut TagList)
-        requires fits { size_of (message_of view.now) + 5 ≤ 1500 }
+        requires fits { size_of (message_of view.now) + 5 ≤ 1493 }
         requires mac { length (mac_of (message_of view.now)) ≡ ks_of self.now.suite }
         ensures packet { packet.new ≡ packet_of code.Response id self.now.suite (keys_of self.now).sk (without_mac (message_of view.now)) }
         ensures record { made.new ≡ record_of self.now.suite (keys_of self.now).sk self.now.cred.psk (without_mac (message_of view.now)) ∷ [] }
+        ensures room { HasRoom packet.new }
     {
         let psk = &self.own.cred.psk;
         self.keys.seal(view, Code::Response, id, psk, packet, made);
@@ -135,6 +137,7 @@ impl Login {
         requires { length list.now ≤ 120 }
         ensures packet { packet.new ≡ gpsk_response id (gpsk2_of self.now list.now) }
         ensures record { made.new ≡ sk_record self.now.cred.psk (gpsk2_of self.now list.now) ∷ [] }
+        ensures room { HasRoom packet.new }
     {
         let suite = self.keys.suite();
         let open = GpskView::M2 {
@@ -154,6 +157,7 @@ impl Login {
     pub fn gpsk4(&self, id: u8, packet: &mut Packet, made: &mut TagList)
         ensures packet { packet.new ≡ gpsk_response id (gpsk4_of self.now) }
         ensures record { made.new ≡ sk_record self.now.cred.psk (gpsk4_of self.now) ∷ [] }
+        ensures room { HasRoom packet.new }
     {
         let open = GpskView::M4 {
             pd: &[],
@@ -166,6 +170,7 @@ impl Login {
     pub fn protected_fail(&self, id: u8, code: u32, packet: &mut Packet, made: &mut TagList)
         ensures packet { packet.new ≡ gpsk_response id (protected_fail_of self.now code) }
         ensures record { made.new ≡ sk_record self.now.cred.psk (protected_fail_of self.now code) ∷ [] }
+        ensures room { HasRoom packet.new }
     {
         let open = GpskView::ProtectedFail {
             code,

@@ -1,6 +1,6 @@
 //! A peer's turn for each Request (RFC 5433 section 10).
 
-ghost use Rattle.std.specs.Prelude.{◌≡◌, ◌≤◌, length, not, None, Some};
+ghost use Rattle.std.specs.Prelude.{◌≡◌, ◌≤◌, length, true, not, None, Some};
 ghost use Rattle.eap_base.specs.Suite.{ks_of};
 ghost use Rattle.eap_packet.specs.declared.cause.Cause.TheVariants.{BadTag};
 ghost use Rattle.gpsk_messages.specs.Message.{message_of};
@@ -8,6 +8,7 @@ ghost use Rattle.gpsk_messages.specs.Reading.{read_of};
 ghost use Rattle.eap_method.specs.Turns.{fault_if, discarded};
 ghost use Rattle.eap_method.specs.GpskPeer.{answers, over, over_reads, step};
 ghost use Rattle.eap_method.specs.GpskPeer.{confirms, repeats_fail, repeats_protected, is_tagged_by, wait_hears, wait_reads};
+ghost use Rattle.eap_method.specs.Room.{HasRoom, replies};
 ghost use Rattle.gpsk_ends.specs.Heard.{IsHeard};
 ghost use Rattle.gpsk_ends.specs.PeerStage.{view_in, view_of, outcome_with, login_with};
 ghost use Rattle.gpsk_ends.specs.declared.peer.stage.Phase.TheVariants.{Wait};
@@ -31,6 +32,7 @@ fn answer(own: &Begun, offer: &Offer, id: u8, packet: &mut Packet, tags: &mut Ta
     ensures login { result ≡ login_with own.now.cred own.now.nonce offer.now }
     ensures turn { outcome_with (Reply Cont Fail) packet.new tags.new (view_in result Wait)
         ≡ answers (login_with own.now.cred own.now.nonce offer.now) id offer.now.list.now }
+    ensures room { HasRoom packet.new }
 {
     let login = Login::new(own, offer);
     tags.accepted.clear();
@@ -52,8 +54,9 @@ fn confirm(
 ) -> PeerTurn
     requires heard { IsHeard (message_of view.now) body.now }
     requires waits { phase.old ≡ Wait }
-    ensures { outcome_with result packet.new tags.new (view_in login.now phase.new)
+    ensures turn { outcome_with result packet.new tags.new (view_in login.now phase.new)
         ≡ confirms login.now id (message_of view.now) (fault_if (not (is_tagged_by login.now (message_of view.now))) BadTag None) }
+    ensures room { replies result ≡ true → HasRoom packet.new }
 {
     if !login.is_tagged(view, body) {
         return PeerTurn::Discard(Cause::BadTag);
@@ -76,7 +79,8 @@ fn repeat_fail(
     packet: &mut Packet,
     tags: &mut Tags,
 ) -> PeerTurn
-    ensures { outcome_with result packet.new tags.new (view_in login.now phase.new) ≡ repeats_fail login.now id code }
+    ensures turn { outcome_with result packet.new tags.new (view_in login.now phase.new) ≡ repeats_fail login.now id code }
+    ensures room { HasRoom packet.new }
 {
     write_gpsk_into(packet, &GpskView::Fail { code }, Code::Response, id);
     tags.clear();
@@ -102,8 +106,9 @@ fn repeat_protected(
 ) -> PeerTurn
     requires heard { IsHeard (message_of view.now) body.now }
     requires waits { phase.old ≡ Wait }
-    ensures { outcome_with result packet.new tags.new (view_in login.now phase.new)
+    ensures turn { outcome_with result packet.new tags.new (view_in login.now phase.new)
         ≡ repeats_protected login.now id code (message_of view.now) (fault_if (not (is_tagged_by login.now (message_of view.now))) BadTag None) }
+    ensures room { replies result ≡ true → HasRoom packet.new }
 {
     if !login.is_tagged(view, body) {
         return PeerTurn::Discard(Cause::BadTag);
@@ -131,7 +136,8 @@ fn wait_hears(
 ) -> PeerTurn
     requires heard { IsHeard (message_of view.now) body.now }
     requires waits { phase.old ≡ Wait }
-    ensures { outcome_with result packet.new tags.new (view_in login.now phase.new) ≡ wait_hears login.now id (message_of view.now) }
+    ensures turn { outcome_with result packet.new tags.new (view_in login.now phase.new) ≡ wait_hears login.now id (message_of view.now) }
+    ensures room { replies result ≡ true → HasRoom packet.new }
 {
     match view {
         GpskView::M3 {
@@ -166,8 +172,9 @@ fn wait_reads(
 ) -> PeerTurn
     requires size { length body.now ≤ 1495 }
     requires waits { phase.old ≡ Wait }
-    ensures { outcome_with result packet.new tags.new (view_in login.now phase.new)
+    ensures turn { outcome_with result packet.new tags.new (view_in login.now phase.new)
         ≡ wait_reads login.now id (read_of (Some (ks_of login.now.suite)) body.now) }
+    ensures room { replies result ≡ true → HasRoom packet.new }
 {
     match hear(body, Some(login.suite())) {
         Err(cause) => PeerTurn::Discard(cause),
@@ -192,7 +199,8 @@ fn over_cause(login: &Login, good: bool, body: &[u8]) -> Cause
 pub fn take(stage: &mut Stage, request: &[u8], packet: &mut Packet, tags: &mut Tags) -> PeerTurn
     requires header { 5 ≤ length request.now }
     requires size { length request.now ≤ 1500 }
-    ensures { outcome_with result packet.new tags.new (view_of stage.new) ≡ step (view_of stage.old) request.now }
+    ensures turn { outcome_with result packet.new tags.new (view_of stage.new) ≡ step (view_of stage.old) request.now }
+    ensures room { replies result ≡ true → HasRoom packet.new }
 {
     let id = request[1];
     let body = &request[5..];

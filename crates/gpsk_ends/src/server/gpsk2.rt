@@ -1,13 +1,14 @@
 //! GPSK-2 is checked, and answered (RFC 5433 section 10).
 
-ghost use Rattle.std.specs.Prelude.{◌≡◌, ◌≤◌, length, All, IsTrue, IfSome, None, option_copied};
+ghost use Rattle.std.specs.Prelude.{◌≡◌, ◌≤◌, length, true, All, IsTrue, IfSome, None, option_copied};
 ghost use Rattle.eap_base.specs.Setup.{fits_kind, gpsk_kind};
 ghost use Rattle.eap_base.specs.Users.{user_of};
 ghost use Rattle.gpsk_messages.specs.Message.{message_of};
 ghost use Rattle.gpsk_messages.specs.Reading.{read_of};
 ghost use Rattle.eap_method.specs.GpskServer.{refuses, answers, checks, asked_hears, asked_reads};
+ghost use Rattle.eap_method.specs.Room.{HasRoom};
 ghost use Rattle.gpsk_ends.specs.Heard.{IsHeard};
-ghost use Rattle.gpsk_ends.specs.ServerStage.{answered_with, outcome_with, view_in};
+ghost use Rattle.gpsk_ends.specs.ServerStage.{answered_with, is_answered, outcome_with, view_in};
 ghost use Rattle.eap_method.specs.declared.turn.ServerTurn.TheVariants.{Request};
 
 use crate::hearing::hear;
@@ -24,7 +25,8 @@ pub const PSK_NOT_FOUND: u32 = 1;
 /// GPSK-2 of a user that the server doesn't know is answered by GPSK-Fail.
 #[tactic(auto, unfolding(eap_method::specs::GpskServer::refuses))]
 fn refuse(own: &Begun, next_id: u8, packet: &mut Packet, tags: &mut Tags) -> Answered
-    ensures { answered_with result packet.new tags.new own.now.side own.now.nonce ≡ refuses own.now.side own.now.nonce next_id }
+    ensures turn { answered_with result packet.new tags.new own.now.side own.now.nonce ≡ refuses own.now.side own.now.nonce next_id }
+    ensures room { HasRoom packet.new }
 {
     let message = GpskView::Fail {
         code: PSK_NOT_FOUND,
@@ -46,7 +48,8 @@ fn answer(
     tags: &mut Tags,
 ) -> Phase
     requires { IsHeard (message_of view.now) body.now }
-    ensures { outcome_with Request packet.new tags.new (view_in login.now result) ≡ answers login.now barred next_id (message_of view.now) }
+    ensures turn { outcome_with Request packet.new tags.new (view_in login.now result) ≡ answers login.now barred next_id (message_of view.now) }
+    ensures room { HasRoom packet.new }
 {
     login.accept(view, body, &mut tags.accepted);
     if barred {
@@ -69,7 +72,8 @@ fn check(
     tags: &mut Tags,
 ) -> Answered
     requires { IsHeard (message_of view.now) body.now }
-    ensures { answered_with result packet.new tags.new login.own login.nonce ≡ checks login barred next_id (message_of view.now) }
+    ensures turn { answered_with result packet.new tags.new login.own login.nonce ≡ checks login barred next_id (message_of view.now) }
+    ensures room { is_answered result ≡ true → HasRoom packet.new }
 {
     if login.is_tagged(view, body) {
         let phase = answer(&login, barred, next_id, view, body, packet, tags);
@@ -102,8 +106,9 @@ fn asked_hears(
 ) -> Answered
     requires heard { IsHeard (message_of view.now) body.now }
     requires keys { All (λ user. IsTrue (fits_kind user.kind user.psk)) users.now }
-    ensures { answered_with result packet.new tags.new own.now.side own.now.nonce
+    ensures turn { answered_with result packet.new tags.new own.now.side own.now.nonce
         ≡ asked_hears users.now own.now.side own.now.nonce next_id (message_of view.now) }
+    ensures room { is_answered result ≡ true → HasRoom packet.new }
 {
     match view {
         GpskView::M2 {
@@ -144,8 +149,9 @@ pub fn asked_reads(
 ) -> Answered
     requires size { length body.now ≤ 1495 }
     requires keys { All (λ user. IsTrue (fits_kind user.kind user.psk)) users.now }
-    ensures { answered_with result packet.new tags.new own.now.side own.now.nonce
+    ensures turn { answered_with result packet.new tags.new own.now.side own.now.nonce
         ≡ asked_reads users.now own.now.side own.now.nonce next_id (read_of None body.now) }
+    ensures room { is_answered result ≡ true → HasRoom packet.new }
 {
     match hear(body, None) {
         Err(cause) => Answered::Dropped(cause),

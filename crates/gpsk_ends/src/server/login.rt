@@ -6,6 +6,7 @@ ghost use Rattle.eap_base.specs.Suite.{ks_of, suite_number};
 ghost use Rattle.eap_packet.specs.declared.packet.Code.TheVariants as code;
 ghost use Rattle.gpsk_messages.specs.Message.{message_of, mac_of, size_of, without_mac};
 ghost use Rattle.eap_method.specs.GpskTags.{gpsk_request, sk_record};
+ghost use Rattle.eap_method.specs.Room.{HasRoom};
 ghost use Rattle.gpsk_ends.specs.Heard.{IsHeard};
 ghost use Rattle.gpsk_ends.specs.Sealed.{packet_of, record_of};
 
@@ -58,7 +59,8 @@ impl Begun {
     /// Writes GPSK-1, the first Request.
     #[tactic(auto, unfolding(eap_method::specs::GpskServer::first))]
     pub fn gpsk1(&self, id: u8, packet: &mut Packet)
-        ensures { packet.new ≡ first self.now.side self.now.nonce id }
+        ensures first { packet.new ≡ first self.now.side self.now.nonce id }
+        ensures room { HasRoom packet.new }
     {
         let list = self.suite_list();
         let message = GpskView::M1 {
@@ -160,10 +162,11 @@ impl Login {
 
     /// Writes the Request with a message whose MAC is yet to come, with the MAC of the login.
     fn seal(&self, view: &GpskView, id: u8, packet: &mut Packet, made: &mut TagList)
-        requires fits { size_of (message_of view.now) + 5 ≤ 1500 }
+        requires fits { size_of (message_of view.now) + 5 ≤ 1493 }
         requires mac { length (mac_of (message_of view.now)) ≡ ks_of self.now.suite }
         ensures packet { packet.new ≡ packet_of code.Request id self.now.suite (keys_of self.now).sk (without_mac (message_of view.now)) }
         ensures record { made.new ≡ record_of self.now.suite (keys_of self.now).sk self.now.psk (without_mac (message_of view.now)) ∷ [] }
+        ensures room { HasRoom packet.new }
     {
         self.keys
             .seal(view, Code::Request, id, &self.psk, packet, made);
@@ -173,6 +176,7 @@ impl Login {
     pub fn gpsk3(&self, id: u8, packet: &mut Packet, made: &mut TagList)
         ensures packet { packet.new ≡ gpsk_request id (gpsk3_of self.now) }
         ensures record { made.new ≡ sk_record self.now.psk (gpsk3_of self.now) ∷ [] }
+        ensures room { HasRoom packet.new }
     {
         let suite = self.keys.suite();
         let open = GpskView::M3 {
@@ -190,6 +194,7 @@ impl Login {
     pub fn protected_fail(&self, id: u8, packet: &mut Packet, made: &mut TagList)
         ensures packet { packet.new ≡ gpsk_request id (bars_with self.now) }
         ensures record { made.new ≡ sk_record self.now.psk (bars_with self.now) ∷ [] }
+        ensures room { HasRoom packet.new }
     {
         let open = GpskView::ProtectedFail {
             code: AUTHORIZATION_FAILURE,

@@ -1,14 +1,15 @@
 //! A server's first Request, and its turn for each Response (RFC 5433 section 10).
 
-ghost use Rattle.std.specs.Prelude.{◌≡◌, ◌≤◌, ℕ, List, ◌∷◌, [], length, All, IsTrue, None, Some, option_map};
+ghost use Rattle.std.specs.Prelude.{◌≡◌, ◌≤◌, ℕ, List, ◌∷◌, [], length, true, All, IsTrue, None, Some, option_map};
 ghost use Rattle.eap_base.specs.Setup.{fits_kind};
 ghost use Rattle.eap_base.specs.Suite.{ks_of};
 ghost use Rattle.gpsk_messages.specs.Message.{message_of};
 ghost use Rattle.gpsk_messages.specs.Reading.{read_of};
 ghost use Rattle.eap_method.specs.declared.values.ServerSide.{ServerSide};
 ghost use Rattle.eap_method.specs.GpskTags.{sk_record};
-ghost use Rattle.eap_method.specs.GpskServer.{View, first_step, refusing_hears, refusing_reads, over, idle_reads, step};
+ghost use Rattle.eap_method.specs.GpskServer.{View, is_begun, first_step, refusing_hears, refusing_reads, over, idle_reads, step};
 ghost use Rattle.eap_method.specs.GpskServer.{barring_hears, barring_reads, checked_hears, checked_reads};
+ghost use Rattle.eap_method.specs.Room.{HasRoom, requests};
 ghost use Rattle.eap_method.specs.Turns.{done, dropped};
 ghost use Rattle.gpsk_ends.specs.Heard.{IsHeard};
 ghost use Rattle.gpsk_ends.specs.ServerStage.{view_alone, view_in, view_of, outcome_with, reads_in};
@@ -28,7 +29,8 @@ use gpsk_messages::GpskView;
 /// stands.
 #[tactic(auto, unfolding(eap_method::specs::GpskServer::first_step))]
 pub fn ask(stage: &mut Stage, id: u8, packet: &mut Packet)
-    ensures { first_step (view_of stage.old) id ≡ record { packet = packet.new; after = view_of stage.new } }
+    ensures first { first_step (view_of stage.old) id ≡ record { packet = packet.new; after = view_of stage.new } }
+    ensures room { is_begun (view_of stage.old) ≡ true → HasRoom packet.new }
 {
     match stage {
         Stage::Alone { own, phase } => match phase {
@@ -215,7 +217,8 @@ pub fn take(
     requires header { 5 ≤ length response.now }
     requires size { length response.now ≤ 1500 }
     requires keys { All (λ user. IsTrue (fits_kind user.kind user.psk)) users.now }
-    ensures { outcome_with result packet.new tags.new (view_of stage.new) ≡ step users.now next_id (view_of stage.old) response.now }
+    ensures turn { outcome_with result packet.new tags.new (view_of stage.new) ≡ step users.now next_id (view_of stage.old) response.now }
+    ensures room { requests result ≡ true → HasRoom packet.new }
 {
     let body = &response[5..];
     match stage {

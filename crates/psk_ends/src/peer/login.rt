@@ -50,7 +50,7 @@ pub struct Login {
 }
 
 impl Model for Login {
-    ghost use Rattle.std.specs.Prelude.{◌≡◌};
+    ghost use Rattle.std.specs.Prelude.{◌≡◌, length};
     ghost use Rattle.login_keys.specs.Psk.{psk_long_of, psk_keys_of};
     ghost use Rattle.eap_method.specs.PskTags.{rand_of};
     ghost use Rattle.eap_method.specs.PskPeer as peer;
@@ -60,7 +60,7 @@ impl Model for Login {
     ghost view = { λ l. record { cred = l.own.cred; nonce = l.own.nonce; id_s = l.id_s; rand_s = l.rand_s } };
 
     ghost invariant = { λ l. (l.ak ≡ (psk_long_of l.own.cred.psk).ak) × (l.keys ≡ psk_keys_of (psk_long_of l.own.cred.psk).kdk (rand_of l.own.nonce))
-        × (l.tek ≡ l.keys.tek) };
+        × (l.tek ≡ l.keys.tek) × (length l.rand_s ≡ 16) };
 }
 
 impl Login {
@@ -100,7 +100,8 @@ impl Login {
 
     /// RAND_S.
     pub fn rand_s(&self) -> &[u8; 16]
-        ensures { result.now ≡ self.now.rand_s }
+        ensures same { result.now ≡ self.now.rand_s }
+        ensures size { length result.now ≡ 16 }
     {
         &self.rand_s
     }

@@ -1,8 +1,9 @@
 //! PSK-3 is checked, and answered by PSK-4 (RFC 4764 sections 5.3 and 5.4).
 
-ghost use Rattle.std.specs.Prelude.{◌≡◌, ◌≤◌, ◌<◌, [], length, not, None, Ok};
+ghost use Rattle.std.specs.Prelude.{◌≡◌, ◌≤◌, ◌<◌, [], length, not, None, Ok, IfOk};
 ghost use Rattle.eap_packet.specs.declared.cause.Cause.TheVariants.{BadTag};
 ghost use Rattle.psk_messages.specs.Message.{psk4};
+ghost use Rattle.eap_method.specs.Room.{HasRoom};
 ghost use Rattle.eap_method.specs.Turns.{fault_if};
 ghost use Rattle.eap_method.specs.Tags.{no_tags};
 ghost use Rattle.eap_method.specs.PskTags.{psk_response, blank_tag, opened, result_fault, result_of};
@@ -30,7 +31,8 @@ pub struct Psk3 {
 
 /// Writes PSK-4 with PCHANNEL still blank.
 fn write_psk4(login: &Login, id: u8, packet: &mut Packet)
-    ensures { packet.new ≡ psk_response id (psk4 login.now.rand_s 1 blank_tag 0) }
+    ensures packet { packet.new ≡ psk_response id (psk4 login.now.rand_s 1 blank_tag 0) }
+    ensures room { HasRoom packet.new }
 {
     let message = PskView::P4 {
         rand_s: *login.rand_s(),
@@ -48,6 +50,7 @@ fn psk4(login: &Login, id: u8, r: u8, packet: &mut Packet, made: &mut TagList)
     requires none { made.old ≡ [] }
     ensures packet { packet.new ≡ psk_response id (psk4_of login.now id r) }
     ensures made { made.new ≡ psk4_record login.now id r }
+    ensures room { HasRoom packet.new }
 {
     write_psk4(login, id, packet);
     seal_in(packet, login.tek(), login.psk(), 1, r, made);
@@ -57,7 +60,8 @@ fn psk4(login: &Login, id: u8, r: u8, packet: &mut Packet, made: &mut TagList)
 #[tactic(auto, unfolding(eap_method::specs::PskPeer::confirms))]
 fn confirm(login: &Login, id: u8, octet: u8, packet: &mut Packet, tags: &mut Tags) -> bool
     requires { tags.old.made ≡ [] }
-    ensures { wait_left login.now packet.new tags.new (Ok result) ≡ left_by (confirms login.now id (result_of octet) tags.old.accepted None) }
+    ensures left { wait_left login.now packet.new tags.new (Ok result) ≡ left_by (confirms login.now id (result_of octet) tags.old.accepted None) }
+    ensures room { HasRoom packet.new }
 {
     if octet / 64 == DONE_SUCCESS {
         psk4(login, id, DONE_SUCCESS, packet, &mut tags.made);
@@ -125,10 +129,11 @@ pub fn hears_psk3(
 ) -> Result<bool, Cause>
     requires header { length header.now ≤ 22 }
     requires none { tags.old ≡ no_tags }
-    ensures { wait_left login.now packet.new tags.new result ≡ left_by (confirms login.now id
+    ensures left { wait_left login.now packet.new tags.new result ≡ left_by (confirms login.now id
         (result_of (opened (keys_of login.now).tek 0 psk3.now.sealed))
         (psk3_records login.now header.now psk3.now.mac psk3.now.tag psk3.now.sealed)
         (psk3_fault login.now header.now psk3.now.rand_s psk3.now.mac psk3.now.nonce psk3.now.tag psk3.now.sealed)) }
+    ensures room { IfOk result (λ good. HasRoom packet.new) }
 {
     match check_psk3(login, header, psk3) {
         Err(cause) => Err(cause),

@@ -1,8 +1,9 @@
 //! A peer's turn for each Request (RFC 4764 section 4).
 
-ghost use Rattle.std.specs.Prelude.{◌≡◌, ℕ, ◌≤◌, List, [], ◌∷◌, length, Bool, Ok};
+ghost use Rattle.std.specs.Prelude.{◌≡◌, ℕ, ◌≤◌, List, [], ◌∷◌, length, Bool, true, Ok, IfOk};
 ghost use Rattle.psk_messages.specs.Message.{message_of, AreFields, psk2};
 ghost use Rattle.psk_messages.specs.Reading.{read_of};
+ghost use Rattle.eap_method.specs.Room.{HasRoom, replies};
 ghost use Rattle.eap_method.specs.Tags.{no_tags};
 ghost use Rattle.eap_method.specs.declared.tags.Tags.{Tags};
 ghost use Rattle.eap_method.specs.Turns.{id_of, body_of};
@@ -21,7 +22,8 @@ use psk_messages::{PskView, write_psk_into};
 
 /// Writes PSK-2 with this MAC_P (RFC 4764 section 5.2).
 fn write_psk2(login: &Login, id: u8, mac: &[u8; 16], packet: &mut Packet)
-    ensures { packet.new ≡ psk_response id (psk2 login.now.rand_s (rand_p_of login.now) mac.now login.now.cred.id_p) }
+    ensures packet { packet.new ≡ psk_response id (psk2 login.now.rand_s (rand_p_of login.now) mac.now login.now.cred.id_p) }
+    ensures room { HasRoom packet.new }
 {
     let message = PskView::P2 {
         rand_s: *login.rand_s(),
@@ -37,6 +39,7 @@ fn answer(login: &Login, id: u8, packet: &mut Packet, made: &mut TagList)
     requires { made.old ≡ [] }
     ensures packet { packet.new ≡ psk_response id (psk2_of login.now) }
     ensures made { made.new ≡ ak_record login.now.cred.psk (mac_p_covers login.now) (mac_p_of login.now) ∷ [] }
+    ensures room { HasRoom packet.new }
 {
     let mac = login.mac_p();
     write_psk2(login, id, &mac, packet);
@@ -55,7 +58,8 @@ fn hears_psk1(
 ) -> Result<Login, Cause>
     requires name { length id_s.now ≤ 253 }
     requires none { tags.old ≡ no_tags }
-    ensures { fresh_left own.now packet.new tags.new result ≡ left_by (hears_psk1 own.now.cred own.now.nonce id rand_s.now id_s.now) }
+    ensures left { fresh_left own.now packet.new tags.new result ≡ left_by (hears_psk1 own.now.cred own.now.nonce id rand_s.now id_s.now) }
+    ensures room { IfOk result (λ login. HasRoom packet.new) }
 {
     if own.cred.accepts.takes(id_s) {
         let login = Login::new(own, id_s, rand_s);
@@ -76,7 +80,8 @@ fn fresh_hears(
 ) -> Result<Login, Cause>
     requires fields { AreFields (message_of message.now) }
     requires none { tags.old ≡ no_tags }
-    ensures { fresh_left own.now packet.new tags.new result ≡ left_by (fresh_hears own.now.cred own.now.nonce id (message_of message.now)) }
+    ensures left { fresh_left own.now packet.new tags.new result ≡ left_by (fresh_hears own.now.cred own.now.nonce id (message_of message.now)) }
+    ensures room { IfOk result (λ login. HasRoom packet.new) }
 {
     match message {
         PskView::P1 { rand_s, id_s } => hears_psk1(own, id, rand_s, id_s, packet, tags),
@@ -93,8 +98,9 @@ fn fresh_reads(
 ) -> Result<Login, Cause>
     requires size { 5 ≤ length request.now }
     requires none { tags.old ≡ no_tags }
-    ensures { fresh_left own.now packet.new tags.new result
+    ensures left { fresh_left own.now packet.new tags.new result
         ≡ left_by (fresh_reads own.now.cred own.now.nonce (id_of request.now) (read_of (body_of request.now))) }
+    ensures room { IfOk result (λ login. HasRoom packet.new) }
 {
     match message_in(request) {
         Err(cause) => Err(cause),
@@ -113,7 +119,8 @@ fn wait_hears(
 ) -> Result<bool, Cause>
     requires header { length header.now ≤ 22 }
     requires none { tags.old ≡ no_tags }
-    ensures { wait_left login.now packet.new tags.new result ≡ left_by (wait_hears login.now id header.now (message_of message.now)) }
+    ensures left { wait_left login.now packet.new tags.new result ≡ left_by (wait_hears login.now id header.now (message_of message.now)) }
+    ensures room { IfOk result (λ good. HasRoom packet.new) }
 {
     match message {
         PskView::P3 {
@@ -145,8 +152,9 @@ fn wait_reads(
 ) -> Result<bool, Cause>
     requires size { 5 ≤ length request.now }
     requires none { tags.old ≡ no_tags }
-    ensures { wait_left login.now packet.new tags.new result
+    ensures left { wait_left login.now packet.new tags.new result
         ≡ left_by (wait_reads login.now (id_of request.now) (header_of request.now) (read_of (body_of request.now))) }
+    ensures room { IfOk result (λ good. HasRoom packet.new) }
 {
     match message_in(request) {
         Err(cause) => Err(cause),
@@ -202,7 +210,8 @@ fn known_reads(
 ) -> PeerTurn
     requires size { 5 ≤ length request.now }
     requires none { tags.old ≡ no_tags }
-    ensures { left_with result packet.new tags.new (in_phase phase.new login.now) ≡ left_by (step (in_phase phase.old login.now) request.now) }
+    ensures left { left_with result packet.new tags.new (in_phase phase.new login.now) ≡ left_by (step (in_phase phase.old login.now) request.now) }
+    ensures room { replies result ≡ true → HasRoom packet.new }
 {
     match *phase {
         Phase::Over { .. } => PeerTurn::Discard(over_reads(request)),
@@ -221,7 +230,8 @@ fn known_reads(
 pub fn take(stage: &mut Stage, request: &[u8], packet: &mut Packet, tags: &mut Tags) -> PeerTurn
     requires size { 5 ≤ length request.now }
     requires none { tags.old ≡ no_tags }
-    ensures { left_with result packet.new tags.new (view_of stage.new) ≡ left_by (step (view_of stage.old) request.now) }
+    ensures left { left_with result packet.new tags.new (view_of stage.new) ≡ left_by (step (view_of stage.old) request.now) }
+    ensures room { replies result ≡ true → HasRoom packet.new }
 {
     match stage {
         Stage::Unset => PeerTurn::Discard(Cause::WrongOp),

@@ -1,9 +1,10 @@
 //! PSK-2 is checked, and answered by PSK-3 (RFC 4764 sections 5.2 and 5.3).
 
-ghost use Rattle.std.specs.Prelude.{◌≡◌, ◌≤◌, [], length, All, IsTrue, Some};
+ghost use Rattle.std.specs.Prelude.{◌≡◌, ◌≤◌, [], length, All, IsTrue, Some, IfSome, IfOk};
 ghost use Rattle.eap_base.specs.Setup.{fits_kind, psk_kind};
 ghost use Rattle.eap_base.specs.Users.{user_of};
 ghost use Rattle.psk_messages.specs.Message.{psk3};
+ghost use Rattle.eap_method.specs.Room.{HasRoom};
 ghost use Rattle.eap_method.specs.Tags.{no_tags};
 ghost use Rattle.eap_method.specs.PskTags.{psk_request, blank_tag};
 ghost use Rattle.eap_method.specs.PskServer.{rand_s_of, psk3_of, psk3_records, finds, hears_psk2};
@@ -30,7 +31,8 @@ pub struct Psk2 {
 
 /// Writes PSK-3 with this MAC_S, PCHANNEL still blank.
 fn write_psk3(login: &Login, id: u8, mac: &[u8; 16], packet: &mut Packet)
-    ensures { packet.new ≡ psk_request id (psk3 (rand_s_of login.now) mac.now 0 blank_tag 0) }
+    ensures packet { packet.new ≡ psk_request id (psk3 (rand_s_of login.now) mac.now 0 blank_tag 0) }
+    ensures room { HasRoom packet.new }
 {
     let message = PskView::P3 {
         rand_s: login.rand_s(),
@@ -48,6 +50,7 @@ fn psk3(login: &Login, id: u8, packet: &mut Packet, made: &mut TagList)
     requires { made.old ≡ [] }
     ensures packet { packet.new ≡ psk_request id (psk3_of login.now id) }
     ensures made { made.new ≡ psk3_records login.now id }
+    ensures room { HasRoom packet.new }
 {
     let mac = login.mac_s();
     write_psk3(login, id, &mac, packet);
@@ -69,8 +72,9 @@ fn check(
     requires key { length user.now.psk ≡ 16 }
     requires name { length id_p.now ≤ 253 }
     requires none { tags.old ≡ no_tags }
-    ensures { asked_left own.now packet.new tags.new result
+    ensures left { asked_left own.now packet.new tags.new result
         ≡ left_by (finds own.now.side own.now.nonce next_id psk2.now.rand_p psk2.now.mac id_p.now (Some user.now)) }
+    ensures room { IfOk result (λ found. IfSome found (λ login. HasRoom packet.new)) }
 {
     let PskLong { ak, kdk } = long_keys(&user.psk);
     let ak = CmacKey::new(&ak);
@@ -96,8 +100,9 @@ fn find(
     requires size { length id_p.now ≤ 253 }
     requires keys { All (λ user. IsTrue (fits_kind user.kind user.psk)) users.now }
     requires none { tags.old ≡ no_tags }
-    ensures { asked_left own.now packet.new tags.new result ≡ left_by (finds own.now.side own.now.nonce next_id psk2.now.rand_p psk2.now.mac id_p.now
+    ensures left { asked_left own.now packet.new tags.new result ≡ left_by (finds own.now.side own.now.nonce next_id psk2.now.rand_p psk2.now.mac id_p.now
         (user_of users.now id_p.now psk_kind)) }
+    ensures room { IfOk result (λ found. IfSome found (λ login. HasRoom packet.new)) }
 {
     match users.find(id_p, PSK_KIND) {
         None => Ok(None),
@@ -118,8 +123,9 @@ pub fn hears_psk2(
     requires size { length id_p.now ≤ 253 }
     requires keys { All (λ user. IsTrue (fits_kind user.kind user.psk)) users.now }
     requires none { tags.old ≡ no_tags }
-    ensures { asked_left own.now packet.new tags.new result
+    ensures left { asked_left own.now packet.new tags.new result
         ≡ left_by (hears_psk2 users.now own.now.side own.now.nonce next_id psk2.now.rand_s psk2.now.rand_p psk2.now.mac id_p.now) }
+    ensures room { IfOk result (λ found. IfSome found (λ login. HasRoom packet.new)) }
 {
     if psk2.rand_s.as_slice() == rand_of(&own.nonce).as_slice() {
         find(own, next_id, psk2, id_p, users, packet, tags)

@@ -1,14 +1,15 @@
 //! A server's first Request, and its turn for each Response (RFC 4764 section 4).
 
-ghost use Rattle.std.specs.Prelude.{◌≡◌, ℕ, ◌≤◌, List, length, All, IsTrue};
+ghost use Rattle.std.specs.Prelude.{◌≡◌, ℕ, ◌≤◌, List, length, true, All, IsTrue, IfSome, IfOk};
 ghost use Rattle.eap_base.specs.declared.users.User.{User};
 ghost use Rattle.eap_base.specs.Setup.{fits_kind};
 ghost use Rattle.psk_messages.specs.Message.{message_of, AreFields};
 ghost use Rattle.psk_messages.specs.Reading.{read_of};
+ghost use Rattle.eap_method.specs.Room.{HasRoom, requests};
 ghost use Rattle.eap_method.specs.Tags.{no_tags};
 ghost use Rattle.eap_method.specs.Turns.{body_of};
 ghost use Rattle.eap_method.specs.PskTags.{header_of};
-ghost use Rattle.eap_method.specs.PskServer.{View, first, first_step, asked_hears, asked_reads, checked_hears, checked_reads, idle_reads, step};
+ghost use Rattle.eap_method.specs.PskServer.{View, first, is_begun, first_step, asked_hears, asked_reads, checked_hears, checked_reads, idle_reads, step};
 ghost use Rattle.psk_ends.specs.ServerStage.{in_early, in_known, view_of, left_by, left_with, left_alone, asked_left, checked_left};
 
 use crate::octets::{header_of, message_in, rand_of};
@@ -24,7 +25,8 @@ use psk_messages::{PskView, write_psk_into};
 /// Writes PSK-1 (RFC 4764 section 5.1).
 #[tactic(auto, unfolding(eap_method::specs::PskServer::first))]
 fn write_psk1(own: &Begun, id: u8, packet: &mut Packet)
-    ensures { packet.new ≡ first own.now.side own.now.nonce id }
+    ensures first { packet.new ≡ first own.now.side own.now.nonce id }
+    ensures room { HasRoom packet.new }
 {
     let message = PskView::P1 {
         rand_s: rand_of(&own.nonce),
@@ -36,7 +38,8 @@ fn write_psk1(own: &Begun, id: u8, packet: &mut Packet)
 /// The first Request of a server without a login.
 #[tactic(auto, unfolding(eap_method::specs::PskServer::first_step))]
 fn ask_early(own: &Begun, phase: &mut EarlyPhase, id: u8, packet: &mut Packet)
-    ensures { record { packet = packet.new; after = in_early phase.new own.now } ≡ first_step (in_early phase.old own.now) id }
+    ensures first { record { packet = packet.new; after = in_early phase.new own.now } ≡ first_step (in_early phase.old own.now) id }
+    ensures room { is_begun (in_early phase.old own.now) ≡ true → HasRoom packet.new }
 {
     match *phase {
         EarlyPhase::Begun => {
@@ -51,7 +54,8 @@ fn ask_early(own: &Begun, phase: &mut EarlyPhase, id: u8, packet: &mut Packet)
 /// stands.
 #[tactic(auto, unfolding(eap_method::specs::PskServer::first_step))]
 pub fn ask(stage: &mut Stage, id: u8, packet: &mut Packet)
-    ensures { record { packet = packet.new; after = view_of stage.new } ≡ first_step (view_of stage.old) id }
+    ensures first { record { packet = packet.new; after = view_of stage.new } ≡ first_step (view_of stage.old) id }
+    ensures room { is_begun (view_of stage.old) ≡ true → HasRoom packet.new }
 {
     match stage {
         Stage::Early { own, phase } => ask_early(own, phase, id, packet),
@@ -71,7 +75,8 @@ fn asked_hears(
     requires fields { AreFields (message_of message.now) }
     requires keys { All (λ user. IsTrue (fits_kind user.kind user.psk)) users.now }
     requires none { tags.old ≡ no_tags }
-    ensures { asked_left own.now packet.new tags.new result ≡ left_by (asked_hears users.now own.now.side own.now.nonce next_id (message_of message.now)) }
+    ensures left { asked_left own.now packet.new tags.new result ≡ left_by (asked_hears users.now own.now.side own.now.nonce next_id (message_of message.now)) }
+    ensures room { IfOk result (λ found. IfSome found (λ login. HasRoom packet.new)) }
 {
     match message {
         PskView::P2 {
@@ -103,8 +108,9 @@ fn asked_reads(
     requires size { 5 ≤ length response.now }
     requires keys { All (λ user. IsTrue (fits_kind user.kind user.psk)) users.now }
     requires none { tags.old ≡ no_tags }
-    ensures { asked_left own.now packet.new tags.new result
+    ensures left { asked_left own.now packet.new tags.new result
         ≡ left_by (asked_reads users.now own.now.side own.now.nonce next_id (read_of (body_of response.now))) }
+    ensures room { IfOk result (λ found. IfSome found (λ login. HasRoom packet.new)) }
 {
     match message_in(response) {
         Err(cause) => Err(cause),
@@ -203,7 +209,8 @@ pub fn take(
     requires size { 5 ≤ length response.now }
     requires keys { All (λ user. IsTrue (fits_kind user.kind user.psk)) users.now }
     requires none { tags.old ≡ no_tags }
-    ensures { left_with result packet.new tags.new (view_of stage.new) ≡ left_by (step users.now next_id (view_of stage.old) response.now) }
+    ensures left { left_with result packet.new tags.new (view_of stage.new) ≡ left_by (step users.now next_id (view_of stage.old) response.now) }
+    ensures room { requests result ≡ true → HasRoom packet.new }
 {
     match stage {
         Stage::Unset => ServerTurn::Discard(Cause::WrongOp),

@@ -4,14 +4,15 @@ use Rattle.std.proofs.Math.Seq.{take-length}
 use Rattle.eap_base.specs.Suite.{ks_of}
 use Rattle.eap_packet.specs.Packet.{value_with}
 use Rattle.eap_packet.specs.Packet as packets
-use Rattle.gpsk_messages.specs.Message.{message_of, mac_of, covered_of}
+use Rattle.gpsk_messages.specs.Message.{message_of, mac_of, size_of, covered_of}
 use Rattle.gpsk_messages.specs.Message as messages
 use Rattle.gpsk_messages.specs.Reading.{with_mac}
 use Rattle.login_keys.specs.Gkdf.{gpsk_tag_of}
 use Rattle.eap_method.specs.declared.tags.Label.TheVariants.{Sk}
 use Rattle.eap_method.specs.declared.tags.TagRecord.{TagRecord}
 use Rattle.gpsk_ends.specs.Keys.{SuiteKeys}
-use Rattle.gpsk_ends.proofs.MacLaws.{packet_sealed, record_sealed}
+use Rattle.gpsk_ends.proofs.MacLaws.{packet_sealed, record_sealed, size_with}
+use Rattle.gpsk_ends.proofs.Rooms.{message_has_room}
 use Rattle.gpsk_ends.proofs.keys.Keys.seal.Goals as goal
 
 abbrev one_record : List ℕ → List ℕ → List ℕ → TagRecord
@@ -38,6 +39,9 @@ is_packet c =
     c.append.ensures.appended within ∙ ap (λ (l : List ℕ). c.write_front.new.packet ++ l) c.as_slice-3.ensures.same
     ∙ c.write_front.ensures.sealed tag whole
 
+has_mac : (c : goal.After-append) → length (mac_of (message_of c.args.view.now)) ≡ ks_of c.self.inside.suite
+has_mac c = c.requires.mac ∙ ap (λ (k : SuiteKeys). ks_of k.suite) (sym c.self.view_is)
+
 pub returns-clause-packet : goal.returns-clause-packet
 returns-clause-packet c =
     let l = c.as_slice.result.now in
@@ -50,8 +54,17 @@ returns-clause-record c =
     let l = c.as_slice.result.now in
     let octets = take (length l - 6) (drop 6 l) in
     let suite = c.self.inside.suite in
-    let mac : length (mac_of (message_of c.args.view.now)) ≡ ks_of suite = c.requires.mac ∙ ap (λ (k : SuiteKeys). ks_of k.suite) (sym c.self.view_is) in
+    let mac = has_mac c in
     rw (← c.self.view_is)
     (c.set_alone.ensures ∙ ap (λ (t : List ℕ). one_record c.args.psk.now octets t ∷ []) c.as_slice-2.ensures.same
     ∙ ap (λ r. r ∷ [])
     (record_sealed suite c.self.inside.keys.sk c.args.psk.now (message_of c.args.view.now) octets c.tag_whole-tag.result mac (is_covered c) (is_tag c)))
+
+pub returns-clause-room : goal.returns-clause-room
+returns-clause-room c =
+    let tag = c.tag_whole-tag.result in
+    let suite = c.self.inside.suite in
+    let whole : length tag ≡ ks_of suite = c.tag_whole-tag.ensures.size suite c.self.inside.keys.sk c.self.invariant in
+    let message = message_of c.args.view.now in
+    let size : size_of (with_mac message tag) ≡ size_of message = size_with suite message tag (has_mac c) whole in
+    message_has_room c.args.code c.args.id (with_mac message tag) c.append.new.self c.requires.typed (omega (arith, size, c.requires.fits)) (is_packet c)

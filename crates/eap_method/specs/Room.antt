@@ -1,0 +1,23 @@
+-- A packet that has room for an Expanded Type (RFC 3748 section 5.7).
+use Rattle.std.specs.Prelude.{◌≤◌, ℕ, List, length, Bool, true, false}
+use Rattle.eap_packet.specs.Fault.{length_of}
+use Rattle.eap_method.specs.declared.turn.PeerTurn as brief_peer
+use Rattle.eap_method.specs.declared.turn.PeerTurn.TheVariants as peer
+use Rattle.eap_method.specs.declared.turn.ServerTurn as brief_server
+use Rattle.eap_method.specs.declared.turn.ServerTurn.TheVariants as server
+
+-- the octets are whole by their Length, have a Type, and leave room for seven octets more
+pub record HasRoom (octets : List ℕ) : Type 0 where
+  pub typed : 5 ≤ length_of octets
+  pub whole : length_of octets ≤ length octets
+  pub fits : length_of octets ≤ 1493
+
+-- whether a turn sends a packet
+abbrev pub replies : brief_peer.PeerTurn → Bool
+replies (peer.Discard cause) = false
+replies (peer.Reply state decision) = true
+
+abbrev pub requests : brief_server.ServerTurn → Bool
+requests (server.Discard cause) = false
+requests server.Request = true
+requests (server.Done success) = false

@@ -1,0 +1,67 @@
+-- A server that reads Expanded Types (RFC 3748 section 5.7): the rows of its table are those of the plain form of a Response,
+-- and each Request of a method is wrapped. No row of the table knows of them.
+use Rattle.std.specs.Prelude.{◌≡◌, ℕ, List, Bool, true, ◌==◌, ◌&&◌, ◌||◌, not, if◌then◌else◌, Option, Some, None, Result, Ok}
+use Rattle.eap_packet.specs.Packet.{PacketValue, response, spelled}
+use Rattle.eap_packet.specs.Fault.{code_of, type_of, packet_of}
+use Rattle.eap_packet.specs.Expanded.{expanded_kind, is_nak_body, inner_body, wrapped, is_bad_expanded}
+use Rattle.eap_packet.specs.declared.cause.Cause.{Cause}
+use Rattle.eap_packet.specs.declared.cause.Cause.TheVariants as cause
+use Rattle.login_policy.specs.Policy.{nak_of}
+use Rattle.login_policy.specs.Expanded.{expanded_kinds}
+use Rattle.eap_method.specs.Plain.{plain_octets}
+use Rattle.eap_method.specs.Room.{HasRoom}
+use Rattle.eap_method.specs.Steps.{is_end}
+use Rattle.server_machine.specs.ServerTable.{ServerNow, ServerAnswer, answer, nak, awaits_first, first_discard, server_discard, server_deliver}
+use Rattle.server_machine.specs.declared.variables.ServerVariables.{ServerVariables}
+
+-- an Expanded Nak is taken as a backend's first Response, and where the Request that was sent last is of Type 254; the
+-- table asks for the rest: that it has currentId, and that the method is proposed
+abbrev pub takes_nak : ServerVariables → Bool
+takes_nak vars = awaits_first vars || (type_of vars.last_request == expanded_kind)
+
+-- the Nak that an Expanded Nak says (section 5.3.2); one that names neither method desires none
+abbrev pub nak_octets : ℕ → List ℕ → List ℕ
+nak_octets id body = spelled (response id nak (nak_of (expanded_kinds (inner_body body))))
+
+-- what the table takes of a Response
+abbrev pub response_octets : ServerVariables → List ℕ → ℕ → ℕ → List ℕ → List ℕ
+response_octets vars octets id kind body =
+    if (kind == expanded_kind) && (is_nak_body body && takes_nak vars) then nak_octets id body
+    else plain_octets octets (response id kind body)
+
+-- a Request is sent, and kept for the timer, as it is wrapped
+abbrev pub keeps_sent : ServerAnswer → List ℕ → ServerAnswer
+keeps_sent out octets =
+    answer (record out.step { sent = Some octets })
+    (record { vars = record out.after.vars { last_request = octets }; views = out.after.views })
+
+abbrev pub wraps_sent : ServerAnswer → Option (List ℕ) → ServerAnswer
+wraps_sent out None = out
+wraps_sent out (Some octets) = if code_of octets == 1 then keeps_sent out (wrapped octets) else out
+
+abbrev pub wraps : ServerAnswer → ServerAnswer
+wraps out = wraps_sent out out.step.sent
+
+-- a Request that is sent has room for an Expanded Type
+abbrev pub MayWrap : Bool → List ℕ → Type 0
+MayWrap sends packet = sends ≡ true → code_of packet ≡ 1 → HasRoom packet
+
+-- a Response that no party takes; to a backend that awaits its first, with an empty path
+abbrev pub discards_bad : ServerNow → ServerAnswer
+discards_bad now = if awaits_first now.vars then first_discard now cause.BadExpanded else server_discard now cause.BadExpanded
+
+-- a Response to a server that has not ended
+abbrev pub reads_response : ServerNow → List ℕ → ℕ → ℕ → List ℕ → ServerAnswer
+reads_response now octets id kind body =
+    if is_bad_expanded (response id kind body) then discards_bad now
+    else wraps (server_deliver now (response_octets now.vars octets id kind body))
+
+abbrev pub server_reads : ServerNow → List ℕ → Result PacketValue Cause → ServerAnswer
+server_reads now octets (Ok (response id kind body)) = reads_response now octets id kind body
+server_reads now octets packet = server_deliver now octets
+
+-- a delivery, read so where the settings say so
+unfoldable pub server_hears : ServerNow → List ℕ → ServerAnswer
+server_hears now octets =
+    if now.vars.setup.expanded && not (is_end now.vars.state) then server_reads now octets (packet_of octets)
+    else server_deliver now octets

@@ -1,0 +1,253 @@
+//! What a proposal, and a method's turn, come to (RFC 4137 section 5.4): the variables, the packet and the step.
+
+ghost use Rattle.std.specs.Prelude.{◌≡◌, ◌≢◌, [], ◌∷◌, ◌++◌, false, true, not, Some, None, IsTrue, if◌then◌else◌};
+ghost use Rattle.eap_base.specs.Setup.{is_among};
+ghost use Rattle.eap_packet.specs.Fault.{code_of};
+ghost use Rattle.eap_packet.specs.Packet.{spelled, value_with, has_type};
+ghost use Rattle.eap_packet.specs.declared.state.State.TheVariants.{ProposeMethod, MethodRequest, SendRequest, Idle, Failure};
+ghost use Rattle.eap_method.specs.Room.{HasRoom, requests};
+ghost use Rattle.eap_method.specs.Server.{ServerViews};
+ghost use Rattle.eap_method.specs.ServerTurn.{server_turn_with, server_tags};
+ghost use Rattle.eap_method.specs.Steps.{step_with};
+ghost use Rattle.eap_method.specs.Tags.{no_tags};
+ghost use Rattle.eap_method.specs.declared.tags.Tags.{Tags};
+ghost use Rattle.server_machine.specs.Expanded.{MayWrap};
+ghost use Rattle.server_machine.specs.ServerTable.{answer, before_proposal, next_id, with_request, ends_well, ends_badly, offers, method_answers};
+ghost use Rattle.server_machine.specs.ServerTable.{settled, AreInOrder};
+ghost use Rattle.server_machine.specs.declared.variables.Way.TheVariants.{AfterResponse};
+
+use crate::variables::{Progress, ServerVariables, Way};
+use eap_base::Packet;
+use eap_method::{ServerTurn, Step};
+use eap_packet::{Code, State, encode_end_into};
+
+/// The states of a method, or the Identity round, after which nothing follows but FAILURE.
+const FAILING: [State; 5] = [
+    State::Received,
+    State::IntegrityCheck,
+    State::MethodResponse,
+    State::SelectAction,
+    State::Failure,
+];
+
+/// The states of a method's last Response, after which SUCCESS follows.
+const SUCCEEDING: [State; 5] = [
+    State::Received,
+    State::IntegrityCheck,
+    State::MethodResponse,
+    State::SelectAction,
+    State::Success,
+];
+
+/// Writes a Success or a Failure in place of what was there.
+#[tactic(auto, using(crate::proofs::Wrapping::ends_request_nothing))]
+fn write_end(packet: &mut Packet, code: Code, id: u8)
+    requires { IsTrue (not (has_type code)) }
+    ensures spells { packet.new ≡ spelled (value_with code id 0 []) }
+    ensures no_request { code_of packet.new ≢ 1 }
+{
+    encode_end_into(packet, code, id);
+}
+
+/// The Identifier of the next Request: the first one, or one more modulo 256.
+pub fn next_id(vars: &ServerVariables) -> u8
+    ensures { result ≡ next_id vars.now }
+{
+    match vars.current_id {
+        None => vars.first_id,
+        Some(id) => id.wrapping_add(1),
+    }
+}
+
+/// FAILURE, where a method was to be proposed: a Failure with currentId.
+pub fn end_badly(vars: &mut ServerVariables, way: Way, id: u8, packet: &mut Packet) -> Step
+    ensures step { (views : ServerViews) → ends_badly (before_proposal way) vars.old views id no_tags
+        ≡ answer (step_with result packet.new no_tags) (record { vars = vars.new; views = views }) }
+    ensures room { MayWrap result.sends packet.new }
+    ensures setup { vars.new.setup ≡ vars.old.setup }
+    ensures order { AreInOrder vars.old → AreInOrder vars.new }
+{
+    vars.state = State::Failure;
+    write_end(packet, Code::Failure, id);
+    failing(way)
+}
+
+/// The step of a proposal that nothing is left for.
+fn failing(way: Way) -> Step
+    ensures { result ≡ record { path = before_proposal way ++ Failure ∷ []; cause = None; sends = true } }
+{
+    match way {
+        Way::AfterResponse => Step::sending(&FAILING),
+        Way::AfterNak => Step::sending(&[
+            State::Received,
+            State::Nak,
+            State::SelectAction,
+            State::Failure,
+        ]),
+        Way::FirstIdentity => Step::sending(&[
+            State::PickUpMethod,
+            State::MethodResponse,
+            State::SelectAction,
+            State::Failure,
+        ]),
+        Way::FirstNak => Step::sending(&[State::Nak, State::SelectAction, State::Failure]),
+        Way::FirstOther => {
+            Step::sending(&[State::PickUpMethod, State::SelectAction, State::Failure])
+        }
+    }
+}
+
+/// PROPOSE_METHOD, METHOD_REQUEST and SEND_REQUEST of a method that isn't yet proposed, whose first
+/// Request is `packet`; without one, FAILURE.
+#[tactic(auto, using(crate::proofs::Proposed::proposed_has_room, crate::proofs::Proposed::proposed_grows, crate::proofs::Proposed::order_is_kind))]
+pub fn settle_offer(
+    vars: &mut ServerVariables,
+    way: Way,
+    id: u8,
+    kind: u8,
+    has_first: bool,
+    packet: &mut Packet,
+) -> Step
+    requires ordered { is_among vars.old.setup.methods kind ≡ true }
+    requires unproposed { is_among vars.old.proposed kind ≡ false }
+    requires in_order { AreInOrder vars.old }
+    requires room { has_first ≡ true → HasRoom packet.old }
+    ensures step { (views : ServerViews) → offers (before_proposal way) vars.old views id kind (if has_first then Some packet.old else None)
+        ≡ answer (step_with result packet.new no_tags) (record { vars = vars.new; views = views }) }
+    ensures room { MayWrap result.sends packet.new }
+    ensures setup { vars.new.setup ≡ vars.old.setup }
+    ensures order { AreInOrder vars.new }
+{
+    if has_first {
+        send_request(vars, packet);
+        vars.current = Some(kind);
+        vars.progress = Progress::Proposed;
+        vars.proposed.push(kind);
+        proposing(way)
+    } else {
+        end_badly(vars, way, id, packet)
+    }
+}
+
+/// The step of a proposal.
+fn proposing(way: Way) -> Step
+    ensures { result ≡ record { path = before_proposal way ++ ProposeMethod ∷ MethodRequest ∷ SendRequest ∷ Idle ∷ []; cause = None; sends = true } }
+{
+    match way {
+        Way::AfterResponse => Step::sending(&[
+            State::Received,
+            State::IntegrityCheck,
+            State::MethodResponse,
+            State::SelectAction,
+            State::ProposeMethod,
+            State::MethodRequest,
+            State::SendRequest,
+            State::Idle,
+        ]),
+        Way::AfterNak => Step::sending(&[
+            State::Received,
+            State::Nak,
+            State::SelectAction,
+            State::ProposeMethod,
+            State::MethodRequest,
+            State::SendRequest,
+            State::Idle,
+        ]),
+        Way::FirstIdentity => Step::sending(&[
+            State::PickUpMethod,
+            State::MethodResponse,
+            State::SelectAction,
+            State::ProposeMethod,
+            State::MethodRequest,
+            State::SendRequest,
+            State::Idle,
+        ]),
+        Way::FirstNak => Step::sending(&[
+            State::Nak,
+            State::SelectAction,
+            State::ProposeMethod,
+            State::MethodRequest,
+            State::SendRequest,
+            State::Idle,
+        ]),
+        Way::FirstOther => Step::sending(&[
+            State::PickUpMethod,
+            State::SelectAction,
+            State::ProposeMethod,
+            State::MethodRequest,
+            State::SendRequest,
+            State::Idle,
+        ]),
+    }
+}
+
+/// SEND_REQUEST: a Request with the next Identifier, which is sent again from now on.
+fn send_request(vars: &mut ServerVariables, request: &Packet)
+    ensures { vars.new ≡ with_request vars.old request.now }
+{
+    vars.current_id = Some(next_id(vars));
+    vars.retrans_count = 0;
+    vars.last_request.set(request.as_slice());
+}
+
+/// INTEGRITY_CHECK, of the turn of the method's object, whose Request is `packet`: a discard writes
+/// nothing, and after the method's end a Success or a Failure takes the place of what was there.
+pub fn settle(vars: &mut ServerVariables, id: u8, turn: ServerTurn, packet: &mut Packet) -> Step
+    requires room { requests turn ≡ true → HasRoom packet.old }
+    ensures step { (before after : ServerViews) (tags : Tags) → let whole = server_turn_with turn packet.old tags in
+        method_answers (record { vars = vars.old; views = before }) id after whole
+        ≡ answer (step_with result packet.new (server_tags whole)) (record { vars = vars.new; views = settled before after whole }) }
+    ensures room { MayWrap result.sends packet.new }
+    ensures setup { vars.new.setup ≡ vars.old.setup }
+    ensures order { AreInOrder vars.old → AreInOrder vars.new }
+{
+    match turn {
+        ServerTurn::Discard(cause) => {
+            let states = [
+                State::Received,
+                State::IntegrityCheck,
+                State::Discard,
+                State::Idle,
+            ];
+            Step::discarding(&states, cause)
+        }
+        ServerTurn::Request => {
+            send_request(vars, packet);
+            vars.progress = Progress::Continue;
+            let states = [
+                State::Received,
+                State::IntegrityCheck,
+                State::MethodResponse,
+                State::MethodRequest,
+                State::SendRequest,
+                State::Idle,
+            ];
+            Step::sending(&states)
+        }
+        ServerTurn::Done { success } => {
+            vars.progress = Progress::End;
+            end_method(vars, id, success, packet)
+        }
+    }
+}
+
+/// SUCCESS or FAILURE after the current method: a Success or a Failure with currentId.
+fn end_method(vars: &mut ServerVariables, id: u8, success: bool, packet: &mut Packet) -> Step
+    ensures step { (views : ServerViews) (tags : Tags)
+        → (if success then ends_well (before_proposal AfterResponse) vars.old views id tags
+        else ends_badly (before_proposal AfterResponse) vars.old views id tags)
+        ≡ answer (step_with result packet.new tags) (record { vars = vars.new; views = views }) }
+    ensures room { MayWrap result.sends packet.new }
+    ensures setup { vars.new.setup ≡ vars.old.setup }
+    ensures order { AreInOrder vars.old → AreInOrder vars.new }
+{
+    if success {
+        vars.state = State::Success;
+        write_end(packet, Code::Success, id);
+        Step::sending(&SUCCEEDING)
+    } else {
+        vars.state = State::Failure;
+        write_end(packet, Code::Failure, id);
+        Step::sending(&FAILING)
+    }
+}

@@ -1,0 +1,40 @@
+-- An end that has just been made has its objects, and each call leaves it those that it had.
+use Rattle.std.proofs.Common.{◌≡◌, List, ℕ, true, map, ap}
+use Rattle.eap_base.specs.declared.setup.PeerSetup.{PeerSetup}
+use Rattle.eap_base.specs.declared.setup.ServerSetup.{ServerSetup}
+use Rattle.eap_method.specs.Peer.{have_each, peer_kinds}
+use Rattle.eap_method.specs.Server.{server_kinds}
+use Rattle.eap_method.specs.Unnamed.{KeepsPeers, KeepsServers}
+use Rattle.peer_machine.specs.PeerTable as peers
+use Rattle.peer_machine.specs.PeerTable.{PeerNow, PeerValue, peer_made}
+use Rattle.server_machine.specs.ServerTable as servers
+use Rattle.server_machine.specs.ServerTable.{ServerNow, ServerValue, server_made}
+use Rattle.server_machine.specs.declared.variables.Role.{Role}
+use Rattle.end_objects.specs.Objects.{peer_object_shown, server_object_shown}
+use Rattle.end_objects.specs.declared.objects.PeerObject.{PeerObject}
+use Rattle.end_objects.specs.declared.objects.ServerObject.{ServerObject}
+use Rattle.tuvaddri_c.specs.Ends.{peer_has_objects, server_has_objects}
+
+pub peer_made_with : (setup : PeerSetup) (objects : List PeerObject) (m : PeerValue PeerObject) → peers.now_of peer_object_shown m ≡ peer_made setup
+    → KeepsPeers setup.methods (map peer_object_shown objects) (map peer_object_shown m.methods)
+    → have_each (peer_kinds (map peer_object_shown objects)) setup.methods ≡ true → peer_has_objects m ≡ true
+peer_made_with setup objects m made kept has =
+    let named : m.vars.setup.methods ≡ setup.methods = ap (λ (now : PeerNow). now.vars.setup.methods) made in
+    rw (kept.kinds, named) has
+
+pub server_made_with : (of : Role) (setup : ServerSetup) (first_id max_retrans : ℕ) (objects : List ServerObject) (m : ServerValue ServerObject)
+    → servers.now_of server_object_shown m ≡ server_made of setup first_id max_retrans
+    → KeepsServers setup.methods (map server_object_shown objects) (map server_object_shown m.methods)
+    → have_each (server_kinds (map server_object_shown objects)) setup.methods ≡ true → server_has_objects m ≡ true
+server_made_with of setup first_id max_retrans objects m made kept has =
+    let named : m.vars.setup.methods ≡ setup.methods = ap (λ (now : ServerNow). now.vars.setup.methods) made in
+    rw (kept.kinds, named) has
+
+pub peer_still_has : (m after : PeerValue PeerObject) → KeepsPeers m.vars.setup.methods (map peer_object_shown m.methods) (map peer_object_shown after.methods)
+    → after.vars.setup.methods ≡ m.vars.setup.methods → peer_has_objects m ≡ true → peer_has_objects after ≡ true
+peer_still_has m after kept named has = rw (kept.kinds, named) has
+
+pub server_still_has : (m after : ServerValue ServerObject)
+    → KeepsServers m.vars.setup.methods (map server_object_shown m.methods) (map server_object_shown after.methods)
+    → after.vars.setup.methods ≡ m.vars.setup.methods → server_has_objects m ≡ true → server_has_objects after ≡ true
+server_still_has m after kept named has = rw (kept.kinds, named) has
