@@ -10,12 +10,20 @@
 #include "tuvaddri.h"
 #include "login.h"
 
-static void drop(struct tuv_end *end)
+struct peer {
+	struct tuv_end end;
+	/* Of a method that has succeeded; it has both keys, which are asked
+	 * for one by one. */
+	struct tuv_report report;
+	bool has_report;
+};
+
+static void drop(struct peer *p)
 {
-	tuv_end_close(end);
-	forced_memzero(end->at, tuv_end_size());
-	os_free(end->at);
-	os_free(end);
+	tuv_end_close(&p->end);
+	forced_memzero(p->end.at, tuv_end_size());
+	os_free(p->end.at);
+	bin_clear_free(p, sizeof(*p));
 }
 
 /* The settings of this network; false where it has no identity or no key. A
@@ -37,19 +45,19 @@ static bool settings_of(struct eap_sm *sm, int method, struct tuv_settings *told
 static void *init(struct eap_sm *sm, int method)
 {
 	struct tuv_settings told;
-	struct tuv_end *end = os_zalloc(sizeof(*end));
+	struct peer *p = os_zalloc(sizeof(*p));
 	u8 nonce[TUV_NONCE_LEN];
 
-	if (!end || !settings_of(sm, method, &told) ||
-	    random_get_bytes(nonce, sizeof(nonce)) || !tuv_end_new(&end->at)) {
-		os_free(end);
+	if (!p || !settings_of(sm, method, &told) ||
+	    random_get_bytes(nonce, sizeof(nonce)) || !tuv_end_new(&p->end.at)) {
+		os_free(p);
 		return NULL;
 	}
-	if (tuv_peer_method_begin(end, &told, nonce) != TUV_BEGUN) {
-		drop(end);
+	if (tuv_peer_method_begin(&p->end, &told, nonce) != TUV_BEGUN) {
+		drop(p);
 		return NULL;
 	}
-	return end;
+	return p;
 }
 
 static void *init_psk(struct eap_sm *sm)
@@ -71,57 +79,51 @@ static struct wpabuf *process(struct eap_sm *sm, void *priv,
 			      struct eap_method_ret *ret,
 			      const struct wpabuf *request)
 {
+	struct peer *p = priv;
 	struct tuv_method_turn turn;
-	struct wpabuf *response;
+	u8 packet[TUV_PACKET_MAX];
 
-	turn = tuv_peer_method_handle(priv, wpabuf_head(request),
+	turn = tuv_peer_method_handle(&p->end, wpabuf_head(request),
 				      wpabuf_len(request));
+	p->has_report = false;
 	ret->ignore = turn.discards || turn.misplaced;
 	if (ret->ignore)
 		return NULL;
 	ret->methodState = turn.state;
 	ret->decision = turn.decision;
 	ret->allowNotifications = false;
-	response = wpabuf_alloc(TUV_PACKET_MAX);
-	if (response)
-		wpabuf_put(response,
-			   tuv_end_packet(priv, wpabuf_mhead_u8(response),
-					  TUV_PACKET_MAX));
-	return response;
-}
-
-/* A copy of a key, which the caller gives back. */
-static u8 *key_of(struct tuv_end *end, bool emsk, size_t *len)
-{
-	struct tuv_report report;
-	u8 *key;
-
-	if (!tuv_end_report(end, &report))
-		return NULL;
-	*len = 64;
-	key = os_memdup(emsk ? report.emsk : report.msk, 64);
-	forced_memzero(&report, sizeof(report));
-	return key;
+	return wpabuf_alloc_copy(packet, tuv_end_packet(&p->end, packet,
+							sizeof(packet)));
 }
 
 static bool has_key(struct eap_sm *sm, void *priv)
 {
-	size_t len;
-	u8 *key = key_of(priv, false, &len);
-	bool has = key != NULL;
+	struct peer *p = priv;
 
-	bin_clear_free(key, 64);
-	return has;
+	if (!p->has_report)
+		p->has_report = tuv_end_report(&p->end, &p->report);
+	return p->has_report;
+}
+
+/* A copy of a key, which the caller gives back. */
+static u8 *copy_of(const u8 *key, size_t *len)
+{
+	*len = 64;
+	return os_memdup(key, *len);
 }
 
 static u8 *msk_of(struct eap_sm *sm, void *priv, size_t *len)
 {
-	return key_of(priv, false, len);
+	struct peer *p = priv;
+
+	return has_key(sm, p) ? copy_of(p->report.msk, len) : NULL;
 }
 
 static u8 *emsk_of(struct eap_sm *sm, void *priv, size_t *len)
 {
-	return key_of(priv, true, len);
+	struct peer *p = priv;
+
+	return has_key(sm, p) ? copy_of(p->report.emsk, len) : NULL;
 }
 
 bool register_our_peer(int method)

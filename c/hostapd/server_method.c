@@ -15,6 +15,10 @@ struct server {
 	bool has_asked;
 	int method;
 	u8 nonce[TUV_NONCE_LEN];
+	/* Of a method that has succeeded; it has both keys, which are asked
+	 * for one by one. */
+	struct tuv_report report;
+	bool has_report;
 };
 
 static void *init(int method)
@@ -75,17 +79,13 @@ static bool begin(struct eap_sm *sm, struct server *s, u8 id)
 static struct wpabuf *build_request(struct eap_sm *sm, void *priv, u8 id)
 {
 	struct server *s = priv;
-	struct wpabuf *request;
+	u8 packet[TUV_PACKET_MAX];
 
 	if (!s->has_asked && !begin(sm, s, id))
 		return NULL;
 	s->has_asked = true;
-	request = wpabuf_alloc(TUV_PACKET_MAX);
-	if (request)
-		wpabuf_put(request,
-			   tuv_end_packet(&s->end, wpabuf_mhead_u8(request),
-					  TUV_PACKET_MAX));
-	return request;
+	return wpabuf_alloc_copy(packet, tuv_end_packet(&s->end, packet,
+							sizeof(packet)));
 }
 
 /* m.check and m.process of RFC 4137 are one call of the library: true where the
@@ -97,6 +97,7 @@ static bool check(struct eap_sm *sm, void *priv, struct wpabuf *response)
 	s->turn = tuv_server_method_handle(&s->end, wpabuf_head(response),
 					   wpabuf_len(response),
 					   sm->currentId + 1);
+	s->has_report = false;
 	return s->turn.discards || s->turn.misplaced;
 }
 
@@ -117,28 +118,32 @@ static bool is_success(struct eap_sm *sm, void *priv)
 		s->turn.decision == TUV_DECISION_UNCOND_SUCC;
 }
 
-/* A copy of a key, which the caller gives back. */
-static u8 *key_of(struct server *s, bool emsk, size_t *len)
+static bool has_key(struct server *s)
 {
-	struct tuv_report report;
-	u8 *key;
+	if (!s->has_report)
+		s->has_report = tuv_end_report(&s->end, &s->report);
+	return s->has_report;
+}
 
-	if (!tuv_end_report(&s->end, &report))
-		return NULL;
+/* A copy of a key, which the caller gives back. */
+static u8 *copy_of(const u8 *key, size_t *len)
+{
 	*len = 64;
-	key = os_memdup(emsk ? report.emsk : report.msk, 64);
-	forced_memzero(&report, sizeof(report));
-	return key;
+	return os_memdup(key, *len);
 }
 
 static u8 *msk_of(struct eap_sm *sm, void *priv, size_t *len)
 {
-	return key_of(priv, false, len);
+	struct server *s = priv;
+
+	return has_key(s) ? copy_of(s->report.msk, len) : NULL;
 }
 
 static u8 *emsk_of(struct eap_sm *sm, void *priv, size_t *len)
 {
-	return key_of(priv, true, len);
+	struct server *s = priv;
+
+	return has_key(s) ? copy_of(s->report.emsk, len) : NULL;
 }
 
 bool register_our_server(int method)

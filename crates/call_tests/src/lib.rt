@@ -17,4 +17,6 @@ mod reflections;
 #[cfg(test)]
 mod runs;
 #[cfg(test)]
+mod soundness;
+#[cfg(test)]
 mod worlds;

@@ -4,6 +4,7 @@
 mod making;
 mod objects;
 mod settings;
+mod soundness;
 
 pub use making::{peer_object, peer_objects, server_object, server_objects};
 pub use objects::{PeerObject, ServerObject};
@@ -11,3 +12,4 @@ pub use settings::{
     Refusal, Settings, accepts, one_user, peer_refusal, peer_setup, retry_refusal, server_refusal,
     server_setup, stand_alone_refusal, suites,
 };
+pub use soundness::{is_sound_peer, is_sound_server};

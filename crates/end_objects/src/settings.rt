@@ -49,7 +49,7 @@ fn own_refusal(settings: &Settings) -> Option<Refusal>
     ensures kind { result ≡ None → is_kind settings.now.kind ≡ true }
     ensures name { result ≡ None → length settings.now.name.now ≤ 253 }
 {
-    if settings.kind != PSK_KIND && settings.kind != GPSK_KIND {
+    if !is_kind(settings.kind) {
         Some(Refusal::NoMethod)
     } else if settings.suites < 1 || settings.suites > 3 {
         Some(Refusal::NoSuite)
@@ -60,8 +60,15 @@ fn own_refusal(settings: &Settings) -> Option<Refusal>
     }
 }
 
+/// Whether this is the Type of one of the two methods.
+pub(crate) fn is_kind(kind: u8) -> bool
+    ensures { result ≡ is_kind kind }
+{
+    kind == PSK_KIND || kind == GPSK_KIND
+}
+
 /// Whether the key has the size that the method of this Type takes; false for any other Type.
-fn fits(kind: u8, psk: &[u8]) -> bool
+pub(crate) fn fits(kind: u8, psk: &[u8]) -> bool
     ensures { result ≡ fits_kind kind psk.now }
 {
     if kind == PSK_KIND {

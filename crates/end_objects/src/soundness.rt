@@ -1,0 +1,92 @@
+//! The tests of settings that a caller made by hand, before a machine or a world is made with them.
+
+ghost use Rattle.std.specs.Prelude.{◌≡◌, ◌↔◌, IsTrue};
+ghost use Rattle.std.specs.List.{list_all};
+ghost use Rattle.eap_base.specs.Setup.{is_kind, are_distinct, are_kinds, are_suites};
+ghost use Rattle.eap_base.specs.Setup.{IsSoundPeer, HasKeys, IsSoundServer};
+ghost use Rattle.end_objects.specs.Soundness.{is_suite, serves, is_sound_user};
+
+use crate::settings::{fits, is_kind};
+use eap_base::{GPSK_KIND, PSK_KIND, PeerSetup, Secret, ServerSetup, User, is_among};
+
+/// Whether a peer's machine and world take these settings, as `PeerMachine::new` and `World::new` ask. Its methods are
+/// of 47 (EAP-PSK) and 51 (EAP-GPSK), each at most once; its suites of 1 and 2, at least one and each at most once;
+/// a key for 47 has 16 octets, one for 51 has 32 to 64, also where the method isn't allowed; and it has a key for each
+/// method that it allows.
+pub fn is_sound_peer(setup: &PeerSetup) -> bool
+    ensures { IsTrue result ↔ (IsSoundPeer setup.now × HasKeys setup.now) }
+{
+    let allowed = setup.methods.as_slice();
+    are_kinds(allowed)
+        && are_suites(setup.suites.as_slice())
+        && serves(allowed, PSK_KIND, &setup.psk47)
+        && serves(allowed, GPSK_KIND, &setup.psk51)
+}
+
+/// Whether a server's machine and world take these settings, as `ServerMachine::new`, `ServerMachine::in_role`,
+/// `Backend::new` and `World::new` ask. Its methods are of 47 (EAP-PSK) and 51 (EAP-GPSK), each at most once; its
+/// suites of 1 and 2, at least one and each at most once; and each user is of one of these two methods, which the
+/// server needn't propose, and has a key of 16 octets for 47, or of 32 to 64 for 51.
+#[tactic(auto, using(crate::proofs::Sound::have_keys, crate::proofs::Sound::have_kinds, crate::proofs::Sound::passes))]
+pub fn is_sound_server(setup: &ServerSetup) -> bool
+    ensures { IsTrue result ↔ IsSoundServer setup.now }
+{
+    are_kinds(setup.methods.as_slice())
+        && are_suites(setup.suites.as_slice())
+        && are_sound(setup.users.as_slice())
+}
+
+/// Whether these are Types of the two methods, each at most once.
+fn are_kinds(kinds: &[u8]) -> bool
+    ensures { result ≡ are_kinds kinds.now }
+{
+    all_kinds(kinds) && are_distinct(kinds)
+}
+
+fn all_kinds(kinds: &[u8]) -> bool
+    ensures { result ≡ list_all is_kind kinds.now }
+{
+    kinds.iter().all(|kind| is_kind(*kind))
+}
+
+/// Whether these are suites, at least one, and each at most once.
+fn are_suites(suites: &[u8]) -> bool
+    ensures { result ≡ are_suites suites.now }
+{
+    !suites.is_empty() && all_suites(suites) && are_distinct(suites)
+}
+
+fn all_suites(suites: &[u8]) -> bool
+    ensures { result ≡ list_all is_suite suites.now }
+{
+    suites.iter().all(|suite| *suite == 1 || *suite == 2)
+}
+
+/// Whether no number stands twice.
+fn are_distinct(numbers: &[u8]) -> bool
+    ensures { result ≡ are_distinct numbers.now }
+{
+    match numbers {
+        [] => true,
+        [number, rest @ ..] => !is_among(rest, *number) && are_distinct(rest),
+    }
+}
+
+/// Whether the key fits the method or, where there is none, the method isn't allowed.
+fn serves(allowed: &[u8], kind: u8, key: &Option<Secret>) -> bool
+    ensures { result ≡ serves allowed.now kind key.now }
+{
+    match key {
+        None => !is_among(allowed, kind),
+        Some(octets) => fits(kind, octets.as_slice()),
+    }
+}
+
+/// Whether each user is of one of the two methods and has a key that fits it.
+fn are_sound(users: &[User]) -> bool
+    ensures { result ≡ list_all is_sound_user users.now }
+{
+    users
+        .iter()
+        .all(|user| fits(user.kind, user.psk.as_slice()))
+}
