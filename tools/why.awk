@@ -6,7 +6,8 @@ FNR == 1 { file++ }
 file == 1 && /^##/ { section = $0 }
 file == 1 && /^\| / {
     split($0, cell, / *\| */)
-    if (section ~ /Faults/) meaning[cell[2]] = cell[3]
+    if (section ~ /Faults/ && command != "pcap") meaning[cell[2]] = cell[3]
+    if (section ~ /`pcap/ && command == "pcap" && split(cell[2], word, /[ `]+/) == 6) meaning[word[5]] = cell[4]
     if (command == "replay" && section ~ /Settings|Events/ || is_end && section ~ /Settings/ || command ~ /keys|check|radius|peer|server/ && section ~ "`" command "`") {
         count = split(cell[2], form, "`")
         for (at = 2; at <= count; at += 2) {
@@ -40,10 +41,20 @@ BEGIN {
     number = word[3] + 0
     fault = word[4]
     is_end = command ~ /peer|server/
-    meaning["TooMuch"] = "a line has over 4,096 octets, the input over 16,777,216, or there are over 10,000 " (is_end ? "lines of what comes to the end" : "events")
+    if (command != "pcap") meaning["TooMuch"] = "a line has over 4,096 octets, the input over 16,777,216, or there are over 10,000 " (is_end ? "lines of what comes to the end" : "events")
     header = command == "check" ? "eap-capture 1" : command == "radius" ? "eap-radius 1" : is_end ? "eap-end 1" : "eap-scenario 1 or eap-scenario 2"
+    for (at = 0; at < 256; at++) code_of[sprintf("%c", at)] = at
     # the line that parts a text in two
     opens = command == "check" ? "packets" : command == "radius" ? "secret" : "events"
+}
+
+# A line as it is shown: octets that aren't plain as \xHH, and no more than its front where it is long.
+function shown(text,    at, letter, told) {
+    for (at = 1; at <= length(text) && at <= 400; at++) {
+        letter = substr(text, at, 1)
+        told = told (letter ~ /[ -~]/ ? letter : sprintf("\\x%02x", code_of[letter]))
+    }
+    return told (length(text) > 400 ? " .. (" length(text) " octets)" : "")
 }
 
 # Whether a line of this keyword, of the tables of both ends, stands in the text of the one.
@@ -64,7 +75,8 @@ function missing(    at, list, count, told) {
 }
 
 END {
-    print "line " number ": " (number in line ? line[number] : "(after the last line)")
+    if (command == "pcap") print number == 0 ? "the header of the file" : "record " number
+    else print "line " number ": " (number in line ? shown(line[number]) : "(after the last line)")
     print fault ": " meaning[fault]
     split(line[number], word, " ")
     if (line[1] == "eap-scenario 2") for (keyword in later) allowed[keyword] = later[keyword]
