@@ -1,6 +1,6 @@
 //! The settings of an end, as a program gives them: octets and numbers.
 
-ghost use Rattle.std.specs.Prelude.{◌≡◌, ◌≤◌, length, true, None, All, IsTrue};
+ghost use Rattle.std.specs.Prelude.{◌≡◌, ◌≤◌, [], length, true, None, All, IsTrue};
 ghost use Rattle.eap_base.specs.Setup.{fits_kind, is_kind, IsSoundPeer, HasKeys, IsSoundServer};
 ghost use Rattle.end_objects.specs.Settings.{settings_of, suites_of, accepted, peer_setup_of, users_of, server_setup_of};
 ghost use Rattle.end_objects.specs.Refusals.{own_refusal, peer_refusal, server_refusal, retry_refusal, stand_alone_refusal};
@@ -214,13 +214,24 @@ pub fn one_user(settings: &Settings) -> Users
     ensures keys { All (λ user. IsTrue (fits_kind user.kind user.psk)) result }
 {
     let mut users = Users::new();
+    add_user(&mut users, settings);
+    users
+}
+
+/// Adds the one user of a server, where there is none.
+fn add_user(users: &mut Users, settings: &Settings)
+    requires none { users.old ≡ [] }
+    requires other { length settings.now.other.now ≤ 253 }
+    requires key { IsTrue (fits_kind settings.now.kind settings.now.psk.now) }
+    ensures made { users.new ≡ users_of (settings_of settings.now) }
+    ensures keys { All (λ user. IsTrue (fits_kind user.kind user.psk)) users.new }
+{
     users.add(User {
         name: Identity::of(settings.other),
         kind: settings.kind,
         psk: Secret::of(settings.psk),
         barred: false,
     });
-    users
 }
 
 /// The settings of a server with one method and one user.
@@ -231,12 +242,14 @@ pub fn server_setup(settings: &Settings, nonce: &Nonce) -> ServerSetup
     ensures made { result ≡ server_setup_of (settings_of settings.now) nonce.now }
     ensures sound { IsSoundServer result }
 {
-    ServerSetup {
+    let mut setup = ServerSetup {
         name: Identity::of(settings.name),
         methods: Kinds::of(&[settings.kind]),
         suites: suites(settings.suites),
-        users: one_user(settings),
+        users: Users::new(),
         nonce: *nonce,
         expanded: false,
-    }
+    };
+    add_user(&mut setup.users, settings);
+    setup
 }
