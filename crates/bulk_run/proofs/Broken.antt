@@ -1,7 +1,7 @@
 -- Where both ends of a conversation succeed and don't agree, an end has accepted a tag that the other hadn't made.
 use Rattle.std.proofs.Common.{◌≡◌, ◌≤◌, ℕ, zero, suc, ◌+◌, ◌*◌, List, length, refl, arith, rules, inl}
 use Rattle.std.proofs.lemmas.List.Elements.{All-nil}
-use Rattle.eap_world.specs.Agreement.{IsWhole, AgreesWhereHonest}
+use Rattle.world_laws.specs.Agreement.{IsWhole, AgreesWhereHonest}
 use Rattle.eap_world.specs.Book.{tags_verdict}
 use Rattle.eap_world.specs.Judgement.{verdict_of}
 use Rattle.eap_world.specs.World.{WorldNow, one_if}
@@ -9,8 +9,8 @@ use Rattle.eap_world.specs.declared.book.TagsVerdict.{TagsVerdict}
 use Rattle.eap_world.specs.declared.book.TagsVerdict.TheVariants as tags
 use Rattle.eap_world.specs.declared.verdict.Verdict.{Verdict}
 use Rattle.eap_world.specs.declared.verdict.Verdict.TheVariants as verdict
-use Rattle.eap_world.proofs.BeginsOnce.{begins_once}
-use Rattle.eap_world.proofs.HonestRuns.{honest_ends_agree}
+use Rattle.world_laws.proofs.BeginsOnce.{begins_once}
+use Rattle.world_laws.proofs.HonestRuns.{honest_ends_agree}
 use Rattle.bulk_run.specs.Conversation.{setup_at, setup_with}
 use Rattle.bulk_run.specs.Summing.{BrokenWhereApart, CountsWell, counts_of, drawn_each, ended_at, events_of}
 use Rattle.bulk_run.specs.Summing.{is_agree, is_unfinished, is_apart, is_broken, plus, summary_of}

@@ -10,7 +10,7 @@ use Rattle.eap_base.specs.declared.setup.ServerSetup.{ServerSetup}
 use Rattle.eap_base.specs.declared.setup.Setup.{Setup}
 use Rattle.eap_base.specs.declared.users.User.{User}
 use Rattle.eap_base.specs.Setup.{gpsk_kind, no_later}
-use Rattle.eap_world.specs.Agreement.{run_of}
+use Rattle.eap_world.specs.Run.{run_of}
 use Rattle.eap_world.specs.Sent.{Sent, packet_numbered}
 use Rattle.eap_world.specs.World.{octets_of}
 use Rattle.bulk_run.specs.Draws.{octet_at, octets_after}

@@ -5,7 +5,7 @@ ghost use Rattle.eap_base.specs.Setup.{gpsk_kind};
 ghost use Rattle.eap_base.specs.declared.setup.Setup.{Setup};
 ghost use Rattle.eap_method.specs.Peer.{peer_kinds, have_each};
 ghost use Rattle.eap_method.specs.Server.{server_kinds};
-ghost use Rattle.eap_world.specs.Agreement.{run_of, BeginsRun};
+ghost use Rattle.eap_world.specs.Run.{run_of, BeginsRun};
 ghost use Rattle.eap_world.specs.World.{HasObjects, now_of, world_made};
 ghost use Rattle.bulk_run.specs.Kinds.{KeepsKinds, HaveSameKinds};
 ghost use Rattle.bulk_run.specs.Conversation.{alice, known_with, deliveries, chances};

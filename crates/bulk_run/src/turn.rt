@@ -3,7 +3,7 @@
 ghost use Rattle.std.specs.Prelude.{◌≡◌, ◌<◌, ◌≤◌, ◌+◌, ◌%◌, ◌∷◌, ◌++◌, ℕ, List, [], length, true, false, IfOk};
 ghost use Rattle.eap_base.specs.declared.event.Event.{Event};
 ghost use Rattle.eap_base.specs.declared.setup.Setup.{Setup};
-ghost use Rattle.eap_world.specs.Agreement.{run_of, BeginsRun, GoesOn};
+ghost use Rattle.eap_world.specs.Run.{run_of, BeginsRun, GoesOn};
 ghost use Rattle.eap_world.specs.World.{HasObjects, now_of, octets_of};
 ghost use Rattle.bulk_run.specs.Kinds.{KeepsKinds};
 ghost use Rattle.eap_world.specs.Sent.{packet_numbered};

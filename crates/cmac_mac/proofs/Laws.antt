@@ -1,14 +1,9 @@
 -- What holds of every tag: it is a block, and its octets are octets where the key's are.
 use Rattle.std.proofs.Common.{◌≡◌, ℕ, ◌<◌, List, length, All}
-use Rattle.aes_block.proofs.Laws.{length-aes128, All-aes128}
+use Rattle.aes_block.proofs.Laws.{length-aes128}
 use Rattle.cmac_mac.specs.Cmac.{aes_cmac}
 
 -- a tag has sixteen octets
 pub length_aes_cmac : (key text : List ℕ) → length (aes_cmac key text) ≡ 16
 unfolding aes_cmac
 length_aes_cmac key text = length-aes128 key _
-
--- a tag is of octets where the key is
-pub All_aes_cmac : (key text : List ℕ) → All (λ n. n < 256) key → All (λ n. n < 256) (aes_cmac key text)
-unfolding aes_cmac
-All_aes_cmac key text h = All-aes128 key _ h

@@ -9,17 +9,6 @@ use Rattle.command_driver.specs.declared.status.Status.{Status}
 use Rattle.command_driver.specs.declared.status.Status.TheVariants as status
 use Rattle.command_driver.proofs.Endings.{keeps_writes_from, ends_after, ends_same}
 
--- what only writes an answer never lacks memory
-pub finishes_says : {W : Type 0} {written : W → Option (List ℕ)} {write_faults : W → ℕ} {last : Option ℕ} {result : Status} {old new : W} {a : Answer}
-    → Finishes written write_faults last result old new a → Says written write_faults last a never result old new
-finishes_says f = record {
-  ends = f.ends;
-  no_read_fault = λ w. subst IsWritten w f.written_only;
-  write_fault = f.counted;
-  writes = f.uncounted;
-  memory = λ w _. subst IsWritten w f.written_only;
-}
-
 module _ {S W : Type 0} {left : S → Option (List ℕ)} {read_faults : S → ℕ} {last_read_fault : Option ℕ}
     {written : W → Option (List ℕ)} {write_faults : W → ℕ} {last_write_fault : Option ℕ} where
   -- by an answer to what was left

@@ -64,29 +64,6 @@ begins_with_fields octets small b = record {
   joined = sym (take-append-drop (length_of octets) octets) ∙ ap (λ front. front ++ drop (length_of octets) octets) (spelled_front octets small b);
 }
 
-pub is_packet_if_read : (octets : List ℕ) (packet : PacketValue) → IsOctets octets → packet_of octets ≡ Ok packet → IsPacket packet
-is_packet_if_read octets packet small e =
-    subst IsPacket (fields_if_read octets packet e) (fields_are_packet (code_of octets) octets small (begins_if_read octets packet e))
-
--- the first Length octets are the spelling of the packet that is read
-pub front_if_read : (octets : List ℕ) (packet : PacketValue) → IsOctets octets → packet_of octets ≡ Ok packet →
-    take (length_of octets) octets ≡ spelled packet
-front_if_read octets packet small e =
-    spelled_front octets small (begins_if_read octets packet e) ∙ ap spelled (fields_if_read octets packet e)
-
-unless_err : (found : Option Cause) (octets : List ℕ) (cause : Cause) → packet_unless found octets ≡ Err cause → found ≡ Some cause
-unless_err None octets cause e = cc
-unless_err (Some other) octets cause e = cc
-
--- a cause is read exactly where it is the fault
-pub fault_if_refused : (octets : List ℕ) (cause : Cause) → packet_of octets ≡ Err cause → fault octets ≡ Some cause
-unfolding packet_of
-fault_if_refused octets cause e = unless_err (fault octets) octets cause e
-
-pub refused_if_fault : (octets : List ℕ) (cause : Cause) → fault octets ≡ Some cause → packet_of octets ≡ Err cause
-unfolding packet_of
-refused_if_fault octets cause e = ap (λ found. packet_unless found octets) e
-
 pub spellings_are_read : SpellingsAreRead
 spellings_are_read = packet_of_spelled
 

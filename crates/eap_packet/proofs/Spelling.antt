@@ -95,27 +95,3 @@ fields_spelled (failure id) rest = refl
 pub packet_of_spelled : (packet : PacketValue) (rest : List ℕ) → IsPacket packet → packet_of (spelled packet ++ rest) ≡ Ok packet
 packet_of_spelled packet rest p =
     read_if_begins (spelled packet ++ rest) (begins_spelled packet rest p) ∙ ap Ok (fields_spelled packet rest)
-
-pub packet_of_spelled_alone : (packet : PacketValue) → IsPacket packet → packet_of (spelled packet) ≡ Ok packet
-packet_of_spelled_alone packet p =
-    ap packet_of (sym (append-nil (spelled packet))) ∙ packet_of_spelled packet [] p
-
--- the octets of a packet, each in its range
-framed_octets : (code id : ℕ) (fields : List ℕ) → code < 256 → id < 256 → IsOctets fields → length fields ≤ 1496 → IsOctets (framed code id fields)
-framed_octets code id fields low fits small size =
-    let n = length fields + 4 in
-    All-append (λ b. b < 256) (code ∷ id ∷ n / 256 ∷ n % 256 ∷ []) fields
-    (All-from_recursion (λ b. b < 256) (code ∷ id ∷ n / 256 ∷ n % 256 ∷ []) (low, (fits, (omega arith, (omega arith, tt)))))
-    small
-
-typed_octets : (code id kind : ℕ) (body : List ℕ) → code < 256 → AreTypedFields id kind body → IsOctets (framed code id (kind ∷ body))
-typed_octets code id kind body low p =
-    let size = p.size in
-    framed_octets code id (kind ∷ body) low p.id_fits (All-cons (λ b. b < 256) kind body p.kind_fits p.octets) (omega arith)
-
-pub spelled_octets : (packet : PacketValue) → IsPacket packet → IsOctets (spelled packet)
-unfolding spelled
-spelled_octets (request id kind body) p = typed_octets 1 id kind body (omega arith) p.0
-spelled_octets (response id kind body) p = typed_octets 2 id kind body (omega arith) p.0
-spelled_octets (success id) p = framed_octets 3 id [] (omega arith) p (All-nil (λ b. b < 256)) (omega arith)
-spelled_octets (failure id) p = framed_octets 4 id [] (omega arith) p (All-nil (λ b. b < 256)) (omega arith)

@@ -1,13 +1,10 @@
 -- The run goes on event by event.
-use Rattle.std.proofs.Common.{◌≡◌, List, [], ◌∷◌, ◌++◌, Result, Ok, Err, IfOk, MatchResult, refl, sym, ap, subst, ◌∙◌}
+use Rattle.std.proofs.Common.{◌≡◌, List, [], ◌∷◌, ◌++◌, Result, Ok, Err, IfOk, MatchResult, refl, sym, ap, ◌∙◌}
 use Rattle.eap_base.specs.declared.event.Event.{Event}
 use Rattle.eap_base.specs.declared.setup.Setup.{Setup}
-use Rattle.eap_world.specs.Agreement.{HasFewTags, run_of}
+use Rattle.eap_world.specs.Run.{run_of}
 use Rattle.eap_world.specs.World.{WorldNow, WorldOutcome, world_outcome, world_made, world_start, world_step, run_after}
 use Rattle.eap_world.specs.declared.told.Told.{Told}
-use Rattle.eap_world.specs.SingleSteps.{IsLawful}
-use Rattle.eap_world.proofs.Few.{few_tags}
-use Rattle.eap_world.proofs.SingleSteps.{steps_are_lawful}
 
 one_more : (w : WorldNow) (events : List Event) (e : Event) → (world_step (run_after w events) e).after ≡ run_after w (events ++ (e ∷ []))
 unfolding run_after
@@ -33,22 +30,3 @@ module _ {E : Type 0} (before after : WorldNow) (same : Type 0) where
   run_goes_on e (Ok told) h = λ setup events is.
       sym (ap (λ (out : WorldOutcome). out.after) h)
       ∙ (ap (λ (w : WorldNow). (world_step w e).after) is ∙ one_more (world_start (world_made setup)).after events e)
-
-  -- the book of a world of a run is small, so it is after the start or an event
-  pub begins_small : (result : Result Told E) → IfOk result (λ told. (setup : Setup) → before ≡ world_made setup → after ≡ run_of setup [])
-      → IfOk result (λ told. (setup : Setup) → before ≡ world_made setup → HasFewTags after.conversations.begun after.book)
-  begins_small (Err error) h = tt
-  begins_small (Ok told) h = λ setup made. subst (λ (w : WorldNow). HasFewTags w.conversations.begun w.book) (sym (h setup made)) (few_tags setup [])
-
-  pub stays_small : (e : Event) (result : Result Told E)
-      → IfOk result (λ told. (setup : Setup) (events : List Event) → before ≡ run_of setup events → after ≡ run_of setup (events ++ (e ∷ [])))
-      → IfOk result (λ told. (setup : Setup) (events : List Event) → before ≡ run_of setup events → HasFewTags after.conversations.begun after.book)
-  stays_small e (Err error) h = tt
-  stays_small e (Ok told) h = λ setup events is. subst (λ (w : WorldNow). HasFewTags w.conversations.begun w.book) (sym (h setup events is)) (few_tags setup (events ++ (e ∷ [])))
-
-  -- the step of a world of a run is lawful
-  pub goes_lawfully : (e : Event) (result : Result Told E) → MatchResult result (λ told. world_step before e ≡ world_outcome told after) (λ error. same)
-      → IfOk result (λ told. (setup : Setup) (events : List Event) → before ≡ run_of setup events → IsLawful before e (world_outcome told after))
-  goes_lawfully e (Err error) h = tt
-  goes_lawfully e (Ok told) h = λ setup events is.
-      subst (IsLawful before e) h (subst (λ (w : WorldNow). IsLawful w e (world_step w e)) (sym is) (steps_are_lawful setup events e))

@@ -6,7 +6,6 @@
 mod act;
 mod book;
 mod conversations;
-mod laws;
 mod nonces_left;
 mod store;
 mod told;
@@ -16,11 +15,6 @@ mod world;
 pub use act::{Action, Did, Machines};
 pub use book::{End, Entry, Makers, TagsVerdict, Use};
 pub use conversations::{Begun, Conversations, Waiting};
-pub use laws::{
-    begins_once, discards_keep, ends_stand, few_packets, few_tags, fresh_is_told,
-    honest_ends_agree, honest_names_are_theirs, honest_of_either, one_end_tells,
-    reflected_ends_agree, runs_tell_reports, skips_keep, steps_are_lawful,
-};
 pub use store::{Slot, Store, Stored};
 pub use told::{Counts, Named, SentPacket, Skip, Told};
 pub use verdict::Verdict;

@@ -99,14 +99,9 @@ impl<P, S> Model for World<P, S> {
 impl<P: PeerMethod, S: ServerMethod> World<P, S> {
     ghost use Rattle.eap_method.specs.Peer.{peer_kinds, have_each};
     ghost use Rattle.eap_method.specs.Server.{server_kinds};
-    ghost use Rattle.eap_world.specs.Agreement.{AreApart, AreTheirs, BeginsRun, BeginsSmall, GoesOn, HoldEachOther, IsOfRun, IsWhole, StaysSmall, run_of};
+    ghost use Rattle.eap_world.specs.Run.{BeginsRun, GoesOn};
     ghost use Rattle.eap_world.specs.Book.{tags_verdict, tags_verdict_either};
-    ghost use Rattle.eap_world.specs.declared.book.TagsVerdict.TheVariants.{Honest};
-    ghost use Rattle.eap_world.specs.declared.verdict.Verdict.TheVariants.{Agree, Apart};
-    ghost use Rattle.eap_world.specs.EachConversation.{peer_conversations, server_conversations};
     ghost use Rattle.eap_world.specs.Judgement.{verdict_of};
-    ghost use Rattle.eap_world.specs.Matching.{Match};
-    ghost use Rattle.eap_world.specs.SingleSteps.{StepsLawfully};
     ghost use Rattle.eap_world.specs.World.{HasObjects, KeepObjects, KeepsObjects, NamesAlike, Tells, world_made, world_start, world_step, now_of};
     ghost use Rattle.eap_world.specs.World.{octets_numbered, octets_of_sent, pass_state, state_of};
 
@@ -164,8 +159,8 @@ impl<P: PeerMethod, S: ServerMethod> World<P, S> {
     /// Request. `Memory` comes only for
     /// want of memory for what it sends; the world then is as it was. The world has not started, and each method of an end's
     /// settings has an object, as [`World::new`] leaves it and each call keeps it. A world
-    /// that has just been made then is that of the run without events, with few tags in its book: of each end at most two that it
-    /// accepted and two that it made.
+    /// that has just been made then is that of the run without events. The crate `world_laws` says how few tags the book of a run
+    /// holds (`few_tags`).
     #[tactic(auto, using(crate::proofs::StillThere::still_there))]
     pub fn start(&mut self) -> Result<Told, Memory>
         requires unstarted { self.old.started ≡ false }
@@ -174,7 +169,6 @@ impl<P: PeerMethod, S: ServerMethod> World<P, S> {
             (λ told. Tells P.peer_shown S.server_shown (world_start (now_of P.peer_shown S.server_shown self.old)) told self.new)
             (λ _. self.new ≡ self.old) }
         ensures run { IfOk result (λ told. BeginsRun P.peer_shown S.server_shown self.old self.new) }
-        ensures few { IfOk result (λ told. BeginsSmall P.peer_shown S.server_shown self.old self.new) }
         ensures kept { KeepsObjects P.peer_shown S.server_shown self.old self.new }
         ensures names { NamesAlike self.old self.new }
         ensures objects { HasObjects P.peer_shown S.server_shown self.new }
@@ -188,8 +182,8 @@ impl<P: PeerMethod, S: ServerMethod> World<P, S> {
     /// `Memory` comes only for want of memory for one more packet and its tags; the world then is as it
     /// was, and the event isn't counted. The world has started, has had fewer events than [`MAX_EVENTS`], and each method of an
     /// end's settings has an object ([`World::has_objects`]). A world that was that of the run over some events then is that
-    /// of the run over these and this one, with at most four tags in its book for each conversation that has begun, and the step is
-    /// lawful as [`steps_are_lawful`](crate::steps_are_lawful) says. So many events have sent at most one packet more.
+    /// of the run over these and this one, whose book holds at most four tags for each conversation that has begun (`few_tags` of
+    /// the crate `world_laws`), each of whose steps is lawful (`steps_are_lawful`). So many events have sent at most one packet more.
     #[tactic(auto, using(crate::proofs::StillThere::still_there))]
     pub fn step(&mut self, event: &Event) -> Result<Told, Memory>
         requires started { self.old.started ≡ true }
@@ -199,8 +193,6 @@ impl<P: PeerMethod, S: ServerMethod> World<P, S> {
             (λ told. Tells P.peer_shown S.server_shown (world_step (now_of P.peer_shown S.server_shown self.old) event.now) told self.new)
             (λ _. self.new ≡ self.old) }
         ensures run { IfOk result (λ told. GoesOn P.peer_shown S.server_shown event.now self.old self.new) }
-        ensures few { IfOk result (λ told. StaysSmall P.peer_shown S.server_shown self.old self.new) }
-        ensures lawful { IfOk result (λ told. StepsLawfully P.peer_shown S.server_shown event.now self.old told self.new) }
         ensures packets { length self.new.sent ≤ self.new.counts.events + 1 }
         ensures kept { KeepsObjects P.peer_shown S.server_shown self.old self.new }
         ensures names { NamesAlike self.old self.new }
@@ -405,39 +397,17 @@ impl<P: PeerMethod, S: ServerMethod> World<P, S> {
         judge_tags(self.book.as_slice(), Makers::Either)
     }
 
-    /// Whether both ends agree in their present conversations. In every run of a setup whose ends are sound, with a key of the
-    /// peer for each of its methods and nonces of 32 octets, it is never Apart where [`World::tags`] is Honest and no end has begun
-    /// a second conversation or [`World::fresh`] is true. Where no end has begun a second one, it is never Apart where
-    /// [`World::tags_either`] is Honest. Where both ends agree under these premises, what they report is their own: the names of
-    /// their setups, a user of the server with the peer's key, by EAP-GPSK the first suite of the server's that the peer allows.
-    /// And where they agree, the tags are Honest and nonces fresh, each holds the nonce of the other's present conversation.
-    /// Whatever it is, the conversations of the run, past and present, match as [`crate::laws::conversations_match`]
-    /// says.
+    /// Whether both ends agree in their present conversations. The crate `world_laws` says what this is in every run of a setup
+    /// whose ends are sound, with a key of the peer for each of its methods and nonces of 32 octets: never Apart where
+    /// [`World::tags`] is Honest and no end has begun a second conversation or [`World::fresh`] is true, nor, where no end has
+    /// begun a second one, where [`World::tags_either`] is Honest (`honest_ends_agree`, which says too that each then holds the
+    /// nonce of the other's present conversation where tags are Honest and nonces fresh). Where both ends agree under these
+    /// premises, what they report is their own: the names of their setups, a user of the server with the peer's key, by EAP-GPSK
+    /// the first suite of the server's that the peer allows (`honest_names_are_theirs`). Whatever it is, the conversations of the
+    /// run, past and present, match as `conversations_match` says.
+    #[tactic(auto, unfolding(crate::specs::Judgement::verdict_of))]
     pub fn result(&self) -> Verdict
         ensures value { result ≡ verdict_of (now_of P.peer_shown S.server_shown self.now) }
-        ensures never_apart { IsOfRun (now_of P.peer_shown S.server_shown self.now)
-            → tags_verdict self.now.book ≡ Honest → AreApart self.now.conversations → result ≡ Apart → ⊥ }
-        ensures reflected_never_apart { IsOfRun (now_of P.peer_shown S.server_shown self.now)
-            → tags_verdict_either self.now.book ≡ Honest → length self.now.conversations.begun ≡ 2 → result ≡ Apart → ⊥ }
-        ensures theirs { (setup : Setup) (events : List Event) → IsWhole setup → now_of P.peer_shown S.server_shown self.now ≡ run_of setup events
-            → tags_verdict self.now.book ≡ Honest → AreApart self.now.conversations → result ≡ Agree
-            → AreTheirs setup (now_of P.peer_shown S.server_shown self.now) }
-        ensures reflected_theirs { (setup : Setup) (events : List Event) → IsWhole setup → now_of P.peer_shown S.server_shown self.now ≡ run_of setup events
-            → tags_verdict_either self.now.book ≡ Honest → length self.now.conversations.begun ≡ 2 → result ≡ Agree
-            → AreTheirs setup (now_of P.peer_shown S.server_shown self.now) }
-        ensures hold { IsOfRun (now_of P.peer_shown S.server_shown self.now)
-            → tags_verdict self.now.book ≡ Honest → self.now.conversations.fresh ≡ true → result ≡ Agree
-            → HoldEachOther (now_of P.peer_shown S.server_shown self.now) }
-        ensures matching { (setup : Setup) (events : List Event) → IsWhole setup → now_of P.peer_shown S.server_shown self.now ≡ run_of setup events
-            → Match (now_of P.peer_shown S.server_shown self.now) (peer_conversations setup events) (server_conversations setup events) }
-    {
-        self.verdict_by_table()
-    }
-
-    /// Whether both ends agree.
-    #[tactic(auto, unfolding(crate::specs::Judgement::verdict_of))]
-    fn verdict_by_table(&self) -> Verdict
-        ensures { result ≡ verdict_of (now_of P.peer_shown S.server_shown self.now) }
     {
         if self.machines.peer.state() == State::Success
             && self.machines.server.state() == State::Success

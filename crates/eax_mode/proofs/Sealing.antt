@@ -14,20 +14,6 @@ pub eax_ciphertext_eax_plaintext : (key nonce text : List ℕ) → eax_ciphertex
 unfolding eax_plaintext eax_ciphertext
 eax_ciphertext_eax_plaintext key nonce text = counter_mode_twice key (first_counter key nonce) text
 
--- the tag over a ciphertext is accepted
-pub eax_accepts_eax_tag : (key nonce header ciphertext : List ℕ)
-    → eax_accepts key nonce header ciphertext (eax_tag key nonce header ciphertext) ≡ true
-unfolding eax_accepts
-eax_accepts_eax_tag key nonce header ciphertext =
-    (bytes_eq-Decides (eax_tag key nonce header ciphertext) (eax_tag key nonce header ciphertext)).1 refl
-
--- and no other is
-pub eax_tag_from_accepts : (key nonce header ciphertext tag : List ℕ) → eax_accepts key nonce header ciphertext tag ≡ true
-    → eax_tag key nonce header ciphertext ≡ tag
-unfolding eax_accepts
-eax_tag_from_accepts key nonce header ciphertext tag accepted =
-    (bytes_eq-Decides (eax_tag key nonce header ciphertext) tag).0 accepted
-
 -- the plaintext of a ciphertext whose tag is right is the only text that is sealed so
 pub only_text : (key nonce header ciphertext tag text : List ℕ) → tag ≡ eax_tag key nonce header ciphertext
     → text ≡ eax_plaintext key nonce ciphertext → IsOnlyTextOf key nonce header ciphertext tag text

@@ -6,11 +6,5 @@ pub mod EndSteps
 pub mod EndValid
 -- One more input at the end of others: what is told of it comes last, and the end is where it leaves it.
 mod Folding
--- The world over an interleaving is each end over its own inputs.
-mod Interleaved
--- Two ends that run alone agree where the tags of their interleaving are honest.
-mod JoinedAgreement
--- Over an interleaving no end of the world begins a second conversation.
-mod OneConversation
 -- A stand-alone server that has started stays one, whatever comes to it.
 mod Serving

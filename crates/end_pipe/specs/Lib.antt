@@ -4,4 +4,3 @@ pub mod EndReading
 pub mod EndRun
 pub mod EndTable
 pub mod Inputs
-pub mod Joined

@@ -1,27 +1,10 @@
-//! Laws of an end's text and of ends that run alone. Each is the contract of a function that does nothing.
+//! A law of an end's text. It is the contract of a function that does nothing.
 
 ghost use Rattle.end_pipe.specs.EndLaws.{EndLinesAreJudged};
-ghost use Rattle.end_pipe.specs.Joined.{InterleavingsAreRuns, JoinedEndsAgree};
 
 /// A line of an end's text is refused with exactly the first fault that it has where it stands, and taken exactly where
 /// it has none; then it says what its keyword says with its words.
 #[tactic(auto, using(crate::proofs::EndJudging::end_lines_are_judged))]
 pub fn end_lines_are_judged()
     ensures { EndLinesAreJudged }
-{}
-
-/// Two ends that run alone, and whose packets somebody carries, are the ends of a world. Take any settings of mode alone,
-/// inputs of each end, and any interleaving of them; make each input an event, octets an injection at that end's port.
-/// Then the run of these events has, for each end, exactly the variables and views that the end has alone after its own
-/// inputs. So it is after each of the events, since each front of an interleaving is one.
-pub fn interleavings_are_runs()
-    ensures { InterleavingsAreRuns }
-{}
-
-/// Two ends that run alone agree as those of a world do: whatever was carried between them, where each tag that one of
-/// them accepted was made earlier by either, as the world over the interleaving books them, and both stand in SUCCESS,
-/// both report the same method, identities, suite, MSK and EMSK, which both policies allow.
-#[tactic(auto, using(crate::proofs::JoinedAgreement::joined_ends_agree))]
-pub fn joined_ends_agree()
-    ensures { JoinedEndsAgree }
 {}

@@ -12,7 +12,7 @@ mod table;
 mod told;
 
 pub use input::EndInput;
-pub use laws::{end_lines_are_judged, interleavings_are_runs, joined_ends_agree};
+pub use laws::end_lines_are_judged;
 pub use peer_pipe::PeerPipe;
 pub use reader::{EndItem, EndReader};
 pub use server_pipe::ServerPipe;

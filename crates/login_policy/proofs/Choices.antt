@@ -18,10 +18,6 @@ next_is_ordered order proposed nak kind is =
 pub next_is_unproposed : (order proposed : List ℕ) (nak : Option (List ℕ)) (kind : ℕ) → next_kind order proposed nak ≡ Some kind → is_among proposed kind ≡ false
 next_is_unproposed order proposed nak kind is = (next_is_first order proposed nak kind is).unproposed
 
--- the next method is desired by the Nak, where one has come
-pub next_is_desired : (order proposed : List ℕ) (nak : Option (List ℕ)) (kind : ℕ) → next_kind order proposed nak ≡ Some kind → is_desired nak kind ≡ true
-next_is_desired order proposed nak kind is = (next_is_first order proposed nak kind is).desired
-
 -- the suite that is picked is allowed
 pub picked_is_allowed : (allowed list : List ℕ) (suite : Suite) → picked_suite allowed list ≡ Some suite → is_among allowed (suite_number suite) ≡ true
 picked_is_allowed allowed list suite is = (picked_is_first allowed list suite is).allows
@@ -31,9 +27,3 @@ pub nak_lists_some : (methods : List ℕ) → 1 ≤ length (nak_of methods)
 unfolding nak_of
 nak_lists_some [] = omega arith
 nak_lists_some (kind ∷ rest) = omega arith
-
--- a Nak lists at most two Types where at most two are allowed
-pub nak_fits : (methods : List ℕ) → length methods ≤ 2 → length (nak_of methods) ≤ 2
-unfolding nak_of
-nak_fits [] fits = omega arith
-nak_fits (kind ∷ rest) fits = fits

@@ -36,7 +36,7 @@ use Rattle.eap_world.specs.declared.book.End.TheVariants as end
 use Rattle.eap_world.specs.declared.book.Makers.TheVariants.{Other}
 use Rattle.eap_world.specs.declared.told.Skip.{Skip}
 use Rattle.eap_world.specs.declared.told.Skip.TheVariants.{NoParty, Unsent, Place}
-use Rattle.eap_world.proofs.Acting.{counted_acted}
+use Rattle.world_laws.proofs.Acting.{counted_acted}
 use Rattle.smooth_laws.specs.Smooth.{deliveries}
 use Rattle.smooth_laws.proofs.Vouching.{are_vouched, stays_honest}
 

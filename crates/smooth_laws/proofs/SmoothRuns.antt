@@ -15,12 +15,13 @@ use Rattle.eap_base.specs.Users.{user_of}
 use Rattle.login_policy.specs.Policy.{next_kind, nak_of}
 use Rattle.eap_method.specs.Peer.{key_for}
 use Rattle.eap_method.specs.Server.{ServerViews, views_begun}
-use Rattle.eap_world.specs.Agreement.{IsWhole, run_of}
+use Rattle.eap_world.specs.Run.{run_of}
+use Rattle.world_laws.specs.Agreement.{IsWhole}
 use Rattle.eap_world.specs.Book.{verdict_on, tags_verdict}
 use Rattle.eap_world.specs.declared.book.TagsVerdict.TheVariants.{Honest}
 use Rattle.eap_world.specs.Judgement.{is_success}
 use Rattle.eap_world.specs.World.{WorldNow, run_after, world_made, world_start}
-use Rattle.eap_world.proofs.HonestRuns.{honest_ends_agree}
+use Rattle.world_laws.proofs.HonestRuns.{honest_ends_agree}
 use Rattle.smooth_laws.specs.Smooth.{EndsFit, HasShortNames, IsLoggedIn, SmoothLoginsSucceed, bound, bound_in, deliveries, takes_first}
 use Rattle.smooth_laws.proofs.Choosing.{few_kinds, few_suites, some_suites, found_passes, found_among, found_as_all, first_is_next, allowed_is_common}
 use Rattle.smooth_laws.proofs.Choosing.{common_is_next, some_picked}

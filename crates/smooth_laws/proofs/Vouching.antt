@@ -12,7 +12,7 @@ use Rattle.eap_world.specs.declared.book.Use.TheVariants.{Accepted, Made}
 use Rattle.eap_world.specs.declared.book.Entry.{Entry}
 use Rattle.eap_world.specs.declared.book.Makers.TheVariants.{Other}
 use Rattle.eap_world.proofs.FirstBroken.{passed}
-use Rattle.eap_world.proofs.TagsOfEnds.{unbroken}
+use Rattle.world_laws.proofs.TagsOfEnds.{unbroken}
 
 -- the other end has made the tag, and each of these tags
 abbrev pub is_vouched : List Entry → End → TagRecord → Bool

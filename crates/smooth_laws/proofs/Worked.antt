@@ -9,7 +9,7 @@ use Rattle.eap_base.specs.declared.setup.Mode.TheVariants.{Alone, Through}
 use Rattle.eap_base.specs.declared.setup.Setup.{Setup}
 use Rattle.eap_base.specs.declared.users.User.{User}
 use Rattle.eap_base.specs.Setup.{is_kind, fits_kind, no_later}
-use Rattle.eap_world.specs.Agreement.{IsWhole}
+use Rattle.world_laws.specs.Agreement.{IsWhole}
 use Rattle.smooth_laws.specs.Smooth.{EndsFit, HasShortNames, bound, common_kind, deliveries}
 
 user_of_kind : ℕ → List ℕ → User

@@ -13,7 +13,8 @@ use Rattle.eap_base.specs.declared.users.User.{User}
 use Rattle.eap_base.specs.Setup.{gpsk_kind, is_among, accepts_name}
 use Rattle.eap_base.specs.Users.{user_of}
 use Rattle.eap_method.specs.Peer.{key_for}
-use Rattle.eap_world.specs.Agreement.{IsWhole, run_of}
+use Rattle.eap_world.specs.Run.{run_of}
+use Rattle.world_laws.specs.Agreement.{IsWhole}
 use Rattle.eap_world.specs.Book.{tags_verdict}
 use Rattle.eap_world.specs.declared.book.TagsVerdict.TheVariants.{Honest}
 use Rattle.eap_world.specs.declared.verdict.Verdict.TheVariants.{Agree}

@@ -4,15 +4,15 @@ use Rattle.std.specs.Prelude.{if◌then◌else◌, ◌&&◌, nat_le, IfOk}
 use Rattle.eap_base.specs.declared.event.Event.{Event}
 use Rattle.eap_base.specs.declared.setup.Setup.{Setup}
 use Rattle.eap_base.specs.Lines.{Lines, ended, too_long, too_much, line, lines}
-use Rattle.eap_world.specs.Agreement.{IsWhole}
-use Rattle.eap_world.proofs.Alone.{one_end_tells}
-use Rattle.eap_world.proofs.HonestOfEither.{honest_of_either}
-use Rattle.eap_world.proofs.HonestRuns.{honest_ends_agree}
-use Rattle.eap_world.proofs.Few.{few_tags}
-use Rattle.eap_world.proofs.Matching.{conversations_match}
-use Rattle.eap_world.proofs.Passing.{pass_is_alone}
-use Rattle.eap_world.proofs.Reflected.{reflected_ends_agree}
-use Rattle.eap_world.proofs.Whose.{honest_names_are_theirs}
+use Rattle.world_laws.specs.Agreement.{IsWhole}
+use Rattle.world_laws.proofs.Alone.{one_end_tells}
+use Rattle.world_laws.proofs.HonestOfEither.{honest_of_either}
+use Rattle.world_laws.proofs.HonestRuns.{honest_ends_agree}
+use Rattle.world_laws.proofs.Few.{few_tags}
+use Rattle.world_laws.proofs.Matching.{conversations_match}
+use Rattle.world_laws.proofs.Passing.{pass_is_alone}
+use Rattle.world_laws.proofs.Reflected.{reflected_ends_agree}
+use Rattle.world_laws.proofs.Whose.{honest_names_are_theirs}
 use Rattle.scenario_text.specs.Reading.{Reading, ReadLine, no_settings, read_line}
 use Rattle.scenario_text.specs.Valid.{AreValid, IsValidSetup, IsValidItem, IsValidReadLine}
 use Rattle.text_tables.specs.declared.fault.LineFault.{LineFault}

@@ -6,11 +6,12 @@ use Rattle.eap_base.specs.Lines.{Lines, ended, too_long, too_much, line, lines}
 use Rattle.eap_base.specs.declared.event.Event.{Event}
 use Rattle.eap_base.specs.declared.setup.Later.{Later}
 use Rattle.eap_base.specs.declared.setup.Setup.{Setup}
-use Rattle.eap_world.specs.Agreement.{run_of, AgreesWhereHonest, AreApart}
+use Rattle.eap_world.specs.Run.{run_of}
+use Rattle.world_laws.specs.Agreement.{AgreesWhereHonest, AreApart}
 use Rattle.eap_world.specs.Book.{tags_verdict}
 use Rattle.eap_world.specs.Judgement.{verdict_of}
-use Rattle.eap_world.proofs.BeginsOnce.{begins_once}
-use Rattle.eap_world.proofs.Versions.{version_kept}
+use Rattle.world_laws.proofs.BeginsOnce.{begins_once}
+use Rattle.world_laws.proofs.Versions.{version_kept}
 use Rattle.eap_world.specs.World.{WorldNow, WorldOutcome, outcomes_after, pass_state, told_octets, world_made, world_start}
 use Rattle.scenario_text.specs.Reading.{Reading, ReadLine, read_line, finish_of}
 use Rattle.scenario_text.specs.Items.{Item}

@@ -3,7 +3,7 @@ use Rattle.std.proofs.Common.{◌≡◌, ◌≤◌, ℕ, ◌+◌, List, [], ◌�
 use Rattle.eap_base.specs.declared.event.Event.{Event}
 use Rattle.eap_base.specs.declared.setup.Port.{Port}
 use Rattle.eap_base.specs.declared.setup.Setup.{Setup}
-use Rattle.eap_world.specs.Agreement.{run_of}
+use Rattle.eap_world.specs.Run.{run_of}
 use Rattle.eap_world.specs.World.{Action, Called, Skipped, WorldNow, WorldOutcome, counted, sent_to, sent_by, called, start_call, act}
 use Rattle.eap_world.specs.World.{world_made, world_start, world_step, world_outcome, run_after}
 use Rattle.eap_world.specs.declared.told.Counts.{Counts}

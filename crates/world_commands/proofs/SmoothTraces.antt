@@ -5,7 +5,7 @@ use Rattle.eap_base.specs.declared.event.Event.{Event}
 use Rattle.eap_base.specs.declared.setup.Setup.{Setup}
 use Rattle.eap_base.specs.Lines.{lines}
 use Rattle.eap_packet.specs.declared.state.State.{State}
-use Rattle.eap_world.specs.Agreement.{run_of}
+use Rattle.eap_world.specs.Run.{run_of}
 use Rattle.eap_world.specs.Book.{tags_verdict}
 use Rattle.eap_world.specs.Judgement.{verdict_of}
 use Rattle.eap_world.specs.World.{WorldNow, pass_state, world_made, world_start}

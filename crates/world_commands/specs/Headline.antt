@@ -5,14 +5,15 @@ use Rattle.std.specs.Prelude.{◌≡◌, ◌≤◌, ◌⊎◌, ℕ, ◌+◌, Lis
 use Rattle.eap_base.specs.declared.event.Event.{Event}
 use Rattle.eap_base.specs.declared.setup.Mode.TheVariants.{Through}
 use Rattle.eap_base.specs.declared.setup.Setup.{Setup}
-use Rattle.eap_world.specs.Agreement.{run_of, AgreesWhereHonest, TheirsWhereHonest, HasFewTags}
-use Rattle.eap_world.specs.Alone.{TellsAlone}
+use Rattle.eap_world.specs.Run.{run_of}
+use Rattle.world_laws.specs.Agreement.{AgreesWhereHonest, TheirsWhereHonest, HasFewTags}
+use Rattle.world_laws.specs.Alone.{TellsAlone}
 use Rattle.eap_world.specs.Book.{tags_verdict, tags_verdict_either}
 use Rattle.eap_world.specs.declared.book.TagsVerdict.TheVariants.{Honest}
-use Rattle.eap_world.specs.EachConversation.{peer_conversations, server_conversations}
-use Rattle.eap_world.specs.Matching.{Match}
-use Rattle.eap_world.specs.Passing.{IsAlone}
-use Rattle.eap_world.specs.Reflected.{AgreesReflected}
+use Rattle.world_laws.specs.EachConversation.{peer_conversations, server_conversations}
+use Rattle.world_laws.specs.Matching.{Match}
+use Rattle.world_laws.specs.Passing.{IsAlone}
+use Rattle.world_laws.specs.Reflected.{AgreesReflected}
 use Rattle.eap_world.specs.World.{WorldNow}
 use Rattle.trace_text.specs.Lines.{HasLine}
 use Rattle.world_commands.specs.Scenario.{scenario_of}

@@ -1,6 +1,6 @@
 use Rattle.std.proofs.Common.{◌≡◌, ℕ, ◌+◌, ◌*◌, [], length, true}
 use Rattle.eap_base.specs.declared.setup.Setup.{Setup}
-use Rattle.eap_world.specs.Agreement.{run_of}
+use Rattle.eap_world.specs.Run.{run_of}
 use Rattle.eap_world.specs.World.{HasObjects, now_of}
 use Rattle.bulk_run.specs.Kinds.{KeepsKinds}
 use Rattle.bulk_run.specs.Conversation.{chances}

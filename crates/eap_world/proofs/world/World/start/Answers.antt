@@ -1,6 +1,6 @@
 use Rattle.std.proofs.Common.{◌≡◌}
 use Rattle.eap_world.specs.World.{now_of}
-use Rattle.eap_world.proofs.EventByEvent.{run_begins, begins_small}
+use Rattle.eap_world.proofs.EventByEvent.{run_begins}
 use Rattle.eap_world.proofs.world.World.start.Goals as goal
 
 pub returns-clause-run : goal.returns-clause-run
@@ -8,9 +8,3 @@ returns-clause-run g c =
     run_begins (now_of g.P.PeerMethod.peer_shown g.S.ServerMethod.server_shown c.args.self.now)
     (now_of g.P.PeerMethod.peer_shown g.S.ServerMethod.server_shown c.start_by_table.new.self) (c.start_by_table.new.self ≡ c.args.self.now) c.start_by_table.result
     c.start_by_table.ensures.told
-
-pub returns-clause-few : goal.returns-clause-few
-returns-clause-few g c =
-    begins_small (now_of g.P.PeerMethod.peer_shown g.S.ServerMethod.server_shown c.args.self.now)
-    (now_of g.P.PeerMethod.peer_shown g.S.ServerMethod.server_shown c.start_by_table.new.self) (c.start_by_table.new.self ≡ c.args.self.now) c.start_by_table.result
-    (returns-clause-run g c)

@@ -1,6 +1,0 @@
-use Rattle.eap_world.proofs.laws.few_tags.Goals as goal
-use Rattle.eap_world.proofs.Few.{few_tags}
-
--- src/laws.rt:15:1
-pub returns : goal.returns
-returns c = few_tags

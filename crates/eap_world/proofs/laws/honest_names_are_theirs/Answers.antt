@@ -1,5 +1,0 @@
-use Rattle.eap_world.proofs.laws.honest_names_are_theirs.Goals as goal
-use Rattle.eap_world.proofs.Whose.{honest_names_are_theirs}
-
-pub returns : goal.returns
-returns c = honest_names_are_theirs

@@ -1,0 +1,20 @@
+-- The run of a setup, and how a start or an event goes on with it.
+use Rattle.std.specs.Prelude.{◌≡◌, List, [], ◌∷◌, ◌++◌}
+use Rattle.eap_base.specs.declared.event.Event.{Event}
+use Rattle.eap_base.specs.declared.setup.Setup.{Setup}
+use Rattle.eap_method.specs.Peer.{PeerShown}
+use Rattle.eap_method.specs.Server.{ServerShown}
+use Rattle.eap_world.specs.World.{WorldNow, WorldValue, now_of, world_made, world_start, run_after}
+
+-- the world after the run of these events
+abbrev pub run_of : Setup → List Event → WorldNow
+run_of setup events = run_after (world_start (world_made setup)).after events
+
+-- what a start, or an event, makes of a world of a run: it goes on with the run
+module _ {P S : Type 0} (peer_shown : P → PeerShown) (server_shown : S → ServerShown) where
+  abbrev pub BeginsRun : WorldValue P S → WorldValue P S → Type 0
+  BeginsRun before after = (setup : Setup) → now_of peer_shown server_shown before ≡ world_made setup → now_of peer_shown server_shown after ≡ run_of setup []
+
+  abbrev pub GoesOn : Event → WorldValue P S → WorldValue P S → Type 0
+  GoesOn event before after = (setup : Setup) (events : List Event)
+      → now_of peer_shown server_shown before ≡ run_of setup events → now_of peer_shown server_shown after ≡ run_of setup (events ++ (event ∷ []))

@@ -1,0 +1,6 @@
+-- The world over an interleaving is each end over its own inputs.
+mod Interleaved
+-- Two ends that run alone agree where the tags of their interleaving are honest.
+mod JoinedAgreement
+-- Over an interleaving no end of the world begins a second conversation.
+mod OneConversation

@@ -1,0 +1,98 @@
+-- Both ends, each alone over its own inputs, and the world over an interleaving of them.
+use Rattle.std.specs.Prelude.{◌≡◌, List, [], ◌∷◌, map, Bool, true}
+use Rattle.std.specs.List.{list_all}
+use Rattle.eap_base.specs.declared.event.Event.{Event}
+use Rattle.eap_base.specs.declared.event.Event.TheVariants as event
+use Rattle.eap_base.specs.declared.setup.Mode.TheVariants as mode
+use Rattle.eap_base.specs.declared.setup.Party.TheVariants as party
+use Rattle.eap_base.specs.declared.setup.Port.{Port}
+use Rattle.eap_base.specs.declared.setup.Port.TheVariants as port
+use Rattle.eap_base.specs.declared.setup.Setup.{Setup}
+use Rattle.peer_machine.specs.PeerTable.{PeerNow, peer_reports}
+use Rattle.server_machine.specs.ServerTable.{ServerNow, server_reports}
+use Rattle.eap_world.specs.Run.{run_of}
+use Rattle.world_laws.specs.Agreement.{IsWhole}
+use Rattle.eap_world.specs.Book.{tags_verdict_either}
+use Rattle.eap_world.specs.Judgement.{is_success, judged}
+use Rattle.eap_world.specs.declared.book.TagsVerdict.TheVariants.{Honest}
+use Rattle.eap_world.specs.World.{WorldNow}
+use Rattle.end_pipe.specs.EndRun.{end_after, peer_begun, peer_step, server_begun, server_step}
+use Rattle.end_pipe.specs.Inputs.{is_of_peer, is_of_server}
+use Rattle.end_pipe.specs.declared.input.EndInput.{EndInput}
+use Rattle.end_pipe.specs.declared.input.EndInput.TheVariants as inputs
+
+-- what comes to one of both ends
+pub data Comes : Type 0 where
+  to_peer : EndInput → Comes
+  to_server : EndInput → Comes
+
+-- whether it is an input of that end
+abbrev pub is_input : Comes → Bool
+is_input (to_peer input) = is_of_peer input
+is_input (to_server input) = is_of_server input
+
+-- the event that it is: octets are handed in at the end's port; a timer and the lower layer have events of their own
+abbrev pub event_at : Port → EndInput → Event
+event_at port (inputs.Octets octets) = event.Inject port octets
+event_at port inputs.Timeout = event.Timeout party.Server
+event_at port inputs.Idle = event.Idle
+event_at port inputs.AltAccept = event.AltAccept
+event_at port inputs.AltReject = event.AltReject
+
+abbrev pub event_of : Comes → Event
+event_of (to_peer input) = event_at port.Peer input
+event_of (to_server input) = event_at port.Server input
+
+-- the inputs of each end, in their order
+abbrev pub peer_first : Comes → List EndInput → List EndInput
+peer_first (to_peer input) rest = input ∷ rest
+peer_first (to_server input) rest = rest
+
+abbrev pub server_first : Comes → List EndInput → List EndInput
+server_first (to_peer input) rest = rest
+server_first (to_server input) rest = input ∷ rest
+
+unfoldable pub peers_of : List Comes → List EndInput
+peers_of [] = []
+peers_of (first ∷ rest) = peer_first first (peers_of rest)
+
+unfoldable pub servers_of : List Comes → List EndInput
+servers_of [] = []
+servers_of (first ∷ rest) = server_first first (servers_of rest)
+
+-- each end alone after its inputs
+abbrev pub peer_alone : Setup → List Comes → PeerNow
+peer_alone setup list = (end_after peer_step (peer_begun setup.peer) (peers_of list)).now
+
+abbrev pub server_alone : Setup → List Comes → ServerNow
+server_alone setup list =
+    (end_after server_step (server_begun setup.server setup.first_id setup.max_retrans) (servers_of list)).now
+
+-- the world over the events
+abbrev pub world_of : Setup → List Comes → WorldNow
+world_of setup list = run_of setup (map event_of list)
+
+-- each end of the world has the variables and views that it has alone
+pub record AreEnds (setup : Setup) (list : List Comes) (w : WorldNow) : Type 0 where
+  pub peer : w.parties.peer ≡ peer_alone setup list
+  pub server : w.parties.server ≡ server_alone setup list
+
+-- every list of what comes to both ends is an interleaving of their inputs, and each of its fronts is one
+abbrev pub InterleavingsAreRuns : Type 0
+InterleavingsAreRuns =
+    (setup : Setup) (list : List Comes) → setup.mode ≡ mode.Alone → list_all is_input list ≡ true → AreEnds setup list (world_of setup list)
+
+-- both ends stand in SUCCESS
+abbrev pub HaveSucceeded : PeerNow → ServerNow → Type 0
+HaveSucceeded peer server = (is_success peer.vars.state ≡ true) × (is_success server.vars.state ≡ true)
+
+-- both hold a report, and the same, which both policies allow
+abbrev pub ReportTheSame : PeerNow → ServerNow → Type 0
+ReportTheSame peer server = judged peer.vars.setup server.vars.setup (peer_reports peer) (server_reports server) ≡ true
+
+-- where each tag that one of them accepted was made earlier by either of them, two ends that have succeeded report the same
+abbrev pub JoinedEndsAgree : Type 0
+JoinedEndsAgree =
+    (setup : Setup) (list : List Comes) → setup.mode ≡ mode.Alone → IsWhole setup → list_all is_input list ≡ true
+    → tags_verdict_either (world_of setup list).book ≡ Honest
+    → HaveSucceeded (peer_alone setup list) (server_alone setup list) → ReportTheSame (peer_alone setup list) (server_alone setup list)

@@ -1,0 +1,207 @@
+-- What one end's success tells by itself of the other end.
+use Rattle.std.proofs.Common.{Option, ◌≡◌, List, ℕ, [], true, Some, sym, ap, subst, ◌∙◌}
+use Rattle.eap_base.specs.declared.setup.PeerSetup.{PeerSetup}
+use Rattle.eap_base.specs.declared.setup.ServerSetup.{ServerSetup}
+use Rattle.eap_base.specs.declared.setup.Setup.{Setup}
+use Rattle.eap_base.specs.Setup.{psk_kind}
+use Rattle.eap_method.specs.declared.tags.TagRecord.{TagRecord}
+use Rattle.eap_method.specs.declared.values.Report.{Report}
+use Rattle.peer_machine.specs.PeerTable as peers
+use Rattle.server_machine.specs.ServerTable as servers
+use Rattle.eap_world.specs.Run.{run_of}
+use Rattle.world_laws.specs.Agreement.{IsWhole}
+use Rattle.world_laws.specs.Alone.{OneEndTells, PeerIsHeard, PeerKnows, PeersConversation, ServerHears, ServersConversation}
+use Rattle.eap_world.specs.Book.{first_broken, tags_verdict, tags_verdict_either}
+use Rattle.eap_world.specs.Conversations.{Conversations, front}
+use Rattle.world_laws.specs.Foreign.{server_foreign}
+use Rattle.eap_world.specs.Judgement.{is_success}
+use Rattle.world_laws.specs.Records.{IsIn, tags_by}
+use Rattle.world_laws.specs.ToldTags.{MadeByPeer, NotByServer, PeerTold, ServerTold}
+use Rattle.eap_world.specs.World.{WorldNow}
+use Rattle.eap_world.specs.declared.book.End.TheVariants as end
+use Rattle.eap_world.specs.declared.book.Makers.TheVariants.{Other}
+use Rattle.eap_world.specs.declared.book.TagsVerdict.TheVariants.{Honest}
+use Rattle.eap_world.specs.declared.book.Use.TheVariants.{Accepted, Made}
+use Rattle.world_laws.proofs.Conversing.{BothConverse, peer_moment, run_converses, server_moment}
+use Rattle.world_laws.proofs.EndsStand.{BothStandFirst, every_run_so_far, stand_first}
+use Rattle.world_laws.proofs.FreshAgree.{peer_won, server_holds, server_won}
+use Rattle.world_laws.proofs.HonestOfEither.{none_if_honest}
+use Rattle.world_laws.proofs.HonestOther.{honest_other}
+use Rattle.world_laws.proofs.OneLogin.{first_is_in, peer_now}
+use Rattle.world_laws.proofs.PastConversations.{MadeIn, accepted_now, made_in}
+use Rattle.world_laws.proofs.Reflected.{asks_present, of_peer, of_server}
+use Rattle.world_laws.proofs.SameLogins.{peers_login, servers_login, whole_login}
+use Rattle.world_laws.proofs.ServerTells.{AsksPeer, AsksServer, peer_asks, server_asks}
+use Rattle.world_laws.proofs.SucceedingEnds.{first_in, server_succeeds}
+
+module _ (setup : Setup) (w : WorldNow) (h : BothConverse setup w) where
+  -- the tags that each end has accepted and made
+  abbrev peer_accepted : List TagRecord
+  peer_accepted = tags_by end.Peer Accepted w.book
+
+  abbrev peer_made : List TagRecord
+  peer_made = tags_by end.Peer Made w.book
+
+  abbrev server_accepted : List TagRecord
+  server_accepted = tags_by end.Server Accepted w.book
+
+  abbrev server_made : List TagRecord
+  server_made = tags_by end.Server Made w.book
+
+  abbrev all : Conversations
+  all = w.conversations
+
+  abbrev OfServer : TagRecord → Type 0
+  OfServer t = MadeIn (ServerTold setup.server) (server_moment all w.counts.events h.peer_nonce h.server_nonce) server_accepted server_made t
+
+  abbrev OfPeer : TagRecord → Type 0
+  OfPeer t = MadeIn (PeerTold setup.peer) (peer_moment all w.counts.events h.peer_nonce h.server_nonce) peer_accepted peer_made t
+
+  abbrev servers_own : (t : TagRecord) → OfServer t → ServersConversation setup w
+  servers_own t by = record {
+    nonce = by.nonce;
+    began = by.began;
+    held = by.held;
+    accepted = by.accepted;
+    made = by.made;
+    told = by.told;
+    book_accepted = by.of_accepted;
+    book_made = by.of_made;
+  }
+
+  abbrev peers_own : (t : TagRecord) → OfPeer t → PeersConversation setup w
+  peers_own t of = record {
+    nonce = of.nonce;
+    began = of.began;
+    held = of.held;
+    accepted = of.accepted;
+    made = of.made;
+    told = of.told;
+    book_accepted = of.of_accepted;
+    book_made = of.of_made;
+  }
+
+  -- the server's conversation that made the tag which the peer asks: before it, it has accepted one that the peer made
+  heard_in : w.conversations.fresh ≡ true → is_success w.parties.peer.vars.state ≡ true → (asked : AsksServer h.peer_nonce h.peer.accepted)
+      → (by : OfServer asked.tag) → by.held ≡ Some (front h.peer_nonce)
+      → (asks : AsksPeer setup.server by.nonce (front h.peer_nonce) by.accepted) → IsIn asks.tag peer_made → PeerIsHeard setup w
+  heard_in fresh p_in asked by rand_p asks made =
+      let own = h.peer.now.stands.own in
+      let answered = peer_now setup.peer _ _ _ _ h.peer fresh asks.tag (front by.nonce) asks.made made in
+      let login = peers_login (peers.own_nonce setup.peer h.peer_nonce) (servers.own_nonce setup.server by.nonce) h.peer.size by.size w.parties.peer _ _
+      (peer_won setup w h p_in) by.told.current by.told.views by.accepted by.made by.told.tags
+      (first_in h.peer.accepted by.made asked.tag asked.rest asked.first by.is_made)
+      (first_in by.accepted h.peer.made asks.tag asks.rest asks.first answered.0) in
+      record {
+        by = servers_own asked.tag by;
+        rand_s = h.peer.now.held_is ∙ answered.1;
+        rand_p = rand_p ∙ ap (λ (s : PeerSetup). Some (front s.nonce)) (sym own);
+        tag = asks.tag;
+        accepted = first_is_in asks.tag asks.rest by.accepted asks.first;
+        made = made;
+        only = subst (λ (s : PeerSetup). MadeByPeer asks.tag (front s.nonce) (front by.nonce)) (sym own) asks.made;
+        report = login.report;
+        holds = login.holds;
+        same = login.login.same;
+        keyed = record { id_s = login.login.id_s; user = login.login.user; known = login.login.known; key = login.login.key };
+        id_p = login.id_p;
+      }
+
+  heard_by : ((t : TagRecord) → IsIn t server_accepted → NotByServer setup.server t → IsIn t peer_made) → w.conversations.fresh ≡ true
+      → is_success w.parties.peer.vars.state ≡ true
+      → (asked : AsksServer h.peer_nonce h.peer.accepted) → OfServer asked.tag → PeerIsHeard setup w
+  heard_by server_honest fresh p_in asked by =
+      let rand_p = asked.made.tells setup.server by.nonce by.held by.accepted by.made by.told by.is_made in
+      let asks = server_asks setup.server by.nonce (front h.peer_nonce) by.size by.held by.accepted by.made by.told rand_p in
+      heard_in fresh p_in asked by rand_p asks
+      (server_honest asks.tag (by.of_accepted asks.tag (first_is_in asks.tag asks.rest by.accepted asks.first)) asks.alien)
+
+  -- the peer's conversation that made the tag which the server asks
+  hears_of : is_success w.parties.server.vars.state ≡ true → (foreign : List ℕ)
+      → server_foreign w.parties.server.vars.current w.parties.server.views ≡ Some foreign
+      → (asks : AsksPeer setup.server h.server_nonce foreign h.server.accepted) → IsIn asks.tag server_accepted → OfPeer asks.tag → ServerHears setup w
+  hears_of s_in foreign holds asks accepted of =
+      let own = h.server.now.stands.own in
+      let tells = asks.made.tells setup.peer of.nonce of.held of.accepted of.made of.size of.told of.is_made in
+      let login = servers_login (peers.own_nonce setup.peer of.nonce) (servers.own_nonce setup.server h.server_nonce) of.size h.server.size w.parties.server _ _
+      (server_won setup w h s_in) of.told.selected of.told.views of.accepted of.made of.told.tags
+      (first_in h.server.accepted of.made asks.tag asks.rest asks.first of.is_made) in
+      record {
+        of = peers_own asks.tag of;
+        rand_p = holds ∙ ap (λ (x : List ℕ). Some x) (sym tells.0);
+        rand_s = tells.1 ∙ ap (λ (s : ServerSetup). Some (front s.nonce)) (sym own);
+        tag = asks.tag;
+        made = of.is_made;
+        accepted = accepted;
+        only = subst (λ (s : ServerSetup). MadeByPeer asks.tag (front of.nonce) (front s.nonce)) (sym own)
+            (subst (λ (x : List ℕ). MadeByPeer asks.tag x (front h.server_nonce)) (sym tells.0) asks.made);
+        report = login.report;
+        holds = login.holds;
+        theirs = login.leads_to.theirs;
+        leads = login.leads_to.leads;
+        same = login.leads_to.same;
+        keyed = record { id_s = login.id_s; user = login.user; known = login.known; key = login.leads_to.key };
+        id_p = login.leads_to.id_p;
+      }
+
+  heard : tags_verdict w.book ≡ Honest → w.conversations.fresh ≡ true → is_success w.parties.peer.vars.state ≡ true → PeerIsHeard setup w
+  heard honest fresh p_in =
+      let none = none_if_honest (first_broken Other [] w.book) honest in
+      let asked = peer_asks setup.peer h.peer_nonce w.parties.peer h.peer.accepted h.peer.made h.peer.size (peer_won setup w h p_in) in
+      heard_by (λ t is alien. honest_other end.Server w.book none t is) fresh p_in asked
+      (made_in (ServerTold setup.server) _ _ _ _ h.server asked.tag
+      (honest_other end.Peer w.book none asked.tag
+      (accepted_now (PeerTold setup.peer) _ _ _ _ h.peer asked.tag (first_is_in asked.tag asked.rest h.peer.accepted asked.first))))
+
+  heard_psk : tags_verdict_either w.book ≡ Honest → w.conversations.fresh ≡ true → is_success w.parties.peer.vars.state ≡ true
+      → w.parties.peer.vars.selected ≡ Some psk_kind → PeerIsHeard setup w
+  heard_psk honest fresh p_in by_psk =
+      let asked = asks_present setup w h p_in by_psk in
+      heard_by (of_peer setup w h honest) fresh p_in asked.asks
+      (made_in (ServerTold setup.server) _ _ _ _ h.server asked.asks.tag (of_server setup w h honest fresh asked))
+
+  hears : tags_verdict_either w.book ≡ Honest → is_success w.parties.server.vars.state ≡ true → ServerHears setup w
+  hears honest s_in =
+      let holds = server_holds (servers.own_nonce setup.server h.server_nonce) w.parties.server _ _ (server_won setup w h s_in) in
+      let asks = server_asks setup.server h.server_nonce holds.foreign h.server.size h.server.held h.server.accepted h.server.made h.server.told
+      (sym h.server.now.held_is ∙ holds.is) in
+      let accepted = accepted_now (ServerTold setup.server) _ _ _ _ h.server asks.tag (first_is_in asks.tag asks.rest h.server.accepted asks.first) in
+      hears_of s_in holds.foreign holds.is asks accepted
+      (made_in (PeerTold setup.peer) _ _ _ _ h.peer asks.tag (of_peer setup w h honest asks.tag accepted asks.alien))
+
+-- ---- where no end has begun a second conversation
+
+same_report : (one other : Option Report) (x y : Report) → one ≡ other → one ≡ Some x → other ≡ Some y → x ≡ y
+same_report one other x y e a b = cc
+
+knows : (setup : Setup) → IsWhole setup → (w : WorldNow) → BothStandFirst setup w.parties w.book → tags_verdict w.book ≡ Honest
+    → is_success w.parties.server.vars.state ≡ true → PeerKnows setup w
+knows setup whole w both honest s_in =
+    let none = none_if_honest (first_broken Other [] w.book) honest in
+    let p = w.parties.peer in
+    let s = w.parties.server in
+    let stands = both.server_stands in
+    let won = server_succeeds setup.server s _ _ stands.tags (stands.sure s_in) in
+    let login = servers_login setup.peer setup.server whole.peer_nonce whole.server_nonce s _ _ won p.vars.selected p.views _ _ both.peer_stands.tags
+    (record { is = λ t rest first. honest_other end.Server w.book none t (first_is_in t rest _ first) }) in
+    let same = whole_login setup.peer setup.server whole.peer_nonce whole.server_nonce s _ _ won p.vars.selected p.views _ _ both.peer_stands.tags
+    (honest_other end.Server w.book none) (honest_other end.Peer w.book none) in
+    let one = same_report _ _ login.leads_to.theirs login.report same login.leads_to.leads login.holds in
+    record {
+      report = login.report;
+      holds = login.holds;
+      same = same ∙ login.holds;
+      keyed = record { id_s = login.id_s; user = login.user; known = login.known; key = login.leads_to.key };
+      id_p = ap (λ (r : Report). r.id_p) (sym one) ∙ login.leads_to.id_p;
+    }
+
+pub one_end_tells : OneEndTells
+one_end_tells setup events whole =
+    let w = run_of setup events in
+    let h = run_converses setup events whole in
+    record {
+      by_peer = λ honest fresh p_in. heard setup w h honest fresh p_in;
+      by_psk_peer = λ honest fresh p_in by_psk. heard_psk setup w h honest fresh p_in by_psk;
+      by_server = λ honest s_in. hears setup w h honest s_in;
+      by_server_once = λ honest two s_in. knows setup whole w (stand_first setup w (every_run_so_far setup events) two) honest s_in;
+    }

@@ -1,0 +1,114 @@
+-- Over an honest book and fresh nonces two ends that both stand in SUCCESS agree, and hold each other's present nonces.
+use Rattle.std.proofs.Common.{◌≡◌, ℕ, Bool, true, List, [], Option, Some, refl, sym, ap, ◌∙◌}
+use Rattle.std.specs.Prelude.{◌&&◌, if◌then◌else◌}
+use Rattle.eap_base.specs.declared.event.Event.{Event}
+use Rattle.eap_base.specs.declared.setup.PeerSetup.{PeerSetup}
+use Rattle.eap_base.specs.declared.setup.ServerSetup.{ServerSetup}
+use Rattle.eap_base.specs.declared.setup.Setup.{Setup}
+use Rattle.eap_method.specs.declared.tags.TagRecord.{TagRecord}
+use Rattle.peer_machine.specs.PeerTable as peers
+use Rattle.server_machine.specs.ServerTable as servers
+use Rattle.server_machine.specs.ServerTable.{ServerNow}
+use Rattle.eap_world.specs.Run.{run_of}
+use Rattle.world_laws.specs.Agreement.{IsWhole}
+use Rattle.eap_world.specs.Book.{first_broken, tags_verdict}
+use Rattle.eap_world.specs.Conversations.{front}
+use Rattle.world_laws.specs.Foreign.{server_foreign, psk_rand_p_in, gpsk_rand_p_in}
+use Rattle.eap_world.specs.Judgement.{is_success, verdict_of}
+use Rattle.world_laws.specs.Records.{IsIn, tags_by}
+use Rattle.world_laws.specs.Reflected.{AgreeAnew}
+use Rattle.eap_world.specs.World.{WorldNow}
+use Rattle.eap_world.specs.declared.book.End.TheVariants as end
+use Rattle.eap_world.specs.declared.book.Makers.TheVariants.{Other}
+use Rattle.eap_world.specs.declared.book.TagsVerdict.TheVariants.{Honest}
+use Rattle.eap_world.specs.declared.book.Use.TheVariants.{Accepted, Made}
+use Rattle.eap_world.specs.declared.verdict.Verdict.{Verdict}
+use Rattle.eap_world.specs.declared.verdict.Verdict.TheVariants.{Agree, Apart, Unfinished}
+use Rattle.world_laws.proofs.Conversing.{BothConverse, run_converses}
+use Rattle.world_laws.proofs.HonestOfEither.{none_if_honest}
+use Rattle.world_laws.proofs.HonestOther.{honest_other}
+use Rattle.world_laws.proofs.OneLogin.{first_is_in, in_one}
+use Rattle.world_laws.proofs.PastConversations.{accepted_now}
+use Rattle.world_laws.proofs.ServerTells.{AsksServer, peer_asks, server_asks}
+use Rattle.world_laws.proofs.SucceedingEnds.{FirstIn, PeerSucceeds, ServerSucceeds, both_agree, both_succeed, first_in, of_gpsk, of_psk, peer_succeeds, server_succeeds}
+use Rattle.world_laws.proofs.Theirs.{own_theirs}
+use Rattle.world_laws.specs.ToldTags.{NotByServer, PeerTold}
+
+-- a server that has succeeded holds a nonce of the peer
+pub record Holds (o : Option (List ℕ)) : Type 0 where
+  pub foreign : List ℕ
+  pub is : o ≡ Some foreign
+
+pub server_holds : (setup : ServerSetup) (now : ServerNow) (accepted made : List TagRecord) → ServerSucceeds setup now accepted made
+    → Holds (server_foreign now.vars.current now.views)
+server_holds setup now _ _ (of_psk login header sealed id is_current in_view facts r_sent) =
+    record { foreign = _; is = ap (λ (o : Option ℕ). server_foreign o now.views) is_current ∙ ap psk_rand_p_in in_view }
+server_holds setup now _ _ (of_gpsk login pd last_pd is_current in_view facts) =
+    record { foreign = _; is = ap (λ (o : Option ℕ). server_foreign o now.views) is_current ∙ ap gpsk_rand_p_in in_view }
+
+pub agree_if : (one other same : Bool) → one ≡ true → other ≡ true → same ≡ true
+    → (let verdict : Verdict = if one && other then (if same then Agree else Apart) else Unfinished in verdict) ≡ Agree
+agree_if one other same a b c = rw (a, b, c) refl
+
+-- a peer that stands in SUCCESS has succeeded
+pub peer_won : (setup : Setup) (w : WorldNow) (h : BothConverse setup w) → is_success w.parties.peer.vars.state ≡ true
+    → PeerSucceeds (peers.own_nonce setup.peer h.peer_nonce) w.parties.peer h.peer.accepted h.peer.made
+peer_won setup w h p_in =
+    let stands = h.peer.now.stands in
+    peer_succeeds (peers.own_nonce setup.peer h.peer_nonce) w.parties.peer h.peer.accepted h.peer.made stands.tags (stands.decided (stands.sure p_in))
+
+-- a server that stands in SUCCESS has succeeded
+pub server_won : (setup : Setup) (w : WorldNow) (h : BothConverse setup w) → is_success w.parties.server.vars.state ≡ true
+    → ServerSucceeds (servers.own_nonce setup.server h.server_nonce) w.parties.server h.server.accepted h.server.made
+server_won setup w h s_in =
+    let stands = h.server.now.stands in
+    server_succeeds (servers.own_nonce setup.server h.server_nonce) w.parties.server h.server.accepted h.server.made stands.tags (stands.sure s_in)
+
+-- both ends agree, where the server's tag that the peer asks is the server's, and each one that the server asks is the peer's
+pub agree_anew : (setup : Setup) (w : WorldNow) (h : BothConverse setup w) → w.conversations.fresh ≡ true
+    → is_success w.parties.peer.vars.state ≡ true → is_success w.parties.server.vars.state ≡ true
+    → (p_asks : AsksServer h.peer_nonce h.peer.accepted) → IsIn p_asks.tag (tags_by end.Server Made w.book)
+    → ((t : TagRecord) → IsIn t (tags_by end.Server Accepted w.book) → NotByServer setup.server t → IsIn t (tags_by end.Peer Made w.book))
+    → AgreeAnew setup w
+unfolding verdict_of
+agree_anew setup w h fresh p_in s_in p_asks p_made server_honest =
+    let p = w.parties.peer in
+    let s = w.parties.server in
+    let peer_setup = peers.own_nonce setup.peer h.peer_nonce in
+    let server_setup = servers.own_nonce setup.server h.server_nonce in
+    let p_stands = h.peer.now.stands in
+    let s_stands = h.server.now.stands in
+    let p_won = peer_won setup w h p_in in
+    let s_won = server_won setup w h s_in in
+    let holds = server_holds server_setup s _ _ s_won in
+    let s_held : h.server.held ≡ Some holds.foreign = sym h.server.now.held_is ∙ holds.is in
+    let s_asks = server_asks setup.server h.server_nonce holds.foreign h.server.size h.server.held h.server.accepted h.server.made h.server.told s_held in
+    let one = in_one setup.peer setup.server _ _ _ _ _ _ _ _ h.peer h.server refl refl refl refl fresh fresh
+    server_honest holds.foreign s_held s_asks p_asks p_made in
+    let of_peer : FirstIn h.peer.accepted h.server.made = first_in h.peer.accepted h.server.made p_asks.tag p_asks.rest p_asks.first one.peer_tag in
+    let succeed = both_succeed peer_setup server_setup p s h.peer.size h.server.size _ _ _ _ p_won s_won (λ is_psk. of_peer)
+    (first_in h.server.accepted h.peer.made s_asks.tag s_asks.rest s_asks.first one.server_tag) in
+    let same = both_agree peer_setup server_setup p s h.peer.size h.server.size succeed in
+    record {
+      agree = agree_if (is_success p.vars.state) (is_success s.vars.state) _ p_in s_in (rw (p_stands.own, s_stands.own) same);
+      hold = record {
+        rand_s = h.peer.now.held_is ∙ (one.peer_holds ∙ ap (λ (x : ServerSetup). Some (front x.nonce)) (sym s_stands.own));
+        rand_p = h.server.now.held_is ∙ (one.server_holds ∙ ap (λ (x : PeerSetup). Some (front x.nonce)) (sym p_stands.own));
+      };
+      theirs = own_theirs setup w h.peer_nonce h.server_nonce succeed;
+    }
+
+-- every run of a whole setup
+pub fresh_ends_agree : (setup : Setup) (events : List Event) → IsWhole setup
+    → (let w = run_of setup events in
+    tags_verdict w.book ≡ Honest → w.conversations.fresh ≡ true → is_success w.parties.peer.vars.state ≡ true
+    → is_success w.parties.server.vars.state ≡ true → AgreeAnew setup w)
+fresh_ends_agree setup events whole honest fresh p_in s_in =
+    let w = run_of setup events in
+    let h = run_converses setup events whole in
+    let none = none_if_honest (first_broken Other [] w.book) honest in
+    let p_asks = peer_asks setup.peer h.peer_nonce w.parties.peer h.peer.accepted h.peer.made h.peer.size (peer_won setup w h p_in) in
+    agree_anew setup w h fresh p_in s_in p_asks
+    (honest_other end.Peer w.book none p_asks.tag
+    (accepted_now (PeerTold setup.peer) _ _ _ _ h.peer p_asks.tag (first_is_in p_asks.tag p_asks.rest h.peer.accepted p_asks.first)))
+    (λ t is alien. honest_other end.Server w.book none t is)

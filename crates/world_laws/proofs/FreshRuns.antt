@@ -1,0 +1,272 @@
+-- The world tells whether a run is fresh.
+use Rattle.std.proofs.Common.{◌≡◌, ℕ, ◌+◌, List, [], ◌∷◌, ◌++◌, map, Bool, true, false, Option, Some, None, refl, sym, ap, subst, ◌∙◌, append_assoc, append-nil}
+use Rattle.std.specs.Prelude.{◌||◌, ◌&&◌, not}
+use Rattle.std.specs.List.{list_any}
+use Rattle.std.specs.Str.{bytes_eq}
+use Rattle.std.proofs.lemmas.Bool.{and_parts, and_from, not-true}
+use Rattle.std.proofs.lemmas.List.Folds.{list_any-append}
+use Rattle.eap_base.specs.declared.event.Event.{Event}
+use Rattle.eap_base.specs.declared.setup.Setup.{Setup}
+use Rattle.peer_machine.specs.Inputs as peer_inputs
+use Rattle.server_machine.specs.Inputs as server_inputs
+use Rattle.eap_world.specs.Conversations.{Conversations, begins, begun, front, hears, is_new, is_used, stands_in, waiting}
+use Rattle.world_laws.specs.Fresh.{Happening, came, began, FreshIsTold, came_of, clashes, happens_at, happens_in, happens_unless, history_after, history_of}
+use Rattle.eap_world.specs.World.{Call, WorldNow, call_octets, call_of, conversed, conversed_by, conversed_unless, first_skip, heard_in, run_after, skip_table, to_pass, to_peer, to_server, world_made, world_start, world_step}
+use Rattle.eap_world.specs.declared.book.End.{End}
+use Rattle.eap_world.specs.declared.book.End.TheVariants as end
+use Rattle.eap_world.specs.declared.conversations.Begun.{Begun}
+use Rattle.eap_world.specs.declared.conversations.Waiting.{Waiting}
+use Rattle.eap_world.specs.declared.told.Skip.{Skip}
+use Rattle.world_laws.proofs.Acting.{IsNext, begins_anew, goes_on, of_next, peer_next, server_next}
+use Rattle.world_laws.proofs.NoncesLeft.{IsLeft, first, behind, was_left}
+
+-- ---- the two ways to clash
+
+abbrev heard_by : List ℕ → Happening → Bool
+heard_by nonce (came octets) = stands_in (front nonce) octets
+heard_by nonce (began other) = false
+
+abbrev used_by : List ℕ → Happening → Bool
+used_by nonce (came octets) = false
+used_by nonce (began other) = bytes_eq (front other) (front nonce)
+
+or_none : (b : Bool) → (b || false) ≡ b
+or_none true = refl
+or_none false = refl
+
+or_first : (a b c : Bool) → (a || (b || c)) ≡ ((a || b) || (false || c))
+or_first true b c = refl
+or_first false b c = refl
+
+or_second : (a b c : Bool) → (a || (b || c)) ≡ ((false || b) || (a || c))
+or_second true true c = refl
+or_second true false c = refl
+or_second false b c = refl
+
+split : (nonce : List ℕ) (all : List Happening) → list_any (clashes nonce) all ≡ (list_any (heard_by nonce) all || list_any (used_by nonce) all)
+split nonce [] = refl
+split nonce (came octets ∷ rest) = ap (λ (b : Bool). stands_in (front nonce) octets || b) (split nonce rest) ∙ or_first (stands_in (front nonce) octets) _ _
+split nonce (began other ∷ rest) =
+    ap (λ (b : Bool). bytes_eq (front other) (front nonce) || b) (split nonce rest) ∙ or_second (bytes_eq (front other) (front nonce)) _ _
+
+-- ---- freshness by a test, event by event
+
+abbrev is_good : List Happening → Happening → Bool
+is_good before (came octets) = true
+is_good before (began nonce) = not (list_any (clashes nonce) before)
+
+all_good : List Happening → List Happening → Bool
+all_good before [] = true
+all_good before (h ∷ rest) = is_good before h && all_good (before ++ h ∷ []) rest
+
+and_all : (b : Bool) → b ≡ (b && true)
+and_all true = refl
+and_all false = refl
+
+and_one : (b : Bool) → (b && true) ≡ b
+and_one true = refl
+and_one false = refl
+
+and_apart : (a b c : Bool) → (a && (b && c)) ≡ ((a && b) && c)
+and_apart true b c = refl
+and_apart false b c = refl
+
+one_more_good : (before all : List Happening) (h : Happening) → all_good before (all ++ h ∷ []) ≡ (all_good before all && is_good (before ++ all) h)
+unfolding all_good
+one_more_good before [] h = (let e = append-nil before in rw e (and_one (is_good before h)))
+one_more_good before (g ∷ rest) h =
+    ap (λ (b : Bool). is_good before g && b) (one_more_good (before ++ g ∷ []) rest h)
+    ∙ (and_apart (is_good before g) _ _
+    ∙ ap (λ (l : List Happening). (is_good before g && all_good (before ++ g ∷ []) rest) && is_good l h) (append_assoc before (g ∷ []) rest))
+
+good_is : (before all : List Happening) → all_good before all ≡ true → (earlier after : List Happening) (nonce : List ℕ) → all ≡ earlier ++ began nonce ∷ after
+    → list_any (clashes nonce) (before ++ earlier) ≡ false
+unfolding all_good
+good_is before [] good [] after nonce e = absurd cc
+good_is before [] good (g ∷ earlier) after nonce e = absurd cc
+good_is before (h ∷ rest) good [] after nonce e =
+    let same : h ≡ began nonce = cc in
+    let p = and_parts (is_good before h) _ good in
+    ap (list_any (clashes nonce)) (append-nil before)
+    ∙ not-true (list_any (clashes nonce) before) (subst (λ (g : Happening). is_good before g ≡ true) same p.0)
+good_is before (h ∷ rest) good (g ∷ earlier) after nonce e =
+    let same : h ≡ g = cc in
+    let behind : rest ≡ earlier ++ began nonce ∷ after = cc in
+    let p = and_parts (is_good before h) _ good in
+    ap (λ (x : Happening). list_any (clashes nonce) (before ++ x ∷ earlier)) (sym same)
+    ∙ (ap (list_any (clashes nonce)) (sym (append_assoc before (h ∷ []) earlier))
+    ∙ good_is (before ++ h ∷ []) rest p.1 earlier after nonce behind)
+
+good_now : (before rest : List Happening) (h : Happening)
+    → ((earlier after : List Happening) (nonce : List ℕ) → h ∷ rest ≡ earlier ++ began nonce ∷ after → list_any (clashes nonce) (before ++ earlier) ≡ false)
+    → is_good before h ≡ true
+good_now before rest (came octets) each = refl
+good_now before rest (began nonce) each = rw (ap (list_any (clashes nonce)) (sym (append-nil before)) ∙ each [] rest nonce refl) refl
+
+is_good_all : (before all : List Happening)
+    → ((earlier after : List Happening) (nonce : List ℕ) → all ≡ earlier ++ began nonce ∷ after → list_any (clashes nonce) (before ++ earlier) ≡ false)
+    → all_good before all ≡ true
+unfolding all_good
+is_good_all before [] each = refl
+is_good_all before (h ∷ rest) each =
+    and_from (is_good before h) (all_good (before ++ h ∷ []) rest) (good_now before rest h each)
+    (is_good_all (before ++ h ∷ []) rest
+    (λ earlier after nonce e.
+    ap (list_any (clashes nonce)) (append_assoc before (h ∷ []) earlier) ∙ each (h ∷ earlier) after nonce (ap (λ (l : List Happening). h ∷ l) e)))
+
+-- ---- what the world keeps of it
+
+record Tells (t : Conversations) (all : List Happening) : Type 0 where
+  pub peer : (one : Waiting) → IsLeft one t.peer_left → one.heard ≡ list_any (heard_by one.nonce) all
+  pub server : (one : Waiting) → IsLeft one t.server_left → one.heard ≡ list_any (heard_by one.nonce) all
+  pub used : (nonce : List ℕ) → is_used t.begun nonce ≡ list_any (used_by nonce) all
+  pub fresh : t.fresh ≡ all_good [] all
+
+more_heard : (octets : List ℕ) (all : List Happening) (nonce : List ℕ) (b : Bool) → b ≡ list_any (heard_by nonce) all
+    → (b || stands_in (front nonce) octets) ≡ list_any (heard_by nonce) (all ++ came octets ∷ [])
+more_heard octets all nonce b e =
+    ap (λ (x : Bool). x || stands_in (front nonce) octets) e
+    ∙ (ap (λ (x : Bool). list_any (heard_by nonce) all || x) (sym (or_none (stands_in (front nonce) octets)))
+    ∙ sym (list_any-append (heard_by nonce) all (came octets ∷ [])))
+
+left_heard : (octets : List ℕ) (left : List Waiting) (all : List Happening) → ((one : Waiting) → IsLeft one left → one.heard ≡ list_any (heard_by one.nonce) all)
+    → (one : Waiting) → IsLeft one (map (hears octets) left) → one.heard ≡ list_any (heard_by one.nonce) (all ++ came octets ∷ [])
+left_heard octets left all each one is =
+    let w = was_left octets left one is in
+    subst (λ (x : Waiting). x.heard ≡ list_any (heard_by x.nonce) (all ++ came octets ∷ [])) (sym w.is)
+    (more_heard octets all w.before.nonce w.before.heard (each w.before w.is_left))
+
+none_more : (P : Happening → Bool) (all : List Happening) (h : Happening) → P h ≡ false → list_any P all ≡ list_any P (all ++ h ∷ [])
+none_more P all h e =
+    sym (or_none (list_any P all)) ∙ (ap (λ (b : Bool). list_any P all || (b || false)) (sym e) ∙ sym (list_any-append P all (h ∷ [])))
+
+tells_came : (t : Conversations) (all : List Happening) (octets : List ℕ) → Tells t all → Tells (heard_in t (Some octets)) (all ++ came octets ∷ [])
+tells_came t all octets w = record {
+  peer = left_heard octets t.peer_left all w.peer;
+  server = left_heard octets t.server_left all w.server;
+  used = λ nonce. w.used nonce ∙ none_more (used_by nonce) all (came octets) refl;
+  fresh = w.fresh ∙ (and_all (all_good [] all) ∙ sym (one_more_good [] all (came octets)));
+}
+
+not_either : (a b : Bool) → (not a && not b) ≡ not (a || b)
+not_either true b = refl
+not_either false b = refl
+
+-- a nonce is new where it clashes with nothing so far
+new_told : (t : Conversations) (all : List Happening) (one : Waiting) → one.heard ≡ list_any (heard_by one.nonce) all
+    → is_used t.begun one.nonce ≡ list_any (used_by one.nonce) all
+    → is_new t.begun one ≡ not (list_any (clashes one.nonce) all)
+new_told t all one heard used = rw (heard, used) (not_either _ _ ∙ ap not (sym (split one.nonce all)))
+
+more_used : (all : List Happening) (begun_so : List Begun) (event : ℕ) (of : End) (one nonce : List ℕ) → is_used begun_so nonce ≡ list_any (used_by nonce) all
+    → is_used (begun_so ++ begun event of one ∷ []) nonce ≡ list_any (used_by nonce) (all ++ began one ∷ [])
+more_used all begun_so event of one nonce e =
+    list_any-append (λ (b : Begun). bytes_eq (front b.nonce) (front nonce)) begun_so (begun event of one ∷ [])
+    ∙ (ap (λ (b : Bool). b || (bytes_eq (front one) (front nonce) || false)) e ∙ sym (list_any-append (used_by nonce) all (began one ∷ [])))
+
+more_fresh : (t : Conversations) (all : List Happening) (one : Waiting) → Tells t all → one.heard ≡ list_any (heard_by one.nonce) all
+    → (t.fresh && is_new t.begun one) ≡ all_good [] (all ++ began one.nonce ∷ [])
+more_fresh t all one w heard =
+    ap (λ (b : Bool). b && is_new t.begun one) w.fresh
+    ∙ (ap (λ (b : Bool). all_good [] all && b) (new_told t all one heard (w.used one.nonce)) ∙ sym (one_more_good [] all (began one.nonce)))
+
+fewer : (nonce : List ℕ) (all : List Happening) (one : Waiting) → one.heard ≡ list_any (heard_by one.nonce) all
+    → one.heard ≡ list_any (heard_by one.nonce) (all ++ began nonce ∷ [])
+fewer nonce all one e = e ∙ none_more (heard_by one.nonce) all (began nonce) refl
+
+peer_anew : (t : Conversations) (all : List Happening) (event : ℕ) (one : Waiting) (left : List Waiting) → t.peer_left ≡ one ∷ left → Tells t all
+    → Tells (begins event end.Peer one (record t { peer_left = left })) (all ++ began one.nonce ∷ [])
+peer_anew t all event one left e w =
+    let of_peer : (x : Waiting) → IsLeft x (one ∷ left) → x.heard ≡ list_any (heard_by x.nonce) all =
+    subst (λ (l : List Waiting). (x : Waiting) → IsLeft x l → x.heard ≡ list_any (heard_by x.nonce) all) e w.peer in
+    record {
+      peer = λ x is. fewer one.nonce all x (of_peer x (behind one left is));
+      server = λ x is. fewer one.nonce all x (w.server x is);
+      used = λ nonce. more_used all t.begun event end.Peer one.nonce nonce (w.used nonce);
+      fresh = more_fresh t all one w (of_peer one (first left));
+    }
+
+server_anew : (t : Conversations) (all : List Happening) (event : ℕ) (one : Waiting) (left : List Waiting) → t.server_left ≡ one ∷ left → Tells t all
+    → Tells (begins event end.Server one (record t { server_left = left })) (all ++ began one.nonce ∷ [])
+server_anew t all event one left e w =
+    let of_server : (x : Waiting) → IsLeft x (one ∷ left) → x.heard ≡ list_any (heard_by x.nonce) all =
+    subst (λ (l : List Waiting). (x : Waiting) → IsLeft x l → x.heard ≡ list_any (heard_by x.nonce) all) e w.server in
+    record {
+      peer = λ x is. fewer one.nonce all x (w.peer x is);
+      server = λ x is. fewer one.nonce all x (of_server x (behind one left is));
+      used = λ nonce. more_used all t.begun event end.Server one.nonce nonce (w.used nonce);
+      fresh = more_fresh t all one w (of_server one (first left));
+    }
+
+tells_octets : (t : Conversations) (all : List Happening) (octets : Option (List ℕ)) → Tells t all → Tells (heard_in t octets) (all ++ came_of octets)
+tells_octets t all None w = rw (append-nil all) w
+tells_octets t all (Some octets) w = tells_came t all octets w
+
+-- a call that goes on
+tells_on : (event : ℕ) (t : Conversations) (all : List Happening) (call : Call) → begins_anew call ≡ false → Tells t all
+    → Tells (conversed event t call) (all ++ happens_at call)
+tells_on event t all (to_peer (peer_inputs.octets octets)) same w = tells_came t all octets w
+tells_on event t all (to_peer peer_inputs.idle) same w = tells_octets t all None w
+tells_on event t all (to_peer peer_inputs.alt_accept) same w = tells_octets t all None w
+tells_on event t all (to_peer peer_inputs.alt_reject) same w = tells_octets t all None w
+tells_on event t all (to_peer (peer_inputs.restart nonce)) same w = absurd cc
+tells_on event t all (to_server server_inputs.start) same w = tells_octets t all None w
+tells_on event t all (to_server server_inputs.timeout) same w = tells_octets t all None w
+tells_on event t all (to_server (server_inputs.octets octets)) same w = tells_came t all octets w
+tells_on event t all (to_server (server_inputs.restart nonce)) same w = absurd cc
+tells_on event t all (to_pass input) same w = tells_octets t all (call_octets (to_pass input)) w
+
+tells_call : (event : ℕ) (t : Conversations) (all : List Happening) (call : Call) → IsNext t call → Tells t all
+    → Tells (conversed event t call) (all ++ happens_at call)
+tells_call event t all call (goes_on _ later same) w = tells_on event t all call same w
+tells_call event t all _ (peer_next one left next) w = rw next (peer_anew t all event one left next w)
+tells_call event t all _ (server_next one left next) w = rw next (server_anew t all event one left next w)
+
+tells_unless : (event : ℕ) (t : Conversations) (all : List Happening) (skip : Option Skip) (call : Option Call)
+    → ((one : Call) → call ≡ Some one → IsNext t one) → Tells t all → Tells (conversed_unless event t skip call) (all ++ happens_unless skip call)
+tells_unless event t all (Some skip) call next w = rw (append-nil all) w
+tells_unless event t all None None next w = rw (append-nil all) w
+tells_unless event t all None (Some call) next w = tells_call event t all call (next call refl) w
+
+step_tells : (w : WorldNow) (e : Event) (all : List Happening) → Tells w.conversations all → Tells (world_step w e).after.conversations (all ++ happens_in w e)
+unfolding conversed_by world_step
+step_tells w e all tells =
+    tells_unless (w.counts.events + 1) w.conversations all (first_skip (skip_table w.parties w.conversations w.sent e)) (call_of w.conversations w.sent e)
+    (of_next w.conversations w.sent e) tells
+
+after_tells : (w : WorldNow) (events : List Event) (all : List Happening) → Tells w.conversations all
+    → Tells (run_after w events).conversations (all ++ history_after w events)
+unfolding run_after history_after
+after_tells w [] all tells = rw (append-nil all) tells
+after_tells w (e ∷ rest) all tells =
+    subst (Tells (run_after (world_step w e).after rest).conversations) (append_assoc all (happens_in w e) (history_after (world_step w e).after rest))
+    (after_tells (world_step w e).after rest (all ++ happens_in w e) (step_tells w e all tells))
+
+first_unheard : (nonce : List ℕ) (rest : List Waiting) (one : Waiting) (all : List Waiting) → IsLeft one all → all ≡ waiting nonce ∷ rest
+    → (IsLeft one rest → one.heard ≡ false) → one.heard ≡ false
+first_unheard nonce rest one _ (first left) e more = ap (λ (w : Waiting). w.heard) (let same : one ≡ waiting nonce = cc in same)
+first_unheard nonce rest one _ (behind other left is) e more = more (subst (IsLeft one) (let same : left ≡ rest = cc in same) is)
+
+unheard : (later : List (List ℕ)) (one : Waiting) → IsLeft one (map waiting later) → one.heard ≡ false
+unheard [] one is = elim is [ ]
+unheard (nonce ∷ rest) one is = first_unheard nonce (map waiting rest) one (map waiting (nonce ∷ rest)) is refl (unheard rest one)
+
+start_fresh : (b : Bool) → not b ≡ (not (b || false) && true)
+start_fresh true = refl
+start_fresh false = refl
+
+start_tells : (setup : Setup) → Tells (world_start (world_made setup)).after.conversations (began setup.peer.nonce ∷ began setup.server.nonce ∷ [])
+unfolding all_good world_start
+start_tells setup = record {
+  peer = unheard setup.later.peer;
+  server = unheard setup.later.server;
+  used = λ nonce. refl;
+  fresh = start_fresh (bytes_eq (front setup.peer.nonce) (front setup.server.nonce));
+}
+
+pub fresh_is_told : FreshIsTold
+fresh_is_told setup events =
+    let w = after_tells (world_start (world_made setup)).after events _ (start_tells setup) in (
+      λ fresh. record { each = good_is [] (history_of setup events) (sym w.fresh ∙ fresh) },
+      λ is. w.fresh ∙ is_good_all [] (history_of setup events) is.each,
+    )

@@ -1,0 +1,132 @@
+-- Two ends that have succeeded by EAP-GPSK agree.
+use Rattle.std.proofs.Common.{◌≡◌, ℕ, true, false, List, [], ◌∷◌, ◌++◌, length, Some, refl, sym, ap, subst, ◌∙◌, length-append, arith, inl, inr}
+use Rattle.std.proofs.lemmas.Bool.{and_from, not_from_false}
+use Rattle.eap_base.specs.declared.setup.PeerSetup.{PeerSetup}
+use Rattle.eap_base.specs.declared.setup.ServerSetup.{ServerSetup}
+use Rattle.eap_base.specs.Setup.{gpsk_kind}
+use Rattle.eap_base.specs.Suite.{suite_octets}
+use Rattle.gpsk_messages.specs.Message.{sized, covered_of}
+use Rattle.login_policy.proofs.Choices.{picked_is_allowed}
+use Rattle.eap_method.specs.declared.tags.TagRecord.{TagRecord}
+use Rattle.eap_method.specs.declared.values.Report.{Report}
+use Rattle.eap_method.specs.GpskPeer as peer
+use Rattle.eap_method.specs.GpskServer as server
+use Rattle.eap_method.specs.GpskTags.{sk_record, suite_list}
+use Rattle.eap_method.specs.Peer.{peer_report_of}
+use Rattle.eap_method.specs.Server.{server_report_of, gpsk_report}
+use Rattle.peer_machine.specs.PeerTable.{PeerNow, selected_report, peer_reports}
+use Rattle.server_machine.specs.ServerTable.{ServerNow, current_report, server_reports}
+use Rattle.eap_world.specs.Judgement.{judged, peer_agrees, server_agrees, is_welcome}
+use Rattle.world_laws.specs.Records.{IsIn}
+use Rattle.world_laws.specs.PeerStands.{GpskBegun, gpsk2_record}
+use Rattle.world_laws.specs.ServerStands.{GpskChecked, gpsk2_taken}
+use Rattle.world_laws.proofs.Fields.{fronts, sized_fronts, suite_fronts}
+use Rattle.world_laws.proofs.Among.{among_one, among_two}
+use Rattle.world_laws.proofs.EqualReports.{reports_agree}
+
+-- both ends speak of the same login
+pub record IsSame (p : peer.Login) (list : List ℕ) (s : server.Login) : Type 0 where
+  pub psk : p.cred.psk ≡ s.psk
+  pub id_p : p.cred.id_p ≡ s.id_p
+  pub id_s : p.id_s ≡ s.own.id_s
+  pub rand_p : p.nonce ≡ s.rand_p
+  pub rand_s : p.rand_s ≡ s.nonce
+  pub suite : p.suite ≡ s.suite
+  pub offered : list ≡ suite_list s.own.suites
+
+-- equal octets before the MACs of two GPSK-2
+pub covers_same : (p : peer.Login) (s : server.Login) (list pd : List ℕ) → length p.nonce ≡ 32 → length s.rand_p ≡ 32 → length p.rand_s ≡ 32 → length s.nonce ≡ 32
+    → p.cred.psk ≡ s.psk → covered_of (gpsk2_taken s pd) ≡ covered_of (peer.gpsk2_of p list) → IsSame p list s
+unfolding covered_of
+covers_same p s list pd size_1 size_2 size_3 size_4 psk e =
+    let t0 = sized_fronts p.cred.id_p _ s.id_p _ (sym e) in
+    let t1 = sized_fronts p.id_s _ s.own.id_s _ t0.1 in
+    let t2 = fronts 32 p.nonce _ s.rand_p _ size_1 size_2 t1.1 in
+    let t3 = fronts 32 p.rand_s _ s.nonce _ size_3 size_4 t2.1 in
+    let t4 = sized_fronts list _ (suite_list s.own.suites) _ t3.1 in
+    record { psk = psk; id_p = t0.0; id_s = t1.0; rand_p = t2.0; rand_s = t3.0; suite = suite_fronts p.suite s.suite _ _ t4.1; offered = t4.0 }
+
+-- what the MAC of GPSK-4 covers is shorter than what that of GPSK-2 covers
+longer : (first second rest : List ℕ) → [] ≡ first ++ (sized second ++ rest) → ⊥
+longer first second rest e =
+    let sizes : length {A = ℕ} [] ≡ length (first ++ (sized second ++ rest)) = ap length e in
+    absurd (omega (arith, length-append first (sized second ++ rest)))
+
+not_gpsk4 : (p : peer.Login) (s : server.Login) (pd : List ℕ) → covered_of (gpsk2_taken s pd) ≡ covered_of (peer.gpsk4_of p) → ⊥
+unfolding covered_of
+not_gpsk4 p s pd e =
+    let rest : s.id_p ++ (sized s.own.id_s ++ (s.rand_p ++ (s.nonce ++ (sized (suite_list s.own.suites) ++ (suite_octets s.suite ++ sized pd))))) ≡ [] = cc in
+    longer s.id_p s.own.id_s _ (sym rest)
+
+-- what the MAC of GPSK-3 covers is shorter than what that of GPSK-2 with the same names, nonces and suite covers, by
+-- ID_Peer with its length, CSuite_List with its length, and the PD block
+covers_more : (id_p id_s rand_p rand_s list suite pd : List ℕ)
+    → sized id_p ++ (sized id_s ++ (rand_p ++ (rand_s ++ (sized list ++ (suite ++ sized pd))))) ≡ rand_p ++ (rand_s ++ (sized id_s ++ (suite ++ sized []))) → ⊥
+covers_more id_p id_s rand_p rand_s list suite pd e =
+    let sizes : length (sized id_p ++ (sized id_s ++ (rand_p ++ (rand_s ++ (sized list ++ (suite ++ sized pd))))))
+    ≡ length (rand_p ++ (rand_s ++ (sized id_s ++ (suite ++ sized [])))) = ap length e in
+    absurd (omega (
+      arith,
+      length-append id_p (sized id_s ++ (rand_p ++ (rand_s ++ (sized list ++ (suite ++ sized pd))))),
+      length-append id_s (rand_p ++ (rand_s ++ (sized list ++ (suite ++ sized pd)))),
+      length-append rand_p (rand_s ++ (sized list ++ (suite ++ sized pd))),
+      length-append rand_s (sized list ++ (suite ++ sized pd)),
+      length-append list (suite ++ sized pd),
+      length-append suite (sized pd),
+      length-append rand_p (rand_s ++ (sized id_s ++ (suite ++ sized []))),
+      length-append rand_s (sized id_s ++ (suite ++ sized [])),
+      length-append id_s (suite ++ sized []),
+      length-append suite (sized []),
+    ))
+
+-- the GPSK-2 that the server accepted isn't the GPSK-3 that it made itself
+pub not_own : (s : server.Login) (pd : List ℕ) → IsIn (sk_record s.psk (gpsk2_taken s pd)) (sk_record s.psk (server.gpsk3_of s) ∷ []) → ⊥
+unfolding covered_of
+not_own s pd is_in =
+    covers_more s.id_p s.own.id_s s.rand_p s.nonce (suite_list s.own.suites) (suite_octets s.suite) pd
+    (ap (λ (tag : TagRecord). tag.octets) (among_one _ _ is_in))
+
+pub same_reports : (p : peer.Login) (list : List ℕ) (s : server.Login) → IsSame p list s → peer.report_of p ≡ server.report_of s
+unfolding peer.report_of server.report_of peer.keys_of server.keys_of
+same_reports p list s same = rw (same.psk, same.id_p, same.id_s, same.rand_p, same.rand_s, same.suite) refl
+
+module _ (setup : PeerSetup) (login : peer.Login) (list : List ℕ) (facts : GpskBegun setup login list) where
+  by_peer : peer_agrees setup (peer.report_of login) ≡ true
+  unfolding peer.report_of
+  by_peer = and_from _ _ facts.allowed (and_from _ _ facts.accepted (picked_is_allowed setup.suites list login.suite facts.picked))
+
+  pub peer_reported : (now : PeerNow) → now.vars.selected ≡ Some gpsk_kind → now.views.gpsk ≡ peer.over login true → peer_reports now ≡ Some (peer.report_of login)
+  unfolding peer_report_of
+  peer_reported now is_selected in_view = ap (selected_report now.views) is_selected ∙ ap peer.report in_view
+
+module _ (setup : ServerSetup) (login : server.Login) (facts : GpskChecked setup login false) where
+  by_server : server_agrees setup (server.report_of login) ≡ true
+  unfolding server.report_of
+  by_server = and_from _ _ facts.ordered (and_from _ _ facts.offered (ap is_welcome facts.known ∙ not_from_false _ facts.standing))
+
+  pub server_reported : (now : ServerNow) → now.vars.current ≡ Some gpsk_kind → now.views.gpsk ≡ Some (server.over login true) → server_reports now ≡ Some (server.report_of login)
+  unfolding server_report_of
+  server_reported now is_current in_view = ap (current_report now.views) is_current ∙ ap gpsk_report in_view
+
+module _ (peer_setup : PeerSetup) (server_setup : ServerSetup) (p : peer.Login) (list : List ℕ) (begun : GpskBegun peer_setup p list)
+    (s : server.Login) (pd : List ℕ) (checked : GpskChecked server_setup s false)
+    (peer_nonce : length peer_setup.nonce ≡ 32) (server_nonce : length server_setup.nonce ≡ 32) where
+  -- the GPSK-2 that the server accepted is one that the peer made
+  pub same_login : IsIn (sk_record s.psk (gpsk2_taken s pd)) (gpsk2_record p list ∷ sk_record p.cred.psk (peer.gpsk4_of p) ∷ []) → IsSame p list s
+  same_login is_in =
+      elim (among_two _ _ _ is_in) [
+        | inl first ↦ covers_same p s list pd
+            (ap length begun.nonce ∙ peer_nonce) checked.size begun.size (ap length checked.nonce ∙ server_nonce)
+            (sym (ap (λ (tag : TagRecord). tag.psk) first)) (ap (λ (tag : TagRecord). tag.octets) first)
+        | inr second ↦ absurd (not_gpsk4 p s pd (ap (λ (tag : TagRecord). tag.octets) second))
+      ]
+
+  pub gpsk_agree : (now : PeerNow) (other : ServerNow) → now.vars.selected ≡ Some gpsk_kind → now.views.gpsk ≡ peer.over p true
+      → other.vars.current ≡ Some gpsk_kind → other.views.gpsk ≡ Some (server.over s true) → IsSame p list s
+      → judged peer_setup server_setup (peer_reports now) (server_reports other) ≡ true
+  gpsk_agree now other is_selected in_view is_current in_other same =
+      let reports : peer.report_of p ≡ server.report_of s = same_reports p list s same in
+      let agreed = reports_agree peer_setup server_setup (peer.report_of p) (server.report_of s) reports
+      (by_peer peer_setup p list begun)
+      (subst (λ (report : Report). server_agrees server_setup report ≡ true) (sym reports) (by_server server_setup s checked)) in
+      rw (peer_reported peer_setup p list begun now is_selected in_view, server_reported server_setup s checked other is_current in_other) agreed

@@ -1,0 +1,121 @@
+-- An event is skipped, or is a call of one party.
+pub mod Acting
+-- What one end's success tells by itself of the other end.
+pub mod Alone
+-- Which record of a short list it is.
+pub mod Among
+-- An end that has no later nonces never begins a second conversation.
+pub mod BeginsOnce
+-- In every run the conversations of both ends are as told.
+pub mod Conversing
+-- Each entry of the book is of an event that has been, and which are of an end's present conversation.
+pub mod Dates
+-- An event that is discarded changes nothing but the counts, and each report that an end holds was told of.
+pub mod Discards
+-- What holds of all conversations of an end in a run, by what holds of each event.
+pub mod EachOf
+-- What each event does to the conversations of both ends: the present one goes on, or the next one begins.
+pub mod EachTurn
+-- In every run both ends stand as their views tell, in their present conversations.
+pub mod EndsStand
+-- Equal reports that both policies allow agree.
+pub mod EqualReports
+-- Every run sends few packets, and its book holds few tags.
+pub mod Few
+-- Two joins that are equal, cut into their parts; and the sizes of the nonces that a reader gives.
+pub mod Fields
+-- Over an honest book and fresh nonces two ends that both stand in SUCCESS agree.
+pub mod FreshAgree
+-- The world tells whether a run is fresh.
+pub mod FreshRuns
+-- Two ends that have succeeded by EAP-GPSK agree.
+pub mod GpskAgrees
+-- The nonces of GPSK-1 and GPSK-2 stand in their octets.
+pub mod GpskNonces
+-- What an end holds of the other's nonce after a call: what it held before, or what came in it.
+pub mod Hearing
+-- A book that is honest by the other end's tags alone is honest by those of either end.
+pub mod HonestOfEither
+-- Over an honest book each tag that an end accepted is one that the other end made.
+pub mod HonestOther
+-- In every run two ends that both stand in SUCCESS agree, where the book is honest.
+pub mod HonestRuns
+-- What each party sent last is the last packet to the port where its packets go.
+pub mod LastSent
+-- Each conversation in SUCCESS rests on one of the other end, and no two of an end on the same.
+pub mod Matching
+-- The nonces that an end has left, those with which conversations have begun, and which nonce is new.
+pub mod NoncesLeft
+-- Two ends in success are in one login: the order of their conversations alone shows it.
+pub mod OneLogin
+-- An end has one method at a time.
+pub mod OneMethod
+-- Conversations among others, and their tags among all.
+pub mod OneOf
+-- What the pass-through sends: what came, on to the other side, or the last packet to the peer again.
+pub mod PassSpeaks
+-- The pass-through in a run is the pass-through alone over what comes to it, which is what was sent or injected.
+pub mod Passing
+-- What holds of the conversations of an end, past and present.
+pub mod PastConversations
+-- What the peer hears of the server's nonce stands in what came.
+pub mod PeerHears
+-- Every input of the peer keeps what stands of it, but for the begin of a new conversation.
+pub mod PeerKeeps
+-- What the peer sends: a Response to what came, new or as it was sent before.
+pub mod PeerSpeaks
+-- What a tag that the peer made tells of the conversation in which it did: both nonces.
+pub mod PeerTells
+-- Two ends that have succeeded by EAP-PSK agree.
+pub mod PskAgrees
+-- The PSK-4 that a server accepts tells which conversation of the peer made it: that has accepted PSK-3.
+pub mod PskAnswered
+-- The sizes of the nonces that a reader of EAP-PSK gives.
+pub mod PskFields
+-- The header that EAX covers of an EAP-PSK message ends in RAND_S.
+pub mod PskHeaders
+-- The nonces of PSK-1 and PSK-2 stand in their octets.
+pub mod PskNonces
+-- No end takes its own tags for the other's, in whichever conversation it made them, where the peer succeeds by EAP-PSK.
+pub mod Reflected
+-- The login of an end that has succeeded is that of the other end's conversation on whose tags it rests.
+pub mod SameLogins
+-- A conversation of the peer on which one of the server in SUCCESS rests leads to what that reports.
+pub mod SameReports
+-- What the server hears of the peer's nonce stands in what came.
+pub mod ServerHears
+-- Every input of the server after its start keeps what stands of it, but for the begin of a new conversation.
+pub mod ServerKeeps
+-- What the server sends: a Request with the next Identifier, the last one again, or its end.
+pub mod ServerSpeaks
+-- What a tag that the server made tells of the conversation in which it did; and what each end asks of the other.
+pub mod ServerTells
+-- Each step of a run is lawful.
+pub mod SingleSteps
+-- An event that is skipped changes nothing but the number of events.
+pub mod Skips
+-- Octets that stand in others, one after the other.
+pub mod StandsIn
+-- Two ends in SUCCESS agree, where each accepted tag is one that either end made: an end in SUCCESS can't have made
+-- the tag itself that the login rests on.
+pub mod SucceedingEnds
+-- The tags of each end in a book that grows, and what its honesty says of them.
+pub mod TagsOfEnds
+-- What holds of each answer of a table, and of each delivery as it is heard, holds of all that an end takes.
+pub mod Taking
+-- What two ends that have succeeded in one login report is their own.
+pub mod Theirs
+-- The Type-Data of a packet stands in the octets that begin with it.
+pub mod TypeData
+-- The version of a scenario's text stays in its world.
+pub mod Versions
+-- In every run, what two ends that both stand in SUCCESS report over an honest book is their own: names, key and suite.
+pub mod Whose
+-- The Identity round (RFC 3748 section 2), computed from the definitions alone.
+mod Worked
+-- A proposal that is refused between ends that read Expanded Types, computed from the definitions alone.
+mod WorkedExpanded
+-- What is heard, used and fresh, computed from the definitions alone.
+mod WorkedFreshness
+-- The conversations of both ends, on what they rest, and whether they are fresh, computed from the definitions alone.
+mod WorkedMatching

@@ -1,0 +1,288 @@
+-- The pass-through in a run is the pass-through alone over what comes to it, which is what was sent or injected.
+use Rattle.std.proofs.Common.{◌≡◌, ℕ, List, [], ◌∷◌, ◌++◌, All, map, take, Option, Some, None, refl, sym, ap, subst, ◌∙◌, append_assoc, append-nil}
+use Rattle.std.proofs.lemmas.List.Elements.{All-nil, All-cons, All-head, All-tail}
+use Rattle.eap_base.specs.declared.event.Event.{Event}
+use Rattle.eap_base.specs.declared.event.Event.TheVariants as event
+use Rattle.eap_base.specs.declared.setup.Mode.TheVariants as mode
+use Rattle.eap_base.specs.declared.setup.Party.{Party}
+use Rattle.eap_base.specs.declared.setup.Party.TheVariants as party
+use Rattle.eap_base.specs.declared.setup.Port.{Port}
+use Rattle.eap_base.specs.declared.setup.Port.TheVariants as port
+use Rattle.eap_base.specs.declared.setup.Setup.{Setup}
+use Rattle.pass_through.specs.Inputs.{PassInput, pass_takes}
+use Rattle.pass_through.specs.PassTable.{PassStep, Side, pass_made}
+use Rattle.pass_through.specs.PassTable as passes
+use Rattle.pass_through.specs.Runs.{IsCarried, SentOn, pass_after, pass_sends, sent_on}
+use Rattle.pass_through.specs.declared.variables.PassVariables.{PassVariables}
+use Rattle.pass_through.proofs.Running.{carries_what_came}
+use Rattle.eap_world.specs.Conversations.{Conversations}
+use Rattle.world_laws.specs.Passing.{IsHanded, IsOfEvent, IsPassedOn, PassCarries, PassIsAlone, PassIsHanded, PassLearnsNothing, at_port, came_after, came_by, came_in, came_to_pass, came_unless, delivered, delivered_altered, delivered_cut, if_to_end, injected, of_peer, of_server, passed, passed_after, passed_by, sent_by_pass, silent, to_ends}
+use Rattle.eap_world.specs.Sent.{Sent, packet_numbered}
+use Rattle.eap_world.specs.World.{Acted, Call, Parties, WorldNow, act, altered, call_at, call_of, call_with, called, called_unless, first_skip, next_call, octets_of, pass_port, restart_call, run_after, sent_by, sent_to, skip_table, start_call, timer_call, to_pass, to_peer, to_server, world_made, world_start, world_step}
+use Rattle.eap_world.specs.declared.conversations.Waiting.{Waiting}
+use Rattle.eap_world.specs.declared.told.Skip.{Skip}
+
+-- ---- one event
+
+-- what comes to the pass-through, and what is done, where the parties stood so
+record Does (parties : Parties) (came : List PassInput) (out : Acted) : Type 0 where
+  pub runs : out.after.mode ≡ parties.mode
+  pub vars : out.after.pass ≡ pass_after parties.pass came
+  pub sent : passed_by out.action ≡ map at_port (pass_sends parties.pass came)
+
+at_its_port : (to : Side) (sent : Option (List ℕ)) → sent_to (pass_port to) sent ≡ map at_port (sent_on to sent ++ [])
+at_its_port to None = refl
+at_its_port to (Some octets) = refl
+
+called_does : (parties : Parties) (call : Call) → Does parties (came_by call) (called parties call)
+unfolding pass_after pass_sends
+called_does parties (to_peer input) = record { runs = refl; vars = refl; sent = refl }
+called_does parties (to_server input) = record { runs = refl; vars = refl; sent = refl }
+called_does parties (to_pass input) =
+    let step = (pass_takes parties.pass input).step in record { runs = refl; vars = refl; sent = at_its_port step.to step.sent }
+
+unless_does : (parties : Parties) (skip : Option Skip) (call : Option Call) → Does parties (came_unless skip call) (called_unless parties skip call)
+unfolding pass_after pass_sends
+unless_does parties (Some skip) call = record { runs = refl; vars = refl; sent = refl }
+unless_does parties None None = record { runs = refl; vars = refl; sent = refl }
+unless_does parties None (Some call) = called_does parties call
+
+act_does : (w : WorldNow) (e : Event) → Does w.parties (came_in w e) (act w.parties w.conversations w.sent e)
+unfolding act
+act_does w e = unless_does w.parties (first_skip (skip_table w.parties w.conversations w.sent e)) (call_of w.conversations w.sent e)
+
+-- ---- the run
+
+map_more : (one other : List SentOn) → map at_port (one ++ other) ≡ map at_port one ++ map at_port other
+map_more [] other = refl
+map_more (packet ∷ rest) other = ap (λ (l : List Sent). at_port packet ∷ l) (map_more rest other)
+
+sends_more : (vars : PassVariables) (one other : List PassInput)
+    → pass_sends vars (one ++ other) ≡ pass_sends vars one ++ pass_sends (pass_after vars one) other
+unfolding pass_after pass_sends
+sends_more vars [] other = refl
+sends_more vars (input ∷ rest) other =
+    let out = pass_takes vars input in
+    let now = sent_on out.step.to out.step.sent in
+    ap (λ (l : List SentOn). now ++ l) (sends_more out.after rest other)
+    ∙ sym (append_assoc now (pass_sends out.after rest) (pass_sends (pass_after out.after rest) other))
+
+after_more : (vars : PassVariables) (one other : List PassInput) → pass_after vars (one ++ other) ≡ pass_after (pass_after vars one) other
+unfolding pass_after
+after_more vars [] other = refl
+after_more vars (input ∷ rest) other = after_more (pass_takes vars input).after rest other
+
+record Goes (vars : PassVariables) (came : List PassInput) (sent : List Sent) (last : PassVariables) : Type 0 where
+  pub last_is : last ≡ pass_after vars came
+  pub sent_is : sent ≡ map at_port (pass_sends vars came)
+
+joined : (vars next last : PassVariables) (came later : List PassInput) (sent more : List Sent) → next ≡ pass_after vars came
+    → sent ≡ map at_port (pass_sends vars came) → Goes next later more last → Goes vars (came ++ later) (sent ++ more) last
+joined vars next last came later sent more next_is sent_is g =
+    let all_sent = ap (map at_port) (sends_more vars came later) ∙ map_more (pass_sends vars came) (pass_sends (pass_after vars came) later) in
+    record {
+      last_is = g.last_is ∙ (ap (λ (v : PassVariables). pass_after v later) next_is ∙ sym (after_more vars came later));
+      sent_is = ap (λ (l : List Sent). l ++ more) sent_is
+          ∙ (ap (λ (l : List Sent). map at_port (pass_sends vars came) ++ l) (g.sent_is ∙ ap (λ (v : PassVariables). map at_port (pass_sends v later)) next_is)
+          ∙ sym all_sent);
+    }
+
+goes : (w : WorldNow) (events : List Event) → Goes w.parties.pass (came_after w events) (passed_after w events) (run_after w events).parties.pass
+unfolding run_after came_after passed_after pass_after pass_sends world_step
+goes w [] = record { last_is = refl; sent_is = refl }
+goes w (e ∷ rest) =
+    let d = act_does w e in
+    joined w.parties.pass _ _ (came_in w e) (came_after (world_step w e).after rest) _ _ d.vars d.sent (goes (world_step w e).after rest)
+
+run_goes : (setup : Setup) (events : List Event)
+    → Goes (pass_made setup.first_id setup.max_retrans) (came_to_pass setup events) (sent_by_pass setup events)
+    (run_after (world_start (world_made setup)).after events).parties.pass
+unfolding world_start
+run_goes setup events =
+    let d = called_does (world_made setup).parties (start_call setup.mode) in
+    joined (pass_made setup.first_id setup.max_retrans) _ _ (came_by (start_call setup.mode)) _ _ _ d.vars d.sent
+    (goes (world_start (world_made setup)).after events)
+
+-- ---- by ports
+
+ends_more : (one other : List Sent) → to_ends (one ++ other) ≡ to_ends one ++ to_ends other
+unfolding to_ends
+ends_more [] other = refl
+ends_more (packet ∷ rest) other = ap (if_to_end packet.port packet) (ends_more rest other) ∙ by_port packet.port packet (to_ends rest) (to_ends other)
+  where
+    by_port : (to : Port) (packet : Sent) (xs ys : List Sent) → if_to_end to packet (xs ++ ys) ≡ if_to_end to packet xs ++ ys
+    by_port port.Peer packet xs ys = refl
+    by_port port.Server packet xs ys = refl
+    by_port port.PassPeer packet xs ys = refl
+    by_port port.PassServer packet xs ys = refl
+
+-- in mode through what an end sends goes to the pass-through, and what that sends to an end
+to_the_pass : (sent : Option (List ℕ)) → to_ends (sent_to port.PassPeer sent) ≡ []
+unfolding to_ends
+to_the_pass None = refl
+to_the_pass (Some octets) = refl
+
+to_the_other : (sent : Option (List ℕ)) → to_ends (sent_to port.PassServer sent) ≡ []
+unfolding to_ends
+to_the_other None = refl
+to_the_other (Some octets) = refl
+
+to_an_end : (to : Side) (sent : Option (List ℕ)) → to_ends (sent_to (pass_port to) sent) ≡ sent_to (pass_port to) sent
+unfolding to_ends
+to_an_end passes.Peer None = refl
+to_an_end passes.Peer (Some octets) = refl
+to_an_end passes.Server None = refl
+to_an_end passes.Server (Some octets) = refl
+
+called_ends : (parties : Parties) (call : Call) → parties.mode ≡ mode.Through
+    → to_ends (sent_by (called parties call).action) ≡ passed_by (called parties call).action
+called_ends parties (to_peer input) through = rw through (to_the_pass _)
+called_ends parties (to_server input) through = rw through (to_the_other _)
+called_ends parties (to_pass input) through = to_an_end (pass_takes parties.pass input).step.to (pass_takes parties.pass input).step.sent
+
+unless_ends : (parties : Parties) (skip : Option Skip) (call : Option Call) → parties.mode ≡ mode.Through
+    → to_ends (sent_by (called_unless parties skip call).action) ≡ passed_by (called_unless parties skip call).action
+unfolding to_ends
+unless_ends parties (Some skip) call through = refl
+unless_ends parties None None through = refl
+unless_ends parties None (Some call) through = called_ends parties call through
+
+act_ends : (w : WorldNow) (e : Event) → w.parties.mode ≡ mode.Through
+    → (let out = act w.parties w.conversations w.sent e in to_ends (sent_by out.action) ≡ passed_by out.action)
+unfolding act
+act_ends w e through = unless_ends w.parties (first_skip (skip_table w.parties w.conversations w.sent e)) (call_of w.conversations w.sent e) through
+
+one_more : (sent new passing later : List Sent) → to_ends new ≡ passing → to_ends (sent ++ new) ++ later ≡ to_ends sent ++ (passing ++ later)
+one_more sent new passing later same =
+    ap (λ (l : List Sent). l ++ later) (ends_more sent new ∙ ap (λ (l : List Sent). to_ends sent ++ l) same) ∙ append_assoc (to_ends sent) passing later
+
+ends_go : (w : WorldNow) (events : List Event) → w.parties.mode ≡ mode.Through → to_ends (run_after w events).sent ≡ to_ends w.sent ++ passed_after w events
+unfolding run_after passed_after world_step
+ends_go w [] through = sym (append-nil (to_ends w.sent))
+ends_go w (e ∷ rest) through =
+    let d = act_does w e in
+    ends_go (world_step w e).after rest (d.runs ∙ through)
+    ∙ one_more w.sent (sent_by (act w.parties w.conversations w.sent e).action) _ (passed_after (world_step w e).after rest) (act_ends w e through)
+
+run_to_ends : (setup : Setup) (events : List Event) → setup.mode ≡ mode.Through
+    → to_ends (run_after (world_start (world_made setup)).after events).sent ≡ sent_by_pass setup events
+unfolding world_start to_ends
+run_to_ends setup events through =
+    let made = (world_made setup).parties in
+    let d = called_does made (start_call setup.mode) in
+    ends_go (world_start (world_made setup)).after events (d.runs ∙ through)
+    ∙ ap (λ (l : List Sent). l ++ passed_after (world_start (world_made setup)).after events) (called_ends made (start_call setup.mode) through)
+
+pub pass_is_alone : PassIsAlone
+pass_is_alone setup events through =
+    let g = run_goes setup events in record { vars = g.last_is; sent = g.sent_is; to_both = run_to_ends setup events through }
+
+-- ---- two runs
+
+pub pass_learns_nothing : PassLearnsNothing
+pass_learns_nothing one other events others through too same_id same_max same_came =
+    let a = run_goes one events in
+    let b = run_goes other others in
+    let made : pass_made one.first_id one.max_retrans ≡ pass_made other.first_id other.max_retrans = rw (same_id, same_max) refl in
+    record {
+      vars = a.last_is ∙ (ap (λ (v : PassVariables). pass_after v (came_to_pass one events)) made ∙ (ap (pass_after _) same_came ∙ sym b.last_is));
+      sent = a.sent_is
+          ∙ (ap (λ (v : PassVariables). map at_port (pass_sends v (came_to_pass one events))) made
+          ∙ (ap (λ (came : List PassInput). map at_port (pass_sends (pass_made other.first_id other.max_retrans) came)) same_came ∙ sym b.sent_is));
+    }
+
+-- ---- whence its packets come
+
+all_passed : (first_id : ℕ) (came : List PassInput) (packets : List SentOn) → All (IsCarried first_id came) packets
+    → All (IsPassedOn first_id came) (map at_port packets)
+all_passed first_id came [] all = All-nil (IsPassedOn first_id came)
+all_passed first_id came (packet ∷ rest) all =
+    All-cons (IsPassedOn first_id came) (at_port packet) (map at_port rest) (passed packet (All-head (IsCarried first_id came) packet rest all))
+    (all_passed first_id came rest (All-tail (IsCarried first_id came) packet rest all))
+
+pub pass_carries : PassCarries
+pass_carries setup events through =
+    subst (All (IsPassedOn setup.first_id (came_to_pass setup events))) (sym (run_goes setup events).sent_is)
+    (all_passed setup.first_id (came_to_pass setup events) _ (carries_what_came setup.first_id setup.max_retrans (came_to_pass setup events)))
+
+-- ---- whence its inputs come
+
+module _ (sent : List Sent) (e : Event) where
+  abbrev OfEvent : PassInput → Type 0
+  OfEvent input = IsOfEvent sent e input
+
+  -- a call brings nothing else to the pass-through
+  record Brings (call : Call) : Type 0 where
+    pub all : All OfEvent (came_by call)
+
+  brings_none : (call : Call) → came_by call ≡ [] → Brings call
+  brings_none call none = record { all = subst (All OfEvent) (sym none) (All-nil OfEvent) }
+
+  brings_one : (input : PassInput) → OfEvent input → Brings (to_pass input)
+  brings_one input is = record { all = All-cons OfEvent input [] is (All-nil OfEvent) }
+
+  at_brings : (to : Port) (octets : List ℕ) → IsHanded sent e to octets → Brings (call_at to octets)
+  at_brings port.Peer octets is = brings_none _ refl
+  at_brings port.Server octets is = brings_none _ refl
+  at_brings port.PassPeer octets is = brings_one _ (of_peer octets is)
+  at_brings port.PassServer octets is = brings_one _ (of_server octets is)
+
+  -- none, or this call
+  record MayBring (call : Option Call) : Type 0 where
+    pub all : All OfEvent (came_unless None call)
+
+  may_none : MayBring None
+  may_none = record { all = All-nil OfEvent }
+
+  may_bring : (call : Call) → Brings call → MayBring (Some call)
+  may_bring call b = record { all = b.all }
+
+  with_brings : (packet : Option Sent) (octets : List ℕ) → ((one : Sent) → packet ≡ Some one → IsHanded sent e one.port octets)
+      → MayBring (call_with packet octets)
+  with_brings None octets is = may_none
+  with_brings (Some packet) octets is = may_bring _ (at_brings packet.port octets (is packet refl))
+
+  timer_brings : (of : Party) → Brings (timer_call of)
+  timer_brings party.Peer = brings_none _ refl
+  timer_brings party.Pass = brings_one _ (silent _ refl)
+  timer_brings party.Server = brings_none _ refl
+
+  next_brings : (make : List ℕ → Call) → ((nonce : List ℕ) → came_by (make nonce) ≡ []) → (left : List Waiting) → MayBring (next_call make left)
+  next_brings make none [] = may_none
+  next_brings make none (one ∷ left) = may_bring _ (brings_none _ (none one.nonce))
+
+  restart_brings : (conversations : Conversations) (of : Party) → MayBring (restart_call conversations of)
+  restart_brings conversations party.Peer = next_brings _ (λ nonce. refl) conversations.peer_left
+  restart_brings conversations party.Pass = may_bring _ (brings_one _ (silent _ refl))
+  restart_brings conversations party.Server = next_brings _ (λ nonce. refl) conversations.server_left
+
+-- the octets of a packet that was sent
+of_packet : (sent : List Sent) (e : Event) (packet : Option Sent) (make : List ℕ → List ℕ)
+    → ((one : Sent) → packet ≡ Some one → IsHanded sent e one.port (make one.octets))
+    → (one : Sent) → packet ≡ Some one → IsHanded sent e one.port (make (octets_of packet))
+of_packet sent e packet make each one is = rw is (each one is)
+
+event_brings : (conversations : Conversations) (sent : List Sent) (e : Event) → MayBring sent e (call_of conversations sent e)
+event_brings conversations sent (event.Deliver n) =
+    with_brings sent _ (packet_numbered sent n) _ (of_packet sent _ _ (λ (o : List ℕ). o) (λ one is. delivered n one is))
+event_brings conversations sent (event.Alter n place mask) =
+    with_brings sent _ (packet_numbered sent n) _ (of_packet sent _ _ (λ (o : List ℕ). altered o place mask) (λ one is. delivered_altered n place mask one is))
+event_brings conversations sent (event.Cut n keep) =
+    with_brings sent _ (packet_numbered sent n) _ (of_packet sent _ _ (λ (o : List ℕ). take keep o) (λ one is. delivered_cut n keep one is))
+event_brings conversations sent (event.Inject to octets) = may_bring sent _ _ (at_brings sent _ to octets (injected to octets))
+event_brings conversations sent (event.Timeout of) = may_bring sent _ _ (timer_brings sent _ of)
+event_brings conversations sent event.AaaTimeout = may_bring sent _ _ (brings_one sent _ _ (silent _ refl))
+event_brings conversations sent event.AaaNoReq = may_bring sent _ _ (brings_one sent _ _ (silent _ refl))
+event_brings conversations sent event.Idle = may_bring sent _ _ (brings_none sent _ _ refl)
+event_brings conversations sent event.AltAccept = may_bring sent _ _ (brings_none sent _ _ refl)
+event_brings conversations sent event.AltReject = may_bring sent _ _ (brings_none sent _ _ refl)
+event_brings conversations sent (event.Restart of) = restart_brings sent _ conversations of
+
+unless_brings : (sent : List Sent) (e : Event) (skip : Option Skip) (call : Option Call) → MayBring sent e call → All (IsOfEvent sent e) (came_unless skip call)
+unless_brings sent e (Some skip) call m = All-nil (IsOfEvent sent e)
+unless_brings sent e None call m = m.all
+
+pub pass_is_handed : PassIsHanded
+pass_is_handed w e =
+    unless_brings w.sent e (first_skip (skip_table w.parties w.conversations w.sent e)) (call_of w.conversations w.sent e)
+    (event_brings w.conversations w.sent e)

@@ -1,0 +1,137 @@
+-- Two ends that have succeeded by EAP-PSK agree.
+use Rattle.std.proofs.Common.{◌≡◌, ℕ, true, false, Bool, List, ◌∷◌, ◌++◌, length, Some, refl, sym, ap, subst, ◌∙◌, length-append, arith, inl, inr}
+use Rattle.std.proofs.lemmas.Bool.{and_from, not_from_false}
+use Rattle.eap_base.specs.declared.setup.PeerSetup.{PeerSetup}
+use Rattle.eap_base.specs.declared.setup.ServerSetup.{ServerSetup}
+use Rattle.eap_base.specs.Setup.{psk_kind}
+use Rattle.eap_method.specs.declared.tags.Label.TheVariants.{Ak, Tek}
+use Rattle.eap_method.specs.declared.tags.TagRecord.{TagRecord}
+use Rattle.eap_method.specs.declared.values.Report.{Report}
+use Rattle.eap_method.specs.PskPeer as peer
+use Rattle.eap_method.specs.PskServer as server
+use Rattle.eap_method.specs.PskTags.{ak_record, rand_of, mac_p_octets, mac_s_octets}
+use Rattle.eap_method.specs.Peer.{peer_report_of}
+use Rattle.eap_method.specs.Server.{server_report_of, psk_report}
+use Rattle.peer_machine.specs.PeerTable.{PeerNow, selected_report, peer_reports}
+use Rattle.server_machine.specs.ServerTable.{ServerNow, current_report, server_reports}
+use Rattle.eap_world.specs.Judgement.{judged, peer_agrees, server_agrees, is_welcome}
+use Rattle.world_laws.specs.Records.{IsIn}
+use Rattle.world_laws.specs.PeerStands.{PskBegun}
+use Rattle.world_laws.specs.PeerStands as peer_stands
+use Rattle.world_laws.specs.ServerStands.{PskChecked}
+use Rattle.world_laws.specs.ServerStands as server_stands
+use Rattle.world_laws.proofs.Fields.{ends}
+use Rattle.world_laws.proofs.PskFields.{front_size}
+use Rattle.world_laws.proofs.Among.{among_two}
+use Rattle.world_laws.proofs.EqualReports.{reports_agree}
+
+-- both ends speak of the same login
+pub record IsSame (p : peer.Login) (s : server.Login) : Type 0 where
+  pub psk : p.cred.psk ≡ s.psk
+  pub id_p : p.cred.id_p ≡ s.id_p
+  pub id_s : p.id_s ≡ s.own.id_s
+  pub rand_p : rand_of p.nonce ≡ s.rand_p
+  pub rand_s : p.rand_s ≡ rand_of s.nonce
+
+-- equal octets under both MACs
+pub covers_same : (p : peer.Login) (s : server.Login) → length (rand_of p.nonce) ≡ 16 → length s.rand_p ≡ 16 → length p.rand_s ≡ 16 → length (rand_of s.nonce) ≡ 16
+    → p.cred.psk ≡ s.psk → server.mac_p_covers s ≡ peer.mac_p_covers p → peer.mac_s_covers p ≡ server.mac_s_covers s → IsSame p s
+unfolding peer.mac_p_covers server.mac_p_covers peer.mac_s_covers server.mac_s_covers mac_p_octets mac_s_octets
+covers_same p s size_1 size_2 size_3 size_4 psk first second =
+    let t0 = ends 16 _ (rand_of p.nonce) _ s.rand_p size_1 size_2 (sym first) in
+    let t1 = ends 16 _ p.rand_s _ (rand_of s.nonce) size_3 size_4 t0.0 in
+    let names = ends 16 p.id_s (rand_of p.nonce) s.own.id_s s.rand_p size_1 size_2 second in
+    let users = ends (length s.own.id_s) p.cred.id_p p.id_s s.id_p s.own.id_s (ap length names.0) refl t1.0 in
+    record { psk = psk; id_p = users.0; id_s = names.0; rand_p = t0.1; rand_s = t1.1 }
+
+pub same_reports : (p : peer.Login) (s : server.Login) → IsSame p s → peer.report_of p ≡ server.report_of s
+unfolding peer.report_of server.report_of peer.keys_of server.keys_of
+same_reports p s same = rw (same.psk, same.id_p, same.id_s, same.rand_p) refl
+
+other_label : Ak ≡ Tek → ⊥
+other_label e = absurd cc
+
+-- MAC_P covers more than MAC_S of the same names and nonces, by ID_P and RAND_S
+covers_more : (id_p id_s rand_s rand_p : List ℕ) → length rand_s ≡ 16 → mac_p_octets id_p id_s rand_s rand_p ≡ mac_s_octets id_s rand_p → ⊥
+unfolding mac_p_octets mac_s_octets
+covers_more id_p id_s rand_s rand_p size e =
+    let sizes : length (((id_p ++ id_s) ++ rand_s) ++ rand_p) ≡ length (id_s ++ rand_p) = ap length e in
+    absurd
+    (omega (arith, length-append ((id_p ++ id_s) ++ rand_s) rand_p, length-append (id_p ++ id_s) rand_s, length-append id_p id_s, length-append id_s rand_p, size))
+
+-- the MAC_S that the peer accepted is none of the tags that it made itself
+pub peer_not_own : (setup : PeerSetup) (p : peer.Login) → PskBegun setup p → (id : ℕ)
+    → IsIn (ak_record p.cred.psk (peer.mac_s_covers p) (peer.mac_s_of p)) (peer_stands.psk2_record p ∷ peer.psk4_record p id 2) → ⊥
+unfolding peer.mac_p_covers peer.mac_s_covers
+peer_not_own setup p begun id is_in =
+    elim (among_two _ _ _ is_in) [
+      | inl one ↦ covers_more p.cred.id_p p.id_s p.rand_s (rand_of p.nonce) begun.size
+          (sym (ap (λ (tag : TagRecord). tag.octets) one))
+      | inr other ↦ other_label (ap (λ (tag : TagRecord). tag.label) other)
+    ]
+
+-- the MAC_P that the server accepted is none of the tags that it made itself
+pub server_not_own : (setup : ServerSetup) (s : server.Login) → PskChecked setup s → length setup.nonce ≡ 32 → (id : ℕ)
+    → IsIn (server_stands.psk2_record s) (server.psk3_records s id) → ⊥
+unfolding server.mac_p_covers server.mac_s_covers
+server_not_own setup s checked nonce id is_in =
+    elim (among_two _ _ _ is_in) [
+      | inl one ↦ covers_more s.id_p s.own.id_s (rand_of s.nonce) s.rand_p (front_size s.nonce (omega (arith, ap length checked.nonce, nonce)))
+          (ap (λ (tag : TagRecord). tag.octets) one)
+      | inr other ↦ other_label (ap (λ (tag : TagRecord). tag.label) other)
+    ]
+
+-- only a user who is not barred is sent a success
+pub not_barred : (barred : Bool) (r : ℕ) → r ≡ server.r_for barred → r ≡ 2 → barred ≡ false
+not_barred true r is_sent is_success = absurd (omega arith)
+not_barred false r is_sent is_success = refl
+
+module _ (setup : PeerSetup) (login : peer.Login) (facts : PskBegun setup login) where
+  by_peer : peer_agrees setup (peer.report_of login) ≡ true
+  unfolding peer.report_of
+  by_peer = and_from _ _ facts.allowed (and_from _ _ facts.accepted refl)
+
+  pub peer_reported : (now : PeerNow) → now.vars.selected ≡ Some psk_kind → now.views.psk ≡ peer.over login true → peer_reports now ≡ Some (peer.report_of login)
+  unfolding peer_report_of
+  peer_reported now is_selected in_view = ap (selected_report now.views) is_selected ∙ ap peer.report in_view
+
+module _ (setup : ServerSetup) (login : server.Login) (facts : PskChecked setup login) (r_sent : login.r ≡ 2) where
+  by_server : server_agrees setup (server.report_of login) ≡ true
+  unfolding server.report_of
+  by_server =
+      let barred : facts.user.barred ≡ false = not_barred facts.user.barred login.r facts.r r_sent in
+      and_from _ _ facts.ordered (and_from _ _ refl (ap is_welcome facts.known ∙ not_from_false _ barred))
+
+  pub server_reported : (now : ServerNow) → now.vars.current ≡ Some psk_kind → now.views.psk ≡ Some (server.over login true) → server_reports now ≡ Some (server.report_of login)
+  unfolding server_report_of
+  server_reported now is_current in_view = ap (current_report now.views) is_current ∙ ap psk_report in_view
+
+module _ (peer_setup : PeerSetup) (server_setup : ServerSetup) (p : peer.Login) (begun : PskBegun peer_setup p)
+    (s : server.Login) (checked : PskChecked server_setup s)
+    (peer_nonce : length peer_setup.nonce ≡ 32) (server_nonce : length server_setup.nonce ≡ 32) where
+  -- the MAC_P that the server accepted is one that the peer made, the MAC_S that the peer accepted one
+  -- that the server made
+  pub same_login : (peer_id server_id : ℕ)
+      → IsIn (server_stands.psk2_record s) (peer_stands.psk2_record p ∷ peer.psk4_record p peer_id 2)
+      → IsIn (ak_record p.cred.psk (peer.mac_s_covers p) (peer.mac_s_of p)) (server.psk3_records s server_id) → IsSame p s
+  same_login peer_id server_id first second =
+      elim (among_two _ _ _ first) [
+        | inl one ↦ elim (among_two _ _ _ second) [
+          | inl other ↦ covers_same p s
+              (front_size p.nonce (omega (arith, ap length begun.nonce, peer_nonce))) checked.size
+              begun.size (front_size s.nonce (omega (arith, ap length checked.nonce, server_nonce)))
+              (sym (ap (λ (tag : TagRecord). tag.psk) one)) (ap (λ (tag : TagRecord). tag.octets) one) (ap (λ (tag : TagRecord). tag.octets) other)
+          | inr other ↦ absurd (other_label (ap (λ (tag : TagRecord). tag.label) other))
+        ]
+        | inr one ↦ absurd (other_label (ap (λ (tag : TagRecord). tag.label) one))
+      ]
+
+  pub psk_agree : (now : PeerNow) (other : ServerNow) → now.vars.selected ≡ Some psk_kind → now.views.psk ≡ peer.over p true
+      → other.vars.current ≡ Some psk_kind → other.views.psk ≡ Some (server.over s true) → s.r ≡ 2 → IsSame p s
+      → judged peer_setup server_setup (peer_reports now) (server_reports other) ≡ true
+  psk_agree now other is_selected in_view is_current in_other r_sent same =
+      let reports : peer.report_of p ≡ server.report_of s = same_reports p s same in
+      let agreed = reports_agree peer_setup server_setup (peer.report_of p) (server.report_of s) reports
+      (by_peer peer_setup p begun)
+      (subst (λ (report : Report). server_agrees server_setup report ≡ true) (sym reports) (by_server server_setup s checked r_sent)) in
+      rw (peer_reported peer_setup p begun now is_selected in_view, server_reported server_setup s checked r_sent other is_current in_other) agreed

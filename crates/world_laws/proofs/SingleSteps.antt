@@ -1,0 +1,541 @@
+-- Each step of a run is lawful.
+use Rattle.std.proofs.Common.{◌≡◌, ◌≤◌, ℕ, ◌+◌, List, [], ◌∷◌, ◌++◌, length, Bool, true, false, Option, Some, None, refl, sym, ap, subst, ◌∙◌, arith, append-nil}
+use Rattle.std.specs.Prelude.{◌||◌, ◌%◌, not}
+use Rattle.std.specs.List.{list_any}
+use Rattle.std.proofs.lemmas.Bool.{false≢true, or_right}
+use Rattle.eap_base.specs.declared.event.Event.{Event}
+use Rattle.eap_base.specs.declared.event.Event.TheVariants as event
+use Rattle.eap_base.specs.declared.setup.Mode.{Mode}
+use Rattle.eap_base.specs.declared.setup.Mode.TheVariants as mode
+use Rattle.eap_base.specs.declared.setup.Party.{Party}
+use Rattle.eap_base.specs.declared.setup.Party.TheVariants as party
+use Rattle.eap_base.specs.declared.setup.Port.{Port}
+use Rattle.eap_base.specs.declared.setup.Port.TheVariants as port
+use Rattle.eap_base.specs.declared.setup.PeerSetup.{PeerSetup}
+use Rattle.eap_base.specs.declared.setup.ServerSetup.{ServerSetup}
+use Rattle.eap_base.specs.declared.setup.Setup.{Setup}
+use Rattle.eap_packet.specs.Fault.{code_of}
+use Rattle.eap_packet.specs.declared.state.State.{State}
+use Rattle.eap_method.specs.declared.tags.TagRecord.{TagRecord}
+use Rattle.eap_method.specs.Steps.{is_end}
+use Rattle.peer_machine.specs.PeerTable as peers
+use Rattle.peer_machine.specs.PeerTable.{PeerNow}
+use Rattle.peer_machine.specs.Inputs as peer_inputs
+use Rattle.peer_machine.specs.Inputs.{PeerInput, peer_takes}
+use Rattle.server_machine.specs.Inputs as server_inputs
+use Rattle.server_machine.specs.Inputs.{ServerInput, server_takes}
+use Rattle.server_machine.specs.ServerTable as servers
+use Rattle.server_machine.specs.ServerTable.{ServerNow, is_backend, is_started, server_start}
+use Rattle.server_machine.specs.declared.variables.Role.{Role}
+use Rattle.server_machine.specs.declared.variables.Role.TheVariants as role
+use Rattle.server_machine.proofs.Starting.{stays_as_it_is}
+use Rattle.pass_through.specs.Inputs.{PassInput, pass_takes}
+use Rattle.pass_through.specs.PassTable.{Side, is_over}
+use Rattle.eap_world.specs.Run.{run_of}
+use Rattle.eap_world.specs.Judgement.{is_success}
+use Rattle.eap_world.specs.Conversations.{Conversations}
+use Rattle.eap_world.specs.Sent.{Sent, last_to, packet_numbered}
+use Rattle.world_laws.specs.SingleSteps.{identifier_of, handed_in, is_delivery_of, is_restart, Sends, AnswersIt, is_again, CountsOn, has_ended, end_state, StepsAreLawful}
+use Rattle.eap_world.specs.World.{Call, Parties, WorldNow, WorldOutcome, act, call_at, call_of, call_with, called, called_unless, conversed, conversed_by, conversed_unless, first_skip, goes_to, held_anew, held_before, held_unless, is_alone, is_delivery, pass_port, pass_state, restart_call, restart_skips, role_in, run_after, sent_to, skip_table, skipped, start_call, state_of, timer_call, timer_skips, to_pass, to_peer, to_server, world_made, world_start, world_step}
+use Rattle.eap_world.specs.declared.book.End.{End}
+use Rattle.eap_world.specs.declared.book.End.TheVariants as end
+use Rattle.eap_world.specs.declared.book.Use.TheVariants.{Accepted}
+use Rattle.eap_world.specs.declared.told.Skip.{Skip}
+use Rattle.world_laws.specs.EndsStand.{BothStand, present_tags}
+use Rattle.world_laws.proofs.Acting.{counted_acted, next_is, restart_is, some_call, step_steps}
+use Rattle.world_laws.proofs.EndsStand.{every_run_so_far, step_stands}
+use Rattle.world_laws.proofs.OneMethod.{some_same}
+use Rattle.world_laws.proofs.SucceedingEnds.{PeerSucceeds, ServerSucceeds, of_gpsk, of_psk, peer_succeeds, server_succeeds, with_gpsk, with_psk}
+use Rattle.world_laws.proofs.LastSent.{Fits, HaveSaid, call_says, is_begin, starts_pass}
+use Rattle.world_laws.proofs.PassSpeaks as passing
+use Rattle.world_laws.proofs.PassSpeaks.{PassSpeaks, pass_speaks}
+use Rattle.world_laws.proofs.PeerSpeaks as peering
+use Rattle.world_laws.proofs.PeerSpeaks.{PeerSpeaks, peer_speaks}
+use Rattle.world_laws.proofs.ServerSpeaks as serving
+use Rattle.world_laws.proofs.ServerSpeaks.{ServerSpeaks, server_speaks}
+
+-- ---- a step is a skip, or a call that the event is
+
+pub data StepOf (w : WorldNow) (e : Event) : WorldOutcome → Type 0 where
+  is_skipped : (skip : Skip) → StepOf w e (counted_acted w w.held w.conversations (skipped w.parties skip))
+  is_called : (call : Call) (unskipped : first_skip (skip_table w.parties w.conversations w.sent e) ≡ None)
+      (is_call : call_of w.conversations w.sent e ≡ Some call)
+      → StepOf w e (counted_acted w (held_anew w.held call) (conversed (w.counts.events + 1) w.conversations call) (called w.parties call))
+
+unless_of : (w : WorldNow) (e : Event) (skip : Option Skip) (call : Option Call)
+    → first_skip (skip_table w.parties w.conversations w.sent e) ≡ skip → call_of w.conversations w.sent e ≡ call
+    → StepOf w e
+    (counted_acted w (held_unless w.held skip call) (conversed_unless (w.counts.events + 1) w.conversations skip call) (called_unless w.parties skip call))
+unless_of w e (Some skip) call skip_is call_is = is_skipped skip
+unless_of w e None None skip_is call_is = is_skipped _
+unless_of w e None (Some call) skip_is call_is = is_called call skip_is call_is
+
+step_of : (w : WorldNow) (e : Event) → StepOf w e (world_step w e)
+unfolding act conversed_by held_before world_step
+step_of w e = unless_of w e (first_skip (skip_table w.parties w.conversations w.sent e)) (call_of w.conversations w.sent e) refl refl
+
+-- ---- what is handed in, and which timer ends
+
+at_peer : (to : Port) (octets bytes : List ℕ) → call_at to octets ≡ to_peer (peer_inputs.octets bytes) → bytes ≡ octets
+at_peer port.Peer octets bytes e = cc
+at_peer port.Server octets bytes e = cc e
+at_peer port.PassPeer octets bytes e = cc e
+at_peer port.PassServer octets bytes e = cc e
+
+with_peer : (packet : Option Sent) (octets bytes : List ℕ) → call_with packet octets ≡ Some (to_peer (peer_inputs.octets bytes)) → bytes ≡ octets
+with_peer None octets bytes e = cc e
+with_peer (Some packet) octets bytes e = at_peer packet.port octets bytes (some_call _ _ e)
+
+timer_peer : (of : Party) (bytes : List ℕ) {A : Type 0} → timer_call of ≡ to_peer (peer_inputs.octets bytes) → A
+timer_peer party.Peer bytes e = absurd cc
+timer_peer party.Pass bytes e = absurd cc
+timer_peer party.Server bytes e = absurd cc
+
+handed_to_peer : (conversations : Conversations) (sent : List Sent) (e : Event) (bytes : List ℕ)
+    → call_of conversations sent e ≡ Some (to_peer (peer_inputs.octets bytes)) → bytes ≡ handed_in sent e
+handed_to_peer conversations sent (event.Deliver n) bytes is = with_peer (packet_numbered sent n) _ bytes is
+handed_to_peer conversations sent (event.Alter n place mask) bytes is = with_peer (packet_numbered sent n) _ bytes is
+handed_to_peer conversations sent (event.Cut n keep) bytes is = with_peer (packet_numbered sent n) _ bytes is
+handed_to_peer conversations sent (event.Inject to octets) bytes is = at_peer to octets bytes (some_call _ _ is)
+handed_to_peer conversations sent (event.Timeout of) bytes is = timer_peer of bytes (some_call _ _ is)
+handed_to_peer conversations sent event.AaaTimeout bytes is = cc is
+handed_to_peer conversations sent event.AaaNoReq bytes is = cc is
+handed_to_peer conversations sent event.Idle bytes is = cc is
+handed_to_peer conversations sent event.AltAccept bytes is = cc is
+handed_to_peer conversations sent event.AltReject bytes is = cc is
+handed_to_peer conversations sent (event.Restart of) bytes is =
+    restart_is (λ (call : Call). call ≡ to_peer (peer_inputs.octets bytes) → bytes ≡ []) (λ nonce same. cc same) (λ same. cc same) (λ nonce same. cc same)
+    conversations of _ is refl
+
+at_timer : (to : Port) (octets : List ℕ) {A : Type 0} → call_at to octets ≡ to_server server_inputs.timeout → A
+at_timer port.Peer octets e = absurd cc
+at_timer port.Server octets e = absurd cc
+at_timer port.PassPeer octets e = absurd cc
+at_timer port.PassServer octets e = absurd cc
+
+with_timer : (packet : Option Sent) (octets : List ℕ) {A : Type 0} → call_with packet octets ≡ Some (to_server server_inputs.timeout) → A
+with_timer None octets e = absurd cc
+with_timer (Some packet) octets e = at_timer packet.port octets (some_call _ _ e)
+
+-- the server's timer ends in mode alone
+only_alone : (m : Mode) (over : Bool) (one other : Skip) → first_skip ((over, one) ∷ (not (is_alone m), other) ∷ []) ≡ None → m ≡ mode.Alone
+only_alone mode.Alone over one other e = refl
+only_alone mode.Through true one other e = cc e
+only_alone mode.Through false one other e = cc e
+
+never : (over : Bool) (one other : Skip) {A : Type 0} → first_skip ((over, one) ∷ (true, other) ∷ []) ≡ None → A
+never true one other e = absurd cc
+never false one other e = absurd cc
+
+timer_is : (parties : Parties) (of : Party) → first_skip (timer_skips parties of) ≡ None → timer_call of ≡ to_server server_inputs.timeout
+    → parties.mode ≡ mode.Alone
+timer_is parties party.Peer unskipped is = never _ _ _ unskipped
+timer_is parties party.Pass unskipped is = absurd cc
+timer_is parties party.Server unskipped is = only_alone parties.mode _ _ _ unskipped
+
+server_timer : (parties : Parties) (conversations : Conversations) (sent : List Sent) (e : Event)
+    → first_skip (skip_table parties conversations sent e) ≡ None → call_of conversations sent e ≡ Some (to_server server_inputs.timeout)
+    → parties.mode ≡ mode.Alone
+server_timer parties conversations sent (event.Deliver n) unskipped is = with_timer (packet_numbered sent n) _ is
+server_timer parties conversations sent (event.Alter n place mask) unskipped is = with_timer (packet_numbered sent n) _ is
+server_timer parties conversations sent (event.Cut n keep) unskipped is = with_timer (packet_numbered sent n) _ is
+server_timer parties conversations sent (event.Inject to octets) unskipped is = at_timer to octets (some_call _ _ is)
+server_timer parties conversations sent (event.Timeout of) unskipped is = timer_is parties of unskipped (some_call _ _ is)
+server_timer parties conversations sent event.AaaTimeout unskipped is = absurd cc
+server_timer parties conversations sent event.AaaNoReq unskipped is = absurd cc
+server_timer parties conversations sent event.Idle unskipped is = absurd cc
+server_timer parties conversations sent event.AltAccept unskipped is = absurd cc
+server_timer parties conversations sent event.AltReject unskipped is = absurd cc
+server_timer parties conversations sent (event.Restart of) unskipped is =
+    restart_is (λ (call : Call). call ≡ to_server server_inputs.timeout → parties.mode ≡ mode.Alone) (λ nonce same. cc same) (λ same. cc same)
+    (λ nonce same. cc same) conversations of _ is refl
+
+-- a call in which a party starts, or begins anew
+abbrev is_start : Call → Bool
+is_start (to_peer (peer_inputs.restart nonce)) = true
+is_start (to_server server_inputs.start) = true
+is_start (to_server (server_inputs.restart nonce)) = true
+is_start (to_pass input) = is_begin input
+is_start call = false
+
+-- ---- what is added to those sent
+
+cancel : (xs a b : List Sent) → xs ++ a ≡ xs ++ b → a ≡ b
+cancel [] a b e = e
+cancel (x ∷ xs) a b e = cancel xs a b cc
+
+record IsSent (to : Port) (octets : Option (List ℕ)) (packet : Sent) : Type 0 where
+  pub sent : octets ≡ Some packet.octets
+  pub port : packet.port ≡ to
+
+one_sent : (to : Port) (octets : Option (List ℕ)) (packet : Sent) → sent_to to octets ≡ packet ∷ [] → IsSent to octets packet
+one_sent to None packet e = cc e
+one_sent to (Some octets) packet e =
+    let one : Sent = record { port = to; octets = octets } in
+    let same : one ≡ packet = cc in
+    record { sent = ap (λ (p : Sent). Some p.octets) same; port = ap (λ (p : Sent). p.port) (sym same) }
+
+unsent_none : {A : Type 0} (octets : Option (List ℕ)) (packet : List ℕ) → octets ≡ None → octets ≡ Some packet → A
+unsent_none octets packet none some = absurd cc
+
+sent_same : (octets : Option (List ℕ)) (one other : List ℕ) → octets ≡ Some one → octets ≡ Some other → one ≡ other
+sent_same octets one other is is_other = cc
+
+-- ---- what holds in every run
+
+-- the server's role is that of the mode, and alone it has started
+pub record Begun (parties : Parties) : Type 0 where
+  pub role : parties.server.vars.role ≡ role_in parties.mode
+  pub begun : parties.mode ≡ mode.Alone → is_started parties.server.vars ≡ true
+
+pub record Holds (w : WorldNow) : Type 0 where
+  pub said : HaveSaid w.parties w.sent
+  pub begun : Begun w.parties
+
+-- a server to which octets may come has started, unless it is a backend
+alone_begun : (backend begun : Bool) → backend ≡ false → (backend || begun) ≡ true → begun ≡ true
+alone_begun true begun alone ready = cc alone
+alone_begun false begun alone ready = ready
+
+-- the role of a backend
+abbrev is_backend_role : Role → Bool
+is_backend_role of = elim of [ role.Backend ↦ true | role.StandAlone ↦ false ]
+
+call_begun : (parties : Parties) (call : Call) → Begun parties → Begun (called parties call).after
+call_begun parties (to_peer input) was = record { role = was.role; begun = was.begun }
+call_begun parties (to_server input) was =
+    let before = parties.server.vars in
+    let same = stays_as_it_is parties.server input in
+    let of_mode = same.role ∙ was.role in
+    record {
+      role = of_mode;
+      begun = λ alone.
+          alone_begun _ _ (ap is_backend_role (of_mode ∙ ap role_in alone)) (same.ready (or_right (is_backend before) (is_started before) (was.begun alone)));
+    }
+call_begun parties (to_pass input) was = record { role = was.role; begun = was.begun }
+
+fits_unstarted : (parties : Parties) (call : Call) → is_start call ≡ false → Fits parties call
+fits_unstarted parties (to_peer input) later alone = refl
+fits_unstarted parties (to_server input) later alone = refl
+fits_unstarted parties (to_pass input) later alone = later
+
+at_start : (to : Port) (octets : List ℕ) → is_start (call_at to octets) ≡ false
+at_start port.Peer octets = refl
+at_start port.Server octets = refl
+at_start port.PassPeer octets = refl
+at_start port.PassServer octets = refl
+
+with_start : (packet : Option Sent) (octets : List ℕ) (call : Call) → call_with packet octets ≡ Some call → is_start call ≡ false
+with_start None octets call e = cc e
+with_start (Some packet) octets call e = subst (λ (c : Call). is_start c ≡ false) (some_call _ _ e) (at_start packet.port octets)
+
+timer_start : (of : Party) → is_start (timer_call of) ≡ false
+timer_start party.Peer = refl
+timer_start party.Pass = refl
+timer_start party.Server = refl
+
+other_start : (one call : Call) → is_start one ≡ false → Some one ≡ Some call → is_start call ≡ false
+other_start one call later e = subst (λ (c : Call). is_start c ≡ false) (some_call _ _ e) later
+
+-- octets come in a delivery alone
+at_delivery : (to : Port) (octets : List ℕ) → is_delivery (call_at to octets) ≡ true
+at_delivery port.Peer octets = refl
+at_delivery port.Server octets = refl
+at_delivery port.PassPeer octets = refl
+at_delivery port.PassServer octets = refl
+
+this_delivery : (to : Port) (octets : List ℕ) (call : Call) → Some (call_at to octets) ≡ Some call → is_delivery call ≡ true
+this_delivery to octets call e = subst (λ (c : Call). is_delivery c ≡ true) (some_call _ _ e) (at_delivery to octets)
+
+with_delivery : (packet : Option Sent) (octets : List ℕ) (call : Call) → call_with packet octets ≡ Some call → is_delivery call ≡ true
+with_delivery None octets call e = cc e
+with_delivery (Some packet) octets call e = this_delivery packet.port octets call e
+
+of_delivery : (conversations : Conversations) (sent : List Sent) (e : Event) (call : Call) → is_delivery_of e ≡ true
+    → call_of conversations sent e ≡ Some call → is_delivery call ≡ true
+of_delivery conversations sent (event.Deliver n) call delivered is = with_delivery (packet_numbered sent n) _ call is
+of_delivery conversations sent (event.Alter n place mask) call delivered is = with_delivery (packet_numbered sent n) _ call is
+of_delivery conversations sent (event.Cut n keep) call delivered is = with_delivery (packet_numbered sent n) _ call is
+of_delivery conversations sent (event.Inject to octets) call delivered is = this_delivery to octets call is
+of_delivery conversations sent e call delivered is = absurd (false≢true delivered)
+
+-- no event starts a party but a restart
+of_start : (conversations : Conversations) (sent : List Sent) (e : Event) (call : Call) → is_restart e ≡ false
+    → call_of conversations sent e ≡ Some call → is_start call ≡ false
+of_start conversations sent (event.Deliver n) call goes_on is = with_start (packet_numbered sent n) _ call is
+of_start conversations sent (event.Alter n place mask) call goes_on is = with_start (packet_numbered sent n) _ call is
+of_start conversations sent (event.Cut n keep) call goes_on is = with_start (packet_numbered sent n) _ call is
+of_start conversations sent (event.Inject to octets) call goes_on is = other_start _ call (at_start to octets) is
+of_start conversations sent (event.Timeout of) call goes_on is = other_start _ call (timer_start of) is
+of_start conversations sent event.AaaTimeout call goes_on is = other_start _ call refl is
+of_start conversations sent event.AaaNoReq call goes_on is = other_start _ call refl is
+of_start conversations sent event.Idle call goes_on is = other_start _ call refl is
+of_start conversations sent event.AltAccept call goes_on is = other_start _ call refl is
+of_start conversations sent event.AltReject call goes_on is = other_start _ call refl is
+of_start conversations sent (event.Restart of) call goes_on is = cc goes_on
+
+not_alone : (m : Mode) (skip : Skip) → m ≡ mode.Alone → first_skip ((is_alone m, skip) ∷ []) ≡ None → ⊥
+not_alone mode.Alone skip alone unskipped = cc unskipped
+not_alone mode.Through skip alone unskipped = cc alone
+
+restart_fits : (parties : Parties) (conversations : Conversations) (of : Party) (call : Call)
+    → first_skip (restart_skips parties conversations of) ≡ None → restart_call conversations of ≡ Some call → Fits parties call
+restart_fits parties conversations party.Peer call unskipped is =
+    next_is (Fits parties) (λ nonce. to_peer (peer_inputs.restart nonce)) (λ nonce alone. refl) conversations.peer_left call is
+restart_fits parties conversations party.Pass call unskipped is = λ alone. absurd (not_alone parties.mode _ alone unskipped)
+restart_fits parties conversations party.Server call unskipped is =
+    next_is (Fits parties) (λ nonce. to_server (server_inputs.restart nonce)) (λ nonce alone. refl) conversations.server_left call is
+
+event_fits : (parties : Parties) (conversations : Conversations) (sent : List Sent) (e : Event) (call : Call)
+    → first_skip (skip_table parties conversations sent e) ≡ None → call_of conversations sent e ≡ Some call → Fits parties call
+event_fits parties conversations sent (event.Restart of) call unskipped is = restart_fits parties conversations of call unskipped is
+event_fits parties conversations sent e call unskipped is = fits_unstarted parties call (of_start conversations sent e call refl is)
+
+step_holds : (w : WorldNow) (e : Event) (out : WorldOutcome) → StepOf w e out → Holds w → Holds out.after
+step_holds w e _ (is_skipped skip) holds = record { said = rw (append-nil w.sent) holds.said; begun = holds.begun }
+step_holds w e _ (is_called call unskipped is_call) holds = record {
+  said = call_says w.parties w.sent holds.said call (event_fits w.parties w.conversations w.sent e call unskipped is_call);
+  begun = call_begun w.parties call holds.begun;
+}
+
+run_holds : (w : WorldNow) (events : List Event) → Holds w → Holds (run_after w events)
+unfolding run_after
+run_holds w [] holds = holds
+run_holds w (e ∷ rest) holds = run_holds (world_step w e).after rest (step_holds w e (world_step w e) (step_of w e) holds)
+
+start_fits : (m : Mode) → m ≡ mode.Alone → starts_pass (start_call m) ≡ false
+start_fits mode.Alone alone = refl
+start_fits mode.Through alone = cc alone
+
+made_said : (setup : Setup) → (let w = world_made setup in HaveSaid w.parties w.sent)
+made_said setup = record {
+  peer = λ id e. cc e;
+  server = λ begun going. absurd (false≢true begun);
+  pass = λ through goes. absurd (false≢true goes.begun);
+  rests = λ alone. refl;
+}
+
+start_begun : (setup : Setup) (m : Mode) → setup.mode ≡ m → Begun (called (world_made setup).parties (start_call m)).after
+unfolding server_start
+start_begun setup mode.Alone is = record { role = refl; begun = λ alone. refl }
+start_begun setup mode.Through is = record { role = refl; begun = λ alone. absurd (let both : mode.Alone ≡ mode.Through = sym alone ∙ is in cc) }
+
+start_holds : (setup : Setup) → Holds (world_start (world_made setup)).after
+unfolding world_start
+start_holds setup = record {
+  said = call_says (world_made setup).parties [] (made_said setup) (start_call setup.mode) (start_fits setup.mode);
+  begun = start_begun setup setup.mode refl;
+}
+
+pub every_run_holds : (setup : Setup) (events : List Event) → Holds (run_of setup events)
+every_run_holds setup events = run_holds (world_start (world_made setup)).after events (start_holds setup)
+
+-- ---- the laws
+
+some_state : (one other : State) → Some one ≡ Some other → one ≡ other
+some_state one other e = cc
+
+no_party : {A : Type 0} (of : Party) → ◌≡◌ {A = Option Party} None (Some of) → A
+no_party of e = absurd cc
+
+module _ (w : WorldNow) (e : Event) (holds : Holds w) where
+  peer_answers : (input : PeerInput) (packet : Sent) → (let out = peer_takes w.parties.peer input in
+      PeerSpeaks w.parties.peer input out → call_of w.conversations w.sent e ≡ Some (to_peer input) → out.step.sent ≡ Some packet.octets
+      → AnswersIt (handed_in w.sent e) packet.octets)
+  peer_answers input packet (peering.rests _ _ unsent same_id same) is_call sent = unsent_none _ _ unsent sent
+  peer_answers _ packet (peering.answers bytes answer _ is going is_sent new last_id last) is_call sent =
+      let same : answer ≡ packet.octets = sent_same _ _ _ is_sent sent in
+      let came : bytes ≡ handed_in w.sent e = handed_to_peer w.conversations w.sent e bytes is_call in
+      record {
+        is_response = ap code_of (sym same) ∙ is.code;
+        same = ap identifier_of (sym same) ∙ (is.same ∙ ap identifier_of came);
+      }
+  peer_answers _ packet (peering.repeats bytes _ was_last going is_sent same_id same) is_call sent =
+      let same_octets : w.parties.peer.vars.last_response ≡ packet.octets = sent_same _ _ _ is_sent sent in
+      let came : bytes ≡ handed_in w.sent e = handed_to_peer w.conversations w.sent e bytes is_call in
+      let was = holds.said.peer (identifier_of bytes) was_last in
+      record {
+        is_response = ap code_of (sym same_octets) ∙ was.is.code;
+        same = ap identifier_of (sym same_octets) ∙ (was.is.same ∙ ap identifier_of came);
+      }
+  peer_answers _ packet (peering.begins nonce _ unsent none) is_call sent = unsent_none _ _ unsent sent
+
+  answers_law : (out : WorldOutcome) → StepOf w e out → (packet : Sent) → Sends w out party.Peer packet → AnswersIt (handed_in w.sent e) packet.octets
+  answers_law _ (is_skipped skip) packet sends = no_party _ sends.acts
+  answers_law _ (is_called (to_peer input) unskipped is_call) packet sends =
+      let is = one_sent _ _ packet (cancel w.sent _ _ sends.adds) in
+      peer_answers input packet (peer_speaks w.parties.peer input) is_call is.sent
+  answers_law _ (is_called (to_server input) unskipped is_call) packet sends = absurd (let other = sends.acts in cc other)
+  answers_law _ (is_called (to_pass input) unskipped is_call) packet sends = absurd (let other = sends.acts in cc other)
+
+  -- what is sent again
+  peer_again : (input : PeerInput) (octets : List ℕ) → (let out = peer_takes w.parties.peer input in
+      PeerSpeaks w.parties.peer input out → list_any is_again out.step.path ≡ true → out.step.sent ≡ Some octets
+      → last_to (goes_to party.Peer w.parties.mode) w.sent ≡ Some octets)
+  peer_again input octets (peering.rests _ _ unsent same_id same) again sent = unsent_none _ _ unsent sent
+  peer_again _ octets (peering.answers bytes answer _ is going is_sent new last_id last) again sent = absurd (false≢true (sym new ∙ again))
+  peer_again _ octets (peering.repeats bytes _ was_last going is_sent same_id same) again sent =
+      (holds.said.peer (identifier_of bytes) was_last).is_last ∙ (sym is_sent ∙ sent)
+  peer_again _ octets (peering.begins nonce _ unsent none) again sent = unsent_none _ _ unsent sent
+
+  server_again : (input : ServerInput) (octets : List ℕ) → (let out = server_takes w.parties.server input in
+      ServerSpeaks w.parties.server input out → (input ≡ server_inputs.timeout → w.parties.mode ≡ mode.Alone)
+      → list_any is_again out.step.path ≡ true → out.step.sent ≡ Some octets
+      → last_to (goes_to party.Server w.parties.mode) w.sent ≡ Some octets)
+  server_again input octets (serving.rests unsent same_state same_id same) alone again sent = unsent_none _ _ unsent sent
+  server_again input octets (serving.asks packet id is going is_sent new current last follows) alone again sent = absurd (false≢true (sym new ∙ again))
+  server_again input octets (serving.repeats is_timer_input going is_sent same_state same_id same) alone again sent =
+      (holds.said.server (holds.begun.begun (alone is_timer_input)) going).is_last ∙ (sym is_sent ∙ sent)
+  server_again input octets (serving.ends going over new each) alone again sent = absurd (false≢true (sym new ∙ again))
+  server_again input octets (serving.gives_up going over unsent) alone again sent = unsent_none _ _ unsent sent
+  server_again input octets (serving.awaits nonce is_restart unsent unstarted) alone again sent = unsent_none _ _ unsent sent
+  server_again input octets (serving.begins nonce is_restart packet id is is_sent new current last) alone again sent = absurd (false≢true (sym new ∙ again))
+
+  pass_again : (input : PassInput) (octets : List ℕ) (m : Mode) → w.parties.mode ≡ m → (let out = pass_takes w.parties.pass input in
+      PassSpeaks w.parties.pass input out → list_any is_again out.step.path ≡ true → out.step.sent ≡ Some octets
+      → last_to (pass_port out.step.to) w.sent ≡ Some octets)
+  pass_again input octets m is_mode (passing.rests unsent same was still) again sent = unsent_none _ _ unsent sent
+  pass_again input octets m is_mode (passing.onwards to goes new same) again sent = absurd (false≢true (sym new ∙ again))
+  pass_again input octets m is_mode (passing.asks packet to going is_sent new last begins) again sent = absurd (false≢true (sym new ∙ again))
+  pass_again input octets m is_mode (passing.begins_anew is_restart packet to is_sent new last) again sent = absurd (false≢true (sym new ∙ again))
+  pass_again input octets mode.Alone alone (passing.repeats to goes is_sent same) again sent =
+      absurd (false≢true (sym (holds.said.rests alone) ∙ goes.begun))
+  pass_again input octets mode.Through through (passing.repeats to goes is_sent same) again sent =
+      ap (λ (s : Side). last_to (pass_port s) w.sent) to ∙ (holds.said.pass through goes ∙ (sym is_sent ∙ sent))
+
+  repeats_law : (out : WorldOutcome) → StepOf w e out → (of : Party) (packet : Sent) → Sends w out of packet → list_any is_again out.told.path ≡ true
+      → last_to packet.port w.sent ≡ Some packet.octets
+  repeats_law _ (is_skipped skip) of packet sends again = no_party _ sends.acts
+  repeats_law _ (is_called (to_peer input) unskipped is_call) of packet sends again =
+      let is = one_sent _ _ packet (cancel w.sent _ _ sends.adds) in
+      ap (λ (to : Port). last_to to w.sent) is.port ∙ peer_again input packet.octets (peer_speaks w.parties.peer input) again is.sent
+  repeats_law _ (is_called (to_server input) unskipped is_call) of packet sends again =
+      let is = one_sent _ _ packet (cancel w.sent _ _ sends.adds) in
+      ap (λ (to : Port). last_to to w.sent) is.port
+      ∙ server_again input packet.octets (server_speaks w.parties.server input)
+      (λ same. server_timer w.parties w.conversations w.sent e unskipped (is_call ∙ ap (λ (i : ServerInput). Some (to_server i)) same)) again is.sent
+  repeats_law _ (is_called (to_pass input) unskipped is_call) of packet sends again =
+      let is = one_sent _ _ packet (cancel w.sent _ _ sends.adds) in
+      ap (λ (to : Port). last_to to w.sent) is.port
+      ∙ pass_again input packet.octets w.parties.mode refl (pass_speaks w.parties.pass input) again is.sent
+
+  -- the next Identifier
+  server_counts : (input : ServerInput) (octets : List ℕ) → (let out = server_takes w.parties.server input in
+      ServerSpeaks w.parties.server input out → w.parties.mode ≡ mode.Alone → is_delivery (to_server input) ≡ true
+      → out.step.sent ≡ Some octets → code_of octets ≡ 1 → CountsOn w.sent octets)
+  server_counts input octets (serving.rests unsent same_state same_id same) alone delivered sent is_request = unsent_none _ _ unsent sent
+  server_counts input octets (serving.asks packet id is going is_sent new current last follows) alone delivered sent is_request =
+      let after = follows (ap is_backend_role (holds.begun.role ∙ ap role_in alone))
+      (λ same. false≢true (sym (ap (λ (i : ServerInput). is_delivery (to_server i)) same) ∙ delivered)) in
+      let was = holds.said.server (holds.begun.begun alone) going in
+      let same_octets : packet ≡ octets = sent_same _ _ _ is_sent sent in
+      let before : was.id ≡ after.before = some_same _ _ (sym was.is_id ∙ after.was) in
+      record {
+        last = w.parties.server.vars.last_request;
+        is_last = ap (λ (m : Mode). last_to (goes_to party.Server m) w.sent) (sym alone) ∙ was.is_last;
+        next = ap identifier_of (sym same_octets)
+            ∙ (is.same ∙ (after.next ∙ ap (λ (n : ℕ). (n + 1) % 256) (sym before ∙ sym was.is.same)));
+      }
+  server_counts input octets (serving.repeats is_timer_input going is_sent same_state same_id same) alone delivered sent is_request =
+      absurd (false≢true (sym (ap (λ (i : ServerInput). is_delivery (to_server i)) is_timer_input) ∙ delivered))
+  server_counts input octets (serving.ends going over new each) alone delivered sent is_request = absurd ((each octets sent).code is_request)
+  server_counts input octets (serving.gives_up going over unsent) alone delivered sent is_request = unsent_none _ _ unsent sent
+  server_counts input octets (serving.awaits nonce is_restart_input unsent unstarted) alone delivered sent is_request = unsent_none _ _ unsent sent
+  server_counts input octets (serving.begins nonce is_restart_input packet id is is_sent new current last) alone delivered sent is_request =
+      absurd (false≢true (sym (ap (λ (i : ServerInput). is_delivery (to_server i)) is_restart_input) ∙ delivered))
+
+  counts_law : (out : WorldOutcome) → StepOf w e out → w.parties.mode ≡ mode.Alone → is_delivery_of e ≡ true → (packet : Sent)
+      → Sends w out party.Server packet → code_of packet.octets ≡ 1 → CountsOn w.sent packet.octets
+  counts_law _ (is_skipped skip) alone delivered packet sends is_request = no_party _ sends.acts
+  counts_law _ (is_called (to_peer input) unskipped is_call) alone delivered packet sends is_request = absurd (let other = sends.acts in cc other)
+  counts_law _ (is_called (to_server input) unskipped is_call) alone delivered packet sends is_request =
+      let is = one_sent _ _ packet (cancel w.sent _ _ sends.adds) in
+      server_counts input packet.octets (server_speaks w.parties.server input) alone
+      (of_delivery w.conversations w.sent e (to_server input) delivered is_call)
+      is.sent is_request
+  counts_law _ (is_called (to_pass input) unskipped is_call) alone delivered packet sends is_request = absurd (let other = sends.acts in cc other)
+
+  -- the end
+  peer_silent : (input : PeerInput) (octets : List ℕ) → (let out = peer_takes w.parties.peer input in
+      PeerSpeaks w.parties.peer input out → is_end w.parties.peer.vars.state ≡ true → out.step.sent ≡ Some octets → ⊥)
+  peer_silent input octets (peering.rests _ _ unsent same_id same) over sent = unsent_none _ _ unsent sent
+  peer_silent _ octets (peering.answers bytes answer _ is going is_sent new last_id last) over sent = false≢true (sym going ∙ over)
+  peer_silent _ octets (peering.repeats bytes _ was_last going is_sent same_id same) over sent = false≢true (sym going ∙ over)
+  peer_silent _ octets (peering.begins nonce _ unsent none) over sent = unsent_none _ _ unsent sent
+
+  server_silent : (input : ServerInput) (octets : List ℕ) → (let out = server_takes w.parties.server input in
+      ServerSpeaks w.parties.server input out → is_start (to_server input) ≡ false → is_end w.parties.server.vars.state ≡ true
+      → out.step.sent ≡ Some octets → ⊥)
+  server_silent input octets (serving.rests unsent same_state same_id same) later over sent = unsent_none _ _ unsent sent
+  server_silent input octets (serving.asks packet id is going is_sent new current last follows) later over sent = false≢true (sym going ∙ over)
+  server_silent input octets (serving.repeats is_timer_input going is_sent same_state same_id same) later over sent = false≢true (sym going ∙ over)
+  server_silent input octets (serving.ends going done new each) later over sent = false≢true (sym going ∙ over)
+  server_silent input octets (serving.gives_up going done unsent) later over sent = unsent_none _ _ unsent sent
+  server_silent input octets (serving.awaits nonce is_restart_input unsent unstarted) later over sent = unsent_none _ _ unsent sent
+  server_silent input octets (serving.begins nonce is_restart_input packet id is is_sent new current last) later over sent =
+      false≢true (sym later ∙ ap (λ (i : ServerInput). is_start (to_server i)) is_restart_input)
+
+  pass_silent : (input : PassInput) (octets : List ℕ) → (let out = pass_takes w.parties.pass input in
+      PassSpeaks w.parties.pass input out → is_begin input ≡ false → is_over w.parties.pass.state ≡ true
+      → out.step.sent ≡ Some octets → ⊥)
+  pass_silent input octets (passing.rests unsent same was still) later over sent = unsent_none _ _ unsent sent
+  pass_silent input octets (passing.onwards to goes new same) later over sent = false≢true (sym goes.going ∙ over)
+  pass_silent input octets (passing.asks packet to going is_sent new last begins) later over sent = false≢true (sym going ∙ over)
+  pass_silent input octets (passing.repeats to goes is_sent same) later over sent = false≢true (sym goes.going ∙ over)
+  pass_silent input octets (passing.begins_anew is_restart_input packet to is_sent new last) later over sent = false≢true (sym later ∙ ap is_begin is_restart_input)
+
+  pass_over : (m : Mode) (s : State) → pass_state m w.parties.pass ≡ Some s → is_over s ≡ true → is_over w.parties.pass.state ≡ true
+  pass_over mode.Alone s stands over = cc stands
+  pass_over mode.Through s stands over = ap is_over (some_state _ _ stands) ∙ over
+
+  silent_law : (out : WorldOutcome) → StepOf w e out → is_restart e ≡ false → (of : Party) (s : State) → state_of w.parties of ≡ Some s → has_ended of s ≡ true
+      → (packet : Sent) → Sends w out of packet → ⊥
+  silent_law _ (is_skipped skip) goes_on of s stands over packet sends = no_party _ sends.acts
+  silent_law _ (is_called (to_peer input) unskipped is_call) goes_on party.Peer s stands over packet sends =
+      let is = one_sent _ _ packet (cancel w.sent _ _ sends.adds) in
+      peer_silent input packet.octets (peer_speaks w.parties.peer input) (ap is_end (some_state _ _ stands) ∙ over) is.sent
+  silent_law _ (is_called (to_peer input) unskipped is_call) goes_on party.Pass s stands over packet sends = let other = sends.acts in cc other
+  silent_law _ (is_called (to_peer input) unskipped is_call) goes_on party.Server s stands over packet sends = let other = sends.acts in cc other
+  silent_law _ (is_called (to_server input) unskipped is_call) goes_on party.Peer s stands over packet sends = let other = sends.acts in cc other
+  silent_law _ (is_called (to_server input) unskipped is_call) goes_on party.Pass s stands over packet sends = let other = sends.acts in cc other
+  silent_law _ (is_called (to_server input) unskipped is_call) goes_on party.Server s stands over packet sends =
+      let is = one_sent _ _ packet (cancel w.sent _ _ sends.adds) in
+      server_silent input packet.octets (server_speaks w.parties.server input) (of_start w.conversations w.sent e (to_server input) goes_on is_call) (ap is_end (some_state _ _ stands) ∙ over) is.sent
+  silent_law _ (is_called (to_pass input) unskipped is_call) goes_on party.Peer s stands over packet sends = let other = sends.acts in cc other
+  silent_law _ (is_called (to_pass input) unskipped is_call) goes_on party.Pass s stands over packet sends =
+      let is = one_sent _ _ packet (cancel w.sent _ _ sends.adds) in
+      pass_silent input packet.octets (pass_speaks w.parties.pass input) (of_start w.conversations w.sent e (to_pass input) goes_on is_call) (pass_over w.parties.mode s stands over) is.sent
+  silent_law _ (is_called (to_pass input) unskipped is_call) goes_on party.Server s stands over packet sends = let other = sends.acts in cc other
+
+-- an end in SUCCESS has accepted a tag
+peer_accepted : (setup : PeerSetup) (now : PeerNow) (accepted made : List TagRecord) → PeerSucceeds setup now accepted made → 1 ≤ length accepted
+peer_accepted setup now _ _ (with_psk login header sealed id is_selected in_view facts) = omega arith
+peer_accepted setup now _ _ (with_gpsk login list pd is_selected in_view facts) = omega arith
+
+server_accepted : (setup : ServerSetup) (now : ServerNow) (accepted made : List TagRecord) → ServerSucceeds setup now accepted made → 1 ≤ length accepted
+server_accepted setup now _ _ (of_psk login header sealed id is_current in_view facts r_sent) = omega arith
+server_accepted setup now _ _ (of_gpsk login pd last_pd is_current in_view facts) = omega arith
+
+one_at_least : (setup : Setup) (w : WorldNow) → BothStand setup w → (of : End) → is_success (end_state w.parties of) ≡ true
+    → 1 ≤ length (present_tags of Accepted w)
+one_at_least setup w both end.Peer sure =
+    let own = peers.own_nonce setup.peer w.parties.peer.vars.setup.nonce in
+    peer_accepted own w.parties.peer _ _
+    (peer_succeeds own w.parties.peer _ _ both.peer_stands.tags (both.peer_stands.decided (both.peer_stands.sure sure)))
+one_at_least setup w both end.Server sure =
+    let own = servers.own_nonce setup.server w.parties.server.vars.setup.nonce in
+    server_accepted own w.parties.server _ _ (server_succeeds own w.parties.server _ _ both.server_stands.tags (both.server_stands.sure sure))
+
+pub steps_are_lawful : StepsAreLawful
+steps_are_lawful setup events e =
+    let w = run_of setup events in
+    let holds = every_run_holds setup events in
+    let step = step_of w e in
+    let so = step_stands setup w (world_step w e) (step_steps w e) (every_run_so_far setup events) in
+    record {
+      answers = answers_law w e holds _ step;
+      repeats = repeats_law w e holds _ step;
+      counts = counts_law w e holds _ step;
+      silent = silent_law w e holds _ step;
+      accepted = one_at_least setup _ so.both;
+    }

@@ -1,0 +1,30 @@
+-- An event that is skipped changes nothing but the number of events.
+use Rattle.std.proofs.Common.{refl}
+use Rattle.std.specs.Prelude.{IsSome}
+use Rattle.world_laws.specs.Laws.{CountsAlone, SkipsKeep}
+use Rattle.eap_world.specs.World.{WorldNow, WorldOutcome, to_pass, to_peer, to_server, world_step}
+use Rattle.world_laws.proofs.Acting.{Steps, skips, calls, peer_restarts, server_restarts, step_steps}
+
+steps-keep : (w : WorldNow) (out : WorldOutcome) → Steps w out → IsSome out.told.skip → CountsAlone w out
+steps-keep w _ (skips skip) is_skip = record {
+  parties = refl;
+  sent = refl;
+  book = refl;
+  conversations = refl;
+  held = refl;
+  events = refl;
+  deliveries = refl;
+  discards = refl;
+  nobody = refl;
+  nowhere = refl;
+  nothing = refl;
+  unnamed = refl;
+}
+steps-keep w _ (calls (to_peer input) later same) is_skip = cc is_skip
+steps-keep w _ (calls (to_server input) later same) is_skip = cc is_skip
+steps-keep w _ (calls (to_pass input) later same) is_skip = cc is_skip
+steps-keep w _ (peer_restarts one left next) is_skip = cc is_skip
+steps-keep w _ (server_restarts one left next) is_skip = cc is_skip
+
+pub skips_keep : SkipsKeep
+skips_keep w e = steps-keep w (world_step w e) (step_steps w e)

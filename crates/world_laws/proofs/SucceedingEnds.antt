@@ -1,0 +1,180 @@
+-- Two ends in SUCCESS agree, where each accepted tag is one that either end made: an end in SUCCESS can't have made
+-- the tag itself that the login rests on.
+use Rattle.std.proofs.Common.{◌≡◌, ℕ, true, false, List, [], ◌∷◌, length, Some, refl, sym, ap, subst, arith, inl, inr}
+use Rattle.std.specs.Prelude.{◌⊎◌}
+use Rattle.eap_base.specs.declared.setup.PeerSetup.{PeerSetup}
+use Rattle.eap_base.specs.declared.setup.ServerSetup.{ServerSetup}
+use Rattle.eap_base.specs.Setup.{psk_kind, gpsk_kind}
+use Rattle.eap_method.specs.declared.tags.TagRecord.{TagRecord}
+use Rattle.eap_method.specs.PskPeer as psk_peer
+use Rattle.eap_method.specs.PskServer as psk_server
+use Rattle.eap_method.specs.GpskPeer as gpsk_peer
+use Rattle.eap_method.specs.GpskServer as gpsk_server
+use Rattle.eap_method.specs.GpskTags.{sk_record}
+use Rattle.peer_machine.specs.PeerTable.{PeerNow, peer_reports}
+use Rattle.server_machine.specs.ServerTable.{ServerNow, server_reports}
+use Rattle.eap_world.specs.Judgement.{judged, is_success}
+use Rattle.world_laws.specs.Records.{IsIn, AreInEither, here}
+use Rattle.world_laws.specs.PeerStands as peers
+use Rattle.world_laws.specs.PeerStands.{PeerStands}
+use Rattle.world_laws.specs.ServerStands as servers
+use Rattle.world_laws.specs.ServerStands.{ServerStands}
+use Rattle.world_laws.proofs.Among.{among_two}
+use Rattle.world_laws.proofs.GpskAgrees as gpsk
+use Rattle.world_laws.proofs.OneMethod.{apart as one_method}
+use Rattle.world_laws.proofs.PeerKeeps as peer_calls
+use Rattle.world_laws.proofs.ServerKeeps as server_calls
+use Rattle.world_laws.proofs.PskAgrees as psk
+
+-- a record of a method isn't among two of the other
+apart : psk_kind ≡ gpsk_kind → ⊥
+apart e = absurd (omega (arith, e))
+
+other_method : (tag one other : TagRecord) → IsIn tag (one ∷ other ∷ []) → (tag.method ≡ one.method → ⊥) → (tag.method ≡ other.method → ⊥) → ⊥
+other_method tag one other is_in not_one not_other =
+    elim (among_two tag one other is_in) [
+      | inl e ↦ not_one (ap (λ (t : TagRecord). t.method) e)
+      | inr e ↦ not_other (ap (λ (t : TagRecord). t.method) e)
+    ]
+
+-- a tag that an end didn't make itself is one of the other's
+of_other : (tag : TagRecord) (others own : List TagRecord) → IsIn tag others ⊎ IsIn tag own → (IsIn tag own → ⊥) → IsIn tag others
+of_other tag others own (inl is_in) not_own = is_in
+of_other tag others own (inr is_in) not_own = absurd (not_own is_in)
+
+-- both ends have succeeded by one method, and speak of the same login
+pub data BothSucceed (peer_setup : PeerSetup) (server_setup : ServerSetup) (p : PeerNow) (s : ServerNow) : Type 0 where
+  by_psk : (login : psk_peer.Login) (facts : peers.PskBegun peer_setup login) (other : psk_server.Login) (checked : servers.PskChecked server_setup other)
+      (is_selected : p.vars.selected ≡ Some psk_kind) (in_view : p.views.psk ≡ psk_peer.over login true)
+      (is_current : s.vars.current ≡ Some psk_kind) (in_other : s.views.psk ≡ Some (psk_server.over other true)) (r_sent : other.r ≡ 2)
+      (same : psk.IsSame login other) → BothSucceed peer_setup server_setup p s
+  by_gpsk : (login : gpsk_peer.Login) (list : List ℕ) (facts : peers.GpskBegun peer_setup login list)
+      (other : gpsk_server.Login) (pd : List ℕ) (checked : servers.GpskChecked server_setup other false)
+      (is_selected : p.vars.selected ≡ Some gpsk_kind) (in_view : p.views.gpsk ≡ gpsk_peer.over login true)
+      (is_current : s.vars.current ≡ Some gpsk_kind) (in_other : s.views.gpsk ≡ Some (gpsk_server.over other true))
+      (same : gpsk.IsSame login list other) → BothSucceed peer_setup server_setup p s
+
+-- a peer, or a server, that has succeeded, with its tags
+pub data PeerSucceeds (setup : PeerSetup) (now : PeerNow) : List TagRecord → List TagRecord → Type 0 where
+  with_psk : (login : psk_peer.Login) (header : List ℕ) (sealed id : ℕ)
+      (is_selected : now.vars.selected ≡ Some psk_kind) (in_view : now.views.psk ≡ psk_peer.over login true) (facts : peers.PskBegun setup login)
+      → PeerSucceeds setup now (peers.psk3_taken login header sealed) (peers.psk2_record login ∷ psk_peer.psk4_record login id 2)
+  with_gpsk : (login : gpsk_peer.Login) (list pd : List ℕ)
+      (is_selected : now.vars.selected ≡ Some gpsk_kind) (in_view : now.views.gpsk ≡ gpsk_peer.over login true) (facts : peers.GpskBegun setup login list)
+      → PeerSucceeds setup now (sk_record login.cred.psk (peers.gpsk3_taken login pd) ∷ [])
+      (peers.gpsk2_record login list ∷ sk_record login.cred.psk (gpsk_peer.gpsk4_of login) ∷ [])
+
+pub data ServerSucceeds (setup : ServerSetup) (now : ServerNow) : List TagRecord → List TagRecord → Type 0 where
+  of_psk : (login : psk_server.Login) (header : List ℕ) (sealed id : ℕ) (is_current : now.vars.current ≡ Some psk_kind)
+      (in_view : now.views.psk ≡ Some (psk_server.over login true)) (facts : servers.PskChecked setup login) (r_sent : login.r ≡ 2)
+      → ServerSucceeds setup now (servers.psk2_record login ∷ servers.psk4_taken login header sealed ∷ []) (psk_server.psk3_records login id)
+  of_gpsk : (login : gpsk_server.Login) (pd last_pd : List ℕ) (is_current : now.vars.current ≡ Some gpsk_kind)
+      (in_view : now.views.gpsk ≡ Some (gpsk_server.over login true)) (facts : servers.GpskChecked setup login false)
+      → ServerSucceeds setup now (sk_record login.psk (servers.gpsk2_taken login pd) ∷ sk_record login.psk (servers.gpsk4_taken login last_pd) ∷ [])
+      (sk_record login.psk (gpsk_server.gpsk3_of login) ∷ [])
+
+module _ (setup : PeerSetup) (now : PeerNow) where
+  peer_psk : (login : psk_peer.Login) → now.vars.selected ≡ Some psk_kind → now.views.psk ≡ psk_peer.over login true
+      → (accepted made : List TagRecord) → peers.PskPeerTags setup (psk_peer.over login true) accepted made → PeerSucceeds setup now accepted made
+  peer_psk login is_selected in_view _ _ (peers.psk_over _ _ header sealed id facts) = with_psk login header sealed id is_selected in_view facts
+
+  peer_gpsk : (login : gpsk_peer.Login) → now.vars.selected ≡ Some gpsk_kind → now.views.gpsk ≡ gpsk_peer.over login true
+      → (accepted made : List TagRecord) → peers.GpskPeerTags setup (gpsk_peer.over login true) accepted made → PeerSucceeds setup now accepted made
+  peer_gpsk login is_selected in_view _ _ (peers.gpsk_confirmed _ list pd facts) = with_gpsk login list pd is_selected in_view facts
+
+  pub peer_succeeds : (accepted made : List TagRecord) → peers.PeerTags setup now.vars.selected now.views accepted made
+      → peers.HasSucceeded now.vars.selected now.views → PeerSucceeds setup now accepted made
+  peer_succeeds accepted made tags (peers.psk_succeeded login is_selected in_view) =
+      peer_psk login is_selected in_view accepted made
+      (subst (λ (v : psk_peer.View). peers.PskPeerTags setup v accepted made) in_view
+      (peer_calls.told_by_psk setup now.vars.selected now.views accepted made (one_method now.vars.selected psk_kind gpsk_kind refl is_selected) tags))
+  peer_succeeds accepted made tags (peers.gpsk_succeeded login is_selected in_view) =
+      peer_gpsk login is_selected in_view accepted made
+      (subst (λ (v : gpsk_peer.View). peers.GpskPeerTags setup v accepted made) in_view
+      (peer_calls.told_by_gpsk setup now.vars.selected now.views accepted made (one_method now.vars.selected gpsk_kind psk_kind refl is_selected) tags))
+
+module _ (setup : ServerSetup) (now : ServerNow) where
+  server_psk : (login : psk_server.Login) → now.vars.current ≡ Some psk_kind → now.views.psk ≡ Some (psk_server.over login true)
+      → (accepted made : List TagRecord) → servers.PskServerTags setup (psk_server.over login true) accepted made → ServerSucceeds setup now accepted made
+  server_psk login is_current in_view _ _ (servers.psk_over _ _ header sealed id facts r_sent rand_in) =
+      of_psk login header sealed id is_current in_view facts (r_sent refl)
+
+  server_gpsk : (login : gpsk_server.Login) → now.vars.current ≡ Some gpsk_kind → now.views.gpsk ≡ Some (gpsk_server.over login true)
+      → (accepted made : List TagRecord) → servers.GpskServerTags setup (gpsk_server.over login true) accepted made → ServerSucceeds setup now accepted made
+  server_gpsk login is_current in_view _ _ (servers.gpsk_confirmed _ pd last_pd facts) =
+      of_gpsk login pd last_pd is_current in_view facts
+
+  pub server_succeeds : (accepted made : List TagRecord) → servers.ServerTags setup now.vars.current now.views accepted made
+      → servers.HasSucceeded now.vars.current now.views → ServerSucceeds setup now accepted made
+  server_succeeds accepted made tags (servers.psk_succeeded login is_current in_view) =
+      server_psk login is_current in_view accepted made (server_calls.told_by_psk setup now.vars.current now.views _ accepted made is_current in_view tags)
+  server_succeeds accepted made tags (servers.gpsk_succeeded login is_current in_view) =
+      server_gpsk login is_current in_view accepted made (server_calls.told_by_gpsk setup now.vars.current now.views _ accepted made is_current in_view tags)
+
+-- the first tag that an end accepted is among these
+pub record FirstIn (accepted others : List TagRecord) : Type 0 where
+  pub is : (tag : TagRecord) (rest : List TagRecord) → accepted ≡ tag ∷ rest → IsIn tag others
+
+first_same : (one tag : TagRecord) (more rest all : List TagRecord) → all ≡ one ∷ more → all ≡ tag ∷ rest → one ≡ tag
+first_same one tag more rest all e f = cc
+
+pub first_in : (accepted others : List TagRecord) (tag : TagRecord) (more : List TagRecord) → accepted ≡ tag ∷ more → IsIn tag others → FirstIn accepted others
+first_in accepted others tag more first is =
+    record { is = λ t rest e. subst (λ (u : TagRecord). IsIn u others) (first_same tag t more rest accepted first e) is }
+
+module _ (peer_setup : PeerSetup) (server_setup : ServerSetup) (p : PeerNow) (s : ServerNow)
+    (peer_nonce : length peer_setup.nonce ≡ 32) (server_nonce : length server_setup.nonce ≡ 32) where
+  -- the server's first tag is the peer's; so is the peer's first tag the server's, which only EAP-PSK asks
+  pub both_succeed : (peer_accepted peer_made server_accepted server_made : List TagRecord)
+      → PeerSucceeds peer_setup p peer_accepted peer_made → ServerSucceeds server_setup s server_accepted server_made
+      → (p.vars.selected ≡ Some psk_kind → FirstIn peer_accepted server_made) → FirstIn server_accepted peer_made → BothSucceed peer_setup server_setup p s
+  both_succeed _ _ _ _ (with_psk login header sealed id is_selected in_view facts) (of_psk other _ _ other_id is_current in_other checked r_sent)
+      of_peer of_server =
+      by_psk login facts other checked is_selected in_view is_current in_other r_sent
+      (psk.same_login peer_setup server_setup login facts other checked peer_nonce server_nonce id other_id (of_server.is _ _ refl)
+      ((of_peer is_selected).is _ _ refl))
+  both_succeed _ _ _ _ (with_psk login header sealed id is_selected in_view facts) (of_gpsk other pd _ is_current in_other checked) of_peer of_server =
+      absurd (other_method _ _ _ (of_server.is _ _ refl) (λ e. apart (sym e)) (λ e. apart (sym e)))
+  both_succeed _ _ _ _ (with_gpsk login list pd is_selected in_view facts) (of_psk other _ _ other_id is_current in_other checked r_sent) of_peer of_server =
+      absurd (other_method _ _ _ (of_server.is _ _ refl) apart apart)
+  both_succeed _ _ _ _ (with_gpsk login list _ is_selected in_view facts) (of_gpsk other pd _ is_current in_other checked) of_peer of_server =
+      by_gpsk login list facts other pd checked is_selected in_view is_current in_other
+      (gpsk.same_login peer_setup server_setup login list facts other pd checked peer_nonce server_nonce (of_server.is _ _ refl))
+
+  -- over a book that is honest of either end: neither has made its own first tag, but that a peer may have by EAP-GPSK
+  peer_first : (accepted made others : List TagRecord) → PeerSucceeds peer_setup p accepted made → AreInEither accepted others made
+      → p.vars.selected ≡ Some psk_kind → FirstIn accepted others
+  peer_first _ _ others (with_psk login header sealed id is_selected in_view facts) of_peer is_psk =
+      first_in _ others _ _ refl (of_other _ _ _ (of_peer.each _ (here _)) (psk.peer_not_own peer_setup login facts id))
+  peer_first _ _ others (with_gpsk login list pd is_selected in_view facts) of_peer is_psk =
+      absurd (one_method p.vars.selected gpsk_kind psk_kind refl is_selected is_psk)
+
+  server_first : (accepted made others : List TagRecord) → ServerSucceeds server_setup s accepted made → AreInEither accepted others made
+      → FirstIn accepted others
+  server_first _ _ others (of_psk login _ _ id is_current in_view checked r_sent) of_server =
+      first_in _ others _ _ refl (of_other _ _ _ (of_server.each _ (here _)) (psk.server_not_own server_setup login checked server_nonce id))
+  server_first _ _ others (of_gpsk login pd _ is_current in_view checked) of_server =
+      first_in _ others _ _ refl (of_other _ _ _ (of_server.each _ (here _)) (gpsk.not_own login pd))
+
+pub ends_succeed : (peer_setup : PeerSetup) (server_setup : ServerSetup) (p : PeerNow) (s : ServerNow)
+    (peer_accepted peer_made server_accepted server_made : List TagRecord)
+    → length peer_setup.nonce ≡ 32 → length server_setup.nonce ≡ 32
+    → PeerStands peer_setup p peer_accepted peer_made → ServerStands server_setup s server_accepted server_made
+    → AreInEither peer_accepted server_made peer_made → AreInEither server_accepted peer_made server_made
+    → is_success p.vars.state ≡ true → is_success s.vars.state ≡ true
+    → BothSucceed peer_setup server_setup p s
+ends_succeed peer_setup server_setup p s _ _ _ _ peer_nonce server_nonce p_in s_in of_peer of_server sure other_sure =
+    let p_won = peer_succeeds peer_setup p _ _ p_in.tags (p_in.decided (p_in.sure sure)) in
+    let s_won = server_succeeds server_setup s _ _ s_in.tags (s_in.sure other_sure) in
+    both_succeed peer_setup server_setup p s peer_nonce server_nonce _ _ _ _ p_won s_won
+    (peer_first peer_setup server_setup p s peer_nonce server_nonce _ _ _ p_won of_peer)
+    (server_first peer_setup server_setup p s peer_nonce server_nonce _ _ _ s_won of_server)
+
+-- what both ends report is judged to agree
+pub both_agree : (peer_setup : PeerSetup) (server_setup : ServerSetup) (p : PeerNow) (s : ServerNow)
+    → length peer_setup.nonce ≡ 32 → length server_setup.nonce ≡ 32 → BothSucceed peer_setup server_setup p s
+    → judged peer_setup server_setup (peer_reports p) (server_reports s) ≡ true
+both_agree peer_setup server_setup p s peer_nonce server_nonce (by_psk login facts other checked is_selected in_view is_current in_other r_sent same) =
+    psk.psk_agree peer_setup server_setup login facts other checked peer_nonce server_nonce p s is_selected in_view is_current in_other r_sent same
+both_agree peer_setup server_setup p s peer_nonce server_nonce (by_gpsk login list facts other pd checked is_selected in_view is_current in_other same) =
+    gpsk.gpsk_agree peer_setup server_setup login list facts other pd checked peer_nonce server_nonce p s is_selected in_view is_current in_other same

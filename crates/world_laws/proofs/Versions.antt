@@ -1,0 +1,16 @@
+-- The version of a scenario's text stays in its world.
+use Rattle.std.proofs.Common.{◌≡◌, List, [], ◌∷◌, refl}
+use Rattle.eap_base.specs.declared.event.Event.{Event}
+use Rattle.eap_base.specs.declared.setup.Setup.{Setup}
+use Rattle.eap_world.specs.Run.{run_of}
+use Rattle.eap_world.specs.World.{WorldNow, run_after, world_made, world_start, world_step}
+
+version_after : (w : WorldNow) (events : List Event) → (run_after w events).version ≡ w.version
+unfolding run_after world_step
+version_after w [] = refl
+version_after w (e ∷ rest) = version_after (world_step w e).after rest
+
+-- in every run the version is that of the setup
+pub version_kept : (setup : Setup) (events : List Event) → (run_of setup events).version ≡ setup.later.version
+unfolding world_start
+version_kept setup events = version_after (world_start (world_made setup)).after events

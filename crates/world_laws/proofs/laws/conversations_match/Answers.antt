@@ -1,0 +1,5 @@
+use Rattle.world_laws.proofs.Matching.{conversations_match}
+use Rattle.world_laws.proofs.laws.conversations_match.Goals as goal
+
+pub returns : goal.returns
+returns c = conversations_match

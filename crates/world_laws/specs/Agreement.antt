@@ -1,0 +1,120 @@
+-- Agreement over an altering network, where each end may begin new conversations.
+use Rattle.std.specs.Prelude.{◌≡◌, ◌≤◌, ◌⊎◌, ◌+◌, ◌*◌, List, [], length, true, false, Some, All}
+use Rattle.eap_base.specs.declared.event.Event.{Event}
+use Rattle.eap_base.specs.declared.setup.Setup.{Setup}
+use Rattle.eap_base.specs.declared.setup.Suite.{Suite}
+use Rattle.eap_base.specs.declared.users.User.{User}
+use Rattle.eap_base.specs.Setup.{IsSoundPeer, IsSoundServer, HasKeys, gpsk_kind}
+use Rattle.eap_base.specs.Suite.{suite_number}
+use Rattle.eap_base.specs.Users.{user_of}
+use Rattle.login_policy.specs.Policy.{picked_suite}
+use Rattle.eap_method.specs.declared.values.Report.{Report}
+use Rattle.eap_method.specs.GpskTags.{suite_list}
+use Rattle.eap_method.specs.Peer.{key_for}
+use Rattle.peer_machine.specs.PeerTable.{peer_reports}
+use Rattle.server_machine.specs.ServerTable.{server_reports}
+use Rattle.eap_world.specs.Book.{tags_verdict, tags_verdict_either}
+use Rattle.eap_world.specs.declared.book.TagsVerdict.TheVariants.{Honest}
+use Rattle.eap_world.specs.declared.book.End.{End}
+use Rattle.eap_world.specs.declared.book.Entry.{Entry}
+use Rattle.eap_world.specs.declared.conversations.Begun.{Begun}
+use Rattle.eap_world.specs.declared.book.Use.{Use}
+use Rattle.eap_world.specs.Conversations.{Conversations, begun_by, front}
+use Rattle.world_laws.specs.Foreign.{peer_foreign, server_foreign}
+use Rattle.eap_world.specs.Judgement.{verdict_of, is_success}
+use Rattle.eap_world.specs.declared.verdict.Verdict.TheVariants.{Agree, Apart}
+use Rattle.eap_world.specs.Run.{run_of}
+use Rattle.eap_world.specs.World.{WorldNow}
+use Rattle.world_laws.specs.Records.{tags_by}
+
+-- a setup as a scenario gives it: both ends are sound, and each nonce has 32 octets
+pub record IsWhole (setup : Setup) : Type 0 where
+  pub peer : IsSoundPeer setup.peer
+  pub keys : HasKeys setup.peer
+  pub server : IsSoundServer setup.server
+  pub peer_nonce : length setup.peer.nonce ≡ 32
+  pub server_nonce : length setup.server.nonce ≡ 32
+  pub peer_later : All (λ nonce. length nonce ≡ 32) setup.later.peer
+  pub server_later : All (λ nonce. length nonce ≡ 32) setup.later.server
+
+-- a book that is honest by the other end's tags alone is honest by those of either end
+abbrev pub HonestOfEither : Type 0
+HonestOfEither = (book : List Entry) → tags_verdict book ≡ Honest → tags_verdict_either book ≡ Honest
+
+-- no end has begun a second conversation, or each conversation has begun with a fresh nonce
+abbrev pub AreApart : Conversations → Type 0
+AreApart all = (length all.begun ≡ 2) ⊎ (all.fresh ≡ true)
+
+-- each end holds the nonce of the other's present conversation, of which its front tells
+pub record HoldEachOther (w : WorldNow) : Type 0 where
+  pub rand_s : peer_foreign w.parties.peer.vars.selected w.parties.peer.views ≡ Some (front w.parties.server.vars.setup.nonce)
+  pub rand_p : server_foreign w.parties.server.vars.current w.parties.server.views ≡ Some (front w.parties.peer.vars.setup.nonce)
+
+-- two ends that both stand in SUCCESS in their present conversations agree, and the verdict is never that they don't
+pub record AgreesWhereHonest (w : WorldNow) : Type 0 where
+  -- where each accepted tag was made by the other end
+  pub agrees : tags_verdict w.book ≡ Honest → AreApart w.conversations
+      → is_success w.parties.peer.vars.state ≡ true → is_success w.parties.server.vars.state ≡ true → verdict_of w ≡ Agree
+  pub never_apart : tags_verdict w.book ≡ Honest → AreApart w.conversations → verdict_of w ≡ Apart → ⊥
+  -- where it was made by either end, and no end has begun a second conversation
+  pub reflected_agrees : tags_verdict_either w.book ≡ Honest → length w.conversations.begun ≡ 2
+      → is_success w.parties.peer.vars.state ≡ true → is_success w.parties.server.vars.state ≡ true → verdict_of w ≡ Agree
+  pub reflected_never_apart : tags_verdict_either w.book ≡ Honest → length w.conversations.begun ≡ 2 → verdict_of w ≡ Apart → ⊥
+  -- where nonces are fresh, each holds the other's nonce
+  pub hold : tags_verdict w.book ≡ Honest → w.conversations.fresh ≡ true
+      → is_success w.parties.peer.vars.state ≡ true → is_success w.parties.server.vars.state ≡ true → HoldEachOther w
+
+-- whatever is delivered, lost, repeated, reordered, altered, injected or restarted: where each accepted tag was made
+-- earlier by the other end, and no end has begun again or nonces are fresh, two ends that both stand in SUCCESS agree
+abbrev pub HonestEndsAgree : Type 0
+HonestEndsAgree =
+    (setup : Setup) (events : List Event) → IsWhole setup → AgreesWhereHonest (run_of setup events)
+
+-- an end that has no later nonces never begins a second conversation
+abbrev pub BeginsOnce : Type 0
+BeginsOnce = (setup : Setup) (events : List Event) → setup.later.peer ≡ [] → setup.later.server ≡ []
+    → length (run_of setup events).conversations.begun ≡ 2
+
+-- the reported suite is the first of the server's own list that the peer allows
+pub record TakesFirstSuite (setup : Setup) (report : Report) : Type 0 where
+  pub suite : Suite
+  pub picked : picked_suite setup.peer.suites (suite_list setup.server.suites) ≡ Some suite
+  pub is_suite : report.suite ≡ suite_number suite
+
+-- both ends hold one report, whose names are those of both setups; the server knows the peer by its name, with
+-- the peer's own key, and lets it in; by EAP-GPSK the suite is the one picked of the server's own list
+pub record AreTheirs (setup : Setup) (w : WorldNow) : Type 0 where
+  pub report : Report
+  pub holds : peer_reports w.parties.peer ≡ Some report
+  pub same : server_reports w.parties.server ≡ Some report
+  pub id_p : report.id_p ≡ setup.peer.name
+  pub id_s : report.id_s ≡ setup.server.name
+  pub user : User
+  pub known : user_of setup.server.users setup.peer.name report.method ≡ Some user
+  pub key : user.psk ≡ key_for setup.peer report.method
+  pub welcome : user.barred ≡ false
+  pub first_suite : report.method ≡ gpsk_kind → TakesFirstSuite setup report
+
+-- what two ends that both stand in SUCCESS report in their present conversations is their own
+pub record TheirsWhereHonest (setup : Setup) (w : WorldNow) : Type 0 where
+  pub theirs : tags_verdict w.book ≡ Honest → AreApart w.conversations
+      → is_success w.parties.peer.vars.state ≡ true → is_success w.parties.server.vars.state ≡ true → AreTheirs setup w
+  pub reflected_theirs : tags_verdict_either w.book ≡ Honest → length w.conversations.begun ≡ 2
+      → is_success w.parties.peer.vars.state ≡ true → is_success w.parties.server.vars.state ≡ true → AreTheirs setup w
+
+-- under the premises of agreement, what both ends report is their own: names, key and suite
+abbrev pub HonestNamesAreTheirs : Type 0
+HonestNamesAreTheirs = (setup : Setup) (events : List Event) → IsWhole setup → TheirsWhereHonest setup (run_of setup events)
+
+-- at most two tags of each end and use in each of its conversations, so at most four a conversation
+pub record HasFewTags (begun : List Begun) (book : List Entry) : Type 0 where
+  pub each : (end : End) (how : Use) → length (tags_by end how book) ≤ 2 * begun_by end begun
+  pub all : length book ≤ 4 * length begun
+
+-- the book stays small however many events there are
+abbrev pub FewTags : Type 0
+FewTags = (setup : Setup) (events : List Event) → (let w = run_of setup events in HasFewTags w.conversations.begun w.book)
+
+-- a run of so many events sends at most one packet more
+abbrev pub FewPackets : Type 0
+FewPackets = (setup : Setup) (events : List Event) → length (run_of setup events).sent ≤ length events + 1

@@ -1,0 +1,33 @@
+-- What stands of both ends in every run: their views tell the tags that they have accepted and made in their present
+-- conversations.
+use Rattle.std.specs.Prelude.{List}
+use Rattle.eap_base.specs.declared.event.Event.{Event}
+use Rattle.eap_base.specs.declared.setup.Setup.{Setup}
+use Rattle.eap_method.specs.declared.tags.TagRecord.{TagRecord}
+use Rattle.peer_machine.specs.PeerTable as peers
+use Rattle.server_machine.specs.ServerTable as servers
+use Rattle.eap_world.specs.Run.{run_of}
+use Rattle.eap_world.specs.Conversations.{since_of}
+use Rattle.world_laws.specs.PeerStands.{PeerStands}
+use Rattle.world_laws.specs.Records.{since, tags_by}
+use Rattle.world_laws.specs.ServerStands.{ServerStands}
+use Rattle.eap_world.specs.World.{WorldNow}
+use Rattle.eap_world.specs.declared.book.End.{End}
+use Rattle.eap_world.specs.declared.book.End.TheVariants as end
+use Rattle.eap_world.specs.declared.book.Use.{Use}
+use Rattle.eap_world.specs.declared.book.Use.TheVariants.{Accepted, Made}
+
+-- the tags of an end's present conversation: those of the events after the one in which it began
+abbrev pub present_tags : End → Use → WorldNow → List TagRecord
+present_tags end how w = tags_by end how (since (since_of end w.conversations.begun) w.book)
+
+-- both ends stand as their views tell, each with the nonce of its present conversation and with the tags of it
+pub record BothStand (setup : Setup) (w : WorldNow) : Type 0 where
+  pub peer_stands : PeerStands (peers.own_nonce setup.peer w.parties.peer.vars.setup.nonce) w.parties.peer
+      (present_tags end.Peer Accepted w) (present_tags end.Peer Made w)
+  pub server_stands : ServerStands (servers.own_nonce setup.server w.parties.server.vars.setup.nonce) w.parties.server
+      (present_tags end.Server Accepted w) (present_tags end.Server Made w)
+
+-- in every run, of any setup, over any events
+abbrev pub EndsStand : Type 0
+EndsStand = (setup : Setup) (events : List Event) → BothStand setup (run_of setup events)

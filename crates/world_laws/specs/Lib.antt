@@ -1,0 +1,16 @@
+pub mod Foreign
+pub mod Laws
+pub mod Records
+pub mod PeerStands
+pub mod ServerStands
+pub mod ToldTags
+pub mod Agreement
+pub mod EndsStand
+pub mod SingleSteps
+pub mod Fresh
+pub mod Logins
+pub mod Alone
+pub mod Reflected
+pub mod EachConversation
+pub mod Matching
+pub mod Passing

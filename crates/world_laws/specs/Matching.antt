@@ -1,0 +1,148 @@
+-- Matching conversations: each one in SUCCESS, present or past, rests on one of the other end, and no two of an end on the same.
+use Rattle.std.specs.Prelude.{◌≡◌, List, ◌∷◌, map, true, None, Some}
+use Rattle.eap_base.specs.Setup.{psk_kind}
+use Rattle.eap_base.specs.declared.event.Event.{Event}
+use Rattle.eap_base.specs.declared.setup.Setup.{Setup}
+use Rattle.eap_method.specs.declared.tags.TagRecord.{TagRecord}
+use Rattle.peer_machine.specs.PeerTable as peer_table
+use Rattle.peer_machine.specs.PeerTable.{peer_reports}
+use Rattle.server_machine.specs.ServerTable as server_table
+use Rattle.server_machine.specs.ServerTable.{server_reports}
+use Rattle.eap_world.specs.Run.{run_of}
+use Rattle.world_laws.specs.Agreement.{IsWhole}
+use Rattle.eap_world.specs.Book.{tags_verdict, tags_verdict_either}
+use Rattle.eap_world.specs.Conversations.{front}
+use Rattle.world_laws.specs.EachConversation.{AreTwoOf, IsOneOf, OfPeer, OfServer, all_accepted, all_made, last_now, nonces_of, peer_conversations, peer_holds, peer_nonce, server_conversations, server_holds, server_nonce}
+use Rattle.eap_world.specs.Judgement.{is_success, judged}
+use Rattle.world_laws.specs.Logins.{peer_login}
+use Rattle.world_laws.specs.PeerStands.{PeerStands}
+use Rattle.world_laws.specs.Records.{IsIn, tags_by}
+use Rattle.world_laws.specs.ServerStands.{ServerStands}
+use Rattle.eap_world.specs.World.{WorldNow}
+use Rattle.eap_world.specs.declared.book.End.TheVariants as end
+use Rattle.eap_world.specs.declared.book.TagsVerdict.TheVariants.{Honest}
+use Rattle.eap_world.specs.declared.book.Use.TheVariants.{Accepted, Made}
+
+-- a conversation that accepted these tags rests on one of the other end, which made those: the first tag that it accepted is among
+-- them. At the server the first one is MAC_P of PSK-2 (RFC 4764 section 5.2) or the MAC of GPSK-2 (RFC 5433 section 9.2), which
+-- cover both nonces; at the peer MAC_S of PSK-3, which covers the peer's, or the MAC of GPSK-3, which covers both
+pub record RestsOn (accepted made : List TagRecord) : Type 0 where
+  pub tag : TagRecord
+  pub more : List TagRecord
+  pub first : accepted ≡ tag ∷ more
+  pub is_made : IsIn tag made
+
+-- a conversation of the peer and one of the server hold each other's nonces
+pub record HoldNonces (p : OfPeer) (s : OfServer) : Type 0 where
+  pub rand_s : peer_holds p ≡ Some (front (server_nonce s))
+  pub rand_p : server_holds s ≡ Some (front (peer_nonce p))
+
+-- both report the same, keys included, and both policies allow it
+abbrev pub ReportsAgree : OfPeer → OfServer → Type 0
+ReportsAgree p s = judged p.now.vars.setup s.now.vars.setup (peer_reports p.now) (server_reports s.now) ≡ true
+
+-- no two conversations of an end have nonces of the same front, no two in SUCCESS rest on the same one of the other end, and one of
+-- the server in SUCCESS rests on no two of the peer
+pub record NoTwoAlike (peers : List OfPeer) (servers : List OfServer) : Type 0 where
+  pub peer_nonces : (p q : OfPeer) → AreTwoOf p q peers → front (peer_nonce p) ≡ front (peer_nonce q) → ⊥
+  pub server_nonces : (s t : OfServer) → AreTwoOf s t servers → front (server_nonce s) ≡ front (server_nonce t) → ⊥
+  pub peers_apart : (p q : OfPeer) → AreTwoOf p q peers → is_success p.now.vars.state ≡ true → is_success q.now.vars.state ≡ true
+      → (s : OfServer) → IsOneOf s servers → RestsOn p.accepted s.made → RestsOn q.accepted s.made → ⊥
+  pub servers_apart : (s t : OfServer) → AreTwoOf s t servers → is_success s.now.vars.state ≡ true → is_success t.now.vars.state ≡ true
+      → (p : OfPeer) → IsOneOf p peers → RestsOn s.accepted p.made → RestsOn t.accepted p.made → ⊥
+  pub server_on_one : (s : OfServer) → IsOneOf s servers → is_success s.now.vars.state ≡ true
+      → (p q : OfPeer) → AreTwoOf p q peers → RestsOn s.accepted p.made → RestsOn s.accepted q.made → ⊥
+
+-- a conversation of the server rests on one of the peer, and they hold each other's nonces
+pub record ServerRests (peers : List OfPeer) (s : OfServer) : Type 0 where
+  pub on : OfPeer
+  pub is_one : IsOneOf on peers
+  pub rests : RestsOn s.accepted on.made
+  pub hold : HoldNonces on s
+
+-- a conversation of the peer rests on one of the server, which holds its nonce
+pub record PeerRests (servers : List OfServer) (p : OfPeer) : Type 0 where
+  pub on : OfServer
+  pub is_one : IsOneOf on servers
+  pub rests : RestsOn p.accepted on.made
+  pub rand_p : server_holds on ≡ Some (front (peer_nonce p))
+
+-- a conversation of the server rests on one of the peer and on no other, no other one in SUCCESS rests on that, and they hold each
+-- other's nonces
+pub record ServerMatches (peers : List OfPeer) (servers : List OfServer) (s : OfServer) : Type 0 where
+  pub on : OfPeer
+  pub is_one : IsOneOf on peers
+  pub rests : RestsOn s.accepted on.made
+  pub hold : HoldNonces on s
+  pub no_other : (p : OfPeer) → IsOneOf p peers → RestsOn s.accepted p.made → p ≡ on
+  pub by_no_other : (t : OfServer) → IsOneOf t servers → is_success t.now.vars.state ≡ true → RestsOn t.accepted on.made → t ≡ s
+
+-- a conversation of the peer rests on one of the server and on no other, and that rests on it; no other one in SUCCESS of either end
+-- rests on either of them, and they hold each other's nonces. Where that is in SUCCESS too, what both report agrees
+pub record PeerMatches (peers : List OfPeer) (servers : List OfServer) (p : OfPeer) : Type 0 where
+  pub on : OfServer
+  pub is_one : IsOneOf on servers
+  pub rests : RestsOn p.accepted on.made
+  pub back : RestsOn on.accepted p.made
+  pub hold : HoldNonces p on
+  pub no_other : (s : OfServer) → IsOneOf s servers → RestsOn p.accepted s.made → s ≡ on
+  pub by_no_other : (q : OfPeer) → IsOneOf q peers → is_success q.now.vars.state ≡ true → RestsOn q.accepted on.made → q ≡ p
+  pub back_by_no_other : (s : OfServer) → IsOneOf s servers → is_success s.now.vars.state ≡ true → RestsOn s.accepted p.made → s ≡ on
+  pub agree : is_success on.now.vars.state ≡ true → ReportsAgree p on
+
+-- what holds of all conversations, past and present, at each moment of a run
+pub record Match (w : WorldNow) (peers : List OfPeer) (servers : List OfServer) : Type 0 where
+  -- where nonces are fresh
+  pub apart : w.conversations.fresh ≡ true → NoTwoAlike peers servers
+  -- where each accepted tag was made earlier by either end, in whichever conversation
+  pub servers_rest : tags_verdict_either w.book ≡ Honest → (s : OfServer) → IsOneOf s servers → is_success s.now.vars.state ≡ true → ServerRests peers s
+  -- and nonces are fresh besides
+  pub servers_match : tags_verdict_either w.book ≡ Honest → w.conversations.fresh ≡ true
+      → (s : OfServer) → IsOneOf s servers → is_success s.now.vars.state ≡ true → ServerMatches peers servers s
+  -- where each accepted tag was made earlier by the other end
+  pub peers_rest : tags_verdict w.book ≡ Honest → (p : OfPeer) → IsOneOf p peers → is_success p.now.vars.state ≡ true → PeerRests servers p
+  -- and nonces are fresh besides
+  pub peers_match : tags_verdict w.book ≡ Honest → w.conversations.fresh ≡ true
+      → (p : OfPeer) → IsOneOf p peers → is_success p.now.vars.state ≡ true → PeerMatches peers servers p
+  -- by EAP-PSK also where each was made by either end
+  pub psk_peers_match : tags_verdict_either w.book ≡ Honest → w.conversations.fresh ≡ true
+      → (p : OfPeer) → IsOneOf p peers → is_success p.now.vars.state ≡ true → p.now.vars.selected ≡ Some psk_kind → PeerMatches peers servers p
+  -- by EAP-PSK the one of the peer on which one of the server in SUCCESS rests has accepted in its turn, and rests on that
+  pub psk_servers_back : tags_verdict w.book ≡ Honest → w.conversations.fresh ≡ true
+      → (s : OfServer) → IsOneOf s servers → is_success s.now.vars.state ≡ true → s.now.vars.current ≡ Some psk_kind
+      → (p : OfPeer) → IsOneOf p peers → RestsOn s.accepted p.made → RestsOn p.accepted s.made
+  -- the login of the one of the peer on which one of the server in SUCCESS rests leads to just what that reports: names, suite and keys
+  pub peers_lead : tags_verdict w.book ≡ Honest → w.conversations.fresh ≡ true
+      → (s : OfServer) → IsOneOf s servers → is_success s.now.vars.state ≡ true
+      → (p : OfPeer) → IsOneOf p peers → RestsOn s.accepted p.made → peer_login p.now.vars.selected p.now.views ≡ server_reports s.now
+  -- where one of the server rests on one of the peer, and both are in SUCCESS: that rests on this one too, and what both report agrees
+  pub both_agree : tags_verdict w.book ≡ Honest → w.conversations.fresh ≡ true
+      → (p : OfPeer) → IsOneOf p peers → is_success p.now.vars.state ≡ true
+      → (s : OfServer) → IsOneOf s servers → is_success s.now.vars.state ≡ true
+      → RestsOn s.accepted p.made → RestsOn p.accepted s.made × ReportsAgree p s
+
+abbrev pub ConversationsMatch : Type 0
+ConversationsMatch =
+    (setup : Setup) (events : List Event) → IsWhole setup
+    → Match (run_of setup events) (peer_conversations setup events) (server_conversations setup events)
+
+-- ---- the conversations are all
+
+-- one for each that has begun, in order and with its nonce, and each end stands in the last of its own; their tags joined are those
+-- of the book, and where each end stands or stood in one tells exactly the tags that it accepted and made in it
+pub record AreAll (setup : Setup) (w : WorldNow) (peers : List OfPeer) (servers : List OfServer) : Type 0 where
+  pub peer_nonces : nonces_of end.Peer w.conversations.begun ≡ map peer_nonce peers
+  pub server_nonces : nonces_of end.Server w.conversations.begun ≡ map server_nonce servers
+  pub peer_last : last_now None peers ≡ Some w.parties.peer
+  pub server_last : last_now None servers ≡ Some w.parties.server
+  pub peer_accepted : tags_by end.Peer Accepted w.book ≡ all_accepted peers
+  pub peer_made : tags_by end.Peer Made w.book ≡ all_made peers
+  pub server_accepted : tags_by end.Server Accepted w.book ≡ all_accepted servers
+  pub server_made : tags_by end.Server Made w.book ≡ all_made servers
+  pub peer_stands : (p : OfPeer) → IsOneOf p peers → PeerStands (peer_table.own_nonce setup.peer (peer_nonce p)) p.now p.accepted p.made
+  pub server_stands : (s : OfServer) → IsOneOf s servers → ServerStands (server_table.own_nonce setup.server (server_nonce s)) s.now s.accepted s.made
+
+abbrev pub ConversationsAreAll : Type 0
+ConversationsAreAll =
+    (setup : Setup) (events : List Event) → IsWhole setup
+    → AreAll setup (run_of setup events) (peer_conversations setup events) (server_conversations setup events)

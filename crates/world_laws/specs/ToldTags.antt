@@ -1,0 +1,43 @@
+-- What a conversation's view tells of its nonces and tags, and which conversations can have made a tag.
+use Rattle.std.specs.Prelude.{◌≡◌, ℕ, List, length, Option, Some}
+use Rattle.eap_base.specs.declared.setup.PeerSetup.{PeerSetup}
+use Rattle.eap_base.specs.declared.setup.ServerSetup.{ServerSetup}
+use Rattle.eap_method.specs.declared.tags.TagRecord.{TagRecord}
+use Rattle.eap_method.specs.Peer.{PeerViews}
+use Rattle.eap_method.specs.Server.{ServerViews}
+use Rattle.peer_machine.specs.PeerTable as peers
+use Rattle.server_machine.specs.ServerTable as servers
+use Rattle.eap_world.specs.Conversations.{front}
+use Rattle.world_laws.specs.Foreign.{peer_foreign, server_foreign}
+use Rattle.world_laws.specs.PeerStands.{PeerTags}
+use Rattle.world_laws.specs.Records.{IsIn}
+use Rattle.world_laws.specs.ServerStands.{ServerTags}
+
+-- a conversation of the peer with this nonce, which holds that nonce of the server, has accepted and made these tags
+pub record PeerTold (setup : PeerSetup) (nonce : List ℕ) (held : Option (List ℕ)) (accepted made : List TagRecord) : Type 0 where
+  pub selected : Option ℕ
+  pub views : PeerViews
+  pub tags : PeerTags (peers.own_nonce setup nonce) selected views accepted made
+  pub held_is : peer_foreign selected views ≡ held
+
+-- only a conversation with the one nonce, which holds the other, can have made the tag
+pub record MadeByPeer (t : TagRecord) (own foreign : List ℕ) : Type 0 where
+  pub tells : (setup : PeerSetup) (nonce : List ℕ) (held : Option (List ℕ)) (accepted made : List TagRecord) → length nonce ≡ 32
+      → PeerTold setup nonce held accepted made → IsIn t made → (front nonce ≡ own) × (held ≡ Some foreign)
+
+-- a conversation of the server with this nonce, which holds that nonce of the peer, has accepted and made these tags
+pub record ServerTold (setup : ServerSetup) (nonce : List ℕ) (held : Option (List ℕ)) (accepted made : List TagRecord) : Type 0 where
+  pub current : Option ℕ
+  pub views : ServerViews
+  pub tags : ServerTags (servers.own_nonce setup nonce) current views accepted made
+  pub held_is : server_foreign current views ≡ held
+
+-- only a conversation that holds the nonce can have made the tag
+pub record MadeByServer (t : TagRecord) (foreign : List ℕ) : Type 0 where
+  pub tells : (setup : ServerSetup) (nonce : List ℕ) (held : Option (List ℕ)) (accepted made : List TagRecord)
+      → ServerTold setup nonce held accepted made → IsIn t made → held ≡ Some foreign
+
+-- no conversation of the server can have made the tag
+pub record NotByServer (setup : ServerSetup) (t : TagRecord) : Type 0 where
+  pub none : (nonce : List ℕ) (held : Option (List ℕ)) (accepted made : List TagRecord) → length nonce ≡ 32
+      → ServerTold setup nonce held accepted made → IsIn t made → ⊥
