@@ -1,16 +1,17 @@
 -- A conversation's events and draws, one by one and all together.
 use Rattle.std.proofs.Common.{◌≡◌, ◌≤◌, ℕ, false, suc, ◌+◌, ◌*◌, List, [], ◌∷◌, ◌++◌, refl, sym, ap, subst, ◌∙◌, arith, add-one, codes}
-use Rattle.eap_base.specs.declared.event.Event.TheVariants.{Deliver}
-use Rattle.eap_base.specs.declared.setup.Setup.{Setup}
+use Rattle.login_setup.specs.declared.event.Event.TheVariants.{Deliver}
+use Rattle.login_setup.specs.declared.setup.Setup.{Setup}
 use Rattle.eap_world.specs.Run.{run_of}
 use Rattle.eap_world.specs.World.{WorldNow}
-use Rattle.eap_base.specs.declared.setup.Later.{Later}
-use Rattle.eap_base.specs.declared.setup.PeerSetup.{PeerSetup}
-use Rattle.eap_base.specs.declared.setup.ServerSetup.{ServerSetup}
-use Rattle.eap_base.specs.declared.setup.Mode.TheVariants.{Alone}
-use Rattle.eap_base.specs.declared.users.User.{User}
-use Rattle.eap_base.specs.Setup.{gpsk_kind, no_later}
-use Rattle.eap_base.specs.Users.{HasRoom}
+use Rattle.login_setup.specs.declared.setup.Later.{Later}
+use Rattle.login_setup.specs.declared.setup.PeerSetup.{PeerSetup}
+use Rattle.login_setup.specs.declared.setup.ServerSetup.{ServerSetup}
+use Rattle.login_setup.specs.declared.setup.Mode.TheVariants.{Alone}
+use Rattle.login_setup.specs.declared.users.User.{User}
+use Rattle.eap_base.specs.Among.{gpsk_kind}
+use Rattle.login_setup.specs.Setup.{no_later}
+use Rattle.login_setup.specs.Users.{HasRoom}
 use Rattle.bulk_run.specs.Conversation.{alice, srv, known_with, setup_at, setup_with, deliveries, chosen, with_event, chances}
 use Rattle.bulk_run.specs.Draws.{octet_at, octets_after}
 use Rattle.bulk_run.specs.Summing.{IsAtMost, events_of, summary_of, plus, counts_of, ended_at, drawn_each, nothing_counted}

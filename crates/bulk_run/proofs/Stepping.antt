@@ -1,8 +1,8 @@
 -- What the start and a step of a world leave.
 use Rattle.std.proofs.Common.{◌≡◌, ◌≤◌, ℕ, ◌+◌, List, [], ◌∷◌, ◌++◌, length, true, false, Bool, Option, Some, None, refl, subst, arith, is_some}
 use Rattle.std.proofs.lemmas.List.{length-append}
-use Rattle.eap_base.specs.declared.event.Event.{Event}
-use Rattle.eap_base.specs.declared.setup.Port.{Port}
+use Rattle.login_setup.specs.declared.event.Event.{Event}
+use Rattle.login_setup.specs.declared.setup.Port.{Port}
 use Rattle.eap_world.specs.Sent.{Sent}
 use Rattle.eap_world.specs.World.{WorldNow, WorldOutcome, Action, Skipped, Called, act, called, counted}
 use Rattle.eap_world.specs.World.{numbered, one_if, sent_by, sent_to, start_call, told_of, world_outcome, world_start, world_step}

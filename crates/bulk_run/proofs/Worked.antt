@@ -1,8 +1,8 @@
 -- Draws, settings and choices, computed from the definitions alone.
 use Rattle.std.proofs.Common.{◌≡◌, List, [], ◌∷◌, Some, None, refl}
-use Rattle.eap_base.specs.declared.event.Event.TheVariants.{Deliver, Alter, Timeout}
-use Rattle.eap_base.specs.declared.setup.Party.TheVariants.{Server}
-use Rattle.eap_base.specs.declared.setup.Port.TheVariants as port
+use Rattle.login_setup.specs.declared.event.Event.TheVariants.{Deliver, Alter, Timeout}
+use Rattle.login_setup.specs.declared.setup.Party.TheVariants.{Server}
+use Rattle.login_setup.specs.declared.setup.Port.TheVariants as port
 use Rattle.eap_world.specs.Sent.{Sent}
 use Rattle.bulk_run.specs.Conversation.{choice, chosen, deliveries}
 use Rattle.bulk_run.specs.Draws.{state_at, octets_after}

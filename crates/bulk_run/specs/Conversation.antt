@@ -1,15 +1,16 @@
 -- A conversation: its settings and its events, from the octets that are drawn after a place.
 use Rattle.std.specs.Prelude.{ℕ, zero, suc, ◌+◌, ◌*◌, ◌%◌, ◌==◌, List, [], ◌∷◌, ◌++◌, length, false, if◌then◌else◌, Option, Some, None, codes}
-use Rattle.eap_base.specs.declared.event.Event.{Event}
-use Rattle.eap_base.specs.declared.event.Event.TheVariants.{Deliver, Alter, Timeout}
-use Rattle.eap_base.specs.declared.setup.Accepts.TheVariants.{One}
-use Rattle.eap_base.specs.declared.setup.Mode.TheVariants.{Alone}
-use Rattle.eap_base.specs.declared.setup.Party.TheVariants as party
-use Rattle.eap_base.specs.declared.setup.PeerSetup.{PeerSetup}
-use Rattle.eap_base.specs.declared.setup.ServerSetup.{ServerSetup}
-use Rattle.eap_base.specs.declared.setup.Setup.{Setup}
-use Rattle.eap_base.specs.declared.users.User.{User}
-use Rattle.eap_base.specs.Setup.{gpsk_kind, no_later}
+use Rattle.login_setup.specs.declared.event.Event.{Event}
+use Rattle.login_setup.specs.declared.event.Event.TheVariants.{Deliver, Alter, Timeout}
+use Rattle.login_setup.specs.declared.setup.Accepts.TheVariants.{One}
+use Rattle.login_setup.specs.declared.setup.Mode.TheVariants.{Alone}
+use Rattle.login_setup.specs.declared.setup.Party.TheVariants as party
+use Rattle.login_setup.specs.declared.setup.PeerSetup.{PeerSetup}
+use Rattle.login_setup.specs.declared.setup.ServerSetup.{ServerSetup}
+use Rattle.login_setup.specs.declared.setup.Setup.{Setup}
+use Rattle.login_setup.specs.declared.users.User.{User}
+use Rattle.eap_base.specs.Among.{gpsk_kind}
+use Rattle.login_setup.specs.Setup.{no_later}
 use Rattle.eap_world.specs.Run.{run_of}
 use Rattle.eap_world.specs.Sent.{Sent, packet_numbered}
 use Rattle.eap_world.specs.World.{octets_of}

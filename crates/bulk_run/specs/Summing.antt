@@ -1,7 +1,7 @@
 -- What the conversations of a number come to.
 use Rattle.std.specs.Prelude.{◌≡◌, ◌≤◌, ℕ, zero, suc, ◌+◌, ◌*◌, ◌%◌, ◌==◌, List, Bool, true, false, if◌then◌else◌}
-use Rattle.eap_base.specs.declared.event.Event.{Event}
-use Rattle.eap_base.specs.declared.setup.Setup.{Setup}
+use Rattle.login_setup.specs.declared.event.Event.{Event}
+use Rattle.login_setup.specs.declared.setup.Setup.{Setup}
 use Rattle.eap_world.specs.Run.{run_of}
 use Rattle.eap_world.specs.Book.{tags_verdict}
 use Rattle.eap_world.specs.Judgement.{verdict_of}

@@ -1,8 +1,8 @@
 //! One conversation.
 
 ghost use Rattle.std.specs.Prelude.{◌≡◌, ◌<◌, ◌≤◌, ◌+◌, ◌∷◌, ℕ, List, [], length, map, true, false, IfOk, codes, None, Some};
-ghost use Rattle.eap_base.specs.Setup.{gpsk_kind};
-ghost use Rattle.eap_base.specs.declared.setup.Setup.{Setup};
+ghost use Rattle.eap_base.specs.Among.{gpsk_kind};
+ghost use Rattle.login_setup.specs.declared.setup.Setup.{Setup};
 ghost use Rattle.eap_method.specs.Peer.{peer_kinds, have_each};
 ghost use Rattle.eap_method.specs.Server.{server_kinds};
 ghost use Rattle.eap_world.specs.Run.{run_of, BeginsRun};
@@ -16,12 +16,10 @@ ghost use Rattle.bulk_run.specs.Summing.{counts_of, drawn_each, drawn_for_events
 use crate::draws::Draws;
 use crate::summary::Summary;
 use crate::turn::{begin, take, take_chosen};
-use eap_base::{
-    Accepts, Event, GPSK_KIND, Identity, Kinds, Later, Mode, Nonce, PeerSetup, Secret, ServerSetup,
-    Setup, Suites, User, Users,
-};
+use eap_base::{GPSK_KIND, Identity, Kinds, Nonce, Secret, Suites};
 use eap_method::{PeerMethod, ServerMethod};
 use eap_world::{Memory, Methods, World};
+use login_setup::{Accepts, Event, Later, Mode, PeerSetup, ServerSetup, Setup, User, Users};
 use std::alloc::Global;
 
 /// The name of the peer, who is the server's one user.

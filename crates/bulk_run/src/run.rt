@@ -1,7 +1,7 @@
 //! All conversations of a number.
 
 ghost use Rattle.std.specs.Prelude.{◌≡◌, ◌≤◌, ◌∷◌, [], map, true, IfOk};
-ghost use Rattle.eap_base.specs.Setup.{gpsk_kind};
+ghost use Rattle.eap_base.specs.Among.{gpsk_kind};
 ghost use Rattle.eap_method.specs.Peer.{peer_kinds, have_each};
 ghost use Rattle.eap_method.specs.Server.{server_kinds};
 ghost use Rattle.bulk_run.specs.Summing.{summary_of};

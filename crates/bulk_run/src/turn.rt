@@ -1,8 +1,8 @@
 //! One event of a conversation.
 
 ghost use Rattle.std.specs.Prelude.{◌≡◌, ◌<◌, ◌≤◌, ◌+◌, ◌%◌, ◌∷◌, ◌++◌, ℕ, List, [], length, true, false, IfOk};
-ghost use Rattle.eap_base.specs.declared.event.Event.{Event};
-ghost use Rattle.eap_base.specs.declared.setup.Setup.{Setup};
+ghost use Rattle.login_setup.specs.declared.event.Event.{Event};
+ghost use Rattle.login_setup.specs.declared.setup.Setup.{Setup};
 ghost use Rattle.eap_world.specs.Run.{run_of, BeginsRun, GoesOn};
 ghost use Rattle.eap_world.specs.World.{HasObjects, now_of, octets_of};
 ghost use Rattle.bulk_run.specs.Kinds.{KeepsKinds};
@@ -10,9 +10,9 @@ ghost use Rattle.eap_world.specs.Sent.{packet_numbered};
 ghost use Rattle.bulk_run.specs.Conversation.{choice, chosen, with_event};
 ghost use Rattle.bulk_run.specs.Going.{AreFew, sent_after};
 
-use eap_base::{Event, Party};
 use eap_method::{PeerMethod, ServerMethod};
 use eap_world::{MAX_EVENTS, Memory, Told, World};
+use login_setup::{Event, Party};
 
 /// Starts a world in which nothing was sent, and answers how many packets were sent then. Each method of an end has an object.
 #[tactic(auto, using(crate::proofs::Kept::same_kinds))]

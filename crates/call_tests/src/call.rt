@@ -3,10 +3,12 @@
 ghost use Rattle.scenario_text.specs.Valid.{IsValidSetup};
 
 pub(crate) use command_driver::Status;
-use eap_base::{GPSK_KIND, MemSink, MemSource, PSK_KIND, Setup};
+use eap_base::{GPSK_KIND, PSK_KIND};
 use eap_world::{Methods, World};
 use end_objects::{PeerObject, ServerObject, peer_object, server_object};
 use login_call::eap_login;
+use login_setup::Setup;
+use octet_io::{MemSink, MemSource};
 use std::alloc::Global;
 use std::io;
 use world_commands::{both_peers, both_servers, world_of};

@@ -1,7 +1,7 @@
 //! Many conversations from one number.
 
 use crate::call::{Status, answered, answered_to};
-use eap_base::{MemSink, MemSource};
+use octet_io::{MemSink, MemSource};
 use std::alloc::Global;
 use std::io;
 use std::test::Fail;

@@ -3,7 +3,7 @@
 ghost use Rattle.std.specs.Prelude.{◌<◌};
 
 use crate::call::{Status, answered, answered_to};
-use eap_base::{MemSink, MemSource};
+use octet_io::{MemSink, MemSource};
 use std::alloc::Global;
 use std::io;
 use std::test::Fail;

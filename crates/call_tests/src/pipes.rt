@@ -4,11 +4,13 @@ ghost use Rattle.std.specs.Prelude.{IfOk};
 ghost use Rattle.scenario_text.specs.Valid.{IsValidPeer, IsValidServer};
 
 use crate::call::{Status, answered};
-use eap_base::{GPSK_KIND, MemSink, MemSource, Octets, PSK_KIND, Packet, PeerSetup, ServerSetup};
+use eap_base::{GPSK_KIND, Octets, PSK_KIND, Packet};
 use eap_method::{Report, Tags};
 use end_commands::{peer_of, server_of};
 use end_objects::{PeerObject, ServerObject, peer_object, server_object};
 use end_pipe::{EndInput, EndReader, EndStep, PeerPipe, ServerPipe};
+use login_setup::{PeerSetup, ServerSetup};
+use octet_io::{MemSink, MemSource};
 use std::alloc::Global;
 use std::io;
 use std::test::Fail;

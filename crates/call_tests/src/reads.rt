@@ -1,7 +1,7 @@
 //! Nothing is read once an answer is decided: the read after the octets that decide it would fail.
 
 use crate::call::answered;
-use eap_base::{MemSink, MemSource};
+use octet_io::{MemSink, MemSource};
 use std::alloc::{AllocError, Global};
 use std::io;
 use std::test::Fail;

@@ -3,8 +3,8 @@
 
 use crate::call::ObjectWorld;
 use crate::worlds::{begun, step};
-use eap_base::Event;
 use eap_world::TagsVerdict;
+use login_setup::Event;
 use scenario_text::{Item, ScenarioReader};
 use std::alloc::Global;
 use std::process::Abort;

@@ -1,8 +1,8 @@
 //! The run of the program, from the arguments that it is started with to its exit status.
 
 use crate::call::words_of;
-use eap_base::{MemSink, MemSource};
 use login_run::run;
+use octet_io::{MemSink, MemSource};
 use std::alloc::Global;
 use std::io;
 use std::test::Fail;

@@ -1,10 +1,8 @@
 //! Settings that are made by hand: which of them an end takes.
 
-use eap_base::{
-    Accepts, GPSK_KIND, Kinds, Octets, PSK_KIND, PeerSetup, Secret, ServerSetup, Suites, User,
-    Users,
-};
+use eap_base::{GPSK_KIND, Kinds, Octets, PSK_KIND, Secret, Suites};
 use end_objects::{is_sound_peer, is_sound_server};
+use login_setup::{Accepts, PeerSetup, ServerSetup, User, Users};
 use std::test::Fail;
 
 /// These octets, or those before the first that has no room.

@@ -4,8 +4,8 @@ ghost use Rattle.std.specs.Prelude.{IfOk};
 ghost use Rattle.scenario_text.specs.Valid.{IsValidSetup};
 
 use crate::call::{ObjectWorld, world};
-use eap_base::{Event, Party, Setup};
 use eap_world::{MAX_EVENTS, SentPacket, Skip, Told};
+use login_setup::{Event, Party, Setup};
 use scenario_text::ScenarioReader;
 use std::alloc::Global;
 use std::process::Abort;

@@ -1,7 +1,7 @@
 -- What is kept of a list of packets and one more.
 use Rattle.std.proofs.Common.{◌≡◌, ℕ, List, [], ◌∷◌, ◌++◌, Option, Some, None, Bool, sym, refl, append_assoc, append-nil}
 use Rattle.std.specs.Option.{option_or}
-use Rattle.eap_base.specs.declared.users.User.{User}
+use Rattle.login_setup.specs.declared.users.User.{User}
 use Rattle.capture_check.specs.Heard.{Captured, heard_of}
 use Rattle.capture_check.specs.Kept.{last_shown, last_psk1, last_gpsk2, last_psk2, kept_of, psk1_in, gpsk2_in, psk2_in}
 use Rattle.capture_check.specs.Steps.{kept_next, nothing_kept}

@@ -3,10 +3,10 @@ use Rattle.std.proofs.Common.{◌≡◌, ℕ, List, [], ◌∷◌, ◌++◌, Boo
 use Rattle.std.specs.Option.{option_or}
 use Rattle.std.specs.Result.{result_ok}
 use Rattle.std.specs.Str.{bytes_eq}
-use Rattle.eap_base.specs.Setup.{gpsk_kind, psk_kind}
-use Rattle.eap_base.specs.Users.{user_of, is_named}
-use Rattle.eap_base.specs.declared.setup.Suite.{Suite}
-use Rattle.eap_base.specs.declared.users.User.{User}
+use Rattle.eap_base.specs.Among.{gpsk_kind, psk_kind}
+use Rattle.login_setup.specs.Users.{user_of, is_named}
+use Rattle.eap_base.specs.declared.suite.Suite.{Suite}
+use Rattle.login_setup.specs.declared.users.User.{User}
 use Rattle.gpsk_messages.specs.Message as gpsk_message
 use Rattle.psk_messages.specs.Message as psk_message
 use Rattle.eap_method.specs.PskTags.{header_of}

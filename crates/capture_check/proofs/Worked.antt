@@ -1,6 +1,6 @@
 -- The findings of worked packets.
 use Rattle.std.proofs.Common.{◌≡◌, ℕ, List, [], ◌∷◌, ◌++◌, true, false, refl, replicate}
-use Rattle.eap_base.specs.declared.users.User.{User}
+use Rattle.login_setup.specs.declared.users.User.{User}
 use Rattle.eap_packet.specs.Fault.{fault, packet_of}
 use Rattle.eap_packet.specs.declared.cause.Cause.TheVariants.{Short, WrongRole, WrongOp}
 use Rattle.gpsk_messages.specs.Reading as gpsk

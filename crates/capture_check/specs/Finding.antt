@@ -1,6 +1,6 @@
 -- The finding of a captured packet, by the users that are known and all packets before it.
 use Rattle.std.specs.Prelude.{◌≡◌, ℕ, List, Bool, Option, Result, Ok, Err}
-use Rattle.eap_base.specs.declared.users.User.{User}
+use Rattle.login_setup.specs.declared.users.User.{User}
 use Rattle.gpsk_messages.specs.Message as gpsk_message
 use Rattle.psk_messages.specs.Message as psk_message
 use Rattle.eap_method.specs.PskTags.{header_of}

@@ -1,6 +1,6 @@
 -- What a captured packet is by itself, before any tag is looked at.
 use Rattle.std.specs.Prelude.{ℕ, List, Bool, false, ◌==◌, not, if◌then◌else◌, None, Result, Ok, Err}
-use Rattle.eap_base.specs.Setup.{gpsk_kind, psk_kind}
+use Rattle.eap_base.specs.Among.{gpsk_kind, psk_kind}
 use Rattle.eap_packet.specs.Packet.{PacketValue, request, response, success, failure}
 use Rattle.eap_packet.specs.Fault.{packet_of}
 use Rattle.eap_packet.specs.declared.cause.Cause.{Cause}

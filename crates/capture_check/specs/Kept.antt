@@ -2,7 +2,7 @@
 use Rattle.std.specs.Prelude.{List, [], ◌∷◌, ◌++◌, Option, Some, None}
 use Rattle.std.specs.Option.{option_or}
 use Rattle.std.specs.Result.{result_ok}
-use Rattle.eap_base.specs.declared.users.User.{User}
+use Rattle.login_setup.specs.declared.users.User.{User}
 use Rattle.gpsk_messages.specs.Message as gpsk_message
 use Rattle.psk_messages.specs.Message as psk_message
 use Rattle.capture_check.specs.Heard.{Captured, Heard, heard_of, malformed, plain, gpsk, psk}

@@ -2,7 +2,7 @@
 use Rattle.std.specs.Prelude.{◌≡◌, List, length, IfSome, Option, None, Bool, ℕ}
 use Rattle.std.specs.Option.{option_or}
 use Rattle.eap_base.specs.Suite.{ks_of}
-use Rattle.eap_base.specs.declared.users.User.{User}
+use Rattle.login_setup.specs.declared.users.User.{User}
 use Rattle.capture_check.specs.Heard.{Heard, heard_of}
 use Rattle.capture_check.specs.Kept.{psk1_in, gpsk2_in, psk2_in}
 use Rattle.capture_check.specs.declared.kept.GpskLogin.{GpskLogin}

@@ -2,10 +2,10 @@
 use Rattle.std.specs.Prelude.{ℕ, List, Bool, ◌&&◌, if◌then◌else◌, Option, Some, None, option_map, Result, Ok, Err}
 use Rattle.std.specs.Str.{bytes_eq}
 use Rattle.cmac_mac.specs.Cmac.{aes_cmac}
-use Rattle.eap_base.specs.Setup.{gpsk_kind, psk_kind}
-use Rattle.eap_base.specs.Users.{user_of}
-use Rattle.eap_base.specs.declared.setup.Suite.{Suite}
-use Rattle.eap_base.specs.declared.users.User.{User}
+use Rattle.eap_base.specs.Among.{gpsk_kind, psk_kind}
+use Rattle.login_setup.specs.Users.{user_of}
+use Rattle.eap_base.specs.declared.suite.Suite.{Suite}
+use Rattle.login_setup.specs.declared.users.User.{User}
 use Rattle.gpsk_messages.specs.Message as gpsk
 use Rattle.login_keys.specs.Gpsk.{gpsk_keys_of}
 use Rattle.login_keys.specs.Psk.{psk_long_of, psk_keys_of}

@@ -1,8 +1,8 @@
 //! Packets judged in their order.
 
 ghost use Rattle.std.specs.Prelude.{◌≡◌, ◌≤◌, ℕ, None, List, [], ◌∷◌, ◌++◌, length, All, IsTrue};
-ghost use Rattle.eap_base.specs.Setup.{fits_kind};
-ghost use Rattle.eap_base.specs.declared.users.User.{User};
+ghost use Rattle.login_setup.specs.Setup.{fits_kind};
+ghost use Rattle.login_setup.specs.declared.users.User.{User};
 ghost use Rattle.eap_packet.specs.Packet.{IsPlain, value_of};
 ghost use Rattle.eap_method.specs.PskTags.{header_of};
 ghost use Rattle.capture_check.specs.Heard.{Captured, gpsk_heard, heard_of, packet_heard, psk_heard};
@@ -14,9 +14,10 @@ ghost use Rattle.psk_messages.specs.Reading as psk_reading;
 use crate::finding::Finding;
 use crate::kept::Kept;
 use crate::{gpsk, psk};
-use eap_base::{GPSK_KIND, PSK_KIND, Users};
+use eap_base::{GPSK_KIND, PSK_KIND};
 use eap_packet::{Cause, Code, PacketView, decode};
 use gpsk_messages::read_gpsk;
+use login_setup::Users;
 use psk_messages::read_psk;
 use std::marker::Model;
 

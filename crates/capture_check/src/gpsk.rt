@@ -3,7 +3,7 @@
 ghost use Rattle.std.specs.Prelude.{◌≡◌, ◌≤◌, length, All, IsTrue, None, Some};
 ghost use Rattle.std.specs.Option.{option_or};
 ghost use Rattle.std.specs.Result.{result_ok};
-ghost use Rattle.eap_base.specs.Setup.{fits_kind};
+ghost use Rattle.login_setup.specs.Setup.{fits_kind};
 ghost use Rattle.eap_base.specs.Suite.{ks_of};
 ghost use Rattle.gpsk_messages.specs.Message.{message_of, spelled, IsGpsk};
 ghost use Rattle.capture_check.specs.Heard.{is_gpsk_astray};
@@ -14,9 +14,10 @@ ghost use Rattle.capture_check.specs.Steps.{HasKey};
 
 use crate::finding::Finding;
 use crate::kept::GpskLogin;
-use eap_base::{GPSK_KIND, Suite, User, Users, equal_in_full};
+use eap_base::{GPSK_KIND, Suite, equal_in_full};
 use gpsk_messages::{GpskView, covered_part, mac_part};
 use login_keys::{gpsk_keys, gpsk_tag};
+use login_setup::{User, Users};
 
 /// Whether a message goes the wrong way: GPSK-1 and GPSK-3 go to the peer, GPSK-2 and GPSK-4 come from
 /// it, and the failures go both ways.

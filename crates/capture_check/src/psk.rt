@@ -2,7 +2,7 @@
 
 ghost use Rattle.std.specs.Prelude.{◌≡◌, length, All, IsTrue, Some};
 ghost use Rattle.std.specs.Option.{option_or};
-ghost use Rattle.eap_base.specs.Setup.{fits_kind};
+ghost use Rattle.login_setup.specs.Setup.{fits_kind};
 ghost use Rattle.login_keys.specs.Psk.{psk_long_of};
 ghost use Rattle.psk_messages.specs.Message.{message_of, AreFields};
 ghost use Rattle.eap_method.specs.PskTags.{is_sealed};
@@ -14,10 +14,11 @@ ghost use Rattle.capture_check.specs.Finding.{psk_finding};
 use crate::finding::Finding;
 use crate::kept::{Psk1, PskLogin};
 use cmac_mac::CmacKey;
-use eap_base::{Octets, PSK_KIND, User, Users, array_of, equal_in_full};
+use eap_base::{Octets, PSK_KIND, array_of, equal_in_full};
 use eap_method::{mac_p, mac_s};
 use eax_mode::eax_unseal;
 use login_keys::{PskLong, psk_long, psk_session};
+use login_setup::{User, Users};
 use psk_messages::PskView;
 
 /// Whether a message goes the wrong way: PSK-1 and PSK-3 go to the peer, PSK-2 and PSK-4 come from it.

@@ -2,8 +2,8 @@
 use Rattle.std.proofs.Common.{◌≡◌, ℕ, ◌+◌, ◌≤◌, List, [], ◌∷◌, length, true, ◌==◌, All, Result, Ok, Err, refl, subst, get_or, arith}
 use Rattle.std.proofs.lemmas.Bool.{and_parts, leb-true, ne_eqb}
 use Rattle.std.specs.Prelude.{◌&&◌, nat_le}
-use Rattle.eap_base.specs.Lines.{lines}
-use Rattle.eap_base.specs.declared.users.User.{User}
+use Rattle.octet_io.specs.Lines.{lines}
+use Rattle.login_setup.specs.declared.users.User.{User}
 use Rattle.text_tables.specs.Words.{is_printable}
 use Rattle.text_tables.specs.declared.fault.LineFault.{LineFault}
 use Rattle.request_text.specs.Captures.{Capture, CaptureLine, read_line, finish_of}

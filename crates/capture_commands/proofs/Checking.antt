@@ -1,8 +1,8 @@
 -- What the command check keeps of the packets answers as the packets themselves do.
 use Rattle.std.proofs.Common.{◌≡◌, ℕ, ◌+◌, List, [], ◌∷◌, Bool, true, All, Result, Ok, Err, refl, length-append}
 use Rattle.std.proofs.lemmas.List.Elements.{All-nil}
-use Rattle.eap_base.specs.Lines.{Lines, ended, too_long, too_much, line, lines}
-use Rattle.eap_base.specs.declared.users.User.{User}
+use Rattle.octet_io.specs.Lines.{Lines, ended, too_long, too_much, line, lines}
+use Rattle.login_setup.specs.declared.users.User.{User}
 use Rattle.text_tables.specs.Words.{is_printable}
 use Rattle.text_tables.specs.Users.{with_user}
 use Rattle.request_text.specs.Captures.{Capture, CaptureLine, read_line}

@@ -1,8 +1,8 @@
 -- A file of captured frames on its way through its records.
 use Rattle.std.proofs.Common.{◌≡◌, ◌≢◌, ℕ, ◌+◌, ◌≤◌, List, [], ◌++◌, Bool, true, false, if◌then◌else◌, Option, Some, refl, sym, ◌∙◌, ap, subst, append_assoc, arith}
 use Rattle.std.specs.Prelude.{option_map}
-use Rattle.eap_base.specs.Known.{append_known}
-use Rattle.eap_base.specs.declared.users.User.{User}
+use Rattle.octet_io.specs.Known.{append_known}
+use Rattle.login_setup.specs.declared.users.User.{User}
 use Rattle.eapol_capture.specs.Files.{Contents, ends, record_of}
 use Rattle.eapol_capture.specs.Frames.{Carried, other, cut, eap, carried}
 use Rattle.eapol_capture.specs.Reading.{Reading, Divides, Faults, begun, begun_in}

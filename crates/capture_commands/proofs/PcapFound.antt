@@ -1,6 +1,6 @@
 -- What is kept of a file of captured frames answers as its packets themselves do.
 use Rattle.std.proofs.Common.{◌≡◌, ℕ, ◌+◌, List, [], ◌∷◌, refl, sym, ap, ◌∙◌, length-append}
-use Rattle.eap_base.specs.declared.users.User.{User}
+use Rattle.login_setup.specs.declared.users.User.{User}
 use Rattle.eapol_capture.specs.Files.{Contents, ends, record_of, contents}
 use Rattle.eapol_capture.specs.Frames.{Carried, other, cut, eap, carried}
 use Rattle.capture_check.specs.Heard.{Captured}

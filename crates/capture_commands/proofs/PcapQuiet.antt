@@ -1,7 +1,7 @@
 -- No line of `pcap` begins as the line of honest tags does.
 use Rattle.std.proofs.Common.{◌≡◌, ℕ, ◌≤◌, ◌+◌, List, length, true, false, refl, decimal, arith}
 use Rattle.std.proofs.lemmas.Bool.{ne_eqb}
-use Rattle.eap_base.specs.declared.users.User.{User}
+use Rattle.login_setup.specs.declared.users.User.{User}
 use Rattle.eapol_capture.specs.Files.{Contents, ends, record_of, contents}
 use Rattle.eapol_capture.specs.Frames.{Carried, other, cut, eap, carried}
 use Rattle.eapol_capture.specs.declared.reader.NextRecord.{NextRecord}

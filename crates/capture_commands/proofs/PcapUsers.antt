@@ -3,8 +3,8 @@ use Rattle.std.proofs.Common.{◌≡◌, ℕ, ◌≤◌, List, [], ◌∷◌, Bo
 use Rattle.std.proofs.lemmas.Bool.{and_parts, leb-true, ne_eqb}
 use Rattle.std.specs.Prelude.{nat_le}
 use Rattle.std.specs.Str.{bytes_eq}
-use Rattle.eap_base.specs.Setup.{fits_kind}
-use Rattle.eap_base.specs.declared.users.User.{User}
+use Rattle.login_setup.specs.Setup.{fits_kind}
+use Rattle.login_setup.specs.declared.users.User.{User}
 use Rattle.text_tables.specs.UserWords.{is_visible, users_named, read_as}
 use Rattle.text_tables.proofs.NamedUsers.{IsNamed, all_named}
 use Rattle.trace_text.proofs.Plain.{is_within, skips}

@@ -1,6 +1,6 @@
 -- No line of `radius` begins as the line of honest tags does.
 use Rattle.std.proofs.Common.{◌≡◌, ℕ, List, Bool, true, Option, Some, None, Result, Ok, Err, refl, codes, decimal, ◌==◌}
-use Rattle.eap_base.specs.Lines.{lines}
+use Rattle.octet_io.specs.Lines.{lines}
 use Rattle.radius_carry.specs.Packet.{RadiusPacket, eap_of}
 use Rattle.radius_carry.specs.Fault.{packet_of}
 use Rattle.radius_carry.specs.Words.{cause_word}

@@ -1,6 +1,6 @@
 -- The command check: each packet of a capture is judged by the users and by all packets before it.
 use Rattle.std.specs.Prelude.{ℕ, ◌+◌, List, [], ◌∷◌, ◌++◌, length, Bool, true, false, ◌==◌, if◌then◌else◌, Result, Ok, Err}
-use Rattle.eap_base.specs.Lines.{lines}
+use Rattle.octet_io.specs.Lines.{lines}
 use Rattle.text_tables.specs.Words.{fault_word}
 use Rattle.request_text.specs.Captures.{Capture, CaptureLine, read_line, finish_of}
 use Rattle.request_text.specs.declared.capture.CaptureItem.{CaptureItem}

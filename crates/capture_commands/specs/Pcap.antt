@@ -3,7 +3,7 @@
 use Rattle.std.specs.Prelude.{ℕ, ◌+◌, List, [], ◌∷◌, ◌++◌, length, Bool, true, ◌==◌, not, if◌then◌else◌, codes, decimal, Option, Some, None}
 use Rattle.std.specs.List.{concat}
 use Rattle.std.specs.Str.{bytes_eq}
-use Rattle.eap_base.specs.declared.users.User.{User}
+use Rattle.login_setup.specs.declared.users.User.{User}
 use Rattle.eapol_capture.specs.Files.{Contents, ends, record_of, contents}
 use Rattle.eapol_capture.specs.Frames.{Carried, other, cut, eap, carried}
 use Rattle.eapol_capture.specs.declared.reader.NextRecord.{NextRecord}

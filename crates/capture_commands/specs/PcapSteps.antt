@@ -1,6 +1,6 @@
 -- A file of captured frames by what is kept of it in place of its packets.
 use Rattle.std.specs.Prelude.{ℕ, ◌+◌, ◌≤◌, List, [], length}
-use Rattle.eap_base.specs.declared.users.User.{User}
+use Rattle.login_setup.specs.declared.users.User.{User}
 use Rattle.eapol_capture.specs.Files.{Contents, ends, record_of}
 use Rattle.eapol_capture.specs.Frames.{Carried, other, cut, eap, carried}
 use Rattle.capture_check.specs.Finding.{finding_in}

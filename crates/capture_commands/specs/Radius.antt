@@ -2,7 +2,7 @@
 -- secret (RFC 2865, RFC 3579).
 use Rattle.std.specs.Prelude.{ℕ, List, [], ◌∷◌, Bool, false, ◌==◌, if◌then◌else◌, codes, decimal, Option, Some, None, Result, Ok, Err}
 use Rattle.std.specs.List.{concat}
-use Rattle.eap_base.specs.Lines.{lines}
+use Rattle.octet_io.specs.Lines.{lines}
 use Rattle.radius_carry.specs.Packet.{RadiusPacket, spelled, eap_of}
 use Rattle.radius_carry.specs.Fault.{packet_of}
 use Rattle.radius_carry.specs.Tags.{is_good_request, is_good_reply}

@@ -1,7 +1,7 @@
 //! The command `pcap`: judges the tags of the EAP packets in a file of captured Ethernet frames.
 
 ghost use Rattle.std.specs.Prelude.{◌≡◌, ◌<◌, ◌^◌, ℕ, List, Option, [], map, string_bytes, All, IsTrue};
-ghost use Rattle.eap_base.specs.Setup.{fits_kind};
+ghost use Rattle.login_setup.specs.Setup.{fits_kind};
 ghost use Rattle.eapol_capture.specs.Frames.{carried, eap};
 ghost use Rattle.eapol_capture.specs.Reading.{Exhausts};
 ghost use Rattle.text_tables.specs.UserWords.{read_as};
@@ -14,8 +14,9 @@ ghost use Rattle.trace_text.specs.Writes.{Appends};
 use crate::check::is_counted;
 use capture_check::Checker;
 use command_driver::Status;
-use eap_base::{Failed, Sink, Source, Users};
 use eapol_capture::{FrameFinding, NextRecord, PcapReader, eap_of_frame};
+use login_setup::Users;
+use octet_io::{Failed, Sink, Source};
 use text_tables::read_users;
 use trace_text::Piece::{Number, Text};
 use trace_text::{write_finding, write_pieces};

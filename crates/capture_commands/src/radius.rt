@@ -11,7 +11,8 @@ ghost use Rattle.capture_commands.specs.Radius.{code_of, good_or_bad, hex_line, 
 ghost use Rattle.capture_commands.specs.Radius.{reply_judged, word_line};
 
 use command_driver::{Close, Command, Next, Status, Trouble, drive};
-use eap_base::{Failed, Octets, Sink, Source};
+use eap_base::Octets;
+use octet_io::{Failed, Sink, Source};
 use radius_carry::{
     RadiusKind, RadiusView, eap_of, read_radius, reply_good, request_good, write_reply,
     write_request,

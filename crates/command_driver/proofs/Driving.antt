@@ -1,8 +1,8 @@
 -- A command on its way through lines.
 use Rattle.std.proofs.Common.{◌≡◌, ℕ, ◌+◌, List, [], ◌++◌, Bool, true, false, ◌||◌, Option, Some, None, refl, sym, ◌∙◌, ap, subst, append_assoc}
 use Rattle.std.specs.Prelude.{option_map}
-use Rattle.eap_base.specs.Known.{append_known}
-use Rattle.eap_base.specs.Lines.{Lines, ended, too_long, too_much, line}
+use Rattle.octet_io.specs.Known.{append_known}
+use Rattle.octet_io.specs.Lines.{Lines, ended, too_long, too_much, line}
 use Rattle.trace_text.specs.Writes.{WritesFront}
 use Rattle.trace_text.proofs.Fronts.{append_known_append, append_known_nil}
 use Rattle.command_driver.specs.declared.status.Status.{Status}

@@ -1,8 +1,8 @@
 -- A command that reads lines: what each line brings, and what the end of the input brings.
 use Rattle.std.specs.Prelude.{◌≡◌, ℕ, ◌+◌, List, [], Bool, true, false, ◌||◌, ◌≤◌, Option, Some, Result, Ok, Err, OnOk, OnErr}
-use Rattle.eap_base.specs.Known.{append_known}
-use Rattle.eap_base.specs.Lines.{Lines, max_input, ended, too_long, too_much, line}
-use Rattle.eap_base.specs.declared.source.Failed.{Failed}
+use Rattle.octet_io.specs.Known.{append_known}
+use Rattle.octet_io.specs.Lines.{Lines, max_input, ended, too_long, too_much, line}
+use Rattle.octet_io.specs.declared.source.Failed.{Failed}
 use Rattle.trace_text.specs.Writes.{WritesFront}
 use Rattle.command_driver.specs.Answers.{Answer, after_text, refusal, overlong, IsWhole, IsRefusal}
 use Rattle.command_driver.specs.declared.status.Status.{Status}

@@ -1,6 +1,6 @@
 -- What a command answers to an input, line by line.
 use Rattle.std.specs.Prelude.{ℕ, List, Bool}
-use Rattle.eap_base.specs.Lines.{lines}
+use Rattle.octet_io.specs.Lines.{lines}
 use Rattle.command_driver.specs.Commands.{Took, Closing, answer, lacking}
 use Rattle.command_driver.specs.Responding.{Asked, reading, only_at}
 

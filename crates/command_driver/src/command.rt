@@ -4,7 +4,7 @@ ghost use Rattle.std.specs.Prelude.{◌+◌, ℕ, IfOk};
 ghost use Rattle.command_driver.specs.Commands.{AnswersLine, AnswersEnd, AfterLines};
 
 use crate::status::Status;
-use eap_base::{Failed, Sink};
+use octet_io::{Failed, Sink};
 
 /// What follows a line.
 #[derive(Clone, Copy)]

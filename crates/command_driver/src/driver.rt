@@ -8,7 +8,7 @@ ghost use Rattle.command_driver.specs.Responding.{Responds};
 
 use crate::command::{Close, Command, Next, Trouble};
 use crate::status::Status;
-use eap_base::{LineReader, NextLine, Sink, Source};
+use octet_io::{LineReader, NextLine, Sink, Source};
 use trace_text::write_refused;
 
 /// Writes the last line of a refused input, and ends with the status.

@@ -1,9 +1,2 @@
-pub mod Counted
-pub mod Cutting
-pub mod Known
-pub mod LineSteps
-pub mod Lines
-pub mod Memory
-pub mod Setup
+pub mod Among
 pub mod Suite
-pub mod Users

@@ -1,7 +1,7 @@
 //! The Types of the two methods.
 
 ghost use Rattle.std.specs.Prelude.{◌≡◌};
-ghost use Rattle.eap_base.specs.Setup.{is_among};
+ghost use Rattle.eap_base.specs.Among.{is_among};
 
 /// The Type of EAP-PSK (RFC 4764 section 5).
 pub const PSK_KIND: u8 = 47;

@@ -1,8 +1,8 @@
 //! Replays EAP logins by shared keys from recorded schedules.
 #![tactic(auto)]
 
-use eap_base::{StdSink, StdSource};
 use login_run::run;
+use octet_io::{StdSink, StdSource};
 use std::env;
 use std::process::ExitCode;
 

@@ -2,11 +2,12 @@
 use Rattle.std.proofs.Common.{◌≡◌, ℕ, List, Bool, true, false, Option, Some, None, Result, Ok, Err, refl, ap, sym, ◌∙◌}
 use Rattle.std.specs.Prelude.{◌==◌, if◌then◌else◌}
 use Rattle.std.specs.Str.{bytes_eq}
-use Rattle.eap_base.specs.declared.setup.Suite.{Suite}
-use Rattle.eap_base.specs.declared.users.User.{User}
+use Rattle.eap_base.specs.declared.suite.Suite.{Suite}
+use Rattle.login_setup.specs.declared.users.User.{User}
 use Rattle.eap_base.specs.Suite.{ks_of}
-use Rattle.eap_base.specs.Setup.{psk_kind, gpsk_kind, accepts_name}
-use Rattle.eap_base.specs.Users.{user_of}
+use Rattle.eap_base.specs.Among.{psk_kind, gpsk_kind}
+use Rattle.login_setup.specs.Setup.{accepts_name}
+use Rattle.login_setup.specs.Users.{user_of}
 use Rattle.eap_packet.specs.declared.cause.Cause.{Cause}
 use Rattle.gpsk_messages.specs.Message as gpsk_message
 use Rattle.gpsk_messages.specs.Reading as gpsk_reading

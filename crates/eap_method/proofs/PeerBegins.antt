@@ -1,8 +1,9 @@
 -- A peer begins: each object with the key for its method.
 use Rattle.std.proofs.Common.{◌≡◌, ℕ, List, [], ◌∷◌, true, false, map, IsTrue, Option, Some, None, refl, ap}
 use Rattle.std.specs.Prelude.{IsSome, IfSome}
-use Rattle.eap_base.specs.declared.setup.PeerSetup.{PeerSetup}
-use Rattle.eap_base.specs.Setup.{psk_kind, gpsk_kind, is_among, fits_kind, IsSoundPeer, HasKeys}
+use Rattle.login_setup.specs.declared.setup.PeerSetup.{PeerSetup}
+use Rattle.eap_base.specs.Among.{psk_kind, gpsk_kind, is_among}
+use Rattle.login_setup.specs.Setup.{fits_kind, IsSoundPeer, HasKeys}
 use Rattle.eap_method.specs.PskPeer as psk_peer
 use Rattle.eap_method.specs.GpskPeer as gpsk_peer
 use Rattle.eap_method.specs.Peer.{PeerShown, psk, gpsk, PeerViews, peer_kind, peer_kinds, peer_begun, peer_views, views_where, psk_view_of, gpsk_view_of, views_begun, octets_or_none, credential_for, have_each}

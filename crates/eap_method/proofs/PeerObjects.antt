@@ -2,7 +2,7 @@
 use Rattle.std.proofs.Common.{◌≡◌, ◌≢◌, ℕ, List, [], ◌∷◌, Bool, true, false, refl, sym, ◌∙◌, ap}
 use Rattle.std.specs.Prelude.{◌==◌, if◌then◌else◌}
 use Rattle.std.proofs.lemmas.Bool.{ne_eqb}
-use Rattle.eap_base.specs.Setup.{psk_kind, gpsk_kind, is_among}
+use Rattle.eap_base.specs.Among.{psk_kind, gpsk_kind, is_among}
 use Rattle.eap_packet.specs.declared.cause.Cause.TheVariants.{WrongOp}
 use Rattle.eap_method.specs.PskPeer as psk_peer
 use Rattle.eap_method.specs.GpskPeer as gpsk_peer

@@ -1,7 +1,7 @@
 -- A server begins: each object of a method that it proposes.
 use Rattle.std.proofs.Common.{◌≡◌, List, [], ◌∷◌, true, false, map, Option, Some, refl, ap}
-use Rattle.eap_base.specs.declared.setup.ServerSetup.{ServerSetup}
-use Rattle.eap_base.specs.Setup.{psk_kind, gpsk_kind, is_among}
+use Rattle.login_setup.specs.declared.setup.ServerSetup.{ServerSetup}
+use Rattle.eap_base.specs.Among.{psk_kind, gpsk_kind, is_among}
 use Rattle.eap_method.specs.Begun.{server_begun_in}
 use Rattle.eap_method.specs.Peer.{have_each}
 use Rattle.eap_method.specs.PskServer as psk_server

@@ -2,7 +2,7 @@
 use Rattle.std.proofs.Common.{◌≡◌, ◌≢◌, ℕ, List, [], ◌∷◌, Bool, true, false, Option, Some, None, refl, sym, ◌∙◌, ap}
 use Rattle.std.specs.Prelude.{◌==◌, if◌then◌else◌}
 use Rattle.std.proofs.lemmas.Bool.{ne_eqb}
-use Rattle.eap_base.specs.Setup.{psk_kind, gpsk_kind, is_among}
+use Rattle.eap_base.specs.Among.{psk_kind, gpsk_kind, is_among}
 use Rattle.eap_method.specs.declared.values.ServerSide.{ServerSide}
 use Rattle.eap_method.specs.PskServer as psk_server
 use Rattle.eap_method.specs.GpskServer as gpsk_server

@@ -2,9 +2,9 @@
 use Rattle.std.proofs.Common.{◌≡◌, ℕ, List, [], ◌∷◌, Bool, true, false, cond, not, map, inl, inr, refl, ap}
 use Rattle.std.proofs.lemmas.Bool.{cases_Bool}
 use Rattle.std.specs.List.{filter}
-use Rattle.eap_base.specs.declared.setup.PeerSetup.{PeerSetup}
-use Rattle.eap_base.specs.declared.setup.ServerSetup.{ServerSetup}
-use Rattle.eap_base.specs.Setup.{psk_kind, gpsk_kind, is_among}
+use Rattle.login_setup.specs.declared.setup.PeerSetup.{PeerSetup}
+use Rattle.login_setup.specs.declared.setup.ServerSetup.{ServerSetup}
+use Rattle.eap_base.specs.Among.{psk_kind, gpsk_kind, is_among}
 use Rattle.eap_method.specs.Begun.{peer_begun_in, server_begun_in}
 use Rattle.eap_method.specs.GpskServer as gpsk_server
 use Rattle.eap_method.specs.PskServer as psk_server

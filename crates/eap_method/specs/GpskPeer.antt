@@ -1,9 +1,10 @@
 -- The peer of EAP-GPSK (RFC 5433 section 3): where it stands, and its turn for each Request.
 use Rattle.std.specs.Prelude.{ℕ, List, [], ◌∷◌, Bool, true, false, ◌&&◌, not, if◌then◌else◌, Option, Some, None, Result, Ok, Err}
 use Rattle.std.specs.Str.{bytes_eq}
-use Rattle.eap_base.specs.declared.setup.Suite.{Suite}
+use Rattle.eap_base.specs.declared.suite.Suite.{Suite}
 use Rattle.eap_base.specs.Suite.{ks_of, suite_number}
-use Rattle.eap_base.specs.Setup.{gpsk_kind, accepts_name}
+use Rattle.eap_base.specs.Among.{gpsk_kind}
+use Rattle.login_setup.specs.Setup.{accepts_name}
 use Rattle.eap_packet.specs.declared.cause.Cause.{Cause}
 use Rattle.eap_packet.specs.declared.cause.Cause.TheVariants.{WrongOp, UnknownServer, NoSuite, FieldMismatch, BadTag}
 use Rattle.gpsk_messages.specs.Message.{Message, gpsk1, gpsk2, gpsk3, gpsk4, fail, protected_fail}

@@ -1,11 +1,11 @@
 -- The server of EAP-GPSK (RFC 5433 section 3): where it stands, and its turn for each Response.
 use Rattle.std.specs.Prelude.{ℕ, List, [], ◌∷◌, Bool, true, false, ◌==◌, ◌&&◌, not, if◌then◌else◌, Option, Some, None, Result, Ok, Err}
 use Rattle.std.specs.Str.{bytes_eq}
-use Rattle.eap_base.specs.declared.setup.Suite.{Suite}
-use Rattle.eap_base.specs.declared.users.User.{User}
+use Rattle.eap_base.specs.declared.suite.Suite.{Suite}
+use Rattle.login_setup.specs.declared.users.User.{User}
 use Rattle.eap_base.specs.Suite.{ks_of, suite_number}
-use Rattle.eap_base.specs.Setup.{gpsk_kind, is_among}
-use Rattle.eap_base.specs.Users.{user_of}
+use Rattle.eap_base.specs.Among.{gpsk_kind, is_among}
+use Rattle.login_setup.specs.Users.{user_of}
 use Rattle.eap_packet.specs.declared.cause.Cause.{Cause}
 use Rattle.eap_packet.specs.declared.cause.Cause.TheVariants.{WrongOp, FieldMismatch, SuiteNotOffered, BadTag}
 use Rattle.gpsk_messages.specs.Message.{Message, gpsk1, gpsk2, gpsk3, gpsk4, fail, protected_fail}

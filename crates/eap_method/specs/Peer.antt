@@ -1,8 +1,8 @@
 -- The peer's methods by kind: what an object is and where it stands, and its calls.
 use Rattle.std.specs.Prelude.{◌≡◌, ℕ, List, [], ◌∷◌, Bool, ◌==◌, if◌then◌else◌, Option, Some, None, map}
 use Rattle.std.specs.List.{list_all}
-use Rattle.eap_base.specs.declared.setup.PeerSetup.{PeerSetup}
-use Rattle.eap_base.specs.Setup.{psk_kind, gpsk_kind, is_among}
+use Rattle.login_setup.specs.declared.setup.PeerSetup.{PeerSetup}
+use Rattle.eap_base.specs.Among.{psk_kind, gpsk_kind, is_among}
 use Rattle.eap_packet.specs.Packet.{request, spelled, IsPacket}
 use Rattle.eap_packet.specs.declared.cause.Cause.TheVariants.{WrongOp}
 use Rattle.eap_method.specs.declared.values.Credential.{Credential}

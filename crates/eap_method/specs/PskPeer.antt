@@ -1,7 +1,8 @@
 -- The peer of EAP-PSK (RFC 4764 section 4): where it stands, and its turn for each Request.
 use Rattle.std.specs.Prelude.{ℕ, List, [], ◌∷◌, Bool, true, false, ◌==◌, ◌&&◌, not, if◌then◌else◌, Option, Some, None, slice_index, Result, Ok, Err}
 use Rattle.std.specs.Str.{bytes_eq}
-use Rattle.eap_base.specs.Setup.{psk_kind, accepts_name}
+use Rattle.eap_base.specs.Among.{psk_kind}
+use Rattle.login_setup.specs.Setup.{accepts_name}
 use Rattle.eap_packet.specs.declared.cause.Cause.{Cause}
 use Rattle.eap_packet.specs.declared.cause.Cause.TheVariants.{WrongOp, UnknownServer, FieldMismatch, BadNonce, BadTag}
 use Rattle.psk_messages.specs.Message.{Message, psk1, psk2, psk3, psk4}

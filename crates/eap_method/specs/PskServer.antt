@@ -1,9 +1,9 @@
 -- The server of EAP-PSK (RFC 4764 section 4): where it stands, and its turn for each Response.
 use Rattle.std.specs.Prelude.{ℕ, List, [], ◌∷◌, Bool, true, false, ◌==◌, ◌&&◌, not, if◌then◌else◌, Option, Some, None, slice_index, Result, Ok, Err}
 use Rattle.std.specs.Str.{bytes_eq}
-use Rattle.eap_base.specs.declared.users.User.{User}
-use Rattle.eap_base.specs.Setup.{psk_kind}
-use Rattle.eap_base.specs.Users.{user_of}
+use Rattle.login_setup.specs.declared.users.User.{User}
+use Rattle.eap_base.specs.Among.{psk_kind}
+use Rattle.login_setup.specs.Users.{user_of}
 use Rattle.eap_packet.specs.declared.cause.Cause.{Cause}
 use Rattle.eap_packet.specs.declared.cause.Cause.TheVariants.{WrongOp, FieldMismatch, BadNonce, BadTag}
 use Rattle.psk_messages.specs.Message.{Message, psk1, psk2, psk3, psk4}

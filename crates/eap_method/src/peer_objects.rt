@@ -1,7 +1,8 @@
 //! The objects of a peer: beginning them, finding the one of a method, and calling it.
 
 ghost use Rattle.std.specs.Prelude.{◌≡◌, ℕ, List, true, map};
-ghost use Rattle.eap_base.specs.Setup.{is_among, IsSoundPeer, HasKeys};
+ghost use Rattle.eap_base.specs.Among.{is_among};
+ghost use Rattle.login_setup.specs.Setup.{IsSoundPeer, HasKeys};
 ghost use Rattle.eap_method.specs.Peer.{peer_kinds, peer_views, peer_turn, IsRequest, peer_report_of, views_begun, have_each, octets_or_none, key_for, credential_for};
 ghost use Rattle.eap_method.specs.Begun.{peer_begun_in};
 ghost use Rattle.eap_method.specs.Unnamed.{peers_unnamed};
@@ -12,9 +13,10 @@ use crate::peer::PeerMethod;
 use crate::tags::Tags;
 use crate::turn::PeerTurn;
 use crate::values::{Credential, Report};
-use eap_base::{PSK_KIND, Packet, PeerSetup, Secret};
+use eap_base::{PSK_KIND, Packet, Secret};
 use eap_packet::Cause;
 use login_policy::peer_allows;
+use login_setup::PeerSetup;
 
 /// Begins each object whose method the settings allow, with the key for it, wherever it stood before; the
 /// others stay.

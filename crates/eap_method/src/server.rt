@@ -1,7 +1,7 @@
 //! A server's method: the trait that an object of EAP-PSK or EAP-GPSK meets.
 
 ghost use Rattle.std.specs.Prelude.{◌≡◌, true, IsTrue, All};
-ghost use Rattle.eap_base.specs.Setup.{fits_kind, are_suites};
+ghost use Rattle.login_setup.specs.Setup.{fits_kind, are_suites};
 ghost use Rattle.eap_method.specs.Server.{server_kind, server_begun, has_begun, server_first_step, server_step, server_report, IsResponse};
 ghost use Rattle.eap_method.specs.Room.{HasRoom, requests};
 ghost use Rattle.eap_method.specs.ServerTurn.{server_turn_with, server_tags};
@@ -9,7 +9,8 @@ ghost use Rattle.eap_method.specs.ServerTurn.{server_turn_with, server_tags};
 use crate::tags::Tags;
 use crate::turn::ServerTurn;
 use crate::values::{Report, ServerSide};
-use eap_base::{Nonce, Packet, Users};
+use eap_base::{Nonce, Packet};
+use login_setup::Users;
 
 /// A method at a server. Its ghost member says which method it is and where it stands.
 pub trait ServerMethod: Drop {

@@ -1,7 +1,8 @@
 //! The objects of a server: beginning them, finding the one of a method, and calling it.
 
 ghost use Rattle.std.specs.Prelude.{◌≡◌, ℕ, List, true, map, IsTrue, All, Some, None, if◌then◌else◌};
-ghost use Rattle.eap_base.specs.Setup.{is_among, fits_kind, are_suites};
+ghost use Rattle.eap_base.specs.Among.{is_among};
+ghost use Rattle.login_setup.specs.Setup.{fits_kind, are_suites};
 ghost use Rattle.eap_method.specs.Begun.{server_begun_in};
 ghost use Rattle.eap_method.specs.Peer.{have_each};
 ghost use Rattle.eap_method.specs.Room.{HasRoom, requests};
@@ -13,8 +14,9 @@ use crate::server::ServerMethod;
 use crate::tags::Tags;
 use crate::turn::ServerTurn;
 use crate::values::{Report, ServerSide};
-use eap_base::{Nonce, Packet, ServerSetup, Users, is_among};
+use eap_base::{Nonce, Packet, is_among};
 use eap_packet::Cause;
+use login_setup::{ServerSetup, Users};
 
 /// Begins each object whose method the settings propose, wherever it stood before; the others stay.
 pub fn begin_servers<M: ServerMethod>(methods: &mut [M], setup: &ServerSetup)

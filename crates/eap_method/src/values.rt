@@ -2,7 +2,8 @@
 
 ghost use Rattle.std.specs.Prelude.{◌≡◌};
 
-use eap_base::{Accepts, Identity, Secret, Suites};
+use eap_base::{Identity, Secret, Suites};
+use login_setup::Accepts;
 
 /// methodState of the peer (RFC 4137 section 4.2); `NotSet` is NONE.
 #[derive(Clone, Copy, PartialEq, Eq, Debug)]

@@ -1,8 +1,8 @@
 -- The server of a world that has started has the role of the mode, and octets may come to it.
 use Rattle.std.proofs.Common.{◌≡◌, List, false, Option, Some, None, refl, sym, subst, ◌∙◌}
-use Rattle.eap_base.specs.declared.event.Event.{Event}
-use Rattle.eap_base.specs.declared.setup.Mode.{Mode}
-use Rattle.eap_base.specs.declared.setup.Mode.TheVariants as mode
+use Rattle.login_setup.specs.declared.event.Event.{Event}
+use Rattle.login_setup.specs.declared.setup.Mode.{Mode}
+use Rattle.login_setup.specs.declared.setup.Mode.TheVariants as mode
 use Rattle.server_machine.specs.Inputs.{server_takes, start}
 use Rattle.server_machine.specs.ServerTable.{ServerNow, is_started, server_start}
 use Rattle.server_machine.specs.declared.variables.Role.TheVariants.{StandAlone}

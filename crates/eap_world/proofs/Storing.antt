@@ -3,7 +3,7 @@ use Rattle.std.proofs.Common.{◌≡◌, ◌≤◌, ◌<◌, ◌+◌, ◌-◌, �
 use Rattle.std.proofs.Math.Seq.{drop-append_seam}
 use Rattle.std.proofs.lemmas.List.{map-append, drop-append-le, take-append-le, length-drop, length-take-le, take_all, take_more}
 use Rattle.std.proofs.lemmas.List.Elements.{All-head, All-tail, All-weaker, All-push}
-use Rattle.eap_base.specs.declared.setup.Port.{Port}
+use Rattle.login_setup.specs.declared.setup.Port.{Port}
 use Rattle.eap_world.specs.Sent.{Sent, last_to, or_last, same_port}
 use Rattle.eap_world.specs.Store.{IsThere, AreThere, last_slot, or_slot, packet_at, packets_at}
 use Rattle.eap_world.specs.declared.store.Slot.{Slot}

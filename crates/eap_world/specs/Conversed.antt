@@ -1,8 +1,8 @@
 -- What an event makes of the conversations, by what the event is.
 use Rattle.std.specs.Prelude.{ℕ, ◌∷◌, [], List, Bool, false, length, take, nat_le, nat_lt, Option, Some}
-use Rattle.eap_base.specs.declared.setup.Mode.{Mode}
-use Rattle.eap_base.specs.declared.setup.Party.{Party}
-use Rattle.eap_base.specs.declared.setup.Port.{Port}
+use Rattle.login_setup.specs.declared.setup.Mode.{Mode}
+use Rattle.login_setup.specs.declared.setup.Party.{Party}
+use Rattle.login_setup.specs.declared.setup.Port.{Port}
 use Rattle.eap_world.specs.Conversations.{Conversations}
 use Rattle.eap_world.specs.Sent.{Sent}
 use Rattle.eap_world.specs.World.{Parties, altered, call_at, call_with, conversed_unless, first_skip, is_absent, octets_of, packet_skips, restart_call, restart_skips}

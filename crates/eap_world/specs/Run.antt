@@ -1,7 +1,7 @@
 -- The run of a setup, and how a start or an event goes on with it.
 use Rattle.std.specs.Prelude.{◌≡◌, List, [], ◌∷◌, ◌++◌}
-use Rattle.eap_base.specs.declared.event.Event.{Event}
-use Rattle.eap_base.specs.declared.setup.Setup.{Setup}
+use Rattle.login_setup.specs.declared.event.Event.{Event}
+use Rattle.login_setup.specs.declared.setup.Setup.{Setup}
 use Rattle.eap_method.specs.Peer.{PeerShown}
 use Rattle.eap_method.specs.Server.{ServerShown}
 use Rattle.eap_world.specs.World.{WorldNow, WorldValue, now_of, world_made, world_start, run_after}

@@ -1,7 +1,7 @@
 -- The packets that were sent, in their order.
 use Rattle.std.specs.Prelude.{ℕ, List, [], ◌∷◌, ◌-◌, Bool, true, false, ◌==◌, if◌then◌else◌, Option, Some, None, slice_get}
-use Rattle.eap_base.specs.declared.setup.Port.{Port}
-use Rattle.eap_base.specs.declared.setup.Port.TheVariants as port
+use Rattle.login_setup.specs.declared.setup.Port.{Port}
+use Rattle.login_setup.specs.declared.setup.Port.TheVariants as port
 
 -- a packet as it was sent: to which port, and its octets
 pub record Sent : Type 0 where

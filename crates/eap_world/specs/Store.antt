@@ -1,7 +1,7 @@
 -- The store of the packets that were sent: their octets joined, and where each packet's stand.
 use Rattle.std.specs.Prelude.{◌≤◌, ◌+◌, ℕ, List, [], ◌∷◌, Bool, if◌then◌else◌, take, drop, map, Option, Some, None, option_map}
 use Rattle.std.specs.List.{All}
-use Rattle.eap_base.specs.declared.setup.Port.{Port}
+use Rattle.login_setup.specs.declared.setup.Port.{Port}
 use Rattle.eap_world.specs.Sent.{Sent, same_port}
 use Rattle.eap_world.specs.declared.store.Slot.{Slot}
 use Rattle.eap_world.specs.declared.store.Stored.{Stored}

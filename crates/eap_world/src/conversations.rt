@@ -10,7 +10,8 @@ ghost use Rattle.eap_world.specs.Kept.{fronts_differ};
 use crate::book::End;
 use crate::nonces_left::NoncesLeft;
 use arrayvec::ArrayVec;
-use eap_base::{Later, Nonce};
+use eap_base::Nonce;
+use login_setup::Later;
 use std::marker::Model;
 
 /// The most conversations of both ends.

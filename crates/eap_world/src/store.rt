@@ -4,7 +4,7 @@ ghost use Rattle.std.specs.Prelude.{◌≡◌, ◌≤◌, ◌<◌, ◌+◌, ◌+
 ghost use Rattle.eap_world.specs.Sent.{last_to, packet_numbered, same_port};
 ghost use Rattle.eap_world.specs.Store.{AreThere, IsThere, last_slot, lent, packet_at, packets_at};
 
-use eap_base::Port;
+use login_setup::Port;
 use std::alloc::Global;
 use std::marker::Model;
 

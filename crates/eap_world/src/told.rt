@@ -1,8 +1,8 @@
 //! What came of an event.
 
-use eap_base::{Party, Port};
 use eap_method::Report;
 use eap_packet::{Cause, Path};
+use login_setup::{Party, Port};
 
 /// Why an event did nothing. Where several apply, the first in this order is told.
 #[derive(Clone, Copy, PartialEq, Eq, Debug)]

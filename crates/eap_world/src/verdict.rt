@@ -1,11 +1,12 @@
 //! Whether both ends agree.
 
 ghost use Rattle.std.specs.Prelude.{◌≡◌};
-ghost use Rattle.eap_base.specs.Users.{user_of};
+ghost use Rattle.login_setup.specs.Users.{user_of};
 ghost use Rattle.eap_world.specs.Judgement.{same_report, allows_suite, peer_agrees, server_agrees, agree, judged, is_welcome};
 
-use eap_base::{GPSK_KIND, PeerSetup, ServerSetup, is_among};
+use eap_base::{GPSK_KIND, is_among};
 use eap_method::Report;
+use login_setup::{PeerSetup, ServerSetup};
 
 /// What came of a login.
 #[derive(Clone, Copy, PartialEq, Eq, Debug)]

@@ -2,8 +2,8 @@
 
 ghost use Rattle.std.specs.Prelude.{◌≡◌, ◌↔◌, ◌≤◌, ◌<◌, ◌+◌, ◌-◌, ◌^◌, ◌++◌, ℕ, List, true, false, map, length, IsTrue};
 ghost use Rattle.std.specs.Prelude.{Bool, MatchResult, IfOk, None, option_copied, vec_len, vec_capacity};
-ghost use Rattle.eap_base.specs.Setup.{IsSoundPeer, IsSoundServer, HasKeys};
-ghost use Rattle.eap_base.specs.declared.event.Event.TheVariants.{Restart};
+ghost use Rattle.login_setup.specs.Setup.{IsSoundPeer, IsSoundServer, HasKeys};
+ghost use Rattle.login_setup.specs.declared.event.Event.TheVariants.{Restart};
 ghost use Rattle.eap_method.specs.declared.tags.Tags.{Tags};
 ghost use Rattle.eap_method.specs.Steps.{step_with};
 ghost use Rattle.eap_world.specs.World.{Called, Skipped, action_with, parties_of, sent_by, booked_by, counted, end_of, has_held};
@@ -16,9 +16,10 @@ use crate::conversations::Conversations;
 use crate::store::Store;
 use crate::told::{Counts, Named, SentPacket, Skip, Told};
 use crate::verdict::{Verdict, judge_reports};
-use eap_base::{Event, Mode, Packet, Party, Port, Setup};
+use eap_base::Packet;
 use eap_method::{PeerMethod, Report, ServerMethod, Step, Tags};
 use eap_packet::{Path, State};
+use login_setup::{Event, Mode, Party, Port, Setup};
 use pass_through::PassThrough;
 use peer_machine::PeerMachine;
 use server_machine::{Role, ServerMachine};

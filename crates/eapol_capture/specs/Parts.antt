@@ -1,6 +1,6 @@
 -- The parts that a reader of records reads: so many octets, or what keeps it from them.
 use Rattle.std.specs.Prelude.{◌≡◌, ℕ, ◌+◌, ◌<◌, ◌≤◌, List, [], ◌++◌, length, take, Option, Some, None, option_map, Result, Ok, Err}
-use Rattle.eap_base.specs.Known.{prepend_known, nothing_known}
+use Rattle.octet_io.specs.Known.{prepend_known, nothing_known}
 use Rattle.eapol_capture.specs.declared.order.OctetOrder.{OctetOrder}
 use Rattle.eapol_capture.specs.declared.reader.NextRecord.{NextRecord}
 use Rattle.eapol_capture.specs.declared.reader.NextRecord.TheVariants.{Record, End, CutFile, BadRecord, TooMuch, Read}

@@ -1,6 +1,6 @@
 -- A reader of a file's records: what it has still to answer, and what each of its steps takes.
 use Rattle.std.specs.Prelude.{◌≡◌, ℕ, ◌+◌, ◌-◌, ◌≤◌, List, length, min, Bool, true, false, Option, Some, None, option_map}
-use Rattle.eap_base.specs.Known.{prepend_known, nothing_known}
+use Rattle.octet_io.specs.Known.{prepend_known, nothing_known}
 use Rattle.eapol_capture.specs.declared.order.OctetOrder.{OctetOrder}
 use Rattle.eapol_capture.specs.declared.reader.NextRecord.{NextRecord}
 use Rattle.eapol_capture.specs.declared.reader.NextRecord.TheVariants.{Record, End, CutFile, BadRecord, TooMuch, Read}

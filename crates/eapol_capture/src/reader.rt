@@ -1,11 +1,12 @@
 //! A source read as a pcap file.
 
 ghost use Rattle.std.specs.Prelude.{◌≡◌, ◌≤◌, ◌<◌, ◌+◌, ◌-◌, ◌++◌, min, take, drop, true, false, length, ℕ, [], Some, Ok, IfOk, IfErr, OnErr, OnOk, IsTrue};
-ghost use Rattle.eap_base.specs.Known.{prepend_known, nothing_known};
+ghost use Rattle.octet_io.specs.Known.{prepend_known, nothing_known};
 
 use crate::header::judge_header;
 use crate::order::OctetOrder;
-use eap_base::{Ahead, Octets, Source};
+use eap_base::Octets;
+use octet_io::{Ahead, Source};
 use std::marker::Model;
 
 /// What `PcapReader::next_record` met.

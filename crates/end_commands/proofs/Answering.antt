@@ -1,6 +1,6 @@
 -- Both commands answer, line by line, the text of their end's run.
 use Rattle.std.proofs.Common.{◌≡◌, ℕ, List, true, false, Result, Ok, Err, IsOk, is_err, refl}
-use Rattle.eap_base.specs.Lines.{lines}
+use Rattle.octet_io.specs.Lines.{lines}
 use Rattle.text_tables.specs.Fields.{◌>>=◌}
 use Rattle.text_tables.specs.declared.fault.LineFault.{LineFault}
 use Rattle.scenario_text.specs.Reading.{peer_setup_of, server_setup_of}

@@ -1,8 +1,8 @@
 -- No line of `peer` or `server` begins as the line of the result does.
 use Rattle.std.proofs.Common.{◌≡◌, ℕ, ◌+◌, List, [], Bool, true, false, nat_le, cond, codes, Option, Some, None, Result, Ok, Err, refl, subst}
-use Rattle.eap_base.specs.Lines.{lines}
-use Rattle.eap_base.specs.declared.setup.PeerSetup.{PeerSetup}
-use Rattle.eap_base.specs.declared.setup.ServerSetup.{ServerSetup}
+use Rattle.octet_io.specs.Lines.{lines}
+use Rattle.login_setup.specs.declared.setup.PeerSetup.{PeerSetup}
+use Rattle.login_setup.specs.declared.setup.ServerSetup.{ServerSetup}
 use Rattle.eap_method.specs.declared.values.Report.{Report}
 use Rattle.eap_packet.specs.Words.{state_word}
 use Rattle.eap_packet.specs.declared.state.State.{State}

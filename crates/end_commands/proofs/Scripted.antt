@@ -1,7 +1,7 @@
 -- Answering line by line is the text of the end's run.
 use Rattle.std.proofs.Common.{◌≡◌, ℕ, ◌+◌, List, [], Bool, true, false, cond, nat_le, Some, None, Result, Ok, Err, IsOk, refl, sym, ◌∙◌, ap, append_assoc, append-nil}
 use Rattle.std.specs.Prelude.{codes}
-use Rattle.eap_base.specs.Lines.{Lines, ended, too_long, too_much, line, lines}
+use Rattle.octet_io.specs.Lines.{Lines, ended, too_long, too_much, line, lines}
 use Rattle.eap_packet.specs.declared.state.State.{State}
 use Rattle.text_tables.specs.declared.fault.LineFault.{LineFault}
 use Rattle.scenario_text.specs.Reading.{no_settings, with_setting}

@@ -1,6 +1,6 @@
 -- An end's text, as all its lines make it, and what it answers: the text of the end's run.
 use Rattle.std.specs.Prelude.{ℕ, ◌+◌, List, [], ◌∷◌, Bool, true, false, nat_le, ◌&&◌, if◌then◌else◌, Option, Some, None, Result, Ok, Err, codes}
-use Rattle.eap_base.specs.Lines.{Lines, ended, too_long, too_much, line, lines}
+use Rattle.octet_io.specs.Lines.{Lines, ended, too_long, too_much, line, lines}
 use Rattle.eap_packet.specs.declared.state.State.{State}
 use Rattle.text_tables.specs.Words.{fault_word}
 use Rattle.text_tables.specs.declared.fault.LineFault.{LineFault}

@@ -1,6 +1,6 @@
 -- The command `peer`: what it answers, and the same line by line.
 use Rattle.std.specs.Prelude.{◌≡◌, ℕ, List, [], ◌∷◌, true, false, Bool, None, Result, Ok, map, option_map, IfSome, IsSome}
-use Rattle.eap_base.specs.Setup.{psk_kind, gpsk_kind}
+use Rattle.eap_base.specs.Among.{psk_kind, gpsk_kind}
 use Rattle.eap_packet.specs.declared.state.State.{State}
 use Rattle.eap_method.specs.Peer.{PeerShown, peer_kinds, have_each}
 use Rattle.peer_machine.specs.PeerTable.{PeerNow}

@@ -1,6 +1,6 @@
 -- The command `server`: what it answers, and the same line by line.
 use Rattle.std.specs.Prelude.{◌≡◌, ℕ, List, [], ◌∷◌, true, Bool, None, Result, Ok, map, option_map, unwrap_or, IfSome, IsSome}
-use Rattle.eap_base.specs.Setup.{psk_kind, gpsk_kind}
+use Rattle.eap_base.specs.Among.{psk_kind, gpsk_kind}
 use Rattle.eap_packet.specs.declared.state.State.{State}
 use Rattle.eap_method.specs.Peer.{have_each}
 use Rattle.eap_method.specs.Server.{ServerShown, server_kinds}

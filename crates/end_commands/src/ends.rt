@@ -6,9 +6,9 @@ ghost use Rattle.end_pipe.specs.EndRun.{peer_begun, peer_end, server_end, server
 ghost use Rattle.end_commands.specs.PeerCommand.{HasBothPeers};
 ghost use Rattle.end_commands.specs.ServerCommand.{HasBothServers};
 
-use eap_base::{PeerSetup, ServerSetup};
 use eap_method::{PeerMethod, ServerMethod};
 use end_pipe::{PeerPipe, ServerPipe};
+use login_setup::{PeerSetup, ServerSetup};
 
 /// The peer of settings that a text gives, to which nothing has come. It has an object of both methods.
 pub fn peer_of<M: PeerMethod>(setup: PeerSetup, methods: Vec<M>) -> PeerPipe<M>

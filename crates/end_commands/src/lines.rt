@@ -9,11 +9,11 @@ ghost use Rattle.trace_text.specs.Writes.{Appends};
 ghost use Rattle.end_pipe.specs.EndRun.{told_with};
 ghost use Rattle.end_commands.specs.EndText.{acted_text, keys_line, keys_text, last_text, send_text, skip_line, told_text};
 
-use eap_base::{Failed, Sink};
 use eap_method::Report;
 use eap_packet::State;
 use end_pipe::EndStep;
 use login_keys::key_name;
+use octet_io::{Failed, Sink};
 use trace_text::Piece::{Hex, Number, Text};
 use trace_text::{write_cause, write_nothing, write_pieces, write_states};
 

@@ -14,9 +14,10 @@ ghost use Rattle.end_commands.specs.ServerCommand.{HasBothServers, IsReadyServer
 use crate::ends::server_of;
 use crate::lines::{write_last, write_step};
 use command_driver::{Close, Command, Next, Status, Trouble, drive};
-use eap_base::{Failed, Packet, Sink, Source};
+use eap_base::Packet;
 use eap_method::{ServerMethod, Tags};
 use end_pipe::{EndInput, EndItem, EndReader, ServerPipe};
+use octet_io::{Failed, Sink, Source};
 
 /// The most inputs.
 const MAX_INPUTS: u32 = 10_000;

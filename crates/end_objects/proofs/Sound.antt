@@ -3,8 +3,9 @@ use Rattle.std.proofs.Common.{◌≡◌, ℕ, List, Bool, true, false, IsTrue, l
 use Rattle.std.specs.Prelude.{◌&&◌, ◌||◌, if◌then◌else◌, nat_le, ◌==◌, All}
 use Rattle.std.specs.List.{list_all}
 use Rattle.std.proofs.lemmas.List.Sums.{AllPass-from_list_all, list_all-from_AllPass}
-use Rattle.eap_base.specs.declared.users.User.{User}
-use Rattle.eap_base.specs.Setup.{psk_kind, gpsk_kind, is_kind, fits_kind}
+use Rattle.login_setup.specs.declared.users.User.{User}
+use Rattle.eap_base.specs.Among.{psk_kind, gpsk_kind, is_kind}
+use Rattle.login_setup.specs.Setup.{fits_kind}
 use Rattle.end_objects.specs.Soundness.{is_sound_user}
 
 -- a key that fits is of one of the two methods

@@ -1,6 +1,7 @@
 -- When settings are refused, and why.
 use Rattle.std.specs.Prelude.{ℕ, List, [], ◌∷◌, length, Bool, false, ◌&&◌, not, nat_lt, nat_le, if◌then◌else◌, Option, Some, None}
-use Rattle.eap_base.specs.Setup.{is_kind, fits_kind}
+use Rattle.eap_base.specs.Among.{is_kind}
+use Rattle.login_setup.specs.Setup.{fits_kind}
 use Rattle.end_objects.specs.Settings.{SettingsValue}
 use Rattle.end_objects.specs.declared.settings.Refusal.{Refusal}
 use Rattle.end_objects.specs.declared.settings.Refusal.TheVariants as refusal

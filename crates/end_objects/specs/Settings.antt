@@ -1,11 +1,11 @@
 -- The settings of an end, from what a program gives.
 use Rattle.std.specs.Prelude.{ℕ, List, [], ◌∷◌, ◌==◌, if◌then◌else◌, Some, None, false}
-use Rattle.eap_base.specs.Setup.{psk_kind}
-use Rattle.eap_base.specs.declared.setup.Accepts.{Accepts}
-use Rattle.eap_base.specs.declared.setup.Accepts.TheVariants.{Any, One}
-use Rattle.eap_base.specs.declared.setup.PeerSetup.{PeerSetup}
-use Rattle.eap_base.specs.declared.setup.ServerSetup.{ServerSetup}
-use Rattle.eap_base.specs.declared.users.User.{User}
+use Rattle.eap_base.specs.Among.{psk_kind}
+use Rattle.login_setup.specs.declared.setup.Accepts.{Accepts}
+use Rattle.login_setup.specs.declared.setup.Accepts.TheVariants.{Any, One}
+use Rattle.login_setup.specs.declared.setup.PeerSetup.{PeerSetup}
+use Rattle.login_setup.specs.declared.setup.ServerSetup.{ServerSetup}
+use Rattle.login_setup.specs.declared.users.User.{User}
 use Rattle.end_objects.specs.declared.settings.Settings.{Settings}
 
 -- what an end is told

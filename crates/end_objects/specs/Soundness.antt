@@ -1,7 +1,8 @@
 -- Tests of a suite, a key and a user among the settings of an end.
 use Rattle.std.specs.Prelude.{ℕ, List, Bool, ◌==◌, ◌||◌, not, Option, Some, None}
-use Rattle.eap_base.specs.Setup.{is_among, fits_kind}
-use Rattle.eap_base.specs.declared.users.User.{User}
+use Rattle.eap_base.specs.Among.{is_among}
+use Rattle.login_setup.specs.Setup.{fits_kind}
+use Rattle.login_setup.specs.declared.users.User.{User}
 
 -- whether a number is that of one of the two suites
 abbrev pub is_suite : ℕ → Bool

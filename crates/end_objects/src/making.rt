@@ -1,7 +1,7 @@
 //! The object of one method, as a machine takes it.
 
 ghost use Rattle.std.specs.Prelude.{◌≡◌, ◌∷◌, [], true, map, IfOk};
-ghost use Rattle.eap_base.specs.Setup.{is_kind};
+ghost use Rattle.eap_base.specs.Among.{is_kind};
 ghost use Rattle.eap_method.specs.Peer.{peer_kind, peer_kinds, have_each};
 ghost use Rattle.eap_method.specs.Server.{server_kind, server_kinds};
 ghost use Rattle.end_objects.specs.Objects.{peer_object_shown, server_object_shown};

@@ -2,11 +2,12 @@
 
 ghost use Rattle.std.specs.Prelude.{◌≡◌};
 
-use eap_base::{Nonce, Packet, Users};
+use eap_base::{Nonce, Packet};
 use eap_method::{
     Credential, PeerMethod, PeerTurn, Report, ServerMethod, ServerSide, ServerTurn, Tags,
 };
 use gpsk_ends::{GpskPeer, GpskServer};
+use login_setup::Users;
 use psk_ends::{PskPeer, PskServer};
 
 /// A peer of EAP-PSK or of EAP-GPSK.

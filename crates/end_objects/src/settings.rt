@@ -1,14 +1,13 @@
 //! The settings of an end, as a program gives them: octets and numbers.
 
 ghost use Rattle.std.specs.Prelude.{◌≡◌, ◌≤◌, [], length, true, None, All, IsTrue};
-ghost use Rattle.eap_base.specs.Setup.{fits_kind, is_kind, IsSoundPeer, HasKeys, IsSoundServer};
+ghost use Rattle.eap_base.specs.Among.{is_kind};
+ghost use Rattle.login_setup.specs.Setup.{fits_kind, IsSoundPeer, HasKeys, IsSoundServer};
 ghost use Rattle.end_objects.specs.Settings.{settings_of, suites_of, accepted, peer_setup_of, users_of, server_setup_of};
 ghost use Rattle.end_objects.specs.Refusals.{own_refusal, peer_refusal, server_refusal, retry_refusal, stand_alone_refusal};
 
-use eap_base::{
-    Accepts, GPSK_KIND, Identity, Kinds, Nonce, PSK_KIND, PeerSetup, Secret, ServerSetup, Suites,
-    User, Users,
-};
+use eap_base::{GPSK_KIND, Identity, Kinds, Nonce, PSK_KIND, Secret, Suites};
+use login_setup::{Accepts, PeerSetup, ServerSetup, User, Users};
 
 /// What an end is told: one method, and the two names and the key that both ends share.
 #[repr(C)]

@@ -2,12 +2,14 @@
 
 ghost use Rattle.std.specs.Prelude.{◌≡◌, ◌↔◌, IsTrue};
 ghost use Rattle.std.specs.List.{list_all};
-ghost use Rattle.eap_base.specs.Setup.{is_kind, are_distinct, are_kinds, are_suites};
-ghost use Rattle.eap_base.specs.Setup.{IsSoundPeer, HasKeys, IsSoundServer};
+ghost use Rattle.eap_base.specs.Among.{is_kind, are_distinct};
+ghost use Rattle.login_setup.specs.Setup.{are_kinds, are_suites};
+ghost use Rattle.login_setup.specs.Setup.{IsSoundPeer, HasKeys, IsSoundServer};
 ghost use Rattle.end_objects.specs.Soundness.{is_suite, serves, is_sound_user};
 
 use crate::settings::{fits, is_kind};
-use eap_base::{GPSK_KIND, PSK_KIND, PeerSetup, Secret, ServerSetup, User, is_among};
+use eap_base::{GPSK_KIND, PSK_KIND, Secret, is_among};
+use login_setup::{PeerSetup, ServerSetup, User};
 
 /// Whether a peer's machine and world take these settings, as `PeerMachine::new` and `World::new` ask. Its methods are
 /// of 47 (EAP-PSK) and 51 (EAP-GPSK), each at most once; its suites of 1 and 2, at least one and each at most once;

@@ -1,7 +1,7 @@
 -- One more input at the end of others: what is told of it comes last, and the end is where it leaves it.
 use Rattle.std.proofs.Common.{◌≡◌, ℕ, List, [], ◌∷◌, ◌++◌, refl, sym, ap, ◌∙◌}
-use Rattle.eap_base.specs.declared.setup.PeerSetup.{PeerSetup}
-use Rattle.eap_base.specs.declared.setup.ServerSetup.{ServerSetup}
+use Rattle.login_setup.specs.declared.setup.PeerSetup.{PeerSetup}
+use Rattle.login_setup.specs.declared.setup.ServerSetup.{ServerSetup}
 use Rattle.peer_machine.specs.PeerTable.{PeerNow}
 use Rattle.server_machine.specs.ServerTable.{ServerNow}
 use Rattle.end_pipe.specs.EndRun.{EndNow, EndOutcome, EndTold, end_after, outcome, told_of, peer_begun, peer_step, server_begun, server_starts, server_step, server_unstarted}

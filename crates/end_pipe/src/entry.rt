@@ -11,7 +11,7 @@ ghost use Rattle.end_pipe.specs.declared.input.EndInput.{EndInput};
 
 use crate::input::EndInput;
 use crate::table::EndWord;
-use eap_base::Event;
+use login_setup::Event;
 use scenario_text::{Entry, Keyword, Setting, item_of};
 use text_tables::{LineFault, fault_of_words, octets, word_in};
 

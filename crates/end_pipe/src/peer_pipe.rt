@@ -1,8 +1,8 @@
 //! The peer alone, over what comes to it.
 
 ghost use Rattle.std.specs.Prelude.{◌≡◌, ◌||◌, ◌∷◌, ◌++◌, [], List, map, true, false, is_some};
-ghost use Rattle.eap_base.specs.Setup.{IsSoundPeer, HasKeys};
-ghost use Rattle.eap_base.specs.declared.setup.PeerSetup.{PeerSetup};
+ghost use Rattle.login_setup.specs.Setup.{IsSoundPeer, HasKeys};
+ghost use Rattle.login_setup.specs.declared.setup.PeerSetup.{PeerSetup};
 ghost use Rattle.eap_method.specs.Peer.{have_each, peer_kinds};
 ghost use Rattle.eap_method.specs.Steps.{is_end, step_with};
 ghost use Rattle.peer_machine.specs.PeerTable.{answer, now_of, peer_reports};
@@ -12,9 +12,10 @@ ghost use Rattle.end_pipe.specs.declared.input.EndInput.{EndInput};
 
 use crate::input::EndInput;
 use crate::told::EndStep;
-use eap_base::{Packet, PeerSetup};
+use eap_base::Packet;
 use eap_method::{PeerMethod, Report, Step, Tags};
 use eap_packet::State;
+use login_setup::PeerSetup;
 use peer_machine::PeerMachine;
 use std::marker::Model;
 

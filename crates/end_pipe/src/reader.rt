@@ -14,7 +14,7 @@ ghost use Rattle.scenario_text.specs.declared.scenario.Phase.TheVariants as phas
 use crate::entry::{EndEntry, read_end_entry};
 use crate::input::EndInput;
 use crate::table::EndWord;
-use eap_base::{PeerSetup, ServerSetup};
+use login_setup::{PeerSetup, ServerSetup};
 use scenario_text::{Phase, Settings};
 use std::marker::Model;
 use text_tables::{LineFault, is_comment, is_printable_line};

@@ -1,8 +1,8 @@
 //! The stand-alone server alone, over what comes to it.
 
 ghost use Rattle.std.specs.Prelude.{◌≡◌, ◌≤◌, ◌||◌, ◌∷◌, ◌++◌, [], ℕ, List, map, true, false, is_some};
-ghost use Rattle.eap_base.specs.Setup.{IsSoundServer};
-ghost use Rattle.eap_base.specs.declared.setup.ServerSetup.{ServerSetup};
+ghost use Rattle.login_setup.specs.Setup.{IsSoundServer};
+ghost use Rattle.login_setup.specs.declared.setup.ServerSetup.{ServerSetup};
 ghost use Rattle.eap_method.specs.Peer.{have_each};
 ghost use Rattle.eap_method.specs.Server.{server_kinds};
 ghost use Rattle.eap_method.specs.Steps.{step_with};
@@ -14,9 +14,10 @@ ghost use Rattle.end_pipe.specs.declared.input.EndInput.{EndInput};
 
 use crate::input::EndInput;
 use crate::told::EndStep;
-use eap_base::{Packet, ServerSetup};
+use eap_base::Packet;
 use eap_method::{Report, ServerMethod, Step, Tags};
 use eap_packet::State;
+use login_setup::ServerSetup;
 use server_machine::ServerMachine;
 use std::marker::Model;
 

@@ -5,9 +5,10 @@ use Rattle.std.specs.List.{find}
 use Rattle.std.proofs.lemmas.Bool.{and_parts, eqb-true, leb-true}
 use Rattle.std.proofs.lemmas.List.Elements.{All-head, All-tail}
 use Rattle.std.proofs.lemmas.Option.{same_Some}
-use Rattle.eap_base.specs.declared.users.User.{User}
-use Rattle.eap_base.specs.Setup.{fits_kind, gpsk_kind}
-use Rattle.eap_base.specs.Users.{user_of, is_named}
+use Rattle.login_setup.specs.declared.users.User.{User}
+use Rattle.eap_base.specs.Among.{gpsk_kind}
+use Rattle.login_setup.specs.Setup.{fits_kind}
+use Rattle.login_setup.specs.Users.{user_of, is_named}
 
 -- what is found stands here, or behind
 found_here : {X : Type 0} (test : Bool) (y x : X) (rest : Option X) → cond test (Some y) rest ≡ Some x → ((test ≡ true) × (y ≡ x)) ⊎ (rest ≡ Some x)

@@ -11,8 +11,9 @@ mod turns;
 use crate::server::login::Begun;
 use crate::server::stage::{Alone, Stage};
 use crate::server::turns::{ask, take};
-use eap_base::{GPSK_KIND, Nonce, Packet, Users};
+use eap_base::{GPSK_KIND, Nonce, Packet};
 use eap_method::{Report, ServerMethod, ServerSide, ServerTurn, Tags};
+use login_setup::Users;
 use std::marker::Model;
 
 /// A server of EAP-GPSK. Contracts see where it stands. It derives its keys once for each GPSK-2 of a

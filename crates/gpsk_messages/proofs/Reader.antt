@@ -3,7 +3,7 @@ use Rattle.std.proofs.Common.{◌≡◌, ℕ, ◌<◌, cond, eqb, List, [], ◌�
 use Rattle.std.proofs.lemmas.Bool.{cases_Bool, eqb-true, cond-true, cond-false}
 use Rattle.std.proofs.lemmas.List.Elements.{All-tail}
 use Rattle.std.proofs.lemmas.Option.{same_Some}
-use Rattle.eap_base.specs.declared.setup.Suite.{Suite}
+use Rattle.eap_base.specs.declared.suite.Suite.{Suite}
 use Rattle.eap_base.specs.Suite.{suite_octets}
 use Rattle.eap_packet.specs.Packet.{IsOctets}
 use Rattle.gpsk_messages.specs.Message.{Message, gpsk1, gpsk2, gpsk3, gpsk4, fail, protected_fail, op_code, sized, covered_of, without_mac, AreFields}

@@ -1,7 +1,7 @@
 -- Reading Type-Data as an EAP-GPSK message (RFC 5433 section 9), field by field.
 use Rattle.std.specs.Prelude.{ℕ, zero, ◌+◌, ◌*◌, ◌%◌, List, [], ◌∷◌, length, take, drop, Bool, nat_lt, nat_le, ◌==◌, ◌&&◌, ◌||◌, if◌then◌else◌, Option, Some, None, option_map, Result, Ok, Err}
 use Rattle.std.specs.Int.{w32, from_be_bytes}
-use Rattle.eap_base.specs.declared.setup.Suite.{Suite}
+use Rattle.eap_base.specs.declared.suite.Suite.{Suite}
 use Rattle.eap_base.specs.Suite.{ks_of, suite_numbered}
 use Rattle.eap_packet.specs.declared.cause.Cause.{Cause}
 use Rattle.eap_packet.specs.declared.cause.Cause.TheVariants.{GpskShape, ListTooLong}

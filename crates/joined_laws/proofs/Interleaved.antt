@@ -2,8 +2,8 @@
 use Rattle.std.proofs.Common.{◌≡◌, List, [], ◌∷◌, Bool, true, false, map, Some, refl, sym, ap, ◌∙◌, cond}
 use Rattle.std.proofs.lemmas.Bool.{and_parts}
 use Rattle.std.specs.List.{list_all}
-use Rattle.eap_base.specs.declared.setup.Mode.TheVariants as mode
-use Rattle.eap_base.specs.declared.setup.Setup.{Setup}
+use Rattle.login_setup.specs.declared.setup.Mode.TheVariants as mode
+use Rattle.login_setup.specs.declared.setup.Setup.{Setup}
 use Rattle.eap_method.specs.Steps.{is_end}
 use Rattle.peer_machine.specs.Inputs as peer_inputs
 use Rattle.peer_machine.specs.Inputs.{PeerInput, peer_takes}

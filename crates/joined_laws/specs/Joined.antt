@@ -1,13 +1,13 @@
 -- Both ends, each alone over its own inputs, and the world over an interleaving of them.
 use Rattle.std.specs.Prelude.{◌≡◌, List, [], ◌∷◌, map, Bool, true}
 use Rattle.std.specs.List.{list_all}
-use Rattle.eap_base.specs.declared.event.Event.{Event}
-use Rattle.eap_base.specs.declared.event.Event.TheVariants as event
-use Rattle.eap_base.specs.declared.setup.Mode.TheVariants as mode
-use Rattle.eap_base.specs.declared.setup.Party.TheVariants as party
-use Rattle.eap_base.specs.declared.setup.Port.{Port}
-use Rattle.eap_base.specs.declared.setup.Port.TheVariants as port
-use Rattle.eap_base.specs.declared.setup.Setup.{Setup}
+use Rattle.login_setup.specs.declared.event.Event.{Event}
+use Rattle.login_setup.specs.declared.event.Event.TheVariants as event
+use Rattle.login_setup.specs.declared.setup.Mode.TheVariants as mode
+use Rattle.login_setup.specs.declared.setup.Party.TheVariants as party
+use Rattle.login_setup.specs.declared.setup.Port.{Port}
+use Rattle.login_setup.specs.declared.setup.Port.TheVariants as port
+use Rattle.login_setup.specs.declared.setup.Setup.{Setup}
 use Rattle.peer_machine.specs.PeerTable.{PeerNow, peer_reports}
 use Rattle.server_machine.specs.ServerTable.{ServerNow, server_reports}
 use Rattle.eap_world.specs.Run.{run_of}

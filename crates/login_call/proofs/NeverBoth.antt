@@ -5,8 +5,8 @@ use Rattle.std.proofs.lemmas.Bool.{true≢false}
 use Rattle.std.proofs.lemmas.Option.{same_Some}
 use Rattle.std.proofs.lemmas.List.{append_cancel_left}
 use Rattle.std.specs.Prelude.{if◌then◌else◌}
-use Rattle.eap_base.specs.Known.{append_known}
-use Rattle.eap_base.specs.declared.users.User.{User}
+use Rattle.octet_io.specs.Known.{append_known}
+use Rattle.login_setup.specs.declared.users.User.{User}
 use Rattle.trace_text.proofs.Plain.{none}
 use Rattle.trace_text.proofs.PlainAnswers.{begins_result}
 use Rattle.trace_text.proofs.Scanning.{found}

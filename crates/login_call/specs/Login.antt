@@ -1,7 +1,7 @@
 -- What the program answers to words and an input.
 use Rattle.std.specs.Prelude.{ℕ, List, [], ◌∷◌, Bool, true, false, ◌&&◌, if◌then◌else◌, codes, Option, Some, None}
 use Rattle.std.specs.Str.{bytes_eq}
-use Rattle.eap_base.specs.declared.users.User.{User}
+use Rattle.login_setup.specs.declared.users.User.{User}
 use Rattle.trace_text.specs.Lines.{line_text}
 use Rattle.command_driver.specs.Answers.{Answer}
 use Rattle.world_commands.specs.Bulk.{bulk_of, bulk_answer}

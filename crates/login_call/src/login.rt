@@ -14,10 +14,11 @@ ghost use Rattle.trace_text.specs.Writes.{Appends};
 
 use capture_commands::{answer_radius, check_capture, judge_file, read_pcap};
 use command_driver::Status;
-use eap_base::{Failed, Sink, Source, Users};
 use eap_method::{PeerMethod, ServerMethod};
 use eap_world::Methods;
 use end_commands::{answer_peer, answer_server};
+use login_setup::Users;
+use octet_io::{Failed, Sink, Source};
 use packet_commands::{answer_keys, decode_packets};
 use std::alloc::Global;
 use trace_text::write_line;

@@ -5,8 +5,8 @@ use Rattle.std.specs.List.{flat_map, range_with_len}
 use Rattle.std.proofs.lemmas.List.{append-nil}
 use Rattle.std.proofs.lemmas.List.Concat.{flat_map-append}
 use Rattle.eap_base.specs.Suite.{ks_of}
-use Rattle.eap_base.specs.declared.setup.Suite.{Suite}
-use Rattle.eap_base.specs.declared.setup.Suite.TheVariants.{Cmac, Hmac}
+use Rattle.eap_base.specs.declared.suite.Suite.{Suite}
+use Rattle.eap_base.specs.declared.suite.Suite.TheVariants.{Cmac, Hmac}
 
 range_push : (a n : ℕ) → range_with_len a (suc n) ≡ range_with_len a n ++ (a + n) ∷ []
 range_push a zero = ap (λ k. k ∷ []) (sym (add-zero a))

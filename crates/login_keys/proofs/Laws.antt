@@ -5,8 +5,8 @@ use Rattle.std.specs.List.{flat_map, range_with_len}
 use Rattle.std.proofs.lemmas.List.{length-take-le}
 use Rattle.std.proofs.lemmas.List.Elements.{All-append, All-nil, All-take, All-drop}
 use Rattle.eap_base.specs.Suite.{ks_of}
-use Rattle.eap_base.specs.declared.setup.Suite.{Suite}
-use Rattle.eap_base.specs.declared.setup.Suite.TheVariants.{Cmac, Hmac}
+use Rattle.eap_base.specs.declared.suite.Suite.{Suite}
+use Rattle.eap_base.specs.declared.suite.Suite.TheVariants.{Cmac, Hmac}
 use Rattle.aes_block.proofs.Laws.{length-aes128}
 use Rattle.cmac_mac.proofs.Laws.{length_aes_cmac}
 use Rattle.hmac_mac.proofs.Laws.{length_hmac_sha256}

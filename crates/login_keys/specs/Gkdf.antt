@@ -4,8 +4,8 @@ use Rattle.std.specs.Prelude.{ℕ, List, ◌++◌, take}
 use Rattle.std.specs.Int.{w16, div_ceil, to_be_bytes}
 use Rattle.std.specs.List.{flat_map, range_with_len}
 use Rattle.eap_base.specs.Suite.{ks_of}
-use Rattle.eap_base.specs.declared.setup.Suite.{Suite}
-use Rattle.eap_base.specs.declared.setup.Suite.TheVariants.{Cmac, Hmac}
+use Rattle.eap_base.specs.declared.suite.Suite.{Suite}
+use Rattle.eap_base.specs.declared.suite.Suite.TheVariants.{Cmac, Hmac}
 use Rattle.cmac_mac.specs.Cmac.{aes_cmac}
 use Rattle.hmac_mac.specs.Hmac.{hmac_sha256}
 

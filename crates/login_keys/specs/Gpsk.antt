@@ -1,8 +1,8 @@
 -- The key schedule of EAP-GPSK (RFC 5433, section 4), on whole lists of octets.
 use Rattle.std.specs.Prelude.{ℕ, ◌+◌, List, ◌++◌, length, take, slice_range}
 use Rattle.eap_base.specs.Suite.{ks_of, suite_octets}
-use Rattle.eap_base.specs.declared.setup.Suite.{Suite}
-use Rattle.eap_base.specs.declared.setup.Suite.TheVariants.{Cmac, Hmac}
+use Rattle.eap_base.specs.declared.suite.Suite.{Suite}
+use Rattle.eap_base.specs.declared.suite.Suite.TheVariants.{Cmac, Hmac}
 use Rattle.login_keys.specs.Gkdf.{two_octets, gkdf}
 use Rattle.login_keys.specs.declared.gpsk.GpskKeys.{GpskKeys}
 

@@ -1,7 +1,7 @@
 -- For which ciphersuite of EAP-GPSK and which key a `MacKey` stands.
 use Rattle.std.specs.Prelude.{◌≡◌, ℕ, List}
-use Rattle.eap_base.specs.declared.setup.Suite.{Suite}
-use Rattle.eap_base.specs.declared.setup.Suite.TheVariants as suite_of
+use Rattle.eap_base.specs.declared.suite.Suite.{Suite}
+use Rattle.eap_base.specs.declared.suite.Suite.TheVariants as suite_of
 use Rattle.hmac_mac.specs.Holds.{IsKeyOf}
 use Rattle.login_keys.specs.declared.mac_key.MacKey.{MacKey}
 use Rattle.login_keys.specs.declared.mac_key.MacKey.TheVariants.{Cmac, Hmac}

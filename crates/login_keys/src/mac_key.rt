@@ -5,7 +5,7 @@ ghost use Rattle.std.specs.List.{concat};
 ghost use Rattle.hmac_mac.specs.Hmac.{hmac_sha256};
 ghost use Rattle.hmac_mac.specs.Holds.{IsKeyOf};
 ghost use Rattle.eap_base.specs.Suite.{ks_of};
-ghost use Rattle.eap_base.specs.declared.setup.Suite.{Suite};
+ghost use Rattle.eap_base.specs.declared.suite.Suite.{Suite};
 ghost use Rattle.login_keys.specs.Gkdf.{gpsk_tag_of};
 ghost use Rattle.login_keys.specs.MacKey.{IsMacKey};
 

@@ -2,12 +2,13 @@
 //! of it.
 
 ghost use Rattle.std.specs.Prelude.{◌≡◌, length};
-ghost use Rattle.eap_base.specs.Setup.{is_kind};
+ghost use Rattle.eap_base.specs.Among.{is_kind};
 ghost use Rattle.login_policy.specs.Policy.{nak_of};
 ghost use Rattle.login_policy.specs.Expanded.{entry_of, nak_entries, names_new, expanded_kinds};
 
 use crate::policy::nak_list;
-use eap_base::{GPSK_KIND, Kinds, Octets, PSK_KIND, PeerSetup, is_among};
+use eap_base::{GPSK_KIND, Kinds, Octets, PSK_KIND, is_among};
+use login_setup::PeerSetup;
 
 /// The octets of an entry: 254, the Vendor-Id in three and the Vendor-Type in four.
 const ENTRY_SIZE: usize = 8;

@@ -1,10 +1,11 @@
 //! What a peer allows and desires, which suite it picks, and which method the server proposes next.
 
 ghost use Rattle.std.specs.Prelude.{◌≡◌, ◌&&◌, not, None, option_copied};
-ghost use Rattle.eap_base.specs.Setup.{is_among};
+ghost use Rattle.eap_base.specs.Among.{is_among};
 ghost use Rattle.login_policy.specs.Policy.{nak_of, picked_suite, is_allowed, suite_or, is_desired, next_kind};
 
-use eap_base::{Kinds, PeerSetup, Suite, Suites, is_among};
+use eap_base::{Kinds, Suite, Suites, is_among};
+use login_setup::PeerSetup;
 
 /// The octets of an entry of a CSuite_List (RFC 5433 section 9.2).
 const ENTRY_SIZE: usize = 6;

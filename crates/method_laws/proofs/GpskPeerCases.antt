@@ -3,7 +3,7 @@ use Rattle.std.proofs.Common.{◌≡◌, ℕ, List, Bool, true, Option, Some, No
 use Rattle.std.specs.Prelude.{not}
 use Rattle.std.specs.Str.{bytes_eq}
 use Rattle.std.proofs.lemmas.Bool.{cond_both, and_parts}
-use Rattle.eap_base.specs.declared.setup.Suite.{Suite}
+use Rattle.eap_base.specs.declared.suite.Suite.{Suite}
 use Rattle.eap_base.specs.Suite.{ks_of}
 use Rattle.eap_packet.specs.declared.cause.Cause.{Cause}
 use Rattle.eap_packet.specs.declared.cause.Cause.TheVariants.{UnknownServer, FieldMismatch, BadTag}
@@ -12,7 +12,7 @@ use Rattle.gpsk_messages.specs.Reading.{read_of}
 use Rattle.login_policy.specs.Policy.{picked_suite}
 use Rattle.eap_method.specs.declared.values.Credential.{Credential}
 use Rattle.eap_method.specs.GpskTags.{same_suite}
-use Rattle.eap_base.specs.Setup.{accepts_name}
+use Rattle.login_setup.specs.Setup.{accepts_name}
 use Rattle.eap_method.specs.Turns.{id_of, body_of, fault_if}
 use Rattle.eap_method.specs.GpskPeer.{Login, unset, fresh, wait, over, picks, hears_gpsk1, fresh_reads, repeats, is_tagged_by, wait_reads, over_reads, step}
 use Rattle.eap_method.specs.GpskPeer as peer

@@ -8,7 +8,7 @@ use Rattle.eap_packet.specs.declared.cause.Cause.TheVariants.{UnknownServer, Fie
 use Rattle.psk_messages.specs.Message.{Message, psk1, psk3}
 use Rattle.psk_messages.specs.Reading.{read_of}
 use Rattle.eap_method.specs.declared.values.Credential.{Credential}
-use Rattle.eap_base.specs.Setup.{accepts_name}
+use Rattle.login_setup.specs.Setup.{accepts_name}
 use Rattle.eap_method.specs.PskTags.{header_of, is_sealed, result_of, is_extended, done_success}
 use Rattle.eap_method.specs.Turns.{id_of, body_of}
 use Rattle.eap_method.specs.PskPeer.{Login, unset, fresh, wait, over, keys_of, mac_s_of, psk3_records, psk3_fault, hears_psk1, fresh_reads, are_right, wait_reads, over_reads, step}

@@ -1,6 +1,6 @@
 -- The turns of a peer of EAP-GPSK (RFC 5433 section 3), each with all that is then known.
 use Rattle.std.specs.Prelude.{◌≡◌, ℕ, List, [], ◌∷◌, true, false, Some, None, Ok}
-use Rattle.eap_base.specs.declared.setup.Suite.{Suite}
+use Rattle.eap_base.specs.declared.suite.Suite.{Suite}
 use Rattle.eap_base.specs.Suite.{ks_of}
 use Rattle.eap_packet.specs.declared.cause.Cause.{Cause}
 use Rattle.gpsk_messages.specs.Message.{gpsk1, gpsk3, fail, protected_fail, covered_of}
@@ -11,7 +11,7 @@ use Rattle.eap_method.specs.declared.values.Credential.{Credential}
 use Rattle.eap_method.specs.declared.values.MethodState.TheVariants.{Cont, MayCont, Done}
 use Rattle.eap_method.specs.declared.values.Decision.TheVariants.{Fail, CondSucc}
 use Rattle.eap_method.specs.GpskTags.{gpsk_response, sk_record}
-use Rattle.eap_base.specs.Setup.{accepts_name}
+use Rattle.login_setup.specs.Setup.{accepts_name}
 use Rattle.eap_method.specs.Turns.{PeerOutcome, id_of, body_of, discarded, replied}
 use Rattle.eap_method.specs.GpskPeer.{Login, View, fresh, wait, over, keys_of, gpsk2_of, gpsk4_of, protected_fail_of, repeats, is_tagged_by, step}
 

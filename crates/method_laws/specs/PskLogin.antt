@@ -1,8 +1,9 @@
 -- A whole login by EAP-PSK (RFC 4764 section 4), turn by turn, between two ends that fit.
 use Rattle.std.specs.Prelude.{◌≡◌, ℕ, ◌≤◌, List, [], ◌∷◌, length, true, false, Some}
-use Rattle.eap_base.specs.declared.users.User.{User}
-use Rattle.eap_base.specs.Setup.{psk_kind, accepts_name}
-use Rattle.eap_base.specs.Users.{user_of}
+use Rattle.login_setup.specs.declared.users.User.{User}
+use Rattle.eap_base.specs.Among.{psk_kind}
+use Rattle.login_setup.specs.Setup.{accepts_name}
+use Rattle.login_setup.specs.Users.{user_of}
 use Rattle.psk_messages.specs.Message.{Message, psk1}
 use Rattle.eap_method.specs.declared.values.Credential.{Credential}
 use Rattle.eap_method.specs.declared.values.ServerSide.{ServerSide}

@@ -7,7 +7,7 @@ use Rattle.eax_mode.specs.Eax.{eax_tag}
 use Rattle.eap_method.specs.declared.values.Credential.{Credential}
 use Rattle.eap_method.specs.declared.values.MethodState.TheVariants.{Cont, MayCont, Done}
 use Rattle.eap_method.specs.declared.values.Decision.TheVariants.{Fail, UncondSucc}
-use Rattle.eap_base.specs.Setup.{accepts_name}
+use Rattle.login_setup.specs.Setup.{accepts_name}
 use Rattle.eap_method.specs.PskTags.{psk_response, ak_record, header_of, channel_nonce, is_sealed, opened, result_of, is_extended, done_success, done_failure}
 use Rattle.eap_method.specs.Turns.{PeerOutcome, id_of, body_of, discarded, replied}
 use Rattle.eap_method.specs.PskPeer.{Login, View, fresh, wait, over, keys_of, mac_p_covers, mac_p_of, mac_s_of, psk2_of, psk3_records, psk4_of, psk4_record, are_right, step}

@@ -1,6 +1,6 @@
 -- No line of `decode` begins as the line of the result does.
 use Rattle.std.proofs.Common.{◌≡◌, ℕ, ◌+◌, List, true, Option, Some, None, Result, Ok, Err, refl}
-use Rattle.eap_base.specs.Lines.{lines}
+use Rattle.octet_io.specs.Lines.{lines}
 use Rattle.request_text.specs.Packets.{packet_line}
 use Rattle.text_tables.specs.declared.fault.LineFault.{LineFault}
 use Rattle.trace_text.proofs.Plain.{plain}

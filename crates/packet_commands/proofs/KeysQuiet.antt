@@ -1,6 +1,6 @@
 -- No line of `keys` begins as the line of the result does.
 use Rattle.std.proofs.Common.{◌≡◌, ℕ, List, true, Option, Some, None, Result, Ok, Err, refl}
-use Rattle.eap_base.specs.Lines.{lines}
+use Rattle.octet_io.specs.Lines.{lines}
 use Rattle.request_text.specs.Keys.{key_line}
 use Rattle.request_text.specs.declared.key_line.KeyLine.{KeyLine}
 use Rattle.text_tables.specs.declared.fault.LineFault.{LineFault}

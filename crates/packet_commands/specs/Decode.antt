@@ -1,6 +1,6 @@
 -- The command decode: each line is a packet in hex, and the answer says what it is.
 use Rattle.std.specs.Prelude.{ℕ, ◌+◌, ◌≤◌, List, [], Bool, false, Option, Some, None, Result, Ok, Err, is_err, if◌then◌else◌}
-use Rattle.eap_base.specs.Lines.{lines}
+use Rattle.octet_io.specs.Lines.{lines}
 use Rattle.eap_packet.specs.Fault.{packet_of}
 use Rattle.text_tables.specs.Words.{fault_word}
 use Rattle.request_text.specs.Packets.{packet_line}

@@ -1,6 +1,6 @@
 -- The command keys: each line asks for a cipher, a MAC, a key schedule or the name of a key.
 use Rattle.std.specs.Prelude.{ℕ, List, [], Bool, false, Option, Some, None, Result, Ok, Err}
-use Rattle.eap_base.specs.Lines.{lines}
+use Rattle.octet_io.specs.Lines.{lines}
 use Rattle.text_tables.specs.Words.{fault_word}
 use Rattle.request_text.specs.Keys.{key_line}
 use Rattle.text_tables.specs.declared.fault.LineFault.{LineFault}

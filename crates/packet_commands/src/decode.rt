@@ -5,8 +5,8 @@ ghost use Rattle.command_driver.specs.Responding.{Responds, reading, never};
 ghost use Rattle.packet_commands.specs.Decode.{is_malformed, decode_answer};
 
 use command_driver::{Close, Command, Next, Status, Trouble, drive};
-use eap_base::{Failed, Sink, Source};
 use eap_packet::decode;
+use octet_io::{Failed, Sink, Source};
 use request_text::read_packet_line;
 use trace_text::{write_packet, write_packet_counts};
 

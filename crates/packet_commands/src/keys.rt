@@ -4,7 +4,7 @@ ghost use Rattle.command_driver.specs.Responding.{Responds, reading, never};
 ghost use Rattle.packet_commands.specs.Keys.{keys_answer};
 
 use command_driver::{Close, Command, Next, Status, Trouble, drive};
-use eap_base::{Failed, Sink, Source};
+use octet_io::{Failed, Sink, Source};
 use request_text::{KeyLine, read_key_line};
 use trace_text::write_key_line;
 

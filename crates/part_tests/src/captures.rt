@@ -1,8 +1,9 @@
 //! Captured frames in files.
 
 use crate::row::Row;
-use eap_base::{MemSource, Octets, Source};
+use eap_base::Octets;
 use eapol_capture::{NextRecord, PcapReader};
+use octet_io::{MemSource, Source};
 use std::alloc::{AllocError, Global};
 use std::test::Fail;
 

@@ -5,9 +5,10 @@ ghost use Rattle.std.specs.Prelude.{◌≤◌, length};
 
 use crate::login::{first_wrong, one_user};
 use crate::row::Row;
-use eap_base::{Accepts, Octets, Packet};
+use eap_base::{Octets, Packet};
 use eap_method::{Credential, PeerMethod, ServerMethod, ServerSide};
 use gpsk_ends::{GpskPeer, GpskServer};
+use login_setup::Accepts;
 
 /// The name of the server.
 const SERVER: &[u8] = b"aaa.example.net";

@@ -1,7 +1,8 @@
 //! Lines of sources.
 
 use crate::row::Row;
-use eap_base::{Failed, LineReader, MemSource, NextLine, Octets, Source};
+use eap_base::Octets;
+use octet_io::{Failed, LineReader, MemSource, NextLine, Source};
 use std::alloc::{AllocError, Global};
 use std::test::Fail;
 

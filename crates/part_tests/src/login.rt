@@ -11,14 +11,15 @@
 //! - `peer-has SUITE MSK EMSK` and `server-has SUITE MSK EMSK`: what the end reports, `none` for nothing.
 
 ghost use Rattle.std.specs.Prelude.{◌≡◌, ◌≤◌, length, All, IsTrue};
-ghost use Rattle.eap_base.specs.Setup.{fits_kind};
+ghost use Rattle.login_setup.specs.Setup.{fits_kind};
 
 use crate::row::Row;
-use eap_base::{Identity, Packet, Secret, User, Users};
+use eap_base::{Identity, Packet, Secret};
 use eap_method::{
     Decision, MethodState, PeerMethod, PeerTurn, Report, ServerMethod, ServerTurn, Tags,
 };
 use eap_packet::{Code, decode};
+use login_setup::{User, Users};
 
 /// One user, of this name, method and key.
 #[tactic(auto, using(crate::proofs::UserKeys::one_user))]

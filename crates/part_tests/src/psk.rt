@@ -3,8 +3,9 @@
 
 use crate::login::{first_wrong, one_user};
 use crate::row::Row;
-use eap_base::{Accepts, Octets, Packet, Suites};
+use eap_base::{Octets, Packet, Suites};
 use eap_method::{Credential, PeerMethod, ServerMethod, ServerSide};
+use login_setup::Accepts;
 use psk_ends::{PskPeer, PskServer};
 
 /// The name of the server.

@@ -1,6 +1,7 @@
 //! Lists of octets, and copies of settings.
 
-use eap_base::{Accepts, Later, Mode, Octets, PeerSetup, ServerSetup, Setup, Users};
+use eap_base::Octets;
+use login_setup::{Accepts, Later, Mode, PeerSetup, ServerSetup, Setup, Users};
 
 /// Whether a list of two octets, which has room for four, answers each call so and has the octets that fit.
 fn takes_what_fits() -> bool {

@@ -2,7 +2,7 @@
 
 ghost use Rattle.std.specs.Prelude.{◌≤◌, IfOk};
 
-use eap_base::{MemSink, MemSource, Sink, Source, StdSink, StdSource, SureSink, SureSource};
+use octet_io::{MemSink, MemSource, Sink, Source, StdSink, StdSource, SureSink, SureSource};
 use std::io;
 use std::io::{ErrorKind, Read, Write};
 use std::test::Fail;

@@ -1,7 +1,7 @@
 -- The settings with another nonce are sound.
 use Rattle.std.proofs.Common.{List, ℕ}
-use Rattle.eap_base.specs.Setup.{IsSoundPeer, HasKeys}
-use Rattle.eap_base.specs.declared.setup.PeerSetup.{PeerSetup}
+use Rattle.login_setup.specs.Setup.{IsSoundPeer, HasKeys}
+use Rattle.login_setup.specs.declared.setup.PeerSetup.{PeerSetup}
 use Rattle.peer_machine.specs.PeerTable.{own_nonce}
 
 pub still_sound : (setup : PeerSetup) (nonce : List ℕ) → IsSoundPeer setup → IsSoundPeer (own_nonce setup nonce)

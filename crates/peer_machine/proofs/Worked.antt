@@ -1,6 +1,6 @@
 -- What a peer answers that reads Expanded Types (RFC 3748 section 5.7), and one that doesn't, from the definitions alone.
 use Rattle.std.proofs.Common.{◌≡◌, ℕ, List, [], ◌∷◌, true, false, Some, refl}
-use Rattle.eap_base.specs.declared.setup.PeerSetup.{PeerSetup}
+use Rattle.login_setup.specs.declared.setup.PeerSetup.{PeerSetup}
 use Rattle.eap_packet.specs.Packet.{spelled}
 use Rattle.eap_packet.specs.Fault.{fault, packet_of}
 use Rattle.eap_packet.specs.declared.cause.Cause.TheVariants.{BadExpanded}

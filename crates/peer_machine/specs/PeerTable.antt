@@ -1,7 +1,8 @@
 -- The peer of RFC 4137 section 4, over the views of its methods: each call as a function.
 use Rattle.std.specs.Prelude.{◌≡◌, ℕ, List, [], ◌∷◌, ◌++◌, Bool, true, false, ◌==◌, ◌&&◌, if◌then◌else◌, Option, Some, None, Result, Ok, Err, map}
-use Rattle.eap_base.specs.declared.setup.PeerSetup.{PeerSetup}
-use Rattle.eap_base.specs.Setup.{is_among, IsSoundPeer, HasKeys}
+use Rattle.login_setup.specs.declared.setup.PeerSetup.{PeerSetup}
+use Rattle.eap_base.specs.Among.{is_among}
+use Rattle.login_setup.specs.Setup.{IsSoundPeer, HasKeys}
 use Rattle.eap_packet.specs.Packet.{PacketValue, request, response, success, failure, spelled}
 use Rattle.eap_packet.specs.Fault.{packet_of}
 use Rattle.eap_packet.specs.declared.cause.Cause.{Cause}

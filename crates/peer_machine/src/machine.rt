@@ -1,7 +1,8 @@
 //! The peer of RFC 4137 section 4 over the objects of its methods.
 
 ghost use Rattle.std.specs.Prelude.{◌≡◌, ◌≢◌, ◌≤◌, [], ◌∷◌, ◌++◌, length, slice_index, true, false, map, None, Some, Ok, ℕ, List};
-ghost use Rattle.eap_base.specs.Setup.{IsSoundPeer, HasKeys, is_among};
+ghost use Rattle.eap_base.specs.Among.{is_among};
+ghost use Rattle.login_setup.specs.Setup.{IsSoundPeer, HasKeys};
 ghost use Rattle.eap_packet.specs.Packet.{spelled, value_of, IsPacket};
 ghost use Rattle.eap_packet.specs.Fault.{packet_of};
 ghost use Rattle.eap_packet.specs.Expanded.{expanded_kind, ietf};
@@ -18,7 +19,7 @@ ghost use Rattle.peer_machine.specs.PeerTable.{before_method, method_answers, se
 ghost use Rattle.eap_method.specs.Peer.{IsRequest, PeerViews, have_each, peer_views, peer_turn, peer_kinds};
 
 use crate::variables::PeerVariables;
-use eap_base::{Nonce, Packet, PeerSetup};
+use eap_base::{Nonce, Packet};
 use eap_method::{
     Decision, MethodState, PeerMethod, PeerTurn, Report, Step, Tags, begin_peers, hand_to_peer,
     has_ended, peer_report,
@@ -28,6 +29,7 @@ use eap_packet::{
     write_plain,
 };
 use login_policy::{expanded_nak, nak_list, peer_allows};
+use login_setup::PeerSetup;
 use std::marker::Model;
 
 /// Type 1, Identity.

@@ -1,8 +1,9 @@
 //! The peer's variables.
 
-use eap_base::{Packet, PeerSetup};
+use eap_base::Packet;
 use eap_method::{Decision, MethodState};
 use eap_packet::State;
+use login_setup::PeerSetup;
 
 /// The peer's variables (RFC 4137 section 4.3). allowNotifications is true exactly while no method is
 /// selected.

@@ -1,8 +1,9 @@
 -- The keys of a server's users.
 use Rattle.std.proofs.Common.{◌≡◌, ℕ, zero, suc, List, [], ◌∷◌, length, All, IsTrue, Some, Option, arith, Bool, true, false, cond, refl}
-use Rattle.eap_base.specs.declared.users.User.{User}
-use Rattle.eap_base.specs.Setup.{fits_kind, psk_kind}
-use Rattle.eap_base.specs.Users.{user_of, is_named}
+use Rattle.login_setup.specs.declared.users.User.{User}
+use Rattle.eap_base.specs.Among.{psk_kind}
+use Rattle.login_setup.specs.Setup.{fits_kind}
+use Rattle.login_setup.specs.Users.{user_of, is_named}
 
 abbrev pub HasKey : User → Type 0
 HasKey user = IsTrue (fits_kind user.kind user.psk)

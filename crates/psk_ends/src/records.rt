@@ -1,7 +1,7 @@
 //! The records of EAP-PSK's tags, with the octets that they cover.
 
 ghost use Rattle.std.specs.Prelude.{◌≡◌, ◌≤◌, ◌<◌, [], ◌∷◌, ◌++◌, length};
-ghost use Rattle.eap_base.specs.Setup.{psk_kind};
+ghost use Rattle.eap_base.specs.Among.{psk_kind};
 ghost use Rattle.eap_method.specs.declared.tags.Label.TheVariants.{Tek};
 ghost use Rattle.eap_method.specs.PskTags.{mac_p_octets, mac_s_octets, ak_record, tek_record};
 

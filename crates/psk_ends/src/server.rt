@@ -12,8 +12,9 @@ mod turns;
 use crate::server::login::Begun;
 use crate::server::stage::{EarlyPhase, Stage};
 use crate::server::turns::{ask, take};
-use eap_base::{Nonce, PSK_KIND, Packet, Users};
+use eap_base::{Nonce, PSK_KIND, Packet};
 use eap_method::{Report, ServerMethod, ServerSide, ServerTurn, Tags};
+use login_setup::Users;
 use std::marker::Model;
 
 /// A server of EAP-PSK. Contracts see where it stands.

@@ -1,6 +1,6 @@
 -- The first fault of a line of a capture, step by step: its keyword, its words, its place.
 use Rattle.std.proofs.Common.{◌≡◌, ℕ, true, false, List, Ok, Err, refl, ap}
-use Rattle.eap_base.specs.declared.users.User.{User}
+use Rattle.login_setup.specs.declared.users.User.{User}
 use Rattle.text_tables.specs.Words.{words, is_passed_over}
 use Rattle.text_tables.specs.Rows.{unless, first_word}
 use Rattle.text_tables.specs.declared.fault.LineFault.{LineFault}

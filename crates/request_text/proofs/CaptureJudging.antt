@@ -1,7 +1,7 @@
 -- A line of a capture is refused with the first fault that it has where it stands, and taken where it has none.
 use Rattle.std.proofs.Common.{◌≡◌, ℕ, List, [], find}
 use Rattle.std.specs.Str.{bytes_eq}
-use Rattle.eap_base.specs.declared.users.User.{User}
+use Rattle.login_setup.specs.declared.users.User.{User}
 use Rattle.text_tables.specs.Words.{is_passed_over}
 use Rattle.text_tables.specs.Rows.{faults, unless}
 use Rattle.text_tables.proofs.Judging.{judges, header-judged, body-judged}

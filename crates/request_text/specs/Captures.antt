@@ -1,9 +1,9 @@
 -- A capture, line by line: the table of its lines, what has been read, and what each line adds.
 use Rattle.std.specs.Prelude.{ℕ, List, [], ◌∷◌, length, nat_le, not, ◌||◌, Bool, true, false, if◌then◌else◌, codes, Option, Some, None, find, Result, Ok, Err, is_some, unwrap_or, IsTrue}
 use Rattle.std.specs.Str.{bytes_eq}
-use Rattle.eap_base.specs.Setup.{fits_kind}
-use Rattle.eap_base.specs.Users.{user_of}
-use Rattle.eap_base.specs.declared.users.User.{User}
+use Rattle.login_setup.specs.Setup.{fits_kind}
+use Rattle.login_setup.specs.Users.{user_of}
+use Rattle.login_setup.specs.declared.users.User.{User}
 use Rattle.text_tables.specs.Words.{words, is_passed_over}
 use Rattle.text_tables.specs.Fields.{◌>>=◌, word_in, octets_of, kind_of}
 use Rattle.text_tables.specs.Rows.{Row, row, faults, unless, fault_of_words, keyword_in, line_has}

@@ -1,7 +1,7 @@
 -- What the readers of lines promise, over their tables alone.
 use Rattle.std.specs.Prelude.{◌≡◌, ℕ, List, [], Bool, false, ◌&&◌, not, if◌then◌else◌, Some, unwrap_or}
 use Rattle.std.specs.Str.{bytes_eq}
-use Rattle.eap_base.specs.declared.users.User.{User}
+use Rattle.login_setup.specs.declared.users.User.{User}
 use Rattle.text_tables.specs.Words.{words, is_passed_over}
 use Rattle.text_tables.specs.Rows.{keyword_in}
 use Rattle.text_tables.specs.Laws.{Judges}

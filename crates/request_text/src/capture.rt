@@ -2,14 +2,15 @@
 //! `end`. After the header an empty line and one that begins with `#` are passed over.
 
 ghost use Rattle.std.specs.Prelude.{◌≡◌, [], All, IsTrue, OnErr, Ok};
-ghost use Rattle.eap_base.specs.Setup.{fits_kind};
+ghost use Rattle.login_setup.specs.Setup.{fits_kind};
 ghost use Rattle.request_text.specs.Captures.{answered, HasKey, finish_of, is_crowded, came_before, may_stand, place_fault, taken, read_words, take};
 ghost use Rattle.request_text.specs.Captures as captures;
 ghost use Rattle.text_tables.specs.Words.{words};
 ghost use Rattle.request_text.specs.declared.capture.CapturePhase.TheVariants as phase;
 
 use crate::capture_line::{CaptureEntry, CaptureWord, read_capture_entry, read_capture_word};
-use eap_base::{Octets, Users};
+use eap_base::Octets;
+use login_setup::Users;
 use std::marker::Model;
 use text_tables::{LineFault, add_user, is_comment};
 
@@ -48,7 +49,7 @@ pub struct CaptureReader {
 
 impl Model for CaptureReader {
     ghost use Rattle.std.specs.Prelude.{All, IsTrue};
-    ghost use Rattle.eap_base.specs.Setup.{fits_kind};
+    ghost use Rattle.login_setup.specs.Setup.{fits_kind};
     ghost use Rattle.request_text.specs.Captures.{Capture};
 
     ghost Value = { Capture };

@@ -6,7 +6,8 @@ ghost use Rattle.text_tables.specs.Rows.{keyword_in, first_word};
 ghost use Rattle.text_tables.specs.Fits.{Fits};
 ghost use Rattle.request_text.specs.Captures.{row_of, capture_words, entry_of, HasKey, entry_for};
 
-use eap_base::{Octets, User};
+use eap_base::Octets;
+use login_setup::User;
 use text_tables::{
     Field, LineFault, Row, fault_of_words, is_printable_line, kind_of, name, octets, word_in,
 };

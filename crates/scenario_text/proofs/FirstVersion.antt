@@ -3,9 +3,9 @@ use Rattle.std.proofs.Common.{◌≡◌, ℕ, List, [], ◌∷◌, ◌++◌, map
 use Rattle.std.proofs.lemmas.Bool.{cases_Bool, or_parts}
 use Rattle.std.specs.List.{list_any}
 use Rattle.std.specs.Str.{bytes_eq}
-use Rattle.eap_base.specs.Setup.{psk_kind}
-use Rattle.eap_base.specs.declared.event.Event.{Event}
-use Rattle.eap_base.specs.declared.setup.Setup.{Setup}
+use Rattle.eap_base.specs.Among.{psk_kind}
+use Rattle.login_setup.specs.declared.event.Event.{Event}
+use Rattle.login_setup.specs.declared.setup.Setup.{Setup}
 use Rattle.text_tables.specs.Words.{words}
 use Rattle.text_tables.specs.Fields.{word_in, kind_of, octets_of}
 use Rattle.text_tables.specs.Rows.{keyword_in}

@@ -1,14 +1,14 @@
 -- Lines, and a whole scenario, read by the definitions alone.
 use Rattle.std.proofs.Common.{◌≡◌, List, ℕ, true, false, [], ◌∷◌, ◌++◌, replicate, Some, None, find, Result, Ok, Err, refl}
 use Rattle.std.specs.Prelude.{codes}
-use Rattle.eap_base.specs.Setup.{no_later}
-use Rattle.eap_base.specs.declared.setup.Later.{Later}
-use Rattle.eap_base.specs.declared.setup.Accepts.TheVariants.{Any}
-use Rattle.eap_base.specs.declared.setup.Mode.TheVariants as mode
-use Rattle.eap_base.specs.declared.setup.Party.TheVariants as party
-use Rattle.eap_base.specs.declared.setup.Port.TheVariants as port
-use Rattle.eap_base.specs.declared.setup.Setup.{Setup}
-use Rattle.eap_base.specs.declared.event.Event.TheVariants as event
+use Rattle.login_setup.specs.Setup.{no_later}
+use Rattle.login_setup.specs.declared.setup.Later.{Later}
+use Rattle.login_setup.specs.declared.setup.Accepts.TheVariants.{Any}
+use Rattle.login_setup.specs.declared.setup.Mode.TheVariants as mode
+use Rattle.login_setup.specs.declared.setup.Party.TheVariants as party
+use Rattle.login_setup.specs.declared.setup.Port.TheVariants as port
+use Rattle.login_setup.specs.declared.setup.Setup.{Setup}
+use Rattle.login_setup.specs.declared.event.Event.TheVariants as event
 use Rattle.text_tables.specs.Fields.{spells_number, spells_octets}
 use Rattle.text_tables.specs.Rows.{faults, unless, keyword_in, line_has}
 use Rattle.scenario_text.specs.Entries.{item_of, has_fault, said_by}

@@ -4,14 +4,15 @@ use Rattle.std.proofs.Common.{is_some, unwrap_or, not, ◌&&◌, nat_lt, Result,
 use Rattle.std.proofs.lemmas.Bool.{cases_Bool, cond_both, leb-false, lt-leb, lt-ltb, ltb-true}
 use Rattle.std.proofs.lemmas.List.{get_or_append_left}
 use Rattle.std.proofs.Math.Seq.{get_or-append_seam}
-use Rattle.eap_base.specs.Setup.{psk_kind, gpsk_kind, is_among, no_later}
-use Rattle.eap_base.specs.Users.{user_of, is_named, HasRoom, AreDistinct}
-use Rattle.eap_base.specs.declared.users.User.{User}
-use Rattle.eap_base.specs.declared.setup.Later.{Later}
-use Rattle.eap_base.specs.declared.setup.PeerSetup.{PeerSetup}
-use Rattle.eap_base.specs.declared.setup.ServerSetup.{ServerSetup}
-use Rattle.eap_base.specs.declared.setup.Setup.{Setup}
-use Rattle.eap_base.proofs.UserLists.{AreDistinct-push}
+use Rattle.eap_base.specs.Among.{psk_kind, gpsk_kind, is_among}
+use Rattle.login_setup.specs.Setup.{no_later}
+use Rattle.login_setup.specs.Users.{user_of, is_named, HasRoom, AreDistinct}
+use Rattle.login_setup.specs.declared.users.User.{User}
+use Rattle.login_setup.specs.declared.setup.Later.{Later}
+use Rattle.login_setup.specs.declared.setup.PeerSetup.{PeerSetup}
+use Rattle.login_setup.specs.declared.setup.ServerSetup.{ServerSetup}
+use Rattle.login_setup.specs.declared.setup.Setup.{Setup}
+use Rattle.login_setup.proofs.UserLists.{AreDistinct-push}
 use Rattle.text_tables.specs.Fields.{◌>>=◌}
 use Rattle.text_tables.specs.Users.{with_user}
 use Rattle.text_tables.proofs.Adding.{empty, with_user_is, with_user_holds}

@@ -3,9 +3,9 @@ use Rattle.std.proofs.Common.{◌≡◌, ℕ, List, Bool, true, false, not, cond
 use Rattle.std.proofs.lemmas.Bool.{cases_Bool, or_parts, not-false}
 use Rattle.std.proofs.lemmas.Slice.Eq.{bytes_eq-Decides}
 use Rattle.std.specs.Str.{bytes_eq}
-use Rattle.eap_base.specs.Setup.{psk_kind}
-use Rattle.eap_base.specs.declared.setup.Setup.{Setup}
-use Rattle.eap_base.specs.declared.event.Event.{Event}
+use Rattle.eap_base.specs.Among.{psk_kind}
+use Rattle.login_setup.specs.declared.setup.Setup.{Setup}
+use Rattle.login_setup.specs.declared.event.Event.{Event}
 use Rattle.text_tables.specs.Words.{words, is_passed_over}
 use Rattle.text_tables.specs.Fields.{kind_of, word_in, ◌>>=◌}
 use Rattle.text_tables.specs.Rows.{faults}

@@ -1,5 +1,5 @@
 -- What a line of a scenario holds after its header.
-use Rattle.eap_base.specs.declared.event.Event.{Event}
+use Rattle.login_setup.specs.declared.event.Event.{Event}
 use Rattle.scenario_text.specs.declared.entry.Setting.{Setting}
 use Rattle.scenario_text.specs.declared.entry.Entry as told
 use Rattle.text_tables.specs.declared.fault.LineFault.{LineFault}

@@ -1,16 +1,16 @@
 -- The lines of a scenario: what each says, where no fault keeps it from that.
 use Rattle.std.specs.Prelude.{ℕ, List, [], ◌∷◌, length, Bool, ◌==◌, nat_le, if◌then◌else◌, codes, unwrap_or, Result}
 use Rattle.std.specs.Str.{bytes_eq}
-use Rattle.eap_base.specs.Setup.{psk_kind}
-use Rattle.eap_base.specs.declared.setup.Mode.{Mode}
-use Rattle.eap_base.specs.declared.setup.Mode.TheVariants as mode
-use Rattle.eap_base.specs.declared.setup.Accepts.{Accepts}
-use Rattle.eap_base.specs.declared.setup.Accepts.TheVariants.{Any, One}
-use Rattle.eap_base.specs.declared.setup.Party.{Party}
-use Rattle.eap_base.specs.declared.setup.Party.TheVariants as party
-use Rattle.eap_base.specs.declared.setup.Port.{Port}
-use Rattle.eap_base.specs.declared.setup.Port.TheVariants as port
-use Rattle.eap_base.specs.declared.event.Event.TheVariants as event
+use Rattle.eap_base.specs.Among.{psk_kind}
+use Rattle.login_setup.specs.declared.setup.Mode.{Mode}
+use Rattle.login_setup.specs.declared.setup.Mode.TheVariants as mode
+use Rattle.login_setup.specs.declared.setup.Accepts.{Accepts}
+use Rattle.login_setup.specs.declared.setup.Accepts.TheVariants.{Any, One}
+use Rattle.login_setup.specs.declared.setup.Party.{Party}
+use Rattle.login_setup.specs.declared.setup.Party.TheVariants as party
+use Rattle.login_setup.specs.declared.setup.Port.{Port}
+use Rattle.login_setup.specs.declared.setup.Port.TheVariants as port
+use Rattle.login_setup.specs.declared.event.Event.TheVariants as event
 use Rattle.text_tables.specs.Words.{words}
 use Rattle.text_tables.specs.Fields.{word_in, is_dash, number, octets_of, kind_of, suite_of}
 use Rattle.text_tables.specs.Rows.{unless, fault_of_words, keyword_in, line_has}

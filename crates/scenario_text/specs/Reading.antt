@@ -1,12 +1,12 @@
 -- A scenario, line by line: what has been read, and what each line adds.
 use Rattle.std.specs.Prelude.{ℕ, List, [], ◌∷◌, ◌++◌, length, nat_le, nat_lt, not, ◌&&◌, ◌||◌, Bool, true, false, if◌then◌else◌, Option, Some, None, find, Result, Ok, Err, IsOk, ok_or, is_err, is_some, unwrap_or}
-use Rattle.eap_base.specs.Setup.{psk_kind, gpsk_kind, is_among}
-use Rattle.eap_base.specs.Users.{user_of}
-use Rattle.eap_base.specs.declared.setup.Later.{Later}
-use Rattle.eap_base.specs.declared.setup.PeerSetup.{PeerSetup}
-use Rattle.eap_base.specs.declared.setup.ServerSetup.{ServerSetup}
-use Rattle.eap_base.specs.declared.setup.Setup.{Setup}
-use Rattle.eap_base.specs.declared.event.Event.{Event}
+use Rattle.eap_base.specs.Among.{psk_kind, gpsk_kind, is_among}
+use Rattle.login_setup.specs.Users.{user_of}
+use Rattle.login_setup.specs.declared.setup.Later.{Later}
+use Rattle.login_setup.specs.declared.setup.PeerSetup.{PeerSetup}
+use Rattle.login_setup.specs.declared.setup.ServerSetup.{ServerSetup}
+use Rattle.login_setup.specs.declared.setup.Setup.{Setup}
+use Rattle.login_setup.specs.declared.event.Event.{Event}
 use Rattle.text_tables.specs.Words.{is_passed_over}
 use Rattle.text_tables.specs.Fields.{◌>>=◌}
 use Rattle.text_tables.specs.Rows.{faults, unless}

@@ -1,14 +1,15 @@
 -- What every setting that was read keeps: its number, its name or its nonce is within its limits.
 use Rattle.std.specs.Prelude.{◌≡◌, ◌==◌, false, ◌≤◌, ◌<◌, length, IfSome, IsTrue, All, Option, ℕ, List}
-use Rattle.eap_base.specs.Setup.{psk_kind, gpsk_kind, is_kind, are_kinds, are_suites, fits_kind, no_later, IsSoundPeer, IsSoundServer, HasKeys}
-use Rattle.eap_base.specs.Users.{AreDistinct}
-use Rattle.eap_base.specs.declared.users.User.{User}
-use Rattle.eap_base.specs.declared.setup.Accepts.{Accepts}
-use Rattle.eap_base.specs.declared.setup.Accepts.TheVariants.{Any, One}
-use Rattle.eap_base.specs.declared.setup.Later.{Later}
-use Rattle.eap_base.specs.declared.setup.PeerSetup.{PeerSetup}
-use Rattle.eap_base.specs.declared.setup.ServerSetup.{ServerSetup}
-use Rattle.eap_base.specs.declared.setup.Setup.{Setup}
+use Rattle.eap_base.specs.Among.{psk_kind, gpsk_kind, is_kind}
+use Rattle.login_setup.specs.Setup.{are_kinds, are_suites, fits_kind, no_later, IsSoundPeer, IsSoundServer, HasKeys}
+use Rattle.login_setup.specs.Users.{AreDistinct}
+use Rattle.login_setup.specs.declared.users.User.{User}
+use Rattle.login_setup.specs.declared.setup.Accepts.{Accepts}
+use Rattle.login_setup.specs.declared.setup.Accepts.TheVariants.{Any, One}
+use Rattle.login_setup.specs.declared.setup.Later.{Later}
+use Rattle.login_setup.specs.declared.setup.PeerSetup.{PeerSetup}
+use Rattle.login_setup.specs.declared.setup.ServerSetup.{ServerSetup}
+use Rattle.login_setup.specs.declared.setup.Setup.{Setup}
 use Rattle.text_tables.specs.Fits.{IsName}
 use Rattle.scenario_text.specs.Reading.{ReadLine}
 use Rattle.scenario_text.specs.Versions.{most_later}

@@ -1,16 +1,17 @@
 -- What a scenario is, by all its lines: its settings, its events, and what reading it makes of them.
 use Rattle.std.specs.Prelude.{◌≡◌, ℕ, ◌≤◌, List, [], ◌∷◌, ◌++◌, length, map, filter, not, All, Option, Some, None, IsSome, IsTrue, Bool, true, false, Result, Ok}
 use Rattle.std.specs.List.{list_any}
-use Rattle.eap_base.specs.Setup.{psk_kind, gpsk_kind, is_among, no_later}
-use Rattle.eap_base.specs.Users.{AreDistinct}
-use Rattle.eap_base.specs.declared.users.User.{User}
-use Rattle.eap_base.specs.declared.setup.Mode.{Mode}
-use Rattle.eap_base.specs.declared.setup.Accepts.{Accepts}
-use Rattle.eap_base.specs.declared.setup.PeerSetup.{PeerSetup}
-use Rattle.eap_base.specs.declared.setup.ServerSetup.{ServerSetup}
-use Rattle.eap_base.specs.declared.setup.Setup.{Setup}
-use Rattle.eap_base.specs.declared.event.Event.{Event}
-use Rattle.eap_base.specs.declared.event.Event.TheVariants as event
+use Rattle.eap_base.specs.Among.{psk_kind, gpsk_kind, is_among}
+use Rattle.login_setup.specs.Setup.{no_later}
+use Rattle.login_setup.specs.Users.{AreDistinct}
+use Rattle.login_setup.specs.declared.users.User.{User}
+use Rattle.login_setup.specs.declared.setup.Mode.{Mode}
+use Rattle.login_setup.specs.declared.setup.Accepts.{Accepts}
+use Rattle.login_setup.specs.declared.setup.PeerSetup.{PeerSetup}
+use Rattle.login_setup.specs.declared.setup.ServerSetup.{ServerSetup}
+use Rattle.login_setup.specs.declared.setup.Setup.{Setup}
+use Rattle.login_setup.specs.declared.event.Event.{Event}
+use Rattle.login_setup.specs.declared.event.Event.TheVariants as event
 use Rattle.text_tables.specs.Words.{is_passed_over}
 use Rattle.text_tables.specs.Fields.{◌>>=◌}
 use Rattle.scenario_text.specs.Entries.{has_fault, said_by}

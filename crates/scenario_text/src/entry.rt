@@ -8,9 +8,8 @@ ghost use Rattle.scenario_text.specs.Keywords.{row_of};
 ghost use Rattle.scenario_text.specs.Entries.{accepts_of, kinds_of, suites_of, key_setting, port_of, party_of, is_yes, mode_of, item_of, entry_for};
 
 use crate::keyword::Keyword;
-use eap_base::{
-    Accepts, Event, Identity, Kinds, Mode, Nonce, PSK_KIND, Party, Port, Secret, Suites, User,
-};
+use eap_base::{Identity, Kinds, Nonce, PSK_KIND, Secret, Suites};
+use login_setup::{Accepts, Event, Mode, Party, Port, User};
 use text_tables::{
     LineFault, array, fault_of_words, kind_of, name, number, octets, suite_of, word_count, word_in,
 };

@@ -6,14 +6,14 @@ ghost use Rattle.scenario_text.specs.Reading.{no_settings, answered, read_words,
 ghost use Rattle.scenario_text.specs.Reading as reading;
 ghost use Rattle.text_tables.specs.Words.{words};
 ghost use Rattle.scenario_text.specs.Contents.{entry_with};
-ghost use Rattle.eap_base.specs.declared.event.Event.{Event};
+ghost use Rattle.login_setup.specs.declared.event.Event.{Event};
 ghost use Rattle.scenario_text.specs.Valid.{IsValidTold, IsValidSetup};
 
 use crate::entry::{Entry, read_entry};
 use crate::keyword::Keyword;
 use crate::settings::Settings;
 use crate::version::Version;
-use eap_base::{Event, Setup};
+use login_setup::{Event, Setup};
 use std::marker::Model;
 use text_tables::{LineFault, is_comment, is_printable_line};
 

@@ -1,7 +1,7 @@
 //! The settings of a scenario that have been read so far.
 
 ghost use Rattle.std.specs.Prelude.{◌≡◌, ◌∷◌, [], unwrap_or, is_err};
-ghost use Rattle.eap_base.specs.declared.event.Event.{Event};
+ghost use Rattle.login_setup.specs.declared.event.Event.{Event};
 ghost use Rattle.scenario_text.specs.Contents.{entry_with};
 ghost use Rattle.scenario_text.specs.Reading.{no_settings, is_full, with_later, with_nonce, has_setting, with_setting, both_suites, key_for};
 ghost use Rattle.scenario_text.specs.Reading.{later_nonces, later_of, peer_setup_of, server_setup_of, setup_of, is_crowded, came_before, is_missing};
@@ -9,10 +9,8 @@ ghost use Rattle.scenario_text.specs.Reading.{later_nonces, later_of, peer_setup
 use crate::entry::{Entry, Setting};
 use crate::keyword::Keyword;
 use crate::version::Version;
-use eap_base::{
-    Accepts, GPSK_KIND, Identity, Kinds, Later, Mode, Nonce, Nonces, PSK_KIND, PeerSetup, Secret,
-    ServerSetup, Setup, Suites, Users, is_among,
-};
+use eap_base::{GPSK_KIND, Identity, Kinds, Nonce, PSK_KIND, Secret, Suites, is_among};
+use login_setup::{Accepts, Later, Mode, Nonces, PeerSetup, ServerSetup, Setup, Users};
 use text_tables::{LineFault, add_user};
 
 /// The nonces of an end that have come, at most 16.

@@ -1,7 +1,7 @@
 -- The settings with another nonce are sound.
 use Rattle.std.proofs.Common.{List, ℕ}
-use Rattle.eap_base.specs.Setup.{IsSoundServer}
-use Rattle.eap_base.specs.declared.setup.ServerSetup.{ServerSetup}
+use Rattle.login_setup.specs.Setup.{IsSoundServer}
+use Rattle.login_setup.specs.declared.setup.ServerSetup.{ServerSetup}
 use Rattle.server_machine.specs.ServerTable.{own_nonce}
 
 pub still_sound : (setup : ServerSetup) (nonce : List ℕ) → IsSoundServer setup → IsSoundServer (own_nonce setup nonce)

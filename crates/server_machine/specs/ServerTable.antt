@@ -1,8 +1,9 @@
 -- The stand-alone server of RFC 4137 section 5 and the backend of section 6, over the views of their
 -- methods: each call as a function. The backend is the same table behind another door: its first Response.
 use Rattle.std.specs.Prelude.{◌≡◌, ◌≤◌, ℕ, ◌+◌, ◌%◌, List, [], ◌∷◌, ◌++◌, Bool, true, false, ◌==◌, ◌&&◌, ◌||◌, not, nat_le, if◌then◌else◌, Option, Some, None, Result, Ok, Err, map}
-use Rattle.eap_base.specs.declared.setup.ServerSetup.{ServerSetup}
-use Rattle.eap_base.specs.Setup.{is_among, are_kinds, IsSoundServer}
+use Rattle.login_setup.specs.declared.setup.ServerSetup.{ServerSetup}
+use Rattle.eap_base.specs.Among.{is_among}
+use Rattle.login_setup.specs.Setup.{are_kinds, IsSoundServer}
 use Rattle.eap_packet.specs.Packet.{PacketValue, request, response, success, failure, spelled}
 use Rattle.eap_packet.specs.Fault.{packet_of}
 use Rattle.eap_packet.specs.declared.cause.Cause.{Cause}

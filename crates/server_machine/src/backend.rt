@@ -1,7 +1,7 @@
 //! The backend of RFC 4137 section 6 over the objects of its methods.
 
 ghost use Rattle.std.specs.Prelude.{◌≡◌, [], map, true};
-ghost use Rattle.eap_base.specs.Setup.{IsSoundServer};
+ghost use Rattle.login_setup.specs.Setup.{IsSoundServer};
 ghost use Rattle.eap_method.specs.Peer.{have_each};
 ghost use Rattle.eap_method.specs.Server.{server_kinds};
 ghost use Rattle.eap_method.specs.Steps.{is_end, step_with};
@@ -12,9 +12,10 @@ ghost use Rattle.server_machine.specs.Expanded.{server_hears};
 
 use crate::machine::ServerMachine;
 use crate::variables::Role;
-use eap_base::{Nonce, Packet, ServerSetup};
+use eap_base::{Nonce, Packet};
 use eap_method::{Report, ServerMethod, Step, Tags};
 use eap_packet::State;
+use login_setup::ServerSetup;
 use std::marker::Model;
 
 /// The backend authenticator of RFC 4137 section 6: a login server behind a pass-through, which asks for

@@ -2,7 +2,8 @@
 //! 6).
 
 ghost use Rattle.std.specs.Prelude.{◌≡◌, ◌≤◌, [], ◌∷◌, true, false, map, length, Some, None, Ok, option_copied, All, IsTrue, if◌then◌else◌};
-ghost use Rattle.eap_base.specs.Setup.{IsSoundServer, is_among, are_suites, fits_kind};
+ghost use Rattle.eap_base.specs.Among.{is_among};
+ghost use Rattle.login_setup.specs.Setup.{IsSoundServer, are_suites, fits_kind};
 ghost use Rattle.eap_packet.specs.Packet.{spelled, value_of, IsPacket};
 ghost use Rattle.eap_packet.specs.Packet as packets;
 ghost use Rattle.eap_packet.specs.Fault.{packet_of};
@@ -20,13 +21,14 @@ ghost use Rattle.server_machine.specs.ServerTable.{answer, before_proposal, iden
 use crate::expanded::{awaits_first, wrap_sent, write_taken};
 use crate::outcome::{end_badly, next_id, settle, settle_offer};
 use crate::variables::{Progress, Role, ServerVariables, Way};
-use eap_base::{Kinds, Nonce, Packet, ServerSetup};
+use eap_base::{Kinds, Nonce, Packet};
 use eap_method::{
     Report, ServerMethod, ServerSide, ServerTurn, Step, Tags, begin_servers, hand_to_server,
     has_ended, offer_method, server_report,
 };
 use eap_packet::{Cause, Code, PacketView, State, decode, encode_into, is_bad_expanded};
 use login_policy::next_method;
+use login_setup::ServerSetup;
 use std::marker::Model;
 
 /// Type 1, Identity.

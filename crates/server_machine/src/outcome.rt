@@ -1,7 +1,7 @@
 //! What a proposal, and a method's turn, come to (RFC 4137 section 5.4): the variables, the packet and the step.
 
 ghost use Rattle.std.specs.Prelude.{◌≡◌, ◌≢◌, [], ◌∷◌, ◌++◌, false, true, not, Some, None, IsTrue, if◌then◌else◌};
-ghost use Rattle.eap_base.specs.Setup.{is_among};
+ghost use Rattle.eap_base.specs.Among.{is_among};
 ghost use Rattle.eap_packet.specs.Fault.{code_of};
 ghost use Rattle.eap_packet.specs.Packet.{spelled, value_with, has_type};
 ghost use Rattle.eap_packet.specs.declared.state.State.TheVariants.{ProposeMethod, MethodRequest, SendRequest, Idle, Failure};

@@ -1,7 +1,8 @@
 //! The server's variables.
 
-use eap_base::{Kinds, Packet, ServerSetup};
+use eap_base::{Kinds, Packet};
 use eap_packet::State;
+use login_setup::ServerSetup;
 
 /// methodState of the server (RFC 4137 section 5.3.1).
 #[derive(Clone, Copy, PartialEq, Eq, Debug)]

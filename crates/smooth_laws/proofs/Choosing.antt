@@ -6,9 +6,10 @@ use Rattle.std.proofs.lemmas.Bool.{and_parts, and_from, or_cases, or_parts, or_l
 use Rattle.std.proofs.lemmas.Bool.{cond_both, cases_Bool, both_ways}
 use Rattle.std.proofs.lemmas.Option.{same_Some}
 use Rattle.std.proofs.lemmas.Slice.Eq.{bytes_eq-Decides}
-use Rattle.eap_base.specs.declared.setup.Suite.{Suite}
-use Rattle.eap_base.specs.declared.setup.Suite.TheVariants.{Cmac, Hmac}
-use Rattle.eap_base.specs.Setup.{is_among, are_distinct, are_suites, are_kinds, is_kind, is_filled, psk_kind, gpsk_kind}
+use Rattle.eap_base.specs.declared.suite.Suite.{Suite}
+use Rattle.eap_base.specs.declared.suite.Suite.TheVariants.{Cmac, Hmac}
+use Rattle.eap_base.specs.Among.{is_among, are_distinct, is_kind, is_filled, psk_kind, gpsk_kind}
+use Rattle.login_setup.specs.Setup.{are_suites, are_kinds}
 use Rattle.eap_base.specs.Suite.{suite_octets}
 use Rattle.eap_method.specs.GpskTags.{suite_list}
 use Rattle.login_policy.specs.Policy.{is_allowed, picked_suite, nak_of, next_kind}

@@ -1,9 +1,9 @@
 -- What one end sends comes to the other: in one delivery, or in two through the pass-through.
 use Rattle.std.proofs.Common.{◌≡◌, ℕ, ◌+◌, List}
 use Rattle.std.specs.Prelude.{Ok}
-use Rattle.eap_base.specs.declared.setup.Mode.{Mode}
-use Rattle.eap_base.specs.declared.setup.Mode.TheVariants as mode
-use Rattle.eap_base.specs.declared.setup.Port.TheVariants as port
+use Rattle.login_setup.specs.declared.setup.Mode.{Mode}
+use Rattle.login_setup.specs.declared.setup.Mode.TheVariants as mode
+use Rattle.login_setup.specs.declared.setup.Port.TheVariants as port
 use Rattle.eap_packet.specs.Packet.{request, response, success, spelled}
 use Rattle.eap_packet.specs.Fault.{packet_of}
 use Rattle.eap_packet.specs.declared.state.State.{State}

@@ -1,13 +1,14 @@
 -- A login by EAP-GPSK as both machines see it: its four messages and their tags.
 use Rattle.std.proofs.Common.{◌≡◌, ℕ, ◌≤◌, List, [], ◌∷◌, length, true, false, Option, Some, refl, ap, ◌∙◌, arith}
 use Rattle.std.proofs.lemmas.Bool.{cond-true}
-use Rattle.eap_base.specs.declared.setup.PeerSetup.{PeerSetup}
-use Rattle.eap_base.specs.declared.setup.ServerSetup.{ServerSetup}
-use Rattle.eap_base.specs.declared.setup.Suite.{Suite}
-use Rattle.eap_base.specs.declared.users.User.{User}
-use Rattle.eap_base.specs.Setup.{gpsk_kind, is_among, accepts_name}
+use Rattle.login_setup.specs.declared.setup.PeerSetup.{PeerSetup}
+use Rattle.login_setup.specs.declared.setup.ServerSetup.{ServerSetup}
+use Rattle.eap_base.specs.declared.suite.Suite.{Suite}
+use Rattle.login_setup.specs.declared.users.User.{User}
+use Rattle.eap_base.specs.Among.{gpsk_kind, is_among}
+use Rattle.login_setup.specs.Setup.{accepts_name}
 use Rattle.eap_base.specs.Suite.{ks_of}
-use Rattle.eap_base.specs.Users.{user_of}
+use Rattle.login_setup.specs.Users.{user_of}
 use Rattle.gpsk_messages.specs.Message.{Message, mac_of, spelled}
 use Rattle.gpsk_messages.proofs.Grammar.{spellings_are_sized}
 use Rattle.login_keys.proofs.Blocks.{ks-le}

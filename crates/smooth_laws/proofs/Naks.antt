@@ -3,7 +3,8 @@ use Rattle.std.proofs.Common.{◌≡◌, ℕ, ◌≤◌, List, [], ◌∷◌, �
 use Rattle.std.specs.Prelude.{nat_lt, not}
 use Rattle.std.proofs.lemmas.Bool.{and_parts, and_from, and_right}
 use Rattle.std.proofs.lemmas.Bool.Decides.{nat_tests}
-use Rattle.eap_base.specs.Setup.{psk_kind, gpsk_kind, is_kind, are_kinds}
+use Rattle.eap_base.specs.Among.{psk_kind, gpsk_kind, is_kind}
+use Rattle.login_setup.specs.Setup.{are_kinds}
 use Rattle.eap_packet.specs.Packet.{response}
 use Rattle.eap_packet.specs.Fault.{packet_of}
 use Rattle.eap_packet.specs.Expanded.{expanded_kind, ietf, is_nak_body, is_bad_body, are_expanded, are_entries}

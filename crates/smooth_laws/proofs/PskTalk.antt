@@ -3,11 +3,12 @@ use Rattle.std.proofs.Common.{◌≡◌, ℕ, ◌≤◌, List, length, true, fal
 use Rattle.std.proofs.lemmas.Bool.{cond-true}
 use Rattle.std.proofs.lemmas.List.{length-take-le}
 use Rattle.cmac_mac.proofs.Laws.{length_aes_cmac}
-use Rattle.eap_base.specs.declared.setup.PeerSetup.{PeerSetup}
-use Rattle.eap_base.specs.declared.setup.ServerSetup.{ServerSetup}
-use Rattle.eap_base.specs.declared.users.User.{User}
-use Rattle.eap_base.specs.Setup.{psk_kind, is_among, accepts_name}
-use Rattle.eap_base.specs.Users.{user_of}
+use Rattle.login_setup.specs.declared.setup.PeerSetup.{PeerSetup}
+use Rattle.login_setup.specs.declared.setup.ServerSetup.{ServerSetup}
+use Rattle.login_setup.specs.declared.users.User.{User}
+use Rattle.eap_base.specs.Among.{psk_kind, is_among}
+use Rattle.login_setup.specs.Setup.{accepts_name}
+use Rattle.login_setup.specs.Users.{user_of}
 use Rattle.psk_messages.specs.Message.{Message, spelled}
 use Rattle.psk_messages.proofs.Grammar.{spellings_are_sized}
 use Rattle.eap_method.specs.PskPeer as psk_peer

@@ -2,13 +2,14 @@
 use Rattle.std.proofs.Common.{◌≡◌, List, [], ◌∷◌, false, None, Some, refl, arith, IsTrue}
 use Rattle.std.specs.Prelude.{ℕ, codes, length, replicate}
 use Rattle.std.proofs.lemmas.List.Elements.{All-from_recursion}
-use Rattle.eap_base.specs.declared.event.Event.TheVariants.{Deliver}
-use Rattle.eap_base.specs.declared.setup.Accepts.TheVariants.{One}
-use Rattle.eap_base.specs.declared.setup.Mode.{Mode}
-use Rattle.eap_base.specs.declared.setup.Mode.TheVariants.{Alone, Through}
-use Rattle.eap_base.specs.declared.setup.Setup.{Setup}
-use Rattle.eap_base.specs.declared.users.User.{User}
-use Rattle.eap_base.specs.Setup.{is_kind, fits_kind, no_later}
+use Rattle.login_setup.specs.declared.event.Event.TheVariants.{Deliver}
+use Rattle.login_setup.specs.declared.setup.Accepts.TheVariants.{One}
+use Rattle.login_setup.specs.declared.setup.Mode.{Mode}
+use Rattle.login_setup.specs.declared.setup.Mode.TheVariants.{Alone, Through}
+use Rattle.login_setup.specs.declared.setup.Setup.{Setup}
+use Rattle.login_setup.specs.declared.users.User.{User}
+use Rattle.eap_base.specs.Among.{is_kind}
+use Rattle.login_setup.specs.Setup.{fits_kind, no_later}
 use Rattle.world_laws.specs.Agreement.{IsWhole}
 use Rattle.smooth_laws.specs.Smooth.{EndsFit, HasShortNames, bound, common_kind, deliveries}
 

@@ -2,8 +2,8 @@
 use Rattle.std.proofs.Common.{◌≡◌, List, [], ◌∷◌, ◌++◌, length, Bool, true, false, ◌&&◌, not, nat_lt, Option, Some, None, is_some, refl, All}
 use Rattle.std.proofs.lemmas.Bool.{cond_both, and_parts, not-true, ltb-true, lt-ltb}
 use Rattle.std.proofs.lemmas.List.Elements.{All-push}
-use Rattle.eap_base.specs.Users.{user_of, HasRoom}
-use Rattle.eap_base.specs.declared.users.User.{User}
+use Rattle.login_setup.specs.Users.{user_of, HasRoom}
+use Rattle.login_setup.specs.declared.users.User.{User}
 use Rattle.text_tables.specs.Users.{with_user}
 
 abbrev has_room : List User → User → Bool

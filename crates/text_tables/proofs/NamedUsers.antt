@@ -3,9 +3,9 @@ use Rattle.std.proofs.Common.{◌≡◌, List, [], ◌∷◌, ◌++◌, length, 
 use Rattle.std.proofs.lemmas.Bool.{and_parts}
 use Rattle.std.proofs.lemmas.List.Elements.{All-nil, All-push}
 use Rattle.std.proofs.lemmas.Option.{same_Some}
-use Rattle.eap_base.specs.Setup.{fits_kind}
-use Rattle.eap_base.specs.Users.{user_of}
-use Rattle.eap_base.specs.declared.users.User.{User}
+use Rattle.login_setup.specs.Setup.{fits_kind}
+use Rattle.login_setup.specs.Users.{user_of}
+use Rattle.login_setup.specs.declared.users.User.{User}
 use Rattle.text_tables.specs.Fields.{octets_of, spells_kind, spells_octets, kind_of}
 use Rattle.text_tables.specs.Rows.{is_within}
 use Rattle.text_tables.specs.UserWords.{is_visible, is_name, is_key, user_named, with_named, users_named, users_until, read_as}

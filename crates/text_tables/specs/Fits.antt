@@ -1,6 +1,6 @@
 -- What the words of a line without a fault are.
 use Rattle.std.specs.Prelude.{◌≡◌, ℕ, ◌+◌, ◌<◌, ◌≤◌, List, [], ◌∷◌, length, Bool, true, false, nat_le, IsTrue}
-use Rattle.eap_base.specs.Setup.{fits_kind}
+use Rattle.login_setup.specs.Setup.{fits_kind}
 use Rattle.std.specs.Str.{bytes_eq}
 use Rattle.text_tables.specs.Fields.{word_in, number, spells_octets, octets_of, spells_kind, kind_of, spells_suite}
 use Rattle.text_tables.specs.Rows.{Row, field_has, any_has, is_choice, is_kind_or_none}

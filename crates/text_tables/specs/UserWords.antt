@@ -1,9 +1,9 @@
 -- The users that the words of a command name: NAME KIND HEX, and so on.
 use Rattle.std.specs.Prelude.{ℕ, List, [], ◌∷◌, ◌++◌, length, Bool, true, false, ◌&&◌, not, nat_lt, nat_le, if◌then◌else◌, Option, Some, None, is_some}
 use Rattle.std.specs.List.{list_all}
-use Rattle.eap_base.specs.Setup.{fits_kind}
-use Rattle.eap_base.specs.Users.{user_of}
-use Rattle.eap_base.specs.declared.users.User.{User}
+use Rattle.login_setup.specs.Setup.{fits_kind}
+use Rattle.login_setup.specs.Users.{user_of}
+use Rattle.login_setup.specs.declared.users.User.{User}
 use Rattle.text_tables.specs.Fields.{octets_of, spells_octets, spells_kind, kind_of}
 use Rattle.text_tables.specs.Rows.{is_within}
 

@@ -1,7 +1,7 @@
 -- The users that a text gives.
 use Rattle.std.specs.Prelude.{List, [], ◌∷◌, ◌++◌, length, nat_lt, not, ◌&&◌, if◌then◌else◌, is_some}
-use Rattle.eap_base.specs.Users.{user_of}
-use Rattle.eap_base.specs.declared.users.User.{User}
+use Rattle.login_setup.specs.Users.{user_of}
+use Rattle.login_setup.specs.declared.users.User.{User}
 
 -- the users with one more, unless 16 are there or one of them has its name and kind
 unfoldable pub with_user : List User → User → List User

@@ -2,7 +2,7 @@
 
 ghost use Rattle.std.specs.Prelude.{◌≡◌, ◌+◌, ◌<◌, ◌^◌, length, if◌then◌else◌, Some, None};
 ghost use Rattle.text_tables.specs.Words.{words};
-ghost use Rattle.eap_base.specs.Setup.{fits_kind};
+ghost use Rattle.login_setup.specs.Setup.{fits_kind};
 ghost use Rattle.text_tables.specs.Fields.{octets_of};
 ghost use Rattle.text_tables.specs.Rows.{is_choice, is_kind_or_none, is_within, has_bad_count, fault_of_words};
 ghost use Rattle.text_tables.specs.Firsts.{earlier, first_fault, fault_at, fault_of_word};

@@ -3,7 +3,7 @@
 ghost use Rattle.std.specs.Prelude.{◌≡◌};
 ghost use Rattle.text_tables.specs.Users.{with_user};
 
-use eap_base::{User, Users};
+use login_setup::{User, Users};
 
 /// Adds a user, unless 16 are there or one of them has its name and kind.
 pub fn add_user(users: &mut Users, user: User)

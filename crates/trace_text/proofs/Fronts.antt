@@ -3,8 +3,8 @@ use Rattle.std.proofs.Common.{◌≡◌, ℕ, ◌≤◌, ◌-◌, List, [], ◌+
 use Rattle.std.specs.Prelude.{Result, Ok, Err, IsErr}
 use Rattle.std.proofs.Common.{refl, sym, ◌∙◌, ap, subst, arith, append_assoc, append-nil, take-append-drop}
 use Rattle.std.proofs.lemmas.Grind.{common_steps}
-use Rattle.eap_base.specs.Known.{append_known}
-use Rattle.eap_base.specs.declared.source.Failed.{Failed}
+use Rattle.octet_io.specs.Known.{append_known}
+use Rattle.octet_io.specs.declared.source.Failed.{Failed}
 use Rattle.trace_text.specs.Writes.{Appended, Appends}
 
 pub append_known_nil : (known : Option (List ℕ)) → append_known known [] ≡ known

@@ -4,8 +4,8 @@ use Rattle.std.specs.Prelude.{Result, Ok, Err, IsErr, OnOk}
 use Rattle.std.proofs.Common.{refl, sym, ◌∙◌, ap, subst, arith, append_assoc, append-nil, take-append-drop, add-one, drop-cons}
 use Rattle.std.proofs.lemmas.Grind.{common_steps}
 use Rattle.hex.specs.Hex.{encode_with, encode_lower}
-use Rattle.eap_base.specs.Known.{append_known}
-use Rattle.eap_base.specs.declared.source.Failed.{Failed}
+use Rattle.octet_io.specs.Known.{append_known}
+use Rattle.octet_io.specs.declared.source.Failed.{Failed}
 use Rattle.trace_text.specs.Pieces.{spelled, joined}
 use Rattle.trace_text.specs.Writes.{Appends, Puts}
 use Rattle.trace_text.specs.declared.pieces.Piece.{Piece}

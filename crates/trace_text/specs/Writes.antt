@@ -1,7 +1,7 @@
 -- What a write of a text does to a sink: all of it was written, or a fault came and a front of it was.
 use Rattle.std.specs.Prelude.{◌≡◌, ◌≤◌, ℕ, List, ◌++◌, Option, Some, Result, Ok, Err, OnOk, OnErr}
-use Rattle.eap_base.specs.Known.{append_known}
-use Rattle.eap_base.specs.declared.source.Failed.{Failed}
+use Rattle.octet_io.specs.Known.{append_known}
+use Rattle.octet_io.specs.declared.source.Failed.{Failed}
 
 -- a front of the text was written
 pub record WritesFront (before after : Option (List ℕ)) (text : List ℕ) : Type 0 where

@@ -6,7 +6,7 @@ ghost use Rattle.trace_text.specs.Findings.{finding_text, findings_text};
 use crate::pieces::Piece::{Number, Text};
 use crate::pieces::write_pieces;
 use capture_check::Finding;
-use eap_base::{Failed, Sink};
+use octet_io::{Failed, Sink};
 
 /// Writes the finding of the packet with this number, in one line. `Failed`: a write failed, and a front
 /// of the line was appended.

@@ -10,10 +10,10 @@ use crate::pieces::Piece::{Hex, Text};
 use crate::pieces::write_pieces;
 use aes_block::Aes128;
 use cmac_mac::cmac_whole;
-use eap_base::{Failed, Sink};
 use eax_mode::eax_seal;
 use hmac_mac::hmac_whole;
 use login_keys::{GpskKeys, PskKeys, PskLong, gpsk_keys, key_name, psk_long, psk_session};
+use octet_io::{Failed, Sink};
 use request_text::KeyLine;
 
 /// Writes a name and octets in hex, `-` where there are none, in one line.

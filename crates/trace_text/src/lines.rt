@@ -5,7 +5,7 @@ ghost use Rattle.trace_text.specs.Lines.{line_text, refused_text};
 
 use crate::pieces::Piece::{Number, Text};
 use crate::pieces::write_pieces;
-use eap_base::{Failed, Sink};
+use octet_io::{Failed, Sink};
 
 /// Writes the octets and LF. `Failed`: a write failed, and a front of the line was appended.
 pub fn write_line<W: Sink>(sink: &mut W, line: &[u8]) -> Result<(), Failed>

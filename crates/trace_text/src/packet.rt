@@ -17,9 +17,10 @@ ghost use Rattle.trace_text.specs.PacketParts.{nak_word, number_text, head_text,
 use crate::line_buffer::LineBuffer;
 use crate::pieces::Piece::{Hex, Number, Text};
 use crate::pieces::{put_pieces, send, write_pieces};
-use eap_base::{Failed, GPSK_KIND, PSK_KIND, Sink};
+use eap_base::{GPSK_KIND, PSK_KIND};
 use eap_packet::{Cause, Code, PacketView, decode, read_expanded};
 use gpsk_messages::{GpskView, read_gpsk};
+use octet_io::{Failed, Sink};
 use psk_messages::{PskView, read_psk};
 
 /// Type 254, of a packet with an Expanded Type.

@@ -7,8 +7,8 @@ ghost use Rattle.trace_text.specs.Writes.{Appends, Puts};
 ghost use Rattle.trace_text.specs.Pieces.{spelled, joined, hex_text};
 
 use crate::line_buffer::LineBuffer;
-use eap_base::{Failed, Sink};
 use itoa::Buffer;
+use octet_io::{Failed, Sink};
 
 /// A piece of a line.
 #[derive(Clone, Copy)]

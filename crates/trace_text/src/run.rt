@@ -14,11 +14,12 @@ ghost use Rattle.eap_world.specs.World.{now_of};
 use crate::line_buffer::LineBuffer;
 use crate::pieces::Piece::{Hex, Number, Text};
 use crate::pieces::{put_number, put_pieces, send, write_nothing, write_pieces};
-use eap_base::{Failed, Mode, Party, Port, Sink};
 use eap_method::{PeerMethod, ServerMethod};
 use eap_packet::{Cause, State};
 use eap_world::{Counts, Named, SentPacket, Skip, TagsVerdict, Told, Verdict, World};
 use login_keys::key_name;
+use login_setup::{Mode, Party, Port};
+use octet_io::{Failed, Sink};
 
 fn name_of_party(party: Party) -> &'static str
     ensures { result.now ≡ party_word party }

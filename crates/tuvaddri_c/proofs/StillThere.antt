@@ -1,7 +1,7 @@
 -- An end that has just been made has its objects, and each call leaves it those that it had.
 use Rattle.std.proofs.Common.{◌≡◌, List, ℕ, true, map, ap}
-use Rattle.eap_base.specs.declared.setup.PeerSetup.{PeerSetup}
-use Rattle.eap_base.specs.declared.setup.ServerSetup.{ServerSetup}
+use Rattle.login_setup.specs.declared.setup.PeerSetup.{PeerSetup}
+use Rattle.login_setup.specs.declared.setup.ServerSetup.{ServerSetup}
 use Rattle.eap_method.specs.Peer.{have_each, peer_kinds}
 use Rattle.eap_method.specs.Server.{server_kinds}
 use Rattle.eap_method.specs.Unnamed.{KeepsPeers, KeepsServers}

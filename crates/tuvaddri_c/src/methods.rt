@@ -1,7 +1,8 @@
 //! The methods alone, for a program with machines of its own.
 
 ghost use Rattle.std.specs.Prelude.{◌≡◌, ◌≤◌, true, false, length, IsTrue, All, Ok, Err, None, IfSome, IfOk, IfErr};
-ghost use Rattle.eap_base.specs.Setup.{fits_kind, is_kind, are_suites};
+ghost use Rattle.eap_base.specs.Among.{is_kind};
+ghost use Rattle.login_setup.specs.Setup.{fits_kind, are_suites};
 ghost use Rattle.eap_packet.specs.Packet.{spelled, value_of, IsPacket};
 ghost use Rattle.eap_packet.specs.Fault.{packet_of};
 ghost use Rattle.eap_method.specs.Peer.{peer_kind, peer_step, IsRequest};
@@ -16,13 +17,14 @@ use crate::answers::{BEGUN, number_of_refusal};
 use crate::handle::TuvEnd;
 use crate::method_turn::TuvMethodTurn;
 use crate::session::{End, Known, Session};
-use eap_base::{Identity, Nonce, Packet, Secret, Users};
+use eap_base::{Identity, Nonce, Packet, Secret};
 use eap_method::{Credential, PeerMethod, ServerMethod, ServerSide, Tags};
 use eap_packet::{Cause, Code, decode};
 use end_objects::{
     PeerObject, ServerObject, Settings, accepts, one_user, peer_object, peer_refusal,
     server_object, server_refusal, suites,
 };
+use login_setup::Users;
 
 /// Makes the end a peer's method alone, which has begun, and answers 0. Else it answers the number of the refusal,
 /// 1 to 5, and the end stays as it was. It takes no memory.

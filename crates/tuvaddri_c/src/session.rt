@@ -1,11 +1,12 @@
 //! What a handle holds: an end, and the packet and the tags of its last call.
 
 ghost use Rattle.std.specs.Prelude.{All, IsTrue};
-ghost use Rattle.eap_base.specs.Setup.{fits_kind};
+ghost use Rattle.login_setup.specs.Setup.{fits_kind};
 
-use eap_base::{Packet, Users};
+use eap_base::Packet;
 use eap_method::Tags;
 use end_objects::{PeerObject, ServerObject};
+use login_setup::Users;
 use pass_through::PassThrough;
 use peer_machine::PeerMachine;
 use server_machine::{Backend, ServerMachine};

@@ -1,9 +1,9 @@
 -- The run of every scenario keeps agreement.
 use Rattle.std.proofs.Common.{◌≡◌, ℕ, ◌+◌, List, Bool, true, false, Some, Result, Ok, Err, refl, subst}
 use Rattle.std.specs.Prelude.{if◌then◌else◌, ◌&&◌, nat_le, IfOk}
-use Rattle.eap_base.specs.declared.event.Event.{Event}
-use Rattle.eap_base.specs.declared.setup.Setup.{Setup}
-use Rattle.eap_base.specs.Lines.{Lines, ended, too_long, too_much, line, lines}
+use Rattle.login_setup.specs.declared.event.Event.{Event}
+use Rattle.login_setup.specs.declared.setup.Setup.{Setup}
+use Rattle.octet_io.specs.Lines.{Lines, ended, too_long, too_much, line, lines}
 use Rattle.world_laws.specs.Agreement.{IsWhole}
 use Rattle.world_laws.proofs.Alone.{one_end_tells}
 use Rattle.world_laws.proofs.HonestOfEither.{honest_of_either}

@@ -1,11 +1,11 @@
 -- Reading an input line by line gives the scenario that its octets are.
 use Rattle.std.proofs.Common.{◌≡◌, ℕ, ◌+◌, ◌≤◌, List, [], ◌∷◌, length, Bool, true, false, cond, ◌&&◌, nat_le, Some, Result, Ok, Err, inl, inr, refl, sym, ap, subst, ◌∙◌, arith}
 use Rattle.std.proofs.lemmas.Bool.{cases_Bool, leb-false, lt-leb}
-use Rattle.eap_base.specs.Lines.{Lines, ended, too_long, too_much, line, without_cr}
-use Rattle.eap_base.specs.Cutting.{pieces, last_of, whole_lines, last_line, is_past_line, is_within}
-use Rattle.eap_base.specs.declared.event.Event.{Event}
-use Rattle.eap_base.specs.declared.setup.Setup.{Setup}
-use Rattle.eap_base.proofs.Cut.{lines_are_the_pieces, lines_end_at_a_limit, some_octet_is_past}
+use Rattle.octet_io.specs.Lines.{Lines, ended, too_long, too_much, line, without_cr}
+use Rattle.octet_io.specs.Cutting.{pieces, last_of, whole_lines, last_line, is_past_line, is_within}
+use Rattle.login_setup.specs.declared.event.Event.{Event}
+use Rattle.login_setup.specs.declared.setup.Setup.{Setup}
+use Rattle.octet_io.proofs.Cut.{lines_are_the_pieces, lines_end_at_a_limit, some_octet_is_past}
 use Rattle.text_tables.specs.Fields.{◌>>=◌}
 use Rattle.scenario_text.specs.Items.{Item}
 use Rattle.scenario_text.specs.Items as item

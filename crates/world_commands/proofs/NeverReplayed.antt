@@ -2,10 +2,10 @@
 use Rattle.std.proofs.Common.{◌≡◌, ℕ, ◌+◌, List, [], ◌∷◌, ◌++◌, Bool, true, false, Option, Some, None, Result, Ok, Err, flat_map, length, refl, sym, ap, subst, ◌∙◌, codes, inl, inr}
 use Rattle.std.proofs.lemmas.Bool.{true≢false}
 use Rattle.std.specs.Prelude.{if◌then◌else◌, ◌&&◌, ◌==◌, nat_le}
-use Rattle.eap_base.specs.Lines.{Lines, ended, too_long, too_much, line, lines}
-use Rattle.eap_base.specs.declared.event.Event.{Event}
-use Rattle.eap_base.specs.declared.setup.Later.{Later}
-use Rattle.eap_base.specs.declared.setup.Setup.{Setup}
+use Rattle.octet_io.specs.Lines.{Lines, ended, too_long, too_much, line, lines}
+use Rattle.login_setup.specs.declared.event.Event.{Event}
+use Rattle.login_setup.specs.declared.setup.Later.{Later}
+use Rattle.login_setup.specs.declared.setup.Setup.{Setup}
 use Rattle.eap_world.specs.Run.{run_of}
 use Rattle.world_laws.specs.Agreement.{AgreesWhereHonest, AreApart}
 use Rattle.eap_world.specs.Book.{tags_verdict}

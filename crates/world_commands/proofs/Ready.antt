@@ -3,7 +3,8 @@ use Rattle.std.proofs.Common.{◌≡◌, ℕ, List, [], ◌∷◌, true, false, 
 use Rattle.std.specs.Prelude.{is_some, IfSome}
 use Rattle.std.specs.List.{list_all}
 use Rattle.std.proofs.lemmas.Bool.{or_cases, eqb-true, and_parts, and_from}
-use Rattle.eap_base.specs.Setup.{psk_kind, gpsk_kind, is_kind, is_among, are_kinds, are_distinct}
+use Rattle.eap_base.specs.Among.{psk_kind, gpsk_kind, is_kind, is_among, are_distinct}
+use Rattle.login_setup.specs.Setup.{are_kinds}
 use Rattle.eap_method.specs.Peer.{PeerShown, have_each}
 use Rattle.eap_method.specs.Server.{ServerShown}
 use Rattle.eap_method.proofs.Amongs.{each_one}

@@ -1,8 +1,8 @@
 -- Replaying line by line answers what the scenario's run says.
 use Rattle.std.proofs.Common.{◌≡◌, ℕ, ◌+◌, List, [], Bool, true, false, cond, nat_le, Some, None, Result, Ok, Err, refl, sym, ◌∙◌, ap, subst, append_assoc, append-nil, ◌||◌}
 use Rattle.std.specs.Prelude.{codes, is_some}
-use Rattle.eap_base.specs.Lines.{Lines, ended, too_long, too_much, line}
-use Rattle.eap_base.specs.declared.event.Event.{Event}
+use Rattle.octet_io.specs.Lines.{Lines, ended, too_long, too_much, line}
+use Rattle.login_setup.specs.declared.event.Event.{Event}
 use Rattle.eap_world.specs.World.{WorldNow, world_made, world_start, world_step, run_after, outcomes_after}
 use Rattle.world_commands.proofs.Runs.{world_step_events}
 use Rattle.scenario_text.specs.Reading.{Reading, ReadLine, said, with_setting, begun, read_line, finish_of}

@@ -1,8 +1,8 @@
 -- Facts on runs.
 use Rattle.std.proofs.Common.{◌≡◌, ◌≤◌, ℕ, ◌+◌, List, [], ◌∷◌, ◌++◌, length, Option, Some, None, true, refl, sym, ap, arith, length-append}
-use Rattle.eap_base.specs.declared.event.Event.{Event}
-use Rattle.eap_base.specs.declared.setup.Port.{Port}
-use Rattle.eap_base.specs.declared.setup.Setup.{Setup}
+use Rattle.login_setup.specs.declared.event.Event.{Event}
+use Rattle.login_setup.specs.declared.setup.Port.{Port}
+use Rattle.login_setup.specs.declared.setup.Setup.{Setup}
 use Rattle.eap_world.specs.Run.{run_of}
 use Rattle.eap_world.specs.World.{Action, Called, Skipped, WorldNow, WorldOutcome, counted, sent_to, sent_by, called, start_call, act}
 use Rattle.eap_world.specs.World.{world_made, world_start, world_step, world_outcome, run_after}

@@ -1,9 +1,9 @@
 -- The trace of a smooth login ends with agreement.
 use Rattle.std.proofs.Common.{◌≡◌, ℕ, List, ◌++◌, Bool, true, false, Some, None, refl, sym, ap, subst, ◌∙◌, append_assoc, append-nil, []}
 use Rattle.std.specs.Prelude.{Option, codes, decimal}
-use Rattle.eap_base.specs.declared.event.Event.{Event}
-use Rattle.eap_base.specs.declared.setup.Setup.{Setup}
-use Rattle.eap_base.specs.Lines.{lines}
+use Rattle.login_setup.specs.declared.event.Event.{Event}
+use Rattle.login_setup.specs.declared.setup.Setup.{Setup}
+use Rattle.octet_io.specs.Lines.{lines}
 use Rattle.eap_packet.specs.declared.state.State.{State}
 use Rattle.eap_world.specs.Run.{run_of}
 use Rattle.eap_world.specs.Book.{tags_verdict}

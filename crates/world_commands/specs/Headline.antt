@@ -2,9 +2,9 @@
 -- two ends that both succeed agree, where each accepted tag was made earlier by the other end and no end has begun again or
 -- nonces are fresh. The trace tells both.
 use Rattle.std.specs.Prelude.{◌≡◌, ◌≤◌, ◌⊎◌, ℕ, ◌+◌, List, ◌++◌, length, Option, Some, codes}
-use Rattle.eap_base.specs.declared.event.Event.{Event}
-use Rattle.eap_base.specs.declared.setup.Mode.TheVariants.{Through}
-use Rattle.eap_base.specs.declared.setup.Setup.{Setup}
+use Rattle.login_setup.specs.declared.event.Event.{Event}
+use Rattle.login_setup.specs.declared.setup.Mode.TheVariants.{Through}
+use Rattle.login_setup.specs.declared.setup.Setup.{Setup}
 use Rattle.eap_world.specs.Run.{run_of}
 use Rattle.world_laws.specs.Agreement.{AgreesWhereHonest, TheirsWhereHonest, HasFewTags}
 use Rattle.world_laws.specs.Alone.{TellsAlone}

@@ -1,8 +1,8 @@
 -- The command replay: a scenario is read line by line, and each event is run as it comes.
 use Rattle.std.specs.Prelude.{◌≡◌, ℕ, List, [], ◌∷◌, Bool, true, false, nat_le, if◌then◌else◌, Option, Some, None, Result, Ok, Err, codes, map, option_map, IfSome}
-use Rattle.eap_base.specs.declared.event.Event.{Event}
-use Rattle.eap_base.specs.declared.setup.Setup.{Setup}
-use Rattle.eap_base.specs.Setup.{psk_kind, gpsk_kind}
+use Rattle.login_setup.specs.declared.event.Event.{Event}
+use Rattle.login_setup.specs.declared.setup.Setup.{Setup}
+use Rattle.eap_base.specs.Among.{psk_kind, gpsk_kind}
 use Rattle.eap_method.specs.Peer.{PeerShown, peer_kinds, have_each}
 use Rattle.eap_method.specs.Server.{ServerShown, server_kinds}
 use Rattle.eap_world.specs.World.{HasObjects, WorldNow, now_of, world_made, world_start, world_step}

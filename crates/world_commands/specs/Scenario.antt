@@ -1,9 +1,9 @@
 -- A scenario, as all its lines make it, and what replaying it answers: the trace of its run.
 use Rattle.std.specs.Prelude.{is_some, ℕ, ◌+◌, List, [], ◌∷◌, Bool, true, false, nat_le, ◌&&◌, if◌then◌else◌, Option, Some, None, Result, Ok, Err, codes}
 use Rattle.std.specs.List.{flat_map}
-use Rattle.eap_base.specs.Lines.{Lines, ended, too_long, too_much, line, lines}
-use Rattle.eap_base.specs.declared.event.Event.{Event}
-use Rattle.eap_base.specs.declared.setup.Setup.{Setup}
+use Rattle.octet_io.specs.Lines.{Lines, ended, too_long, too_much, line, lines}
+use Rattle.login_setup.specs.declared.event.Event.{Event}
+use Rattle.login_setup.specs.declared.setup.Setup.{Setup}
 use Rattle.eap_world.specs.World.{WorldNow, world_made, world_start, run_after, outcomes_after}
 use Rattle.text_tables.specs.Words.{fault_word}
 use Rattle.scenario_text.specs.Reading.{Reading, ReadLine, no_settings, read_line, finish_of}

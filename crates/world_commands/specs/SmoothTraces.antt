@@ -1,7 +1,7 @@
 -- The trace of a smooth login: between two ends that fit, each of whose packets is delivered once and in order.
 use Rattle.std.specs.Prelude.{◌≡◌, ◌≤◌, List, ℕ, ◌++◌, length, Bool, codes}
-use Rattle.eap_base.specs.declared.event.Event.{Event}
-use Rattle.eap_base.specs.declared.setup.Setup.{Setup}
+use Rattle.login_setup.specs.declared.event.Event.{Event}
+use Rattle.login_setup.specs.declared.setup.Setup.{Setup}
 use Rattle.smooth_laws.specs.Smooth.{EndsFit, AreInOrder, bound}
 use Rattle.command_driver.specs.Answers.{Answer}
 use Rattle.world_commands.specs.Scenario.{replay_answer}

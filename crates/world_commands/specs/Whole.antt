@@ -1,9 +1,9 @@
 -- The scenario that an input is, by its octets alone: within the limits its lines are those of a scenario.
 use Rattle.std.specs.Prelude.{◌≡◌, ℕ, ◌≤◌, List, [], ◌∷◌, length, true, Some}
-use Rattle.eap_base.specs.Lines.{without_cr}
-use Rattle.eap_base.specs.Cutting.{pieces, is_within}
-use Rattle.eap_base.specs.declared.event.Event.{Event}
-use Rattle.eap_base.specs.declared.setup.Setup.{Setup}
+use Rattle.octet_io.specs.Lines.{without_cr}
+use Rattle.octet_io.specs.Cutting.{pieces, is_within}
+use Rattle.login_setup.specs.declared.event.Event.{Event}
+use Rattle.login_setup.specs.declared.setup.Setup.{Setup}
 use Rattle.scenario_text.specs.Whole.{IsScenario}
 use Rattle.world_commands.specs.Replay.{max_events}
 use Rattle.world_commands.specs.Scenario.{whole, scenario_of}

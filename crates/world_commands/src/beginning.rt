@@ -5,9 +5,9 @@ ghost use Rattle.scenario_text.specs.Valid.{IsValidSetup};
 ghost use Rattle.world_commands.specs.Replay.{HasBoth};
 ghost use Rattle.eap_world.specs.World.{HasObjects, now_of, world_made};
 
-use eap_base::Setup;
 use eap_method::{PeerMethod, ServerMethod};
 use eap_world::{Methods, World};
+use login_setup::Setup;
 use std::alloc::Global;
 
 /// The world of a setup that a scenario gives, where each end has an object of both methods, and so one of each that its

@@ -9,9 +9,9 @@ ghost use Rattle.trace_text.specs.Writes.{Appends};
 
 use bulk_run::{Summary, run_all};
 use command_driver::Status;
-use eap_base::{Failed, Sink};
 use eap_method::{PeerMethod, ServerMethod};
 use eap_world::Methods;
+use octet_io::{Failed, Sink};
 use std::alloc::Global;
 use text_tables::read_number;
 use trace_text::Piece::{Number, Text};

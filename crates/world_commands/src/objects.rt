@@ -3,7 +3,7 @@
 ghost use Rattle.std.specs.Prelude.{◌≡◌, ◌∷◌, [], true, map, IfOk, IfErr};
 ghost use Rattle.std.specs.IoError.{error_kind};
 ghost use Rattle.std.specs.declared.io.ErrorKind.TheVariants.{OutOfMemory};
-ghost use Rattle.eap_base.specs.Setup.{psk_kind, gpsk_kind};
+ghost use Rattle.eap_base.specs.Among.{psk_kind, gpsk_kind};
 ghost use Rattle.eap_method.specs.Peer.{peer_kind, peer_kinds, have_each};
 ghost use Rattle.eap_method.specs.Server.{server_kind, server_kinds};
 

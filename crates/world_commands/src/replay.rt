@@ -3,7 +3,7 @@
 
 ghost use Rattle.std.specs.Prelude.{◌≡◌, None, Some, Ok, IfOk, IsOk};
 ghost use Rattle.scenario_text.specs.Reading.{setup_of};
-ghost use Rattle.eap_base.specs.declared.setup.Setup.{Setup};
+ghost use Rattle.login_setup.specs.declared.setup.Setup.{Setup};
 ghost use Rattle.command_driver.specs.Responding.{Responds};
 ghost use Rattle.world_commands.specs.Replay.{HasBoth, IsReady, seen_of};
 ghost use Rattle.world_commands.specs.Scenario.{asked_replay, trace_header};
@@ -13,9 +13,10 @@ ghost use Rattle.trace_text.specs.Writes.{Appends};
 
 use crate::beginning::world_of;
 use command_driver::{Close, Command, Next, Status, Trouble, drive};
-use eap_base::{Event, Failed, Sink, Source};
 use eap_method::{PeerMethod, ServerMethod};
 use eap_world::{Methods, Told, World};
+use login_setup::Event;
+use octet_io::{Failed, Sink, Source};
 use scenario_text::{Item, ScenarioReader};
 use std::alloc::Global;
 use trace_text::{write_end, write_line, write_start, write_told};

@@ -1,12 +1,12 @@
 -- An event is skipped, or is a call of one party.
 use Rattle.std.proofs.Common.{◌≡◌, ℕ, ◌+◌, Bool, true, false, List, [], ◌∷◌, length, Option, Some, None, refl, sym, ap, subst, ◌∙◌, append-nil}
 use Rattle.std.proofs.lemmas.Bool.{false≢true}
-use Rattle.eap_base.specs.declared.event.Event.{Event}
-use Rattle.eap_base.specs.declared.event.Event.TheVariants as event
-use Rattle.eap_base.specs.declared.setup.Port.{Port}
-use Rattle.eap_base.specs.declared.setup.Port.TheVariants as port
-use Rattle.eap_base.specs.declared.setup.Party.{Party}
-use Rattle.eap_base.specs.declared.setup.Party.TheVariants as party
+use Rattle.login_setup.specs.declared.event.Event.{Event}
+use Rattle.login_setup.specs.declared.event.Event.TheVariants as event
+use Rattle.login_setup.specs.declared.setup.Port.{Port}
+use Rattle.login_setup.specs.declared.setup.Port.TheVariants as port
+use Rattle.login_setup.specs.declared.setup.Party.{Party}
+use Rattle.login_setup.specs.declared.setup.Party.TheVariants as party
 use Rattle.peer_machine.specs.Inputs as peer_inputs
 use Rattle.peer_machine.specs.Inputs.{PeerInput}
 use Rattle.server_machine.specs.Inputs as server_inputs

@@ -1,9 +1,9 @@
 -- What one end's success tells by itself of the other end.
 use Rattle.std.proofs.Common.{Option, ◌≡◌, List, ℕ, [], true, Some, sym, ap, subst, ◌∙◌}
-use Rattle.eap_base.specs.declared.setup.PeerSetup.{PeerSetup}
-use Rattle.eap_base.specs.declared.setup.ServerSetup.{ServerSetup}
-use Rattle.eap_base.specs.declared.setup.Setup.{Setup}
-use Rattle.eap_base.specs.Setup.{psk_kind}
+use Rattle.login_setup.specs.declared.setup.PeerSetup.{PeerSetup}
+use Rattle.login_setup.specs.declared.setup.ServerSetup.{ServerSetup}
+use Rattle.login_setup.specs.declared.setup.Setup.{Setup}
+use Rattle.eap_base.specs.Among.{psk_kind}
 use Rattle.eap_method.specs.declared.tags.TagRecord.{TagRecord}
 use Rattle.eap_method.specs.declared.values.Report.{Report}
 use Rattle.peer_machine.specs.PeerTable as peers

@@ -4,7 +4,7 @@ use Rattle.world_laws.specs.Agreement.{BeginsOnce}
 use Rattle.eap_world.specs.Conversations.{Conversations, hears, waiting}
 use Rattle.eap_world.specs.World.{WorldNow, WorldOutcome, call_octets, heard_in, world_made, world_start}
 use Rattle.eap_world.specs.declared.conversations.Waiting.{Waiting}
-use Rattle.eap_base.specs.declared.setup.Setup.{Setup}
+use Rattle.login_setup.specs.declared.setup.Setup.{Setup}
 use Rattle.world_laws.proofs.Acting.{Steps, calls, peer_restarts, run_keeps, server_restarts, skips}
 
 -- no end has a nonce left, and each has begun one conversation

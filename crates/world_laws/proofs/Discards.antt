@@ -3,9 +3,9 @@
 use Rattle.std.proofs.Common.{◌≡◌, ℕ, List, [], ◌++◌, Bool, true, false, Option, Some, None, refl, ap, subst, sym, ◌∙◌, append-nil}
 use Rattle.std.specs.Prelude.{IsSome}
 use Rattle.std.proofs.lemmas.Bool.{cond_both}
-use Rattle.eap_base.specs.declared.setup.Party.{Party}
-use Rattle.eap_base.specs.declared.setup.Party.TheVariants as party
-use Rattle.eap_base.specs.declared.setup.Setup.{Setup}
+use Rattle.login_setup.specs.declared.setup.Party.{Party}
+use Rattle.login_setup.specs.declared.setup.Party.TheVariants as party
+use Rattle.login_setup.specs.declared.setup.Setup.{Setup}
 use Rattle.eap_method.specs.Tags.{no_tags}
 use Rattle.eap_method.specs.declared.values.Report.{Report}
 use Rattle.peer_machine.specs.Inputs as peer_inputs

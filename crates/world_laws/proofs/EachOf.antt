@@ -2,7 +2,7 @@
 use Rattle.std.proofs.Common.{◌≡◌, ℕ, Bool, true, false, List, [], ◌∷◌, ◌++◌, length, drop, map, Option, Some, refl, sym, ap, subst, ◌∙◌, append_assoc, append-nil, inl, inr}
 use Rattle.std.specs.Prelude.{if◌then◌else◌}
 use Rattle.std.proofs.lemmas.List.{drop_at}
-use Rattle.eap_base.specs.declared.event.Event.{Event}
+use Rattle.login_setup.specs.declared.event.Event.{Event}
 use Rattle.eap_method.specs.declared.tags.TagRecord.{TagRecord}
 use Rattle.eap_world.specs.Conversations.{Conversations, front, is_used}
 use Rattle.world_laws.specs.EachConversation.{AreTwoOf, Conversation, IsOneOf, all_accepted, all_made, begins_another, conversations_along, last_now, moments, nonces_of, present_one}

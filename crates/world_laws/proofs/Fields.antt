@@ -3,8 +3,8 @@ use Rattle.std.proofs.Common.{◌≡◌, ℕ, ◌*◌, ◌/◌, ◌%◌, cond, e
 use Rattle.std.proofs.lemmas.Bool.{cases_Bool, leb-true, cond-true, cond-false}
 use Rattle.std.proofs.lemmas.List.{drop_at}
 use Rattle.std.proofs.lemmas.Option.{cond_some, same_Some}
-use Rattle.eap_base.specs.declared.setup.Suite.{Suite}
-use Rattle.eap_base.specs.declared.setup.Suite.TheVariants.{Cmac, Hmac}
+use Rattle.eap_base.specs.declared.suite.Suite.{Suite}
+use Rattle.eap_base.specs.declared.suite.Suite.TheVariants.{Cmac, Hmac}
 use Rattle.eap_base.specs.Suite.{suite_octets}
 use Rattle.gpsk_messages.specs.Message.{Message, gpsk1, gpsk2, gpsk3, gpsk4, fail, protected_fail, sized, list_of}
 use Rattle.eap_packet.specs.declared.cause.Cause.{Cause}

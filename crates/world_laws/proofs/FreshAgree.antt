@@ -1,10 +1,10 @@
 -- Over an honest book and fresh nonces two ends that both stand in SUCCESS agree, and hold each other's present nonces.
 use Rattle.std.proofs.Common.{◌≡◌, ℕ, Bool, true, List, [], Option, Some, refl, sym, ap, ◌∙◌}
 use Rattle.std.specs.Prelude.{◌&&◌, if◌then◌else◌}
-use Rattle.eap_base.specs.declared.event.Event.{Event}
-use Rattle.eap_base.specs.declared.setup.PeerSetup.{PeerSetup}
-use Rattle.eap_base.specs.declared.setup.ServerSetup.{ServerSetup}
-use Rattle.eap_base.specs.declared.setup.Setup.{Setup}
+use Rattle.login_setup.specs.declared.event.Event.{Event}
+use Rattle.login_setup.specs.declared.setup.PeerSetup.{PeerSetup}
+use Rattle.login_setup.specs.declared.setup.ServerSetup.{ServerSetup}
+use Rattle.login_setup.specs.declared.setup.Setup.{Setup}
 use Rattle.eap_method.specs.declared.tags.TagRecord.{TagRecord}
 use Rattle.peer_machine.specs.PeerTable as peers
 use Rattle.server_machine.specs.ServerTable as servers

@@ -5,8 +5,8 @@ use Rattle.std.specs.List.{list_any}
 use Rattle.std.specs.Str.{bytes_eq}
 use Rattle.std.proofs.lemmas.Bool.{and_parts, and_from, not-true}
 use Rattle.std.proofs.lemmas.List.Folds.{list_any-append}
-use Rattle.eap_base.specs.declared.event.Event.{Event}
-use Rattle.eap_base.specs.declared.setup.Setup.{Setup}
+use Rattle.login_setup.specs.declared.event.Event.{Event}
+use Rattle.login_setup.specs.declared.setup.Setup.{Setup}
 use Rattle.peer_machine.specs.Inputs as peer_inputs
 use Rattle.server_machine.specs.Inputs as server_inputs
 use Rattle.eap_world.specs.Conversations.{Conversations, begins, begun, front, hears, is_new, is_used, stands_in, waiting}

@@ -1,9 +1,9 @@
 -- Two ends that have succeeded by EAP-GPSK agree.
 use Rattle.std.proofs.Common.{◌≡◌, ℕ, true, false, List, [], ◌∷◌, ◌++◌, length, Some, refl, sym, ap, subst, ◌∙◌, length-append, arith, inl, inr}
 use Rattle.std.proofs.lemmas.Bool.{and_from, not_from_false}
-use Rattle.eap_base.specs.declared.setup.PeerSetup.{PeerSetup}
-use Rattle.eap_base.specs.declared.setup.ServerSetup.{ServerSetup}
-use Rattle.eap_base.specs.Setup.{gpsk_kind}
+use Rattle.login_setup.specs.declared.setup.PeerSetup.{PeerSetup}
+use Rattle.login_setup.specs.declared.setup.ServerSetup.{ServerSetup}
+use Rattle.eap_base.specs.Among.{gpsk_kind}
 use Rattle.eap_base.specs.Suite.{suite_octets}
 use Rattle.gpsk_messages.specs.Message.{sized, covered_of}
 use Rattle.login_policy.proofs.Choices.{picked_is_allowed}

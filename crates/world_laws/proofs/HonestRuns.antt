@@ -2,8 +2,8 @@
 -- begun a second conversation, and of the other end also where nonces are fresh.
 use Rattle.std.proofs.Common.{◌≡◌, List, [], length, Bool, true, false, refl, sym, inl, inr}
 use Rattle.std.specs.Prelude.{if◌then◌else◌, ◌&&◌}
-use Rattle.eap_base.specs.declared.event.Event.{Event}
-use Rattle.eap_base.specs.declared.setup.Setup.{Setup}
+use Rattle.login_setup.specs.declared.event.Event.{Event}
+use Rattle.login_setup.specs.declared.setup.Setup.{Setup}
 use Rattle.eap_world.specs.Book.{first_broken, tags_verdict, tags_verdict_either}
 use Rattle.eap_world.specs.declared.book.Makers.TheVariants.{Either}
 use Rattle.eap_world.specs.declared.book.TagsVerdict.TheVariants.{Honest}

@@ -2,9 +2,10 @@
 use Rattle.std.proofs.Common.{◌≡◌, ℕ, List, [], ◌∷◌, ◌++◌, Bool, true, false, if◌then◌else◌, Option, Some, None, Ok, refl, sym, ap, ◌∙◌, subst, arith, append-nil}
 use Rattle.std.specs.Prelude.{◌==◌}
 use Rattle.std.proofs.lemmas.Bool.{cond_both, eqb-true, true≢false, false≢true}
-use Rattle.eap_base.specs.declared.setup.PeerSetup.{PeerSetup}
-use Rattle.eap_base.specs.declared.setup.Suite.{Suite}
-use Rattle.eap_base.specs.Setup.{psk_kind, gpsk_kind, is_among, accepts_name}
+use Rattle.login_setup.specs.declared.setup.PeerSetup.{PeerSetup}
+use Rattle.eap_base.specs.declared.suite.Suite.{Suite}
+use Rattle.eap_base.specs.Among.{psk_kind, gpsk_kind, is_among}
+use Rattle.login_setup.specs.Setup.{accepts_name}
 use Rattle.eap_packet.specs.declared.cause.Cause.{Cause}
 use Rattle.eap_packet.specs.declared.state.State.{State}
 use Rattle.gpsk_messages.specs.Message.{Message, gpsk1, gpsk3, protected_fail, covered_of}

@@ -1,8 +1,8 @@
 -- What a tag that the peer made tells of the conversation in which it did: both nonces.
 use Rattle.std.proofs.Common.{◌≡◌, ℕ, ◌≤◌, List, [], ◌++◌, length, Option, Some, refl, sym, ap, ◌∙◌, arith, length-append, inl, inr}
 use Rattle.std.specs.Int.{w32, to_be_bytes}
-use Rattle.eap_base.specs.declared.setup.PeerSetup.{PeerSetup}
-use Rattle.eap_base.specs.Setup.{psk_kind, gpsk_kind}
+use Rattle.login_setup.specs.declared.setup.PeerSetup.{PeerSetup}
+use Rattle.eap_base.specs.Among.{psk_kind, gpsk_kind}
 use Rattle.gpsk_messages.specs.Message.{sized, covered_of}
 use Rattle.eap_method.specs.declared.tags.Label.TheVariants.{Ak, Tek}
 use Rattle.eap_method.specs.declared.tags.TagRecord.{TagRecord}

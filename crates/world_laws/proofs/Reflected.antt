@@ -1,9 +1,9 @@
 -- No end takes its own tags for the other's, in whichever conversation it made them, where the peer succeeds by EAP-PSK.
 use Rattle.std.proofs.Common.{◌≡◌, ℕ, List, [], length, true, Option, Some, refl, sym, ap, subst, ◌∙◌, arith, inl, inr}
 use Rattle.std.specs.Prelude.{◌⊎◌}
-use Rattle.eap_base.specs.declared.setup.PeerSetup.{PeerSetup}
-use Rattle.eap_base.specs.declared.setup.Setup.{Setup}
-use Rattle.eap_base.specs.Setup.{psk_kind, gpsk_kind}
+use Rattle.login_setup.specs.declared.setup.PeerSetup.{PeerSetup}
+use Rattle.login_setup.specs.declared.setup.Setup.{Setup}
+use Rattle.eap_base.specs.Among.{psk_kind, gpsk_kind}
 use Rattle.eap_method.specs.declared.tags.TagRecord.{TagRecord}
 use Rattle.eap_method.specs.Peer.{PeerViews}
 use Rattle.eap_method.specs.PskPeer as psk

@@ -1,9 +1,9 @@
 -- A conversation of the peer on which one of the server in SUCCESS rests leads to just what that reports: by EAP-PSK where it rests on
 -- the server's in its turn, as MAC_S covers ID_S.
 use Rattle.std.proofs.Common.{◌≡◌, ℕ, List, [], ◌∷◌, length, Option, Some, refl, sym, ap, ◌∙◌, inl, inr}
-use Rattle.eap_base.specs.Setup.{psk_kind}
-use Rattle.eap_base.specs.declared.setup.PeerSetup.{PeerSetup}
-use Rattle.eap_base.specs.declared.setup.ServerSetup.{ServerSetup}
+use Rattle.eap_base.specs.Among.{psk_kind}
+use Rattle.login_setup.specs.declared.setup.PeerSetup.{PeerSetup}
+use Rattle.login_setup.specs.declared.setup.ServerSetup.{ServerSetup}
 use Rattle.eap_method.specs.declared.tags.TagRecord.{TagRecord}
 use Rattle.eap_method.specs.Peer.{PeerViews}
 use Rattle.eap_method.specs.PskPeer as psk_peer

@@ -2,9 +2,9 @@
 use Rattle.std.proofs.Common.{◌≡◌, ℕ, List, [], Bool, true, false, ◌&&◌, Option, Some, None, Ok, refl, sym, ap, subst, ◌∙◌}
 use Rattle.std.specs.Prelude.{◌==◌, not}
 use Rattle.std.proofs.lemmas.Bool.{and_parts, cond_both, not-true}
-use Rattle.eap_base.specs.declared.setup.ServerSetup.{ServerSetup}
-use Rattle.eap_base.specs.declared.users.User.{User}
-use Rattle.eap_base.specs.Setup.{psk_kind, gpsk_kind}
+use Rattle.login_setup.specs.declared.setup.ServerSetup.{ServerSetup}
+use Rattle.login_setup.specs.declared.users.User.{User}
+use Rattle.eap_base.specs.Among.{psk_kind, gpsk_kind}
 use Rattle.eap_packet.specs.Expanded.{expanded_kind, is_nak_body}
 use Rattle.eap_packet.specs.Fault.{code_of, packet_of}
 use Rattle.eap_packet.specs.Packet.{response, spelled}

@@ -3,8 +3,8 @@ use Rattle.std.proofs.Common.{◌≡◌, ℕ, ◌+◌, List, ◌++◌, Bool, tru
 use Rattle.std.specs.Prelude.{◌==◌, ◌%◌, not}
 use Rattle.std.specs.List.{list_any}
 use Rattle.std.proofs.lemmas.Bool.{and_parts, cond_both, eqb-true, false≢true}
-use Rattle.eap_base.specs.Setup.{psk_kind, gpsk_kind}
-use Rattle.eap_base.specs.declared.users.User.{User}
+use Rattle.eap_base.specs.Among.{psk_kind, gpsk_kind}
+use Rattle.login_setup.specs.declared.users.User.{User}
 use Rattle.eap_packet.specs.Fault.{code_of}
 use Rattle.eap_packet.specs.Packet.{request, success, failure, spelled}
 use Rattle.eap_packet.specs.declared.cause.Cause.{Cause}

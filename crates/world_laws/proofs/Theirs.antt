@@ -1,9 +1,9 @@
 -- What two ends that have succeeded in one login report is their own: names, key and suite.
 use Rattle.std.proofs.Common.{◌≡◌, ℕ, List, true, false, Some, refl, sym, ap, ◌∙◌, arith}
-use Rattle.eap_base.specs.declared.setup.PeerSetup.{PeerSetup}
-use Rattle.eap_base.specs.declared.setup.Setup.{Setup}
-use Rattle.eap_base.specs.Setup.{psk_kind, gpsk_kind}
-use Rattle.eap_base.specs.Users.{user_of}
+use Rattle.login_setup.specs.declared.setup.PeerSetup.{PeerSetup}
+use Rattle.login_setup.specs.declared.setup.Setup.{Setup}
+use Rattle.eap_base.specs.Among.{psk_kind, gpsk_kind}
+use Rattle.login_setup.specs.Users.{user_of}
 use Rattle.login_policy.specs.Policy.{picked_suite}
 use Rattle.eap_method.specs.declared.values.Credential.{Credential}
 use Rattle.eap_method.specs.GpskPeer as gpsk_peer

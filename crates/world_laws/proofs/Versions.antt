@@ -1,7 +1,7 @@
 -- The version of a scenario's text stays in its world.
 use Rattle.std.proofs.Common.{◌≡◌, List, [], ◌∷◌, refl}
-use Rattle.eap_base.specs.declared.event.Event.{Event}
-use Rattle.eap_base.specs.declared.setup.Setup.{Setup}
+use Rattle.login_setup.specs.declared.event.Event.{Event}
+use Rattle.login_setup.specs.declared.setup.Setup.{Setup}
 use Rattle.eap_world.specs.Run.{run_of}
 use Rattle.eap_world.specs.World.{WorldNow, run_after, world_made, world_start, world_step}
 

@@ -1,7 +1,7 @@
 -- In every run, what two ends that both stand in SUCCESS report over an honest book is their own: names, key and suite.
 use Rattle.std.proofs.Common.{◌≡◌, List, [], length, true, inl, inr}
-use Rattle.eap_base.specs.declared.setup.Setup.{Setup}
-use Rattle.eap_base.specs.declared.event.Event.{Event}
+use Rattle.login_setup.specs.declared.setup.Setup.{Setup}
+use Rattle.login_setup.specs.declared.event.Event.{Event}
 use Rattle.eap_world.specs.Book.{first_broken, tags_verdict, tags_verdict_either}
 use Rattle.eap_world.specs.declared.book.Makers.TheVariants.{Either}
 use Rattle.eap_world.specs.declared.book.TagsVerdict.TheVariants.{Honest}

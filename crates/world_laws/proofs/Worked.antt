@@ -1,14 +1,14 @@
 -- The Identity round (RFC 3748 section 2), computed from the definitions alone.
 use Rattle.std.proofs.Common.{◌≡◌, List, [], ◌∷◌, true, false, refl, Some, None}
 use Rattle.std.specs.Prelude.{codes, map, replicate}
-use Rattle.eap_base.specs.Setup.{no_later}
-use Rattle.eap_base.specs.declared.setup.Setup.{Setup}
-use Rattle.eap_base.specs.declared.setup.Mode.TheVariants as mode
-use Rattle.eap_base.specs.declared.setup.Accepts.TheVariants.{One}
-use Rattle.eap_base.specs.declared.setup.Party.TheVariants as party
-use Rattle.eap_base.specs.declared.setup.Port.TheVariants as port
-use Rattle.eap_base.specs.declared.event.Event.{Event}
-use Rattle.eap_base.specs.declared.event.Event.TheVariants.{Deliver}
+use Rattle.login_setup.specs.Setup.{no_later}
+use Rattle.login_setup.specs.declared.setup.Setup.{Setup}
+use Rattle.login_setup.specs.declared.setup.Mode.TheVariants as mode
+use Rattle.login_setup.specs.declared.setup.Accepts.TheVariants.{One}
+use Rattle.login_setup.specs.declared.setup.Party.TheVariants as party
+use Rattle.login_setup.specs.declared.setup.Port.TheVariants as port
+use Rattle.login_setup.specs.declared.event.Event.{Event}
+use Rattle.login_setup.specs.declared.event.Event.TheVariants.{Deliver}
 use Rattle.eap_packet.specs.declared.state.State.TheVariants as state
 use Rattle.eap_packet.specs.Packet.{spelled}
 use Rattle.eap_packet.specs.Fault.{fault, packet_of}

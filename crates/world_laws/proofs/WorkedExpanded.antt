@@ -1,12 +1,12 @@
 -- A proposal that is refused between ends that read Expanded Types (RFC 3748 section 5.7), computed from the definitions alone.
 use Rattle.std.proofs.Common.{◌≡◌, List, [], ◌∷◌, ◌++◌, true, refl, None}
 use Rattle.std.specs.Prelude.{codes, map, replicate}
-use Rattle.eap_base.specs.Setup.{no_later}
-use Rattle.eap_base.specs.declared.setup.Setup.{Setup}
-use Rattle.eap_base.specs.declared.setup.Mode.TheVariants as mode
-use Rattle.eap_base.specs.declared.setup.Accepts.TheVariants.{One}
-use Rattle.eap_base.specs.declared.event.Event.{Event}
-use Rattle.eap_base.specs.declared.event.Event.TheVariants.{Deliver}
+use Rattle.login_setup.specs.Setup.{no_later}
+use Rattle.login_setup.specs.declared.setup.Setup.{Setup}
+use Rattle.login_setup.specs.declared.setup.Mode.TheVariants as mode
+use Rattle.login_setup.specs.declared.setup.Accepts.TheVariants.{One}
+use Rattle.login_setup.specs.declared.event.Event.{Event}
+use Rattle.login_setup.specs.declared.event.Event.TheVariants.{Deliver}
 use Rattle.eap_packet.specs.Expanded.{are_expanded}
 use Rattle.eap_packet.specs.Packet as packets
 use Rattle.eap_packet.specs.Fault.{fault, packet_of}

@@ -1,12 +1,13 @@
 -- Agreement over an altering network, where each end may begin new conversations.
 use Rattle.std.specs.Prelude.{◌≡◌, ◌≤◌, ◌⊎◌, ◌+◌, ◌*◌, List, [], length, true, false, Some, All}
-use Rattle.eap_base.specs.declared.event.Event.{Event}
-use Rattle.eap_base.specs.declared.setup.Setup.{Setup}
-use Rattle.eap_base.specs.declared.setup.Suite.{Suite}
-use Rattle.eap_base.specs.declared.users.User.{User}
-use Rattle.eap_base.specs.Setup.{IsSoundPeer, IsSoundServer, HasKeys, gpsk_kind}
+use Rattle.login_setup.specs.declared.event.Event.{Event}
+use Rattle.login_setup.specs.declared.setup.Setup.{Setup}
+use Rattle.eap_base.specs.declared.suite.Suite.{Suite}
+use Rattle.login_setup.specs.declared.users.User.{User}
+use Rattle.eap_base.specs.Among.{gpsk_kind}
+use Rattle.login_setup.specs.Setup.{IsSoundPeer, IsSoundServer, HasKeys}
 use Rattle.eap_base.specs.Suite.{suite_number}
-use Rattle.eap_base.specs.Users.{user_of}
+use Rattle.login_setup.specs.Users.{user_of}
 use Rattle.login_policy.specs.Policy.{picked_suite}
 use Rattle.eap_method.specs.declared.values.Report.{Report}
 use Rattle.eap_method.specs.GpskTags.{suite_list}

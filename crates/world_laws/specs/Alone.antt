@@ -1,10 +1,10 @@
 -- What one end's success tells by itself of the other end.
 use Rattle.std.specs.Prelude.{◌≡◌, ℕ, List, ◌++◌, length, true, Option, Some}
-use Rattle.eap_base.specs.declared.event.Event.{Event}
-use Rattle.eap_base.specs.declared.setup.Setup.{Setup}
-use Rattle.eap_base.specs.declared.users.User.{User}
-use Rattle.eap_base.specs.Setup.{gpsk_kind, psk_kind}
-use Rattle.eap_base.specs.Users.{user_of}
+use Rattle.login_setup.specs.declared.event.Event.{Event}
+use Rattle.login_setup.specs.declared.setup.Setup.{Setup}
+use Rattle.login_setup.specs.declared.users.User.{User}
+use Rattle.eap_base.specs.Among.{gpsk_kind, psk_kind}
+use Rattle.login_setup.specs.Users.{user_of}
 use Rattle.eap_method.specs.declared.tags.TagRecord.{TagRecord}
 use Rattle.eap_method.specs.declared.values.Report.{Report}
 use Rattle.eap_method.specs.Peer.{key_for}

@@ -1,8 +1,8 @@
 -- Laws of both ends over events.
 use Rattle.std.specs.Prelude.{◌≡◌, ◌+◌, List, [], true, None, IsSome}
-use Rattle.eap_base.specs.declared.event.Event.{Event}
-use Rattle.eap_base.specs.declared.setup.Party.{Party}
-use Rattle.eap_base.specs.declared.setup.Setup.{Setup}
+use Rattle.login_setup.specs.declared.event.Event.{Event}
+use Rattle.login_setup.specs.declared.setup.Party.{Party}
+use Rattle.login_setup.specs.declared.setup.Setup.{Setup}
 use Rattle.eap_world.specs.declared.world.Held.{Held}
 use Rattle.eap_world.specs.World.{WorldNow, WorldOutcome, Parties, has_held, report_of, world_made, world_start, world_step, run_after}
 

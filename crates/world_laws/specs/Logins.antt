@@ -1,6 +1,6 @@
 -- The report that the login in a view leads to, from the moment at which its end holds the other's nonce, whether it is over or not.
 use Rattle.std.specs.Prelude.{ℕ, Bool, true, false, ◌==◌, Option, Some, None}
-use Rattle.eap_base.specs.Setup.{psk_kind, gpsk_kind}
+use Rattle.eap_base.specs.Among.{psk_kind, gpsk_kind}
 use Rattle.eap_method.specs.declared.values.Report.{Report}
 use Rattle.eap_method.specs.GpskPeer as gpsk_peer
 use Rattle.eap_method.specs.GpskServer as gpsk_server

@@ -1,14 +1,14 @@
 -- What comes to the pass-through in a run, and what it sends: it learns nothing but what it is handed, and its inputs decide what it
 -- sends.
 use Rattle.std.specs.Prelude.{◌≡◌, ℕ, List, [], ◌∷◌, ◌++◌, All, map, take, Option, Some, None}
-use Rattle.eap_base.specs.declared.event.Event.{Event}
-use Rattle.eap_base.specs.declared.event.Event.TheVariants as event
-use Rattle.eap_base.specs.declared.setup.Mode.TheVariants as mode
-use Rattle.eap_base.specs.declared.setup.Party.{Party}
-use Rattle.eap_base.specs.declared.setup.Party.TheVariants as party
-use Rattle.eap_base.specs.declared.setup.Port.{Port}
-use Rattle.eap_base.specs.declared.setup.Port.TheVariants as port
-use Rattle.eap_base.specs.declared.setup.Setup.{Setup}
+use Rattle.login_setup.specs.declared.event.Event.{Event}
+use Rattle.login_setup.specs.declared.event.Event.TheVariants as event
+use Rattle.login_setup.specs.declared.setup.Mode.TheVariants as mode
+use Rattle.login_setup.specs.declared.setup.Party.{Party}
+use Rattle.login_setup.specs.declared.setup.Party.TheVariants as party
+use Rattle.login_setup.specs.declared.setup.Port.{Port}
+use Rattle.login_setup.specs.declared.setup.Port.TheVariants as port
+use Rattle.login_setup.specs.declared.setup.Setup.{Setup}
 use Rattle.pass_through.specs.Inputs.{PassInput, from_peer, from_backend}
 use Rattle.pass_through.specs.PassTable.{pass_made}
 use Rattle.pass_through.specs.Runs.{IsCarried, SentOn, pass_after, pass_sends}

@@ -1,8 +1,9 @@
 -- What holds of the peer at every moment of a run, with the tags that it has accepted and made: the view of
 -- its method tells them exactly, also where the login has failed.
 use Rattle.std.specs.Prelude.{◌≡◌, ℕ, List, [], ◌∷◌, length, Bool, true, false, if◌then◌else◌, Option, None, Some}
-use Rattle.eap_base.specs.declared.setup.PeerSetup.{PeerSetup}
-use Rattle.eap_base.specs.Setup.{psk_kind, gpsk_kind, is_among, accepts_name}
+use Rattle.login_setup.specs.declared.setup.PeerSetup.{PeerSetup}
+use Rattle.eap_base.specs.Among.{psk_kind, gpsk_kind, is_among}
+use Rattle.login_setup.specs.Setup.{accepts_name}
 use Rattle.gpsk_messages.specs.Message.{Message, gpsk3}
 use Rattle.eax_mode.specs.Eax.{eax_tag}
 use Rattle.login_policy.specs.Policy.{picked_suite}

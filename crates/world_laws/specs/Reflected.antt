@@ -1,8 +1,8 @@
 -- Agreement where tags may come back to their maker, and ends may begin new conversations.
 use Rattle.std.specs.Prelude.{◌≡◌, List, true, Some}
-use Rattle.eap_base.specs.declared.event.Event.{Event}
-use Rattle.eap_base.specs.declared.setup.Setup.{Setup}
-use Rattle.eap_base.specs.Setup.{psk_kind}
+use Rattle.login_setup.specs.declared.event.Event.{Event}
+use Rattle.login_setup.specs.declared.setup.Setup.{Setup}
+use Rattle.eap_base.specs.Among.{psk_kind}
 use Rattle.eap_world.specs.Run.{run_of}
 use Rattle.world_laws.specs.Agreement.{AreTheirs, HoldEachOther, IsWhole}
 use Rattle.eap_world.specs.Book.{tags_verdict_either}

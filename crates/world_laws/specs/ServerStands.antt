@@ -1,11 +1,11 @@
 -- What holds of the server at every moment of a run, with the tags that it has accepted and made: the view
 -- of its current method tells them exactly, also where the login has failed.
 use Rattle.std.specs.Prelude.{◌≡◌, ℕ, List, [], ◌∷◌, length, drop, Bool, true, false, Option, None, Some}
-use Rattle.eap_base.specs.declared.setup.ServerSetup.{ServerSetup}
-use Rattle.eap_base.specs.declared.users.User.{User}
-use Rattle.eap_base.specs.Setup.{psk_kind, gpsk_kind, is_among}
+use Rattle.login_setup.specs.declared.setup.ServerSetup.{ServerSetup}
+use Rattle.login_setup.specs.declared.users.User.{User}
+use Rattle.eap_base.specs.Among.{psk_kind, gpsk_kind, is_among}
 use Rattle.eap_base.specs.Suite.{suite_number}
-use Rattle.eap_base.specs.Users.{user_of}
+use Rattle.login_setup.specs.Users.{user_of}
 use Rattle.gpsk_messages.specs.Message.{Message, gpsk2, gpsk4}
 use Rattle.eax_mode.specs.Eax.{eax_tag}
 use Rattle.eap_method.specs.declared.tags.TagRecord.{TagRecord}

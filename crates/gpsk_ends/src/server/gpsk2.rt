@@ -1,8 +1,9 @@
 //! GPSK-2 is checked, and answered (RFC 5433 section 10).
 
 ghost use Rattle.std.specs.Prelude.{◌≡◌, ◌≤◌, length, true, All, IsTrue, IfSome, None, option_copied};
-ghost use Rattle.eap_base.specs.Setup.{fits_kind, gpsk_kind};
-ghost use Rattle.eap_base.specs.Users.{user_of};
+ghost use Rattle.eap_base.specs.Among.{gpsk_kind};
+ghost use Rattle.login_setup.specs.Setup.{fits_kind};
+ghost use Rattle.login_setup.specs.Users.{user_of};
 ghost use Rattle.gpsk_messages.specs.Message.{message_of};
 ghost use Rattle.gpsk_messages.specs.Reading.{read_of};
 ghost use Rattle.eap_method.specs.GpskServer.{refuses, answers, checks, asked_hears, asked_reads};
@@ -14,10 +15,11 @@ ghost use Rattle.eap_method.specs.declared.turn.ServerTurn.TheVariants.{Request}
 use crate::hearing::hear;
 use crate::server::login::{Begun, Login};
 use crate::server::stage::{Answered, Phase};
-use eap_base::{GPSK_KIND, Packet, User, Users};
+use eap_base::{GPSK_KIND, Packet};
 use eap_method::Tags;
 use eap_packet::{Cause, Code};
 use gpsk_messages::{GpskView, write_gpsk_into};
+use login_setup::{User, Users};
 
 /// Failure-Code PSK Not Found (RFC 5433 section 9.3).
 pub const PSK_NOT_FOUND: u32 = 1;

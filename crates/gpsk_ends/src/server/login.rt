@@ -1,7 +1,7 @@
 //! What a server keeps of a login, and the messages that it makes of it.
 
 ghost use Rattle.std.specs.Prelude.{◌≡◌, ◌≤◌, ◌+◌, ◌∷◌, [], length};
-ghost use Rattle.eap_base.specs.Setup.{is_among};
+ghost use Rattle.eap_base.specs.Among.{is_among};
 ghost use Rattle.eap_base.specs.Suite.{ks_of, suite_number};
 ghost use Rattle.eap_packet.specs.declared.packet.Code.TheVariants as code;
 ghost use Rattle.gpsk_messages.specs.Message.{message_of, mac_of, size_of, without_mac};
@@ -13,10 +13,11 @@ ghost use Rattle.gpsk_ends.specs.Sealed.{packet_of, record_of};
 use crate::keys::Keys;
 use crate::records::record;
 use crate::sealing::mac_place;
-use eap_base::{GPSK_KIND, Identity, Nonce, Octets, Packet, Secret, Suite, User};
+use eap_base::{GPSK_KIND, Identity, Nonce, Octets, Packet, Secret, Suite};
 use eap_method::{Report, ServerSide, TagList};
 use eap_packet::Code;
 use gpsk_messages::{GpskView, write_gpsk_into};
+use login_setup::User;
 use std::marker::Model;
 
 /// Failure-Code Authorization Failure (RFC 5433 section 9.3).

@@ -1,7 +1,7 @@
 //! A server's first Request, and its turn for each Response (RFC 5433 section 10).
 
 ghost use Rattle.std.specs.Prelude.{◌≡◌, ◌≤◌, ℕ, List, ◌∷◌, [], length, true, All, IsTrue, None, Some, option_map};
-ghost use Rattle.eap_base.specs.Setup.{fits_kind};
+ghost use Rattle.login_setup.specs.Setup.{fits_kind};
 ghost use Rattle.eap_base.specs.Suite.{ks_of};
 ghost use Rattle.gpsk_messages.specs.Message.{message_of};
 ghost use Rattle.gpsk_messages.specs.Reading.{read_of};
@@ -20,10 +20,11 @@ use crate::hearing::hear;
 use crate::server::gpsk2::{PSK_NOT_FOUND, asked_reads};
 use crate::server::login::{AUTHORIZATION_FAILURE, Login};
 use crate::server::stage::{Alone, Answered, Phase, Stage};
-use eap_base::{Packet, Suite, Users};
+use eap_base::{Packet, Suite};
 use eap_method::{ServerTurn, Tags};
 use eap_packet::Cause;
 use gpsk_messages::GpskView;
+use login_setup::Users;
 
 /// The first Request of a server that has begun. Any other makes an empty packet, and stays where it
 /// stands.

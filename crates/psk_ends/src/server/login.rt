@@ -9,9 +9,10 @@ use crate::channel::{DONE_FAILURE, DONE_SUCCESS};
 use crate::octets::rand_of;
 use crate::records::{add_mac_p, add_mac_s};
 use cmac_mac::CmacKey;
-use eap_base::{Identity, Nonce, Octets, PSK_KIND, Secret, User};
+use eap_base::{Identity, Nonce, Octets, PSK_KIND, Secret};
 use eap_method::{Report, ServerSide, TagList, mac_p, mac_s};
 use login_keys::{PskKeys, psk_session};
+use login_setup::User;
 use std::marker::Model;
 
 /// What a server brings into a login, its users apart.

@@ -1,8 +1,9 @@
 //! PSK-2 is checked, and answered by PSK-3 (RFC 4764 sections 5.2 and 5.3).
 
 ghost use Rattle.std.specs.Prelude.{◌≡◌, ◌≤◌, [], length, All, IsTrue, Some, IfSome, IfOk};
-ghost use Rattle.eap_base.specs.Setup.{fits_kind, psk_kind};
-ghost use Rattle.eap_base.specs.Users.{user_of};
+ghost use Rattle.eap_base.specs.Among.{psk_kind};
+ghost use Rattle.login_setup.specs.Setup.{fits_kind};
+ghost use Rattle.login_setup.specs.Users.{user_of};
 ghost use Rattle.psk_messages.specs.Message.{psk3};
 ghost use Rattle.eap_method.specs.Room.{HasRoom};
 ghost use Rattle.eap_method.specs.Tags.{no_tags};
@@ -15,10 +16,11 @@ use crate::keys::long_keys;
 use crate::octets::rand_of;
 use crate::server::login::{Begun, Login};
 use cmac_mac::CmacKey;
-use eap_base::{PSK_KIND, Packet, User, Users, equal_in_full};
+use eap_base::{PSK_KIND, Packet, equal_in_full};
 use eap_method::{TagList, Tags};
 use eap_packet::{Cause, Code};
 use login_keys::PskLong;
+use login_setup::{User, Users};
 use psk_messages::{PskView, write_psk_into};
 
 /// The fields of PSK-2 but its name.

@@ -1,8 +1,8 @@
 //! A server's first Request, and its turn for each Response (RFC 4764 section 4).
 
 ghost use Rattle.std.specs.Prelude.{◌≡◌, ℕ, ◌≤◌, List, length, true, All, IsTrue, IfSome, IfOk};
-ghost use Rattle.eap_base.specs.declared.users.User.{User};
-ghost use Rattle.eap_base.specs.Setup.{fits_kind};
+ghost use Rattle.login_setup.specs.declared.users.User.{User};
+ghost use Rattle.login_setup.specs.Setup.{fits_kind};
 ghost use Rattle.psk_messages.specs.Message.{message_of, AreFields};
 ghost use Rattle.psk_messages.specs.Reading.{read_of};
 ghost use Rattle.eap_method.specs.Room.{HasRoom, requests};
@@ -17,9 +17,10 @@ use crate::server::login::{Begun, Login};
 use crate::server::psk3::{Psk2, hears_psk2};
 use crate::server::psk4::{Psk4, hears_psk4};
 use crate::server::stage::{EarlyPhase, KnownPhase, Stage};
-use eap_base::{Packet, Users};
+use eap_base::Packet;
 use eap_method::{ServerTurn, Tags};
 use eap_packet::{Cause, Code};
+use login_setup::Users;
 use psk_messages::{PskView, write_psk_into};
 
 /// Writes PSK-1 (RFC 4764 section 5.1).

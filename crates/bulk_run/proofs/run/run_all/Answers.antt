@@ -1,5 +1,5 @@
 use Rattle.std.proofs.Common.{◌+◌, ◌*◌, ◌∷◌, [], ap, ◌∙◌, arith}
-use Rattle.eap_base.specs.Setup.{gpsk_kind}
+use Rattle.eap_base.specs.Among.{gpsk_kind}
 use Rattle.eap_method.specs.Peer.{have_each}
 use Rattle.bulk_run.specs.Kinds.{Kinds}
 use Rattle.bulk_run.specs.Summing.{drawn_each}

@@ -1,5 +1,5 @@
 use Rattle.std.proofs.Common.{◌≡◌, ◌*◌, ◌∷◌, [], map, true}
-use Rattle.eap_base.specs.Setup.{gpsk_kind}
+use Rattle.eap_base.specs.Among.{gpsk_kind}
 use Rattle.eap_method.specs.Peer.{peer_kinds, have_each}
 use Rattle.eap_method.specs.Server.{server_kinds}
 use Rattle.bulk_run.specs.Draws.{state_at}

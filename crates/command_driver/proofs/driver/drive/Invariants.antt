@@ -1,5 +1,5 @@
 use Rattle.std.proofs.Common.{◌≡◌, ◌≤◌, ◌-◌, ℕ, List, Some, false}
-use Rattle.eap_base.specs.Lines.{lines, lines_left, max_input}
+use Rattle.octet_io.specs.Lines.{lines, lines_left, max_input}
 use Rattle.command_driver.proofs.Driving.{Underway}
 use Rattle.command_driver.proofs.driver.drive.Given as goal
 

@@ -1,5 +1,5 @@
 use Rattle.std.proofs.Common.{◌≡◌, ◌++◌, true}
-use Rattle.eap_base.specs.Setup.{are_kinds}
+use Rattle.login_setup.specs.Setup.{are_kinds}
 use Rattle.login_policy.specs.Expanded.{kinds_in, expanded_kinds}
 use Rattle.login_policy.proofs.expanded.expanded_kinds.Given as goal
 

@@ -1,5 +1,5 @@
 use Rattle.std.proofs.Common.{◌≡◌, refl, sym, subst, inl}
-use Rattle.eap_base.specs.Setup.{psk_kind, gpsk_kind}
+use Rattle.eap_base.specs.Among.{psk_kind, gpsk_kind}
 use Rattle.eap_method.specs.Peer.{peer_kind}
 use Rattle.eap_method.specs.Server.{server_kind}
 use Rattle.login_run.proofs.program.answer.OwnLists as own

@@ -1,5 +1,5 @@
 use Rattle.std.proofs.Common.{None, sym, refl, ap}
-use Rattle.eap_base.specs.Lines.{lines}
+use Rattle.octet_io.specs.Lines.{lines}
 use Rattle.scenario_text.specs.Reading.{Reading, no_settings}
 use Rattle.scenario_text.specs.declared.scenario.Phase.TheVariants.{Unread}
 use Rattle.trace_text.specs.Writes.{Appends}

@@ -1,7 +1,7 @@
 -- The users with one more have keys of their methods' sizes.
 use Rattle.std.proofs.Common.{All, IsTrue, sym, subst}
-use Rattle.eap_base.specs.Setup.{fits_kind}
-use Rattle.eap_base.specs.declared.users.User.{User}
+use Rattle.login_setup.specs.Setup.{fits_kind}
+use Rattle.login_setup.specs.declared.users.User.{User}
 use Rattle.text_tables.proofs.Adding.{with_user-all}
 use Rattle.request_text.proofs.capture.CaptureReader.add.Goals as goal
 

@@ -1,7 +1,7 @@
 -- The settings with one more are within their limits, and whole where the line `events` was taken.
 use Rattle.std.proofs.Common.{◌≡◌, false, IsOk, is_err, sym, subst}
 use Rattle.scenario_text.specs.Reading.{Reading, setup_of}
-use Rattle.eap_base.specs.declared.event.Event.TheVariants as event
+use Rattle.login_setup.specs.declared.event.Event.TheVariants as event
 use Rattle.scenario_text.specs.Valid.{AreValid}
 use Rattle.scenario_text.proofs.ValidReading.{with_setting_valid, whole}
 use Rattle.scenario_text.proofs.scenario.ScenarioReader.add.Goals as goal

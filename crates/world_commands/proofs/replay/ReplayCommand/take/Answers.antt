@@ -1,6 +1,6 @@
 -- Where the settings are whole, the line starts the world of the setup that the reader gives.
 use Rattle.std.proofs.Common.{◌≡◌, Result, Ok, Err, IsOk, refl, subst, sym}
-use Rattle.eap_base.specs.declared.setup.Setup.{Setup}
+use Rattle.login_setup.specs.declared.setup.Setup.{Setup}
 use Rattle.text_tables.specs.Fields.{◌>>=◌}
 use Rattle.scenario_text.specs.Items as item
 use Rattle.scenario_text.specs.Reading.{Reading, ReadLine, setup_of, read_line}

@@ -1,6 +1,0 @@
-use Rattle.std.proofs.Common.{◌==◌, arith}
-use Rattle.eap_base.proofs.LineLaws.{place_or_all}
-use Rattle.eap_base.proofs.lines.octets_before_lf.Goals as goal
-
-pub returns-clause-count : goal.returns-clause-count
-returns-clause-count c = grind (arith, place_or_all (λ b. b == 10) c.args.octets.now)

@@ -1,0 +1,2 @@
+mod SetupRows
+pub mod UserLists

@@ -1,0 +1,42 @@
+-- The soundness of settings at worked values.
+use Rattle.std.proofs.Common.{◌≡◌, true, false, [], ◌∷◌, replicate, refl}
+use Rattle.login_setup.specs.Setup.{are_kinds, are_suites, fits_kind}
+
+pub both_kinds : are_kinds (51 ∷ 47 ∷ []) ≡ true
+both_kinds = refl
+
+pub no_kinds : are_kinds [] ≡ true
+no_kinds = refl
+
+pub kind_twice : are_kinds (51 ∷ 51 ∷ []) ≡ false
+kind_twice = refl
+
+pub other_kind : are_kinds (4 ∷ 47 ∷ []) ≡ false
+other_kind = refl
+
+pub both_suites : are_suites (2 ∷ 1 ∷ []) ≡ true
+both_suites = refl
+
+pub no_suites : are_suites [] ≡ false
+no_suites = refl
+
+pub suite_twice : are_suites (1 ∷ 1 ∷ []) ≡ false
+suite_twice = refl
+
+pub suite_three : are_suites (3 ∷ []) ≡ false
+suite_three = refl
+
+pub psk_key : fits_kind 47 (replicate 16 7) ≡ true
+psk_key = refl
+
+pub long_psk_key : fits_kind 47 (replicate 17 7) ≡ false
+long_psk_key = refl
+
+pub short_gpsk_key : fits_kind 51 (replicate 31 7) ≡ false
+short_gpsk_key = refl
+
+pub gpsk_keys : (fits_kind 51 (replicate 32 7) ≡ true) × (fits_kind 51 (replicate 64 7) ≡ true)
+gpsk_keys = (refl, refl)
+
+pub long_gpsk_key : fits_kind 51 (replicate 65 7) ≡ false
+long_gpsk_key = refl

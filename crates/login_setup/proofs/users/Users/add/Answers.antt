@@ -1,0 +1,11 @@
+use Rattle.std.proofs.Common.{◌≡◌, None, ◌++◌, ◌∷◌, []}
+use Rattle.login_setup.specs.Users.{user_of, AreDistinct}
+use Rattle.login_setup.proofs.UserLists.{AreDistinct-push, none_copied}
+use Rattle.login_setup.proofs.users.Users.add.Goals as goal
+
+pub invariant_of-self : goal.invariant_of-self
+invariant_of-self c =
+    let none = none_copied c.find.result c.is_some.result c.is_some.ensures c.if-is_some.false in
+    let absent : user_of c.self.inside.list.items c.args.user.name c.args.user.kind ≡ None = cc in
+    let pushed : AreDistinct (c.self.inside.list.items ++ c.args.user ∷ []) = AreDistinct-push c.self.inside.list.items c.args.user c.self.invariant absent in
+    rw c.push.ensures.items pushed

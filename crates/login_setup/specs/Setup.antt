@@ -1,0 +1,52 @@
+-- When the settings of an end are sound: its methods, its suites and the keys that it holds.
+use Rattle.std.specs.Prelude.{ℕ, List, [], ◌∷◌, length, Bool, true, false, ◌==◌, ◌&&◌, ◌||◌, not, if◌then◌else◌, nat_le, IsTrue, IfSome, IsSome, All}
+use Rattle.std.specs.List.{list_any, list_all}
+use Rattle.std.specs.Str.{bytes_eq}
+use Rattle.eap_base.specs.Among.{is_among, are_distinct, is_filled, psk_kind, gpsk_kind, is_kind}
+use Rattle.login_setup.specs.declared.setup.Accepts.{Accepts}
+use Rattle.login_setup.specs.declared.setup.Accepts.TheVariants.{Any, One}
+use Rattle.login_setup.specs.declared.setup.Later.{Later}
+use Rattle.login_setup.specs.declared.setup.PeerSetup.{PeerSetup}
+use Rattle.login_setup.specs.declared.setup.ServerSetup.{ServerSetup}
+
+-- whether these are Types of the two methods, each at most once
+abbrev pub are_kinds : List ℕ → Bool
+are_kinds kinds = list_all is_kind kinds && are_distinct kinds
+
+-- whether these are one or two of the suites 1 and 2, each at most once (RFC 5433 section 6)
+abbrev pub are_suites : List ℕ → Bool
+are_suites suites = is_filled suites && (list_all (λ suite. (suite == 1) || (suite == 2)) suites && are_distinct suites)
+
+-- whether a key has the octets that the method wants: 16 for EAP-PSK, 32 to 64 for EAP-GPSK
+abbrev pub fits_kind : ℕ → List ℕ → Bool
+fits_kind kind key =
+    if kind == psk_kind then length key == 16
+    else (kind == gpsk_kind) && (nat_le 32 (length key) && nat_le (length key) 64)
+
+-- whether the peer accepts a server of this name
+abbrev pub accepts_name : Accepts → List ℕ → Bool
+accepts_name Any name = true
+accepts_name (One accepted) name = bytes_eq accepted name
+
+-- no later conversations, as a scenario of version 1 has them
+abbrev pub no_later : Later
+no_later = record { version = 1; peer = []; server = [] }
+
+-- the settings of a peer are sound
+pub record IsSoundPeer (setup : PeerSetup) : Type 0 where
+  pub methods : IsTrue (are_kinds setup.methods)
+  pub suites : IsTrue (are_suites setup.suites)
+  pub psk47 : IfSome setup.psk47 (λ key. IsTrue (fits_kind psk_kind key))
+  pub psk51 : IfSome setup.psk51 (λ key. IsTrue (fits_kind gpsk_kind key))
+
+-- the settings of a server are sound
+pub record IsSoundServer (setup : ServerSetup) : Type 0 where
+  pub methods : IsTrue (are_kinds setup.methods)
+  pub suites : IsTrue (are_suites setup.suites)
+  pub kinds : All (λ user. IsTrue (is_kind user.kind)) setup.users
+  pub keys : All (λ user. IsTrue (fits_kind user.kind user.psk)) setup.users
+
+-- a peer holds a key for each method that it allows
+pub record HasKeys (setup : PeerSetup) : Type 0 where
+  pub psk47 : IsTrue (is_among setup.methods psk_kind) → IsSome setup.psk47
+  pub psk51 : IsTrue (is_among setup.methods gpsk_kind) → IsSome setup.psk51

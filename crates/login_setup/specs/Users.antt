@@ -1,0 +1,21 @@
+-- The users of a server: at most 16, with distinct pairs of a name and a method.
+use Rattle.std.specs.Prelude.{◌≡◌, ℕ, ◌<◌, List, length, Bool, false, ◌&&◌, ◌==◌, Option, None, find, AllPairs}
+use Rattle.std.specs.Str.{bytes_eq}
+use Rattle.login_setup.specs.declared.users.User.{User}
+
+-- whether the user has this name and kind
+abbrev pub is_named : List ℕ → ℕ → User → Bool
+is_named name kind user = (user.kind == kind) && bytes_eq user.name name
+
+-- the user of this name and kind
+abbrev pub user_of : List User → List ℕ → ℕ → Option User
+user_of users name kind = find (is_named name kind) users
+
+-- there is room for the user: fewer than 16 are there, and none has its name and kind
+pub record HasRoom (users : List User) (user : User) : Type 0 where
+  pub few : length users < 16
+  pub absent : user_of users user.name user.kind ≡ None
+
+-- no two users have the same name and kind
+abbrev pub AreDistinct : List User → Type 0
+AreDistinct users = AllPairs (λ a b. is_named b.name b.kind a ≡ false) users

@@ -1,0 +1,31 @@
+//! The events of a run.
+
+use crate::setup::{Party, Port};
+use eap_base::Octets;
+
+/// What happens next: a delivery, the end of a timer, or a word of the lower layer.
+#[derive(Drop)]
+pub enum Event {
+    /// Packet `number`, counted from 1 in the order of sending, comes to its port.
+    Deliver { number: u32 },
+    /// The same, with the octet at `place` combined with `mask` by exclusive or.
+    Alter { number: u32, place: u16, mask: u8 },
+    /// The same, cut to its first `keep` octets.
+    Cut { number: u32, keep: u16 },
+    /// Any octets come to the port.
+    Inject { port: Port, octets: Octets<2000> },
+    /// The retransmission timer of the party ends.
+    Timeout { party: Party },
+    /// The pass-through's timer for the backend ends.
+    AaaTimeout,
+    /// The backend has no Request for the pass-through.
+    AaaNoReq,
+    /// The peer's lower layer is idle.
+    Idle,
+    /// The peer's lower layer reports success.
+    AltAccept,
+    /// The peer's lower layer reports failure.
+    AltReject,
+    /// The party begins a new conversation; the pass-through begins anew.
+    Restart { party: Party },
+}

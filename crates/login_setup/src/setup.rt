@@ -1,0 +1,209 @@
+//! The settings of a run: what each end is told before it begins.
+
+ghost use Rattle.std.specs.Prelude.{◌≡◌};
+ghost use Rattle.login_setup.specs.Setup.{accepts_name, no_later};
+
+use crate::nonces::Nonces;
+use crate::users::Users;
+use eap_base::{Identity, Kinds, Nonce, Secret, Suites};
+
+/// Whether the server answers by itself, or behind a pass-through authenticator.
+#[derive(Clone, Copy, PartialEq, Eq, Debug)]
+pub enum Mode {
+    Alone,
+    Through,
+}
+
+/// A machine of a run: the peer, the pass-through authenticator, the server (or backend).
+#[derive(Clone, Copy, PartialEq, Eq, Debug)]
+pub enum Party {
+    Peer,
+    Pass,
+    Server,
+}
+
+/// Where a packet is handed in: at the peer, at the server (or backend), or at one of the two sides
+/// of the pass-through.
+#[derive(Clone, Copy, PartialEq, Eq, Debug)]
+pub enum Port {
+    Peer,
+    Server,
+    PassPeer,
+    PassServer,
+}
+
+/// Which server names a peer accepts.
+#[derive(Drop)]
+pub enum Accepts {
+    /// Every name.
+    Any,
+    /// This name alone.
+    One(Identity),
+}
+
+impl Accepts {
+    /// Whether the peer accepts a server of this name.
+    pub fn takes(&self, name: &[u8]) -> bool
+        ensures { result ≡ accepts_name self.now name.now }
+    {
+        match self {
+            Accepts::Any => true,
+            Accepts::One(accepted) => accepted.as_slice() == name,
+        }
+    }
+
+    /// An equal value.
+    pub fn copy(&self) -> Accepts
+        ensures { result ≡ self.now }
+    {
+        match self {
+            Accepts::Any => Accepts::Any,
+            Accepts::One(name) => Accepts::One(name.copy()),
+        }
+    }
+}
+
+/// The settings of a peer.
+#[derive(Drop)]
+pub struct PeerSetup {
+    /// The peer's name, of 1 to 253 octets.
+    pub name: Identity,
+    /// The server names that it accepts.
+    pub accepts: Accepts,
+    /// The methods that it allows, 47 (EAP-PSK) or 51 (EAP-GPSK), each at most once.
+    pub methods: Kinds,
+    /// The EAP-GPSK suites that it allows, 1 or 2, each at most once.
+    pub suites: Suites,
+    /// Its key for EAP-PSK, of 16 octets.
+    pub psk47: Option<Secret>,
+    /// Its key for EAP-GPSK, of 32 to 64 octets.
+    pub psk51: Option<Secret>,
+    /// The octets from which its nonce is taken.
+    pub nonce: Nonce,
+    /// Whether it reads Expanded Types (RFC 3748 section 5.7).
+    pub expanded: bool,
+}
+
+impl PeerSetup {
+    /// An equal value.
+    pub fn copy(&self) -> PeerSetup
+        ensures { result ≡ self.now }
+    {
+        PeerSetup {
+            name: self.name.copy(),
+            accepts: self.accepts.copy(),
+            methods: self.methods.copy(),
+            suites: self.suites.copy(),
+            psk47: copy_secret(&self.psk47),
+            psk51: copy_secret(&self.psk51),
+            nonce: self.nonce,
+            expanded: self.expanded,
+        }
+    }
+}
+
+/// The settings of a server.
+#[derive(Drop)]
+pub struct ServerSetup {
+    /// The server's name, of 1 to 253 octets.
+    pub name: Identity,
+    /// The methods that it proposes, in this order: 47 (EAP-PSK) or 51 (EAP-GPSK), each at most once.
+    pub methods: Kinds,
+    /// The EAP-GPSK suites that it offers, in this order: 1 or 2, each at most once.
+    pub suites: Suites,
+    /// The users that it knows.
+    pub users: Users,
+    /// The octets from which its nonce is taken.
+    pub nonce: Nonce,
+    /// Whether it reads Expanded Types (RFC 3748 section 5.7).
+    pub expanded: bool,
+}
+
+impl ServerSetup {
+    /// An equal value.
+    pub fn copy(&self) -> ServerSetup
+        ensures { result ≡ self.now }
+    {
+        ServerSetup {
+            name: self.name.copy(),
+            methods: self.methods.copy(),
+            suites: self.suites.copy(),
+            users: self.users.copy(),
+            nonce: self.nonce,
+            expanded: self.expanded,
+        }
+    }
+}
+
+/// What a scenario tells of later conversations.
+#[derive(Drop)]
+pub struct Later {
+    /// The version of the scenario's text, from 1 on.
+    pub version: u8,
+    /// The nonces with which the peer begins its conversations after the first.
+    pub peer: Nonces,
+    /// The same of the server.
+    pub server: Nonces,
+}
+
+impl Later {
+    /// No later conversations, as a scenario of version 1 has them.
+    pub fn none() -> Later
+        ensures { result ≡ no_later }
+    {
+        Later {
+            version: 1,
+            peer: Nonces::new(),
+            server: Nonces::new(),
+        }
+    }
+
+    /// An equal value.
+    pub fn copy(&self) -> Later
+        ensures { result ≡ self.now }
+    {
+        Later {
+            version: self.version,
+            peer: self.peer.copy(),
+            server: self.server.copy(),
+        }
+    }
+}
+
+/// The settings of a run.
+#[derive(Drop)]
+pub struct Setup {
+    pub mode: Mode,
+    /// The Identifier of the first Request.
+    pub first_id: u8,
+    /// MaxRetrans of RFC 4137: how often a Request is sent again, 0 to 10.
+    pub max_retrans: u8,
+    pub peer: PeerSetup,
+    pub server: ServerSetup,
+    pub later: Later,
+}
+
+impl Setup {
+    /// An equal value.
+    pub fn copy(&self) -> Setup
+        ensures { result ≡ self.now }
+    {
+        Setup {
+            mode: self.mode,
+            first_id: self.first_id,
+            max_retrans: self.max_retrans,
+            peer: self.peer.copy(),
+            server: self.server.copy(),
+            later: self.later.copy(),
+        }
+    }
+}
+
+fn copy_secret(secret: &Option<Secret>) -> Option<Secret>
+    ensures { result ≡ secret.now }
+{
+    match secret {
+        None => None,
+        Some(octets) => Some(octets.copy()),
+    }
+}

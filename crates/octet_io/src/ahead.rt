@@ -1,0 +1,72 @@
+//! Octets that were read ahead of their use.
+
+ghost use Rattle.std.specs.Prelude.{◌≡◌, ◌≤◌, [], length, drop, Some, IfOk, OnErr, OnOk};
+ghost use Rattle.octet_io.specs.Known.{prepend_known, nothing_known};
+
+use crate::source::{Failed, Source};
+use std::marker::Model;
+
+const ROOM: usize = 4096;
+
+/// At most 4,096 octets of a source that were read and not used yet. Contracts see their list.
+#[derive(Drop)]
+pub struct Ahead {
+    octets: [u8; ROOM],
+    place: usize,
+    filled: usize,
+}
+
+impl Model for Ahead {
+    ghost use Rattle.std.specs.Prelude.{List, ℕ, ◌≡◌, ◌≤◌, ◌-◌, take, drop, length};
+
+    ghost Value = { List ℕ };
+
+    ghost view = { λ a. take (a.filled - a.place) (drop a.place a.octets) };
+
+    ghost invariant = { λ a. (a.place ≤ a.filled) × (a.filled ≤ 4096) × (length a.octets ≡ 4096) };
+}
+
+impl Ahead {
+    /// No octets.
+    pub fn new() -> Ahead
+        ensures { result ≡ [] }
+    {
+        Ahead {
+            octets: [0; ROOM],
+            place: 0,
+            filled: 0,
+        }
+    }
+
+    /// Reads once, where no octet is left, and answers how many octets came: none where the source has
+    /// none left.
+    pub fn fill<S: Source>(&mut self, source: &mut S) -> Result<usize, Failed>
+        ensures count { IfOk result (λ n. n ≡ length self.new) }
+        ensures gives { IfOk result (λ n. S.left source.old ≡ prepend_known self.new (S.left source.new)) }
+        ensures over { IfOk result (λ n. n ≡ 0 → S.left source.new ≡ nothing_known (S.left source.new)) }
+        ensures counted { OnErr result (S.read_faults source.new ≤ S.read_faults source.old → S.last_read_fault ≡ Some (S.read_faults source.new)) }
+        ensures uncounted { OnOk result (S.read_faults source.new ≡ S.read_faults source.old) }
+        ensures never_falls { S.read_faults source.old ≤ S.read_faults source.new }
+    {
+        self.place = 0;
+        self.filled = 0;
+        let count = source.read(&mut self.octets)?;
+        self.filled = count;
+        Ok(count)
+    }
+
+    /// The octets in order.
+    pub fn as_slice(&self) -> &[u8]
+        ensures { result.now ≡ self.now }
+    {
+        &self.octets[self.place..self.filled]
+    }
+
+    /// Leaves out the first `count` octets.
+    pub fn skip(&mut self, count: usize)
+        requires { count ≤ length self.old }
+        ensures { self.new ≡ drop count self.old }
+    {
+        self.place += count;
+    }
+}
