@@ -22,6 +22,9 @@ mod word_schedule;
 pub use by_tables::TableAes128;
 pub use inverses::inverses_stand_alone;
 
+/// The octets of a block (FIPS 197, section 3.4).
+pub const BLOCK_LEN: usize = 16;
+
 /// A key of 16 octets, expanded into its eleven round keys (FIPS 197, section 5.2).
 ///
 /// A contract sees it as the key's octets. At the processor level that programs are built for by default,

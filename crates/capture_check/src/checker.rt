@@ -3,7 +3,7 @@
 ghost use Rattle.std.specs.Prelude.{◌≡◌, ◌≤◌, ℕ, None, List, [], ◌∷◌, ◌++◌, length, All, IsTrue};
 ghost use Rattle.login_setup.specs.Setup.{fits_kind};
 ghost use Rattle.login_setup.specs.declared.users.User.{User};
-ghost use Rattle.eap_packet.specs.Packet.{IsPlain, value_of};
+ghost use Rattle.eap_packet.specs.Packet.{IsPlain, value_of, max_type_data};
 ghost use Rattle.eap_method.specs.PskTags.{header_of};
 ghost use Rattle.capture_check.specs.Heard.{Captured, gpsk_heard, heard_of, packet_heard, psk_heard};
 ghost use Rattle.capture_check.specs.Finding.{finding_in, finding_of, heard_finding, StandsFor};
@@ -18,11 +18,8 @@ use eap_base::{GPSK_KIND, PSK_KIND};
 use eap_packet::{Cause, Code, PacketView, decode};
 use gpsk_messages::read_gpsk;
 use login_setup::Users;
-use psk_messages::read_psk;
+use psk_messages::{HEADER, read_psk};
 use std::marker::Model;
-
-/// The octets of the header that PCHANNEL's tag covers (RFC 4764 section 3.3).
-const HEADER: usize = 22;
 
 /// Judges the packets of a capture, one after the other, under the keys of the users that are known. It
 /// keeps the last PSK-1, and of GPSK-2 and PSK-2 the last whose tag is good.
@@ -114,7 +111,7 @@ fn judge_packet(
     requires keys { All (λ user. IsTrue (fits_kind user.kind user.psk)) users.now }
     requires key { HasKey kept.old.gpsk2 }
     requires plain { IsPlain packet.now.code packet.now.kind packet.now.body.now }
-    requires size { length packet.now.body.now ≤ 1495 }
+    requires size { length packet.now.body.now ≤ max_type_data }
     ensures finding { result ≡ heard_finding users.now kept.old header.now (packet_heard to_peer (value_of packet.now)) }
     ensures kept { kept.new ≡ kept_after users.now kept.old (packet_heard to_peer (value_of packet.now)) }
     ensures key_kept { HasKey kept.new.gpsk2 }

@@ -5,6 +5,7 @@ ghost use Rattle.std.specs.Option.{option_or};
 ghost use Rattle.std.specs.Result.{result_ok};
 ghost use Rattle.login_setup.specs.Setup.{fits_kind};
 ghost use Rattle.eap_base.specs.Suite.{ks_of};
+ghost use Rattle.eap_base.specs.Sizes.{max_name};
 ghost use Rattle.gpsk_messages.specs.Message.{message_of, spelled, IsGpsk};
 ghost use Rattle.capture_check.specs.Heard.{is_gpsk_astray};
 ghost use Rattle.capture_check.specs.Tags.{gpsk_follows, gpsk_login_in, gpsk_login_of, is_tagged_in, login_begins};
@@ -56,8 +57,8 @@ fn login_of(
     suite: Suite,
 ) -> GpskLogin
     requires long_enough { 32 ≤ length user.now.psk }
-    requires peer_name { length id_p.now ≤ 253 }
-    requires server_name { length id_s.now ≤ 253 }
+    requires peer_name { length id_p.now ≤ max_name }
+    requires server_name { length id_s.now ≤ max_name }
     ensures login { result ≡ gpsk_login_of user.now id_p.now id_s.now rand_p.now rand_s.now suite }
     ensures key { length result.sk ≡ ks_of result.suite }
 {
@@ -80,8 +81,8 @@ fn login_in(
     suite: Suite,
 ) -> Option<GpskLogin>
     requires keys { All (λ user. IsTrue (fits_kind user.kind user.psk)) users.now }
-    requires peer_name { length id_p.now ≤ 253 }
-    requires server_name { length id_s.now ≤ 253 }
+    requires peer_name { length id_p.now ≤ max_name }
+    requires server_name { length id_s.now ≤ max_name }
     ensures login { result ≡ gpsk_login_in users.now id_p.now id_s.now rand_p.now rand_s.now suite }
     ensures key { HasKey result }
 {

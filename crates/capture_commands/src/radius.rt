@@ -11,7 +11,7 @@ ghost use Rattle.capture_commands.specs.Radius.{code_of, good_or_bad, hex_line, 
 ghost use Rattle.capture_commands.specs.Radius.{reply_judged, word_line};
 
 use command_driver::{Close, Command, Next, Status, Trouble, drive};
-use eap_base::Octets;
+use eap_base::{Identity, Octets, Packet};
 use octet_io::{Failed, Sink, Source};
 use radius_carry::{
     RadiusKind, RadiusView, eap_of, read_radius, reply_good, request_good, write_reply,
@@ -230,9 +230,9 @@ impl Radius {
         &mut self,
         sink: &mut W,
         asked: KeptRequest,
-        user: &Octets<253>,
+        user: &Identity,
         state: &Octets<64>,
-        eap: &Octets<1500>,
+        eap: &Packet,
     ) -> Result<Next, Trouble>
         ensures answers { AnswersLine W.written W.write_faults W.last_write_fault result sink.old sink.new
             (item_took self.old (item.Request asked.id asked.authenticator user.now state.now eap.now)) false self.new }
@@ -259,7 +259,7 @@ impl Radius {
         sink: &mut W,
         kind: ReplyKind,
         state: &Octets<64>,
-        eap: &Octets<1500>,
+        eap: &Packet,
     ) -> Result<Next, Trouble>
         ensures answers { AnswersLine W.written W.write_faults W.last_write_fault result sink.old sink.new
             (reply_took self.now self.now.asked kind state.now eap.now) false self.now }

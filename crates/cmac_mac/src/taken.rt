@@ -8,10 +8,7 @@ ghost use Rattle.cmac_mac.specs.Chained.{IsChained, IsTakenIn};
 
 use crate::blocks::xor_blocks;
 use crate::key::CmacKey;
-use aes_block::Aes128;
-
-/// The octets of a block.
-const BLOCK_LEN: usize = 16;
+use aes_block::{Aes128, BLOCK_LEN};
 
 // The text so far: all its blocks before the last one are in the chain, and the last one is held back.
 #[derive(Drop)]

@@ -1,6 +1,25 @@
--- The Types of the two methods, and numbers among others.
+-- Types, those of the two methods among them, and numbers among others.
 use Rattle.std.specs.Prelude.{ℕ, List, [], ◌∷◌, Bool, true, false, ◌==◌, ◌&&◌, ◌||◌, not}
 use Rattle.std.specs.List.{list_any}
+
+-- the Types Identity, Notification and Nak (RFC 3748 sections 5.1, 5.2 and 5.3.1)
+abbrev pub identity_kind : ℕ
+identity_kind = 1
+
+abbrev pub notification_kind : ℕ
+notification_kind = 2
+
+abbrev pub nak_kind : ℕ
+nak_kind = 3
+
+-- the Type of a packet with an Expanded Type (RFC 3748 section 5.7)
+abbrev pub expanded_kind : ℕ
+expanded_kind = 254
+
+-- Vendor-Id 0, that of the IETF, and the first three of the four octets of a Vendor-Type under 256
+-- (RFC 3748 section 5.7)
+abbrev pub ietf : List ℕ
+ietf = 0 ∷ 0 ∷ 0 ∷ 0 ∷ 0 ∷ 0 ∷ []
 
 -- the Type of EAP-PSK (RFC 4764 section 5)
 abbrev pub psk_kind : ℕ

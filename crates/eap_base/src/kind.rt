@@ -1,7 +1,30 @@
-//! The Types of the two methods.
+//! Types, those of the two methods among them, and the fields of an Expanded Type.
 
 ghost use Rattle.std.specs.Prelude.{◌≡◌};
 ghost use Rattle.eap_base.specs.Among.{is_among};
+
+/// The Type Identity (RFC 3748 section 5.1).
+pub const IDENTITY: u8 = 1;
+
+/// The Type Notification (RFC 3748 section 5.2).
+pub const NOTIFICATION: u8 = 2;
+
+/// The Type Nak (RFC 3748 section 5.3.1).
+pub const NAK: u8 = 3;
+
+/// The Type Expanded, of a packet with an Expanded Type (RFC 3748 section 5.7).
+pub const EXPANDED: u8 = 254;
+
+/// Vendor-Id 0, that of the IETF, and the first three of the four octets of a Vendor-Type under 256 (RFC
+/// 3748 section 5.7).
+pub const IETF: [u8; 6] = [0; 6];
+
+/// The octets of the Vendor-Id and the Vendor-Type.
+pub const VENDOR_SIZE: usize = 7;
+
+/// The octets of an entry of an Expanded Nak: 254, the Vendor-Id and the Vendor-Type (RFC 3748
+/// section 5.3.2).
+pub const NAK_ENTRY_SIZE: usize = 8;
 
 /// The Type of EAP-PSK (RFC 4764 section 5).
 pub const PSK_KIND: u8 = 47;

@@ -7,6 +7,11 @@ mod octets;
 mod suite;
 
 pub use comparison::equal_in_full;
-pub use kind::{GPSK_KIND, PSK_KIND, is_among};
-pub use octets::{Identity, Kinds, Nonce, Octets, Packet, Secret, Suites, array_of};
-pub use suite::Suite;
+pub use kind::{
+    EXPANDED, GPSK_KIND, IDENTITY, IETF, NAK, NAK_ENTRY_SIZE, NOTIFICATION, PSK_KIND, VENDOR_SIZE,
+    is_among,
+};
+pub use octets::{
+    Identity, Kinds, MAX_NAME, MAX_PACKET, Nonce, Octets, Packet, Secret, Suites, array_of,
+};
+pub use suite::{SUITE_SIZE, Suite};

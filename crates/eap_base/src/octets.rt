@@ -5,8 +5,15 @@ ghost use Rattle.std.specs.Prelude.{◌≡◌, ◌≤◌, ◌<◌, ◌+◌, ◌�
 use arrayvec::ArrayVec;
 use std::marker::Model;
 
+/// The most octets of a name of a peer or a server (RFC 7542 section 2.2).
+pub const MAX_NAME: usize = 253;
+
+/// The most octets of an EAP packet here: the MTU of a lower layer that carries one is at most so much
+/// (RFC 3748 section 3.1).
+pub const MAX_PACKET: usize = 1500;
+
 /// The name of a peer or a server: at most 253 octets.
-pub type Identity = Octets<253>;
+pub type Identity = Octets<MAX_NAME>;
 
 /// A shared key (PSK): at most 64 octets.
 pub type Secret = Octets<64>;
@@ -18,7 +25,7 @@ pub type Kinds = Octets<2>;
 pub type Suites = Octets<2>;
 
 /// An EAP packet: at most 1,500 octets.
-pub type Packet = Octets<1500>;
+pub type Packet = Octets<MAX_PACKET>;
 
 /// The octets from which an end takes its nonce: 32 for EAP-GPSK, the first 16 for EAP-PSK.
 pub type Nonce = [u8; 32];

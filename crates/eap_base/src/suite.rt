@@ -3,6 +3,9 @@
 ghost use Rattle.std.specs.Prelude.{◌≡◌};
 ghost use Rattle.eap_base.specs.Suite.{ks_of, suite_number, suite_numbered, suite_octets};
 
+/// The octets of a suite in CSuite_Sel, and of an entry of a CSuite_List (RFC 5433 section 9.2).
+pub const SUITE_SIZE: usize = 6;
+
 /// A ciphersuite of EAP-GPSK (RFC 5433 section 6).
 #[derive(Clone, Copy, PartialEq, Eq, Debug)]
 pub enum Suite {
@@ -45,7 +48,7 @@ impl Suite {
     }
 
     /// The suite as CSuite_Sel spells it: four octets of vendor 0, then two of specifier 1 or 2.
-    pub fn octets(&self) -> [u8; 6]
+    pub fn octets(&self) -> [u8; SUITE_SIZE]
         ensures { result ≡ suite_octets self.now }
     {
         [0, 0, 0, 0, 0, self.number()]

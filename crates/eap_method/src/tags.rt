@@ -2,9 +2,10 @@
 
 ghost use Rattle.std.specs.Prelude.{◌≡◌, ◌≤◌, ◌<◌, ◌+◌, ◌↔◌, [], ◌∷◌, ◌++◌, length, map, IsTrue};
 ghost use Rattle.std.specs.List.{concat};
+ghost use Rattle.eap_base.specs.Sizes.{max_packet};
 ghost use Rattle.eap_method.specs.Tags.{no_tags};
 
-use eap_base::{Octets, Secret};
+use eap_base::{Octets, Packet, Secret};
 use std::marker::Model;
 
 /// Under which of a method's keys a tag is made.
@@ -29,7 +30,7 @@ pub struct TagRecord {
     pub psk: Secret,
     /// The octets that the tag covers. Of PCHANNEL's these are the EAX nonce (16 octets), the header
     /// (22) and the ciphertext, joined.
-    pub octets: Octets<1500>,
+    pub octets: Packet,
     pub tag: Octets<32>,
 }
 
@@ -49,7 +50,7 @@ impl TagRecord {
 
     /// This record takes the place of what was there.
     fn write(&mut self, method: u8, label: Label, psk: &Secret, covered: &[&[u8]], tag: &[u8])
-        requires covered { length (concat (map (λ p. p.now) covered.now)) ≤ 1500 }
+        requires covered { length (concat (map (λ p. p.now) covered.now)) ≤ max_packet }
         requires tag { length tag.now ≤ 32 }
         ensures { self.new ≡ record { method = method; label = label; psk = psk.now; octets = concat (map (λ p. p.now) covered.now); tag = tag.now } }
     {
@@ -64,8 +65,8 @@ impl TagRecord {
 
 /// Appends the pieces, which fit.
 #[tactic(auto, using(std::proofs::Common::append_assoc))]
-fn append_each(octets: &mut Octets<1500>, pieces: &[&[u8]])
-    requires { length octets.old + length (concat (map (λ p. p.now) pieces.now)) ≤ 1500 }
+fn append_each(octets: &mut Packet, pieces: &[&[u8]])
+    requires { length octets.old + length (concat (map (λ p. p.now) pieces.now)) ≤ max_packet }
     ensures { octets.new ≡ octets.old ++ concat (map (λ p. p.now) pieces.now) }
 {
     if let Some((first, rest)) = pieces.split_first() {
@@ -121,7 +122,7 @@ impl TagList {
         covered: &[&[u8]],
         tag: &[u8],
     ) -> bool
-        requires covered { length (concat (map (λ p. p.now) covered.now)) ≤ 1500 }
+        requires covered { length (concat (map (λ p. p.now) covered.now)) ≤ max_packet }
         requires tag { length tag.now ≤ 32 }
         ensures room { IsTrue result ↔ (length self.old < 2) }
         ensures added { length self.old < 2

@@ -4,9 +4,10 @@ use Rattle.std.proofs.lemmas.Bool.{and_from, le-leb}
 use Rattle.std.proofs.lemmas.Bool.Decides.{nat_tests}
 use Rattle.std.proofs.lemmas.List.{take_at}
 use Rattle.std.specs.Prelude.{◌↔◌, if◌then◌else◌}
+use Rattle.eap_base.specs.Among.{ietf}
 use Rattle.eap_packet.specs.Packet.{PacketValue, request, response, success, failure, spelled, framed, two_octets}
 use Rattle.eap_packet.specs.Fault.{length_of}
-use Rattle.eap_packet.specs.Expanded.{has_plain, ietf, is_plain_body, is_wrapped, inner_kind, inner_body, wrapped}
+use Rattle.eap_packet.specs.Expanded.{has_plain, is_plain_body, is_wrapped, inner_kind, inner_body, wrapped}
 use Rattle.eap_packet.specs.Laws.{PlainOfWrap, WrapsTheSpelling, OnlyWrappedDiffer}
 
 if_so : {A : Type 0} (b : Bool) (one other : A) → b ≡ true → (if b then one else other) ≡ one

@@ -1,14 +1,10 @@
 -- Expanded Types (RFC 3748 section 5.7): their fields, the plain form of a packet, and a packet wrapped.
 use Rattle.std.specs.Prelude.{ℕ, ◌+◌, ◌*◌, ◌-◌, List, [], ◌∷◌, ◌++◌, length, take, drop, Bool, true, false, ◌==◌, ◌&&◌, ◌||◌, not, nat_le, nat_lt, if◌then◌else◌, Option, Some, None, slice_index}
 use Rattle.std.specs.Str.{bytes_eq}
-use Rattle.eap_base.specs.Among.{is_filled}
+use Rattle.eap_base.specs.Among.{is_filled, nak_kind, expanded_kind, ietf}
 use Rattle.eap_packet.specs.declared.expanded.Expanded.{Expanded}
 use Rattle.eap_packet.specs.Packet.{PacketValue, request, response, success, failure, two_octets}
 use Rattle.eap_packet.specs.Fault.{length_of}
-
--- the Type of a packet with an Expanded Type
-abbrev pub expanded_kind : ℕ
-expanded_kind = 254
 
 -- the Vendor-Id in three octets and the Vendor-Type in four, the most significant octet first
 abbrev pub vendor_of : List ℕ → ℕ
@@ -35,10 +31,6 @@ abbrev pub shown : Option Expanded → Option ExpandedValue
 shown None = None
 shown (Some fields) = Some (record { vendor = fields.vendor; vendor_type = fields.vendor_type; rest = fields.rest.now })
 
--- Vendor-Id 0, that of the IETF, and the first three of the four octets of a Vendor-Type under 256
-abbrev pub ietf : List ℕ
-ietf = 0 ∷ 0 ∷ 0 ∷ 0 ∷ 0 ∷ 0 ∷ []
-
 -- whether Type-Data has Vendor-Id 0 and a Vendor-Type under 256; that Type, and the data behind it
 abbrev pub is_ietf : List ℕ → Bool
 is_ietf body = nat_le 7 (length body) && bytes_eq (take 6 body) ietf
@@ -51,14 +43,14 @@ inner_body body = drop 7 body
 
 -- whether a Type has a plain form: any but 0, the Nak and Type 254 itself
 abbrev pub has_plain : ℕ → Bool
-has_plain kind = not (kind == 0) && (not (kind == 3) && not (kind == expanded_kind))
+has_plain kind = not (kind == 0) && (not (kind == nak_kind) && not (kind == expanded_kind))
 
 abbrev pub is_plain_body : List ℕ → Bool
 is_plain_body body = is_ietf body && has_plain (inner_kind body)
 
 -- whether Type-Data is that of an Expanded Nak (section 5.3.2)
 abbrev pub is_nak_body : List ℕ → Bool
-is_nak_body body = is_ietf body && (inner_kind body == 3)
+is_nak_body body = is_ietf body && (inner_kind body == nak_kind)
 
 -- whether a Type and its Type-Data are those of a Type of the IETF that has a plain form
 abbrev pub is_wrapped : ℕ → List ℕ → Bool

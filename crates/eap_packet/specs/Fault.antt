@@ -1,5 +1,7 @@
 -- What keeps octets from being a packet (RFC 3748 section 4), and the packet that they begin with.
 use Rattle.std.specs.Prelude.{ℕ, ◌+◌, ◌*◌, ◌-◌, List, [], ◌∷◌, length, take, drop, Bool, ◌==◌, ◌&&◌, ◌||◌, not, nat_lt, nat_le, if◌then◌else◌, Option, Some, None, Result, Ok, Err, slice_index}
+use Rattle.eap_base.specs.Sizes.{max_packet}
+use Rattle.eap_base.specs.Among.{nak_kind}
 use Rattle.eap_packet.specs.Packet.{PacketValue, request, response, success, failure}
 use Rattle.eap_packet.specs.declared.cause.Cause.{Cause}
 use Rattle.eap_packet.specs.declared.cause.Cause.TheVariants.{Short, BadCode, BadLength, Truncated, TooLong, NakRequest, BadNak}
@@ -31,15 +33,15 @@ abbrev pub is_truncated : List ℕ → Bool
 is_truncated octets = nat_lt (length octets) (length_of octets)
 
 abbrev pub is_too_long : List ℕ → Bool
-is_too_long octets = nat_lt 1500 (length_of octets)
+is_too_long octets = nat_lt max_packet (length_of octets)
 
 -- a Nak is a Response alone
 abbrev pub is_nak_request : List ℕ → Bool
-is_nak_request octets = (code_of octets == 1) && (type_of octets == 3)
+is_nak_request octets = (code_of octets == 1) && (type_of octets == nak_kind)
 
 -- a Nak has at least one octet of Type-Data
 abbrev pub is_bad_nak : List ℕ → Bool
-is_bad_nak octets = (code_of octets == 2) && (type_of octets == 3) && (length_of octets == 5)
+is_bad_nak octets = (code_of octets == 2) && (type_of octets == nak_kind) && (length_of octets == 5)
 
 -- the causes in their order, each with its condition
 abbrev pub fault_table : List ℕ → List (Bool × Cause)

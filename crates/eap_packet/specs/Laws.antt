@@ -1,5 +1,6 @@
 -- Laws of the packets' grammar (RFC 3748 section 4) and of Expanded Types (section 5.7), over the definitions alone.
 use Rattle.std.specs.Prelude.{◌≡◌, ◌↔◌, ◌≤◌, ◌<◌, ℕ, List, ◌++◌, length, true, false, ◌==◌, ◌&&◌, None, Ok}
+use Rattle.eap_base.specs.Among.{nak_kind}
 use Rattle.eap_packet.specs.Packet.{PacketValue, request, response, success, failure, spelled, IsPacket, IsOctets}
 use Rattle.eap_packet.specs.Fault.{fault, packet_of}
 use Rattle.eap_packet.specs.Expanded.{vendor_of, vendor_type_of, is_ietf, is_nak_body, inner_kind, has_plain, has_plain_form, plain, wrap, wrapped}
@@ -44,7 +45,7 @@ IetfIsVendorZero = (body : List ℕ) → IsOctets body → (is_ietf body ≡ tru
 
 -- so is the test for an Expanded Nak (section 5.3.2): Vendor-Id 0 and Vendor-Type 3
 abbrev pub NakIsVendorZero : Type 0
-NakIsVendorZero = (body : List ℕ) → 7 ≤ length body → is_nak_body body ≡ ((vendor_of body == 0) && (vendor_type_of body == 3))
+NakIsVendorZero = (body : List ℕ) → 7 ≤ length body → is_nak_body body ≡ ((vendor_of body == 0) && (vendor_type_of body == nak_kind))
 
 -- a packet whose Type, where it has one, has a plain form
 abbrev pub HasPlain : PacketValue → Type 0

@@ -1,5 +1,6 @@
 -- EAP packets (RFC 3748 section 4): packet values and their one spelling.
 use Rattle.std.specs.Prelude.{◌≡◌, ◌≢◌, ℕ, ◌+◌, ◌/◌, ◌%◌, ◌<◌, ◌≤◌, List, [], ◌∷◌, ◌++◌, length, All, Bool, true, false, Result, Ok, Err}
+use Rattle.eap_base.specs.Among.{nak_kind}
 use Rattle.eap_packet.specs.declared.packet.PacketView.{PacketView}
 use Rattle.eap_packet.specs.declared.packet.Code.{Code}
 use Rattle.eap_packet.specs.declared.cause.Cause.{Cause}
@@ -38,18 +39,22 @@ spelled (failure id) = framed 4 id []
 abbrev pub IsOctets : List ℕ → Type 0
 IsOctets octets = All (λ b. b < 256) octets
 
+-- the octets of Type-Data: those of a packet but for its header and its Type (section 4.1)
+abbrev pub max_type_data : ℕ
+max_type_data = 1495
+
 -- the Identifier, the Type and the Type-Data of a packet of at most 1,500 octets
 pub record AreTypedFields (id kind : ℕ) (body : List ℕ) : Type 0 where
   pub id_fits : id < 256
   pub kind_fits : kind < 256
   pub octets : IsOctets body
-  pub size : length body ≤ 1495
+  pub size : length body ≤ max_type_data
 
 -- the packets of the standard with at most 1,500 octets: no Request is a Nak, and a Nak desires
 -- some method
 abbrev pub IsPacket : PacketValue → Type 0
-IsPacket (request id kind body) = AreTypedFields id kind body × (kind ≢ 3)
-IsPacket (response id kind body) = AreTypedFields id kind body × (kind ≡ 3 → body ≢ [])
+IsPacket (request id kind body) = AreTypedFields id kind body × (kind ≢ nak_kind)
+IsPacket (response id kind body) = AreTypedFields id kind body × (kind ≡ nak_kind → body ≢ [])
 IsPacket (success id) = id < 256
 IsPacket (failure id) = id < 256
 

@@ -2,26 +2,15 @@
 //! are spelled.
 
 ghost use Rattle.std.specs.Prelude.{◌≡◌, ◌≤◌, ◌∷◌, ◌++◌, length, IsTrue};
-ghost use Rattle.eap_packet.specs.Packet.{spelled, value_of, two_octets};
+ghost use Rattle.eap_base.specs.Sizes.{max_packet};
+ghost use Rattle.eap_base.specs.Among.{expanded_kind, ietf};
+ghost use Rattle.eap_packet.specs.Packet.{spelled, value_of, two_octets, max_type_data};
 ghost use Rattle.eap_packet.specs.Fault.{length_of};
-ghost use Rattle.eap_packet.specs.Expanded.{expanded_kind, shown, expanded_of, ietf, is_ietf, has_plain, is_wrapped, has_plain_form, plain, wrapped, are_expanded, are_entries, is_bad_body, is_bad_expanded};
+ghost use Rattle.eap_packet.specs.Expanded.{shown, expanded_of, is_ietf, has_plain, is_wrapped, has_plain_form, plain, wrapped, are_expanded, are_entries, is_bad_body, is_bad_expanded};
 
-use crate::packet::{Code, NAK, PacketView, begin_into, length_field};
+use crate::packet::{Code, PacketView, begin_into, length_field};
 use byteorder::{BigEndian, ByteOrder};
-use eap_base::Packet;
-
-/// Type 254, of a packet with an Expanded Type.
-const EXPANDED: u8 = 254;
-
-/// The octets of the Vendor-Id and the Vendor-Type.
-const FIELDS: usize = 7;
-
-/// The octets of an entry of an Expanded Nak: 254, the Vendor-Id and the Vendor-Type (RFC 3748
-/// section 5.3.2).
-const ENTRY_SIZE: usize = 8;
-
-/// Vendor-Id 0, that of the IETF, and the first three of the four octets of a Vendor-Type under 256.
-const IETF: [u8; 6] = [0; 6];
+use eap_base::{EXPANDED, IETF, NAK, NAK_ENTRY_SIZE, Packet, VENDOR_SIZE};
 
 /// The fields of an Expanded Type.
 #[derive(Clone, Copy)]
@@ -36,16 +25,16 @@ pub struct Expanded<'a> {
 /// The fields of a packet of Type 254; None exactly where its Type-Data has under 7 octets (RFC 3748
 /// section 5.7).
 pub fn read_expanded<'a>(view: &PacketView<'a>) -> Option<Expanded<'a>>
-    requires { view.now.kind ≡ 254 }
+    requires { view.now.kind ≡ expanded_kind }
     ensures { shown result ≡ expanded_of view.now.body.now }
 {
-    if view.body.len() < FIELDS {
+    if view.body.len() < VENDOR_SIZE {
         return None;
     }
     Some(Expanded {
         vendor: BigEndian::read_u24(view.body),
         vendor_type: BigEndian::read_u32(&view.body[3..]),
-        rest: &view.body[FIELDS..],
+        rest: &view.body[VENDOR_SIZE..],
     })
 }
 
@@ -53,7 +42,7 @@ pub fn read_expanded<'a>(view: &PacketView<'a>) -> Option<Expanded<'a>>
 fn is_ietf(body: &[u8]) -> bool
     ensures { result ≡ is_ietf body.now }
 {
-    body.len() >= FIELDS && body[..6] == IETF[..]
+    body.len() >= VENDOR_SIZE && body[..6] == IETF[..]
 }
 
 /// Whether a Type has a plain form.
@@ -75,10 +64,10 @@ fn is_wrapped(kind: u8, body: &[u8]) -> bool
 fn are_expanded(list: &[u8]) -> bool
     ensures { result ≡ are_expanded list.now }
 {
-    if list.len() % ENTRY_SIZE != 0 {
+    if list.len() % NAK_ENTRY_SIZE != 0 {
         return false;
     }
-    for entry in list.chunks_exact(ENTRY_SIZE) {
+    for entry in list.chunks_exact(NAK_ENTRY_SIZE) {
         if entry[0] != EXPANDED {
             return false;
         }
@@ -92,8 +81,8 @@ fn are_expanded(list: &[u8]) -> bool
 fn is_bad_body(is_asked: bool, body: &[u8]) -> bool
     ensures { result ≡ is_bad_body is_asked body.now }
 {
-    body.len() < FIELDS
-        || (is_ietf(body) && body[6] == NAK && (is_asked || !has_entries(&body[FIELDS..])))
+    body.len() < VENDOR_SIZE
+        || (is_ietf(body) && body[6] == NAK && (is_asked || !has_entries(&body[VENDOR_SIZE..])))
 }
 
 /// Whether these octets are one entry or more of an Expanded Nak (RFC 3748 section 5.3.2).
@@ -134,7 +123,7 @@ fn has_plain_form(view: &PacketView) -> bool
 /// 3748 section 5.7). Of any other packet the plain form is itself; the answer is then false, and
 /// what `packet` holds doesn't count.
 pub fn write_plain(view: &PacketView, packet: &mut Packet) -> bool
-    requires { length view.now.body.now ≤ 1495 }
+    requires { length view.now.body.now ≤ max_type_data }
     ensures differs { result ≡ has_plain_form (value_of view.now) }
     ensures plain { IsTrue result → packet.new ≡ spelled (plain (value_of view.now)) }
 {
@@ -146,9 +135,9 @@ pub fn write_plain(view: &PacketView, packet: &mut Packet) -> bool
         view.code,
         view.id,
         view.body[6],
-        view.body.len() - FIELDS,
+        view.body.len() - VENDOR_SIZE,
     );
-    packet.put(&view.body[FIELDS..]);
+    packet.put(&view.body[VENDOR_SIZE..]);
     true
 }
 
@@ -164,14 +153,14 @@ pub fn wrap(packet: &mut Packet)
     let plain = packet.copy();
     let octets = plain.as_slice();
     let length = length_field(octets);
-    packet.set(&front(octets[0], octets[1], length + FIELDS));
+    packet.set(&front(octets[0], octets[1], length + VENDOR_SIZE));
     packet.put(&octets[4..length]);
 }
 
 /// The fields before the Type of a packet that is wrapped: Code, Identifier, Length, Type 254 and the
 /// vendor.
 fn front(code: u8, id: u8, length: usize) -> [u8; 11]
-    requires { length ≤ 1500 }
+    requires { length ≤ max_packet }
     ensures { result ≡ code ∷ id ∷ two_octets length ++ expanded_kind ∷ ietf }
 {
     let mut front = [code, id, 0, 0, EXPANDED, 0, 0, 0, 0, 0, 0];

@@ -1,12 +1,14 @@
 //! EAP packets (RFC 3748 section 4): their fields, decoding and encoding.
 
 ghost use Rattle.std.specs.Prelude.{◌≡◌, ◌≢◌, ◌≤◌, [], ℕ, List, ◌++◌, length, take, IfOk, IsTrue, not, ◌∷◌, ◌-◌, drop, slice_index};
-ghost use Rattle.eap_packet.specs.Packet.{spelled, value_of, value_with, has_type, IsPacket, IsPlain, heard, number_of, two_octets};
+ghost use Rattle.eap_base.specs.Sizes.{max_packet};
+ghost use Rattle.eap_base.specs.Among.{nak_kind};
+ghost use Rattle.eap_packet.specs.Packet.{spelled, value_of, value_with, has_type, IsPacket, IsPlain, heard, number_of, two_octets, max_type_data};
 ghost use Rattle.eap_packet.specs.Fault.{fault, fields_of, code_of, length_of, type_of, packet_of};
 
 use crate::cause::Cause;
 use byteorder::{BigEndian, ByteOrder};
-use eap_base::Packet;
+use eap_base::{MAX_PACKET, NAK, Packet};
 
 /// The Code field: what kind of packet it is.
 #[derive(Clone, Copy, PartialEq, Eq, Debug)]
@@ -30,12 +32,6 @@ pub struct PacketView<'a> {
     /// The first Length octets, without padding.
     pub whole: &'a [u8],
 }
-
-/// The most octets of a packet.
-const MAX_LENGTH: usize = 1500;
-
-/// Type 3, the Nak.
-pub const NAK: u8 = 3;
 
 /// The Length field of at least four octets.
 pub fn length_field(octets: &[u8]) -> usize
@@ -62,7 +58,7 @@ fn first_fault(octets: &[u8]) -> Option<Cause>
         Some(Cause::BadLength)
     } else if octets.len() < length {
         Some(Cause::Truncated)
-    } else if length > MAX_LENGTH {
+    } else if length > MAX_PACKET {
         Some(Cause::TooLong)
     } else if code == Code::Request as u8 && octets[4] == NAK {
         Some(Cause::NakRequest)
@@ -77,14 +73,14 @@ fn first_fault(octets: &[u8]) -> Option<Cause>
 fn typed_view<'a>(code: Code, octets: &'a [u8]) -> PacketView<'a>
     requires typed { 5 ≤ length_of octets.now }
     requires whole { length_of octets.now ≤ length octets.now }
-    requires fits { length_of octets.now ≤ 1500 }
+    requires fits { length_of octets.now ≤ max_packet }
     ensures same_code { result.code ≡ code }
     ensures id { result.id ≡ slice_index octets.now 1 }
     ensures kind { result.kind ≡ type_of octets.now }
     ensures body { result.body.now ≡ take (length_of octets.now - 5) (drop 5 octets.now) }
     ensures whole { result.whole.now ≡ take (length_of octets.now) octets.now }
-    ensures size { length result.whole.now ≤ 1500 }
-    ensures body_size { length result.body.now ≤ 1495 }
+    ensures size { length result.whole.now ≤ max_packet }
+    ensures body_size { length result.body.now ≤ max_type_data }
 {
     let length = length_field(octets);
     PacketView {
@@ -104,7 +100,7 @@ fn end_view<'a>(code: Code, octets: &'a [u8]) -> PacketView<'a>
     ensures kind { result.kind ≡ 0 }
     ensures body { result.body.now ≡ [] }
     ensures whole { result.whole.now ≡ take 4 octets.now }
-    ensures size { length result.whole.now ≤ 1500 }
+    ensures size { length result.whole.now ≤ max_packet }
 {
     PacketView {
         code,
@@ -122,8 +118,8 @@ fn view_of<'a>(octets: &'a [u8]) -> PacketView<'a>
     ensures value { value_of result ≡ fields_of (code_of octets.now) octets.now }
     ensures whole { result.whole.now ≡ take (length_of octets.now) octets.now }
     ensures plain { IsPlain result.code result.kind result.body.now }
-    ensures size { length result.whole.now ≤ 1500 }
-    ensures body_size { length result.body.now ≤ 1495 }
+    ensures size { length result.whole.now ≤ max_packet }
+    ensures body_size { length result.body.now ≤ max_type_data }
 {
     match octets[0] {
         1 => typed_view(Code::Request, octets),
@@ -142,8 +138,8 @@ pub fn decode<'a>(octets: &'a [u8]) -> Result<PacketView<'a>, Cause>
     ensures whole { IfOk result (λ view. view.whole.now ≡ spelled (value_of view)) }
     ensures prefix { IfOk result (λ view. view.whole.now ≡ take (length_of octets.now) octets.now) }
     ensures plain { IfOk result (λ view. IsPlain view.code view.kind view.body.now) }
-    ensures size { IfOk result (λ view. length view.whole.now ≤ 1500) }
-    ensures body_size { IfOk result (λ view. length view.body.now ≤ 1495) }
+    ensures size { IfOk result (λ view. length view.whole.now ≤ max_packet) }
+    ensures body_size { IfOk result (λ view. length view.body.now ≤ max_type_data) }
 {
     match first_fault(octets) {
         Some(cause) => Err(cause),
@@ -153,7 +149,7 @@ pub fn decode<'a>(octets: &'a [u8]) -> Result<PacketView<'a>, Cause>
 
 /// The Code, the Identifier and the Length of a packet with this many octets.
 fn header(code: Code, id: u8, length: usize) -> [u8; 4]
-    requires { length ≤ 1500 }
+    requires { length ≤ max_packet }
     ensures { result ≡ number_of code ∷ id ∷ two_octets length }
 {
     let mut header = [code as u8, id, 0, 0];
@@ -166,9 +162,9 @@ fn header(code: Code, id: u8, length: usize) -> [u8; 4]
 /// to be appended.
 pub fn begin_into(packet: &mut Packet, code: Code, id: u8, kind: u8, size: usize)
     requires typed { IsTrue (has_type code) }
-    requires fits { size ≤ 1495 }
-    requires no_nak_request { code ≡ Code.Request → kind ≢ 3 }
-    requires nak_desires { code ≡ Code.Response → kind ≡ 3 → size ≢ 0 }
+    requires fits { size ≤ max_type_data }
+    requires no_nak_request { code ≡ Code.Request → kind ≢ nak_kind }
+    requires nak_desires { code ≡ Code.Response → kind ≡ nak_kind → size ≢ 0 }
     ensures spells { (body : List ℕ) → length body ≡ size → packet.new ++ body ≡ spelled (value_with code id kind body) }
     ensures size { length packet.new ≡ 5 }
 {
@@ -180,9 +176,9 @@ pub fn begin_into(packet: &mut Packet, code: Code, id: u8, kind: u8, size: usize
 /// the packet held.
 pub fn encode_into(packet: &mut Packet, code: Code, id: u8, kind: u8, body: &[u8])
     requires typed { IsTrue (has_type code) }
-    requires fits { length body.now ≤ 1495 }
-    requires no_nak_request { code ≡ Code.Request → kind ≢ 3 }
-    requires nak_desires { code ≡ Code.Response → kind ≡ 3 → body.now ≢ [] }
+    requires fits { length body.now ≤ max_type_data }
+    requires no_nak_request { code ≡ Code.Request → kind ≢ nak_kind }
+    requires nak_desires { code ≡ Code.Response → kind ≡ nak_kind → body.now ≢ [] }
     ensures { packet.new ≡ spelled (value_with code id kind body.now) }
 {
     begin_into(packet, code, id, kind, body.len());
@@ -192,9 +188,9 @@ pub fn encode_into(packet: &mut Packet, code: Code, id: u8, kind: u8, body: &[u8
 /// A Request or a Response of this Type and Type-Data (RFC 3748 section 4.1).
 pub fn encode(code: Code, id: u8, kind: u8, body: &[u8]) -> Packet
     requires typed { IsTrue (has_type code) }
-    requires fits { length body.now ≤ 1495 }
-    requires no_nak_request { code ≡ Code.Request → kind ≢ 3 }
-    requires nak_desires { code ≡ Code.Response → kind ≡ 3 → body.now ≢ [] }
+    requires fits { length body.now ≤ max_type_data }
+    requires no_nak_request { code ≡ Code.Request → kind ≢ nak_kind }
+    requires nak_desires { code ≡ Code.Response → kind ≡ nak_kind → body.now ≢ [] }
     ensures { result ≡ spelled (value_with code id kind body.now) }
 {
     let mut packet = Packet::new();

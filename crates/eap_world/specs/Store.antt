@@ -1,6 +1,7 @@
 -- The store of the packets that were sent: their octets joined, and where each packet's stand.
 use Rattle.std.specs.Prelude.{◌≤◌, ◌+◌, ℕ, List, [], ◌∷◌, Bool, if◌then◌else◌, take, drop, map, Option, Some, None, option_map}
 use Rattle.std.specs.List.{All}
+use Rattle.eap_base.specs.Sizes.{max_packet}
 use Rattle.login_setup.specs.declared.setup.Port.{Port}
 use Rattle.eap_world.specs.Sent.{Sent, same_port}
 use Rattle.eap_world.specs.declared.store.Slot.{Slot}
@@ -31,7 +32,7 @@ lent packet = option_map stored packet
 -- so many octets are enough for a slot, which is a packet's
 pub record IsThere (count : ℕ) (slot : Slot) : Type 0 where
   pub enough : slot.place + slot.length ≤ count
-  pub fits : slot.length ≤ 1500
+  pub fits : slot.length ≤ max_packet
 
 abbrev pub AreThere : ℕ → List Slot → Type 0
 AreThere count slots = All (IsThere count) slots

@@ -2,6 +2,7 @@
 //! the records of its tags are written where the caller lends the room.
 
 ghost use Rattle.std.specs.Prelude.{◌≡◌, ◌≤◌, ◌<◌, ℕ, List, IfSome, if◌then◌else◌, length, false};
+ghost use Rattle.eap_base.specs.Sizes.{max_packet};
 ghost use Rattle.eap_method.specs.Steps.{step_with};
 ghost use Rattle.pass_through.specs.PassTable as passes;
 ghost use Rattle.server_machine.specs.ServerTable as servers;
@@ -324,7 +325,7 @@ fn alter<P: PeerMethod, S: ServerMethod>(
     tags: &mut Tags,
 ) -> Action
     requires serving { IsServing machines.old.mode machines.old.server.vars }
-    requires sizes { IfSome sent (λ s. length s.octets.now ≤ 1500) }
+    requires sizes { IfSome sent (λ s. length s.octets.now ≤ max_packet) }
     ensures acts { delivered_altered (parties_of P.peer_shown S.server_shown machines.old) (lent sent.entry) place mask
         ≡ acted_with P.peer_shown S.server_shown result packet.new tags.new machines.new }
     ensures heard { (number : ℕ) → conversations.new ≡ heard_altered number machines.old.mode conversations.old (lent sent.entry) place mask }
@@ -354,7 +355,7 @@ fn hand_altered<P: PeerMethod, S: ServerMethod>(
     tags: &mut Tags,
 ) -> Action
     requires serving { IsServing machines.old.mode machines.old.server.vars }
-    requires fits { length stored.now.octets.now ≤ 1500 }
+    requires fits { length stored.now.octets.now ≤ max_packet }
     requires place { place < length stored.now.octets.now }
     ensures acts { injected (parties_of P.peer_shown S.server_shown machines.old) stored.now.port (altered stored.now.octets.now place mask)
         ≡ acted_with P.peer_shown S.server_shown result packet.new tags.new machines.new }
@@ -374,7 +375,7 @@ fn hand_altered<P: PeerMethod, S: ServerMethod>(
 
 /// A copy whose octet at `place` is combined with `mask` by exclusive or.
 fn altered_copy(octets: &[u8], place: usize, mask: u8) -> Packet
-    requires fits { length octets.now ≤ 1500 }
+    requires fits { length octets.now ≤ max_packet }
     requires place { place < length octets.now }
     ensures { result ≡ altered octets.now place mask }
 {

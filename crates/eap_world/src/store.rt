@@ -1,15 +1,14 @@
 //! The packets that were sent.
 
 ghost use Rattle.std.specs.Prelude.{◌≡◌, ◌≤◌, ◌<◌, ◌+◌, ◌++◌, ◌∷◌, [], true, length, take, drop, Some, IfSome, is_some};
+ghost use Rattle.eap_base.specs.Sizes.{max_packet};
 ghost use Rattle.eap_world.specs.Sent.{last_to, packet_numbered, same_port};
 ghost use Rattle.eap_world.specs.Store.{AreThere, IsThere, last_slot, lent, packet_at, packets_at};
 
+use eap_base::MAX_PACKET;
 use login_setup::Port;
 use std::alloc::Global;
 use std::marker::Model;
-
-/// The octets of the longest packet.
-const MAX_OCTETS: usize = 1500;
 
 /// Where a packet's octets stand, and where it goes.
 #[derive(Clone, Copy, PartialEq, Eq, Debug)]
@@ -85,21 +84,21 @@ impl Store {
     pub fn make_room(&mut self) -> bool
         ensures packets { self.new.packets ≡ self.old.packets }
         ensures stored { self.new.stored ≡ self.old.stored }
-        ensures octets_room { result ≡ true → 1500 ≤ self.new.octets_room }
+        ensures octets_room { result ≡ true → max_packet ≤ self.new.octets_room }
         ensures packets_room { result ≡ true → 1 ≤ self.new.packets_room }
         ensures octets_stay { self.old.octets_room ≤ self.new.octets_room }
         ensures packets_stay { self.old.packets_room ≤ self.new.packets_room }
-        ensures lacked { 1500 ≤ self.old.octets_room → 1 ≤ self.old.packets_room → result ≡ true }
+        ensures lacked { max_packet ≤ self.old.octets_room → 1 ≤ self.old.packets_room → result ≡ true }
     {
-        self.octets.reserve(MAX_OCTETS).is_ok() && self.slots.reserve(1).is_ok()
+        self.octets.reserve(MAX_PACKET).is_ok() && self.slots.reserve(1).is_ok()
     }
 
     /// Keeps a packet of at most 1,500 octets, for which there is room. One whose octets are those of the last
     /// packet to the same port takes no more octets.
     #[tactic(auto, using(crate::proofs::Storing::one_more, crate::proofs::Storing::stored_behind, crate::proofs::Storing::are_there))]
     pub fn keep(&mut self, port: Port, octets: &[u8])
-        requires fits { length octets.now ≤ 1500 }
-        requires octets_room { 1500 ≤ self.old.octets_room }
+        requires fits { length octets.now ≤ max_packet }
+        requires octets_room { max_packet ≤ self.old.octets_room }
         requires packets_room { 1 ≤ self.old.packets_room }
         ensures packets { self.new.packets ≡ self.old.packets ++ (record { port = port; octets = octets.now }) ∷ [] }
         ensures stored { self.new.stored ≤ self.old.stored + length octets.now }
@@ -129,7 +128,7 @@ impl Store {
     /// The packet of this number, counted from 1; None where none was sent with it.
     pub fn get(&self, number: u32) -> Option<Stored>
         ensures packet { lent result ≡ packet_numbered self.now.packets number }
-        ensures fits { IfSome result (λ packet. length packet.octets.now ≤ 1500) }
+        ensures fits { IfSome result (λ packet. length packet.octets.now ≤ max_packet) }
     {
         if number == 0 {
             return None;
@@ -196,7 +195,7 @@ fn is_to(slot: &Slot, port: Port) -> bool
 fn octets_at<'a>(octets: &'a [u8], slot: &Slot) -> &'a [u8]
     requires { IsThere (length octets.now) slot.now }
     ensures same { result.now ≡ (packet_at octets.now slot.now).octets }
-    ensures fits { length result.now ≤ 1500 }
+    ensures fits { length result.now ≤ max_packet }
 {
     &octets[slot.place..slot.place + slot.length]
 }

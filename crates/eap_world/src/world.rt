@@ -2,6 +2,7 @@
 
 ghost use Rattle.std.specs.Prelude.{◌≡◌, ◌↔◌, ◌≤◌, ◌<◌, ◌+◌, ◌-◌, ◌^◌, ◌++◌, ℕ, List, true, false, map, length, IsTrue};
 ghost use Rattle.std.specs.Prelude.{Bool, MatchResult, IfOk, None, option_copied, vec_len, vec_capacity};
+ghost use Rattle.eap_base.specs.Sizes.{max_packet};
 ghost use Rattle.login_setup.specs.Setup.{IsSoundPeer, IsSoundServer, HasKeys};
 ghost use Rattle.login_setup.specs.declared.event.Event.TheVariants.{Restart};
 ghost use Rattle.eap_method.specs.declared.tags.Tags.{Tags};
@@ -499,10 +500,10 @@ fn make_room(sent: &mut Store, book: &mut Vec<Entry>) -> bool
     ensures sent { sent.new.packets ≡ sent.old.packets }
     ensures stored { sent.new.stored ≡ sent.old.stored }
     ensures book { book.new.items ≡ book.old.items }
-    ensures sent_room { result ≡ true → (1500 ≤ sent.new.octets_room) × (1 ≤ sent.new.packets_room) }
+    ensures sent_room { result ≡ true → (max_packet ≤ sent.new.octets_room) × (1 ≤ sent.new.packets_room) }
     ensures book_room { result ≡ true → vec_len book.new + 4 ≤ vec_capacity book.new }
     ensures book_len { vec_len book.new ≡ vec_len book.old }
-    ensures lacked { 1500 ≤ sent.old.octets_room → 1 ≤ sent.old.packets_room → vec_len book.old + 4 ≤ vec_capacity book.old
+    ensures lacked { max_packet ≤ sent.old.octets_room → 1 ≤ sent.old.packets_room → vec_len book.old + 4 ≤ vec_capacity book.old
         → result ≡ true }
 {
     sent.make_room() && book.reserve(MAX_TAGS).is_ok()
@@ -519,7 +520,7 @@ fn keep<P: PeerMethod, S: ServerMethod>(
     packet: &Packet,
     tags: &Tags,
 ) -> Told
-    requires sent_room { (1500 ≤ sent.old.octets_room) × (1 ≤ sent.old.packets_room) }
+    requires sent_room { (max_packet ≤ sent.old.octets_room) × (1 ≤ sent.old.packets_room) }
     requires book_room { vec_len book.old + 4 ≤ vec_capacity book.old }
     requires few { length sent.old.packets < 2 ^ 32 - 1 }
     ensures told { result
@@ -643,7 +644,7 @@ fn next_number(sent: usize) -> u32
 
 /// Keeps what an action sends, for which there is room.
 fn keep_sent(sent: &mut Store, action: &Action, packet: &Packet)
-    requires room { (1500 ≤ sent.old.octets_room) × (1 ≤ sent.old.packets_room) }
+    requires room { (max_packet ≤ sent.old.octets_room) × (1 ≤ sent.old.packets_room) }
     ensures kept { (tags : Tags) → sent.new.packets ≡ sent.old.packets ++ sent_by (action_with action.now packet.now tags) }
     ensures few { length sent.new.packets ≤ length sent.old.packets + 1 }
 {

@@ -8,7 +8,8 @@ use Rattle.eapol_capture.specs.declared.order.OctetOrder.{OctetOrder}
 use Rattle.eapol_capture.specs.declared.reader.NextRecord.{NextRecord}
 use Rattle.eapol_capture.specs.declared.reader.NextRecord.TheVariants.{Record, End, CutFile, BadMagic, BadVersion, BadLink, BadRecord, TooMuch, Read}
 use Rattle.eapol_capture.specs.Files.{Contents, ends, record_of, number, order_of, is_version, faults_in, order_or_fault, behind, missing, from_header}
-use Rattle.eapol_capture.specs.Files.{max_input, max_frame, max_kept}
+use Rattle.octet_io.specs.Lines.{max_input}
+use Rattle.eapol_capture.specs.Files.{max_frame, max_kept}
 use Rattle.eapol_capture.specs.Reading.{Reading, octets_left, contents_from, contents_left, Divides, Answers, begun_in, Takes, Exhausts}
 use Rattle.eapol_capture.specs.Parts.{Hands, HandsAll, HasFrame, IsCut, IsPast, Stops, Parts, Frames, Fails, Opens, told, answer_of}
 use Rattle.eapol_capture.proofs.RecordLaws.{none-missing, cut-missing, past-missing, no-records, stops-early, stops-late, bad-record, one-record}

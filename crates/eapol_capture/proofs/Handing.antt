@@ -5,7 +5,8 @@ use Rattle.std.proofs.lemmas.Bool.{cases_lt}
 use Rattle.std.proofs.lemmas.List.{take_all, take-take, take-append-le, take-append-drop, length-take, length-take-le, length-drop}
 use Rattle.std.proofs.Math.Seq.{take-append-add}
 use Rattle.octet_io.specs.Known.{prepend_known}
-use Rattle.eapol_capture.specs.Files.{max_input, max_kept}
+use Rattle.octet_io.specs.Lines.{max_input}
+use Rattle.eapol_capture.specs.Files.{max_kept}
 use Rattle.eapol_capture.specs.Reading.{Reading, octets_left}
 use Rattle.eapol_capture.specs.Parts.{Keeps, Hands}
 

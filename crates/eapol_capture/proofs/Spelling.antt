@@ -5,7 +5,8 @@ use Rattle.std.proofs.lemmas.List.Elements.{All-head, All-tail}
 use Rattle.std.proofs.lemmas.Nat.{from_be_bytes-to_be_bytes_4, from_le_bytes-to_le_bytes_4}
 use Rattle.eapol_capture.specs.declared.order.OctetOrder.{OctetOrder}
 use Rattle.eapol_capture.specs.declared.order.OctetOrder.TheVariants.{Big, Little}
-use Rattle.eapol_capture.specs.Files.{record_of, number, order_or_fault, all_records, max_input, max_frame, max_kept}
+use Rattle.octet_io.specs.Lines.{max_input}
+use Rattle.eapol_capture.specs.Files.{record_of, number, order_or_fault, all_records, max_frame, max_kept}
 use Rattle.eapol_capture.specs.Laws.{Captured, IsCaptured, four_octets, spelled_header, spelled_record, spelled_records, listed, SpelledFilesAreRead}
 use Rattle.eapol_capture.proofs.Dividing.{header-is, size-front}
 use Rattle.eapol_capture.proofs.RecordLaws.{no-records, one-record}

@@ -6,7 +6,8 @@ use Rattle.octet_io.specs.Known.{prepend_known}
 use Rattle.eapol_capture.specs.declared.order.OctetOrder.{OctetOrder}
 use Rattle.eapol_capture.specs.declared.reader.NextRecord.{NextRecord}
 use Rattle.eapol_capture.specs.declared.reader.NextRecord.TheVariants.{CutFile, Read}
-use Rattle.eapol_capture.specs.Files.{number, order_of, order_or_fault, from_header, all_records, max_input, max_frame, max_kept}
+use Rattle.octet_io.specs.Lines.{max_input}
+use Rattle.eapol_capture.specs.Files.{number, order_of, order_or_fault, from_header, all_records, max_frame, max_kept}
 use Rattle.eapol_capture.specs.Reading.{Reading, octets_left, is_open, Waits}
 use Rattle.eapol_capture.specs.Parts.{Hands, HandsAll, Stops, Frames, HasHeader, Heads, told, answer_of}
 use Rattle.eapol_capture.proofs.RecordLaws.{cut-missing, no-records, stops-early, stops-late}

@@ -3,6 +3,7 @@
 use Rattle.std.specs.Prelude.{ℕ, zero, suc, ◌+◌, ◌-◌, List, [], ◌∷◌, length, take, drop, min, Bool, ◌==◌, ◌&&◌, not, nat_lt, nat_le, if◌then◌else◌, Option}
 use Rattle.std.specs.Prelude.{Some, None, Result, Ok, Err}
 use Rattle.std.specs.Int.{w16, w32, from_be_bytes, from_le_bytes}
+use Rattle.octet_io.specs.Lines.{max_input}
 use Rattle.eapol_capture.specs.declared.order.OctetOrder.{OctetOrder}
 use Rattle.eapol_capture.specs.declared.order.OctetOrder.TheVariants.{Big, Little}
 use Rattle.eapol_capture.specs.declared.reader.NextRecord.{NextRecord}
@@ -14,10 +15,7 @@ pub data Contents : Type 0 where
   ends : ℕ → NextRecord → Contents
   record_of : List ℕ → Contents → Contents
 
--- the octets of a file, of a frame, and those of a frame that are kept
-abbrev pub max_input : ℕ
-max_input = 16777216
-
+-- the octets of a frame, and those of a frame that are kept
 abbrev pub max_frame : ℕ
 max_frame = 262144
 

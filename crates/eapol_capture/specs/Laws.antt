@@ -4,7 +4,8 @@ use Rattle.std.specs.Int.{w16, w32, to_be_bytes, to_le_bytes}
 use Rattle.eapol_capture.specs.declared.order.OctetOrder.{OctetOrder}
 use Rattle.eapol_capture.specs.declared.order.OctetOrder.TheVariants.{Big, Little}
 use Rattle.eapol_capture.specs.declared.reader.NextRecord.TheVariants.{End}
-use Rattle.eapol_capture.specs.Files.{Contents, ends, record_of, contents, magic_number, max_input, max_frame, max_kept}
+use Rattle.octet_io.specs.Lines.{max_input}
+use Rattle.eapol_capture.specs.Files.{Contents, ends, record_of, contents, magic_number, max_frame, max_kept}
 use Rattle.eapol_capture.specs.Frames.{eap, eapol_type, carried}
 
 -- a captured frame, with its time and its length before it was cut, as they stand in a file

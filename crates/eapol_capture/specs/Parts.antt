@@ -4,7 +4,8 @@ use Rattle.octet_io.specs.Known.{prepend_known, nothing_known}
 use Rattle.eapol_capture.specs.declared.order.OctetOrder.{OctetOrder}
 use Rattle.eapol_capture.specs.declared.reader.NextRecord.{NextRecord}
 use Rattle.eapol_capture.specs.declared.reader.NextRecord.TheVariants.{Record, End, CutFile, BadRecord, TooMuch, Read}
-use Rattle.eapol_capture.specs.Files.{Contents, ends, order_or_fault, max_input, max_kept}
+use Rattle.octet_io.specs.Lines.{max_input}
+use Rattle.eapol_capture.specs.Files.{Contents, ends, order_or_fault, max_kept}
 use Rattle.eapol_capture.specs.Reading.{Reading, octets_left, Waits}
 
 -- the answer that a step leads to, where it goes on to a record or stops

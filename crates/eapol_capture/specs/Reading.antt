@@ -4,7 +4,8 @@ use Rattle.octet_io.specs.Known.{prepend_known, nothing_known}
 use Rattle.eapol_capture.specs.declared.order.OctetOrder.{OctetOrder}
 use Rattle.eapol_capture.specs.declared.reader.NextRecord.{NextRecord}
 use Rattle.eapol_capture.specs.declared.reader.NextRecord.TheVariants.{Record, End, CutFile, BadRecord, TooMuch, Read}
-use Rattle.eapol_capture.specs.Files.{Contents, ends, record_of, from_header, all_records, max_input}
+use Rattle.octet_io.specs.Lines.{max_input}
+use Rattle.eapol_capture.specs.Files.{Contents, ends, record_of, from_header, all_records}
 
 -- a reader: how many octets it has handed out, the octets that it has read ahead, the file's octet order
 -- once it has read the header, what it has kept of the frame that it read last, the number of the record last

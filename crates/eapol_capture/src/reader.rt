@@ -6,7 +6,7 @@ ghost use Rattle.octet_io.specs.Known.{prepend_known, nothing_known};
 use crate::header::judge_header;
 use crate::order::OctetOrder;
 use eap_base::Octets;
-use octet_io::{Ahead, Source};
+use octet_io::{Ahead, MAX_INPUT, Source};
 use std::marker::Model;
 
 /// What `PcapReader::next_record` met.
@@ -39,13 +39,11 @@ pub enum NextRecord {
 pub struct PcapReader {
     taken: u32,
     order: Option<OctetOrder>,
-    frame: Octets<4096>,
+    frame: Octets<MAX_KEPT>,
     number: u32,
     over: bool,
     ahead: Ahead,
 }
-
-const MAX_INPUT: u32 = 16_777_216;
 
 const MAX_FRAME: u32 = 262_144;
 
@@ -62,7 +60,7 @@ const FIRST_LENGTH: u32 = 4;
 
 impl Model for PcapReader {
     ghost use Rattle.std.specs.Prelude.{◌≤◌, ◌+◌, if◌then◌else◌};
-    ghost use Rattle.eapol_capture.specs.Files.{max_input};
+    ghost use Rattle.octet_io.specs.Lines.{max_input};
     ghost use Rattle.eapol_capture.specs.Reading.{Reading};
 
     ghost Value = { Reading };
@@ -75,7 +73,8 @@ impl Model for PcapReader {
 impl PcapReader {
     ghost use Rattle.std.specs.Prelude.{None};
     ghost use Rattle.eapol_capture.specs.declared.reader.NextRecord.TheVariants.{Record, Read};
-    ghost use Rattle.eapol_capture.specs.Files.{max_input, max_kept, number, order_or_fault};
+    ghost use Rattle.octet_io.specs.Lines.{max_input};
+    ghost use Rattle.eapol_capture.specs.Files.{max_kept, number, order_or_fault};
     ghost use Rattle.eapol_capture.specs.Reading.{contents_left, octets_left, Answers, begun, records_begin, Takes, Exhausts, Waits, Faults, is_last};
     ghost use Rattle.eapol_capture.specs.Parts.{answer_of, told, Keeps, Parts, Frames, Opens, Heads};
 

@@ -7,12 +7,9 @@ ghost use Rattle.std.specs.Bool.{OnTrue, OnFalse};
 ghost use Rattle.eax_mode.specs.Eax.{IsOnlyTextOf, combined, counter_mode, eax_accepts, eax_plaintext, eax_sealed, eax_tag};
 ghost use Rattle.eax_mode.specs.Eax as spec;
 
-use aes_block::Aes128;
+use aes_block::{Aes128, BLOCK_LEN};
 use cmac_mac::CmacKey;
 use eap_base::equal_in_full;
-
-/// The octets of a block of AES.
-const BLOCK_LEN: usize = 16;
 
 /// Combines each octet with the one at its place in a block.
 fn combine(octets: &mut [u8], block: &[u8; BLOCK_LEN])

@@ -10,6 +10,9 @@ use eap_method::{PeerMethod, ServerMethod};
 use end_pipe::{PeerPipe, ServerPipe};
 use login_setup::{PeerSetup, ServerSetup};
 
+/// The most inputs of an end.
+pub const MAX_INPUTS: u32 = 10_000;
+
 /// The peer of settings that a text gives, to which nothing has come. It has an object of both methods.
 pub fn peer_of<M: PeerMethod>(setup: PeerSetup, methods: Vec<M>) -> PeerPipe<M>
     requires valid { IsValidPeer setup }

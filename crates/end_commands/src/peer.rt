@@ -11,16 +11,13 @@ ghost use Rattle.end_commands.specs.EndCommand.{begins_in};
 ghost use Rattle.end_commands.specs.EndText.{told_text};
 ghost use Rattle.end_commands.specs.PeerCommand.{HasBothPeers, IsReadyPeer, peer_answer, peer_begin, peer_seen};
 
-use crate::ends::peer_of;
+use crate::ends::{MAX_INPUTS, peer_of};
 use crate::lines::{write_last, write_step};
 use command_driver::{Close, Command, Next, Status, Trouble, drive};
 use eap_base::Packet;
 use eap_method::{PeerMethod, Tags};
 use end_pipe::{EndInput, EndItem, EndReader, PeerPipe};
 use octet_io::{Failed, Sink, Source};
-
-/// The most inputs.
-const MAX_INPUTS: u32 = 10_000;
 
 /// A text of the peer on its way: what has been read of it, and the peer from the line `events` on.
 #[derive(Drop)]

@@ -11,16 +11,13 @@ ghost use Rattle.end_commands.specs.EndCommand.{begins_in};
 ghost use Rattle.end_commands.specs.EndText.{told_text};
 ghost use Rattle.end_commands.specs.ServerCommand.{HasBothServers, IsReadyServer, server_answer, server_begin, server_seen};
 
-use crate::ends::server_of;
+use crate::ends::{MAX_INPUTS, server_of};
 use crate::lines::{write_last, write_step};
 use command_driver::{Close, Command, Next, Status, Trouble, drive};
 use eap_base::Packet;
 use eap_method::{ServerMethod, Tags};
 use end_pipe::{EndInput, EndItem, EndReader, ServerPipe};
 use octet_io::{Failed, Sink, Source};
-
-/// The most inputs.
-const MAX_INPUTS: u32 = 10_000;
 
 /// A text of the server on its way: what has been read of it, and the server from the line `events` on.
 #[derive(Drop)]

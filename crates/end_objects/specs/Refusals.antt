@@ -1,6 +1,7 @@
 -- When settings are refused, and why.
 use Rattle.std.specs.Prelude.{ℕ, List, [], ◌∷◌, length, Bool, false, ◌&&◌, not, nat_lt, nat_le, if◌then◌else◌, Option, Some, None}
 use Rattle.eap_base.specs.Among.{is_kind}
+use Rattle.eap_base.specs.Sizes.{max_name}
 use Rattle.login_setup.specs.Setup.{fits_kind}
 use Rattle.end_objects.specs.Settings.{SettingsValue}
 use Rattle.end_objects.specs.declared.settings.Refusal.{Refusal}
@@ -9,7 +10,7 @@ use Rattle.end_objects.specs.declared.settings.Refusal.TheVariants as refusal
 -- whether a name has octets, and no more than a field of it takes
 abbrev pub is_name : List ℕ → Bool
 is_name [] = false
-is_name (octet ∷ rest) = nat_le (length (octet ∷ rest)) 253
+is_name (octet ∷ rest) = nat_le (length (octet ∷ rest)) max_name
 
 -- whether a number says suite 1, suite 2, or both
 abbrev pub says_suites : ℕ → Bool
@@ -31,7 +32,7 @@ first_of None other = other
 -- the first reason to refuse a peer's settings; no name stands for any server
 abbrev pub peer_refusal : SettingsValue → Option Refusal
 peer_refusal told = first_of (own_refusal told)
-    (if nat_lt 253 (length told.other) then Some refusal.BadOther
+    (if nat_lt max_name (length told.other) then Some refusal.BadOther
     else if not (fits_kind told.kind told.psk) then Some refusal.BadKey
     else None)
 

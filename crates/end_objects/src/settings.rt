@@ -2,11 +2,12 @@
 
 ghost use Rattle.std.specs.Prelude.{◌≡◌, ◌≤◌, [], length, true, None, All, IsTrue};
 ghost use Rattle.eap_base.specs.Among.{is_kind};
+ghost use Rattle.eap_base.specs.Sizes.{max_name};
 ghost use Rattle.login_setup.specs.Setup.{fits_kind, IsSoundPeer, HasKeys, IsSoundServer};
 ghost use Rattle.end_objects.specs.Settings.{settings_of, suites_of, accepted, peer_setup_of, users_of, server_setup_of};
 ghost use Rattle.end_objects.specs.Refusals.{own_refusal, peer_refusal, server_refusal, retry_refusal, stand_alone_refusal};
 
-use eap_base::{GPSK_KIND, Identity, Kinds, Nonce, PSK_KIND, Secret, Suites};
+use eap_base::{GPSK_KIND, Identity, Kinds, MAX_NAME, Nonce, PSK_KIND, Secret, Suites};
 use login_setup::{Accepts, PeerSetup, ServerSetup, User, Users};
 
 /// What an end is told: one method, and the two names and the key that both ends share.
@@ -46,13 +47,13 @@ pub enum Refusal {
 fn own_refusal(settings: &Settings) -> Option<Refusal>
     ensures refused { result ≡ own_refusal (settings_of settings.now) }
     ensures kind { result ≡ None → is_kind settings.now.kind ≡ true }
-    ensures name { result ≡ None → length settings.now.name.now ≤ 253 }
+    ensures name { result ≡ None → length settings.now.name.now ≤ max_name }
 {
     if !is_kind(settings.kind) {
         Some(Refusal::NoMethod)
     } else if settings.suites < 1 || settings.suites > 3 {
         Some(Refusal::NoSuite)
-    } else if settings.name.is_empty() || settings.name.len() > 253 {
+    } else if settings.name.is_empty() || settings.name.len() > MAX_NAME {
         Some(Refusal::BadName)
     } else {
         None
@@ -81,14 +82,14 @@ pub(crate) fn fits(kind: u8, psk: &[u8]) -> bool
 pub fn peer_refusal(settings: &Settings) -> Option<Refusal>
     ensures refused { result ≡ peer_refusal (settings_of settings.now) }
     ensures kind { result ≡ None → is_kind settings.now.kind ≡ true }
-    ensures name { result ≡ None → length settings.now.name.now ≤ 253 }
-    ensures other { result ≡ None → length settings.now.other.now ≤ 253 }
+    ensures name { result ≡ None → length settings.now.name.now ≤ max_name }
+    ensures other { result ≡ None → length settings.now.other.now ≤ max_name }
     ensures key { result ≡ None → IsTrue (fits_kind settings.now.kind settings.now.psk.now) }
 {
     match own_refusal(settings) {
         Some(refusal) => Some(refusal),
         None => {
-            if settings.other.len() > 253 {
+            if settings.other.len() > MAX_NAME {
                 Some(Refusal::BadOther)
             } else if !fits(settings.kind, settings.psk) {
                 Some(Refusal::BadKey)
@@ -103,14 +104,14 @@ pub fn peer_refusal(settings: &Settings) -> Option<Refusal>
 pub fn server_refusal(settings: &Settings) -> Option<Refusal>
     ensures refused { result ≡ server_refusal (settings_of settings.now) }
     ensures kind { result ≡ None → is_kind settings.now.kind ≡ true }
-    ensures name { result ≡ None → length settings.now.name.now ≤ 253 }
-    ensures other { result ≡ None → length settings.now.other.now ≤ 253 }
+    ensures name { result ≡ None → length settings.now.name.now ≤ max_name }
+    ensures other { result ≡ None → length settings.now.other.now ≤ max_name }
     ensures key { result ≡ None → IsTrue (fits_kind settings.now.kind settings.now.psk.now) }
 {
     match own_refusal(settings) {
         Some(refusal) => Some(refusal),
         None => {
-            if settings.other.is_empty() || settings.other.len() > 253 {
+            if settings.other.is_empty() || settings.other.len() > MAX_NAME {
                 Some(Refusal::BadOther)
             } else if !fits(settings.kind, settings.psk) {
                 Some(Refusal::BadKey)
@@ -137,8 +138,8 @@ pub fn retry_refusal(max_retrans: u8) -> Option<Refusal>
 pub fn stand_alone_refusal(settings: &Settings, max_retrans: u8) -> Option<Refusal>
     ensures refused { result ≡ stand_alone_refusal (settings_of settings.now) max_retrans }
     ensures kind { result ≡ None → is_kind settings.now.kind ≡ true }
-    ensures name { result ≡ None → length settings.now.name.now ≤ 253 }
-    ensures other { result ≡ None → length settings.now.other.now ≤ 253 }
+    ensures name { result ≡ None → length settings.now.name.now ≤ max_name }
+    ensures other { result ≡ None → length settings.now.other.now ≤ max_name }
     ensures key { result ≡ None → IsTrue (fits_kind settings.now.kind settings.now.psk.now) }
     ensures few { result ≡ None → max_retrans ≤ 10 }
 {
@@ -161,7 +162,7 @@ pub fn suites(which: u8) -> Suites
 
 /// A server of this name alone, or any where it is empty.
 pub fn accepts(server: &[u8]) -> Accepts
-    requires { length server.now ≤ 253 }
+    requires { length server.now ≤ max_name }
     ensures { result ≡ accepted server.now }
 {
     if server.is_empty() {
@@ -173,8 +174,8 @@ pub fn accepts(server: &[u8]) -> Accepts
 
 /// The settings of a peer with one method.
 pub fn peer_setup(settings: &Settings, nonce: &Nonce) -> PeerSetup
-    requires name { length settings.now.name.now ≤ 253 }
-    requires other { length settings.now.other.now ≤ 253 }
+    requires name { length settings.now.name.now ≤ max_name }
+    requires other { length settings.now.other.now ≤ max_name }
     requires key { IsTrue (fits_kind settings.now.kind settings.now.psk.now) }
     ensures made { result ≡ peer_setup_of (settings_of settings.now) nonce.now }
     ensures sound { IsSoundPeer result }
@@ -207,7 +208,7 @@ pub fn peer_setup(settings: &Settings, nonce: &Nonce) -> PeerSetup
 
 /// The one user of a server.
 pub fn one_user(settings: &Settings) -> Users
-    requires other { length settings.now.other.now ≤ 253 }
+    requires other { length settings.now.other.now ≤ max_name }
     requires key { IsTrue (fits_kind settings.now.kind settings.now.psk.now) }
     ensures made { result ≡ users_of (settings_of settings.now) }
     ensures keys { All (λ user. IsTrue (fits_kind user.kind user.psk)) result }
@@ -220,7 +221,7 @@ pub fn one_user(settings: &Settings) -> Users
 /// Adds the one user of a server, where there is none.
 fn add_user(users: &mut Users, settings: &Settings)
     requires none { users.old ≡ [] }
-    requires other { length settings.now.other.now ≤ 253 }
+    requires other { length settings.now.other.now ≤ max_name }
     requires key { IsTrue (fits_kind settings.now.kind settings.now.psk.now) }
     ensures made { users.new ≡ users_of (settings_of settings.now) }
     ensures keys { All (λ user. IsTrue (fits_kind user.kind user.psk)) users.new }
@@ -235,8 +236,8 @@ fn add_user(users: &mut Users, settings: &Settings)
 
 /// The settings of a server with one method and one user.
 pub fn server_setup(settings: &Settings, nonce: &Nonce) -> ServerSetup
-    requires name { length settings.now.name.now ≤ 253 }
-    requires other { length settings.now.other.now ≤ 253 }
+    requires name { length settings.now.name.now ≤ max_name }
+    requires other { length settings.now.other.now ≤ max_name }
     requires key { IsTrue (fits_kind settings.now.kind settings.now.psk.now) }
     ensures made { result ≡ server_setup_of (settings_of settings.now) nonce.now }
     ensures sound { IsSoundServer result }

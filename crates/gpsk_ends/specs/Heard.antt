@@ -1,5 +1,6 @@
 -- Messages received.
 use Rattle.std.specs.Prelude.{◌≡◌, ℕ, ◌≤◌, List, length}
+use Rattle.eap_packet.specs.Packet.{max_type_data}
 use Rattle.gpsk_messages.specs.Message.{Message, spelled, mac_of, list_of, AreFields}
 
 -- the Type-Data of a packet spells the message, whose fields have their sizes
@@ -8,4 +9,4 @@ pub record IsHeard (message : Message) (octets : List ℕ) : Type 0 where
   pub fields : AreFields message
   pub mac : length (mac_of message) ≤ 32
   pub suites : length (list_of message) ≤ 120
-  pub size : length octets ≤ 1495
+  pub size : length octets ≤ max_type_data

@@ -2,6 +2,7 @@
 
 ghost use Rattle.std.specs.Prelude.{◌≡◌, ◌≤◌, length, option_map, IfOk};
 ghost use Rattle.eap_base.specs.Suite.{ks_of};
+ghost use Rattle.eap_packet.specs.Packet.{max_type_data};
 ghost use Rattle.gpsk_messages.specs.Message.{message_of, heard};
 ghost use Rattle.gpsk_messages.specs.Reading.{read_of};
 ghost use Rattle.gpsk_ends.specs.Heard.{IsHeard};
@@ -13,7 +14,7 @@ use gpsk_messages::{GpskView, read_gpsk};
 /// The message that the Type-Data spells, where `suite` is the login's once that is chosen.
 #[tactic(auto, using(crate::proofs::Pieces::ks_small))]
 pub(crate) fn hear<'a>(body: &'a [u8], suite: Option<Suite>) -> Result<GpskView<'a>, Cause>
-    requires { length body.now ≤ 1495 }
+    requires { length body.now ≤ max_type_data }
     ensures message { heard result ≡ read_of (option_map ks_of suite) body.now }
     ensures sound { IfOk result (λ view. IsHeard (message_of view) body.now) }
 {

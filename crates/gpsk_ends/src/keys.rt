@@ -2,6 +2,7 @@
 
 ghost use Rattle.std.specs.Prelude.{◌≡◌, ◌≤◌, ◌+◌, ◌∷◌, [], length, IsTrue};
 ghost use Rattle.eap_base.specs.Suite.{ks_of};
+ghost use Rattle.eap_base.specs.Sizes.{max_name};
 ghost use Rattle.eap_packet.specs.Packet.{has_type};
 ghost use Rattle.gpsk_messages.specs.Message.{message_of, mac_of, size_of, spelled, without_mac};
 ghost use Rattle.eap_method.specs.Room.{HasRoom};
@@ -51,8 +52,8 @@ impl Keys {
         id_s: &[u8],
     ) -> Keys
         requires key { 32 ≤ length psk.now }
-        requires peer_name { length id_p.now ≤ 253 }
-        requires server_name { length id_s.now ≤ 253 }
+        requires peer_name { length id_p.now ≤ max_name }
+        requires server_name { length id_s.now ≤ max_name }
         ensures { result ≡ record { suite = suite; keys = gpsk_keys_of suite psk.now rand_p.now id_p.now rand_s.now id_s.now } }
     {
         let keys = gpsk_keys(suite, psk.as_slice(), rand_p, id_p, rand_s, id_s);

@@ -1,6 +1,7 @@
 //! The records of a message's MAC.
 
 ghost use Rattle.std.specs.Prelude.{◌≡◌, ◌≤◌, ◌∷◌, [], length};
+ghost use Rattle.eap_base.specs.Sizes.{max_packet};
 ghost use Rattle.gpsk_messages.specs.Message.{message_of};
 ghost use Rattle.eap_method.specs.declared.tags.Label.TheVariants.{Sk};
 ghost use Rattle.eap_method.specs.GpskTags.{sk_record};
@@ -13,7 +14,7 @@ use gpsk_messages::{GpskView, covered_part, mac_part};
 /// Leaves the record of this MAC of these octets alone in the list.
 #[tactic(auto, using(crate::proofs::Pieces::one_piece))]
 pub(crate) fn set_alone(list: &mut TagList, psk: &Secret, covered: &[u8], mac: &[u8])
-    requires covered { length covered.now ≤ 1500 }
+    requires covered { length covered.now ≤ max_packet }
     requires mac { length mac.now ≤ 32 }
     ensures { list.new ≡ record { method = 51; label = Sk; psk = psk.now; octets = covered.now; tag = mac.now } ∷ [] }
 {

@@ -2,6 +2,7 @@
 
 ghost use Rattle.std.specs.Prelude.{◌≡◌, ◌≤◌, ◌+◌, ◌++◌, ℕ, List, length, IsTrue, drop};
 ghost use Rattle.eap_base.specs.Suite.{ks_of};
+ghost use Rattle.eap_base.specs.Sizes.{max_packet};
 ghost use Rattle.eap_packet.specs.Packet.{has_type, value_with};
 ghost use Rattle.eap_packet.specs.Packet as packets;
 ghost use Rattle.gpsk_messages.specs.Message.{message_of, mac_of, spelled, size_of, covered_of};
@@ -28,10 +29,10 @@ pub(crate) fn mac_place(suite: Suite) -> &'static [u8]
 /// Writes the packet of a message up to its MAC of KS octets, which its Length counts.
 pub(crate) fn write_front(view: &GpskView, code: Code, id: u8, suite: Suite, packet: &mut Packet)
     requires typed { IsTrue (has_type code) }
-    requires fits { size_of (message_of view.now) + 5 ≤ 1500 }
+    requires fits { size_of (message_of view.now) + 5 ≤ max_packet }
     requires mac { length (mac_of (message_of view.now)) ≡ ks_of suite }
     ensures begins { 6 ≤ length packet.new }
-    ensures room { length packet.new + ks_of suite ≤ 1500 }
+    ensures room { length packet.new + ks_of suite ≤ max_packet }
     ensures covered { drop 6 packet.new ≡ covered_of (message_of view.now) }
     ensures sealed { (tag : List ℕ) → length tag ≡ ks_of suite
         → packet.new ++ tag ≡ packets.spelled (value_with code id 51 (spelled (with_mac (message_of view.now) tag))) }

@@ -3,6 +3,7 @@ use Rattle.std.specs.Prelude.{◌≡◌, ℕ, ◌+◌, ◌*◌, ◌^◌, ◌%◌
 use Rattle.std.specs.Int.{w32, to_be_bytes}
 use Rattle.eap_base.specs.declared.suite.Suite.{Suite}
 use Rattle.eap_base.specs.Suite.{ks_of, suite_octets}
+use Rattle.eap_base.specs.Sizes.{max_name}
 use Rattle.eap_packet.specs.declared.cause.Cause.{Cause}
 use Rattle.eap_packet.specs.Packet.{two_octets}
 use Rattle.gpsk_messages.specs.declared.view.GpskView.{GpskView}
@@ -79,7 +80,7 @@ size_of (protected_fail code mac) = 5 + length mac
 
 -- the sizes of fields
 abbrev pub IsIdentity : List ℕ → Type 0
-IsIdentity name = length name ≤ 253
+IsIdentity name = length name ≤ max_name
 
 abbrev pub IsRand : List ℕ → Type 0
 IsRand rand = length rand ≡ 32

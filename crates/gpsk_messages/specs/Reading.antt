@@ -3,6 +3,7 @@ use Rattle.std.specs.Prelude.{ℕ, zero, ◌+◌, ◌*◌, ◌%◌, List, [], �
 use Rattle.std.specs.Int.{w32, from_be_bytes}
 use Rattle.eap_base.specs.declared.suite.Suite.{Suite}
 use Rattle.eap_base.specs.Suite.{ks_of, suite_numbered}
+use Rattle.eap_base.specs.Sizes.{max_name}
 use Rattle.eap_packet.specs.declared.cause.Cause.{Cause}
 use Rattle.eap_packet.specs.declared.cause.Cause.TheVariants.{GpskShape, ListTooLong}
 use Rattle.gpsk_messages.specs.Message.{Message, gpsk1, gpsk2, gpsk3, gpsk4, fail, protected_fail, list_of}
@@ -33,7 +34,7 @@ sized_at octets = None
 unfoldable pub identity_at : List ℕ → Option (List ℕ × List ℕ)
 identity_at octets = do
   field ← sized_at octets
-  some_if (nat_le (length field.0) 253) field
+  some_if (nat_le (length field.0) max_name) field
 
 -- a list of suites, of six octets each
 unfoldable pub suites_at : List ℕ → Option (List ℕ × List ℕ)

@@ -4,13 +4,7 @@ ghost use Rattle.std.specs.Prelude.{◌≡◌, IfSome, length, option_map};
 ghost use Rattle.gpsk_messages.specs.Reading.{exact_at, sized_at, identity_at, suites_at, suite_at, code_at};
 
 use byteorder::{BigEndian, ByteOrder};
-use eap_base::{Suite, array_of};
-
-/// The most octets of an identity.
-const MAX_IDENTITY: usize = 253;
-
-/// The octets of one suite in a list.
-const SUITE_SIZE: usize = 6;
+use eap_base::{MAX_NAME, SUITE_SIZE, Suite, array_of};
 
 /// A field of `count` octets.
 #[tactic(auto, unfolding(crate::specs::Reading::exact_at))]
@@ -42,7 +36,7 @@ pub(crate) fn identity_field<'a>(octets: &'a [u8]) -> Option<(&'a [u8], &'a [u8]
     ensures { option_map (λ x. (x.0.now, x.1.now)) result ≡ identity_at octets.now }
 {
     let (name, rest) = sized_field(octets)?;
-    if name.len() <= MAX_IDENTITY {
+    if name.len() <= MAX_NAME {
         Some((name, rest))
     } else {
         None

@@ -3,7 +3,8 @@
 ghost use Rattle.std.specs.Prelude.{◌≡◌, ◌+◌, ◌≤◌, ◌++◌, [], ◌∷◌, length, IsTrue};
 ghost use Rattle.std.specs.Int.{w32, to_be_bytes};
 ghost use Rattle.eap_base.specs.Suite.{suite_octets};
-ghost use Rattle.eap_packet.specs.Packet.{value_with, has_type};
+ghost use Rattle.eap_base.specs.Sizes.{max_packet};
+ghost use Rattle.eap_packet.specs.Packet.{value_with, has_type, max_type_data};
 ghost use Rattle.eap_packet.specs.Packet as packets;
 ghost use Rattle.gpsk_messages.specs.Message.{message_of, op_code, spelled, sized, size_of};
 
@@ -14,7 +15,7 @@ use eap_packet::{Code, begin_into};
 
 /// Appends a field behind its length, for which there is room.
 fn put_sized(packet: &mut Packet, field: &[u8])
-    requires { length packet.old + 2 + length field.now ≤ 1500 }
+    requires { length packet.old + 2 + length field.now ≤ max_packet }
     ensures { packet.new ≡ packet.old ++ sized field.now }
 {
     let mut size = [0; 2];
@@ -25,7 +26,7 @@ fn put_sized(packet: &mut Packet, field: &[u8])
 
 /// Appends a Failure-Code, for which there is room.
 fn put_code(packet: &mut Packet, code: u32)
-    requires { length packet.old + 4 ≤ 1500 }
+    requires { length packet.old + 4 ≤ max_packet }
     ensures { packet.new ≡ packet.old ++ to_be_bytes w32 code }
 {
     let mut octets = [0; 4];
@@ -35,7 +36,7 @@ fn put_code(packet: &mut Packet, code: u32)
 
 /// Appends a nonce, for which there is room.
 fn put_rand(packet: &mut Packet, rand: &[u8; 32])
-    requires { length packet.old + length rand.now ≤ 1500 }
+    requires { length packet.old + length rand.now ≤ max_packet }
     ensures { packet.new ≡ packet.old ++ rand.now }
 {
     packet.put(rand);
@@ -43,7 +44,7 @@ fn put_rand(packet: &mut Packet, rand: &[u8; 32])
 
 /// Appends the two nonces, for which there is room.
 fn put_rands(packet: &mut Packet, rand_p: &[u8; 32], rand_s: &[u8; 32])
-    requires { length packet.old + length rand_p.now + length rand_s.now ≤ 1500 }
+    requires { length packet.old + length rand_p.now + length rand_s.now ≤ max_packet }
     ensures { packet.new ≡ packet.old ++ (rand_p.now ++ rand_s.now) }
 {
     put_rand(packet, rand_p);
@@ -52,7 +53,7 @@ fn put_rands(packet: &mut Packet, rand_p: &[u8; 32], rand_s: &[u8; 32])
 
 /// Appends the fields of GPSK-1, for which there is room.
 fn put_gpsk1(packet: &mut Packet, id_s: &[u8], rand_s: &[u8; 32], list: &[u8])
-    requires { length packet.old + 4 + length id_s.now + length rand_s.now + length list.now ≤ 1500 }
+    requires { length packet.old + 4 + length id_s.now + length rand_s.now + length list.now ≤ max_packet }
     ensures { packet.new ≡ packet.old ++ (sized id_s.now ++ (rand_s.now ++ sized list.now)) }
 {
     put_sized(packet, id_s);
@@ -69,7 +70,7 @@ fn put_offer(
     rand_s: &[u8; 32],
     list: &[u8],
 )
-    requires { length packet.old + 6 + length id_p.now + length id_s.now + length rand_p.now + length rand_s.now + length list.now ≤ 1500 }
+    requires { length packet.old + 6 + length id_p.now + length id_s.now + length rand_p.now + length rand_s.now + length list.now ≤ max_packet }
     ensures { packet.new ≡ packet.old ++ (sized id_p.now ++ (sized id_s.now ++ (rand_p.now ++ (rand_s.now ++ sized list.now)))) }
 {
     put_sized(packet, id_p);
@@ -80,7 +81,7 @@ fn put_offer(
 
 /// Appends CSuite_Sel, the PD block and the MAC, for which there is room.
 fn put_sealed(packet: &mut Packet, suite: Suite, pd: &[u8], mac: &[u8])
-    requires { length packet.old + 8 + length pd.now + length mac.now ≤ 1500 }
+    requires { length packet.old + 8 + length pd.now + length mac.now ≤ max_packet }
     ensures { packet.new ≡ packet.old ++ (suite_octets suite ++ (sized pd.now ++ mac.now)) }
 {
     packet.put(&suite.octets());
@@ -104,7 +105,7 @@ fn op_code_of(view: &GpskView) -> u8
 
 /// The octets of the message's Type-Data.
 fn size_of(view: &GpskView) -> usize
-    requires { size_of (message_of view.now) ≤ 1495 }
+    requires { size_of (message_of view.now) ≤ max_type_data }
     ensures { result ≡ size_of (message_of view.now) }
 {
     match view {
@@ -148,7 +149,7 @@ fn size_of(view: &GpskView) -> usize
 /// Appends the Type-Data of the message, for which there is room.
 #[tactic(auto, unfolding(crate::specs::Message::spelled, crate::specs::Message::covered_of))]
 fn put_message(packet: &mut Packet, view: &GpskView)
-    requires { length packet.old + size_of (message_of view.now) ≤ 1500 }
+    requires { length packet.old + size_of (message_of view.now) ≤ max_packet }
     ensures { packet.new ≡ packet.old ++ spelled (message_of view.now) }
 {
     packet.put(&[op_code_of(view)]);
@@ -198,7 +199,7 @@ fn put_message(packet: &mut Packet, view: &GpskView)
 #[tactic(auto, using(crate::proofs::Grammar::spellings_are_sized))]
 pub fn write_gpsk_into(packet: &mut Packet, view: &GpskView, code: Code, id: u8)
     requires typed { IsTrue (has_type code) }
-    requires fits { size_of (message_of view.now) + 5 ≤ 1500 }
+    requires fits { size_of (message_of view.now) + 5 ≤ max_packet }
     ensures { packet.new ≡ packets.spelled (value_with code id 51 (spelled (message_of view.now))) }
 {
     begin_into(packet, code, id, GPSK_KIND, size_of(view));
@@ -208,7 +209,7 @@ pub fn write_gpsk_into(packet: &mut Packet, view: &GpskView, code: Code, id: u8)
 /// The Request or the Response of Type 51 with this Identifier whose Type-Data spells the message.
 pub fn write_gpsk(view: &GpskView, code: Code, id: u8) -> Packet
     requires typed { IsTrue (has_type code) }
-    requires fits { size_of (message_of view.now) + 5 ≤ 1500 }
+    requires fits { size_of (message_of view.now) + 5 ≤ max_packet }
     ensures { result ≡ packets.spelled (value_with code id 51 (spelled (message_of view.now))) }
 {
     let mut packet = Packet::new();

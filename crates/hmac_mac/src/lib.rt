@@ -9,14 +9,14 @@ ghost use Rattle.sha2.specs.Hashers.{Holds256};
 
 use sha2::{Digest, Sha256};
 
-/// The octets of a block of SHA-256.
-const BLOCK_LEN: usize = 64;
+/// The octets of a block of SHA-256, and of MD5 (RFC 2104, section 2).
+pub const BLOCK_LEN: usize = 64;
 
 /// The octet that the inner hash's key is combined with (RFC 2104, section 2, ipad).
-const INNER_PAD: u8 = 0x36;
+pub const INNER_PAD: u8 = 0x36;
 
 /// The octet that the outer hash's key is combined with (RFC 2104, section 2, opad).
-const OUTER_PAD: u8 = 0x5c;
+pub const OUTER_PAD: u8 = 0x5c;
 
 /// The octets with zeros at their end, up to a whole block.
 #[tactic(auto, using(crate::proofs::Blocks::paste_zeros, std::proofs::lemmas::List::Edits::paste_more), unfolding(crate::specs::Hmac::filled))]

@@ -2,6 +2,7 @@
 
 ghost use Rattle.std.specs.Prelude.{◌≡◌, ◌≤◌, length};
 ghost use Rattle.eap_base.specs.Suite.{ks_of};
+ghost use Rattle.eap_base.specs.Sizes.{max_name};
 ghost use Rattle.login_keys.specs.Gkdf.{gpsk_tag_of};
 ghost use Rattle.login_keys.specs.Gpsk.{gpsk_keys_of, input_string, keys_from, pk_size};
 ghost use Rattle.login_keys.specs.Gpsk as spec;
@@ -38,8 +39,8 @@ pub fn gpsk_keys(
 ) -> GpskKeys
     requires long_enough { 32 ≤ length psk.now }
     requires short_enough { length psk.now ≤ 64 }
-    requires peer_name { length id_p.now ≤ 253 }
-    requires server_name { length id_s.now ≤ 253 }
+    requires peer_name { length id_p.now ≤ max_name }
+    requires server_name { length id_s.now ≤ max_name }
     ensures keys { result ≡ gpsk_keys_of suite psk.now rand_p.now id_p.now rand_s.now id_s.now }
 
     // The sizes of the keys that depend on the suite.

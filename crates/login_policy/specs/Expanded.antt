@@ -2,11 +2,11 @@
 -- of it.
 use Rattle.std.specs.Prelude.{ℕ, List, [], ◌∷◌, ◌++◌, take, drop, slice_index, flat_map, Bool, ◌&&◌, not, if◌then◌else◌}
 use Rattle.std.specs.Str.{bytes_eq}
-use Rattle.eap_base.specs.Among.{is_kind, is_among}
+use Rattle.eap_base.specs.Among.{is_kind, is_among, expanded_kind, ietf}
 
 -- the entry of a Type of the IETF: 254, Vendor-Id 0 and the Type in the four octets of the Vendor-Type
 abbrev pub entry_of : ℕ → List ℕ
-entry_of kind = 254 ∷ 0 ∷ 0 ∷ 0 ∷ 0 ∷ 0 ∷ 0 ∷ kind ∷ []
+entry_of kind = expanded_kind ∷ ietf ++ kind ∷ []
 
 -- the list of an Expanded Nak, from that of a Nak: an entry for each Type
 unfoldable pub nak_entries : List ℕ → List ℕ
@@ -19,7 +19,7 @@ type_in entry = slice_index entry 7
 -- whether an entry is of Vendor-Id 0 and names a Type of the two methods that isn't among these
 abbrev pub names_new : List ℕ → List ℕ → Bool
 names_new seen entry =
-    bytes_eq (take 6 (drop 1 entry)) (0 ∷ 0 ∷ 0 ∷ 0 ∷ 0 ∷ 0 ∷ []) && (is_kind (type_in entry) && not (is_among seen (type_in entry)))
+    bytes_eq (take 6 (drop 1 entry)) ietf && (is_kind (type_in entry) && not (is_among seen (type_in entry)))
 
 -- the Types of the two methods that stand in entries of Vendor-Id 0, but for those that were seen
 -- before; each once, where it stands first

@@ -7,14 +7,8 @@ ghost use Rattle.login_policy.specs.Policy.{nak_of};
 ghost use Rattle.login_policy.specs.Expanded.{entry_of, nak_entries, names_new, expanded_kinds};
 
 use crate::policy::nak_list;
-use eap_base::{GPSK_KIND, Kinds, Octets, PSK_KIND, is_among};
+use eap_base::{EXPANDED, GPSK_KIND, IETF, Kinds, NAK_ENTRY_SIZE, Octets, PSK_KIND, is_among};
 use login_setup::PeerSetup;
-
-/// The octets of an entry: 254, the Vendor-Id in three and the Vendor-Type in four.
-const ENTRY_SIZE: usize = 8;
-
-/// Vendor-Id 0, that of the IETF, and the first three octets of a Vendor-Type under 256.
-const IETF: [u8; 6] = [0; 6];
 
 /// The list of the peer's Expanded Nak (RFC 3748 section 5.3.2): of each method that it allows, in
 /// their order, an entry of eight octets with Vendor-Id 0 and its Type; the one entry of Type 0 where
@@ -32,10 +26,10 @@ pub fn expanded_nak(setup: &PeerSetup) -> Octets<16>
 }
 
 /// The entry of a Type of the IETF.
-fn entry_of(kind: u8) -> [u8; 8]
+fn entry_of(kind: u8) -> [u8; NAK_ENTRY_SIZE]
     ensures { result ≡ entry_of kind }
 {
-    [254, 0, 0, 0, 0, 0, 0, kind]
+    [EXPANDED, 0, 0, 0, 0, 0, 0, kind]
 }
 
 /// The Types of the two methods that stand in entries of Vendor-Id 0, each once, in the order of
@@ -46,7 +40,7 @@ pub fn expanded_kinds(list: &[u8]) -> Kinds
     ensures { result ≡ expanded_kinds list.now }
 {
     let mut kinds = Kinds::new();
-    for entry in list.chunks_exact(ENTRY_SIZE) {
+    for entry in list.chunks_exact(NAK_ENTRY_SIZE) {
         if names_new(&kinds, entry) {
             kinds.put(&[entry[7]]);
         }

@@ -4,11 +4,8 @@ ghost use Rattle.std.specs.Prelude.{◌≡◌, ◌&&◌, not, None, option_copie
 ghost use Rattle.eap_base.specs.Among.{is_among};
 ghost use Rattle.login_policy.specs.Policy.{nak_of, picked_suite, is_allowed, suite_or, is_desired, next_kind};
 
-use eap_base::{Kinds, Suite, Suites, is_among};
+use eap_base::{Kinds, SUITE_SIZE, Suite, Suites, is_among};
 use login_setup::PeerSetup;
-
-/// The octets of an entry of a CSuite_List (RFC 5433 section 9.2).
-const ENTRY_SIZE: usize = 6;
 
 /// Whether the peer allows the method of this Type.
 pub fn peer_allows(setup: &PeerSetup, kind: u8) -> bool
@@ -36,7 +33,7 @@ pub fn nak_list(setup: &PeerSetup) -> Kinds
 pub fn pick_suite(allowed: &Suites, list: &[u8]) -> Option<Suite>
     ensures { result ≡ picked_suite allowed.now list.now }
 {
-    for entry in list.chunks_exact(ENTRY_SIZE) {
+    for entry in list.chunks_exact(SUITE_SIZE) {
         if let Some(suite) = allowed_suite(allowed, entry) {
             return Some(suite);
         }

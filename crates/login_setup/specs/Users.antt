@@ -11,9 +11,13 @@ is_named name kind user = (user.kind == kind) && bytes_eq user.name name
 abbrev pub user_of : List User → List ℕ → ℕ → Option User
 user_of users name kind = find (is_named name kind) users
 
+-- the users of a server
+abbrev pub max_users : ℕ
+max_users = 16
+
 -- there is room for the user: fewer than 16 are there, and none has its name and kind
 pub record HasRoom (users : List User) (user : User) : Type 0 where
-  pub few : length users < 16
+  pub few : length users < max_users
   pub absent : user_of users user.name user.kind ≡ None
 
 -- no two users have the same name and kind

@@ -9,4 +9,4 @@ mod users;
 pub use event::Event;
 pub use nonces::Nonces;
 pub use setup::{Accepts, Later, Mode, Party, PeerSetup, Port, ServerSetup, Setup};
-pub use users::{User, Users};
+pub use users::{MAX_USERS, User, Users};

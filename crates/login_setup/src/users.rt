@@ -1,11 +1,14 @@
 //! The users that a server knows.
 
 ghost use Rattle.std.specs.Prelude.{◌≡◌, ◌↔◌, ◌<◌, ◌≤◌, [], ◌∷◌, ◌++◌, length, IsTrue, option_copied};
-ghost use Rattle.login_setup.specs.Users.{user_of, is_named, HasRoom, AreDistinct};
+ghost use Rattle.login_setup.specs.Users.{user_of, is_named, HasRoom, AreDistinct, max_users};
 
 use arrayvec::ArrayVec;
 use eap_base::{Identity, Secret};
 use std::marker::Model;
+
+/// The most users of a server.
+pub const MAX_USERS: usize = 16;
 
 /// A user of a server: a name and a method, with the key that both share.
 #[derive(Drop, Default)]
@@ -44,7 +47,7 @@ impl User {
 /// At most 16 users whose pairs of name and kind are distinct. Contracts see the list of the users.
 #[derive(Drop)]
 pub struct Users {
-    list: ArrayVec<User, 16>,
+    list: ArrayVec<User, MAX_USERS>,
 }
 
 impl Model for Users {
@@ -97,7 +100,7 @@ impl Users {
     pub fn as_slice(&self) -> &[User]
         ensures same { result.now ≡ self.now }
         ensures distinct { AreDistinct result.now }
-        ensures few { length result.now ≤ 16 }
+        ensures few { length result.now ≤ max_users }
     {
         self.list.as_slice()
     }

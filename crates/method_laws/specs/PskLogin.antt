@@ -2,6 +2,7 @@
 use Rattle.std.specs.Prelude.{◌≡◌, ℕ, ◌≤◌, List, [], ◌∷◌, length, true, false, Some}
 use Rattle.login_setup.specs.declared.users.User.{User}
 use Rattle.eap_base.specs.Among.{psk_kind}
+use Rattle.eap_base.specs.Sizes.{max_name}
 use Rattle.login_setup.specs.Setup.{accepts_name}
 use Rattle.login_setup.specs.Users.{user_of}
 use Rattle.psk_messages.specs.Message.{Message, psk1}
@@ -33,8 +34,8 @@ pub record Fit (ends : Ends) : Type 0 where
   pub known : user_of ends.users ends.cred.id_p psk_kind ≡ Some ends.user
   pub not_barred : ends.user.barred ≡ false
   pub one_key : ends.user.psk ≡ ends.cred.psk
-  pub peer_name : length ends.cred.id_p ≤ 253
-  pub server_name : length ends.own.id_s ≤ 253
+  pub peer_name : length ends.cred.id_p ≤ max_name
+  pub server_name : length ends.own.id_s ≤ max_name
   pub peer_nonce : length ends.nonce ≡ 32
   pub server_nonce : length ends.own_nonce ≡ 32
 

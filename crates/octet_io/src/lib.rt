@@ -14,7 +14,7 @@ mod unread;
 
 pub use ahead::Ahead;
 pub use laws::{lines_are_the_pieces, lines_end_at_a_limit, some_octet_is_past};
-pub use lines::{LineReader, NextLine};
+pub use lines::{LF, LineReader, MAX_INPUT, NextLine};
 pub use memory::{MemSink, MemSource};
 pub use sink::Sink;
 pub use source::{Failed, Source};

@@ -32,7 +32,7 @@ pub enum NextLine {
 #[derive(Drop)]
 pub struct LineReader {
     taken: u32,
-    line: Octets<4096>,
+    line: Octets<MAX_LINE>,
     number: u32,
     over: bool,
     ahead: Ahead,
@@ -46,11 +46,14 @@ enum Step {
     PassesInput,
 }
 
+/// The most octets of a line.
 const MAX_LINE: usize = 4096;
 
-const MAX_INPUT: u32 = 16_777_216;
+/// The most octets of an input.
+pub const MAX_INPUT: u32 = 16_777_216;
 
-const LF: u8 = 10;
+/// The octet that ends a line.
+pub const LF: u8 = 10;
 
 impl Model for LineReader {
     ghost use Rattle.std.specs.Prelude.{◌≤◌, ◌+◌, if◌then◌else◌};

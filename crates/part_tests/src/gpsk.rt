@@ -2,6 +2,7 @@
 //! library and CMAC of the package cryptography, put together as RFC 5433, sections 4, 7, 8 and 9, say.
 
 ghost use Rattle.std.specs.Prelude.{◌≤◌, length};
+ghost use Rattle.eap_base.specs.Sizes.{max_name};
 
 use crate::login::{first_wrong, one_user};
 use crate::row::Row;
@@ -52,7 +53,7 @@ fn first_request(server: &mut GpskServer, nonce: &[u8; 32]) -> Packet {
 /// knows one user of this name; empty where each is.
 fn wrong_row(suites: &[u8], known: &[u8], barred: bool, login: &'static str) -> &'static str
     requires suites { length suites.now ≤ 2 }
-    requires name { length known.now ≤ 253 }
+    requires name { length known.now ≤ max_name }
 {
     let mut shared = Row::new(SHARED);
     let key: [u8; 47] = shared.array();

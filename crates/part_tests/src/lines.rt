@@ -2,11 +2,9 @@
 
 use crate::row::Row;
 use eap_base::Octets;
-use octet_io::{Failed, LineReader, MemSource, NextLine, Source};
+use octet_io::{Failed, LF, LineReader, MemSource, NextLine, Source};
 use std::alloc::{AllocError, Global};
 use std::test::Fail;
-
-const LF: u8 = 10;
 
 // An input whose last line lacks its LF.
 const INPUT: &[u8] = b"one\r\ntwo\r\r\n\nla\rst\r";

@@ -11,6 +11,7 @@
 //! - `peer-has SUITE MSK EMSK` and `server-has SUITE MSK EMSK`: what the end reports, `none` for nothing.
 
 ghost use Rattle.std.specs.Prelude.{◌≡◌, ◌≤◌, length, All, IsTrue};
+ghost use Rattle.eap_base.specs.Sizes.{max_name};
 ghost use Rattle.login_setup.specs.Setup.{fits_kind};
 
 use crate::row::Row;
@@ -24,7 +25,7 @@ use login_setup::{User, Users};
 /// One user, of this name, method and key.
 #[tactic(auto, using(crate::proofs::UserKeys::one_user))]
 pub(crate) fn one_user(name: &[u8], kind: u8, psk: Secret, barred: bool) -> Users
-    requires name { length name.now ≤ 253 }
+    requires name { length name.now ≤ max_name }
     requires key { IsTrue (fits_kind kind psk) }
     ensures { All (λ user. IsTrue (fits_kind user.kind user.psk)) result }
 {

@@ -1,6 +1,6 @@
 //! Rows of a text: words by spaces, octets in hex.
 
-use eap_base::Octets;
+use eap_base::{MAX_PACKET, Octets, Packet};
 use hex::decode_to_slice;
 use std::str::SplitWhitespace;
 
@@ -32,7 +32,7 @@ impl<'a> Row<'a> {
     }
 
     /// The octets that the next word spells, at most 1,500; a dash stands for none.
-    pub(crate) fn octets(&mut self) -> Octets<1500> {
+    pub(crate) fn octets(&mut self) -> Packet {
         self.list()
     }
 
@@ -40,8 +40,8 @@ impl<'a> Row<'a> {
     pub(crate) fn list<const N: usize>(&mut self) -> Octets<N> {
         let word = self.word();
         let digits = if word == "-" { "" } else { word };
-        let mut room = [0; 1500];
-        let octets = &mut room[..(digits.len() / 2).min(1500)];
+        let mut room = [0; MAX_PACKET];
+        let octets = &mut room[..(digits.len() / 2).min(MAX_PACKET)];
         let is_hex = decode_to_slice(digits, octets).is_ok();
         let mut list = Octets::new();
         let fits = list.append(octets);

@@ -2,6 +2,7 @@
 use Rattle.std.proofs.Common.{◌≡◌, ℕ, ◌+◌, List, Bool, true, ◌||◌, Option, Some, None, Result, Ok, Err, refl, ap, sym, ◌∙◌}
 use Rattle.std.specs.Prelude.{◌==◌, nat_le}
 use Rattle.std.proofs.lemmas.Bool.{cond_both, eqb-true, false≢true}
+use Rattle.eap_base.specs.Among.{identity_kind}
 use Rattle.eap_packet.specs.Fault.{packet_of}
 use Rattle.eap_packet.specs.Packet.{PacketValue, request, response, success, failure}
 use Rattle.eap_packet.specs.declared.cause.Cause.{Cause}
@@ -10,7 +11,7 @@ use Rattle.eap_packet.specs.declared.state.State.TheVariants as state
 use Rattle.pass_through.specs.Inputs.{start, timeout, aaa_timeout, aaa_noreq, from_peer, from_backend, restart}
 use Rattle.pass_through.specs.Rows.{second_start, no_timer, unasked_timeout, unasked_noreq, in_idle, in_idle2, in_aaa_idle, ended, awaits_no_peer, awaits_no_server, no_packet, no_response, other_id, no_identity, a_response, TimerRuns, of_idle, of_idle2, PassRow, stays, drops_of_peer, drops_of_server, starts, begins, resends, times_out, loses_server, asks_nothing, hands_identity, hands_response, hands_request, hands_success, hands_failure, PassAnswersAreRows}
 use Rattle.pass_through.specs.PassTable as table
-use Rattle.pass_through.specs.PassTable.{PassAnswer, identity, is_awaited, is_over, is_idle, is_idle2, is_aaa_idle, is_started, has_timer, idle_row, idle2_row, aaa_row, pass_start, pass_timeout, pass_aaa_timeout, pass_aaa_noreq, pass_from_peer, pass_from_backend}
+use Rattle.pass_through.specs.PassTable.{PassAnswer, is_awaited, is_over, is_idle, is_idle2, is_aaa_idle, is_started, has_timer, idle_row, idle2_row, aaa_row, pass_start, pass_timeout, pass_aaa_timeout, pass_aaa_noreq, pass_from_peer, pass_from_backend}
 use Rattle.pass_through.specs.declared.variables.PassVariables.{PassVariables}
 
 awaited : (held : Option ℕ) (number : ℕ) → is_awaited held number ≡ true → held ≡ Some number
@@ -43,8 +44,8 @@ module _ (vars : PassVariables) where
     idle-row stands (Ok (request id kind body)) is = drops_of_peer octets _ _ (no_response _ (in_idle stands) _ is (λ id kind body e. cc e))
     idle-row stands (Ok (response id kind body)) is =
         cond_both (is_awaited vars.current_id id) _ _ OfPeer
-        (λ current. cond_both (kind == identity) _ _ OfPeer
-        (λ same. hands_identity octets id body stands (rw (← eqb-true kind identity same) is) (awaited vars.current_id id current))
+        (λ current. cond_both (kind == identity_kind) _ _ OfPeer
+        (λ same. hands_identity octets id body stands (rw (← eqb-true kind identity_kind same) is) (awaited vars.current_id id current))
         (λ other. drops_of_peer octets _ _ (no_identity stands id kind body is (awaited vars.current_id id current) other)))
         (λ other. drops_of_peer octets _ _ (other_id _ (in_idle stands) id kind body is other))
     idle-row stands (Ok (success id)) is = drops_of_peer octets _ _ (no_response _ (in_idle stands) _ is (λ id kind body e. cc e))

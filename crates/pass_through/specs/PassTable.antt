@@ -1,5 +1,6 @@
 -- The pass-through authenticator of RFC 4137 section 7: each call as a function.
 use Rattle.std.specs.Prelude.{◌≡◌, ◌≤◌, ℕ, ◌+◌, List, [], ◌∷◌, Bool, true, false, ◌==◌, ◌||◌, nat_le, if◌then◌else◌, Option, Some, None, Result, Ok, Err, take}
+use Rattle.eap_base.specs.Among.{identity_kind}
 use Rattle.eap_packet.specs.Packet.{PacketValue, request, response, success, failure, spelled}
 use Rattle.eap_packet.specs.Fault.{packet_of, length_of}
 use Rattle.eap_packet.specs.declared.cause.Cause.{Cause}
@@ -58,13 +59,9 @@ pass_made first_id max_retrans = record {
   last_request = [];
 }
 
--- Type 1, Identity
-abbrev pub identity : ℕ
-identity = 1
-
 -- the one packet that the pass-through makes itself
 abbrev pub identity_request : ℕ → List ℕ
-identity_request id = spelled (request id identity [])
+identity_request id = spelled (request id identity_kind [])
 
 -- a delivery without what stands past its Length
 abbrev pub unpadded : List ℕ → List ℕ
@@ -97,7 +94,7 @@ idle2_discard vars c = answer (discards Server (state.Received2 ∷ state.Discar
 -- IDLE: the Identity Response goes to the server as it came
 abbrev pub idle_response : PassVariables → List ℕ → ℕ → PassAnswer
 idle_response vars octets kind =
-    if kind == identity
+    if kind == identity_kind
     then answer
     (passes_on (state.Received ∷ state.IntegrityCheck ∷ state.MethodResponse ∷ state.SelectAction
     ∷ state.InitializePassthrough ∷ state.AaaRequest ∷ state.AaaIdle ∷ []) (unpadded octets))

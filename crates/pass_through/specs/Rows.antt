@@ -1,5 +1,6 @@
 -- The rows of the pass-through's table (RFC 4137 section 7), each with all that is then known.
 use Rattle.std.specs.Prelude.{◌≡◌, ℕ, ◌+◌, List, [], ◌∷◌, true, false, ◌==◌, nat_le, Some, Ok, Err}
+use Rattle.eap_base.specs.Among.{identity_kind}
 use Rattle.eap_packet.specs.Fault.{packet_of}
 use Rattle.eap_packet.specs.Packet.{PacketValue, request, response, success, failure}
 use Rattle.eap_packet.specs.declared.cause.Cause.{Cause}
@@ -7,7 +8,7 @@ use Rattle.eap_packet.specs.declared.cause.Cause.TheVariants as cause
 use Rattle.eap_packet.specs.declared.state.State.{State}
 use Rattle.eap_packet.specs.declared.state.State.TheVariants as state
 use Rattle.pass_through.specs.Inputs.{PassInput, start, timeout, aaa_timeout, aaa_noreq, from_peer, from_backend, restart, pass_rests, pass_takes}
-use Rattle.pass_through.specs.PassTable.{Side, Peer, Server, PassAnswer, answer, asks, passes_on, rests, discards, identity, identity_request, unpadded, is_awaited, is_over, is_idle, is_idle2, is_aaa_idle, is_started, has_timer, pass_restart}
+use Rattle.pass_through.specs.PassTable.{Side, Peer, Server, PassAnswer, answer, asks, passes_on, rests, discards, identity_request, unpadded, is_awaited, is_over, is_idle, is_idle2, is_aaa_idle, is_started, has_timer, pass_restart}
 use Rattle.pass_through.specs.declared.variables.PassVariables.{PassVariables}
 
 -- why an input that has no place in this state does nothing
@@ -36,7 +37,7 @@ pub data Drops (vars : PassVariables) (octets : List ℕ) : Side → List State 
   other_id : (path : List State) (place : Waits vars.state Server path) (id kind : ℕ) (body : List ℕ) (is_packet : packet_of octets ≡ Ok (response id kind body))
       (other : is_awaited vars.current_id id ≡ false) → Drops vars octets Server path cause.IdMismatch
   no_identity : (stands : vars.state ≡ state.Idle) (id kind : ℕ) (body : List ℕ) (is_packet : packet_of octets ≡ Ok (response id kind body))
-      (is_id : vars.current_id ≡ Some id) (other : (kind == identity) ≡ false)
+      (is_id : vars.current_id ≡ Some id) (other : (kind == identity_kind) ≡ false)
       → Drops vars octets Server (state.Received ∷ state.Discard ∷ state.Idle ∷ []) cause.WrongMethod
   a_response : (stands : vars.state ≡ state.AaaIdle) (id kind : ℕ) (body : List ℕ) (is_packet : packet_of octets ≡ Ok (response id kind body))
       → Drops vars octets Peer [] cause.WrongRole
@@ -78,7 +79,7 @@ pub data PassRow (vars : PassVariables) : PassInput → PassAnswer → Type 0 wh
       → PassRow vars aaa_noreq (answer (rests (state.Discard2 ∷ state.Idle2 ∷ [])) (record vars { state = state.Idle2 }))
   -- the Identity Response goes to the server, and so does each Response to the last Request
   hands_identity : (octets : List ℕ) (id : ℕ) (body : List ℕ) (stands : vars.state ≡ state.Idle)
-      (is_packet : packet_of octets ≡ Ok (response id identity body)) (is_id : vars.current_id ≡ Some id)
+      (is_packet : packet_of octets ≡ Ok (response id identity_kind body)) (is_id : vars.current_id ≡ Some id)
       → PassRow vars (from_peer octets)
       (answer
       (passes_on (state.Received ∷ state.IntegrityCheck ∷ state.MethodResponse ∷ state.SelectAction

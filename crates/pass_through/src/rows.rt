@@ -6,12 +6,9 @@ ghost use Rattle.eap_packet.specs.declared.state.State.TheVariants.{Received, Di
 ghost use Rattle.pass_through.specs.PassTable.{Peer, Server, answer, step_to, unpadded, identity_request, idle_row, idle2_row, aaa_row, is_over, resends};
 
 use crate::variables::PassVariables;
-use eap_base::Packet;
+use eap_base::{IDENTITY, Packet};
 use eap_method::Step;
 use eap_packet::{Cause, Code, State, decode, encode_into};
-
-/// Type 1, Identity.
-const IDENTITY: u8 = 1;
 
 /// The Identity Request.
 pub fn write_identity_request(packet: &mut Packet, id: u8)

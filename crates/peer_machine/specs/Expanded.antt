@@ -1,9 +1,10 @@
 -- A peer that reads Expanded Types (RFC 3748 section 5.7): the rows of its table are those of the plain form of a Request, and
 -- what it sends of that is expressed again. No row of the table knows of them.
 use Rattle.std.specs.Prelude.{ℕ, List, ◌∷◌, ◌++◌, Bool, true, false, ◌==◌, ◌&&◌, not, if◌then◌else◌, Option, Some, None, Result, Ok, slice_index}
+use Rattle.eap_base.specs.Among.{expanded_kind, ietf, nak_kind}
 use Rattle.eap_packet.specs.Packet.{PacketValue, request, response, spelled}
 use Rattle.eap_packet.specs.Fault.{type_of, packet_of}
-use Rattle.eap_packet.specs.Expanded.{expanded_kind, ietf, wrapped, is_bad_expanded}
+use Rattle.eap_packet.specs.Expanded.{wrapped, is_bad_expanded}
 use Rattle.eap_packet.specs.declared.cause.Cause.{Cause}
 use Rattle.eap_packet.specs.declared.cause.Cause.TheVariants as cause
 use Rattle.login_policy.specs.Policy.{nak_of}
@@ -14,12 +15,12 @@ use Rattle.peer_machine.specs.PeerTable.{PeerNow, PeerAnswer, answer, with_vars,
 
 -- the Expanded Nak with this Identifier (section 5.3.2): an entry for each allowed Type, or one of Type 0
 abbrev pub expanded_nak_response : ℕ → List ℕ → List ℕ
-expanded_nak_response id methods = spelled (response id expanded_kind (ietf ++ 3 ∷ nak_entries (nak_of methods)))
+expanded_nak_response id methods = spelled (response id expanded_kind (ietf ++ nak_kind ∷ nak_entries (nak_of methods)))
 
 -- what answers a Request of Type 254: the Expanded Nak in place of a Nak, every other Response wrapped
 abbrev pub express : List ℕ → List ℕ → List ℕ
 express methods octets =
-    if type_of octets == 3 then expanded_nak_response (slice_index octets 1) methods else wrapped octets
+    if type_of octets == nak_kind then expanded_nak_response (slice_index octets 1) methods else wrapped octets
 
 -- a Response is sent, and kept for RETRANSMIT, as it is expressed
 abbrev pub keeps_sent : PeerAnswer → List ℕ → PeerAnswer

@@ -1,7 +1,7 @@
 -- The peer of RFC 4137 section 4, over the views of its methods: each call as a function.
 use Rattle.std.specs.Prelude.{◌≡◌, ℕ, List, [], ◌∷◌, ◌++◌, Bool, true, false, ◌==◌, ◌&&◌, if◌then◌else◌, Option, Some, None, Result, Ok, Err, map}
 use Rattle.login_setup.specs.declared.setup.PeerSetup.{PeerSetup}
-use Rattle.eap_base.specs.Among.{is_among}
+use Rattle.eap_base.specs.Among.{is_among, identity_kind, notification_kind, nak_kind}
 use Rattle.login_setup.specs.Setup.{IsSoundPeer, HasKeys}
 use Rattle.eap_packet.specs.Packet.{PacketValue, request, response, success, failure, spelled}
 use Rattle.eap_packet.specs.Fault.{packet_of}
@@ -101,13 +101,13 @@ peer_respond now entered id octets =
 
 -- the Responses that the peer makes itself: Identity, Notification, and a Nak of the allowed Types
 abbrev pub identity_response : ℕ → List ℕ → List ℕ
-identity_response id name = spelled (response id 1 name)
+identity_response id name = spelled (response id identity_kind name)
 
 abbrev pub notification_response : ℕ → List ℕ
-notification_response id = spelled (response id 2 [])
+notification_response id = spelled (response id notification_kind [])
 
 abbrev pub nak_response : ℕ → List ℕ → List ℕ
-nak_response id methods = spelled (response id 3 (nak_of methods))
+nak_response id methods = spelled (response id nak_kind (nak_of methods))
 
 -- RETRANSMIT sends lastRespData unchanged
 abbrev pub peer_retransmit : PeerNow → PeerAnswer
@@ -151,11 +151,11 @@ get_method now id kind octets =
 -- a Request with a new Identifier
 abbrev pub new_request : PeerNow → ℕ → ℕ → List ℕ → Option ℕ → PeerAnswer
 new_request now id kind octets None =
-    if kind == 1 then peer_respond now state.Identity id (identity_response id now.vars.setup.name)
-    else if kind == 2 then peer_respond now state.Notification id (notification_response id)
+    if kind == identity_kind then peer_respond now state.Identity id (identity_response id now.vars.setup.name)
+    else if kind == notification_kind then peer_respond now state.Notification id (notification_response id)
     else get_method now id kind octets
 new_request now id kind octets (Some selected) =
-    if kind == 2 then peer_discard now cause.NotAllowed
+    if kind == notification_kind then peer_discard now cause.NotAllowed
     else if kind == selected
     then (if is_done now.vars.method_state then peer_discard now cause.MethodDone else peer_method false now kind id octets)
     else peer_discard now cause.OtherMethod

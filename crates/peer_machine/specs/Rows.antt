@@ -1,6 +1,6 @@
 -- The rows of the peer's table (RFC 4137 section 4), each with all that is then known.
 use Rattle.std.specs.Prelude.{◌≡◌, ℕ, List, [], ◌∷◌, ◌++◌, Bool, true, false, ◌==◌, ◌&&◌, Some, None, Ok, Err}
-use Rattle.eap_base.specs.Among.{is_among}
+use Rattle.eap_base.specs.Among.{is_among, identity_kind, notification_kind}
 use Rattle.eap_packet.specs.Fault.{packet_of}
 use Rattle.eap_packet.specs.Packet.{PacketValue, request, response, success, failure, spelled}
 use Rattle.eap_packet.specs.declared.cause.Cause.{Cause}
@@ -48,9 +48,9 @@ pub data Drops (now : PeerNow) (bytes : List ℕ) : Cause → List State → Typ
   early_failure : (id : ℕ) (heard : Hears now bytes id (failure id) true) (unsure : is_uncond now.vars.decision ≡ false)
       (goes_on : is_cont now.vars.method_state ≡ true) → Drops now bytes cause.EarlyFailure unheard
   late_notification : (id kind selected : ℕ) (body : List ℕ) (heard : Hears now bytes id (request id kind body) false)
-      (is_selected : now.vars.selected ≡ Some selected) (is_notification : kind ≡ 2) → Drops now bytes cause.NotAllowed unheard
+      (is_selected : now.vars.selected ≡ Some selected) (is_notification : kind ≡ notification_kind) → Drops now bytes cause.NotAllowed unheard
   other_method : (id kind selected : ℕ) (body : List ℕ) (heard : Hears now bytes id (request id kind body) false)
-      (is_selected : now.vars.selected ≡ Some selected) (other : (kind == selected) ≡ false) (no_notification : (kind == 2) ≡ false)
+      (is_selected : now.vars.selected ≡ Some selected) (other : (kind == selected) ≡ false) (no_notification : (kind == notification_kind) ≡ false)
       → Drops now bytes cause.OtherMethod unheard
   done_method : (id kind : ℕ) (body : List ℕ) (heard : Hears now bytes id (request id kind body) false)
       (is_selected : now.vars.selected ≡ Some kind) (is_over : is_done now.vars.method_state ≡ true) → Drops now bytes cause.MethodDone unheard
@@ -90,13 +90,13 @@ pub data PeerRow (now : PeerNow) : PeerInput → PeerAnswer → Type 0 where
       → PeerRow now alt_accept (answer (enters [] no_tags) now)
   -- IDENTITY, NOTIFICATION, and GET_METHOD with a Nak, while no method is selected
   identifies : (bytes : List ℕ) (id kind : ℕ) (body : List ℕ) (heard : Hears now bytes id (request id kind body) false)
-      (unselected : now.vars.selected ≡ None) (is_identity : kind ≡ 1)
+      (unselected : now.vars.selected ≡ None) (is_identity : kind ≡ identity_kind)
       → PeerRow now (octets bytes) (peer_respond now state.Identity id (identity_response id now.vars.setup.name))
   notifies : (bytes : List ℕ) (id kind : ℕ) (body : List ℕ) (heard : Hears now bytes id (request id kind body) false)
-      (unselected : now.vars.selected ≡ None) (is_notification : kind ≡ 2)
+      (unselected : now.vars.selected ≡ None) (is_notification : kind ≡ notification_kind)
       → PeerRow now (octets bytes) (peer_respond now state.Notification id (notification_response id))
   naks : (bytes : List ℕ) (id kind : ℕ) (body : List ℕ) (heard : Hears now bytes id (request id kind body) false)
-      (unselected : now.vars.selected ≡ None) (no_identity : (kind == 1) ≡ false) (no_notification : (kind == 2) ≡ false)
+      (unselected : now.vars.selected ≡ None) (no_identity : (kind == identity_kind) ≡ false) (no_notification : (kind == notification_kind) ≡ false)
       (barred : is_among now.vars.setup.methods kind ≡ false)
       → PeerRow now (octets bytes) (peer_respond now state.GetMethod id (nak_response id now.vars.setup.methods))
   -- RETRANSMIT

@@ -1,11 +1,10 @@
 //! The peer of RFC 4137 section 4 over the objects of its methods.
 
 ghost use Rattle.std.specs.Prelude.{◌≡◌, ◌≢◌, ◌≤◌, [], ◌∷◌, ◌++◌, length, slice_index, true, false, map, None, Some, Ok, ℕ, List};
-ghost use Rattle.eap_base.specs.Among.{is_among};
+ghost use Rattle.eap_base.specs.Among.{is_among, expanded_kind, ietf, nak_kind};
 ghost use Rattle.login_setup.specs.Setup.{IsSoundPeer, HasKeys};
-ghost use Rattle.eap_packet.specs.Packet.{spelled, value_of, IsPacket};
+ghost use Rattle.eap_packet.specs.Packet.{spelled, value_of, IsPacket, max_type_data};
 ghost use Rattle.eap_packet.specs.Fault.{packet_of};
-ghost use Rattle.eap_packet.specs.Expanded.{expanded_kind, ietf};
 ghost use Rattle.eap_packet.specs.Packet as packets;
 ghost use Rattle.eap_packet.specs.declared.state.State.TheVariants.{Received, Method, Discard, Idle, Failure, Retransmit, SendResponse};
 ghost use Rattle.eap_method.specs.PeerTurn.{peer_turn_with, peer_tags};
@@ -19,7 +18,7 @@ ghost use Rattle.peer_machine.specs.PeerTable.{before_method, method_answers, se
 ghost use Rattle.eap_method.specs.Peer.{IsRequest, PeerViews, have_each, peer_views, peer_turn, peer_kinds};
 
 use crate::variables::PeerVariables;
-use eap_base::{Nonce, Packet};
+use eap_base::{EXPANDED, IDENTITY, IETF, NAK, NOTIFICATION, Nonce, Packet, VENDOR_SIZE};
 use eap_method::{
     Decision, MethodState, PeerMethod, PeerTurn, Report, Step, Tags, begin_peers, hand_to_peer,
     has_ended, peer_report,
@@ -31,21 +30,6 @@ use eap_packet::{
 use login_policy::{expanded_nak, nak_list, peer_allows};
 use login_setup::PeerSetup;
 use std::marker::Model;
-
-/// Type 1, Identity.
-const IDENTITY: u8 = 1;
-
-/// Type 2, Notification.
-const NOTIFICATION: u8 = 2;
-
-/// Type 3, Nak.
-const NAK: u8 = 3;
-
-/// Type 254, of a packet with an Expanded Type.
-const EXPANDED: u8 = 254;
-
-/// Vendor-Id 0, that of the IETF, and Vendor-Type 3, the Nak (RFC 3748 section 5.3.2).
-const NAK_FIELDS: [u8; 7] = [0, 0, 0, 0, 0, 0, NAK];
 
 /// The peer of RFC 4137 section 4: its variables, and the objects of its methods. Contracts see both;
 /// what an object shows is its ghost member `peer_shown`. No call changes the settings but [`restart`](PeerMachine::restart)
@@ -267,7 +251,7 @@ impl<M: PeerMethod> PeerMachine<M> {
     ) -> Step
         requires request { view.now.code ≡ Code.Request }
         requires packet { packet_of octets.now ≡ Ok (value_of view.now) }
-        requires size { length view.now.body.now ≤ 1495 }
+        requires size { length view.now.body.now ≤ max_type_data }
         requires tags { tags.old ≡ no_tags }
         ensures step { reads_request (now_of M.peer_shown self.old) octets.now view.now.id view.now.kind view.now.body.now
             ≡ answer (step_with result packet.new tags.new) (now_of M.peer_shown self.new) }
@@ -294,7 +278,7 @@ impl<M: PeerMethod> PeerMachine<M> {
     ) -> Step
         requires request { view.now.code ≡ Code.Request }
         requires packet { packet_of octets.now ≡ Ok (value_of view.now) }
-        requires size { length view.now.body.now ≤ 1495 }
+        requires size { length view.now.body.now ≤ max_type_data }
         requires tags { tags.old ≡ no_tags }
         ensures step { expressed_unless (is_last_id self.old.vars.last_id view.now.id)
             (peer_deliver (now_of M.peer_shown self.old) (plain_octets octets.now (value_of view.now)))
@@ -321,7 +305,7 @@ impl<M: PeerMethod> PeerMachine<M> {
         tags: &mut Tags,
     ) -> Step
         requires packet { packet_of octets.now ≡ Ok (value_of view.now) }
-        requires size { length view.now.body.now ≤ 1495 }
+        requires size { length view.now.body.now ≤ max_type_data }
         requires tags { tags.old ≡ no_tags }
         ensures step { peer_deliver (now_of M.peer_shown self.old) (plain_octets octets.now (value_of view.now))
             ≡ answer (step_with result packet.new tags.new) (now_of M.peer_shown self.new) }
@@ -530,7 +514,7 @@ fn discard(cause: Cause) -> Step
 #[tactic(auto, using(eap_method::proofs::Rooms::response_has_room))]
 fn write_response(packet: &mut Packet, id: u8, kind: u8, body: &[u8])
     requires fits { length body.now ≤ 1488 }
-    requires nak_desires { kind ≡ 3 → body.now ≢ [] }
+    requires nak_desires { kind ≡ nak_kind → body.now ≢ [] }
     ensures response { packet.new ≡ spelled (packets.response id kind body.now) }
     ensures room { HasRoom packet.new }
 {
@@ -557,16 +541,17 @@ fn express(vars: &mut PeerVariables, packet: &mut Packet)
 /// Writes the Expanded Nak with these entries in place of what was there (RFC 3748 section 5.3.2).
 fn write_expanded_nak(packet: &mut Packet, id: u8, entries: &[u8])
     requires { length entries.now ≤ 16 }
-    ensures { packet.new ≡ spelled (packets.response id expanded_kind (ietf ++ 3 ∷ entries.now)) }
+    ensures { packet.new ≡ spelled (packets.response id expanded_kind (ietf ++ nak_kind ∷ entries.now)) }
 {
     begin_into(
         packet,
         Code::Response,
         id,
         EXPANDED,
-        NAK_FIELDS.len() + entries.len(),
+        VENDOR_SIZE + entries.len(),
     );
-    packet.put(&NAK_FIELDS);
+    packet.put(&IETF);
+    packet.put(&[NAK]);
     packet.put(entries);
 }
 

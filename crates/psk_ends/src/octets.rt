@@ -8,10 +8,7 @@ ghost use Rattle.eap_method.specs.PskTags.{header_of, rand_of};
 
 use eap_base::{Nonce, array_of};
 use eap_packet::Cause;
-use psk_messages::{PskView, read_psk};
-
-/// The octets of the header that PCHANNEL's tag covers.
-const HEADER: usize = 22;
+use psk_messages::{HEADER, PskView, read_psk};
 
 /// RAND_S or RAND_P: the first 16 octets of an end's nonce.
 pub fn rand_of(nonce: &Nonce) -> [u8; 16]

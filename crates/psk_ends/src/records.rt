@@ -2,6 +2,7 @@
 
 ghost use Rattle.std.specs.Prelude.{◌≡◌, ◌≤◌, ◌<◌, [], ◌∷◌, ◌++◌, length};
 ghost use Rattle.eap_base.specs.Among.{psk_kind};
+ghost use Rattle.eap_base.specs.Sizes.{max_name};
 ghost use Rattle.eap_method.specs.declared.tags.Label.TheVariants.{Tek};
 ghost use Rattle.eap_method.specs.PskTags.{mac_p_octets, mac_s_octets, ak_record, tek_record};
 
@@ -21,8 +22,8 @@ pub fn add_mac_p<'a>(
     mac: &[u8; 16],
 )
     requires room { length list.old < 2 }
-    requires id_p { length id_p.now ≤ 253 }
-    requires id_s { length id_s.now ≤ 253 }
+    requires id_p { length id_p.now ≤ max_name }
+    requires id_s { length id_s.now ≤ max_name }
     ensures { list.new ≡ list.old ++ ak_record psk.now (mac_p_octets id_p.now id_s.now rand_s.now rand_p.now) mac.now ∷ [] }
 {
     list.add(PSK_KIND, Label::Ak, psk, &[id_p, id_s, rand_s, rand_p], mac);
@@ -38,7 +39,7 @@ pub fn add_mac_s<'a>(
     mac: &[u8; 16],
 )
     requires room { length list.old < 2 }
-    requires id_s { length id_s.now ≤ 253 }
+    requires id_s { length id_s.now ≤ max_name }
     ensures { list.new ≡ list.old ++ ak_record psk.now (mac_s_octets id_s.now rand_p.now) mac.now ∷ [] }
 {
     list.add(PSK_KIND, Label::Ak, psk, &[id_s, rand_p], mac);

@@ -1,6 +1,7 @@
 -- Reading Type-Data as an EAP-PSK message (RFC 4764 section 5).
 use Rattle.std.specs.Prelude.{ℕ, ◌+◌, ◌/◌, List, [], ◌∷◌, length, take, drop, slice_index, Bool, ◌==◌, ◌&&◌, nat_le, if◌then◌else◌, Result, Ok, Err}
 use Rattle.std.specs.Int.{w32, from_be_bytes}
+use Rattle.eap_base.specs.Sizes.{max_name}
 use Rattle.eap_packet.specs.declared.cause.Cause.{Cause}
 use Rattle.eap_packet.specs.declared.cause.Cause.TheVariants.{PskShape}
 use Rattle.psk_messages.specs.Message.{Message, psk1, psk2, psk3, psk4}
@@ -8,8 +9,8 @@ use Rattle.psk_messages.specs.Message.{Message, psk1, psk2, psk3, psk4}
 -- whether a message with this T may have so many octets after Flags
 abbrev pub is_size : ℕ → ℕ → Bool
 is_size t size =
-    if t == 0 then nat_le 16 size && nat_le size (16 + 253)
-    else if t == 1 then nat_le 48 size && nat_le size (48 + 253)
+    if t == 0 then nat_le 16 size && nat_le size (16 + max_name)
+    else if t == 1 then nat_le 48 size && nat_le size (48 + max_name)
     else if t == 2 then size == 53
     else size == 37
 

@@ -7,14 +7,11 @@ ghost use Rattle.psk_messages.specs.Reading.{front, behind, is_size, message_at,
 
 use crate::view::PskView;
 use byteorder::{BigEndian, ByteOrder};
-use eap_base::array_of;
+use eap_base::{MAX_NAME, array_of};
 use eap_packet::Cause;
 
 /// The octets of a nonce, a MAC or a tag.
 const FIELD: usize = 16;
-
-/// The most octets of an identity.
-const MAX_IDENTITY: usize = 253;
 
 /// The octets of PCHANNEL without its extension.
 const CHANNEL: usize = 21;
@@ -65,8 +62,8 @@ fn has_size(t: u8, size: usize) -> bool
     ensures { result ≡ is_size t size }
 {
     match t {
-        0 => FIELD <= size && size <= FIELD + MAX_IDENTITY,
-        1 => 3 * FIELD <= size && size <= 3 * FIELD + MAX_IDENTITY,
+        0 => FIELD <= size && size <= FIELD + MAX_NAME,
+        1 => 3 * FIELD <= size && size <= 3 * FIELD + MAX_NAME,
         2 => size == 2 * FIELD + CHANNEL,
         _ => size == FIELD + CHANNEL,
     }

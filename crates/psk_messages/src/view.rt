@@ -1,5 +1,8 @@
 //! A message, as its octets show it.
 
+/// The octets of the header that PCHANNEL's tag covers (RFC 4764 section 3.3).
+pub const HEADER: usize = 22;
+
 /// A message of EAP-PSK (RFC 4764 section 5), borrowed from its Type-Data.
 ///
 /// Identities have at most 253 octets. PCHANNEL is shown by its three parts: the Nonce, the Tag and

@@ -1,6 +1,7 @@
 //! Writing a message as a packet (RFC 4764 section 5).
 
 ghost use Rattle.std.specs.Prelude.{◌≡◌, ◌+◌, ◌*◌, ◌≤◌, ◌++◌, length, IsTrue};
+ghost use Rattle.eap_base.specs.Sizes.{max_name, max_packet};
 ghost use Rattle.eap_packet.specs.Packet.{value_with, has_type};
 ghost use Rattle.eap_packet.specs.Packet as packets;
 ghost use Rattle.psk_messages.specs.Message.{message_of, t_of, channel, fields_of, identity_of, size_of, spelled};
@@ -12,7 +13,7 @@ use eap_packet::{Code, begin_into};
 
 /// Appends PCHANNEL, for which there is room.
 fn put_channel(packet: &mut Packet, nonce: u32, tag: &[u8; 16], sealed: u8)
-    requires { length packet.old + 21 ≤ 1500 }
+    requires { length packet.old + 21 ≤ max_packet }
     ensures { packet.new ≡ packet.old ++ channel nonce tag.now sealed }
 {
     let mut number = [0; 4];
@@ -38,7 +39,7 @@ fn flags_of(view: &PskView) -> u8
 /// Appends the fields after Flags, for which there is room.
 fn put_fields(packet: &mut Packet, view: &PskView)
     requires room { length packet.old ≤ 6 }
-    requires identity { length (identity_of (message_of view.now)) ≤ 253 }
+    requires identity { length (identity_of (message_of view.now)) ≤ max_name }
     ensures { packet.new ≡ packet.old ++ fields_of (message_of view.now) }
 {
     match view {
@@ -89,7 +90,7 @@ fn count(field: &[u8]) -> usize
 
 /// The octets of the message's Type-Data.
 fn size_of(view: &PskView) -> usize
-    requires { length (identity_of (message_of view.now)) ≤ 253 }
+    requires { length (identity_of (message_of view.now)) ≤ max_name }
     ensures size { result ≡ size_of (message_of view.now) }
     ensures fits { result ≤ 302 }
 {
@@ -116,7 +117,7 @@ fn size_of(view: &PskView) -> usize
 #[tactic(auto, unfolding(crate::specs::Message::spelled), using(crate::proofs::Grammar::spellings_are_sized))]
 pub fn write_psk_into(packet: &mut Packet, view: &PskView, code: Code, id: u8)
     requires typed { IsTrue (has_type code) }
-    requires identity { length (identity_of (message_of view.now)) ≤ 253 }
+    requires identity { length (identity_of (message_of view.now)) ≤ max_name }
     ensures { packet.new ≡ packets.spelled (value_with code id 47 (spelled (message_of view.now))) }
 {
     begin_into(packet, code, id, PSK_KIND, size_of(view));
@@ -128,7 +129,7 @@ pub fn write_psk_into(packet: &mut Packet, view: &PskView, code: Code, id: u8)
 /// six low bits of Flags are 0.
 pub fn write_psk(view: &PskView, code: Code, id: u8) -> Packet
     requires typed { IsTrue (has_type code) }
-    requires identity { length (identity_of (message_of view.now)) ≤ 253 }
+    requires identity { length (identity_of (message_of view.now)) ≤ max_name }
     ensures { result ≡ packets.spelled (value_with code id 47 (spelled (message_of view.now))) }
 {
     let mut packet = Packet::new();

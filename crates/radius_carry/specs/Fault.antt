@@ -1,7 +1,8 @@
 -- What keeps octets from being a RADIUS packet that carries EAP, and the packet that they begin with.
 use Rattle.std.specs.Prelude.{ℕ, zero, suc, ◌+◌, ◌-◌, ◌*◌, List, [], ◌∷◌, ◌++◌, length, take, drop, slice_index, Bool, ◌==◌, ◌&&◌, ◌||◌, not, nat_lt}
 use Rattle.std.specs.Prelude.{nat_le, if◌then◌else◌, Option, Some, None, Result, Ok, Err}
-use Rattle.radius_carry.specs.Packet.{Attribute, RadiusPacket, count, eap_of, tag_of, is_code, number_of}
+use Rattle.eap_base.specs.Sizes.{max_packet}
+use Rattle.radius_carry.specs.Packet.{Attribute, RadiusPacket, count, eap_of, tag_of, is_code, number_of, max_radius}
 use Rattle.radius_carry.specs.declared.cause.RadiusCause.{RadiusCause}
 use Rattle.radius_carry.specs.declared.cause.RadiusCause.TheVariants.{RadiusShort, RadiusCode, RadiusLength, RadiusTruncated, RadiusAttribute, NoEap}
 use Rattle.radius_carry.specs.declared.cause.RadiusCause.TheVariants.{EapTooLong, NoAuthenticator}
@@ -54,7 +55,7 @@ body_of octets = drop 20 (take (length_of octets) octets)
 
 -- the conditions on the fields before the attributes
 abbrev pub has_bad_length : List ℕ → Bool
-has_bad_length octets = nat_lt (length_of octets) 20 || nat_lt 4096 (length_of octets)
+has_bad_length octets = nat_lt (length_of octets) 20 || nat_lt max_radius (length_of octets)
 
 -- the conditions on the attributes
 abbrev pub has_bad_attribute : List ℕ → Bool
@@ -64,7 +65,7 @@ abbrev pub lacks_eap : List ℕ → Bool
 lacks_eap body = count 79 (attributes_of body) == 0
 
 abbrev pub has_long_eap : List ℕ → Bool
-has_long_eap body = nat_lt 1500 (length (eap_of (attributes_of body)))
+has_long_eap body = nat_lt max_packet (length (eap_of (attributes_of body)))
 
 abbrev pub lacks_tag : List ℕ → Bool
 lacks_tag body = not ((count 80 (attributes_of body) == 1) && (length (tag_of (attributes_of body)) == 16))

@@ -1,7 +1,8 @@
 -- Laws of RADIUS packets that carry EAP, over the definitions alone.
 use Rattle.std.specs.Prelude.{◌≡◌, ◌↔◌, ℕ, ◌≤◌, List, [], ◌++◌, length, IsTrue, ◌≢◌, None, Ok}
+use Rattle.eap_base.specs.Sizes.{max_packet}
 use Rattle.eap_packet.specs.Packet.{IsOctets}
-use Rattle.radius_carry.specs.Packet.{RadiusPacket, spelled, IsRadius, eap_of, is_code}
+use Rattle.radius_carry.specs.Packet.{RadiusPacket, spelled, IsRadius, eap_of, is_code, max_value}
 use Rattle.radius_carry.specs.Fault.{fault, packet_of}
 use Rattle.radius_carry.specs.Tags.{IsGoodRequest, IsGoodReply}
 use Rattle.radius_carry.specs.Written.{request_of, reply_of}
@@ -41,10 +42,10 @@ pub record IsReply (code : ℕ) : Type 0 where
 -- the limits of what is written: an Authenticator, a name, a state, an EAP packet
 pub record AreFields (authenticator user state eap : List ℕ) : Type 0 where
   pub sixteen : length authenticator ≡ 16
-  pub user_fits : length user ≤ 253
-  pub state_fits : length state ≤ 253
+  pub user_fits : length user ≤ max_value
+  pub state_fits : length state ≤ max_value
   pub some_eap : 1 ≤ length eap
-  pub eap_fits : length eap ≤ 1500
+  pub eap_fits : length eap ≤ max_packet
 
 -- a packet is read from its spelling, with any octets behind it, and carries this EAP packet
 pub record ReadsBack (packet : RadiusPacket) (eap rest : List ℕ) : Type 0 where

@@ -1,6 +1,7 @@
 -- RADIUS packets (RFC 2865 sections 3 and 5): packet values, their one spelling, and which of them
 -- carry EAP (RFC 3579 sections 3.1 and 3.2).
 use Rattle.std.specs.Prelude.{◌≡◌, ℕ, ◌+◌, ◌≤◌, List, [], ◌∷◌, ◌++◌, length, Bool, ◌==◌, ◌||◌, if◌then◌else◌, IsTrue}
+use Rattle.eap_base.specs.Sizes.{max_packet}
 use Rattle.eap_packet.specs.Packet.{two_octets}
 use Rattle.radius_carry.specs.declared.view.RadiusKind.{RadiusKind}
 use Rattle.radius_carry.specs.declared.view.RadiusKind.TheVariants.{Request, Accept, Reject, Challenge}
@@ -61,14 +62,21 @@ number_of Challenge = 11
 abbrev pub is_code : ℕ → Bool
 is_code code = (code == 1) || (code == 2) || (code == 3) || (code == 11)
 
+-- the octets of a packet (RFC 2865 section 3), and of the value of an attribute (section 5)
+abbrev pub max_radius : ℕ
+max_radius = 4096
+
+abbrev pub max_value : ℕ
+max_value = 253
+
 -- the octets are this packet, which carries EAP: at least one attribute EAP-Message, and exactly one
 -- Message-Authenticator, with 16 octets
 pub record IsRadius (packet : RadiusPacket) (octets : List ℕ) : Type 0 where
   pub spelling : octets ≡ spelled packet
   pub known : IsTrue (is_code packet.code)
   pub authenticator : length packet.authenticator ≡ 16
-  pub size : length octets ≤ 4096
+  pub size : length octets ≤ max_radius
   pub carries : 1 ≤ count 79 packet.attributes
-  pub eap_fits : length (eap_of packet.attributes) ≤ 1500
+  pub eap_fits : length (eap_of packet.attributes) ≤ max_packet
   pub lone_tag : count 80 packet.attributes ≡ 1
   pub tag_size : length (tag_of packet.attributes) ≡ 16

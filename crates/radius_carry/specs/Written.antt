@@ -1,6 +1,6 @@
 -- The packets that are written (RFC 2865 sections 3 and 5, RFC 3579 sections 3.1 and 3.2).
 use Rattle.std.specs.Prelude.{ℕ, zero, suc, List, [], ◌∷◌, ◌++◌, length, take, drop, replicate}
-use Rattle.radius_carry.specs.Packet.{Attribute, RadiusPacket, spelled}
+use Rattle.radius_carry.specs.Packet.{Attribute, RadiusPacket, spelled, max_value}
 use Rattle.radius_carry.specs.Tags.{hmac_md5, response_authenticator}
 
 -- a name or a state has no attribute where it is empty
@@ -12,7 +12,7 @@ field kind (octet ∷ rest) = (kind, octet ∷ rest) ∷ []
 unfoldable pub pieces_in : ℕ → List ℕ → List Attribute
 pieces_in zero eap = []
 pieces_in (suc most) [] = []
-pieces_in (suc most) (octet ∷ rest) = (79, take 253 (octet ∷ rest)) ∷ pieces_in most (drop 253 (octet ∷ rest))
+pieces_in (suc most) (octet ∷ rest) = (79, take max_value (octet ∷ rest)) ∷ pieces_in most (drop max_value (octet ∷ rest))
 
 -- an EAP packet in attributes EAP-Message
 unfoldable pub pieces : List ℕ → List Attribute

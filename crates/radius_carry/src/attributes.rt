@@ -1,11 +1,18 @@
 //! The attributes of a RADIUS packet (RFC 2865 section 5).
 
 ghost use Rattle.std.specs.Prelude.{◌≡◌, ◌≤◌, ◌+◌, ◌++◌, ◌∷◌, [], ℕ, length, IsTrue, ◌↔◌, IfSome, MatchOption};
+ghost use Rattle.eap_base.specs.Sizes.{max_packet};
 ghost use Rattle.radius_carry.specs.Packet.{count, joined};
 ghost use Rattle.radius_carry.specs.Fault.{attributes_of, left_of};
 ghost use Rattle.radius_carry.specs.Place.{tag_place};
 
-use eap_base::Octets;
+use eap_base::Packet;
+
+/// The octets before the attributes.
+pub const HEAD: usize = 20;
+
+/// The octets of an Authenticator and of a tag.
+pub const TAG: usize = 16;
 
 /// The Type of an attribute EAP-Message.
 pub const EAP_MESSAGE: u8 = 79;
@@ -81,8 +88,8 @@ pub fn tally_of(kind: u8, octets: &[u8]) -> Tally
 
 /// Appends the values of this Type, joined in their order.
 #[tactic(auto, unfolding(crate::specs::Packet::joined))]
-pub fn join_values(values: &mut Octets<1500>, kind: u8, octets: &[u8])
-    requires { length values.old + length (joined kind (attributes_of octets.now)) ≤ 1500 }
+pub fn join_values(values: &mut Packet, kind: u8, octets: &[u8])
+    requires { length values.old + length (joined kind (attributes_of octets.now)) ≤ max_packet }
     ensures { values.new ≡ values.old ++ joined kind (attributes_of octets.now) }
 {
     let mut rest = octets;

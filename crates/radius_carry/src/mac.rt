@@ -6,16 +6,8 @@ ghost use Rattle.md5.specs.Md5 as spec;
 ghost use Rattle.radius_carry.specs.Tags.{hmac_md5};
 ghost use Rattle.radius_carry.specs.Holds.{Holds};
 
+use hmac_mac::{BLOCK_LEN, INNER_PAD, OUTER_PAD};
 use md5::{Digest, Md5};
-
-/// The octets of a block of MD5.
-const BLOCK_LEN: usize = 64;
-
-/// The octet that the inner hash's key is combined with (RFC 2104, section 2, ipad).
-const INNER_PAD: u8 = 0x36;
-
-/// The octet that the outer hash's key is combined with (RFC 2104, section 2, opad).
-const OUTER_PAD: u8 = 0x5c;
 
 /// The secret filled with zeros to a whole block, each octet combined with the pad.
 #[tactic(auto, using(crate::proofs::Blocks::padded_more, crate::proofs::Blocks::padded_whole))]

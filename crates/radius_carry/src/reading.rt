@@ -6,24 +6,15 @@ ghost use Rattle.radius_carry.specs.Packet.{IsRadius, number_of};
 ghost use Rattle.radius_carry.specs.Fault.{fault, first_cause, head_table, body_table, body_of, code_of, length_of, packet_at, packet_of, value_of, heard};
 
 use crate::attributes::{
-    EAP_MESSAGE, MESSAGE_AUTHENTICATOR, are_attributes, join_values, tally_of,
+    EAP_MESSAGE, HEAD, MESSAGE_AUTHENTICATOR, TAG, are_attributes, join_values, tally_of,
 };
 use crate::cause::RadiusCause;
 use crate::view::{RadiusKind, RadiusView};
 use byteorder::{BigEndian, ByteOrder};
-use eap_base::{Octets, array_of};
+use eap_base::{MAX_PACKET, Octets, Packet, array_of};
 
-/// The octets before the attributes.
-const HEAD: usize = 20;
-
-/// The most octets of a packet.
-const MAX_LENGTH: usize = 4096;
-
-/// The most octets of an EAP packet.
-const MAX_EAP: usize = 1500;
-
-/// The octets of an Authenticator and of a tag.
-const TAG: usize = 16;
+/// The most octets of a packet (RFC 2865 section 3).
+const MAX_RADIUS: usize = 4096;
 
 /// The Length field.
 fn length_field(octets: &[u8]) -> usize
@@ -43,7 +34,7 @@ fn head_fault(octets: &[u8]) -> Option<RadiusCause>
     let length = length_field(octets);
     if !matches!(octets[0], 1 | 2 | 3 | 11) {
         Some(RadiusCause::RadiusCode)
-    } else if length < HEAD || length > MAX_LENGTH {
+    } else if length < HEAD || length > MAX_RADIUS {
         Some(RadiusCause::RadiusLength)
     } else if octets.len() < length {
         Some(RadiusCause::RadiusTruncated)
@@ -62,7 +53,7 @@ fn body_fault(body: &[u8]) -> Option<RadiusCause>
         Some(RadiusCause::RadiusAttribute)
     } else if eap.count == 0 {
         Some(RadiusCause::NoEap)
-    } else if eap.size > MAX_EAP {
+    } else if eap.size > MAX_PACKET {
         Some(RadiusCause::EapTooLong)
     } else if tag.count != 1 || tag.size != TAG {
         Some(RadiusCause::NoAuthenticator)
@@ -144,7 +135,7 @@ pub fn read_radius<'a>(octets: &'a [u8]) -> Result<RadiusView<'a>, RadiusCause>
 /// The EAP packet that the packet carries: the values of its attributes EAP-Message, joined in their
 /// order (RFC 3579 section 3.1).
 #[tactic(auto, unfolding(crate::specs::Fault::value_of))]
-pub fn eap_of(view: &RadiusView) -> Octets<1500>
+pub fn eap_of(view: &RadiusView) -> Packet
     requires { IsRadius (value_of view.now) view.now.whole.now }
     ensures { result ≡ spec.eap_of (value_of view.now).attributes }
 {

@@ -8,7 +8,7 @@ ghost use Rattle.radius_carry.specs.Place.{before_secret, round_zeros};
 ghost use Rattle.radius_carry.specs.Tags.{blank_text, asked_text, reply_tag, response_authenticator, IsGoodRequest, IsGoodReply};
 ghost use Rattle.radius_carry.specs.Tags.{is_good_request, is_good_reply};
 
-use crate::attributes::place_of_tag;
+use crate::attributes::{HEAD, TAG, place_of_tag};
 use crate::mac::Mac;
 use crate::view::{RadiusKind, RadiusView};
 use eap_base::equal_in_full;
@@ -16,12 +16,6 @@ use md5::{Digest, Md5};
 
 /// The octets of Code, Identifier and Length.
 const FRONT: usize = 4;
-
-/// The octets before the attributes.
-const HEAD: usize = 20;
-
-/// The octets of a tag.
-const TAG: usize = 16;
 
 /// Octets round a tag.
 #[derive(Clone, Copy)]

@@ -1,8 +1,9 @@
 //! Writing RADIUS packets that carry EAP (RFC 2865 sections 3 and 5, RFC 3579 section 3).
 
 ghost use Rattle.std.specs.Prelude.{◌≡◌, ◌≢◌, ◌≤◌, ◌+◌, ◌++◌, ◌∷◌, [], ℕ, List, length, replicate};
+ghost use Rattle.eap_base.specs.Sizes.{max_packet};
 ghost use Rattle.md5.specs.Md5.{md5};
-ghost use Rattle.radius_carry.specs.Packet.{Attribute, attribute_octets, head_of, number_of, octets_of, spelled};
+ghost use Rattle.radius_carry.specs.Packet.{Attribute, attribute_octets, head_of, number_of, octets_of, spelled, max_value};
 ghost use Rattle.radius_carry.specs.Written.{blank_of, carried, field, pieces, tagged, sealed, request_of, reply_of};
 ghost use Rattle.radius_carry.specs.Tags.{hmac_md5, response_authenticator};
 
@@ -19,12 +20,12 @@ const USER_NAME: u8 = 1;
 /// The Type of an attribute State.
 const STATE: u8 = 24;
 
-/// The most octets of a value.
+/// The most octets of the value of an attribute (RFC 2865 section 5).
 const MAX_VALUE: usize = 253;
 
 /// Appends an attribute, for which there is room.
 fn put_attribute(packet: &mut Octets<2000>, kind: u8, value: &[u8])
-    requires value { length value.now ≤ 253 }
+    requires value { length value.now ≤ max_value }
     requires room { length packet.old + length value.now + 2 ≤ 2000 }
     ensures { packet.new ≡ packet.old ++ attribute_octets (kind, value.now) }
 {
@@ -35,7 +36,7 @@ fn put_attribute(packet: &mut Octets<2000>, kind: u8, value: &[u8])
 /// Appends a name or a state: no attribute where it is empty.
 #[tactic(auto, unfolding(crate::specs::Packet::octets_of))]
 fn put_field(packet: &mut Octets<2000>, kind: u8, value: &[u8])
-    requires value { length value.now ≤ 253 }
+    requires value { length value.now ≤ max_value }
     requires room { length packet.old + length value.now + 2 ≤ 2000 }
     ensures octets { packet.new ≡ packet.old ++ octets_of (field kind value.now) }
     ensures size { length packet.new ≤ length packet.old + length value.now + 2 }
@@ -48,7 +49,7 @@ fn put_field(packet: &mut Octets<2000>, kind: u8, value: &[u8])
 /// Appends an EAP packet in attributes EAP-Message.
 #[tactic(auto, using(crate::proofs::Pieced::octets_of_none))]
 fn put_eap(packet: &mut Octets<2000>, eap: &[u8])
-    requires eap { length eap.now ≤ 1500 }
+    requires eap { length eap.now ≤ max_packet }
     requires room { length packet.old ≤ 400 }
     ensures octets { packet.new ≡ packet.old ++ octets_of (pieces eap.now) }
     ensures size { length packet.new ≤ length packet.old + 1513 }
@@ -64,9 +65,9 @@ fn put_eap(packet: &mut Octets<2000>, eap: &[u8])
 /// The attributes before the tag.
 #[tactic(auto, using(crate::proofs::Pieced::carried_spelled))]
 fn carried_octets(user: &[u8], state: &[u8], eap: &[u8]) -> Octets<2000>
-    requires user { length user.now ≤ 253 }
+    requires user { length user.now ≤ max_value }
     requires state { length state.now ≤ 64 }
-    requires eap { length eap.now ≤ 1500 }
+    requires eap { length eap.now ≤ max_packet }
     ensures octets { result ≡ octets_of (carried user.now state.now eap.now) }
     ensures size { length result ≤ 1834 }
 {
@@ -162,9 +163,9 @@ pub fn write_request(
     eap: &[u8],
 ) -> Octets<2000>
     requires secret { length secret.now ≤ 64 }
-    requires user { length user.now ≤ 253 }
+    requires user { length user.now ≤ max_value }
     requires state { length state.now ≤ 64 }
-    requires eap { length eap.now ≤ 1500 }
+    requires eap { length eap.now ≤ max_packet }
     ensures { result ≡ spelled (request_of secret.now id authenticator.now user.now state.now eap.now) }
 {
     let attributes = carried_octets(user, state, eap);
@@ -188,7 +189,7 @@ pub fn write_reply(
     requires secret { length secret.now ≤ 64 }
     requires reply { kind ≢ RadiusKind.Request }
     requires state { length state.now ≤ 64 }
-    requires eap { length eap.now ≤ 1500 }
+    requires eap { length eap.now ≤ max_packet }
     ensures { result ≡ spelled (reply_of secret.now (number_of kind) id request_authenticator.now state.now eap.now) }
 {
     let attributes = carried_octets(&[], state, eap);

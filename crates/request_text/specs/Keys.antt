@@ -3,6 +3,7 @@ use Rattle.std.specs.Prelude.{ℕ, ◌≤◌, List, Bool, [], ◌∷◌, length,
 use Rattle.std.specs.Str.{bytes_eq}
 use Rattle.eap_base.specs.declared.suite.Suite.{Suite}
 use Rattle.eap_base.specs.declared.suite.Suite.TheVariants as suite
+use Rattle.eap_base.specs.Sizes.{max_name}
 use Rattle.text_tables.specs.Words.{words, is_passed_over}
 use Rattle.text_tables.specs.Fields.{◌>>=◌, word_in, octets_of}
 use Rattle.text_tables.specs.Rows.{Row, row, faults, unless, keyword_in, line_has}
@@ -18,7 +19,7 @@ row_of request.Aes = row (codes "aes") 2 (field.Hex 16 16 ∷ field.Hex 16 16 �
 row_of request.Cmac = row (codes "cmac") 2 (field.Hex 16 16 ∷ field.Hex 0 2000 ∷ [])
 row_of request.Hmac = row (codes "hmac") 2 (field.Hex 0 2000 ∷ field.Hex 0 2000 ∷ [])
 row_of request.Eax = row (codes "eax") 4 (field.Hex 16 16 ∷ field.Hex 0 2000 ∷ field.Hex 0 2000 ∷ field.Hex 0 2000 ∷ [])
-row_of request.Gpsk = row (codes "gpsk") 6 (field.Suite ∷ field.Hex 32 64 ∷ field.Hex 32 32 ∷ field.Hex 0 253 ∷ field.Hex 32 32 ∷ field.Hex 0 253 ∷ [])
+row_of request.Gpsk = row (codes "gpsk") 6 (field.Suite ∷ field.Hex 32 64 ∷ field.Hex 32 32 ∷ field.Hex 0 max_name ∷ field.Hex 32 32 ∷ field.Hex 0 max_name ∷ [])
 row_of request.Psk = row (codes "psk") 2 (field.Hex 16 16 ∷ field.Hex 16 16 ∷ [])
 row_of request.Name = row (codes "name") 1 (field.Hex 0 2000 ∷ [])
 
@@ -70,8 +71,8 @@ read_into (Err fault) asked = Err fault
 pub record HasGpskSizes (psk idp ids : List ℕ) : Type 0 where
   pub psk_low : 32 ≤ length psk
   pub psk_high : length psk ≤ 64
-  pub idp_high : length idp ≤ 253
-  pub ids_high : length ids ≤ 253
+  pub idp_high : length idp ≤ max_name
+  pub ids_high : length ids ≤ max_name
 
 abbrev pub HasSizes : KeyLine → Type 0
 HasSizes (key.Gpsk s psk randp idp rands ids) = HasGpskSizes psk idp ids

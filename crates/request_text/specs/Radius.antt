@@ -1,6 +1,7 @@
 -- A text of RADIUS packets, line by line: the table of its lines, how far it has come, and what each line says.
 use Rattle.std.specs.Prelude.{ℕ, List, [], ◌∷◌, not, ◌||◌, Bool, true, false, if◌then◌else◌, codes, Option, Some, None, find, Result, Ok, Err, unwrap_or}
 use Rattle.std.specs.Str.{bytes_eq}
+use Rattle.eap_base.specs.Sizes.{max_name, max_packet}
 use Rattle.text_tables.specs.Words.{words, is_passed_over}
 use Rattle.text_tables.specs.Fields.{◌>>=◌, word_in, number, octets_of}
 use Rattle.text_tables.specs.Rows.{Row, row, faults, unless, fault_of_words, keyword_in, line_has}
@@ -20,8 +21,8 @@ use Rattle.request_text.specs.declared.radius.RadiusPhase.TheVariants as phase
 -- each keyword, and what the words after it stand for
 abbrev pub row_of : RadiusWord → Row
 row_of word.Secret = row (codes "secret") 1 (Hex 1 64 ∷ [])
-row_of word.Request = row (codes "request") 5 (Number 0 255 ∷ Hex 16 16 ∷ Hex 0 253 ∷ Hex 0 64 ∷ Hex 1 1500 ∷ [])
-row_of word.Reply = row (codes "reply") 3 (Choice choices.Reply ∷ Hex 0 64 ∷ Hex 1 1500 ∷ [])
+row_of word.Request = row (codes "request") 5 (Number 0 255 ∷ Hex 16 16 ∷ Hex 0 max_name ∷ Hex 0 64 ∷ Hex 1 max_packet ∷ [])
+row_of word.Reply = row (codes "reply") 3 (Choice choices.Reply ∷ Hex 0 64 ∷ Hex 1 max_packet ∷ [])
 row_of word.Read = row (codes "read") 1 (Hex 0 2000 ∷ [])
 row_of word.End = row (codes "end") 0 []
 

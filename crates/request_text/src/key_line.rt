@@ -7,7 +7,7 @@ ghost use Rattle.text_tables.specs.Fits.{Fits};
 ghost use Rattle.text_tables.specs.Rows.{keyword_in};
 ghost use Rattle.request_text.specs.Keys.{row_of, requests, ciphersuite_of, asked_of, asked_by, key_line, read_into, asked_into, HasSizes};
 
-use eap_base::{Octets, Suite};
+use eap_base::{MAX_NAME, Octets, Suite};
 use text_tables::{
     Field, LineFault, Row, array, fault_of_words, is_comment, is_printable_line, octets, word_in,
 };
@@ -38,7 +38,10 @@ const BLOCK: Field = Field::Hex { low: 16, high: 16 };
 
 const NONCE: Field = Field::Hex { low: 32, high: 32 };
 
-const NAME: Field = Field::Hex { low: 0, high: 253 };
+const NAME: Field = Field::Hex {
+    low: 0,
+    high: MAX_NAME,
+};
 
 const TEXT: Field = Field::Hex { low: 0, high: 2000 };
 

@@ -6,7 +6,7 @@ ghost use Rattle.text_tables.specs.Rows.{keyword_in, first_word};
 ghost use Rattle.text_tables.specs.Fits.{Fits};
 ghost use Rattle.request_text.specs.Radius.{row_of, radius_words, reply_of, item_of, item_for};
 
-use eap_base::Octets;
+use eap_base::{Identity, MAX_NAME, MAX_PACKET, Octets, Packet};
 use text_tables::{
     Choices, Field, LineFault, Row, array, fault_of_words, is_printable_line, number, octets,
     word_in,
@@ -32,7 +32,10 @@ const RADIUS_WORDS: [RadiusWord; 5] = [
 
 const STATE: Field = Field::Hex { low: 0, high: 64 };
 
-const EAP: Field = Field::Hex { low: 1, high: 1500 };
+const EAP: Field = Field::Hex {
+    low: 1,
+    high: MAX_PACKET,
+};
 
 /// The kind of a reply (RFC 2865 section 4).
 #[derive(Clone, Copy)]
@@ -56,15 +59,15 @@ pub enum RadiusItem {
     Request {
         id: u8,
         authenticator: [u8; 16],
-        user: Octets<253>,
+        user: Identity,
         state: Octets<64>,
-        eap: Octets<1500>,
+        eap: Packet,
     },
     /// A reply to be written to the request that is kept: kind, state and EAP packet.
     Reply {
         kind: ReplyKind,
         state: Octets<64>,
-        eap: Octets<1500>,
+        eap: Packet,
     },
     /// The octets of a packet to be read.
     Read(Octets<2000>),
@@ -87,7 +90,10 @@ impl RadiusWord {
                 &[
                     Field::Number { low: 0, high: 255 },
                     Field::Hex { low: 16, high: 16 },
-                    Field::Hex { low: 0, high: 253 },
+                    Field::Hex {
+                        low: 0,
+                        high: MAX_NAME,
+                    },
                     STATE,
                     EAP,
                 ],

@@ -1,5 +1,6 @@
 -- The table of a scenario's lines: each keyword, and what the words after it stand for.
 use Rattle.std.specs.Prelude.{List, [], ◌∷◌, ◌++◌, codes}
+use Rattle.eap_base.specs.Sizes.{max_packet}
 use Rattle.text_tables.specs.Rows.{Row, row}
 use Rattle.text_tables.specs.declared.rows.Field.TheVariants.{Choice, Number, Kind, KindOrNone, OtherKind, Suite, OtherSuite, Name, Hex, Key}
 use Rattle.text_tables.specs.declared.rows.Choices.TheVariants as choices
@@ -26,7 +27,7 @@ row_of key.User = row (codes "user") 4 (Name ∷ Kind ∷ Key 2 ∷ Choice choic
 row_of key.Events = row (codes "events") 0 []
 row_of key.Deliver = row (codes "deliver") 1 (Number 1 1000000 ∷ [])
 row_of key.Alter = row (codes "alter") 3 (Number 1 1000000 ∷ Number 0 1499 ∷ Number 1 255 ∷ [])
-row_of key.Cut = row (codes "cut") 2 (Number 1 1000000 ∷ Number 0 1500 ∷ [])
+row_of key.Cut = row (codes "cut") 2 (Number 1 1000000 ∷ Number 0 max_packet ∷ [])
 row_of key.Inject = row (codes "inject") 2 (Choice choices.Port ∷ Hex 0 2000 ∷ [])
 row_of key.Timeout = row (codes "timeout") 1 (Choice choices.Timer ∷ [])
 row_of key.AaaTimeout = row (codes "aaa-timeout") 0 []

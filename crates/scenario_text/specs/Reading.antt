@@ -1,7 +1,7 @@
 -- A scenario, line by line: what has been read, and what each line adds.
 use Rattle.std.specs.Prelude.{ℕ, List, [], ◌∷◌, ◌++◌, length, nat_le, nat_lt, not, ◌&&◌, ◌||◌, Bool, true, false, if◌then◌else◌, Option, Some, None, find, Result, Ok, Err, IsOk, ok_or, is_err, is_some, unwrap_or}
 use Rattle.eap_base.specs.Among.{psk_kind, gpsk_kind, is_among}
-use Rattle.login_setup.specs.Users.{user_of}
+use Rattle.login_setup.specs.Users.{user_of, max_users}
 use Rattle.login_setup.specs.declared.setup.Later.{Later}
 use Rattle.login_setup.specs.declared.setup.PeerSetup.{PeerSetup}
 use Rattle.login_setup.specs.declared.setup.ServerSetup.{ServerSetup}
@@ -214,7 +214,7 @@ HasSetup other after = Unit {0}
 
 -- BadCount: a 17th user; in the second version a 17th nonce of an end
 abbrev pub is_crowded : Settings → Keyword → Bool
-is_crowded s key.User = nat_le 16 (length s.users)
+is_crowded s key.User = nat_le max_users (length s.users)
 is_crowded s key.PeerNonce = has_later s.version && is_full s.peer_nonces
 is_crowded s key.ServerNonce = has_later s.version && is_full s.server_nonces
 is_crowded s k = false

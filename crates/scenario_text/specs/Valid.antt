@@ -2,7 +2,7 @@
 use Rattle.std.specs.Prelude.{◌≡◌, ◌==◌, false, ◌≤◌, ◌<◌, length, IfSome, IsTrue, All, Option, ℕ, List}
 use Rattle.eap_base.specs.Among.{psk_kind, gpsk_kind, is_kind}
 use Rattle.login_setup.specs.Setup.{are_kinds, are_suites, fits_kind, no_later, IsSoundPeer, IsSoundServer, HasKeys}
-use Rattle.login_setup.specs.Users.{AreDistinct}
+use Rattle.login_setup.specs.Users.{AreDistinct, max_users}
 use Rattle.login_setup.specs.declared.users.User.{User}
 use Rattle.login_setup.specs.declared.setup.Accepts.{Accepts}
 use Rattle.login_setup.specs.declared.setup.Accepts.TheVariants.{Any, One}
@@ -68,7 +68,7 @@ IsValidTold other = Unit {0}
 
 -- users that are few and distinct
 pub record AreUsers (users : List User) : Type 0 where
-  pub few : length users ≤ 16
+  pub few : length users ≤ max_users
   pub distinct : AreDistinct users
 
 pub record AreValidNonces (given : GivenNonces) : Type 0 where

@@ -3,7 +3,7 @@ use Rattle.std.specs.Prelude.{◌≡◌, ℕ, ◌≤◌, List, [], ◌∷◌, �
 use Rattle.std.specs.List.{list_any}
 use Rattle.eap_base.specs.Among.{psk_kind, gpsk_kind, is_among}
 use Rattle.login_setup.specs.Setup.{no_later}
-use Rattle.login_setup.specs.Users.{AreDistinct}
+use Rattle.login_setup.specs.Users.{AreDistinct, max_users}
 use Rattle.login_setup.specs.declared.users.User.{User}
 use Rattle.login_setup.specs.declared.setup.Mode.{Mode}
 use Rattle.login_setup.specs.declared.setup.Accepts.{Accepts}
@@ -133,7 +133,7 @@ pub record MakesServer (version : Version) (v : Values) (later : List (List ℕ)
   pub suites : IsGivenOr both_suites v.server_suites server.suites
   pub nonces : AreNoncesOf version v.server_nonce server.nonce later
   pub users : v.users ≡ server.users
-  pub few_users : length server.users ≤ 16
+  pub few_users : length server.users ≤ max_users
   pub distinct_users : AreDistinct server.users
   pub expanded : IsGivenOr false v.server_expanded server.expanded
 

@@ -1,6 +1,7 @@
 //! The lines of a scenario, and what each says.
 
 ghost use Rattle.std.specs.Prelude.{◌≡◌, ◌≤◌, length};
+ghost use Rattle.eap_base.specs.Sizes.{max_name};
 ghost use Rattle.text_tables.specs.Words.{words};
 ghost use Rattle.scenario_text.specs.Contents.{entry_with, entered};
 ghost use Rattle.text_tables.specs.Fits.{Fits};
@@ -154,7 +155,7 @@ pub fn item_of(keyword: Keyword, line: &[u8], event: &mut Event) -> Entry
 
 /// The server names that a peer accepts: `any`, or one name.
 fn accepts_of(word: &[u8]) -> Accepts
-    requires { length word.now ≤ 253 }
+    requires { length word.now ≤ max_name }
     ensures { result ≡ accepts_of word.now }
 {
     if word == b"any".as_slice() {

@@ -6,6 +6,7 @@ ghost use Rattle.text_tables.specs.Rows.{keyword_in};
 ghost use Rattle.scenario_text.specs.Keywords.{row_of, keywords, later_keywords, keywords_in};
 
 use crate::version::Version;
+use eap_base::MAX_PACKET;
 use text_tables::{Choices, Field, Row, word_in};
 
 /// The first word of a line.
@@ -138,7 +139,17 @@ impl Keyword {
                     Field::Number { low: 1, high: 255 },
                 ],
             ),
-            Keyword::Cut => Row::new(b"cut", 2, &[PACKET, Field::Number { low: 0, high: 1500 }]),
+            Keyword::Cut => Row::new(
+                b"cut",
+                2,
+                &[
+                    PACKET,
+                    Field::Number {
+                        low: 0,
+                        high: MAX_PACKET as u32,
+                    },
+                ],
+            ),
             Keyword::Inject => Row::new(
                 b"inject",
                 2,

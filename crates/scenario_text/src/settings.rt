@@ -10,7 +10,7 @@ use crate::entry::{Entry, Setting};
 use crate::keyword::Keyword;
 use crate::version::Version;
 use eap_base::{GPSK_KIND, Identity, Kinds, Nonce, PSK_KIND, Secret, Suites, is_among};
-use login_setup::{Accepts, Later, Mode, Nonces, PeerSetup, ServerSetup, Setup, Users};
+use login_setup::{Accepts, Later, MAX_USERS, Mode, Nonces, PeerSetup, ServerSetup, Setup, Users};
 use text_tables::{LineFault, add_user};
 
 /// The nonces of an end that have come, at most 16.
@@ -78,7 +78,7 @@ impl Settings {
         ensures { result ≡ is_crowded self.now keyword }
     {
         match keyword {
-            Keyword::User => self.users.as_slice().len() >= 16,
+            Keyword::User => self.users.as_slice().len() >= MAX_USERS,
             Keyword::PeerNonce => self.version.has_later() && is_full(&self.peer_nonces),
             Keyword::ServerNonce => self.version.has_later() && is_full(&self.server_nonces),
             _ => false,

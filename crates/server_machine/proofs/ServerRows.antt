@@ -2,6 +2,7 @@
 use Rattle.std.proofs.Common.{◌≡◌, ℕ, ◌+◌, List, true, false, ◌&&◌, Option, Some, None, Result, Ok, Err, refl, ap, ◌∙◌}
 use Rattle.std.specs.Prelude.{◌==◌, nat_le}
 use Rattle.std.proofs.lemmas.Bool.{cond_both, and_parts, eqb-true}
+use Rattle.eap_base.specs.Among.{identity_kind, nak_kind}
 use Rattle.eap_packet.specs.Fault.{packet_of}
 use Rattle.eap_packet.specs.Packet.{PacketValue, request, response, success, failure, spelled}
 use Rattle.eap_packet.specs.declared.cause.Cause.{Cause}
@@ -14,7 +15,7 @@ use Rattle.eap_method.specs.Steps.{is_end}
 use Rattle.server_machine.specs.Inputs.{start, timeout, octets, restart}
 use Rattle.server_machine.specs.Rows.{outside, received, no_packet, no_response, other_id, other_method, by_method, Hears, Selects, after_identity, after_nak, first_identity, first_nak, first_other, Proposes, Turns, ServerRow, ended, rests, goes_on, drops, starts, begins, resends, times_out, proposes, proposes_without, proposes_none, requests, succeeds, method_fails, ServerAnswersAreRows}
 use Rattle.server_machine.specs.ServerTable as table
-use Rattle.server_machine.specs.ServerTable.{ServerNow, ServerAnswer, identity, nak, offers, select_action, method_answers, server_method, is_awaited, is_proposed, is_started, awaits_first, current_response, first_response, pick_up, server_row, server_start, server_deliver, server_timeout}
+use Rattle.server_machine.specs.ServerTable.{ServerNow, ServerAnswer, offers, select_action, method_answers, server_method, is_awaited, is_proposed, is_started, awaits_first, current_response, first_response, pick_up, server_row, server_start, server_deliver, server_timeout}
 use Rattle.server_machine.specs.declared.variables.ServerVariables.{ServerVariables}
 
 awaited : (held : Option ℕ) (number : ℕ) → is_awaited held number ≡ true → held ≡ Some number
@@ -48,7 +49,7 @@ module _ (now : ServerNow) where
       answers-row (turn.Done true tags) views turned = succeeds bytes id kind body tags views heard turned
       answers-row (turn.Done false tags) views turned = method_fails bytes id kind body tags views heard turned
 
-      method-row : now.vars.current_id ≡ Some id → now.vars.current ≡ Some kind → (kind == identity) ≡ false → ((kind == nak) && is_proposed now.vars.progress) ≡ false
+      method-row : now.vars.current_id ≡ Some id → now.vars.current ≡ Some kind → (kind == identity_kind) ≡ false → ((kind == nak_kind) && is_proposed now.vars.progress) ≡ false
           → awaits_first now.vars ≡ false → IsRow (server_method now id kind (spelled (response id kind body)))
       unfolding server_method
       method-row is_id is_current no_identity no_nak unawaited =
@@ -56,23 +57,23 @@ module _ (now : ServerNow) where
 
       current-row : awaits_first now.vars ≡ false → now.vars.current_id ≡ Some id → IsRow (current_response now id kind body)
       current-row unawaited is_id =
-          cond_both ((kind == nak) && is_proposed now.vars.progress) _ _ IsRow
+          cond_both ((kind == nak_kind) && is_proposed now.vars.progress) _ _ IsRow
           (λ is.
-          let parts = and_parts (kind == nak) (is_proposed now.vars.progress) is in
-          select-row _ _ _ (after_nak is_id (eqb-true kind nak parts.0) parts.1 unawaited))
+          let parts = and_parts (kind == nak_kind) (is_proposed now.vars.progress) is in
+          select-row _ _ _ (after_nak is_id (eqb-true kind nak_kind parts.0) parts.1 unawaited))
           (λ no_nak. cond_both (is_awaited now.vars.current kind) _ _ IsRow
-          (λ is_current. cond_both (kind == identity) _ _ IsRow
+          (λ is_current. cond_both (kind == identity_kind) _ _ IsRow
           (λ is.
-          let same = eqb-true kind identity is in
+          let same = eqb-true kind identity_kind is in
           select-row _ _ _ (after_identity is_id same (awaited now.vars.current kind is_current ∙ ap (λ (k : ℕ). Some k) same) unawaited))
           (λ no_identity. method-row is_id (awaited now.vars.current kind is_current) no_identity no_nak unawaited))
           (λ other. drops bytes _ _ heard.going (other_method id kind body heard is_id other no_nak unawaited)))
 
       first-row : awaits_first now.vars ≡ true → IsRow (first_response now id kind body)
       first-row awaited =
-          cond_both (kind == nak) _ _ IsRow (λ is. select-row _ _ _ (first_nak awaited (eqb-true kind nak is)))
-          (λ no_nak. cond_both (kind == identity) _ _ IsRow
-          (λ is. select-row _ _ _ (first_identity awaited (eqb-true kind identity is)))
+          cond_both (kind == nak_kind) _ _ IsRow (λ is. select-row _ _ _ (first_nak awaited (eqb-true kind nak_kind is)))
+          (λ no_nak. cond_both (kind == identity_kind) _ _ IsRow
+          (λ is. select-row _ _ _ (first_identity awaited (eqb-true kind identity_kind is)))
           (λ no_identity. select-row _ _ _ (first_other awaited no_nak no_identity)))
 
     pick-row : is_end now.vars.state ≡ false → awaits_first now.vars ≡ true → (packet : Result PacketValue Cause) → packet_of bytes ≡ packet

@@ -1,9 +1,10 @@
 -- A server that reads Expanded Types (RFC 3748 section 5.7): the rows of its table are those of the plain form of a Response,
 -- and each Request of a method is wrapped. No row of the table knows of them.
 use Rattle.std.specs.Prelude.{◌≡◌, ℕ, List, Bool, true, ◌==◌, ◌&&◌, ◌||◌, not, if◌then◌else◌, Option, Some, None, Result, Ok}
+use Rattle.eap_base.specs.Among.{expanded_kind, nak_kind}
 use Rattle.eap_packet.specs.Packet.{PacketValue, response, spelled}
 use Rattle.eap_packet.specs.Fault.{code_of, type_of, packet_of}
-use Rattle.eap_packet.specs.Expanded.{expanded_kind, is_nak_body, inner_body, wrapped, is_bad_expanded}
+use Rattle.eap_packet.specs.Expanded.{is_nak_body, inner_body, wrapped, is_bad_expanded}
 use Rattle.eap_packet.specs.declared.cause.Cause.{Cause}
 use Rattle.eap_packet.specs.declared.cause.Cause.TheVariants as cause
 use Rattle.login_policy.specs.Policy.{nak_of}
@@ -11,7 +12,7 @@ use Rattle.login_policy.specs.Expanded.{expanded_kinds}
 use Rattle.eap_method.specs.Plain.{plain_octets}
 use Rattle.eap_method.specs.Room.{HasRoom}
 use Rattle.eap_method.specs.Steps.{is_end}
-use Rattle.server_machine.specs.ServerTable.{ServerNow, ServerAnswer, answer, nak, awaits_first, first_discard, server_discard, server_deliver}
+use Rattle.server_machine.specs.ServerTable.{ServerNow, ServerAnswer, answer, awaits_first, first_discard, server_discard, server_deliver}
 use Rattle.server_machine.specs.declared.variables.ServerVariables.{ServerVariables}
 
 -- an Expanded Nak is taken as a backend's first Response, and where the Request that was sent last is of Type 254; the
@@ -21,7 +22,7 @@ takes_nak vars = awaits_first vars || (type_of vars.last_request == expanded_kin
 
 -- the Nak that an Expanded Nak says (section 5.3.2); one that names neither method desires none
 abbrev pub nak_octets : ℕ → List ℕ → List ℕ
-nak_octets id body = spelled (response id nak (nak_of (expanded_kinds (inner_body body))))
+nak_octets id body = spelled (response id nak_kind (nak_of (expanded_kinds (inner_body body))))
 
 -- what the table takes of a Response
 abbrev pub response_octets : ServerVariables → List ℕ → ℕ → ℕ → List ℕ → List ℕ

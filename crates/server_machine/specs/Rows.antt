@@ -1,5 +1,6 @@
 -- The rows of the server's table (RFC 4137 sections 5 and 6), each with all that is then known.
 use Rattle.std.specs.Prelude.{◌≡◌, ℕ, ◌+◌, List, [], ◌∷◌, ◌++◌, true, false, ◌==◌, ◌&&◌, nat_le, Option, Some, None, Ok, Err}
+use Rattle.eap_base.specs.Among.{identity_kind, nak_kind}
 use Rattle.eap_packet.specs.Fault.{packet_of}
 use Rattle.eap_packet.specs.Packet.{PacketValue, response, spelled}
 use Rattle.eap_packet.specs.declared.cause.Cause.{Cause}
@@ -14,7 +15,7 @@ use Rattle.eap_method.specs.Server.{ServerViews, Offer, side_of, server_offer, s
 use Rattle.eap_method.specs.Steps.{sends, enters, discards, is_end}
 use Rattle.eap_method.specs.Tags.{no_tags}
 use Rattle.server_machine.specs.Inputs.{ServerInput, start, timeout, octets, restart, server_rests, server_answers}
-use Rattle.server_machine.specs.ServerTable.{ServerNow, ServerAnswer, answer, identity, nak, next_id, identity_request, success_packet, failure_packet, before_proposal, is_awaited, is_proposed, is_started, awaits_first, picked_up, server_restart}
+use Rattle.server_machine.specs.ServerTable.{ServerNow, ServerAnswer, answer, next_id, identity_request, success_packet, failure_packet, before_proposal, is_awaited, is_proposed, is_started, awaits_first, picked_up, server_restart}
 use Rattle.server_machine.specs.declared.variables.Progress.TheVariants as progress
 use Rattle.server_machine.specs.declared.variables.Way.TheVariants as way
 use Rattle.server_machine.specs.declared.variables.ServerVariables.{ServerVariables}
@@ -27,17 +28,17 @@ pub record Hears (now : ServerNow) (bytes : List ℕ) (id kind : ℕ) (body : Li
 -- a method is to be proposed, after the Identity round, a Nak or a backend's first Response: the states
 -- before it, the variables then, and what the Nak desires
 pub data Selects (now : ServerNow) (id kind : ℕ) (body : List ℕ) : List State → ServerVariables → Option (List ℕ) → Type 0 where
-  after_identity : (is_id : now.vars.current_id ≡ Some id) (is_identity : kind ≡ identity) (is_current : now.vars.current ≡ Some identity)
+  after_identity : (is_id : now.vars.current_id ≡ Some id) (is_identity : kind ≡ identity_kind) (is_current : now.vars.current ≡ Some identity_kind)
       (unawaited : awaits_first now.vars ≡ false)
       → Selects now id kind body (before_proposal way.AfterResponse) (record now.vars { progress = progress.End }) None
-  after_nak : (is_id : now.vars.current_id ≡ Some id) (is_nak : kind ≡ nak) (waits : is_proposed now.vars.progress ≡ true)
+  after_nak : (is_id : now.vars.current_id ≡ Some id) (is_nak : kind ≡ nak_kind) (waits : is_proposed now.vars.progress ≡ true)
       (unawaited : awaits_first now.vars ≡ false)
       → Selects now id kind body (before_proposal way.AfterNak) now.vars (Some body)
-  first_identity : (awaited : awaits_first now.vars ≡ true) (is_identity : kind ≡ identity)
+  first_identity : (awaited : awaits_first now.vars ≡ true) (is_identity : kind ≡ identity_kind)
       → Selects now id kind body (before_proposal way.FirstIdentity) (record (picked_up now.vars id) { progress = progress.End }) None
-  first_nak : (awaited : awaits_first now.vars ≡ true) (is_nak : kind ≡ nak)
+  first_nak : (awaited : awaits_first now.vars ≡ true) (is_nak : kind ≡ nak_kind)
       → Selects now id kind body (before_proposal way.FirstNak) (picked_up now.vars id) (Some body)
-  first_other : (awaited : awaits_first now.vars ≡ true) (no_nak : (kind == nak) ≡ false) (no_identity : (kind == identity) ≡ false)
+  first_other : (awaited : awaits_first now.vars ≡ true) (no_nak : (kind == nak_kind) ≡ false) (no_identity : (kind == identity_kind) ≡ false)
       → Selects now id kind body (before_proposal way.FirstOther) (picked_up now.vars id) None
 
 -- the method that is proposed next, and its offer
@@ -49,8 +50,8 @@ pub record Proposes (now : ServerNow) (vars : ServerVariables) (desired : Option
 pub record Turns (now : ServerNow) (id kind : ℕ) (body : List ℕ) (turn : ServerTurn) (views : ServerViews) : Type 0 where
   pub is_id : now.vars.current_id ≡ Some id
   pub is_current : now.vars.current ≡ Some kind
-  pub no_identity : (kind == identity) ≡ false
-  pub no_nak : ((kind == nak) && is_proposed now.vars.progress) ≡ false
+  pub no_identity : (kind == identity_kind) ≡ false
+  pub no_nak : ((kind == nak_kind) && is_proposed now.vars.progress) ≡ false
   pub is_turn : server_turn now.vars.setup.users (next_id now.vars) kind now.views (spelled (response id kind body)) ≡ record { turn = turn; after = views }
   pub unawaited : awaits_first now.vars ≡ false
 
@@ -74,7 +75,7 @@ pub data Drops (now : ServerNow) (bytes : List ℕ) : Cause → List State → T
   other_id : (id kind : ℕ) (body : List ℕ) (is_packet : packet_of bytes ≡ Ok (response id kind body)) (other : is_awaited now.vars.current_id id ≡ false)
       (unawaited : awaits_first now.vars ≡ false) → Drops now bytes cause.IdMismatch unheard
   other_method : (id kind : ℕ) (body : List ℕ) (heard : Hears now bytes id kind body) (is_id : now.vars.current_id ≡ Some id) (other : is_awaited now.vars.current kind ≡ false)
-      (no_nak : ((kind == nak) && is_proposed now.vars.progress) ≡ false) (unawaited : awaits_first now.vars ≡ false)
+      (no_nak : ((kind == nak_kind) && is_proposed now.vars.progress) ≡ false) (unawaited : awaits_first now.vars ≡ false)
       → Drops now bytes cause.WrongMethod unheard
   by_method : (id kind : ℕ) (body : List ℕ) (c : Cause) (views : ServerViews) (heard : Hears now bytes id kind body)
       (turned : Turns now id kind body (turn.Discard c) views) → Drops now bytes c unanswered
@@ -98,7 +99,7 @@ pub data ServerRow (now : ServerNow) : ServerInput → ServerAnswer → Type 0 w
         vars = record now.vars {
           state = state.Idle;
           current_id = Some now.vars.first_id;
-          current = Some identity;
+          current = Some identity_kind;
           progress = progress.Continue;
           retrans_count = 0;
           last_request = identity_request now.vars.first_id;

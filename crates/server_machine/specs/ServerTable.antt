@@ -2,7 +2,7 @@
 -- methods: each call as a function. The backend is the same table behind another door: its first Response.
 use Rattle.std.specs.Prelude.{◌≡◌, ◌≤◌, ℕ, ◌+◌, ◌%◌, List, [], ◌∷◌, ◌++◌, Bool, true, false, ◌==◌, ◌&&◌, ◌||◌, not, nat_le, if◌then◌else◌, Option, Some, None, Result, Ok, Err, map}
 use Rattle.login_setup.specs.declared.setup.ServerSetup.{ServerSetup}
-use Rattle.eap_base.specs.Among.{is_among}
+use Rattle.eap_base.specs.Among.{is_among, identity_kind, nak_kind}
 use Rattle.login_setup.specs.Setup.{are_kinds, IsSoundServer}
 use Rattle.eap_packet.specs.Packet.{PacketValue, request, response, success, failure, spelled}
 use Rattle.eap_packet.specs.Fault.{packet_of}
@@ -72,14 +72,6 @@ server_made of setup first_id max_retrans = record { vars = vars_made of setup f
 abbrev pub backend_made : ServerSetup → ServerNow
 backend_made setup = server_made role.Backend setup 0 0
 
--- Type 1, Identity
-abbrev pub identity : ℕ
-identity = 1
-
--- Type 3, Nak
-abbrev pub nak : ℕ
-nak = 3
-
 -- the next Identifier: the first one, or one more modulo 256
 abbrev pub next_id_after : ℕ → Option ℕ → ℕ
 next_id_after first None = first
@@ -94,7 +86,7 @@ with_request vars octets = record vars { current_id = Some (next_id vars); retra
 
 -- the packets that the server makes itself: the Identity Request, Success and Failure
 abbrev pub identity_request : ℕ → List ℕ
-identity_request id = spelled (request id identity [])
+identity_request id = spelled (request id identity_kind [])
 
 abbrev pub success_packet : ℕ → List ℕ
 success_packet id = spelled (success id)
@@ -112,7 +104,7 @@ server_start now =
       vars = record now.vars {
         state = state.Idle;
         current_id = Some now.vars.first_id;
-        current = Some identity;
+        current = Some identity_kind;
         progress = progress.Continue;
         retrans_count = 0;
         last_request = octets;
@@ -206,10 +198,10 @@ is_proposed p = elim p [ progress.Proposed ↦ true | _ ↦ false ]
 -- a Response with currentId; a Nak is taken only while the method is proposed
 abbrev pub current_response : ServerNow → ℕ → ℕ → List ℕ → ServerAnswer
 current_response now id kind body =
-    if (kind == nak) && is_proposed now.vars.progress
+    if (kind == nak_kind) && is_proposed now.vars.progress
     then select_action (before_proposal way.AfterNak) now.vars now.views id (Some body)
     else if is_awaited now.vars.current kind
-    then (if kind == identity then hears_identity now id else server_method now id kind (spelled (response id kind body)))
+    then (if kind == identity_kind then hears_identity now id else server_method now id kind (spelled (response id kind body)))
     else server_discard now cause.WrongMethod
 
 abbrev pub server_row : ServerNow → Result PacketValue Cause → ServerAnswer
@@ -230,9 +222,9 @@ picked_up vars id = record vars { state = state.Idle; current_id = Some id }
 -- that a Nak desires
 abbrev pub first_response : ServerNow → ℕ → ℕ → List ℕ → ServerAnswer
 first_response now id kind body =
-    if kind == nak
+    if kind == nak_kind
     then select_action (before_proposal way.FirstNak) (picked_up now.vars id) now.views id (Some body)
-    else if kind == identity
+    else if kind == identity_kind
     then select_action (before_proposal way.FirstIdentity) (record (picked_up now.vars id) { progress = progress.End }) now.views id None
     else select_action (before_proposal way.FirstOther) (picked_up now.vars id) now.views id None
 
@@ -308,7 +300,7 @@ server_reports now = current_report now.views now.vars.current
 -- whether a current method is Identity or one that the server proposes
 abbrev pub is_current : List ℕ → Option ℕ → Bool
 is_current order None = true
-is_current order (Some kind) = (kind == identity) || is_among order kind
+is_current order (Some kind) = (kind == identity_kind) || is_among order kind
 
 -- what holds of the variables at every moment
 pub record AreInOrder (vars : ServerVariables) : Type 0 where

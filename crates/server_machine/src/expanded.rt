@@ -1,7 +1,8 @@
 //! How a server that reads Expanded Types (RFC 3748 section 5.7) takes a Response and sends a Request.
 
 ghost use Rattle.std.specs.Prelude.{◌≡◌, ◌≤◌, ℕ, List, ◌==◌, false, if◌then◌else◌, length, slice_index};
-ghost use Rattle.eap_packet.specs.Packet.{response, spelled};
+ghost use Rattle.eap_base.specs.Among.{nak_kind};
+ghost use Rattle.eap_packet.specs.Packet.{response, spelled, max_type_data};
 ghost use Rattle.eap_packet.specs.Expanded.{is_nak_body};
 ghost use Rattle.login_policy.specs.Policy.{nak_of};
 ghost use Rattle.login_policy.specs.Expanded.{expanded_kinds};
@@ -10,24 +11,12 @@ ghost use Rattle.eap_method.specs.Steps.{step_with};
 ghost use Rattle.eap_method.specs.declared.step.Step as brief;
 ghost use Rattle.eap_method.specs.declared.tags.Tags as records;
 ghost use Rattle.server_machine.specs.Expanded.{MayWrap, response_octets, takes_nak, wraps};
-ghost use Rattle.server_machine.specs.ServerTable.{AreInOrder, answer, awaits_first, nak};
+ghost use Rattle.server_machine.specs.ServerTable.{AreInOrder, answer, awaits_first};
 
 use crate::variables::{Role, ServerVariables};
-use eap_base::Packet;
+use eap_base::{EXPANDED, IETF, NAK, Packet, VENDOR_SIZE};
 use eap_packet::{Code, PacketView, State, encode_into, wrap, write_plain};
 use login_policy::expanded_kinds;
-
-/// Type 254, of a packet with an Expanded Type.
-const EXPANDED: u8 = 254;
-
-/// Type 3, Nak.
-const NAK: u8 = 3;
-
-/// The octets of the Vendor-Id and the Vendor-Type.
-const FIELDS: usize = 7;
-
-/// Vendor-Id 0, that of the IETF, and the first three of the four octets of a Vendor-Type under 256.
-const IETF: [u8; 6] = [0; 6];
 
 /// True for a backend that still waits for its first Response.
 pub fn awaits_first(vars: &ServerVariables) -> bool
@@ -41,12 +30,12 @@ pub fn awaits_first(vars: &ServerVariables) -> bool
 /// the octets that came; the answer is then false, and what `packet` holds doesn't count.
 pub fn write_taken(vars: &ServerVariables, view: &PacketView, packet: &mut Packet) -> bool
     requires response { view.now.code ≡ Code.Response }
-    requires fits { length view.now.body.now ≤ 1495 }
+    requires fits { length view.now.body.now ≤ max_type_data }
     ensures { (octets : List ℕ) → response_octets vars.now octets view.now.id view.now.kind view.now.body.now
         ≡ (if result then packet.new else octets) }
 {
     if view.kind == EXPANDED && is_nak_body(view.body) && takes_nak(vars) {
-        write_nak(packet, view.id, &view.body[FIELDS..]);
+        write_nak(packet, view.id, &view.body[VENDOR_SIZE..]);
         true
     } else {
         write_plain(view, packet)
@@ -57,7 +46,7 @@ pub fn write_taken(vars: &ServerVariables, view: &PacketView, packet: &mut Packe
 fn is_nak_body(body: &[u8]) -> bool
     ensures { result ≡ is_nak_body body.now }
 {
-    body.len() >= FIELDS && body[..6] == IETF[..] && body[6] == NAK
+    body.len() >= VENDOR_SIZE && body[..6] == IETF[..] && body[6] == NAK
 }
 
 /// Whether an Expanded Nak is taken: as a backend's first Response, and where the Request that was sent last
@@ -80,7 +69,7 @@ fn octet_is(octets: &[u8], place: usize, octet: u8) -> bool
 /// where it names neither.
 #[tactic(auto, unfolding(login_policy::specs::Policy::nak_of))]
 fn write_nak(packet: &mut Packet, id: u8, list: &[u8])
-    ensures { packet.new ≡ spelled (response id nak (nak_of (expanded_kinds list.now))) }
+    ensures { packet.new ≡ spelled (response id nak_kind (nak_of (expanded_kinds list.now))) }
 {
     let kinds = expanded_kinds(list);
     if kinds.is_empty() {

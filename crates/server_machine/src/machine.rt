@@ -4,7 +4,7 @@
 ghost use Rattle.std.specs.Prelude.{◌≡◌, ◌≤◌, [], ◌∷◌, true, false, map, length, Some, None, Ok, option_copied, All, IsTrue, if◌then◌else◌};
 ghost use Rattle.eap_base.specs.Among.{is_among};
 ghost use Rattle.login_setup.specs.Setup.{IsSoundServer, are_suites, fits_kind};
-ghost use Rattle.eap_packet.specs.Packet.{spelled, value_of, IsPacket};
+ghost use Rattle.eap_packet.specs.Packet.{spelled, value_of, IsPacket, max_type_data};
 ghost use Rattle.eap_packet.specs.Packet as packets;
 ghost use Rattle.eap_packet.specs.Fault.{packet_of};
 ghost use Rattle.eap_packet.specs.declared.state.State.TheVariants.{Received, Discard, Idle};
@@ -21,7 +21,7 @@ ghost use Rattle.server_machine.specs.ServerTable.{answer, before_proposal, iden
 use crate::expanded::{awaits_first, wrap_sent, write_taken};
 use crate::outcome::{end_badly, next_id, settle, settle_offer};
 use crate::variables::{Progress, Role, ServerVariables, Way};
-use eap_base::{Kinds, Nonce, Packet};
+use eap_base::{IDENTITY, Kinds, NAK, Nonce, Packet};
 use eap_method::{
     Report, ServerMethod, ServerSide, ServerTurn, Step, Tags, begin_servers, hand_to_server,
     has_ended, offer_method, server_report,
@@ -30,12 +30,6 @@ use eap_packet::{Cause, Code, PacketView, State, decode, encode_into, is_bad_exp
 use login_policy::next_method;
 use login_setup::ServerSetup;
 use std::marker::Model;
-
-/// Type 1, Identity.
-const IDENTITY: u8 = 1;
-
-/// Type 3, Nak.
-const NAK: u8 = 3;
 
 /// The server of RFC 4137, stand-alone (section 5) or, for a world with a pass-through, in the role of the
 /// backend (section 6): its variables, and the objects of its methods. Contracts see both; what an object
@@ -244,7 +238,7 @@ impl<M: ServerMethod> ServerMachine<M> {
     ) -> Step
         requires ready { is_ready self.old.vars ≡ true }
         requires response { view.now.code ≡ Code.Response }
-        requires fits { length view.now.body.now ≤ 1495 }
+        requires fits { length view.now.body.now ≤ max_type_data }
         ensures step { reads_response (now_of M.server_shown self.old) octets.now view.now.id view.now.kind view.now.body.now
             ≡ answer (step_with result packet.new tags.new) (now_of M.server_shown self.new) }
         ensures kept { KeepsServers self.old.vars.setup.methods (map M.server_shown self.old.methods) (map M.server_shown self.new.methods) }

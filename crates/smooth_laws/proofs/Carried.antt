@@ -3,9 +3,10 @@ use Rattle.std.proofs.Common.{◌≡◌, ◌≢◌, ℕ, ◌+◌, ◌-◌, ◌�
 use Rattle.std.specs.Prelude.{◌==◌, ◌||◌, nat_lt}
 use Rattle.std.proofs.lemmas.Bool.{and_from, and_left, and_right, eqb-false, le-leb, le-ltb}
 use Rattle.std.proofs.lemmas.List.{take_all}
+use Rattle.eap_base.specs.Among.{expanded_kind, ietf}
 use Rattle.eap_packet.specs.Packet.{request, response, spelled, framed, two_octets}
 use Rattle.eap_packet.specs.Fault.{length_of, packet_of}
-use Rattle.eap_packet.specs.Expanded.{expanded_kind, ietf, has_plain, is_ietf, is_nak_body, is_plain_body, is_bad_body, wrapped}
+use Rattle.eap_packet.specs.Expanded.{has_plain, is_ietf, is_nak_body, is_plain_body, is_bad_body, wrapped}
 use Rattle.pass_through.specs.PassTable.{unpadded}
 use Rattle.smooth_laws.proofs.Packets.{request_read, response_read, request_whole, response_whole}
 

@@ -3,11 +3,11 @@ use Rattle.std.proofs.Common.{◌≡◌, ℕ, ◌≤◌, List, [], ◌∷◌, �
 use Rattle.std.specs.Prelude.{nat_lt, not}
 use Rattle.std.proofs.lemmas.Bool.{and_parts, and_from, and_right}
 use Rattle.std.proofs.lemmas.Bool.Decides.{nat_tests}
-use Rattle.eap_base.specs.Among.{psk_kind, gpsk_kind, is_kind}
+use Rattle.eap_base.specs.Among.{psk_kind, gpsk_kind, is_kind, expanded_kind, ietf}
 use Rattle.login_setup.specs.Setup.{are_kinds}
 use Rattle.eap_packet.specs.Packet.{response}
 use Rattle.eap_packet.specs.Fault.{packet_of}
-use Rattle.eap_packet.specs.Expanded.{expanded_kind, ietf, is_nak_body, is_bad_body, are_expanded, are_entries}
+use Rattle.eap_packet.specs.Expanded.{is_nak_body, is_bad_body, are_expanded, are_entries}
 use Rattle.login_policy.specs.Policy.{nak_of}
 use Rattle.login_policy.specs.Expanded.{nak_entries, kinds_in, expanded_kinds}
 use Rattle.peer_machine.specs.PeerTable.{nak_response}

@@ -2,10 +2,11 @@
 use Rattle.std.proofs.Common.{◌≡◌, ℕ, ◌+◌, ◌%◌, ◌≤◌, List, [], ◌∷◌, ◌++◌, length, Bool, true, false, not, None, Some, refl, ap, ◌∙◌}
 use Rattle.std.specs.Prelude.{◌==◌, ◌&&◌, Ok}
 use Rattle.std.proofs.lemmas.Bool.{cond-true, cond-false, eq-eqb, and_from, and_right, and_left, or_right}
+use Rattle.eap_base.specs.Among.{expanded_kind, ietf}
 use Rattle.login_setup.specs.declared.setup.ServerSetup.{ServerSetup}
 use Rattle.eap_packet.specs.Packet.{request, response, spelled}
 use Rattle.eap_packet.specs.Fault.{packet_of, type_of}
-use Rattle.eap_packet.specs.Expanded.{expanded_kind, ietf, is_ietf, is_nak_body, has_plain_form, is_bad_expanded, wrapped}
+use Rattle.eap_packet.specs.Expanded.{is_ietf, is_nak_body, has_plain_form, is_bad_expanded, wrapped}
 use Rattle.eap_packet.specs.declared.state.State.{State}
 use Rattle.eap_packet.specs.declared.state.State.TheVariants as state
 use Rattle.login_policy.specs.Policy.{next_kind, nak_of}

@@ -11,6 +11,7 @@ use Rattle.login_setup.specs.declared.setup.ServerSetup.{ServerSetup}
 use Rattle.login_setup.specs.declared.setup.Setup.{Setup}
 use Rattle.login_setup.specs.declared.users.User.{User}
 use Rattle.eap_base.specs.Among.{gpsk_kind, is_among}
+use Rattle.eap_base.specs.Sizes.{max_name}
 use Rattle.login_setup.specs.Setup.{accepts_name}
 use Rattle.login_setup.specs.Users.{user_of}
 use Rattle.eap_method.specs.Peer.{key_for}
@@ -42,8 +43,8 @@ pub record EndsFit (setup : Setup) : Type 0 where
 
 -- names of at most 253 octets, as every setup's are
 pub record HasShortNames (setup : Setup) : Type 0 where
-  pub peer : length setup.peer.name ≤ 253
-  pub server : length setup.server.name ≤ 253
+  pub peer : length setup.peer.name ≤ max_name
+  pub server : length setup.server.name ≤ max_name
 
 -- so many packets are delivered one after the other, from this number on
 unfoldable pub deliveries : ℕ → ℕ → List Event

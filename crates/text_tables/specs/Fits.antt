@@ -2,6 +2,7 @@
 use Rattle.std.specs.Prelude.{◌≡◌, ℕ, ◌+◌, ◌<◌, ◌≤◌, List, [], ◌∷◌, length, Bool, true, false, nat_le, IsTrue}
 use Rattle.login_setup.specs.Setup.{fits_kind}
 use Rattle.std.specs.Str.{bytes_eq}
+use Rattle.eap_base.specs.Sizes.{max_name}
 use Rattle.text_tables.specs.Fields.{word_in, number, spells_octets, octets_of, spells_kind, kind_of, spells_suite}
 use Rattle.text_tables.specs.Rows.{Row, field_has, any_has, is_choice, is_kind_or_none}
 use Rattle.text_tables.specs.declared.fault.LineFault.{LineFault}
@@ -23,7 +24,7 @@ pub record IsKey (kind : ℕ) (word : List ℕ) : Type 0 where
 
 pub record IsName (name : List ℕ) : Type 0 where
   pub some : 1 ≤ length name
-  pub few : length name ≤ 253
+  pub few : length name ≤ max_name
 
 -- one of two that aren't the same
 pub record IsOther (spells : List ℕ → Bool) (word other : List ℕ) : Type 0 where

@@ -2,6 +2,7 @@
 use Rattle.std.specs.Prelude.{ℕ, ◌+◌, ◌-◌, List, [], ◌∷◌, length, Bool, false, ◌&&◌, ◌||◌, not, nat_lt, nat_le, if◌then◌else◌, codes, Option, Some, None, is_some, find, ok_or, Result, Ok, Err}
 use Rattle.std.specs.List.{list_any}
 use Rattle.std.specs.Str.{bytes_eq}
+use Rattle.eap_base.specs.Sizes.{max_name}
 use Rattle.login_setup.specs.Setup.{fits_kind}
 use Rattle.text_tables.specs.Words.{words, is_printable}
 use Rattle.text_tables.specs.Fields.{word_in, is_dash, spells_number, spells_octets, octets_of, spells_kind, kind_of, spells_suite}
@@ -68,7 +69,7 @@ has_bad_hex other place ws = false
 
 -- BadSize: a name or octets of another length; a key of another than its method wants
 abbrev pub has_bad_size : Field → ℕ → List (List ℕ) → Bool
-has_bad_size field.Name place ws = not (is_within (length (word_in ws place)) 1 253)
+has_bad_size field.Name place ws = not (is_within (length (word_in ws place)) 1 max_name)
 has_bad_size (field.Hex low high) place ws = not (is_within (length (octets_of (word_in ws place))) low high)
 has_bad_size (field.Key p) place ws = not (fits_kind (kind_of (word_in ws p)) (octets_of (word_in ws place)))
 has_bad_size other place ws = false

@@ -1,6 +1,7 @@
 -- The users that the words of a command name: NAME KIND HEX, and so on.
 use Rattle.std.specs.Prelude.{ℕ, List, [], ◌∷◌, ◌++◌, length, Bool, true, false, ◌&&◌, not, nat_lt, nat_le, if◌then◌else◌, Option, Some, None, is_some}
 use Rattle.std.specs.List.{list_all}
+use Rattle.eap_base.specs.Sizes.{max_name}
 use Rattle.login_setup.specs.Setup.{fits_kind}
 use Rattle.login_setup.specs.Users.{user_of}
 use Rattle.login_setup.specs.declared.users.User.{User}
@@ -13,7 +14,7 @@ is_visible word = list_all (λ b. nat_le 33 b && nat_le b 126) word
 
 -- a name of 1 to 253 visible octets
 unfoldable pub is_name : List ℕ → Bool
-is_name word = is_visible word && is_within (length word) 1 253
+is_name word = is_visible word && is_within (length word) 1 max_name
 
 -- a key of the method's size in hex
 unfoldable pub is_key : ℕ → List ℕ → Bool

@@ -2,6 +2,7 @@
 
 ghost use Rattle.std.specs.Prelude.{◌≡◌, ◌≤◌, ◌<◌, ◌+◌, ◌*◌, ◌/◌, ◌^◌, length, min, IsTrue, IfOk};
 ghost use Rattle.std.specs.List.{list_all};
+ghost use Rattle.eap_base.specs.Sizes.{max_name};
 ghost use Rattle.text_tables.specs.Fields.{number, spells_number, number_of, number_after, is_digit, is_decimal, hex_of, hex_value};
 ghost use Rattle.text_tables.specs.Fields.{is_hex_digit, is_hex, octets_of, spells_octets, spells_kind, kind_of, spells_suite, suite_of};
 
@@ -205,7 +206,7 @@ pub fn suite_of(word: &[u8]) -> u8
 
 /// The name that the word is: its octets as they stand, at most 253.
 pub fn name(word: &[u8]) -> Identity
-    requires { length word.now ≤ 253 }
+    requires { length word.now ≤ max_name }
     ensures { result ≡ word.now }
 {
     let mut name = Identity::new();

@@ -12,7 +12,7 @@ use crate::fields::{
     kind_of, octet_count, spells_kind, spells_number, spells_octets, spells_suite,
 };
 use crate::words::{word_count, word_in};
-use eap_base::{GPSK_KIND, PSK_KIND};
+use eap_base::{GPSK_KIND, MAX_NAME, PSK_KIND};
 
 /// What a word after a keyword stands for. A place is that of a word in the line, 0 for the keyword.
 #[derive(Clone, Copy)]
@@ -157,7 +157,7 @@ fn fault_of_word(field: Field, place: usize, line: &[u8], count: usize) -> Optio
                 Some(LineFault::BadNumber)
             }
         }
-        Field::Name => unless(is_within(word.len(), 1, 253), LineFault::BadSize),
+        Field::Name => unless(is_within(word.len(), 1, MAX_NAME), LineFault::BadSize),
         Field::Hex { low, high } => {
             if spells_octets(word) {
                 unless(is_within(octet_count(word), low, high), LineFault::BadSize)

@@ -6,6 +6,7 @@ ghost use Rattle.text_tables.specs.UserWords.{is_visible, is_name, is_key, user_
 
 use crate::fields::{kind_of, name, octets, spells_kind, spells_octets};
 use crate::rows::{fits_kind, is_within};
+use eap_base::MAX_NAME;
 use login_setup::{User, Users};
 
 /// Adds the users that the words name, three words each: a name of 1 to 253 octets from 21 to 7e, a
@@ -77,7 +78,7 @@ fn is_name(word: &[u8]) -> bool
     ensures name { result ≡ is_name word.now }
     ensures fits { result ≡ true → IsName word.now }
 {
-    is_visible(word) && is_within(word.len(), 1, 253)
+    is_visible(word) && is_within(word.len(), 1, MAX_NAME)
 }
 
 /// True for a key of the method's size in hex.

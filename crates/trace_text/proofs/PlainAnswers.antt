@@ -1,9 +1,9 @@
 -- No line of `decode` or `keys` begins as the line of the verdict does.
 use Rattle.std.proofs.Common.{◌≡◌, ℕ, ◌≤◌, ◌-◌, ◌==◌, List, [], ◌∷◌, ◌++◌, length, Bool, true, false, if◌then◌else◌, Option, Some, None, Result, Ok, Err, refl, codes, decimal, arith}
 use Rattle.std.proofs.lemmas.Bool.{ne_eqb, false≢true}
-use Rattle.eap_base.specs.Among.{psk_kind, gpsk_kind}
+use Rattle.eap_base.specs.Among.{psk_kind, gpsk_kind, expanded_kind}
 use Rattle.eap_packet.specs.Fault.{packet_of}
-use Rattle.eap_packet.specs.Expanded.{ExpandedValue, expanded_kind, expanded_of}
+use Rattle.eap_packet.specs.Expanded.{ExpandedValue, expanded_of}
 use Rattle.eap_packet.specs.Words.{cause_word}
 use Rattle.eap_packet.specs.Packet.{PacketValue, request, response, success, failure, spelled}
 use Rattle.eap_packet.specs.declared.cause.Cause.{Cause}

@@ -1,11 +1,11 @@
 -- What a packet is, in one line.
 use Rattle.std.specs.Prelude.{ℕ, ◌-◌, List, [], ◌∷◌, ◌++◌, length, ◌==◌, if◌then◌else◌, Option, Some, None, Result, Ok, Err, codes, decimal}
 use Rattle.std.specs.List.{concat}
-use Rattle.eap_base.specs.Among.{psk_kind, gpsk_kind}
+use Rattle.eap_base.specs.Among.{psk_kind, gpsk_kind, expanded_kind, identity_kind, nak_kind}
 use Rattle.eap_packet.specs.Words.{cause_word}
 use Rattle.eap_packet.specs.Packet.{PacketValue, request, response, success, failure, spelled}
 use Rattle.eap_packet.specs.Fault.{packet_of}
-use Rattle.eap_packet.specs.Expanded.{ExpandedValue, expanded_kind, expanded_of}
+use Rattle.eap_packet.specs.Expanded.{ExpandedValue, expanded_of}
 use Rattle.eap_packet.specs.declared.cause.Cause.{Cause}
 use Rattle.eap_packet.specs.declared.cause.Cause.TheVariants as cause
 use Rattle.psk_messages.specs.Message as psk
@@ -47,8 +47,8 @@ expanded_note (Some fields) =
 -- Expanded Type
 unfoldable pub note_text : ℕ → List ℕ → List ℕ
 note_text kind body =
-    if kind == 1 then concat (codes "identity " ∷ hex_text body ∷ [])
-    else if kind == 3 then codes "nak" ++ numbers_text body
+    if kind == identity_kind then concat (codes "identity " ∷ hex_text body ∷ [])
+    else if kind == nak_kind then codes "nak" ++ numbers_text body
     else if kind == psk_kind then psk_note (psk_reading.read_of body)
     else if kind == gpsk_kind then gpsk_note (gpsk_reading.read_of None body)
     else if kind == expanded_kind then expanded_note (expanded_of body)

@@ -2,6 +2,8 @@
 
 ghost use Rattle.std.specs.Prelude.{◌≡◌, ◌≤◌, ◌-◌, None, length, [], ◌∷◌, ◌++◌, codes, decimal};
 ghost use Rattle.std.specs.List.{concat};
+ghost use Rattle.eap_base.specs.Sizes.{max_packet};
+ghost use Rattle.eap_base.specs.Among.{expanded_kind};
 ghost use Rattle.psk_messages.specs.Message as psk;
 ghost use Rattle.psk_messages.specs.Reading as psk_reading;
 ghost use Rattle.gpsk_messages.specs.Message as gpsk;
@@ -17,14 +19,11 @@ ghost use Rattle.trace_text.specs.PacketParts.{nak_word, number_text, head_text,
 use crate::line_buffer::LineBuffer;
 use crate::pieces::Piece::{Hex, Number, Text};
 use crate::pieces::{put_pieces, send, write_pieces};
-use eap_base::{GPSK_KIND, PSK_KIND};
+use eap_base::{EXPANDED, GPSK_KIND, IDENTITY, NAK, PSK_KIND};
 use eap_packet::{Cause, Code, PacketView, decode, read_expanded};
 use gpsk_messages::{GpskView, read_gpsk};
 use octet_io::{Failed, Sink};
 use psk_messages::{PskView, read_psk};
-
-/// Type 254, of a packet with an Expanded Type.
-const EXPANDED: u8 = 254;
 
 /// Puts the identity of an Identity Request or Response.
 fn put_identity<W: Sink>(sink: &mut W, line: &mut LineBuffer, name: &[u8]) -> Result<(), Failed>
@@ -129,7 +128,7 @@ fn put_expanded<W: Sink>(
     line: &mut LineBuffer,
     view: &PacketView,
 ) -> Result<(), Failed>
-    requires { view.now.kind ≡ 254 }
+    requires { view.now.kind ≡ expanded_kind }
     ensures { Puts W.written W.write_faults W.last_write_fault result sink.old sink.new line.old line.new (expanded_note (expanded_of view.now.body.now)) }
 {
     match read_expanded(view) {
@@ -152,12 +151,12 @@ fn put_expanded<W: Sink>(
 /// Puts what the Type-Data of a Type says.
 #[tactic(auto, unfolding(crate::specs::Packets::note_text, crate::specs::PacketParts::nak_word))]
 fn put_note<W: Sink>(sink: &mut W, line: &mut LineBuffer, view: &PacketView) -> Result<(), Failed>
-    requires { length view.now.body.now ≤ 1500 }
+    requires { length view.now.body.now ≤ max_packet }
     ensures { Puts W.written W.write_faults W.last_write_fault result sink.old sink.new line.old line.new (note_text view.now.kind view.now.body.now) }
 {
     match view.kind {
-        1 => put_identity(sink, line, view.body),
-        3 => put_nak(sink, line, view.body),
+        IDENTITY => put_identity(sink, line, view.body),
+        NAK => put_nak(sink, line, view.body),
         PSK_KIND => put_psk_note(sink, line, view.body),
         GPSK_KIND => put_gpsk_note(sink, line, view.body),
         EXPANDED => put_expanded(sink, line, view),
@@ -217,7 +216,7 @@ fn put_parts<W: Sink>(
     octets: usize,
 ) -> Result<(), Failed>
     requires whole { length view.now.whole.now ≤ octets }
-    requires body { length view.now.body.now ≤ 1500 }
+    requires body { length view.now.body.now ≤ max_packet }
     ensures { Puts W.written W.write_faults W.last_write_fault result sink.old sink.new line.old line.new
         (head_text number code.now view.now.id view.now.kind (length view.now.whole.now) octets
         ++ (note_text view.now.kind view.now.body.now ++ line_end)) }
@@ -237,7 +236,7 @@ fn put_typed<W: Sink>(
     octets: usize,
 ) -> Result<(), Failed>
     requires whole { length view.now.whole.now ≤ octets }
-    requires body { length view.now.body.now ≤ 1500 }
+    requires body { length view.now.body.now ≤ max_packet }
     ensures { Puts W.written W.write_faults W.last_write_fault result sink.old sink.new line.old line.new
         (typed_text number code.now view.now.id view.now.kind view.now.body.now (length view.now.whole.now) octets) }
 {
@@ -304,7 +303,7 @@ fn put_view<W: Sink>(
     octets: usize,
 ) -> Result<(), Failed>
     requires whole { length view.now.whole.now ≤ octets }
-    requires body { length view.now.body.now ≤ 1500 }
+    requires body { length view.now.body.now ≤ max_packet }
     ensures { Puts W.written W.write_faults W.last_write_fault result sink.old sink.new line.old line.new
         (value_text number (value_of view.now) (length view.now.whole.now) octets) }
 {

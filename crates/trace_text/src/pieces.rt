@@ -8,7 +8,7 @@ ghost use Rattle.trace_text.specs.Pieces.{spelled, joined, hex_text};
 
 use crate::line_buffer::LineBuffer;
 use itoa::Buffer;
-use octet_io::{Failed, Sink};
+use octet_io::{Failed, LF, Sink};
 
 /// A piece of a line.
 #[derive(Clone, Copy)]
@@ -23,8 +23,6 @@ pub enum Piece<'a> {
 
 /// How many octets are spelled in hex at a time.
 const STRETCH: usize = 32;
-
-const LF: u8 = 10;
 
 /// Writes octets whole, in as many writes as the sink asks for.
 fn write_whole<W: Sink>(sink: &mut W, octets: &[u8]) -> Result<(), Failed>

@@ -1,10 +1,12 @@
 //! What an end holds after a method that succeeded.
 
 ghost use Rattle.std.specs.Prelude.{◌≡◌, ◌≤◌, ◌++◌, length, drop, IsTrue, None, IfSome};
+ghost use Rattle.eap_base.specs.Sizes.{max_name};
 ghost use Rattle.tuvaddri_c.specs.Ends.{end_reports, IsReport};
 
 use crate::handle::TuvEnd;
 use crate::session::{End, Session};
+use eap_base::MAX_NAME;
 use eap_method::{PeerMethod, Report, ServerMethod};
 
 /// What an end holds after a method that succeeded.
@@ -19,8 +21,8 @@ pub struct TuvReport {
     pub peer_length: u8,
     /// The octets of the server's name, which stand at the front of `server`.
     pub server_length: u8,
-    pub peer: [u8; 253],
-    pub server: [u8; 253],
+    pub peer: [u8; MAX_NAME],
+    pub server: [u8; MAX_NAME],
     /// The Master Session Key (RFC 3748 section 7.10).
     pub msk: [u8; 64],
     /// The Extended Master Session Key (RFC 3748 section 7.10).
@@ -80,8 +82,8 @@ fn write(held: &Report, report: &mut TuvReport)
 }
 
 /// Writes a name to the front of the room, and answers its length.
-fn write_name(name: &[u8], room: &mut [u8; 253]) -> u8
-    requires { length name.now ≤ 253 }
+fn write_name(name: &[u8], room: &mut [u8; MAX_NAME]) -> u8
+    requires { length name.now ≤ max_name }
     ensures size { result ≡ length name.now }
     ensures copied { room.new ≡ name.now ++ drop (length name.now) room.old }
 {

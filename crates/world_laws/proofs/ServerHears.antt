@@ -4,8 +4,8 @@ use Rattle.std.specs.Prelude.{◌==◌, not}
 use Rattle.std.proofs.lemmas.Bool.{and_parts, cond_both, not-true}
 use Rattle.login_setup.specs.declared.setup.ServerSetup.{ServerSetup}
 use Rattle.login_setup.specs.declared.users.User.{User}
-use Rattle.eap_base.specs.Among.{psk_kind, gpsk_kind}
-use Rattle.eap_packet.specs.Expanded.{expanded_kind, is_nak_body}
+use Rattle.eap_base.specs.Among.{psk_kind, gpsk_kind, expanded_kind}
+use Rattle.eap_packet.specs.Expanded.{is_nak_body}
 use Rattle.eap_packet.specs.Fault.{code_of, packet_of}
 use Rattle.eap_packet.specs.Packet.{response, spelled}
 use Rattle.eap_packet.specs.declared.state.State.{State}

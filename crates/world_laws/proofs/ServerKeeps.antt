@@ -6,7 +6,7 @@ use Rattle.std.proofs.lemmas.Bool.{and_parts, cond_both, eqb-true, false≢true,
 use Rattle.login_setup.specs.declared.setup.ServerSetup.{ServerSetup}
 use Rattle.eap_base.specs.declared.suite.Suite.{Suite}
 use Rattle.login_setup.specs.declared.users.User.{User}
-use Rattle.eap_base.specs.Among.{psk_kind, gpsk_kind, is_among}
+use Rattle.eap_base.specs.Among.{psk_kind, gpsk_kind, is_among, identity_kind}
 use Rattle.eap_base.specs.Suite.{suite_number}
 use Rattle.login_setup.specs.Users.{user_of}
 use Rattle.eap_packet.specs.Fault.{code_of}
@@ -41,7 +41,7 @@ use Rattle.server_machine.specs.Inputs.{ServerInput, start, restart, server_answ
 use Rattle.server_machine.specs.Inputs as inputs
 use Rattle.server_machine.specs.Rows as rows
 use Rattle.server_machine.specs.Rows.{Selects, after_identity, after_nak, first_identity, first_nak, first_other}
-use Rattle.server_machine.specs.ServerTable.{ServerNow, ServerAnswer, identity, own_nonce, server_made, server_restart, next_id, with_request, offers, is_proposed, is_started, awaits_first, is_backend, picked_up, server_deliver, server_start}
+use Rattle.server_machine.specs.ServerTable.{ServerNow, ServerAnswer, own_nonce, server_made, server_restart, next_id, with_request, offers, is_proposed, is_started, awaits_first, is_backend, picked_up, server_deliver, server_start}
 use Rattle.server_machine.specs.declared.variables.Role.{Role}
 use Rattle.server_machine.proofs.Hearing.{ServerHearing, as_it_is, bad, wrapping}
 use Rattle.server_machine.proofs.ServerRows.{server_answers_are_rows}
@@ -280,7 +280,7 @@ module _ (setup : ServerSetup) (current : Option ℕ) (views : ServerViews) wher
   pub told_by_psk : (view : psk.View) (accepted made : List TagRecord) → current ≡ Some psk_kind → views.psk ≡ Some view
       → ServerTags setup current views accepted made → PskServerTags setup view accepted made
   told_by_psk view _ _ is_psk at_view (none_current none) = absurd cc
-  told_by_psk view _ _ is_psk at_view (identity_current is_current) = apart current identity psk_kind refl is_current is_psk
+  told_by_psk view _ _ is_psk at_view (identity_current is_current) = apart current identity_kind psk_kind refl is_current is_psk
   told_by_psk view _ _ is_psk at_view (psk_current other accepted made is_current in_view told) =
       subst (λ (v : psk.View). PskServerTags setup v accepted made) (one_view views.psk view other at_view in_view) told
   told_by_psk view _ _ is_psk at_view (gpsk_current other accepted made is_current in_view told) = apart current gpsk_kind psk_kind refl is_current is_psk
@@ -288,17 +288,17 @@ module _ (setup : ServerSetup) (current : Option ℕ) (views : ServerViews) wher
   pub told_by_gpsk : (view : gpsk.View) (accepted made : List TagRecord) → current ≡ Some gpsk_kind → views.gpsk ≡ Some view
       → ServerTags setup current views accepted made → GpskServerTags setup view accepted made
   told_by_gpsk view _ _ is_gpsk at_view (none_current none) = absurd cc
-  told_by_gpsk view _ _ is_gpsk at_view (identity_current is_current) = apart current identity gpsk_kind refl is_current is_gpsk
+  told_by_gpsk view _ _ is_gpsk at_view (identity_current is_current) = apart current identity_kind gpsk_kind refl is_current is_gpsk
   told_by_gpsk view _ _ is_gpsk at_view (psk_current other accepted made is_current in_view told) = apart current psk_kind gpsk_kind refl is_current is_gpsk
   told_by_gpsk view _ _ is_gpsk at_view (gpsk_current other accepted made is_current in_view told) =
       subst (λ (v : gpsk.View). GpskServerTags setup v accepted made) (one_view views.gpsk view other at_view in_view) told
 
   -- the Identity round has no tags
-  in_identity : (accepted made : List TagRecord) → current ≡ Some identity → ServerTags setup current views accepted made → AreNone accepted made
+  in_identity : (accepted made : List TagRecord) → current ≡ Some identity_kind → ServerTags setup current views accepted made → AreNone accepted made
   in_identity _ _ asks (none_current none) = untagged
   in_identity _ _ asks (identity_current is_current) = untagged
-  in_identity _ _ asks (psk_current view accepted made is_current in_view told) = apart current psk_kind identity refl is_current asks
-  in_identity _ _ asks (gpsk_current view accepted made is_current in_view told) = apart current gpsk_kind identity refl is_current asks
+  in_identity _ _ asks (psk_current view accepted made is_current in_view told) = apart current psk_kind identity_kind refl is_current asks
+  in_identity _ _ asks (gpsk_current view accepted made is_current in_view told) = apart current gpsk_kind identity_kind refl is_current asks
 
   -- nor has a server without a current method
   in_none : (accepted made : List TagRecord) → current ≡ None → ServerTags setup current views accepted made → AreNone accepted made

@@ -3,7 +3,7 @@
 use Rattle.std.specs.Prelude.{◌≡◌, ℕ, List, [], ◌∷◌, length, drop, Bool, true, false, Option, None, Some}
 use Rattle.login_setup.specs.declared.setup.ServerSetup.{ServerSetup}
 use Rattle.login_setup.specs.declared.users.User.{User}
-use Rattle.eap_base.specs.Among.{psk_kind, gpsk_kind, is_among}
+use Rattle.eap_base.specs.Among.{psk_kind, gpsk_kind, is_among, identity_kind}
 use Rattle.eap_base.specs.Suite.{suite_number}
 use Rattle.login_setup.specs.Users.{user_of}
 use Rattle.gpsk_messages.specs.Message.{Message, gpsk2, gpsk4}
@@ -14,7 +14,7 @@ use Rattle.eap_method.specs.GpskTags.{sk_record, suite_list, tagged}
 use Rattle.eap_method.specs.PskServer as psk
 use Rattle.eap_method.specs.PskTags.{ak_record, tek_record, channel_nonce, done_success}
 use Rattle.eap_method.specs.Server.{ServerViews, side_of}
-use Rattle.server_machine.specs.ServerTable.{ServerNow, identity, is_proposed, is_started}
+use Rattle.server_machine.specs.ServerTable.{ServerNow, is_proposed, is_started}
 use Rattle.server_machine.specs.declared.variables.ServerVariables.{ServerVariables}
 use Rattle.eap_world.specs.Judgement.{is_success}
 use Rattle.world_laws.specs.Records.{AreNone}
@@ -98,7 +98,7 @@ pub data GpskServerTags (setup : ServerSetup) : gpsk.View → List TagRecord →
 -- the tags of a server are those of its current method; there are none before its first proposal
 pub data ServerTags (setup : ServerSetup) (current : Option ℕ) (views : ServerViews) : List TagRecord → List TagRecord → Type 0 where
   none_current : (none : current ≡ None) → ServerTags setup current views [] []
-  identity_current : (is_current : current ≡ Some identity) → ServerTags setup current views [] []
+  identity_current : (is_current : current ≡ Some identity_kind) → ServerTags setup current views [] []
   psk_current : (view : psk.View) (accepted made : List TagRecord) (is_current : current ≡ Some psk_kind) (in_view : views.psk ≡ Some view)
       (told : PskServerTags setup view accepted made) → ServerTags setup current views accepted made
   gpsk_current : (view : gpsk.View) (accepted made : List TagRecord) (is_current : current ≡ Some gpsk_kind) (in_view : views.gpsk ≡ Some view)

@@ -1,6 +1,8 @@
 //! GPSK-1, and what a peer that has begun makes of it (RFC 5433 section 10).
 
 ghost use Rattle.std.specs.Prelude.{◌≡◌, ◌≤◌, ℕ, length, None};
+ghost use Rattle.eap_base.specs.Sizes.{max_name};
+ghost use Rattle.eap_packet.specs.Packet.{max_type_data};
 ghost use Rattle.gpsk_messages.specs.Message.{message_of};
 ghost use Rattle.gpsk_messages.specs.Reading.{read_of};
 ghost use Rattle.login_policy.specs.Policy.{picked_suite};
@@ -19,7 +21,7 @@ use login_policy::pick_suite;
 /// GPSK-1 of a server that the peer accepts: the first suite of the list that it allows is taken.
 /// `NoSuite`: there is none.
 fn pick<'a>(own: &Begun, id_s: &'a [u8], rand_s: &Nonce, list: &'a [u8]) -> Result<Offer<'a>, Cause>
-    requires name { length id_s.now ≤ 253 }
+    requires name { length id_s.now ≤ max_name }
     requires few { length list.now ≤ 120 }
     ensures { (id : ℕ) → offered own.now.cred own.now.nonce id result
         ≡ picks own.now.cred own.now.nonce id id_s.now rand_s.now list.now (picked_suite own.now.cred.suites list.now) }
@@ -42,7 +44,7 @@ fn hears_gpsk1<'a>(
     rand_s: &Nonce,
     list: &'a [u8],
 ) -> Result<Offer<'a>, Cause>
-    requires name { length id_s.now ≤ 253 }
+    requires name { length id_s.now ≤ max_name }
     requires few { length list.now ≤ 120 }
     ensures { (id : ℕ) → offered own.now.cred own.now.nonce id result ≡ hears_gpsk1 own.now.cred own.now.nonce id id_s.now rand_s.now list.now }
 {
@@ -66,7 +68,7 @@ fn fresh_hears<'a>(own: &Begun, view: &GpskView<'a>, body: &[u8]) -> Result<Offe
 
 /// The Type-Data at a peer that has begun.
 pub fn fresh_reads<'a>(own: &Begun, body: &'a [u8]) -> Result<Offer<'a>, Cause>
-    requires { length body.now ≤ 1495 }
+    requires { length body.now ≤ max_type_data }
     ensures { (id : ℕ) → offered own.now.cred own.now.nonce id result ≡ fresh_reads own.now.cred own.now.nonce id (read_of None body.now) }
 {
     match hear(body, None) {

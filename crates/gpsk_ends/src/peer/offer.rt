@@ -1,6 +1,7 @@
 //! What a peer takes out of GPSK-1.
 
 ghost use Rattle.std.specs.Prelude.{◌≤◌, length};
+ghost use Rattle.eap_base.specs.Sizes.{max_name};
 
 use eap_base::{Nonce, Suite};
 
@@ -15,6 +16,6 @@ pub struct Offer<'a> {
     pub list: &'a [u8],
     /// CSuite_Sel.
     pub suite: Suite,
-    ghost name: { length id_s.now ≤ 253 },
+    ghost name: { length id_s.now ≤ max_name },
     ghost few: { length list.now ≤ 120 },
 }

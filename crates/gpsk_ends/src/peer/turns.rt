@@ -2,7 +2,9 @@
 
 ghost use Rattle.std.specs.Prelude.{◌≡◌, ◌≤◌, length, true, not, None, Some};
 ghost use Rattle.eap_base.specs.Suite.{ks_of};
+ghost use Rattle.eap_base.specs.Sizes.{max_packet};
 ghost use Rattle.eap_packet.specs.declared.cause.Cause.TheVariants.{BadTag};
+ghost use Rattle.eap_packet.specs.Packet.{max_type_data};
 ghost use Rattle.gpsk_messages.specs.Message.{message_of};
 ghost use Rattle.gpsk_messages.specs.Reading.{read_of};
 ghost use Rattle.eap_method.specs.Turns.{fault_if, discarded};
@@ -170,7 +172,7 @@ fn wait_reads(
     packet: &mut Packet,
     tags: &mut Tags,
 ) -> PeerTurn
-    requires size { length body.now ≤ 1495 }
+    requires size { length body.now ≤ max_type_data }
     requires waits { phase.old ≡ Wait }
     ensures turn { outcome_with result packet.new tags.new (view_in login.now phase.new)
         ≡ wait_reads login.now id (read_of (Some (ks_of login.now.suite)) body.now) }
@@ -184,7 +186,7 @@ fn wait_reads(
 
 /// Why a peer whose login is over discards the Type-Data: it takes nothing.
 fn over_cause(login: &Login, good: bool, body: &[u8]) -> Cause
-    requires { length body.now ≤ 1495 }
+    requires { length body.now ≤ max_type_data }
     ensures { discarded (over login.now good) result ≡ over_reads login.now good (read_of (Some (ks_of login.now.suite)) body.now) }
 {
     match hear(body, Some(login.suite())) {
@@ -198,7 +200,7 @@ fn over_cause(login: &Login, good: bool, body: &[u8]) -> Cause
 #[tactic(auto, unfolding(eap_method::specs::GpskPeer::step))]
 pub fn take(stage: &mut Stage, request: &[u8], packet: &mut Packet, tags: &mut Tags) -> PeerTurn
     requires header { 5 ≤ length request.now }
-    requires size { length request.now ≤ 1500 }
+    requires size { length request.now ≤ max_packet }
     ensures turn { outcome_with result packet.new tags.new (view_of stage.new) ≡ step (view_of stage.old) request.now }
     ensures room { replies result ≡ true → HasRoom packet.new }
 {

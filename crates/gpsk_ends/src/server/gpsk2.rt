@@ -2,6 +2,7 @@
 
 ghost use Rattle.std.specs.Prelude.{◌≡◌, ◌≤◌, length, true, All, IsTrue, IfSome, None, option_copied};
 ghost use Rattle.eap_base.specs.Among.{gpsk_kind};
+ghost use Rattle.eap_packet.specs.Packet.{max_type_data};
 ghost use Rattle.login_setup.specs.Setup.{fits_kind};
 ghost use Rattle.login_setup.specs.Users.{user_of};
 ghost use Rattle.gpsk_messages.specs.Message.{message_of};
@@ -149,7 +150,7 @@ pub fn asked_reads(
     packet: &mut Packet,
     tags: &mut Tags,
 ) -> Answered
-    requires size { length body.now ≤ 1495 }
+    requires size { length body.now ≤ max_type_data }
     requires keys { All (λ user. IsTrue (fits_kind user.kind user.psk)) users.now }
     ensures turn { answered_with result packet.new tags.new own.now.side own.now.nonce
         ≡ asked_reads users.now own.now.side own.now.nonce next_id (read_of None body.now) }

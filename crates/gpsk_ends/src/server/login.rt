@@ -3,6 +3,7 @@
 ghost use Rattle.std.specs.Prelude.{◌≡◌, ◌≤◌, ◌+◌, ◌∷◌, [], length};
 ghost use Rattle.eap_base.specs.Among.{is_among};
 ghost use Rattle.eap_base.specs.Suite.{ks_of, suite_number};
+ghost use Rattle.eap_base.specs.Sizes.{max_name};
 ghost use Rattle.eap_packet.specs.declared.packet.Code.TheVariants as code;
 ghost use Rattle.gpsk_messages.specs.Message.{message_of, mac_of, size_of, without_mac};
 ghost use Rattle.eap_method.specs.GpskTags.{gpsk_request, sk_record};
@@ -123,7 +124,7 @@ impl Login {
     /// The login of the user that GPSK-2 names. Its keys are derived here alone (RFC 5433 section 4).
     #[tactic(auto, unfolding(eap_method::specs::GpskServer::keys_of))]
     pub fn new(own: &Begun, id_p: &[u8], user: &User, rand_p: &Nonce, suite: Suite) -> Login
-        requires name { length id_p.now ≤ 253 }
+        requires name { length id_p.now ≤ max_name }
         requires key { 32 ≤ length user.now.psk }
         ensures { result ≡ record { own = own.now.side; nonce = own.now.nonce; id_p = id_p.now; psk = user.now.psk; rand_p = rand_p.now; suite = suite } }
     {

@@ -3,6 +3,8 @@
 ghost use Rattle.std.specs.Prelude.{◌≡◌, ◌≤◌, ℕ, List, ◌∷◌, [], length, true, All, IsTrue, None, Some, option_map};
 ghost use Rattle.login_setup.specs.Setup.{fits_kind};
 ghost use Rattle.eap_base.specs.Suite.{ks_of};
+ghost use Rattle.eap_base.specs.Sizes.{max_packet};
+ghost use Rattle.eap_packet.specs.Packet.{max_type_data};
 ghost use Rattle.gpsk_messages.specs.Message.{message_of};
 ghost use Rattle.gpsk_messages.specs.Reading.{read_of};
 ghost use Rattle.eap_method.specs.declared.values.ServerSide.{ServerSide};
@@ -68,7 +70,7 @@ fn refusing_hears(view: &GpskView, phase: &mut Alone, tags: &mut Tags) -> Server
 
 /// The Type-Data at a server that has sent GPSK-Fail.
 fn refusing_reads(body: &[u8], phase: &mut Alone, tags: &mut Tags) -> ServerTurn
-    requires size { length body.now ≤ 1495 }
+    requires size { length body.now ≤ max_type_data }
     requires awaits { phase.old ≡ Refusing }
     ensures { (own : ServerSide) (nonce packet : List ℕ) →
         outcome_with result packet tags.new (view_alone own nonce phase.new) ≡ refusing_reads own nonce (read_of None body.now) }
@@ -129,7 +131,7 @@ fn barring_hears(
 
 /// The Type-Data at a server that has sent GPSK-Protected-Fail.
 fn barring_reads(login: &Login, phase: &mut Phase, body: &[u8], tags: &mut Tags) -> ServerTurn
-    requires size { length body.now ≤ 1495 }
+    requires size { length body.now ≤ max_type_data }
     requires awaits { phase.old ≡ Barring }
     ensures { (packet : List ℕ) →
         outcome_with result packet tags.new (view_in login.now phase.new) ≡ barring_reads login.now (read_of (Some (ks_of login.now.suite)) body.now) }
@@ -168,7 +170,7 @@ fn checked_hears(
 
 /// The Type-Data at a server that has sent GPSK-3.
 fn checked_reads(login: &Login, phase: &mut Phase, body: &[u8], tags: &mut Tags) -> ServerTurn
-    requires size { length body.now ≤ 1495 }
+    requires size { length body.now ≤ max_type_data }
     requires awaits { phase.old ≡ Checked }
     ensures { (packet : List ℕ) →
         outcome_with result packet tags.new (view_in login.now phase.new) ≡ checked_reads login.now (read_of (Some (ks_of login.now.suite)) body.now) }
@@ -181,7 +183,7 @@ fn checked_reads(login: &Login, phase: &mut Phase, body: &[u8], tags: &mut Tags)
 
 /// Why a server that awaits nothing discards the Type-Data.
 fn idle_cause(suite: Option<Suite>, body: &[u8]) -> Cause
-    requires { length body.now ≤ 1495 }
+    requires { length body.now ≤ max_type_data }
     ensures { (view : View) → dropped view result ≡ idle_reads view (read_of (option_map ks_of suite) body.now) }
 {
     match hear(body, suite) {
@@ -192,7 +194,7 @@ fn idle_cause(suite: Option<Suite>, body: &[u8]) -> Cause
 
 /// The Type-Data at a server in a login.
 fn login_reads(login: &Login, phase: &mut Phase, body: &[u8], tags: &mut Tags) -> ServerTurn
-    requires { length body.now ≤ 1495 }
+    requires { length body.now ≤ max_type_data }
     ensures { (packet : List ℕ) →
         outcome_with result packet tags.new (view_in login.now phase.new)
         ≡ reads_in login.now phase.old (read_of (Some (ks_of login.now.suite)) body.now) }
@@ -216,7 +218,7 @@ pub fn take(
     tags: &mut Tags,
 ) -> ServerTurn
     requires header { 5 ≤ length response.now }
-    requires size { length response.now ≤ 1500 }
+    requires size { length response.now ≤ max_packet }
     requires keys { All (λ user. IsTrue (fits_kind user.kind user.psk)) users.now }
     ensures turn { outcome_with result packet.new tags.new (view_of stage.new) ≡ step users.now next_id (view_of stage.old) response.now }
     ensures room { requests result ≡ true → HasRoom packet.new }

@@ -1,6 +1,7 @@
 //! What a peer keeps of a login.
 
 ghost use Rattle.std.specs.Prelude.{◌≡◌, ◌≤◌, ◌<◌, [], ◌∷◌, ◌++◌, length};
+ghost use Rattle.eap_base.specs.Sizes.{max_name};
 
 use crate::keys::long_keys;
 use crate::octets::rand_of;
@@ -69,7 +70,7 @@ impl Login {
 
     /// The login of a peer that has taken PSK-1.
     pub fn new(own: &Begun, id_s: &[u8], rand_s: &[u8; 16]) -> Login
-        requires { length id_s.now ≤ 253 }
+        requires { length id_s.now ≤ max_name }
         ensures { result ≡ record { cred = own.now.cred; nonce = own.now.nonce; id_s = id_s.now; rand_s = rand_s.now } }
     {
         let PskLong { ak, kdk } = long_keys(&own.cred.psk);

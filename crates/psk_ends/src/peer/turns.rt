@@ -1,6 +1,7 @@
 //! A peer's turn for each Request (RFC 4764 section 4).
 
 ghost use Rattle.std.specs.Prelude.{◌≡◌, ℕ, ◌≤◌, List, [], ◌∷◌, length, Bool, true, Ok, IfOk};
+ghost use Rattle.eap_base.specs.Sizes.{max_name};
 ghost use Rattle.psk_messages.specs.Message.{message_of, AreFields, psk2};
 ghost use Rattle.psk_messages.specs.Reading.{read_of};
 ghost use Rattle.eap_method.specs.Room.{HasRoom, replies};
@@ -56,7 +57,7 @@ fn hears_psk1(
     packet: &mut Packet,
     tags: &mut Tags,
 ) -> Result<Login, Cause>
-    requires name { length id_s.now ≤ 253 }
+    requires name { length id_s.now ≤ max_name }
     requires none { tags.old ≡ no_tags }
     ensures left { fresh_left own.now packet.new tags.new result ≡ left_by (hears_psk1 own.now.cred own.now.nonce id rand_s.now id_s.now) }
     ensures room { IfOk result (λ login. HasRoom packet.new) }

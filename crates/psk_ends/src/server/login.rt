@@ -1,6 +1,7 @@
 //! What a server keeps of a login.
 
 ghost use Rattle.std.specs.Prelude.{◌≡◌, ◌≤◌, ◌<◌, [], ◌∷◌, ◌++◌, length};
+ghost use Rattle.eap_base.specs.Sizes.{max_name};
 ghost use Rattle.cmac_mac.specs.Cmac.{aes_cmac};
 ghost use Rattle.eap_method.specs.PskTags.{mac_p_octets, rand_of};
 ghost use Rattle.eap_method.specs.PskServer.{r_for};
@@ -97,7 +98,7 @@ impl Login {
         ak: CmacKey,
         kdk: &[u8; 16],
     ) -> Login
-        requires name { length id_p.now ≤ 253 }
+        requires name { length id_p.now ≤ max_name }
         requires ak { ak ≡ (psk_long_of user.now.psk).ak }
         requires kdk { kdk.now ≡ (psk_long_of user.now.psk).kdk }
         ensures { result ≡ record {

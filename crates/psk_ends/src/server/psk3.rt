@@ -2,6 +2,7 @@
 
 ghost use Rattle.std.specs.Prelude.{◌≡◌, ◌≤◌, [], length, All, IsTrue, Some, IfSome, IfOk};
 ghost use Rattle.eap_base.specs.Among.{psk_kind};
+ghost use Rattle.eap_base.specs.Sizes.{max_name};
 ghost use Rattle.login_setup.specs.Setup.{fits_kind};
 ghost use Rattle.login_setup.specs.Users.{user_of};
 ghost use Rattle.psk_messages.specs.Message.{psk3};
@@ -72,7 +73,7 @@ fn check(
     tags: &mut Tags,
 ) -> Result<Option<Login>, Cause>
     requires key { length user.now.psk ≡ 16 }
-    requires name { length id_p.now ≤ 253 }
+    requires name { length id_p.now ≤ max_name }
     requires none { tags.old ≡ no_tags }
     ensures left { asked_left own.now packet.new tags.new result
         ≡ left_by (finds own.now.side own.now.nonce next_id psk2.now.rand_p psk2.now.mac id_p.now (Some user.now)) }
@@ -99,7 +100,7 @@ fn find(
     packet: &mut Packet,
     tags: &mut Tags,
 ) -> Result<Option<Login>, Cause>
-    requires size { length id_p.now ≤ 253 }
+    requires size { length id_p.now ≤ max_name }
     requires keys { All (λ user. IsTrue (fits_kind user.kind user.psk)) users.now }
     requires none { tags.old ≡ no_tags }
     ensures left { asked_left own.now packet.new tags.new result ≡ left_by (finds own.now.side own.now.nonce next_id psk2.now.rand_p psk2.now.mac id_p.now
@@ -122,7 +123,7 @@ pub fn hears_psk2(
     packet: &mut Packet,
     tags: &mut Tags,
 ) -> Result<Option<Login>, Cause>
-    requires size { length id_p.now ≤ 253 }
+    requires size { length id_p.now ≤ max_name }
     requires keys { All (λ user. IsTrue (fits_kind user.kind user.psk)) users.now }
     requires none { tags.old ≡ no_tags }
     ensures left { asked_left own.now packet.new tags.new result

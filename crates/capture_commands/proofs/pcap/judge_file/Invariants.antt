@@ -1,5 +1,6 @@
 use Rattle.std.proofs.Common.{◌≡◌, ◌≤◌, ◌-◌, ℕ, List, Some, false}
-use Rattle.eapol_capture.specs.Files.{contents, max_input}
+use Rattle.octet_io.specs.Lines.{max_input}
+use Rattle.eapol_capture.specs.Files.{contents}
 use Rattle.eapol_capture.specs.Reading.{contents_left}
 use Rattle.capture_commands.specs.PcapSteps.{HasFound}
 use Rattle.capture_commands.proofs.PcapDriving.{Underway}
