@@ -1,17 +1,17 @@
 //! One conversation.
 
-ghost use Rattle.std.specs.Prelude.{◌≡◌, ◌<◌, ◌≤◌, ◌+◌, ◌∷◌, ℕ, List, [], length, map, true, false, IfOk, codes, None, Some};
+ghost use Rattle.std.specs.Prelude.{◌≡◌, ◌<◌, ◌≤◌, ◌+◌, ◌∷◌, ℕ, [], length, map, true, false, IfOk, None, Some};
 ghost use Rattle.eap_base.specs.Among.{gpsk_kind};
 ghost use Rattle.login_setup.specs.declared.setup.Setup.{Setup};
 ghost use Rattle.eap_method.specs.Peer.{peer_kinds, have_each};
 ghost use Rattle.eap_method.specs.Server.{server_kinds};
-ghost use Rattle.eap_world.specs.Run.{run_of, BeginsRun};
+ghost use Rattle.eap_world.specs.Run.{run_of};
 ghost use Rattle.eap_world.specs.World.{HasObjects, now_of, world_made};
 ghost use Rattle.bulk_run.specs.Kinds.{KeepsKinds, HaveSameKinds};
 ghost use Rattle.bulk_run.specs.Conversation.{alice, known_with, deliveries, chances};
 ghost use Rattle.bulk_run.specs.Draws.{state_at};
 ghost use Rattle.bulk_run.specs.Going.{AreFew};
-ghost use Rattle.bulk_run.specs.Summing.{counts_of, drawn_each, drawn_for_events, ended_at, events_of, is_even, IsAtMost};
+ghost use Rattle.bulk_run.specs.Summing.{counts_of, drawn_each, drawn_for_events, ended_at, events_of, IsAtMost};
 
 use crate::draws::Draws;
 use crate::summary::Summary;

@@ -3,7 +3,7 @@
 ghost use Rattle.std.specs.Prelude.{◌≡◌, ◌≤◌, ◌<◌, ◌+◌, ◌^◌, ℕ};
 ghost use Rattle.eap_world.specs.World.{now_of};
 ghost use Rattle.bulk_run.specs.Going.{AreFew};
-ghost use Rattle.bulk_run.specs.Summing.{counts_of, is_agree, is_unfinished, is_apart, is_broken, nothing_counted, plus, IsAtMost};
+ghost use Rattle.bulk_run.specs.Summing.{counts_of, nothing_counted, plus, IsAtMost};
 
 use eap_method::{PeerMethod, ServerMethod};
 use eap_world::{TagsVerdict, Verdict, World};

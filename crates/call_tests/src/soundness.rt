@@ -1,6 +1,6 @@
 //! Settings that are made by hand: which of them an end takes.
 
-use eap_base::{GPSK_KIND, Kinds, Octets, PSK_KIND, Secret, Suites};
+use eap_base::{GPSK_KIND, Octets, PSK_KIND, Secret};
 use end_objects::{is_sound_peer, is_sound_server};
 use login_setup::{Accepts, PeerSetup, ServerSetup, User, Users};
 use std::test::Fail;

@@ -1,10 +1,8 @@
 //! The command `check`: judges the tags of a capture.
 
-ghost use Rattle.std.specs.Prelude.{◌≡◌, ◌<◌, ◌^◌, ◌+◌, List, All, IsTrue, false};
-ghost use Rattle.login_setup.specs.Setup.{fits_kind};
+ghost use Rattle.std.specs.Prelude.{◌≡◌, ◌<◌, ◌^◌, ◌+◌, false};
 ghost use Rattle.command_driver.specs.Responding.{Responds, reading, never};
 ghost use Rattle.capture_commands.specs.Check.{check_answer, is_counted};
-ghost use Rattle.capture_commands.specs.CheckSteps as steps;
 
 use capture_check::{Checker, Finding};
 use command_driver::{Close, Command, Next, Status, Trouble, drive};

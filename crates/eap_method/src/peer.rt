@@ -14,7 +14,6 @@ use eap_base::{Nonce, Packet};
 /// A method at a peer. Its ghost member says which method it is and where it stands.
 pub trait PeerMethod: Drop {
     ghost use Rattle.eap_method.specs.Peer.{PeerShown};
-    ghost use Rattle.eap_method.specs.Turns.{PeerOutcome};
 
     /// The method, and where it stands.
     ghost peer_shown: { Self → PeerShown };

@@ -15,7 +15,6 @@ use login_setup::Users;
 /// A method at a server. Its ghost member says which method it is and where it stands.
 pub trait ServerMethod: Drop {
     ghost use Rattle.eap_method.specs.Server.{ServerShown};
-    ghost use Rattle.eap_method.specs.Turns.{ServerOutcome, FirstOutcome};
 
     /// The method, and where it stands.
     ghost server_shown: { Self → ServerShown };

@@ -38,7 +38,7 @@ impl Model for NoncesLeft {
 }
 
 impl NoncesLeft {
-    ghost use Rattle.std.specs.Prelude.{◌≤◌, ◌∷◌, [], not, MatchOption};
+    ghost use Rattle.std.specs.Prelude.{◌≤◌, ◌∷◌, [], MatchOption};
     ghost use Rattle.eap_world.specs.Conversations.{waiting};
     ghost use Rattle.eap_world.specs.World.{has_none};
 

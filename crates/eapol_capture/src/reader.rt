@@ -1,7 +1,7 @@
 //! A source read as a pcap file.
 
-ghost use Rattle.std.specs.Prelude.{◌≡◌, ◌≤◌, ◌<◌, ◌+◌, ◌-◌, ◌++◌, min, take, drop, true, false, length, ℕ, [], Some, Ok, IfOk, IfErr, OnErr, OnOk, IsTrue};
-ghost use Rattle.octet_io.specs.Known.{prepend_known, nothing_known};
+ghost use Rattle.std.specs.Prelude.{◌≡◌, ◌≤◌, ◌<◌, ◌+◌, ◌-◌, ◌++◌, min, take, drop, true, false, length, ℕ, [], Some, Ok, IfOk, IfErr, OnErr, OnOk};
+ghost use Rattle.octet_io.specs.Known.{nothing_known};
 
 use crate::header::judge_header;
 use crate::order::OctetOrder;

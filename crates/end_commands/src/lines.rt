@@ -1,10 +1,8 @@
 //! The lines that tell what an end does. Each call answers `Failed` exactly where a write of the sink failed; a front of the
 //! lines was then appended.
 
-ghost use Rattle.std.specs.Prelude.{◌≡◌, ◌∷◌, [], Some, None, codes, decimal, if◌then◌else◌};
-ghost use Rattle.std.specs.List.{concat};
+ghost use Rattle.std.specs.Prelude.{◌≡◌, ◌∷◌, [], Some, None, if◌then◌else◌};
 ghost use Rattle.eap_method.specs.declared.tags.Tags.{Tags};
-ghost use Rattle.trace_text.specs.Pieces.{hex_text};
 ghost use Rattle.trace_text.specs.Writes.{Appends};
 ghost use Rattle.end_pipe.specs.EndRun.{told_with};
 ghost use Rattle.end_commands.specs.EndText.{acted_text, keys_line, keys_text, last_text, send_text, skip_line, told_text};

@@ -3,7 +3,6 @@
 ghost use Rattle.std.specs.Prelude.{◌≡◌, [], None, false, IfOk, Ok};
 ghost use Rattle.command_driver.specs.Commands.{goes};
 ghost use Rattle.command_driver.specs.Responding.{Responds, reading, never};
-ghost use Rattle.end_pipe.specs.EndReading.{AreWhole};
 ghost use Rattle.end_pipe.specs.declared.input.EndInput.{EndInput};
 ghost use Rattle.end_pipe.specs.EndRun.{peer_end, peer_step};
 ghost use Rattle.trace_text.specs.Writes.{Appends};
@@ -36,7 +35,6 @@ pub struct Peer<M> {
 
 impl<M: PeerMethod> Peer<M> {
     ghost use Rattle.command_driver.specs.Commands.{AnswersLine, AnswersEnd, ends};
-    ghost use Rattle.peer_machine.specs.PeerTable.{PeerNow};
     ghost use Rattle.end_commands.specs.EndCommand.{last_of, nothing_taken, steps_in};
     ghost use Rattle.end_commands.specs.PeerCommand.{peer_state};
 

@@ -2,7 +2,6 @@
 
 ghost use Rattle.std.specs.Prelude.{◌≡◌, None, true, false, IfOk};
 ghost use Rattle.command_driver.specs.Responding.{Responds, reading, never};
-ghost use Rattle.end_pipe.specs.EndReading.{AreWhole};
 ghost use Rattle.end_pipe.specs.declared.input.EndInput.{EndInput};
 ghost use Rattle.server_machine.specs.ServerTable.{is_started};
 ghost use Rattle.end_pipe.specs.EndRun.{server_end, server_starts, server_step};
@@ -36,7 +35,6 @@ pub struct Server<M> {
 
 impl<M: ServerMethod> Server<M> {
     ghost use Rattle.command_driver.specs.Commands.{AnswersLine, AnswersEnd, ends};
-    ghost use Rattle.server_machine.specs.ServerTable.{ServerNow};
     ghost use Rattle.end_commands.specs.EndCommand.{last_of, nothing_taken, steps_in};
     ghost use Rattle.end_commands.specs.ServerCommand.{server_state};
 

@@ -1,9 +1,9 @@
 //! Reading an end's text, line by line: its header, its settings, the line `events`, its inputs, the line `end`. After
 //! the header an empty line and one that begins with `#` are passed over.
 
-ghost use Rattle.std.specs.Prelude.{◌≡◌, ◌<◌, ◌≤◌, true, false, unwrap_or, IfOk, OnErr, Ok};
+ghost use Rattle.std.specs.Prelude.{◌≡◌, ◌<◌, ◌≤◌, false, unwrap_or, IfOk, OnErr, Ok};
 ghost use Rattle.text_tables.specs.Words.{words};
-ghost use Rattle.scenario_text.specs.Reading.{no_settings, peer_setup_of, server_setup_of};
+ghost use Rattle.scenario_text.specs.Reading.{peer_setup_of, server_setup_of};
 ghost use Rattle.scenario_text.specs.Valid.{IsValidPeer, IsValidServer};
 ghost use Rattle.end_pipe.specs.EndContents.{entry_with};
 ghost use Rattle.end_pipe.specs.EndReading.{answered, HasSetup, IsValidTold, came_before, is_crowded, is_missing, lacks_some, may_stand, read_words, taken, fault_of_entry, finish_of};

@@ -1,6 +1,6 @@
 //! A source and a sink that never fail.
 
-ghost use Rattle.std.specs.Prelude.{◌≡◌, ◌≤◌, ◌<◌, ◌++◌, length, take, drop, min, Some, Ok, IfOk, IsOk, OnErr};
+ghost use Rattle.std.specs.Prelude.{◌≡◌, ◌≤◌, ◌<◌, ◌++◌, length, take, drop, min, Some, Ok, IfOk};
 ghost use Rattle.octet_io.specs.Known.{prepend_known, nothing_known};
 
 use crate::sink::Sink;

@@ -54,7 +54,7 @@ impl<M> Model for PeerMachine<M> {
 
 impl<M: PeerMethod> PeerMachine<M> {
     ghost use Rattle.eap_method.specs.Steps.{is_end};
-    ghost use Rattle.peer_machine.specs.PeerTable.{PeerAnswer, now_of, own_nonce, peer_made, peer_restart, peer_deliver, peer_idle, peer_alt_accept, peer_alt_reject, peer_reports, peer_row, peer_success, peer_failure, new_request, peer_method, is_last_id};
+    ghost use Rattle.peer_machine.specs.PeerTable.{now_of, own_nonce, peer_made, peer_restart, peer_deliver, peer_idle, peer_alt_accept, peer_alt_reject, peer_reports, peer_row, peer_success, peer_failure, new_request, peer_method, is_last_id};
     ghost use Rattle.peer_machine.specs.Expanded.{peer_hears, reads_request, expressed_unless};
 
     /// INITIALIZE (RFC 4137 section 4.5): begins the objects of the methods that the setup allows; the

@@ -1,7 +1,7 @@
 //! PCHANNEL, the protected channel (RFC 4764 section 3.3), with the one octet that it hides.
 
 ghost use Rattle.std.specs.Prelude.{◌≡◌, ◌≤◌, ◌<◌, ◌-◌, [], ◌∷◌, ◌++◌, length, take, slice_index, Some, None, if◌then◌else◌};
-ghost use Rattle.eap_method.specs.PskTags.{channel_nonce, header_of, sealed_result, is_sealed, opened, result_fault, result_of, tek_record};
+ghost use Rattle.eap_method.specs.PskTags.{channel_nonce, header_of, sealed_result, is_sealed, opened, result_fault, tek_record};
 ghost use Rattle.psk_ends.specs.Checks.{checked};
 
 use crate::octets::header_of;

@@ -2,7 +2,6 @@
 
 ghost use Rattle.std.specs.Prelude.{◌≡◌, ℕ, ◌≤◌, List, [], ◌++◌, length};
 ghost use Rattle.hmac_mac.specs.Hmac.{filled, padded};
-ghost use Rattle.md5.specs.Md5 as spec;
 ghost use Rattle.radius_carry.specs.Tags.{hmac_md5};
 ghost use Rattle.radius_carry.specs.Holds.{Holds};
 

@@ -54,7 +54,7 @@ impl<M> Model for ServerMachine<M> {
 
 impl<M: ServerMethod> ServerMachine<M> {
     ghost use Rattle.eap_method.specs.Steps.{is_end};
-    ghost use Rattle.server_machine.specs.ServerTable.{ServerAnswer, now_of, made_again, own_nonce, server_made, server_restart, server_start, server_deliver, server_timeout, server_reports, is_started, server_row, select_action, server_method, current_response};
+    ghost use Rattle.server_machine.specs.ServerTable.{now_of, made_again, own_nonce, server_made, server_restart, server_start, server_deliver, server_timeout, server_reports, is_started, server_row, select_action, server_method, current_response};
     ghost use Rattle.server_machine.specs.ServerTable.{first_response, has_timer, is_backend, is_ready, pick_up};
     ghost use Rattle.server_machine.specs.Expanded.{server_hears, server_reads};
     ghost use Rattle.server_machine.specs.declared.variables.Role.TheVariants.{StandAlone};

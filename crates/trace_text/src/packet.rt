@@ -4,9 +4,7 @@ ghost use Rattle.std.specs.Prelude.{◌≡◌, ◌≤◌, ◌-◌, None, length,
 ghost use Rattle.std.specs.List.{concat};
 ghost use Rattle.eap_base.specs.Sizes.{max_packet};
 ghost use Rattle.eap_base.specs.Among.{expanded_kind};
-ghost use Rattle.psk_messages.specs.Message as psk;
 ghost use Rattle.psk_messages.specs.Reading as psk_reading;
-ghost use Rattle.gpsk_messages.specs.Message as gpsk;
 ghost use Rattle.gpsk_messages.specs.Reading as gpsk_reading;
 ghost use Rattle.trace_text.specs.Writes.{Appends, Puts};
 ghost use Rattle.trace_text.specs.Pieces.{hex_text};

@@ -10,13 +10,13 @@ use Rattle.eap_method.specs.declared.values.MethodState.{MethodState}
 use Rattle.eap_method.specs.declared.values.MethodState.TheVariants as method
 use Rattle.eap_method.specs.declared.values.Decision.{Decision}
 use Rattle.eap_method.specs.declared.values.Decision.TheVariants as decision
-use Rattle.eap_method.specs.Peer.{PeerShown, peer_kind}
+use Rattle.eap_method.specs.Peer.{PeerShown}
 use Rattle.eap_method.specs.Peer as peer
 use Rattle.eap_method.specs.PskPeer as psk_peer
 use Rattle.eap_method.specs.GpskPeer as gpsk_peer
 use Rattle.eap_method.specs.PeerTurn.{PeerTurn}
 use Rattle.eap_method.specs.PeerTurn as peer_turn
-use Rattle.eap_method.specs.Server.{ServerShown, server_kind}
+use Rattle.eap_method.specs.Server.{ServerShown}
 use Rattle.eap_method.specs.Server as server
 use Rattle.eap_method.specs.PskServer as psk_server
 use Rattle.eap_method.specs.GpskServer as gpsk_server

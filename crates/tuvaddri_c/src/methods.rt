@@ -1,12 +1,10 @@
 //! The methods alone, for a program with machines of its own.
 
-ghost use Rattle.std.specs.Prelude.{◌≡◌, ◌≤◌, true, false, length, IsTrue, All, Ok, Err, None, IfSome, IfOk, IfErr};
-ghost use Rattle.eap_base.specs.Among.{is_kind};
-ghost use Rattle.login_setup.specs.Setup.{fits_kind, are_suites};
-ghost use Rattle.eap_packet.specs.Packet.{spelled, value_of, IsPacket};
+ghost use Rattle.std.specs.Prelude.{◌≡◌, ◌≤◌, false, IsTrue, All, Ok, Err, None, IfSome, IfOk, IfErr};
+ghost use Rattle.login_setup.specs.Setup.{fits_kind};
 ghost use Rattle.eap_packet.specs.Fault.{packet_of};
 ghost use Rattle.eap_method.specs.Peer.{peer_kind, peer_step, IsRequest};
-ghost use Rattle.eap_method.specs.Server.{server_kind, server_step, server_first_step, has_begun, IsResponse};
+ghost use Rattle.eap_method.specs.Server.{server_kind, server_step, server_first_step, IsResponse};
 ghost use Rattle.end_objects.specs.Objects.{peer_object_shown, server_object_shown};
 ghost use Rattle.end_objects.specs.Refusals.{peer_refusal, server_refusal};
 ghost use Rattle.end_objects.specs.Settings.{settings_of, users_of};

@@ -4,7 +4,6 @@ ghost use Rattle.std.specs.Prelude.{◌≡◌, ◌≤◌, map, string_bytes, IfS
 ghost use Rattle.world_commands.specs.Bulk.{max_count, bulk_of, bulk_spelled, bulk_line, verdicts_text, handled_text, bulk_text, bulk_answer};
 ghost use Rattle.world_commands.specs.Replay.{HasBoth};
 ghost use Rattle.command_driver.specs.Responding.{Says, at_any};
-ghost use Rattle.bulk_run.specs.Summing.{summary_of};
 ghost use Rattle.trace_text.specs.Writes.{Appends};
 
 use bulk_run::{Summary, run_all};
