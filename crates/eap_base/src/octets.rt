@@ -5,11 +5,10 @@ ghost use Rattle.std.specs.Prelude.{◌≡◌, ◌≤◌, ◌<◌, ◌+◌, ◌�
 use arrayvec::ArrayVec;
 use std::marker::Model;
 
-/// The most octets of a name of a peer or a server (RFC 7542 section 2.2).
+/// The most octets of the name of a peer or a server (RFC 7542 section 2.3).
 pub const MAX_NAME: usize = 253;
 
-/// The most octets of an EAP packet here: the MTU of a lower layer that carries one is at most so much
-/// (RFC 3748 section 3.1).
+/// The most octets of an EAP packet: the EAP MTU here, of which RFC 3748 section 3.1 wants 1,020 at least.
 pub const MAX_PACKET: usize = 1500;
 
 /// The name of a peer or a server: at most 253 octets.

@@ -281,7 +281,7 @@ fn first_lf(octets: &[u8]) -> Option<usize>
 }
 
 /// Drops one CR at the end of the line.
-fn drop_cr(line: &mut Octets<4096>)
+fn drop_cr(line: &mut Octets<MAX_LINE>)
     ensures { line.new ≡ without_cr line.old }
 {
     if line.as_slice().ends_with(b"\r") {
