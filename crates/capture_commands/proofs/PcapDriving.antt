@@ -9,8 +9,8 @@ use Rattle.eapol_capture.specs.Reading.{Reading, Divides, Faults, begun, begun_i
 use Rattle.eapol_capture.specs.declared.reader.NextRecord.{NextRecord}
 use Rattle.eapol_capture.specs.declared.reader.NextRecord.TheVariants as answer
 use Rattle.capture_check.specs.Finding.{finding_in}
-use Rattle.trace_text.specs.Writes.{WritesFront}
-use Rattle.trace_text.proofs.Fronts.{append_known_append, append_known_nil}
+use Rattle.answer_text.specs.Writes.{WritesFront}
+use Rattle.answer_text.proofs.Fronts.{append_known_append, append_known_nil}
 use Rattle.command_driver.specs.Answers.{after_text, Ends}
 use Rattle.capture_commands.specs.Check.{is_counted}
 use Rattle.capture_commands.specs.Pcap.{is_to_peer, file_end}

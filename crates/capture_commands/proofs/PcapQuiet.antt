@@ -8,8 +8,8 @@ use Rattle.eapol_capture.specs.declared.reader.NextRecord.{NextRecord}
 use Rattle.eapol_capture.specs.declared.reader.NextRecord.TheVariants as answer
 use Rattle.capture_check.specs.Finding.{finding_of}
 use Rattle.capture_check.proofs.Names.{finding_names}
-use Rattle.trace_text.proofs.Plain.{is_within, plain, join, through, decimal_within, decimal_first}
-use Rattle.trace_text.proofs.PlainFindings.{finding_plain}
+use Rattle.answer_text.proofs.Plain.{is_within, plain, join, through, decimal_within, decimal_first}
+use Rattle.answer_text.proofs.PlainFindings.{finding_plain}
 use Rattle.capture_commands.specs.Pcap.{PcapNow, is_to_peer, cut_text, records_text, file_refusal, file_end, record_told, judged, nothing_recorded, pcap_answer}
 use Rattle.command_driver.specs.declared.status.Status.TheVariants as status
 use Rattle.capture_commands.proofs.PcapUsers.{HaveNames}

@@ -7,7 +7,7 @@ use Rattle.login_setup.specs.Setup.{fits_kind}
 use Rattle.login_setup.specs.declared.users.User.{User}
 use Rattle.text_tables.specs.UserWords.{is_visible, users_named, read_as}
 use Rattle.text_tables.proofs.NamedUsers.{IsNamed, all_named}
-use Rattle.trace_text.proofs.Plain.{is_within, skips}
+use Rattle.answer_text.proofs.Plain.{is_within, skips}
 use Rattle.capture_commands.specs.Pcap.{pcap_users}
 
 -- each name is within a line

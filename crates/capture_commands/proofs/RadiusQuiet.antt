@@ -12,9 +12,9 @@ use Rattle.text_tables.specs.declared.fault.LineFault.{LineFault}
 use Rattle.request_text.specs.declared.radius_line.ReplyKind.{ReplyKind}
 use Rattle.request_text.specs.declared.radius_line.RadiusItem.{RadiusItem}
 use Rattle.request_text.specs.declared.radius_line.RadiusItem.TheVariants as item
-use Rattle.trace_text.specs.Pieces.{hex_text}
-use Rattle.trace_text.proofs.Plain.{is_within, plain, through, decimal_within}
-use Rattle.trace_text.proofs.PlainTexts.{either_within, hex_within}
+use Rattle.answer_text.specs.Pieces.{hex_text}
+use Rattle.answer_text.proofs.Plain.{is_within, plain, through, decimal_within}
+use Rattle.answer_text.proofs.PlainWords.{either_within, hex_within}
 use Rattle.command_driver.specs.Commands.{Took}
 use Rattle.command_driver.proofs.Quiet.{IsQuiet, IsQuietLine, quiet_answer}
 use Rattle.capture_commands.specs.Radius.{hex_line, word_line, packet_line, read_text, kind_word, judgement_word, judged}

@@ -11,7 +11,7 @@ use Rattle.capture_check.specs.Heard.{Captured}
 use Rattle.capture_check.specs.Finding.{finding_of}
 use Rattle.capture_check.specs.declared.finding.Finding.{Finding}
 use Rattle.capture_check.specs.declared.finding.Finding.TheVariants.{Good, Malformed, TagBad, TagGood, NoKey, NoContext}
-use Rattle.trace_text.specs.Findings.{finding_text, findings_text}
+use Rattle.answer_text.specs.Findings.{finding_text, findings_text}
 use Rattle.command_driver.specs.Answers.{Answer}
 use Rattle.command_driver.specs.Commands.{Took, Closing, goes, refuses, ends, misses, answer}
 use Rattle.command_driver.specs.declared.status.Status.{Status}

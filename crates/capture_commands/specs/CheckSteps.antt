@@ -9,7 +9,7 @@ use Rattle.text_tables.specs.declared.fault.LineFault.{LineFault}
 use Rattle.capture_check.specs.Finding.{finding_in}
 use Rattle.capture_check.specs.Kept.{kept_of}
 use Rattle.capture_check.specs.Steps.{kept_next, nothing_kept}
-use Rattle.trace_text.specs.Findings.{finding_text}
+use Rattle.answer_text.specs.Findings.{finding_text}
 use Rattle.command_driver.specs.Commands.{Took, Closing, goes, refuses}
 use Rattle.capture_commands.specs.Check.{CheckNow, with_finding, check_end}
 use Rattle.capture_commands.specs.declared.check.Check.{Check}

@@ -11,7 +11,7 @@ use Rattle.eapol_capture.specs.declared.reader.NextRecord.TheVariants as answer
 use Rattle.text_tables.specs.UserWords.{users_named}
 use Rattle.capture_check.specs.Heard.{Captured}
 use Rattle.capture_check.specs.Finding.{finding_of}
-use Rattle.trace_text.specs.Findings.{finding_text}
+use Rattle.answer_text.specs.Findings.{finding_text}
 use Rattle.command_driver.specs.Answers.{Answer, after_text}
 use Rattle.capture_commands.specs.Check.{with_finding, check_status}
 use Rattle.command_driver.specs.declared.status.Status.{Status}

@@ -6,7 +6,7 @@ use Rattle.eapol_capture.specs.Frames.{Carried, other, cut, eap, carried}
 use Rattle.capture_check.specs.Finding.{finding_in}
 use Rattle.capture_check.specs.Kept.{kept_of}
 use Rattle.capture_check.specs.Steps.{kept_next, nothing_kept}
-use Rattle.trace_text.specs.Findings.{finding_text}
+use Rattle.answer_text.specs.Findings.{finding_text}
 use Rattle.command_driver.specs.Answers.{Answer, after_text}
 use Rattle.capture_commands.specs.Check.{with_finding}
 use Rattle.capture_commands.specs.Pcap.{PcapNow, is_to_peer, cut_text, file_end}

@@ -4,11 +4,11 @@ ghost use Rattle.std.specs.Prelude.{◌≡◌, ◌<◌, ◌^◌, ◌+◌, false}
 ghost use Rattle.command_driver.specs.Responding.{Responds, reading, never};
 ghost use Rattle.capture_commands.specs.Check.{check_answer, is_counted};
 
+use answer_text::{write_finding, write_finding_counts};
 use capture_check::{Checker, Finding};
 use command_driver::{Close, Command, Next, Status, Trouble, drive};
 use octet_io::{Failed, Sink, Source};
 use request_text::{CaptureItem, CaptureReader};
-use trace_text::{write_finding, write_finding_counts};
 
 /// A capture on its way: what has been read of it, what counts of its packets, how many there were, and
 /// how many of them are malformed or have a bad tag.
@@ -50,7 +50,7 @@ impl Check {
     }
 
     /// One more packet.
-    #[tactic(auto, unfolding(trace_text::specs::Writes::Appends))]
+    #[tactic(auto, unfolding(answer_text::specs::Writes::Appends))]
     fn packet<W: Sink>(
         &mut self,
         sink: &mut W,
@@ -73,7 +73,7 @@ impl Check {
     }
 
     /// The end of the input, after the line `end`.
-    #[tactic(auto, unfolding(trace_text::specs::Writes::Appends))]
+    #[tactic(auto, unfolding(answer_text::specs::Writes::Appends))]
     fn end<W: Sink>(&self, sink: &mut W) -> Result<Close, Failed>
         ensures { AnswersEnd W.written W.write_faults W.last_write_fault result sink.old sink.new
             (check_end self.now.packets self.now.findings (Ok tt)) }

@@ -9,17 +9,17 @@ ghost use Rattle.command_driver.specs.Answers.{Finishes, Drains, IsRefusal};
 ghost use Rattle.command_driver.specs.Responding.{Responds, reading, never};
 ghost use Rattle.capture_commands.specs.Pcap.{pcap_users, pcap_answer, is_to_peer, cut_text, records_text, refused_record_text};
 ghost use Rattle.capture_commands.specs.Pcap.{file_word, file_status, file_refusal, file_end};
-ghost use Rattle.trace_text.specs.Writes.{Appends};
+ghost use Rattle.answer_text.specs.Writes.{Appends};
 
 use crate::check::is_counted;
+use answer_text::Piece::{Number, Text};
+use answer_text::{write_finding, write_pieces};
 use capture_check::Checker;
 use command_driver::Status;
 use eapol_capture::{FrameFinding, NextRecord, PcapReader, eap_of_frame};
 use login_setup::Users;
 use octet_io::{Failed, Sink, Source};
 use text_tables::read_users;
-use trace_text::Piece::{Number, Text};
-use trace_text::{write_finding, write_pieces};
 
 /// The code of a Response (RFC 3748 section 4).
 const RESPONSE: u8 = 2;
@@ -76,7 +76,7 @@ impl Found {
     }
 
     /// Judges the record with this number.
-    #[tactic(auto, unfolding(crate::specs::PcapSteps::record_step, trace_text::specs::Writes::Appends))]
+    #[tactic(auto, unfolding(crate::specs::PcapSteps::record_step, answer_text::specs::Writes::Appends))]
     fn take<W: Sink>(
         &mut self,
         users: &Users,
@@ -136,7 +136,7 @@ impl Found {
     }
 
     /// Writes how many records there were, and what was found in them.
-    #[tactic(auto, unfolding(trace_text::specs::Writes::Appends))]
+    #[tactic(auto, unfolding(answer_text::specs::Writes::Appends))]
     fn end<W: Sink>(&self, sink: &mut W, number: u32) -> Status
         ensures finishes { Finishes W.written W.write_faults W.last_write_fault result sink.old sink.new
             (file_end number self.now.packets self.now.findings NextRecord.End) }
@@ -215,7 +215,7 @@ fn status_of(answer: NextRecord) -> Status
 }
 
 /// Writes the last line of a refused file, and ends with its status.
-#[tactic(auto, unfolding(trace_text::specs::Writes::Appends))]
+#[tactic(auto, unfolding(answer_text::specs::Writes::Appends))]
 fn refuse_file<W: Sink>(sink: &mut W, number: u32, answer: NextRecord) -> Status
     ensures finishes { Finishes W.written W.write_faults W.last_write_fault result sink.old sink.new (file_refusal number answer) }
     ensures drains { (left : Option (List ℕ)) → Drains result left }

@@ -4,12 +4,14 @@ ghost use Rattle.std.specs.Prelude.{◌≡◌, ◌≢◌, ◌≤◌, false, leng
 ghost use Rattle.radius_carry.specs.Packet as packets;
 ghost use Rattle.radius_carry.specs.Packet.{IsRadius};
 ghost use Rattle.radius_carry.specs.Fault.{value_of};
-ghost use Rattle.trace_text.specs.Writes.{Appends};
+ghost use Rattle.answer_text.specs.Writes.{Appends};
 ghost use Rattle.command_driver.specs.Responding.{Responds, reading, never};
 ghost use Rattle.capture_commands.specs.Radius.{radius_answer};
 ghost use Rattle.capture_commands.specs.Radius.{code_of, good_or_bad, hex_line, judged, kept_after, kind_word, judgement_word, packet_line, read_text};
 ghost use Rattle.capture_commands.specs.Radius.{reply_judged, word_line};
 
+use answer_text::Piece::{Hex, Number, Text};
+use answer_text::write_pieces;
 use command_driver::{Close, Command, Next, Status, Trouble, drive};
 use eap_base::{Identity, Octets, Packet};
 use octet_io::{Failed, Sink, Source};
@@ -18,8 +20,6 @@ use radius_carry::{
     write_request,
 };
 use request_text::{RadiusItem, RadiusReader, ReplyKind};
-use trace_text::Piece::{Hex, Number, Text};
-use trace_text::write_pieces;
 
 /// A request that replies are written and judged for.
 #[derive(Clone, Copy)]
@@ -225,7 +225,7 @@ impl Radius {
     }
 
     /// Writes a request and keeps it.
-    #[tactic(auto, unfolding(trace_text::specs::Writes::Appends))]
+    #[tactic(auto, unfolding(answer_text::specs::Writes::Appends))]
     fn request<W: Sink>(
         &mut self,
         sink: &mut W,
@@ -253,7 +253,7 @@ impl Radius {
     }
 
     /// Writes a reply to the request that is kept.
-    #[tactic(auto, unfolding(trace_text::specs::Writes::Appends))]
+    #[tactic(auto, unfolding(answer_text::specs::Writes::Appends))]
     fn reply<W: Sink>(
         &self,
         sink: &mut W,
@@ -285,7 +285,7 @@ impl Radius {
     }
 
     /// Reads a packet and says what it is.
-    #[tactic(auto, unfolding(trace_text::specs::Writes::Appends))]
+    #[tactic(auto, unfolding(answer_text::specs::Writes::Appends))]
     fn read<W: Sink>(&mut self, sink: &mut W, octets: &[u8]) -> Result<Next, Trouble>
         ensures answers { AnswersLine W.written W.write_faults W.last_write_fault result sink.old sink.new
             (read_took self.old (packet_of octets.now)) false self.new }

@@ -3,8 +3,8 @@ use Rattle.std.proofs.Common.{◌≡◌, ℕ, ◌+◌, List, [], ◌++◌, Bool,
 use Rattle.std.specs.Prelude.{option_map}
 use Rattle.octet_io.specs.Known.{append_known}
 use Rattle.octet_io.specs.Lines.{Lines, ended, too_long, too_much, line}
-use Rattle.trace_text.specs.Writes.{WritesFront}
-use Rattle.trace_text.proofs.Fronts.{append_known_append, append_known_nil}
+use Rattle.answer_text.specs.Writes.{WritesFront}
+use Rattle.answer_text.proofs.Fronts.{append_known_append, append_known_nil}
 use Rattle.command_driver.specs.declared.status.Status.{Status}
 use Rattle.command_driver.specs.Answers.{after_text, refusal, overlong, Ends}
 use Rattle.command_driver.specs.Commands.{Took, Closing, after_ruling, lacking_after, closing_answer, answer, lacking, GoesOn, Stops}

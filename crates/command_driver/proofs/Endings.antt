@@ -1,8 +1,8 @@
 -- How a run ends after a part of its text has been written.
 use Rattle.std.proofs.Common.{◌≡◌, ℕ, List, [], ◌++◌, Option, refl, sym, ◌∙◌, ap, subst, append_assoc, arith}
 use Rattle.octet_io.specs.Known.{append_known}
-use Rattle.trace_text.specs.Writes.{WritesFront}
-use Rattle.trace_text.proofs.Fronts.{append_known_append, append_known_nil}
+use Rattle.answer_text.specs.Writes.{WritesFront}
+use Rattle.answer_text.proofs.Fronts.{append_known_append, append_known_nil}
 use Rattle.command_driver.specs.declared.status.Status.{Status}
 use Rattle.command_driver.specs.Answers.{Answer, after_text, Ends, entire, cut_short, KeepsWrites, Finishes}
 

@@ -1,7 +1,7 @@
 -- Answers with status 0 no line of which begins with certain octets.
 use Rattle.std.proofs.Common.{◌≡◌, ℕ, ◌+◌, List, [], Bool, true, refl, subst}
 use Rattle.octet_io.specs.Lines.{Lines, ended, too_long, too_much, line}
-use Rattle.trace_text.proofs.Plain.{plain, join}
+use Rattle.answer_text.proofs.Plain.{plain, join}
 use Rattle.command_driver.specs.Answers.{Answer, after_text, IsRefusal}
 use Rattle.command_driver.specs.Commands.{Took, Closing, Ruling, goes, refuses, Closed, ends, misses, after_ruling, closing_answer, answer}
 use Rattle.command_driver.specs.declared.status.Status.{Status}

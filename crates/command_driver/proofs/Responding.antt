@@ -1,7 +1,7 @@
 -- How a call that answers ends.
 use Rattle.std.proofs.Common.{◌≡◌, ℕ, List, Bool, false, Option, Some, refl, subst, arith}
 use Rattle.octet_io.specs.Known.{append_known}
-use Rattle.trace_text.specs.Writes.{WritesFront}
+use Rattle.answer_text.specs.Writes.{WritesFront}
 use Rattle.command_driver.specs.Answers.{Answer, after_text, Ends, cut_short, by_read, by_write, by_memory, Drains, HasRisen, Finishes, IsWritten}
 use Rattle.command_driver.specs.Commands.{SomeLacks}
 use Rattle.command_driver.specs.Responding.{Lacking, MayLack, never, Reads, Says}

@@ -1,8 +1,8 @@
 -- What the program answers: the text that it writes, and its status.
 use Rattle.std.specs.Prelude.{◌≡◌, ◌≢◌, ◌≤◌, ℕ, List, ◌++◌, Option, Some, codes}
 use Rattle.octet_io.specs.Known.{append_known, nothing_known}
-use Rattle.trace_text.specs.Lines.{refused_text}
-use Rattle.trace_text.specs.Writes.{WritesFront}
+use Rattle.answer_text.specs.Lines.{refused_text}
+use Rattle.answer_text.specs.Writes.{WritesFront}
 use Rattle.command_driver.specs.declared.status.Status.{Status}
 use Rattle.command_driver.specs.declared.status.Status.TheVariants as status
 

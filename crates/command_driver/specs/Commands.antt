@@ -3,7 +3,7 @@ use Rattle.std.specs.Prelude.{◌≡◌, ℕ, ◌+◌, List, [], Bool, true, fal
 use Rattle.octet_io.specs.Known.{append_known}
 use Rattle.octet_io.specs.Lines.{Lines, max_input, ended, too_long, too_much, line}
 use Rattle.octet_io.specs.declared.source.Failed.{Failed}
-use Rattle.trace_text.specs.Writes.{WritesFront}
+use Rattle.answer_text.specs.Writes.{WritesFront}
 use Rattle.command_driver.specs.Answers.{Answer, after_text, refusal, overlong, IsWhole, IsRefusal}
 use Rattle.command_driver.specs.declared.status.Status.{Status}
 use Rattle.command_driver.specs.declared.status.Status.TheVariants as status

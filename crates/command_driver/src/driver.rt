@@ -8,11 +8,11 @@ ghost use Rattle.command_driver.specs.Responding.{Responds};
 
 use crate::command::{Close, Command, Next, Trouble};
 use crate::status::Status;
+use answer_text::write_refused;
 use octet_io::{LineReader, NextLine, Sink, Source};
-use trace_text::write_refused;
 
 /// Writes the last line of a refused input, and ends with the status.
-#[tactic(auto, unfolding(trace_text::specs::Writes::Appends))]
+#[tactic(auto, unfolding(answer_text::specs::Writes::Appends))]
 fn refuse<W: Sink>(sink: &mut W, line: u32, word: &str, status: Status) -> Status
     requires { IsRefusal status }
     ensures finishes { Finishes W.written W.write_faults W.last_write_fault result sink.old sink.new (refusal line word.now status) }

@@ -17,11 +17,12 @@ use Rattle.end_pipe.specs.EndReading.{Item, ReadLine, finish_of, read_line}
 use Rattle.end_pipe.specs.EndReading as item
 use Rattle.end_pipe.specs.EndRun.{EndNow, EndOutcome, EndTold, peer_begun, peer_step, server_starts, server_step, server_unstarted}
 use Rattle.end_pipe.specs.declared.input.EndInput.{EndInput}
-use Rattle.trace_text.specs.Pieces.{hex_text}
+use Rattle.answer_text.specs.Pieces.{hex_text}
 use Rattle.trace_text.specs.Run.{cause_text, path_text, states_line}
-use Rattle.trace_text.proofs.Plain.{plain, join, through, decimal_first}
-use Rattle.trace_text.proofs.PlainTexts.{cause_plain, hex_within, path_plain, state_within}
-use Rattle.trace_text.proofs.PlainAnswers.{begins_result, no_result}
+use Rattle.answer_text.proofs.Plain.{plain, join, through, decimal_first}
+use Rattle.answer_text.proofs.PlainWords.{hex_within, state_within}
+use Rattle.trace_text.proofs.PlainTexts.{cause_plain, path_plain}
+use Rattle.answer_text.proofs.PlainAnswers.{begins_result, no_result}
 use Rattle.command_driver.specs.Commands.{Took, goes, refuses}
 use Rattle.command_driver.specs.declared.status.Status.TheVariants as status
 use Rattle.command_driver.proofs.Quiet.{IsQuiet, IsQuietLine, quiet_answer}

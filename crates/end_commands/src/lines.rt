@@ -3,17 +3,18 @@
 
 ghost use Rattle.std.specs.Prelude.{◌≡◌, ◌∷◌, [], Some, None, if◌then◌else◌};
 ghost use Rattle.eap_method.specs.declared.tags.Tags.{Tags};
-ghost use Rattle.trace_text.specs.Writes.{Appends};
+ghost use Rattle.answer_text.specs.Writes.{Appends};
 ghost use Rattle.end_pipe.specs.EndRun.{told_with};
 ghost use Rattle.end_commands.specs.EndText.{acted_text, keys_line, keys_text, last_text, send_text, skip_line, told_text};
 
+use answer_text::Piece::{Hex, Number, Text};
+use answer_text::{write_nothing, write_pieces};
 use eap_method::Report;
 use eap_packet::State;
 use end_pipe::EndStep;
 use login_keys::key_name;
 use octet_io::{Failed, Sink};
-use trace_text::Piece::{Hex, Number, Text};
-use trace_text::{write_cause, write_nothing, write_pieces, write_states};
+use trace_text::{write_cause, write_states};
 
 /// Writes the lines of what an end does at the input of this number, 0 for its start; the packet that it sends, if it
 /// sends one, has these octets.
@@ -57,7 +58,7 @@ fn write_skip<W: Sink>(sink: &mut W, number: u32) -> Result<(), Failed>
 }
 
 /// Writes the lines of what an end does at an input that isn't skipped.
-#[tactic(auto, using(trace_text::proofs::Fronts::appends_both, trace_text::proofs::Fronts::appends_front))]
+#[tactic(auto, using(answer_text::proofs::Fronts::appends_both, answer_text::proofs::Fronts::appends_front))]
 fn write_acted<W: Sink>(
     sink: &mut W,
     number: u32,

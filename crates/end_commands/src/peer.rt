@@ -5,7 +5,7 @@ ghost use Rattle.command_driver.specs.Commands.{goes};
 ghost use Rattle.command_driver.specs.Responding.{Responds, reading, never};
 ghost use Rattle.end_pipe.specs.declared.input.EndInput.{EndInput};
 ghost use Rattle.end_pipe.specs.EndRun.{peer_end, peer_step};
-ghost use Rattle.trace_text.specs.Writes.{Appends};
+ghost use Rattle.answer_text.specs.Writes.{Appends};
 ghost use Rattle.end_commands.specs.EndCommand.{begins_in};
 ghost use Rattle.end_commands.specs.EndText.{told_text};
 ghost use Rattle.end_commands.specs.PeerCommand.{HasBothPeers, IsReadyPeer, peer_answer, peer_begin, peer_seen};
@@ -74,7 +74,7 @@ impl<M: PeerMethod> Peer<M> {
     }
 
     /// An input.
-    #[tactic(auto, unfolding(trace_text::specs::Writes::Appends))]
+    #[tactic(auto, unfolding(answer_text::specs::Writes::Appends))]
     fn step<W: Sink>(&mut self, sink: &mut W, input: &EndInput) -> Result<Next, Trouble>
         requires ready { IsReadyPeer M.peer_shown self.old 0 }
         ensures ready_after { IfOk result (λ next. IsReadyPeer M.peer_shown self.new 0) }
@@ -104,7 +104,7 @@ impl<M: PeerMethod> Peer<M> {
     }
 
     /// The end of the input, after the line `end`.
-    #[tactic(auto, unfolding(trace_text::specs::Writes::Appends))]
+    #[tactic(auto, unfolding(answer_text::specs::Writes::Appends))]
     fn end<W: Sink>(&self, sink: &mut W) -> Result<Close, Failed>
         ensures { AnswersEnd W.written W.write_faults W.last_write_fault result sink.old sink.new
             (record { text = last_of peer_state (peer_seen M.peer_shown self.now).pipe; closed = ends Status.Done }) }

@@ -5,7 +5,7 @@ ghost use Rattle.command_driver.specs.Responding.{Responds, reading, never};
 ghost use Rattle.end_pipe.specs.declared.input.EndInput.{EndInput};
 ghost use Rattle.server_machine.specs.ServerTable.{is_started};
 ghost use Rattle.end_pipe.specs.EndRun.{server_end, server_starts, server_step};
-ghost use Rattle.trace_text.specs.Writes.{Appends};
+ghost use Rattle.answer_text.specs.Writes.{Appends};
 ghost use Rattle.end_commands.specs.EndCommand.{begins_in};
 ghost use Rattle.end_commands.specs.EndText.{told_text};
 ghost use Rattle.end_commands.specs.ServerCommand.{HasBothServers, IsReadyServer, server_answer, server_begin, server_seen};
@@ -55,7 +55,7 @@ impl<M: ServerMethod> Server<M> {
     }
 
     /// The line `events`: the server starts.
-    #[tactic(auto, unfolding(trace_text::specs::Writes::Appends))]
+    #[tactic(auto, unfolding(answer_text::specs::Writes::Appends))]
     fn begin<W: Sink>(&mut self, sink: &mut W) -> Result<Next, Trouble>
         requires ready { IsReadyServer M.server_shown self.old 0 }
         ensures ready_after { IfOk result (λ next. IsReadyServer M.server_shown self.new 0) }
@@ -86,7 +86,7 @@ impl<M: ServerMethod> Server<M> {
     }
 
     /// An input.
-    #[tactic(auto, unfolding(trace_text::specs::Writes::Appends))]
+    #[tactic(auto, unfolding(answer_text::specs::Writes::Appends))]
     fn step<W: Sink>(&mut self, sink: &mut W, input: &EndInput) -> Result<Next, Trouble>
         requires ready { IsReadyServer M.server_shown self.old 0 }
         ensures ready_after { IfOk result (λ next. IsReadyServer M.server_shown self.new 0) }
@@ -116,7 +116,7 @@ impl<M: ServerMethod> Server<M> {
     }
 
     /// The end of the input, after the line `end`.
-    #[tactic(auto, unfolding(trace_text::specs::Writes::Appends))]
+    #[tactic(auto, unfolding(answer_text::specs::Writes::Appends))]
     fn end<W: Sink>(&self, sink: &mut W) -> Result<Close, Failed>
         ensures { AnswersEnd W.written W.write_faults W.last_write_fault result sink.old sink.new
             (record { text = last_of server_state (server_seen M.server_shown self.now).pipe; closed = ends Status.Done }) }

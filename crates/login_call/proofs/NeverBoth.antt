@@ -7,9 +7,9 @@ use Rattle.std.proofs.lemmas.List.{append_cancel_left}
 use Rattle.std.specs.Prelude.{if◌then◌else◌}
 use Rattle.octet_io.specs.Known.{append_known}
 use Rattle.login_setup.specs.declared.users.User.{User}
-use Rattle.trace_text.proofs.Plain.{none}
-use Rattle.trace_text.proofs.PlainAnswers.{begins_result}
-use Rattle.trace_text.proofs.Scanning.{found}
+use Rattle.answer_text.proofs.Plain.{none}
+use Rattle.answer_text.proofs.PlainAnswers.{begins_result}
+use Rattle.answer_text.proofs.Scanning.{found}
 use Rattle.command_driver.specs.Answers.{Answer, IsCutShort, by_read, by_write, by_memory, Ends, entire, cut_short}
 use Rattle.command_driver.specs.Responding.{Asked, answer_to}
 use Rattle.command_driver.specs.declared.status.Status.{Status}

@@ -2,7 +2,7 @@
 use Rattle.std.specs.Prelude.{ℕ, List, [], ◌∷◌, Bool, true, false, ◌&&◌, if◌then◌else◌, codes, Option, Some, None}
 use Rattle.std.specs.Str.{bytes_eq}
 use Rattle.login_setup.specs.declared.users.User.{User}
-use Rattle.trace_text.specs.Lines.{line_text}
+use Rattle.answer_text.specs.Lines.{line_text}
 use Rattle.command_driver.specs.Answers.{Answer}
 use Rattle.world_commands.specs.Bulk.{bulk_of, bulk_answer}
 use Rattle.capture_commands.specs.Check.{check_answer}

@@ -10,8 +10,9 @@ ghost use Rattle.world_commands.specs.Headline.{HonestEndsAgree, WritesNeverBoth
 ghost use Rattle.world_commands.specs.Replay.{HasBoth};
 ghost use Rattle.command_driver.specs.Responding.{Responds, Says};
 ghost use Rattle.world_commands.specs.SmoothTraces.{SmoothTracesAgree};
-ghost use Rattle.trace_text.specs.Writes.{Appends};
+ghost use Rattle.answer_text.specs.Writes.{Appends};
 
+use answer_text::write_line;
 use capture_commands::{answer_radius, check_capture, judge_file, read_pcap};
 use command_driver::Status;
 use eap_method::{PeerMethod, ServerMethod};
@@ -21,7 +22,6 @@ use login_setup::Users;
 use octet_io::{Failed, Sink, Source};
 use packet_commands::{answer_keys, decode_packets};
 use std::alloc::Global;
-use trace_text::write_line;
 use world_commands::{bulk_of, replay_scenario, run_bulk};
 
 /// Answers to the words after the program's name: reads `source`, writes `sink`, and says how it
@@ -186,7 +186,7 @@ fn answer_unread<P: PeerMethod, M: ServerMethod, W: Sink>(
 }
 
 /// Writes the usage line.
-#[tactic(auto, unfolding(trace_text::specs::Writes::Appends))]
+#[tactic(auto, unfolding(answer_text::specs::Writes::Appends))]
 fn show_usage<W: Sink>(sink: &mut W) -> Status
     ensures { Finishes W.written W.write_faults W.last_write_fault result sink.old sink.new usage_answer }
 {

@@ -5,7 +5,7 @@ use Rattle.eap_packet.specs.Fault.{packet_of}
 use Rattle.text_tables.specs.Words.{fault_word}
 use Rattle.request_text.specs.Packets.{packet_line}
 use Rattle.text_tables.specs.declared.fault.LineFault.{LineFault}
-use Rattle.trace_text.specs.Packets.{packet_text, packets_text}
+use Rattle.answer_text.specs.Packets.{packet_text, packets_text}
 use Rattle.command_driver.specs.Answers.{Answer}
 use Rattle.command_driver.specs.Commands.{Took, Closing, goes, refuses, ends, answer}
 use Rattle.packet_commands.specs.declared.decode.Decode.{Decode}

@@ -4,11 +4,11 @@ ghost use Rattle.std.specs.Prelude.{◌≡◌, ◌<◌, ◌^◌, false};
 ghost use Rattle.command_driver.specs.Responding.{Responds, reading, never};
 ghost use Rattle.packet_commands.specs.Decode.{is_malformed, decode_answer};
 
+use answer_text::{write_packet, write_packet_counts};
 use command_driver::{Close, Command, Next, Status, Trouble, drive};
 use eap_packet::decode;
 use octet_io::{Failed, Sink, Source};
 use request_text::read_packet_line;
-use trace_text::{write_packet, write_packet_counts};
 
 /// How many packets there were so far, and how many of them were malformed.
 #[derive(Clone, Copy, PartialEq, Eq, Debug)]
@@ -44,7 +44,7 @@ impl Decode {
     }
 
     /// One more packet.
-    #[tactic(auto, unfolding(trace_text::specs::Writes::Appends))]
+    #[tactic(auto, unfolding(answer_text::specs::Writes::Appends))]
     fn packet<W: Sink>(&mut self, sink: &mut W, octets: &[u8]) -> Result<Next, Trouble>
         requires packets { self.old.packets < 2 ^ 31 }
         requires malformed { self.old.malformed < 2 ^ 31 }
@@ -86,7 +86,7 @@ impl Command for Decode {
         }
     }
 
-    #[tactic(auto, unfolding(crate::specs::Decode::decode_closing, trace_text::specs::Writes::Appends))]
+    #[tactic(auto, unfolding(crate::specs::Decode::decode_closing, answer_text::specs::Writes::Appends))]
     fn close<W: Sink>(&self, sink: &mut W) -> Result<Close, Failed> {
         match write_packet_counts(sink, self.packets, self.malformed) {
             Ok(()) => Ok(Close::Ends(Status::Done)),

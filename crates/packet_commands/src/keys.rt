@@ -3,10 +3,10 @@
 ghost use Rattle.command_driver.specs.Responding.{Responds, reading, never};
 ghost use Rattle.packet_commands.specs.Keys.{keys_answer};
 
+use answer_text::write_key_line;
 use command_driver::{Close, Command, Next, Status, Trouble, drive};
 use octet_io::{Failed, Sink, Source};
 use request_text::{KeyLine, read_key_line};
-use trace_text::write_key_line;
 
 /// The requests, each of which is answered by itself, and the place into which they are read.
 #[derive(Drop)]
@@ -38,7 +38,7 @@ impl Command for Keys {
 
     ghost holds = { λ _ _. Unit {0} };
 
-    #[tactic(auto, unfolding(crate::specs::Keys::keys_took, trace_text::specs::Writes::Appends))]
+    #[tactic(auto, unfolding(crate::specs::Keys::keys_took, answer_text::specs::Writes::Appends))]
     fn take<W: Sink>(&mut self, sink: &mut W, line: &[u8]) -> Result<Next, Trouble> {
         match read_key_line(line, &mut self.asked) {
             Ok(false) => Ok(Next::Goes),

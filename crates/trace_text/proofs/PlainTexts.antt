@@ -1,5 +1,5 @@
 -- Which texts are plain: each of their lines begins with a number, or with a word of its own.
-use Rattle.std.proofs.Common.{◌≡◌, ℕ, ◌≤◌, ◌==◌, ◌||◌, List, [], ◌∷◌, ◌++◌, length, Bool, true, false, cond, Option, Some, None, refl, codes, decimal, slice_index, arith}
+use Rattle.std.proofs.Common.{◌≡◌, ℕ, ◌≤◌, ◌==◌, ◌||◌, List, [], ◌∷◌, ◌++◌, length, Bool, true, false, Option, Some, None, refl, codes, decimal, slice_index, arith}
 use Rattle.std.proofs.lemmas.Bool.{or_from, ne_eqb}
 use Rattle.std.specs.List.{concat}
 use Rattle.login_setup.specs.declared.setup.Mode.{Mode}
@@ -10,9 +10,7 @@ use Rattle.login_setup.specs.declared.setup.Port.{Port}
 use Rattle.login_setup.specs.declared.setup.Port.TheVariants as port
 use Rattle.eap_packet.specs.Words.{cause_word, state_word}
 use Rattle.eap_packet.specs.declared.cause.Cause.{Cause}
-use Rattle.eap_packet.specs.declared.cause.Cause.TheVariants as cause
 use Rattle.eap_packet.specs.declared.state.State.{State}
-use Rattle.eap_packet.specs.declared.state.State.TheVariants as state
 use Rattle.eap_world.specs.declared.told.Counts.{Counts}
 use Rattle.eap_world.specs.declared.told.Named.{Named}
 use Rattle.eap_world.specs.declared.told.SentPacket.{SentPacket}
@@ -20,19 +18,12 @@ use Rattle.eap_world.specs.declared.told.Skip.{Skip}
 use Rattle.eap_world.specs.declared.told.Skip.TheVariants as skip
 use Rattle.eap_world.specs.declared.told.Told.{Told}
 use Rattle.login_keys.specs.KeyName.{key_name_of}
-use Rattle.trace_text.specs.Pieces.{hex_text}
+use Rattle.answer_text.specs.Pieces.{hex_text}
 use Rattle.trace_text.specs.Run.{party_word, port_word, skip_word, code_word, type_text, states_text, path_text, party_text, cause_text, sent_text, octets_line, octets_text, keys_line, keys_text, shown_text, acted_text, told_by, told_text, peer_start_text, server_start_text, start_text, peer_state_line, pass_state_line, server_state_line, stands_text, counts_text}
-use Rattle.trace_text.proofs.Plain.{is_within, plain, join, through, within_join, encoded_within, decimal_within, decimal_first, numbered}
+use Rattle.answer_text.proofs.PlainWords.{cause_within, state_within, either_within, hex_within}
+use Rattle.answer_text.proofs.Plain.{is_within, plain, join, through, within_join, decimal_within, decimal_first, numbered}
 
 -- ---- words
-
-pub cause_within : (c : Cause) → is_within (cause_word c) ≡ true
-cause_within cause.Short = refl
-cause_within other = refl
-
-pub state_within : (s : State) → is_within (state_word s) ≡ true
-state_within state.Initialize = refl
-state_within other = refl
 
 party_within : (p : Party) → is_within (party_word p) ≡ true
 party_within party.Peer = refl
@@ -46,18 +37,10 @@ skip_within : (s : Skip) → is_within (skip_word s) ≡ true
 skip_within skip.NoParty = refl
 skip_within other = refl
 
-pub either_within : (t : Bool) (xs ys : List ℕ) → is_within xs ≡ true → is_within ys ≡ true → is_within (cond t xs ys) ≡ true
-either_within true xs ys p q = p
-either_within false xs ys p q = q
-
 code_within : (code : ℕ) → is_within (code_word code) ≡ true
 code_within code =
     either_within (code == 1) (codes "request") _ refl (either_within (code == 2) (codes "response") _ refl
     (either_within (code == 3) (codes "success") (codes "failure") refl refl))
-
-pub hex_within : (octets : List ℕ) → is_within (hex_text octets) ≡ true
-hex_within [] = refl
-hex_within (o ∷ octets) = encoded_within (o ∷ octets)
 
 type_within : (octets : List ℕ) → is_within (type_text octets) ≡ true
 type_within octets =

@@ -7,11 +7,11 @@ use Rattle.eap_world.specs.declared.book.TagsVerdict.TheVariants as tags
 use Rattle.eap_world.specs.declared.told.Counts.{Counts}
 use Rattle.eap_world.specs.declared.verdict.Verdict.{Verdict}
 use Rattle.eap_world.specs.declared.verdict.Verdict.TheVariants as verdict
-use Rattle.trace_text.specs.Lines.{HasLine, first}
+use Rattle.answer_text.specs.Lines.{HasLine, first}
 use Rattle.trace_text.specs.Run.{fresh_text, tags_text, result_text, stands_text, counts_text, end_text_of}
-use Rattle.trace_text.proofs.Plain.{over, passes, has_through, decimal_within}
+use Rattle.answer_text.proofs.Plain.{over, passes, has_through, decimal_within}
 use Rattle.trace_text.proofs.PlainTexts.{begins_verdict, stands_plain, counts_plain}
-use Rattle.trace_text.proofs.Scanning.{has_mark}
+use Rattle.answer_text.proofs.Scanning.{has_mark}
 
 -- the lines
 abbrev pub honest_line : List ℕ

@@ -1,8 +1,1 @@
-pub mod Findings
-pub mod Keys
-pub mod Lines
-pub mod Packets
-pub mod PacketParts
-pub mod Pieces
 pub mod Run
-pub mod Writes

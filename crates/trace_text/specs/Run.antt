@@ -24,7 +24,7 @@ use Rattle.eap_world.specs.declared.told.Told.{Told}
 use Rattle.eap_world.specs.declared.verdict.Verdict.{Verdict}
 use Rattle.eap_world.specs.declared.verdict.Verdict.TheVariants as verdict
 use Rattle.login_keys.specs.KeyName.{key_name_of}
-use Rattle.trace_text.specs.Pieces.{hex_text}
+use Rattle.answer_text.specs.Pieces.{hex_text}
 
 abbrev pub party_word : Party → List ℕ
 party_word party.Peer = codes "peer"

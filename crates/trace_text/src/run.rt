@@ -3,17 +3,16 @@
 
 ghost use Rattle.std.specs.Prelude.{◌≡◌, Some, length, slice_index, [], ◌∷◌, codes, decimal};
 ghost use Rattle.std.specs.List.{concat};
-ghost use Rattle.trace_text.specs.Writes.{Appends, Puts};
-ghost use Rattle.trace_text.specs.Pieces.{hex_text};
+ghost use Rattle.answer_text.specs.Writes.{Appends, Puts};
+ghost use Rattle.answer_text.specs.Pieces.{hex_text};
 ghost use Rattle.trace_text.specs.Run.{state_text, party_word, port_word, skip_word, code_word, states_text, path_text, party_text, states_line};
 ghost use Rattle.trace_text.specs.Run.{cause_text, sent_text, octets_line, octets_text, keys_line, keys_text, shown_text, acted_text};
 ghost use Rattle.trace_text.specs.Run.{told_text, peer_start_text, server_start_text, start_text, stands_text, counts_text, fresh_text, fresh_told, tags_text, verdict_word};
 ghost use Rattle.trace_text.specs.Run.{result_text, end_text_of, end_text, peer_state_line, pass_state_line, server_state_line};
 ghost use Rattle.eap_world.specs.World.{now_of};
 
-use crate::line_buffer::LineBuffer;
-use crate::pieces::Piece::{Hex, Number, Text};
-use crate::pieces::{put_number, put_pieces, send, write_nothing, write_pieces};
+use answer_text::Piece::{Hex, Number, Text};
+use answer_text::{LineBuffer, put_number, put_pieces, send, write_nothing, write_pieces};
 use eap_method::{PeerMethod, ServerMethod};
 use eap_packet::{Cause, State};
 use eap_world::{Counts, Named, SentPacket, Skip, TagsVerdict, Told, Verdict, World};
@@ -137,7 +136,7 @@ fn put_head<W: Sink>(
 }
 
 /// Puts the line of a party, with the states that it entered.
-#[tactic(auto, using(crate::proofs::Putting::puts_both, crate::proofs::Putting::puts_front))]
+#[tactic(auto, using(answer_text::proofs::Putting::puts_both, answer_text::proofs::Putting::puts_front))]
 fn put_party<W: Sink>(
     sink: &mut W,
     line: &mut LineBuffer,
@@ -151,7 +150,7 @@ fn put_party<W: Sink>(
     put_path(sink, line, path)
 }
 
-#[tactic(auto, using(crate::proofs::Putting::appends_sent, crate::proofs::Putting::appends_cut))]
+#[tactic(auto, using(answer_text::proofs::Putting::appends_sent, answer_text::proofs::Putting::appends_cut))]
 fn write_party_line<W: Sink>(
     sink: &mut W,
     event: u32,
@@ -181,7 +180,7 @@ fn write_party<W: Sink>(
 }
 
 /// Puts a number and the states of a path, and the end of the line.
-#[tactic(auto, using(crate::proofs::Putting::puts_both, crate::proofs::Putting::puts_front))]
+#[tactic(auto, using(answer_text::proofs::Putting::puts_both, answer_text::proofs::Putting::puts_front))]
 fn put_states_line<W: Sink>(
     sink: &mut W,
     line: &mut LineBuffer,
@@ -196,7 +195,7 @@ fn put_states_line<W: Sink>(
 
 /// Writes a number and the states of a path in one line, `-` for no states. `Failed`: a write failed, and a front of the
 /// line was appended.
-#[tactic(auto, using(crate::proofs::Putting::appends_sent, crate::proofs::Putting::appends_cut))]
+#[tactic(auto, using(answer_text::proofs::Putting::appends_sent, answer_text::proofs::Putting::appends_cut))]
 pub fn write_states<W: Sink>(sink: &mut W, number: u32, path: &[State]) -> Result<(), Failed>
     ensures { Appends W.written W.write_faults W.last_write_fault result sink.old sink.new (states_line number path.now) }
 {
@@ -397,7 +396,7 @@ pub fn write_told<W: Sink>(
 }
 
 /// Writes the lines of an event that wasn't skipped.
-#[tactic(auto, using(crate::proofs::Fronts::appends_both, crate::proofs::Fronts::appends_front))]
+#[tactic(auto, using(answer_text::proofs::Fronts::appends_both, answer_text::proofs::Fronts::appends_front))]
 fn write_acted<W: Sink>(sink: &mut W, told: &Told, octets: &[u8], names: bool) -> Result<(), Failed>
     ensures { Appends W.written W.write_faults W.last_write_fault result sink.old sink.new (acted_text names octets.now told.now) }
 {
@@ -407,7 +406,7 @@ fn write_acted<W: Sink>(sink: &mut W, told: &Told, octets: &[u8], names: bool) -
 }
 
 /// Writes the lines of the packet that was sent, of its octets, and of the keys.
-#[tactic(auto, using(crate::proofs::Fronts::appends_both, crate::proofs::Fronts::appends_front))]
+#[tactic(auto, using(answer_text::proofs::Fronts::appends_both, answer_text::proofs::Fronts::appends_front))]
 fn write_shown<W: Sink>(sink: &mut W, told: &Told, octets: &[u8], names: bool) -> Result<(), Failed>
     ensures { Appends W.written W.write_faults W.last_write_fault result sink.old sink.new (shown_text names octets.now told.now) }
 {
@@ -426,7 +425,7 @@ fn write_peer_start<W: Sink>(sink: &mut W) -> Result<(), Failed>
 
 /// Writes the line of a server behind a pass-through, which stands in INITIALIZE (RFC 4137 section 6); none
 /// of one that answers by itself.
-#[tactic(auto, using(crate::proofs::Fronts::appends_none), unfolding(crate::specs::Run::server_start_text))]
+#[tactic(auto, using(answer_text::proofs::Fronts::appends_none), unfolding(crate::specs::Run::server_start_text))]
 fn write_server_start<W: Sink>(sink: &mut W, mode: Mode) -> Result<(), Failed>
     ensures { Appends W.written W.write_faults W.last_write_fault result sink.old sink.new (server_start_text mode) }
 {
@@ -439,7 +438,7 @@ fn write_server_start<W: Sink>(sink: &mut W, mode: Mode) -> Result<(), Failed>
 /// Writes the lines of the start, event 0, in this mode: the peer begins, then what is told of who asks for
 /// the identity, with the octets of the packet where names are asked for; through a pass-through the server
 /// waits. `Failed`: a write failed, and a front of the lines was appended.
-#[tactic(auto, using(crate::proofs::Fronts::appends_both, crate::proofs::Fronts::appends_front))]
+#[tactic(auto, using(answer_text::proofs::Fronts::appends_both, answer_text::proofs::Fronts::appends_front))]
 pub fn write_start<W: Sink>(
     sink: &mut W,
     mode: Mode,
@@ -456,7 +455,7 @@ pub fn write_start<W: Sink>(
 
 /// Writes the lines of the end: where each party stands, the counts, and the verdicts. `Failed`: a write
 /// failed, and a front of the lines was appended.
-#[tactic(auto, unfolding(crate::specs::Run::end_text_of), using(crate::proofs::Fronts::appends_both, crate::proofs::Fronts::appends_front))]
+#[tactic(auto, unfolding(crate::specs::Run::end_text_of), using(answer_text::proofs::Fronts::appends_both, answer_text::proofs::Fronts::appends_front))]
 pub fn write_end_of<W: Sink>(
     sink: &mut W,
     peer: State,
@@ -477,7 +476,7 @@ pub fn write_end_of<W: Sink>(
 }
 
 /// Writes the states of the parties.
-#[tactic(auto, using(crate::proofs::Fronts::appends_both, crate::proofs::Fronts::appends_front))]
+#[tactic(auto, using(answer_text::proofs::Fronts::appends_both, answer_text::proofs::Fronts::appends_front))]
 fn write_stands<W: Sink>(
     sink: &mut W,
     peer: State,
@@ -507,7 +506,7 @@ fn write_peer_state<W: Sink>(sink: &mut W, peer: State) -> Result<(), Failed>
 }
 
 /// Writes the state of the pass-through, where there is one.
-#[tactic(auto, using(crate::proofs::Fronts::appends_none), unfolding(crate::specs::Run::pass_state_line))]
+#[tactic(auto, using(answer_text::proofs::Fronts::appends_none), unfolding(crate::specs::Run::pass_state_line))]
 fn write_pass_state<W: Sink>(sink: &mut W, pass: Option<State>) -> Result<(), Failed>
     ensures { Appends W.written W.write_faults W.last_write_fault result sink.old sink.new (pass_state_line pass) }
 {

@@ -1,9 +1,9 @@
 -- No line of `bulk N K` begins as the line of the result does.
 use Rattle.std.proofs.Common.{◌≡◌, ℕ, true, refl, codes, decimal}
 use Rattle.bulk_run.specs.declared.summary.Summary.{Summary}
-use Rattle.trace_text.specs.Lines.{line_text}
-use Rattle.trace_text.proofs.Plain.{plain, join, through, decimal_within}
-use Rattle.trace_text.proofs.PlainAnswers.{begins_result}
+use Rattle.answer_text.specs.Lines.{line_text}
+use Rattle.answer_text.proofs.Plain.{plain, join, through, decimal_within}
+use Rattle.answer_text.proofs.PlainAnswers.{begins_result}
 use Rattle.command_driver.proofs.Quiet.{IsQuiet}
 use Rattle.world_commands.specs.Bulk.{bulk_line, verdicts_text, handled_text, bulk_text, bulk_answer}
 use Rattle.world_commands.specs.declared.bulk.Bulk.{Bulk}

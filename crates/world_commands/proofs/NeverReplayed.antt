@@ -19,10 +19,10 @@ use Rattle.scenario_text.specs.Items as item
 use Rattle.scenario_text.specs.Valid.{IsValidSetup}
 use Rattle.text_tables.specs.declared.fault.LineFault.{LineFault}
 use Rattle.trace_text.specs.Run.{begin_text, outcome_text, end_text, end_text_of, fresh_told}
-use Rattle.trace_text.specs.Lines.{HasLine}
-use Rattle.trace_text.proofs.Plain.{plain, over, passes, join}
+use Rattle.answer_text.specs.Lines.{HasLine}
+use Rattle.answer_text.proofs.Plain.{plain, over, passes, join}
 use Rattle.trace_text.proofs.PlainTexts.{begins_verdict, no_verdict, told_plain, start_plain}
-use Rattle.trace_text.proofs.Scanning.{has_mark, found}
+use Rattle.answer_text.proofs.Scanning.{has_mark, found}
 use Rattle.trace_text.proofs.Verdicts.{honest_line, apart_line, fresh_line, fresh_words, end_tells_honest, end_tells_apart, end_tells_fresh, end_has_fresh}
 use Rattle.command_driver.specs.Answers.{Answer, after_text, IsRefusal}
 use Rattle.command_driver.specs.declared.status.Status.TheVariants as status

@@ -4,7 +4,7 @@ use Rattle.std.specs.List.{concat}
 use Rattle.std.specs.Str.{bytes_eq}
 use Rattle.bulk_run.specs.Summing.{summary_of}
 use Rattle.bulk_run.specs.declared.summary.Summary.{Summary}
-use Rattle.trace_text.specs.Lines.{line_text}
+use Rattle.answer_text.specs.Lines.{line_text}
 use Rattle.text_tables.specs.Fields.{number_of}
 use Rattle.text_tables.specs.declared.fault.LineFault.{LineFault}
 use Rattle.command_driver.specs.Answers.{Answer}

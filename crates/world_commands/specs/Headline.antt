@@ -15,7 +15,7 @@ use Rattle.world_laws.specs.Matching.{Match}
 use Rattle.world_laws.specs.Passing.{IsAlone}
 use Rattle.world_laws.specs.Reflected.{AgreesReflected}
 use Rattle.eap_world.specs.World.{WorldNow}
-use Rattle.trace_text.specs.Lines.{HasLine}
+use Rattle.answer_text.specs.Lines.{HasLine}
 use Rattle.world_commands.specs.Scenario.{scenario_of}
 use Rattle.command_driver.specs.declared.status.Status.{Status}
 use Rattle.command_driver.specs.declared.status.Status.TheVariants.{Done}

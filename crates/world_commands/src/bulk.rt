@@ -4,8 +4,10 @@ ghost use Rattle.std.specs.Prelude.{◌≡◌, ◌≤◌, map, string_bytes, IfS
 ghost use Rattle.world_commands.specs.Bulk.{max_count, bulk_of, bulk_spelled, bulk_line, verdicts_text, handled_text, bulk_text, bulk_answer};
 ghost use Rattle.world_commands.specs.Replay.{HasBoth};
 ghost use Rattle.command_driver.specs.Responding.{Says, at_any};
-ghost use Rattle.trace_text.specs.Writes.{Appends};
+ghost use Rattle.answer_text.specs.Writes.{Appends};
 
+use answer_text::Piece::{Number, Text};
+use answer_text::{write_line, write_pieces};
 use bulk_run::{Summary, run_all};
 use command_driver::Status;
 use eap_method::{PeerMethod, ServerMethod};
@@ -13,8 +15,6 @@ use eap_world::Methods;
 use octet_io::{Failed, Sink};
 use std::alloc::Global;
 use text_tables::read_number;
-use trace_text::Piece::{Number, Text};
-use trace_text::{write_line, write_pieces};
 
 /// The largest number from which all is drawn.
 const MAX_NUMBER: u32 = 999_999;
@@ -64,7 +64,7 @@ fn read_bulk(number: &[u8], count: &[u8]) -> Option<Bulk>
 
 /// Runs the conversations and writes what they came to. It answers `Memory` for want of memory alone, and has
 /// then written nothing.
-#[tactic(auto, unfolding(trace_text::specs::Writes::Appends, crate::specs::Bulk::bulk_answer))]
+#[tactic(auto, unfolding(answer_text::specs::Writes::Appends, crate::specs::Bulk::bulk_answer))]
 pub fn run_bulk<P: PeerMethod, M: ServerMethod, W: Sink>(
     alloc: Global,
     bulk: Bulk,
@@ -85,7 +85,7 @@ pub fn run_bulk<P: PeerMethod, M: ServerMethod, W: Sink>(
 }
 
 /// Writes the words and the summary.
-#[tactic(auto, using(trace_text::proofs::Fronts::appends_both, trace_text::proofs::Fronts::appends_front))]
+#[tactic(auto, using(answer_text::proofs::Fronts::appends_both, answer_text::proofs::Fronts::appends_front))]
 fn write_summary<W: Sink>(sink: &mut W, bulk: Bulk, summary: Summary) -> Result<(), Failed>
     ensures { Appends W.written W.write_faults W.last_write_fault result sink.old sink.new (bulk_text bulk.number bulk.count summary) }
 {

@@ -9,9 +9,10 @@ ghost use Rattle.world_commands.specs.Replay.{HasBoth, IsReady, seen_of};
 ghost use Rattle.world_commands.specs.Scenario.{asked_replay, trace_header};
 ghost use Rattle.eap_world.specs.World.{octets_of_sent};
 ghost use Rattle.trace_text.specs.Run.{told_text};
-ghost use Rattle.trace_text.specs.Writes.{Appends};
+ghost use Rattle.answer_text.specs.Writes.{Appends};
 
 use crate::beginning::world_of;
+use answer_text::write_line;
 use command_driver::{Close, Command, Next, Status, Trouble, drive};
 use eap_method::{PeerMethod, ServerMethod};
 use eap_world::{Methods, Told, World};
@@ -19,7 +20,7 @@ use login_setup::Event;
 use octet_io::{Failed, Sink, Source};
 use scenario_text::{Item, ScenarioReader};
 use std::alloc::Global;
-use trace_text::{write_end, write_line, write_start, write_told};
+use trace_text::{write_end, write_start, write_told};
 
 /// The most events of a scenario.
 const MAX_EVENTS: u32 = 10_000;
@@ -63,7 +64,7 @@ impl<P: PeerMethod, S: ServerMethod> Replay<P, S> {
     }
 
     /// The line `events`: the world starts.
-    #[tactic(auto, unfolding(trace_text::specs::Writes::Appends))]
+    #[tactic(auto, unfolding(answer_text::specs::Writes::Appends))]
     fn start<W: Sink>(&mut self, sink: &mut W) -> Result<Next, Trouble>
         requires whole { IsOk (setup_of self.old.reader.settings) }
         requires ready { IsReady P.peer_shown S.server_shown self.old 0 }
@@ -100,7 +101,7 @@ impl<P: PeerMethod, S: ServerMethod> Replay<P, S> {
     }
 
     /// The end of the input, after the line `end`.
-    #[tactic(auto, unfolding(trace_text::specs::Writes::Appends))]
+    #[tactic(auto, unfolding(answer_text::specs::Writes::Appends))]
     fn end<W: Sink>(&self, sink: &mut W) -> Result<Close, Failed>
         ensures { AnswersEnd W.written W.write_faults W.last_write_fault result sink.old sink.new
             (record { text = end_of (seen_of P.peer_shown S.server_shown self.now).world; closed = ends Status.Done }) }
@@ -115,7 +116,7 @@ impl<P: PeerMethod, S: ServerMethod> Replay<P, S> {
     }
 
     /// An event.
-    #[tactic(auto, unfolding(trace_text::specs::Writes::Appends))]
+    #[tactic(auto, unfolding(answer_text::specs::Writes::Appends))]
     fn step<W: Sink>(&mut self, sink: &mut W, event: &Event) -> Result<Next, Trouble>
         requires ready { IsReady P.peer_shown S.server_shown self.old 0 }
         ensures ready_after { IfOk result (λ next. IsReady P.peer_shown S.server_shown self.new 0) }

@@ -1,6 +1,6 @@
 -- A file's records one after the other give the answer to the file.
 use Rattle.std.proofs.Common.{◌+◌, refl, sym, ap, ◌∙◌, arith}
-use Rattle.trace_text.specs.Writes.{Appends}
+use Rattle.answer_text.specs.Writes.{Appends}
 use Rattle.command_driver.proofs.Endings.{ends_same, front_same}
 use Rattle.command_driver.proofs.Responding.{finished, cut, unreadable}
 use Rattle.capture_commands.proofs.PcapDriving.{divides_last, faults_last, begun_last, found_step, underway_begins, underway_goes, underway_cut, underway_rests, underway_ends}

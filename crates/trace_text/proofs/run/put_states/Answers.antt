@@ -1,6 +1,6 @@
 use Rattle.std.proofs.Common.{◌≡◌, ◌≤◌, [], arith, refl, drop, length}
 use Rattle.std.proofs.Math.ListN.{drop_of_length-le}
-use Rattle.trace_text.proofs.Putting.{putting_begins, putting_next, putting_cut, putting_ends}
+use Rattle.answer_text.proofs.Putting.{putting_begins, putting_next, putting_cut, putting_ends}
 use Rattle.trace_text.proofs.States.{states_text_drop}
 use Rattle.trace_text.proofs.run.put_states.Goals as goal
 

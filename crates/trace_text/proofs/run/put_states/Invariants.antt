@@ -1,6 +1,6 @@
 use Rattle.std.proofs.Common.{drop}
 use Rattle.trace_text.specs.Run.{states_text}
-use Rattle.trace_text.proofs.Putting.{Putting}
+use Rattle.answer_text.proofs.Putting.{Putting}
 use Rattle.trace_text.proofs.run.put_states.Given as goal
 
 abbrev pub invariant-loop-state : goal.invariant-loop-state

@@ -1,0 +1,18 @@
+-- The line of a packet is its parts, one after the other.
+pub mod PacketCuts
+-- Writing a text part by part.
+pub mod Fronts
+-- Writing a line part by part, of which the last octets are held.
+pub mod Putting
+-- Looking for a line in a text, octet by octet.
+pub mod Scanning
+-- Texts of whole lines, none of which begins with certain octets.
+pub mod Plain
+-- The words that stand within a line.
+pub mod PlainWords
+-- No line of `decode` or `keys` begins as the line of the verdict does.
+pub mod PlainAnswers
+-- No line of `check` begins as the line of the verdict does.
+pub mod PlainFindings
+-- Lines of answers, computed from the definitions alone.
+mod Worked

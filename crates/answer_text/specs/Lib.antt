@@ -1,0 +1,7 @@
+pub mod Findings
+pub mod Keys
+pub mod Lines
+pub mod Packets
+pub mod PacketParts
+pub mod Pieces
+pub mod Writes

@@ -1,0 +1,18 @@
+//! The texts that the program writes of packets, keys and findings, and the lines that every command writes.
+//! Each call appends its text to a sink, a line in one write, and takes no memory. It answers `Failed`
+//! exactly where a write of the sink failed; a front of the text was then appended.
+#![tactic(auto)]
+
+mod finding;
+mod keys;
+mod line_buffer;
+mod lines;
+mod packet;
+mod pieces;
+
+pub use finding::{write_finding, write_finding_counts};
+pub use keys::write_key_line;
+pub use line_buffer::LineBuffer;
+pub use lines::{write_line, write_refused};
+pub use packet::{write_packet, write_packet_counts};
+pub use pieces::{Piece, put_number, put_pieces, send, write_nothing, write_pieces};

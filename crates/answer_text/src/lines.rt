@@ -1,0 +1,32 @@
+//! Lines that every command writes.
+
+ghost use Rattle.answer_text.specs.Writes.{Appends};
+ghost use Rattle.answer_text.specs.Lines.{line_text, refused_text};
+
+use crate::pieces::Piece::{Number, Text};
+use crate::pieces::write_pieces;
+use octet_io::{Failed, Sink};
+
+/// Writes the octets and LF. `Failed`: a write failed, and a front of the line was appended.
+pub fn write_line<W: Sink>(sink: &mut W, line: &[u8]) -> Result<(), Failed>
+    ensures { Appends W.written W.write_faults W.last_write_fault result sink.old sink.new (line_text line.now) }
+{
+    write_pieces(sink, &[Text(line), Text(b"\n")])
+}
+
+/// Writes the last line of a refused input, `refused line N WORD`: the number of the refused line, from
+/// 1, and why. `Failed`: a write failed, and a front of the line was appended.
+pub fn write_refused<W: Sink>(sink: &mut W, line: u32, word: &str) -> Result<(), Failed>
+    ensures { Appends W.written W.write_faults W.last_write_fault result sink.old sink.new (refused_text line word.now) }
+{
+    write_pieces(
+        sink,
+        &[
+            Text(b"refused line "),
+            Number(u64::from(line)),
+            Text(b" "),
+            Text(word.as_bytes()),
+            Text(b"\n"),
+        ],
+    )
+}

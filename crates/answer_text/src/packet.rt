@@ -1,0 +1,362 @@
+//! A packet in one line.
+
+ghost use Rattle.std.specs.Prelude.{◌≡◌, ◌≤◌, ◌-◌, None, length, [], ◌∷◌, ◌++◌, codes, decimal};
+ghost use Rattle.std.specs.List.{concat};
+ghost use Rattle.eap_base.specs.Sizes.{max_packet};
+ghost use Rattle.eap_base.specs.Among.{expanded_kind};
+ghost use Rattle.psk_messages.specs.Reading as psk_reading;
+ghost use Rattle.gpsk_messages.specs.Reading as gpsk_reading;
+ghost use Rattle.answer_text.specs.Writes.{Appends, Puts};
+ghost use Rattle.answer_text.specs.Pieces.{hex_text};
+ghost use Rattle.eap_packet.specs.Packet.{value_of};
+ghost use Rattle.eap_packet.specs.Expanded.{expanded_of};
+ghost use Rattle.answer_text.specs.Packets.{numbers_text, psk_note, gpsk_note, expanded_note, note_text, typed_text, end_line_text};
+ghost use Rattle.answer_text.specs.Packets.{malformed_text, value_text, packet_text, packets_text};
+ghost use Rattle.answer_text.specs.PacketParts.{nak_word, number_text, head_text, line_end};
+
+use crate::line_buffer::LineBuffer;
+use crate::pieces::Piece::{Hex, Number, Text};
+use crate::pieces::{put_pieces, send, write_pieces};
+use eap_base::{EXPANDED, GPSK_KIND, IDENTITY, NAK, PSK_KIND};
+use eap_packet::{Cause, Code, PacketView, decode, read_expanded};
+use gpsk_messages::{GpskView, read_gpsk};
+use octet_io::{Failed, Sink};
+use psk_messages::{PskView, read_psk};
+
+/// Puts the identity of an Identity Request or Response.
+fn put_identity<W: Sink>(sink: &mut W, line: &mut LineBuffer, name: &[u8]) -> Result<(), Failed>
+    ensures { Puts W.written W.write_faults W.last_write_fault result sink.old sink.new line.old line.new
+        (concat (codes "identity " ∷ hex_text name.now ∷ [])) }
+{
+    put_pieces(sink, line, &[Text(b"identity "), Hex(name)])
+}
+
+/// Puts an octet as a decimal number, after a space.
+#[tactic(auto, unfolding(crate::specs::PacketParts::number_text))]
+fn put_octet<W: Sink>(sink: &mut W, line: &mut LineBuffer, octet: u8) -> Result<(), Failed>
+    ensures { Puts W.written W.write_faults W.last_write_fault result sink.old sink.new line.old line.new (number_text octet) }
+{
+    put_pieces(sink, line, &[Text(b" "), Number(u64::from(octet))])
+}
+
+/// Puts octets as decimal numbers, each after a space.
+fn put_numbers<W: Sink>(sink: &mut W, line: &mut LineBuffer, octets: &[u8]) -> Result<(), Failed>
+    ensures { Puts W.written W.write_faults W.last_write_fault result sink.old sink.new line.old line.new (numbers_text octets.now) }
+{
+    for octet in octets {
+        put_octet(sink, line, *octet)?;
+    }
+    Ok(())
+}
+
+/// Puts the methods that a Nak desires.
+#[tactic(auto, using(crate::proofs::Putting::puts_both, crate::proofs::Putting::puts_front))]
+fn put_nak<W: Sink>(sink: &mut W, line: &mut LineBuffer, desired: &[u8]) -> Result<(), Failed>
+    ensures { Puts W.written W.write_faults W.last_write_fault result sink.old sink.new line.old line.new (nak_word ++ numbers_text desired.now) }
+{
+    put_nak_word(sink, line)?;
+    put_numbers(sink, line, desired)
+}
+
+#[tactic(auto, unfolding(crate::specs::PacketParts::nak_word))]
+fn put_nak_word<W: Sink>(sink: &mut W, line: &mut LineBuffer) -> Result<(), Failed>
+    ensures { Puts W.written W.write_faults W.last_write_fault result sink.old sink.new line.old line.new nak_word }
+{
+    put_pieces(sink, line, &[Text(b"nak")])
+}
+
+/// The name of an EAP-PSK message, or why it is none.
+fn name_of_psk(body: &[u8]) -> &'static str
+    ensures { result.now ≡ psk_note (psk_reading.read_of body.now) }
+{
+    match read_psk(body) {
+        Ok(PskView::P1 { .. }) => "psk-1",
+        Ok(PskView::P2 { .. }) => "psk-2",
+        Ok(PskView::P3 { .. }) => "psk-3",
+        Ok(PskView::P4 { .. }) => "psk-4",
+        Err(cause) => cause.word(),
+    }
+}
+
+fn put_psk_note<W: Sink>(sink: &mut W, line: &mut LineBuffer, body: &[u8]) -> Result<(), Failed>
+    ensures { Puts W.written W.write_faults W.last_write_fault result sink.old sink.new line.old line.new (psk_note (psk_reading.read_of body.now)) }
+{
+    put_pieces(sink, line, &[Text(name_of_psk(body).as_bytes())])
+}
+
+/// Puts a name and a number after it.
+fn put_code<W: Sink>(
+    sink: &mut W,
+    line: &mut LineBuffer,
+    name: &str,
+    code: u32,
+) -> Result<(), Failed>
+    ensures { Puts W.written W.write_faults W.last_write_fault result sink.old sink.new line.old line.new (concat (name.now ∷ decimal code ∷ [])) }
+{
+    put_pieces(
+        sink,
+        line,
+        &[Text(name.as_bytes()), Number(u64::from(code))],
+    )
+}
+
+/// Puts the name of an EAP-GPSK message, or why it is none.
+fn put_gpsk_note<W: Sink>(sink: &mut W, line: &mut LineBuffer, body: &[u8]) -> Result<(), Failed>
+    ensures { Puts W.written W.write_faults W.last_write_fault result sink.old sink.new line.old line.new (gpsk_note (gpsk_reading.read_of None body.now)) }
+{
+    match read_gpsk(body, None) {
+        Ok(GpskView::M1 { .. }) => put_pieces(sink, line, &[Text(b"gpsk-1")]),
+        Ok(GpskView::M2 { .. }) => put_pieces(sink, line, &[Text(b"gpsk-2")]),
+        Ok(GpskView::M3 { .. }) => put_pieces(sink, line, &[Text(b"gpsk-3")]),
+        Ok(GpskView::M4 { .. }) => put_pieces(sink, line, &[Text(b"gpsk-4")]),
+        Ok(GpskView::Fail { code }) => put_code(sink, line, "gpsk-fail ", code),
+        Ok(GpskView::ProtectedFail { code, .. }) => put_code(
+            sink,
+            line,
+            "gpsk-protected-fail ",
+            code,
+        ),
+        Err(cause) => put_pieces(sink, line, &[Text(cause.word().as_bytes())]),
+    }
+}
+
+/// Puts the fields of an Expanded Type, or that it is too short for them.
+fn put_expanded<W: Sink>(
+    sink: &mut W,
+    line: &mut LineBuffer,
+    view: &PacketView,
+) -> Result<(), Failed>
+    requires { view.now.kind ≡ expanded_kind }
+    ensures { Puts W.written W.write_faults W.last_write_fault result sink.old sink.new line.old line.new (expanded_note (expanded_of view.now.body.now)) }
+{
+    match read_expanded(view) {
+        None => put_pieces(sink, line, &[Text(Cause::BadExpanded.word().as_bytes())]),
+        Some(fields) => put_pieces(
+            sink,
+            line,
+            &[
+                Text(b"expanded "),
+                Number(u64::from(fields.vendor)),
+                Text(b" "),
+                Number(u64::from(fields.vendor_type)),
+                Text(b" "),
+                Hex(fields.rest),
+            ],
+        ),
+    }
+}
+
+/// Puts what the Type-Data of a Type says.
+#[tactic(auto, unfolding(crate::specs::Packets::note_text, crate::specs::PacketParts::nak_word))]
+fn put_note<W: Sink>(sink: &mut W, line: &mut LineBuffer, view: &PacketView) -> Result<(), Failed>
+    requires { length view.now.body.now ≤ max_packet }
+    ensures { Puts W.written W.write_faults W.last_write_fault result sink.old sink.new line.old line.new (note_text view.now.kind view.now.body.now) }
+{
+    match view.kind {
+        IDENTITY => put_identity(sink, line, view.body),
+        NAK => put_nak(sink, line, view.body),
+        PSK_KIND => put_psk_note(sink, line, view.body),
+        GPSK_KIND => put_gpsk_note(sink, line, view.body),
+        EXPANDED => put_expanded(sink, line, view),
+        _ => put_pieces(sink, line, &[Text(b"-")]),
+    }
+}
+
+/// Puts the line of a packet up to what its Type-Data says.
+#[tactic(auto, unfolding(crate::specs::PacketParts::head_text))]
+fn put_head<W: Sink>(
+    sink: &mut W,
+    line: &mut LineBuffer,
+    number: u32,
+    code: &str,
+    view: &PacketView,
+    octets: usize,
+) -> Result<(), Failed>
+    requires { length view.now.whole.now ≤ octets }
+    ensures { Puts W.written W.write_faults W.last_write_fault result sink.old sink.new line.old line.new
+        (head_text number code.now view.now.id view.now.kind (length view.now.whole.now) octets) }
+{
+    put_pieces(
+        sink,
+        line,
+        &[
+            Number(u64::from(number)),
+            Text(b" "),
+            Text(code.as_bytes()),
+            Text(b" "),
+            Number(u64::from(view.id)),
+            Text(b" type "),
+            Number(u64::from(view.kind)),
+            Text(b" length "),
+            Number(view.whole.len() as u64),
+            Text(b" padding "),
+            Number((octets - view.whole.len()) as u64),
+            Text(b" "),
+        ],
+    )
+}
+
+#[tactic(auto, unfolding(crate::specs::PacketParts::line_end))]
+fn put_line_end<W: Sink>(sink: &mut W, line: &mut LineBuffer) -> Result<(), Failed>
+    ensures { Puts W.written W.write_faults W.last_write_fault result sink.old sink.new line.old line.new line_end }
+{
+    put_pieces(sink, line, &[Text(b"\n")])
+}
+
+/// Puts the line of a Request or a Response, part by part.
+#[tactic(auto, using(crate::proofs::Putting::puts_both, crate::proofs::Putting::puts_front))]
+fn put_parts<W: Sink>(
+    sink: &mut W,
+    line: &mut LineBuffer,
+    number: u32,
+    code: &str,
+    view: &PacketView,
+    octets: usize,
+) -> Result<(), Failed>
+    requires whole { length view.now.whole.now ≤ octets }
+    requires body { length view.now.body.now ≤ max_packet }
+    ensures { Puts W.written W.write_faults W.last_write_fault result sink.old sink.new line.old line.new
+        (head_text number code.now view.now.id view.now.kind (length view.now.whole.now) octets
+        ++ (note_text view.now.kind view.now.body.now ++ line_end)) }
+{
+    put_head(sink, line, number, code, view, octets)?;
+    put_note(sink, line, view)?;
+    put_line_end(sink, line)
+}
+
+/// Puts the line of a Request or a Response.
+fn put_typed<W: Sink>(
+    sink: &mut W,
+    line: &mut LineBuffer,
+    number: u32,
+    code: &str,
+    view: &PacketView,
+    octets: usize,
+) -> Result<(), Failed>
+    requires whole { length view.now.whole.now ≤ octets }
+    requires body { length view.now.body.now ≤ max_packet }
+    ensures { Puts W.written W.write_faults W.last_write_fault result sink.old sink.new line.old line.new
+        (typed_text number code.now view.now.id view.now.kind view.now.body.now (length view.now.whole.now) octets) }
+{
+    put_parts(sink, line, number, code, view, octets)
+}
+
+/// Puts the line of a Success or a Failure.
+fn put_end_line<W: Sink>(
+    sink: &mut W,
+    line: &mut LineBuffer,
+    number: u32,
+    code: &str,
+    view: &PacketView,
+    octets: usize,
+) -> Result<(), Failed>
+    requires { length view.now.whole.now ≤ octets }
+    ensures { Puts W.written W.write_faults W.last_write_fault result sink.old sink.new line.old line.new
+        (end_line_text number code.now view.now.id (length view.now.whole.now) octets) }
+{
+    put_pieces(
+        sink,
+        line,
+        &[
+            Number(u64::from(number)),
+            Text(b" "),
+            Text(code.as_bytes()),
+            Text(b" "),
+            Number(u64::from(view.id)),
+            Text(b" length "),
+            Number(view.whole.len() as u64),
+            Text(b" padding "),
+            Number((octets - view.whole.len()) as u64),
+            Text(b"\n"),
+        ],
+    )
+}
+
+/// Puts the line of octets that begin with no packet.
+fn put_malformed<W: Sink>(
+    sink: &mut W,
+    line: &mut LineBuffer,
+    number: u32,
+    cause: Cause,
+) -> Result<(), Failed>
+    ensures { Puts W.written W.write_faults W.last_write_fault result sink.old sink.new line.old line.new (malformed_text number cause) }
+{
+    put_pieces(
+        sink,
+        line,
+        &[
+            Number(u64::from(number)),
+            Text(b" malformed "),
+            Text(cause.word().as_bytes()),
+            Text(b"\n"),
+        ],
+    )
+}
+
+fn put_view<W: Sink>(
+    sink: &mut W,
+    line: &mut LineBuffer,
+    number: u32,
+    view: &PacketView,
+    octets: usize,
+) -> Result<(), Failed>
+    requires whole { length view.now.whole.now ≤ octets }
+    requires body { length view.now.body.now ≤ max_packet }
+    ensures { Puts W.written W.write_faults W.last_write_fault result sink.old sink.new line.old line.new
+        (value_text number (value_of view.now) (length view.now.whole.now) octets) }
+{
+    match view.code {
+        Code::Request => put_typed(sink, line, number, "request", view, octets),
+        Code::Response => put_typed(sink, line, number, "response", view, octets),
+        Code::Success => put_end_line(sink, line, number, "success", view, octets),
+        Code::Failure => put_end_line(sink, line, number, "failure", view, octets),
+    }
+}
+
+#[tactic(auto, unfolding(crate::specs::Packets::packet_text))]
+fn put_packet<W: Sink>(
+    sink: &mut W,
+    line: &mut LineBuffer,
+    number: u32,
+    octets: &[u8],
+) -> Result<(), Failed>
+    ensures { Puts W.written W.write_faults W.last_write_fault result sink.old sink.new line.old line.new (packet_text number octets.now) }
+{
+    match decode(octets) {
+        Ok(view) => put_view(sink, line, number, &view, octets.len()),
+        Err(cause) => put_malformed(sink, line, number, cause),
+    }
+}
+
+/// Writes what a packet is, in one line: its number, its fields, its padding and what its Type-Data
+/// says; or why it is malformed. `Failed`: a write failed, and a front of the line was appended.
+#[tactic(auto, using(crate::proofs::Putting::appends_sent, crate::proofs::Putting::appends_cut))]
+pub fn write_packet<W: Sink>(sink: &mut W, number: u32, octets: &[u8]) -> Result<(), Failed>
+    ensures { Appends W.written W.write_faults W.last_write_fault result sink.old sink.new (packet_text number octets.now) }
+{
+    let mut line = LineBuffer::new();
+    put_packet(sink, &mut line, number, octets)?;
+    send(sink, &mut line)
+}
+
+/// Writes how many packets there were, and how many of them are malformed. `Failed`: a write failed,
+/// and a front of the line was appended.
+#[tactic(auto, unfolding(crate::specs::Packets::packets_text))]
+pub fn write_packet_counts<W: Sink>(
+    sink: &mut W,
+    packets: u32,
+    malformed: u32,
+) -> Result<(), Failed>
+    ensures { Appends W.written W.write_faults W.last_write_fault result sink.old sink.new (packets_text packets malformed) }
+{
+    write_pieces(
+        sink,
+        &[
+            Text(b"packets "),
+            Number(u64::from(packets)),
+            Text(b" malformed "),
+            Number(u64::from(malformed)),
+            Text(b"\n"),
+        ],
+    )
+}

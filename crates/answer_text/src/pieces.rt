@@ -1,0 +1,174 @@
+//! Pieces of a text to a sink: each line of them is one write, and a longer one takes a write for each
+//! 1,024 octets.
+
+ghost use Rattle.std.specs.Prelude.{◌≡◌, ◌≤◌, ◌+◌, List, ℕ, [], length, decimal, OnOk};
+ghost use Rattle.hex.specs.Hex.{encode_lower};
+ghost use Rattle.answer_text.specs.Writes.{Appends, Puts};
+ghost use Rattle.answer_text.specs.Pieces.{spelled, joined, hex_text};
+
+use crate::line_buffer::LineBuffer;
+use itoa::Buffer;
+use octet_io::{Failed, LF, Sink};
+
+/// A piece of a line.
+#[derive(Clone, Copy)]
+pub enum Piece<'a> {
+    /// These octets.
+    Text(&'a [u8]),
+    /// These octets in hex, `-` where there are none.
+    Hex(&'a [u8]),
+    /// A decimal number.
+    Number(u64),
+}
+
+/// How many octets are spelled in hex at a time.
+const STRETCH: usize = 32;
+
+/// Writes octets whole, in as many writes as the sink asks for.
+fn write_whole<W: Sink>(sink: &mut W, octets: &[u8]) -> Result<(), Failed>
+    ensures { Appends W.written W.write_faults W.last_write_fault result sink.old sink.new octets.now }
+{
+    let mut rest = octets;
+    while !rest.is_empty() {
+        let count = sink.write(rest)?;
+        rest = &rest[count..];
+    }
+    Ok(())
+}
+
+/// Writes what is held of a line.
+#[tactic(auto, using(crate::proofs::Putting::puts_written, crate::proofs::Putting::puts_unwritten))]
+pub fn send<W: Sink>(sink: &mut W, line: &mut LineBuffer) -> Result<(), Failed>
+    ensures puts { Puts W.written W.write_faults W.last_write_fault result sink.old sink.new line.old line.new [] }
+    ensures sent { OnOk result (line.new ≡ []) }
+{
+    write_whole(sink, line.as_slice())?;
+    line.clear();
+    Ok(())
+}
+
+/// Writes what is held of a line, and octets for which there is room.
+#[tactic(auto, using(crate::proofs::Putting::puts_with))]
+fn send_with<W: Sink>(sink: &mut W, line: &mut LineBuffer, octets: &[u8]) -> Result<(), Failed>
+    requires { length line.old + length octets.now ≤ 1024 }
+    ensures puts { Puts W.written W.write_faults W.last_write_fault result sink.old sink.new line.old line.new octets.now }
+    ensures sent { OnOk result (line.new ≡ []) }
+{
+    line.append(octets);
+    send(sink, line)
+}
+
+/// Appends octets to a line, and writes it whenever it is full.
+fn put_octets<W: Sink>(sink: &mut W, line: &mut LineBuffer, octets: &[u8]) -> Result<(), Failed>
+    ensures { Puts W.written W.write_faults W.last_write_fault result sink.old sink.new line.old line.new octets.now }
+{
+    let mut rest = octets;
+    while rest.len() > line.room() {
+        let count = line.room();
+        send_with(sink, line, &rest[..count])?;
+        rest = &rest[count..];
+    }
+    line.append(rest);
+    Ok(())
+}
+
+/// Appends octets to a line, and writes it where they end it.
+#[tactic(auto, using(crate::proofs::Putting::puts_sent, crate::proofs::Putting::puts_front))]
+fn put_text<W: Sink>(sink: &mut W, line: &mut LineBuffer, octets: &[u8]) -> Result<(), Failed>
+    ensures { Puts W.written W.write_faults W.last_write_fault result sink.old sink.new line.old line.new octets.now }
+{
+    put_octets(sink, line, octets)?;
+    if octets.ends_with(&[LF]) {
+        send(sink, line)
+    } else {
+        Ok(())
+    }
+}
+
+/// The hex digits of a stretch of octets. They stand in the room that is given.
+fn digits_of<'a>(octets: &[u8], room: &'a mut [u8; 2 * STRETCH]) -> &'a [u8]
+    requires { length octets.now ≤ 32 }
+    ensures { result.now ≡ encode_lower octets.now }
+{
+    let digits = &mut room[..2 * octets.len()];
+    let _ = hex::encode_to_slice(octets, digits);
+    digits
+}
+
+/// Appends octets in hex to a line.
+fn put_digits<W: Sink>(sink: &mut W, line: &mut LineBuffer, octets: &[u8]) -> Result<(), Failed>
+    ensures { Puts W.written W.write_faults W.last_write_fault result sink.old sink.new line.old line.new (encode_lower octets.now) }
+{
+    let mut room = [0; 2 * STRETCH];
+    let mut rest = octets;
+    while rest.len() > 0 {
+        let count = rest.len().min(STRETCH);
+        put_octets(sink, line, digits_of(&rest[..count], &mut room))?;
+        rest = &rest[count..];
+    }
+    Ok(())
+}
+
+/// Appends octets in hex to a line, `-` where there are none.
+fn put_hex<W: Sink>(sink: &mut W, line: &mut LineBuffer, octets: &[u8]) -> Result<(), Failed>
+    ensures { Puts W.written W.write_faults W.last_write_fault result sink.old sink.new line.old line.new (hex_text octets.now) }
+{
+    if octets.is_empty() {
+        put_octets(sink, line, b"-")
+    } else {
+        put_digits(sink, line, octets)
+    }
+}
+
+/// Appends a decimal number to a line.
+pub fn put_number<W: Sink>(sink: &mut W, line: &mut LineBuffer, number: u64) -> Result<(), Failed>
+    ensures { Puts W.written W.write_faults W.last_write_fault result sink.old sink.new line.old line.new (decimal number) }
+{
+    let mut buffer = Buffer::new();
+    put_octets(sink, line, buffer.format(number).as_bytes())
+}
+
+/// Appends a piece to a line, and writes it where the piece ends it.
+fn put_piece<W: Sink>(sink: &mut W, line: &mut LineBuffer, piece: Piece) -> Result<(), Failed>
+    ensures { Puts W.written W.write_faults W.last_write_fault result sink.old sink.new line.old line.new (spelled piece.entry) }
+{
+    match piece {
+        Piece::Text(octets) => put_text(sink, line, octets),
+        Piece::Hex(octets) => put_hex(sink, line, octets),
+        Piece::Number(number) => put_number(sink, line, number),
+    }
+}
+
+/// Appends pieces to a line one after the other: the text that they make joined.
+pub fn put_pieces<W: Sink>(
+    sink: &mut W,
+    line: &mut LineBuffer,
+    pieces: &[Piece],
+) -> Result<(), Failed>
+    ensures { (text : List ℕ) → text ≡ joined pieces.now
+        → Puts W.written W.write_faults W.last_write_fault result sink.old sink.new line.old line.new text }
+{
+    for piece in pieces {
+        put_piece(sink, line, *piece)?;
+    }
+    Ok(())
+}
+
+/// Writes pieces one after the other: the text that they make joined. `Failed`: a write failed, and a
+/// front of that text was appended.
+pub fn write_pieces<W: Sink>(sink: &mut W, pieces: &[Piece]) -> Result<(), Failed>
+    ensures { (text : List ℕ) → text ≡ joined pieces.now
+        → Appends W.written W.write_faults W.last_write_fault result sink.old sink.new text }
+{
+    let mut line = LineBuffer::new();
+    put_pieces(sink, &mut line, pieces)?;
+    send(sink, &mut line)
+}
+
+/// Writes nothing.
+#[tactic(auto, using(crate::proofs::Fronts::appends_none))]
+pub fn write_nothing<W: Sink>(sink: &mut W) -> Result<(), Failed>
+    ensures { Appends W.written W.write_faults W.last_write_fault result sink.old sink.new [] }
+{
+    Ok(())
+}

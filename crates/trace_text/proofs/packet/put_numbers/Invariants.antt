@@ -1,9 +1,0 @@
-use Rattle.std.proofs.Common.{drop}
-use Rattle.trace_text.specs.Packets.{numbers_text}
-use Rattle.trace_text.proofs.Putting.{Putting}
-use Rattle.trace_text.proofs.packet.put_numbers.Given as goal
-
-abbrev pub invariant-loop-octet : goal.invariant-loop-octet
-invariant-loop-octet g l =
-    Putting g.W.Sink.written g.W.Sink.write_faults g.W.Sink.last_write_fault l.initial.sink l.sink l.initial.line l.line
-    (numbers_text l.octets) (numbers_text (drop l.octet-index l.octets))

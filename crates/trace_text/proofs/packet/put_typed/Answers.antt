@@ -1,5 +1,0 @@
-use Rattle.trace_text.proofs.PacketCuts.{typed_parts}
-use Rattle.trace_text.proofs.packet.put_typed.Goals as goal
-
-pub returns : goal.returns
-returns g c = rw (typed_parts) c.put_parts.ensures

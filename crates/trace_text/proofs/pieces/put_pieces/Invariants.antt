@@ -1,9 +1,0 @@
-use Rattle.std.proofs.Common.{drop}
-use Rattle.trace_text.specs.Pieces.{joined}
-use Rattle.trace_text.proofs.Putting.{Putting}
-use Rattle.trace_text.proofs.pieces.put_pieces.Given as goal
-
-abbrev pub invariant-loop-piece : goal.invariant-loop-piece
-invariant-loop-piece g l =
-    Putting g.W.Sink.written g.W.Sink.write_faults g.W.Sink.last_write_fault l.initial.sink l.sink l.initial.line l.line
-    (joined l.pieces) (joined (drop l.piece-index l.pieces))
