@@ -4,12 +4,16 @@ pub mod PacketCuts
 pub mod Fronts
 -- Writing a line part by part, of which the last octets are held.
 pub mod Putting
+-- The states of a path, one by one.
+pub mod States
 -- Looking for a line in a text, octet by octet.
 pub mod Scanning
 -- Texts of whole lines, none of which begins with certain octets.
 pub mod Plain
 -- The words that stand within a line.
 pub mod PlainWords
+-- Which lines of an end are plain.
+pub mod PlainPaths
 -- No line of `decode` or `keys` begins as the line of the verdict does.
 pub mod PlainAnswers
 -- No line of `check` begins as the line of the verdict does.

@@ -1,4 +1,5 @@
-//! The texts that the program writes of packets, keys and findings, and the lines that every command writes.
+//! The texts that the program writes of packets, keys, findings and the states that an end entered, and the
+//! lines that every command writes.
 //! Each call appends its text to a sink, a line in one write, and takes no memory. It answers `Failed`
 //! exactly where a write of the sink failed; a front of the text was then appended.
 #![tactic(auto)]
@@ -8,6 +9,7 @@ mod keys;
 mod line_buffer;
 mod lines;
 mod packet;
+mod path;
 mod pieces;
 
 pub use finding::{write_finding, write_finding_counts};
@@ -15,4 +17,5 @@ pub use keys::write_key_line;
 pub use line_buffer::LineBuffer;
 pub use lines::{write_line, write_refused};
 pub use packet::{write_packet, write_packet_counts};
-pub use pieces::{Piece, put_number, put_pieces, send, write_nothing, write_pieces};
+pub use path::{put_path, write_cause, write_states};
+pub use pieces::{Piece, put_pieces, send, write_nothing, write_pieces};

@@ -18,10 +18,10 @@ use Rattle.end_pipe.specs.EndReading as item
 use Rattle.end_pipe.specs.EndRun.{EndNow, EndOutcome, EndTold, peer_begun, peer_step, server_starts, server_step, server_unstarted}
 use Rattle.end_pipe.specs.declared.input.EndInput.{EndInput}
 use Rattle.answer_text.specs.Pieces.{hex_text}
-use Rattle.trace_text.specs.Run.{cause_text, path_text, states_line}
+use Rattle.answer_text.specs.Paths.{cause_text, path_text, states_line}
 use Rattle.answer_text.proofs.Plain.{plain, join, through, decimal_first}
 use Rattle.answer_text.proofs.PlainWords.{hex_within, state_within}
-use Rattle.trace_text.proofs.PlainTexts.{cause_plain, path_plain}
+use Rattle.answer_text.proofs.PlainPaths.{cause_plain, path_plain}
 use Rattle.answer_text.proofs.PlainAnswers.{begins_result, no_result}
 use Rattle.command_driver.specs.Commands.{Took, goes, refuses}
 use Rattle.command_driver.specs.declared.status.Status.TheVariants as status

@@ -7,7 +7,7 @@ use Rattle.eap_packet.specs.declared.state.State.{State}
 use Rattle.end_pipe.specs.EndRun.{EndTold}
 use Rattle.login_keys.specs.KeyName.{key_name_of}
 use Rattle.answer_text.specs.Pieces.{hex_text}
-use Rattle.trace_text.specs.Run.{cause_text, states_line}
+use Rattle.answer_text.specs.Paths.{cause_text, states_line}
 
 -- the line of the packet that is sent, if one is
 abbrev pub send_text : ℕ → Option (List ℕ) → List ℕ

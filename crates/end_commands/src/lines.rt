@@ -8,13 +8,12 @@ ghost use Rattle.end_pipe.specs.EndRun.{told_with};
 ghost use Rattle.end_commands.specs.EndText.{acted_text, keys_line, keys_text, last_text, send_text, skip_line, told_text};
 
 use answer_text::Piece::{Hex, Number, Text};
-use answer_text::{write_nothing, write_pieces};
+use answer_text::{write_cause, write_nothing, write_pieces, write_states};
 use eap_method::Report;
 use eap_packet::State;
 use end_pipe::EndStep;
 use login_keys::key_name;
 use octet_io::{Failed, Sink};
-use trace_text::{write_cause, write_states};
 
 /// Writes the lines of what an end does at the input of this number, 0 for its start; the packet that it sends, if it
 /// sends one, has these octets.

@@ -1,5 +1,3 @@
--- The states of a path, one by one.
-pub mod States
 -- Which texts are plain: each of their lines begins with a number, or with a word of its own.
 pub mod PlainTexts
 -- Which lines of the end tell the verdicts.

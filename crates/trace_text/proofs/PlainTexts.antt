@@ -8,8 +8,7 @@ use Rattle.login_setup.specs.declared.setup.Party.{Party}
 use Rattle.login_setup.specs.declared.setup.Party.TheVariants as party
 use Rattle.login_setup.specs.declared.setup.Port.{Port}
 use Rattle.login_setup.specs.declared.setup.Port.TheVariants as port
-use Rattle.eap_packet.specs.Words.{cause_word, state_word}
-use Rattle.eap_packet.specs.declared.cause.Cause.{Cause}
+use Rattle.eap_packet.specs.Words.{state_word}
 use Rattle.eap_packet.specs.declared.state.State.{State}
 use Rattle.eap_world.specs.declared.told.Counts.{Counts}
 use Rattle.eap_world.specs.declared.told.Named.{Named}
@@ -18,9 +17,11 @@ use Rattle.eap_world.specs.declared.told.Skip.{Skip}
 use Rattle.eap_world.specs.declared.told.Skip.TheVariants as skip
 use Rattle.eap_world.specs.declared.told.Told.{Told}
 use Rattle.login_keys.specs.KeyName.{key_name_of}
+use Rattle.answer_text.specs.Paths.{path_text, cause_text}
 use Rattle.answer_text.specs.Pieces.{hex_text}
-use Rattle.trace_text.specs.Run.{party_word, port_word, skip_word, code_word, type_text, states_text, path_text, party_text, cause_text, sent_text, octets_line, octets_text, keys_line, keys_text, shown_text, acted_text, told_by, told_text, peer_start_text, server_start_text, start_text, peer_state_line, pass_state_line, server_state_line, stands_text, counts_text}
-use Rattle.answer_text.proofs.PlainWords.{cause_within, state_within, either_within, hex_within}
+use Rattle.trace_text.specs.Run.{party_word, port_word, skip_word, code_word, type_text, party_text, sent_text, octets_line, octets_text, keys_line, keys_text, shown_text, acted_text, told_by, told_text, peer_start_text, server_start_text, start_text, peer_state_line, pass_state_line, server_state_line, stands_text, counts_text}
+use Rattle.answer_text.proofs.PlainPaths.{path_plain, cause_plain}
+use Rattle.answer_text.proofs.PlainWords.{state_within, either_within, hex_within}
 use Rattle.answer_text.proofs.Plain.{is_within, plain, join, through, within_join, decimal_within, decimal_first, numbered}
 
 -- ---- words
@@ -50,22 +51,10 @@ type_within octets =
 -- ---- the lines of events
 
 module _ (bad : ℕ → Bool) (no_digit : (o : ℕ) → 48 ≤ o → o ≤ 57 → bad o ≡ false) where
-  states_plain : (path : List State) → plain bad false (states_text path) ≡ true
-  states_plain [] = refl
-  states_plain (s ∷ rest) = through bad (state_word s ++ []) (states_text rest) (within_join (state_word s) [] (state_within s) refl) (states_plain rest)
-
-  pub path_plain : (path : List State) → plain bad false (path_text path) ≡ true
-  path_plain [] = refl
-  path_plain (s ∷ rest) = states_plain (s ∷ rest)
-
   party_plain : (event : ℕ) (p : Option Party) (path : List State) → plain bad true (party_text event p path) ≡ true
   party_plain event None path = refl
   party_plain event (Some p) path =
-      numbered bad no_digit event (codes " " ++ (party_word p ++ [])) (path_text path) (within_join (party_word p) [] (party_within p) refl) (path_plain path)
-
-  pub cause_plain : (event : ℕ) (c : Option Cause) → plain bad true (cause_text event c) ≡ true
-  cause_plain event None = refl
-  cause_plain event (Some c) = decimal_first bad no_digit event _ (through bad (cause_word c) _ (cause_within c) refl)
+      numbered bad no_digit event (codes " " ++ (party_word p ++ [])) (path_text path) (within_join (party_word p) [] (party_within p) refl) (path_plain bad no_digit path)
 
   sent_plain : (event : ℕ) (octets : List ℕ) (s : Option SentPacket) → plain bad true (sent_text event octets s) ≡ true
   sent_plain event octets None = refl
@@ -106,7 +95,7 @@ module _ (bad : ℕ → Bool) (no_digit : (o : ℕ) → 48 ≤ o → o ≤ 57 �
   acted_plain : (names : Bool) (octets : List ℕ) (told : Told) → plain bad true (acted_text names octets told) ≡ true
   acted_plain names octets told =
       join bad (party_text told.event told.party told.path) _ true (party_plain told.event told.party told.path)
-      (join bad (cause_text told.event told.cause) (shown_text names octets told) true (cause_plain told.event told.cause) (shown_plain names octets told))
+      (join bad (cause_text told.event told.cause) (shown_text names octets told) true (cause_plain bad no_digit told.event told.cause) (shown_plain names octets told))
 
   told_by_plain : (names : Bool) (octets : List ℕ) (told : Told) (s : Option Skip) → plain bad true (told_by names octets told s) ≡ true
   told_by_plain names octets told None = acted_plain names octets told

@@ -7,8 +7,7 @@ use Rattle.login_setup.specs.declared.setup.Party.{Party}
 use Rattle.login_setup.specs.declared.setup.Party.TheVariants as party
 use Rattle.login_setup.specs.declared.setup.Port.{Port}
 use Rattle.login_setup.specs.declared.setup.Port.TheVariants as port
-use Rattle.eap_packet.specs.Words.{cause_word, state_word}
-use Rattle.eap_packet.specs.declared.cause.Cause.{Cause}
+use Rattle.eap_packet.specs.Words.{state_word}
 use Rattle.eap_packet.specs.declared.state.State.{State}
 use Rattle.eap_world.specs.Book.{tags_verdict}
 use Rattle.eap_world.specs.Judgement.{verdict_of}
@@ -24,6 +23,7 @@ use Rattle.eap_world.specs.declared.told.Told.{Told}
 use Rattle.eap_world.specs.declared.verdict.Verdict.{Verdict}
 use Rattle.eap_world.specs.declared.verdict.Verdict.TheVariants as verdict
 use Rattle.login_keys.specs.KeyName.{key_name_of}
+use Rattle.answer_text.specs.Paths.{path_text, cause_text}
 use Rattle.answer_text.specs.Pieces.{hex_text}
 
 abbrev pub party_word : Party → List ℕ
@@ -57,31 +57,10 @@ code_word code =
 abbrev pub type_text : List ℕ → List ℕ
 type_text octets = if nat_le (slice_index octets 0) 2 then concat (codes " type " ∷ decimal (slice_index octets 4) ∷ []) else []
 
-abbrev pub state_text : State → List ℕ
-state_text state = concat (codes " " ∷ state_word state ∷ [])
-
--- the states of a path, each after a space, and the end of the line
-abbrev pub states_text : List State → List ℕ
-states_text [] = codes "\n"
-states_text (s ∷ rest) = state_text s ++ states_text rest
-
-abbrev pub path_text : List State → List ℕ
-path_text [] = codes " -\n"
-path_text (s ∷ rest) = states_text (s ∷ rest)
-
 -- the line of the party that acted, with the states that it entered
 abbrev pub party_text : ℕ → Option Party → List State → List ℕ
 party_text event None path = []
 party_text event (Some party) path = concat (decimal event ∷ codes " " ∷ party_word party ∷ []) ++ path_text path
-
--- the states of a path behind a number
-abbrev pub states_line : ℕ → List State → List ℕ
-states_line number path = decimal number ++ path_text path
-
--- the line of a discard
-abbrev pub cause_text : ℕ → Option Cause → List ℕ
-cause_text event None = []
-cause_text event (Some cause) = concat (decimal event ∷ codes " cause " ∷ cause_word cause ∷ codes "\n" ∷ [])
 
 -- the line of a packet that was sent, of these octets
 abbrev pub sent_text : ℕ → List ℕ → Option SentPacket → List ℕ

@@ -5,4 +5,4 @@
 
 mod run;
 
-pub use run::{write_cause, write_end, write_start, write_states, write_told};
+pub use run::{write_end, write_start, write_told};

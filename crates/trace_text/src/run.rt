@@ -5,16 +5,18 @@ ghost use Rattle.std.specs.Prelude.{◌≡◌, Some, length, slice_index, [], �
 ghost use Rattle.std.specs.List.{concat};
 ghost use Rattle.answer_text.specs.Writes.{Appends, Puts};
 ghost use Rattle.answer_text.specs.Pieces.{hex_text};
-ghost use Rattle.trace_text.specs.Run.{state_text, party_word, port_word, skip_word, code_word, states_text, path_text, party_text, states_line};
-ghost use Rattle.trace_text.specs.Run.{cause_text, sent_text, octets_line, octets_text, keys_line, keys_text, shown_text, acted_text};
+ghost use Rattle.trace_text.specs.Run.{party_word, port_word, skip_word, code_word, party_text};
+ghost use Rattle.trace_text.specs.Run.{sent_text, octets_line, octets_text, keys_line, keys_text, shown_text, acted_text};
 ghost use Rattle.trace_text.specs.Run.{told_text, peer_start_text, server_start_text, start_text, stands_text, counts_text, fresh_text, fresh_told, tags_text, verdict_word};
 ghost use Rattle.trace_text.specs.Run.{result_text, end_text_of, end_text, peer_state_line, pass_state_line, server_state_line};
 ghost use Rattle.eap_world.specs.World.{now_of};
 
 use answer_text::Piece::{Hex, Number, Text};
-use answer_text::{LineBuffer, put_number, put_pieces, send, write_nothing, write_pieces};
+use answer_text::{
+    LineBuffer, put_path, put_pieces, send, write_cause, write_nothing, write_pieces,
+};
 use eap_method::{PeerMethod, ServerMethod};
-use eap_packet::{Cause, State};
+use eap_packet::State;
 use eap_world::{Counts, Named, SentPacket, Skip, TagsVerdict, Told, Verdict, World};
 use login_keys::key_name;
 use login_setup::{Mode, Party, Port};
@@ -86,34 +88,6 @@ fn octet_at(octets: &[u8], place: usize) -> u8
     }
 }
 
-/// Puts a state of a path, after a space.
-fn put_state<W: Sink>(sink: &mut W, line: &mut LineBuffer, state: State) -> Result<(), Failed>
-    ensures { Puts W.written W.write_faults W.last_write_fault result sink.old sink.new line.old line.new (state_text state) }
-{
-    put_pieces(sink, line, &[Text(b" "), Text(state.word().as_bytes())])
-}
-
-/// Puts the states of a path, each after a space, and the end of the line.
-fn put_states<W: Sink>(sink: &mut W, line: &mut LineBuffer, states: &[State]) -> Result<(), Failed>
-    ensures { Puts W.written W.write_faults W.last_write_fault result sink.old sink.new line.old line.new (states_text states.now) }
-{
-    for state in states {
-        put_state(sink, line, *state)?;
-    }
-    put_pieces(sink, line, &[Text(b"\n")])
-}
-
-/// Puts the states of a path and the end of the line, `-` for no states.
-fn put_path<W: Sink>(sink: &mut W, line: &mut LineBuffer, states: &[State]) -> Result<(), Failed>
-    ensures { Puts W.written W.write_faults W.last_write_fault result sink.old sink.new line.old line.new (path_text states.now) }
-{
-    if states.is_empty() {
-        put_pieces(sink, line, &[Text(b" -\n")])
-    } else {
-        put_states(sink, line, states)
-    }
-}
-
 /// Puts the event's number and the party.
 fn put_head<W: Sink>(
     sink: &mut W,
@@ -176,49 +150,6 @@ fn write_party<W: Sink>(
     match party {
         None => write_nothing(sink),
         Some(party) => write_party_line(sink, event, party, path),
-    }
-}
-
-/// Puts a number and the states of a path, and the end of the line.
-#[tactic(auto, using(answer_text::proofs::Putting::puts_both, answer_text::proofs::Putting::puts_front))]
-fn put_states_line<W: Sink>(
-    sink: &mut W,
-    line: &mut LineBuffer,
-    number: u32,
-    path: &[State],
-) -> Result<(), Failed>
-    ensures { Puts W.written W.write_faults W.last_write_fault result sink.old sink.new line.old line.new (states_line number path.now) }
-{
-    put_number(sink, line, u64::from(number))?;
-    put_path(sink, line, path)
-}
-
-/// Writes a number and the states of a path in one line, `-` for no states. `Failed`: a write failed, and a front of the
-/// line was appended.
-#[tactic(auto, using(answer_text::proofs::Putting::appends_sent, answer_text::proofs::Putting::appends_cut))]
-pub fn write_states<W: Sink>(sink: &mut W, number: u32, path: &[State]) -> Result<(), Failed>
-    ensures { Appends W.written W.write_faults W.last_write_fault result sink.old sink.new (states_line number path.now) }
-{
-    let mut line = LineBuffer::new();
-    put_states_line(sink, &mut line, number, path)?;
-    send(sink, &mut line)
-}
-
-/// Writes the line of a discard, if there was one. `Failed`: a write failed, and a front of the line was appended.
-pub fn write_cause<W: Sink>(sink: &mut W, event: u32, cause: Option<Cause>) -> Result<(), Failed>
-    ensures { Appends W.written W.write_faults W.last_write_fault result sink.old sink.new (cause_text event cause) }
-{
-    match cause {
-        None => write_nothing(sink),
-        Some(cause) => write_pieces(
-            sink,
-            &[
-                Number(u64::from(event)),
-                Text(b" cause "),
-                Text(cause.word().as_bytes()),
-                Text(b"\n"),
-            ],
-        ),
     }
 }
 

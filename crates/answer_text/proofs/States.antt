@@ -1,7 +1,7 @@
 -- The states of a path, one by one.
 use Rattle.std.proofs.Common.{◌≡◌, ℕ, ◌+◌, ◌<◌, List, ◌++◌, refl, length, drop, get_or, add-one, drop-cons}
 use Rattle.eap_packet.specs.declared.state.State.{State}
-use Rattle.trace_text.specs.Run.{state_text, states_text}
+use Rattle.answer_text.specs.Paths.{state_text, states_text}
 
 pub states_text_drop : (states : List State) (i : ℕ) (d : State) → i < length states
     → states_text (drop i states) ≡ state_text (get_or states i d) ++ states_text (drop (i + 1) states)

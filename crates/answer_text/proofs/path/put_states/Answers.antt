@@ -1,8 +1,8 @@
 use Rattle.std.proofs.Common.{◌≡◌, ◌≤◌, [], arith, refl, drop, length}
 use Rattle.std.proofs.Math.ListN.{drop_of_length-le}
 use Rattle.answer_text.proofs.Putting.{putting_begins, putting_next, putting_cut, putting_ends}
-use Rattle.trace_text.proofs.States.{states_text_drop}
-use Rattle.trace_text.proofs.run.put_states.Goals as goal
+use Rattle.answer_text.proofs.States.{states_text_drop}
+use Rattle.answer_text.proofs.path.put_states.Goals as goal
 
 pub loop-state-init : goal.loop-state-init
 loop-state-init g c = putting_begins _ _ _ _ _ _

@@ -1,7 +1,7 @@
 use Rattle.std.proofs.Common.{drop}
-use Rattle.trace_text.specs.Run.{states_text}
+use Rattle.answer_text.specs.Paths.{states_text}
 use Rattle.answer_text.proofs.Putting.{Putting}
-use Rattle.trace_text.proofs.run.put_states.Given as goal
+use Rattle.answer_text.proofs.path.put_states.Given as goal
 
 abbrev pub invariant-loop-state : goal.invariant-loop-state
 invariant-loop-state g l =
