@@ -53,9 +53,38 @@ has_line "tools/wrong: high: 1 of 1 refused; crate 1 of 1, 0 min" "wrong"
 has_line "wrong: 1 passed, 0 failed" "wrong"
 wrong_run 0 status
 has_line "high: 1 of 1 edits refused on $(date +%Y-%m-%d) by rattle-kit-0 logic 0, of today's sources" "wrong status"
+wrong_run 0 --stale
+has_line "wrong: 0 passed, 0 failed" "wrong --stale of today's sources"
 echo 'a' >>"$wrong/crates/low/src/lib.rt"
 wrong_run 0 status
 has_line "high: 1 of 1 edits refused on $(date +%Y-%m-%d) by rattle-kit-0 logic 0, of other sources" "wrong status"
+has_line "edits: 0 tried on today's sources; 1 on other sources alone, of 1 crates; 0 never, 0 crates have no row; besides 1 of the gate" "wrong status"
+wrong_run 0 --stale
+has_line "wrong: 1 passed, 0 failed" "wrong --stale of other sources"
+wrong_run 0 status
+has_line "edits: 1 tried on today's sources; 0 on other sources alone, of 0 crates; 0 never, 0 crates have no row; besides 1 of the gate" "wrong status"
+
+# rows of other sources, with fewer edits than there are today and of a crate that is no more; and a crate without a row.
+table=$wrong/wrong/refused.txt edit=$wrong/wrong/high/sum__again.edit
+cp "$table" "$work/table"
+cp "$wrong/wrong/high/sum__by_clause.edit" "$edit"
+printf '%s wrong 1 1 2001-02-03 0123456789abcdef rattle-kit-0 logic 0\n' high gone >"$table"
+wrong_run 0 status
+has_line "high: 1 of 1 edits refused on 2001-02-03 by rattle-kit-0 logic 0, of other sources; 1 more were never tried" "wrong status"
+has_line "gone: a row of no crate" "wrong status"
+has_line "edits: 0 tried on today's sources; 1 on other sources alone, of 1 crates; 1 never, 0 crates have no row; besides 1 of the gate" "wrong status"
+mkdir "$wrong/wrong/low"
+cp "$edit" "$wrong/wrong/low"
+wrong_run 0 --stale low
+has_line "tools/wrong: low: 1 of 1 refused; crate 1 of 1, 0 min" "wrong --stale of a crate without a row"
+wrong_run 0 --stale
+has_line "tools/wrong: high: 2 of 2 refused; crate 1 of 1, 0 min" "wrong --stale of a row of other sources"
+rm -r "$wrong/wrong/low" "$edit"
+# a row that says that an edit was taken.
+cp "$work/table" "$table"
+sed -i 's/ wrong 1 1 / wrong 1 0 /' "$table"
+wrong_run 0 --stale
+has_line "wrong: 1 passed, 0 failed" "wrong --stale of an edit that was taken"
 wrong_run 0 --all -j 2 high
 has_line "wrong: 2 passed, 0 failed" "wrong --all"
 wrong_run 1 none
@@ -110,8 +139,18 @@ wrong_tells wrong/high/sum__by_gate.edit "${front}old: a + b\nnew: a\n" \
     "wrong/high/sum__by_gate.edit: an edit of this name stands in must-fail/ too"
 rm -rf "$wrong"
 cp -r "$work/wrong-whole" "$wrong"
-for number in 1 2 3; do
-    printf '%b' "${front}old: a + b\nnew: a\n" >"$wrong/crates/high/must-fail/sum__$number.edit"
+cp "$wrong/wrong/high/sum__by_clause.edit" "$wrong/crates/high/must-fail/sum__too.edit"
+wrong_run 1 --texts
+has_line "tools/wrong: crates/high/must-fail has 2 edits, and the gate tries at most one of a crate: move the others to wrong/high" "wrong --texts"
+rm "$wrong/crates/high/must-fail/sum__too.edit"
+# (eleven more crates with an edit each are as many as may be, and with a twelfth they are too many)
+for number in 1 2 3 4 5 6 7 8 9 10 11 12; do
+    echo "more$number:" >>"$wrong/crates.txt"
+    cp -r "$wrong/crates/high" "$wrong/crates/more$number"
+    if [ "$number" = 11 ]; then
+        wrong_run 0 --texts
+        has_line "edits: 13 passed, 0 failed" "wrong --texts"
+    fi
 done
 wrong_run 1 --texts
-has_line "tools/wrong: crates/high/must-fail has 4 edits, and at most 3 are tried by the gate: move the others to wrong/high" "wrong --texts"
+has_line "tools/wrong: crates/*/must-fail have 13 edits, and the gate tries at most 12: move the others to wrong/" "wrong --texts"
