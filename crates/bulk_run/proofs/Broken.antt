@@ -2,11 +2,11 @@
 use Rattle.std.proofs.Common.{◌≡◌, ◌≤◌, ℕ, zero, suc, ◌+◌, ◌*◌, List, length, refl, arith, rules, inl}
 use Rattle.std.proofs.lemmas.List.Elements.{All-nil}
 use Rattle.world_laws.specs.Agreement.{IsWhole, AgreesWhereHonest}
-use Rattle.eap_world.specs.Book.{tags_verdict}
+use Rattle.tag_book.specs.Book.{tags_verdict}
 use Rattle.eap_world.specs.Judgement.{verdict_of}
 use Rattle.eap_world.specs.World.{WorldNow, one_if}
-use Rattle.eap_world.specs.declared.book.TagsVerdict.{TagsVerdict}
-use Rattle.eap_world.specs.declared.book.TagsVerdict.TheVariants as tags
+use Rattle.tag_book.specs.declared.book.TagsVerdict.{TagsVerdict}
+use Rattle.tag_book.specs.declared.book.TagsVerdict.TheVariants as tags
 use Rattle.eap_world.specs.declared.verdict.Verdict.{Verdict}
 use Rattle.eap_world.specs.declared.verdict.Verdict.TheVariants as verdict
 use Rattle.world_laws.proofs.BeginsOnce.{begins_once}

@@ -3,11 +3,11 @@ use Rattle.std.specs.Prelude.{◌≡◌, ◌≤◌, ℕ, zero, suc, ◌+◌, ◌
 use Rattle.login_setup.specs.declared.event.Event.{Event}
 use Rattle.login_setup.specs.declared.setup.Setup.{Setup}
 use Rattle.eap_world.specs.Run.{run_of}
-use Rattle.eap_world.specs.Book.{tags_verdict}
+use Rattle.tag_book.specs.Book.{tags_verdict}
 use Rattle.eap_world.specs.Judgement.{verdict_of}
 use Rattle.eap_world.specs.World.{WorldNow, one_if}
-use Rattle.eap_world.specs.declared.book.TagsVerdict.{TagsVerdict}
-use Rattle.eap_world.specs.declared.book.TagsVerdict.TheVariants as tags
+use Rattle.tag_book.specs.declared.book.TagsVerdict.{TagsVerdict}
+use Rattle.tag_book.specs.declared.book.TagsVerdict.TheVariants as tags
 use Rattle.eap_world.specs.declared.verdict.Verdict.{Verdict}
 use Rattle.eap_world.specs.declared.verdict.Verdict.TheVariants as verdict
 use Rattle.bulk_run.specs.Conversation.{setup_at, deliveries, chances}

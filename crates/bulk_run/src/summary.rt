@@ -6,7 +6,8 @@ ghost use Rattle.bulk_run.specs.Going.{AreFew};
 ghost use Rattle.bulk_run.specs.Summing.{counts_of, nothing_counted, plus, IsAtMost};
 
 use eap_method::{PeerMethod, ServerMethod};
-use eap_world::{TagsVerdict, Verdict, World};
+use eap_world::{Verdict, World};
+use tag_book::TagsVerdict;
 
 /// How many conversations there were, and what they came to, added up.
 #[derive(Clone, Copy, PartialEq, Eq, Debug)]

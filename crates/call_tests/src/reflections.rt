@@ -3,12 +3,12 @@
 
 use crate::call::ObjectWorld;
 use crate::worlds::{begun, step};
-use eap_world::TagsVerdict;
 use login_setup::Event;
 use scenario_text::{Item, ScenarioReader};
 use std::alloc::Global;
 use std::process::Abort;
 use std::test::Fail;
+use tag_book::TagsVerdict;
 
 /// A peer, and a server that bars it by EAP-GPSK alone.
 const SETTINGS: &str = "\

@@ -1,7 +1,5 @@
 -- The run goes on event by event.
 pub mod EventByEvent
--- The book of tags, entry by entry.
-pub mod FirstBroken
 -- The nonces that are left, as they are kept, and whether the first two conversations differ.
 pub mod Kept
 -- Octets are heard from their end, place by place.

@@ -1,4 +1,3 @@
-pub mod Book
 pub mod Sent
 pub mod Store
 pub mod Conversations

@@ -34,17 +34,17 @@ use Rattle.pass_through.specs.Inputs.{PassInput, pass_takes}
 use Rattle.pass_through.specs.PassTable as passes
 use Rattle.pass_through.specs.PassTable.{Side, PassStep, pass_made, is_over, has_timer, is_aaa_idle}
 use Rattle.pass_through.specs.declared.variables.PassVariables.{PassVariables}
-use Rattle.eap_world.specs.Book.{booked}
+use Rattle.tag_book.specs.Book.{booked}
 use Rattle.eap_world.specs.Conversations.{Conversations, conversations_made, heard_by, peer_begins, server_begins}
 use Rattle.eap_world.specs.Sent.{Sent, packet_numbered}
 use Rattle.eap_world.specs.declared.act.Action as brief_action
 use Rattle.eap_world.specs.declared.act.Action.TheVariants as brief
 use Rattle.eap_world.specs.declared.act.Did as brief_did
 use Rattle.eap_world.specs.declared.act.Machines.{Machines}
-use Rattle.eap_world.specs.declared.book.Entry.{Entry}
+use Rattle.tag_book.specs.declared.book.Entry.{Entry}
 use Rattle.eap_world.specs.declared.conversations.Waiting.{Waiting}
-use Rattle.eap_world.specs.declared.book.End.{End}
-use Rattle.eap_world.specs.declared.book.End.TheVariants as end
+use Rattle.tag_book.specs.declared.book.End.{End}
+use Rattle.tag_book.specs.declared.book.End.TheVariants as end
 use Rattle.eap_world.specs.declared.told.Counts.{Counts}
 use Rattle.eap_world.specs.declared.told.Named.{Named}
 use Rattle.eap_world.specs.declared.told.SentPacket.{SentPacket}

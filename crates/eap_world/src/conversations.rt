@@ -7,12 +7,12 @@ ghost use Rattle.std.specs.Str.{bytes_eq};
 ghost use Rattle.eap_world.specs.Conversations.{front, is_new, is_used};
 ghost use Rattle.eap_world.specs.Kept.{fronts_differ};
 
-use crate::book::End;
 use crate::nonces_left::NoncesLeft;
 use arrayvec::ArrayVec;
 use eap_base::Nonce;
 use login_setup::Later;
 use std::marker::Model;
+use tag_book::End;
 
 /// The most conversations of both ends.
 const MAX_CONVERSATIONS: usize = 32;

@@ -4,7 +4,6 @@
 #![tactic(auto)]
 
 mod act;
-mod book;
 mod conversations;
 mod nonces_left;
 mod store;
@@ -13,7 +12,6 @@ mod verdict;
 mod world;
 
 pub use act::{Action, Did, Machines};
-pub use book::{End, Entry, Makers, TagsVerdict, Use};
 pub use conversations::{Begun, Conversations, Waiting};
 pub use store::{Slot, Store, Stored};
 pub use told::{Counts, Named, SentPacket, Skip, Told};

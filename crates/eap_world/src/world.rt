@@ -12,7 +12,6 @@ ghost use Rattle.eap_world.specs.World.{Parties, first_report, held_before, held
 ghost use Rattle.eap_world.specs.Sent.{Sent};
 
 use crate::act::{Action, Did, Machines, act, start};
-use crate::book::{End, Entry, Makers, TagsVerdict, book_tags, judge_tags};
 use crate::conversations::Conversations;
 use crate::store::Store;
 use crate::told::{Counts, Named, SentPacket, Skip, Told};
@@ -26,6 +25,7 @@ use peer_machine::PeerMachine;
 use server_machine::{Role, ServerMachine};
 use std::alloc::Global;
 use std::marker::Model;
+use tag_book::{End, Entry, Makers, TagsVerdict, book_tags, judge_tags};
 use thiserror::Error;
 
 /// Want of memory, the one error of `World::start` and `World::step`.
@@ -102,7 +102,7 @@ impl<P: PeerMethod, S: ServerMethod> World<P, S> {
     ghost use Rattle.eap_method.specs.Peer.{peer_kinds, have_each};
     ghost use Rattle.eap_method.specs.Server.{server_kinds};
     ghost use Rattle.eap_world.specs.Run.{BeginsRun, GoesOn};
-    ghost use Rattle.eap_world.specs.Book.{tags_verdict, tags_verdict_either};
+    ghost use Rattle.tag_book.specs.Book.{tags_verdict, tags_verdict_either};
     ghost use Rattle.eap_world.specs.Judgement.{verdict_of};
     ghost use Rattle.eap_world.specs.World.{HasObjects, KeepObjects, KeepsObjects, NamesAlike, Tells, world_made, world_start, world_step, now_of};
     ghost use Rattle.eap_world.specs.World.{octets_numbered, octets_of_sent, pass_state, state_of};

@@ -12,9 +12,9 @@ use Rattle.peer_machine.specs.PeerTable.{PeerNow, peer_reports}
 use Rattle.server_machine.specs.ServerTable.{ServerNow, server_reports}
 use Rattle.eap_world.specs.Run.{run_of}
 use Rattle.world_laws.specs.Agreement.{IsWhole}
-use Rattle.eap_world.specs.Book.{tags_verdict_either}
+use Rattle.tag_book.specs.Book.{tags_verdict_either}
 use Rattle.eap_world.specs.Judgement.{is_success, judged}
-use Rattle.eap_world.specs.declared.book.TagsVerdict.TheVariants.{Honest}
+use Rattle.tag_book.specs.declared.book.TagsVerdict.TheVariants.{Honest}
 use Rattle.eap_world.specs.World.{WorldNow}
 use Rattle.end_pipe.specs.EndRun.{end_after, peer_begun, peer_step, server_begun, server_step}
 use Rattle.end_pipe.specs.Inputs.{is_of_peer, is_of_server}

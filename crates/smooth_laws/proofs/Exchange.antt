@@ -19,7 +19,7 @@ use Rattle.server_machine.specs.Expanded.{server_hears}
 use Rattle.pass_through.specs.PassTable.{unpadded}
 use Rattle.pass_through.specs.declared.variables.PassVariables.{PassVariables}
 use Rattle.eap_world.specs.World.{WorldNow}
-use Rattle.eap_world.specs.declared.book.End.TheVariants as end
+use Rattle.tag_book.specs.declared.book.End.TheVariants as end
 use Rattle.smooth_laws.proofs.Moves.{Stage, delivered, packet_to, peer_moves, server_moves, hands_to_server, hands_to_peer}
 use Rattle.smooth_laws.proofs.Packets.{success_whole, success_read}
 use Rattle.smooth_laws.proofs.PassSide.{pass_at, hands_response, hands_request, hands_success}

@@ -25,15 +25,15 @@ use Rattle.pass_through.specs.Inputs as pass_inputs
 use Rattle.pass_through.specs.PassTable as passes
 use Rattle.pass_through.specs.PassTable.{PassAnswer, pass_from_peer, pass_from_backend}
 use Rattle.pass_through.specs.declared.variables.PassVariables.{PassVariables}
-use Rattle.eap_world.specs.Book.{first_broken}
+use Rattle.tag_book.specs.Book.{first_broken}
 use Rattle.eap_world.specs.Conversations.{Conversations}
 use Rattle.eap_world.specs.Judgement.{is_success}
 use Rattle.eap_world.specs.Sent.{Sent, packet_numbered}
 use Rattle.eap_world.specs.World.{WorldNow, Parties, Acted, Called, acted, act, call_at, call_with, called, called_unless, did_by, did_pass, first_skip}
 use Rattle.eap_world.specs.World.{WorldOutcome, conversed, conversed_by, conversed_unless, goes_to, held_before, is_absent, octets_of, packet_skips, run_after, skipped, world_step}
-use Rattle.eap_world.specs.declared.book.End.{End}
-use Rattle.eap_world.specs.declared.book.End.TheVariants as end
-use Rattle.eap_world.specs.declared.book.Makers.TheVariants.{Other}
+use Rattle.tag_book.specs.declared.book.End.{End}
+use Rattle.tag_book.specs.declared.book.End.TheVariants as end
+use Rattle.tag_book.specs.declared.book.Makers.TheVariants.{Other}
 use Rattle.eap_world.specs.declared.told.Skip.{Skip}
 use Rattle.eap_world.specs.declared.told.Skip.TheVariants.{NoParty, Unsent, Place}
 use Rattle.world_laws.proofs.Acting.{counted_acted}

@@ -18,9 +18,9 @@ use Rattle.server_machine.specs.declared.variables.Progress.TheVariants as progr
 use Rattle.server_machine.specs.declared.variables.Role.TheVariants as role
 use Rattle.pass_through.specs.PassTable.{pass_made, pass_start}
 use Rattle.pass_through.specs.declared.variables.PassVariables.{PassVariables}
-use Rattle.eap_world.specs.Book.{first_broken}
+use Rattle.tag_book.specs.Book.{first_broken}
 use Rattle.eap_world.specs.World.{WorldNow, role_in, world_made, world_start}
-use Rattle.eap_world.specs.declared.book.End.TheVariants as end
+use Rattle.tag_book.specs.declared.book.End.TheVariants as end
 use Rattle.smooth_laws.proofs.Carried.{IsMethod, carried, kind_as, body_as, asks_read, request_carried_whole}
 use Rattle.smooth_laws.proofs.Exchange.{ToPeer, ToServer, alone, in_idle2, exchanged, number_after, peer_turns, server_turns}
 use Rattle.smooth_laws.proofs.Moves.{Stage, delivered, packet_to, peer_moves, server_moves, hands_to_server, hands_to_peer}

@@ -18,8 +18,8 @@ use Rattle.eap_method.specs.Peer.{key_for}
 use Rattle.eap_method.specs.Server.{ServerViews, views_begun}
 use Rattle.eap_world.specs.Run.{run_of}
 use Rattle.world_laws.specs.Agreement.{IsWhole}
-use Rattle.eap_world.specs.Book.{verdict_on, tags_verdict}
-use Rattle.eap_world.specs.declared.book.TagsVerdict.TheVariants.{Honest}
+use Rattle.tag_book.specs.Book.{verdict_on, tags_verdict}
+use Rattle.tag_book.specs.declared.book.TagsVerdict.TheVariants.{Honest}
 use Rattle.eap_world.specs.Judgement.{is_success}
 use Rattle.eap_world.specs.World.{WorldNow, run_after, world_made, world_start}
 use Rattle.world_laws.proofs.HonestRuns.{honest_ends_agree}

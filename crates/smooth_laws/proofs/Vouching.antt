@@ -5,13 +5,13 @@ use Rattle.std.specs.Str.{bytes_eq}
 use Rattle.std.proofs.lemmas.Slice.Eq.{bytes_eq-Decides}
 use Rattle.std.proofs.lemmas.Bool.{and_parts, and_from, or_cases, or_left, or_right, eq-eqb}
 use Rattle.eap_method.specs.declared.tags.TagRecord.{TagRecord}
-use Rattle.eap_world.specs.Book.{entry, booked, same_tag, label_number, vouches, first_broken}
-use Rattle.eap_world.specs.declared.book.End.{End}
-use Rattle.eap_world.specs.declared.book.End.TheVariants.{Peer, Server}
-use Rattle.eap_world.specs.declared.book.Use.TheVariants.{Accepted, Made}
-use Rattle.eap_world.specs.declared.book.Entry.{Entry}
-use Rattle.eap_world.specs.declared.book.Makers.TheVariants.{Other}
-use Rattle.eap_world.proofs.FirstBroken.{passed}
+use Rattle.tag_book.specs.Book.{entry, booked, same_tag, label_number, vouches, first_broken}
+use Rattle.tag_book.specs.declared.book.End.{End}
+use Rattle.tag_book.specs.declared.book.End.TheVariants.{Peer, Server}
+use Rattle.tag_book.specs.declared.book.Use.TheVariants.{Accepted, Made}
+use Rattle.tag_book.specs.declared.book.Entry.{Entry}
+use Rattle.tag_book.specs.declared.book.Makers.TheVariants.{Other}
+use Rattle.tag_book.proofs.FirstBroken.{passed}
 use Rattle.world_laws.proofs.TagsOfEnds.{unbroken}
 
 -- the other end has made the tag, and each of these tags

@@ -2,8 +2,8 @@
 use Rattle.std.proofs.Common.{◌≡◌, ℕ, List, [], ◌∷◌, ◌++◌, Bool, Option, Some, None, true, false, refl, sym, ap, ◌∙◌, codes, decimal, append_assoc}
 use Rattle.std.proofs.lemmas.Bool.{true≢false}
 use Rattle.eap_packet.specs.declared.state.State.{State}
-use Rattle.eap_world.specs.declared.book.TagsVerdict.{TagsVerdict}
-use Rattle.eap_world.specs.declared.book.TagsVerdict.TheVariants as tags
+use Rattle.tag_book.specs.declared.book.TagsVerdict.{TagsVerdict}
+use Rattle.tag_book.specs.declared.book.TagsVerdict.TheVariants as tags
 use Rattle.eap_world.specs.declared.told.Counts.{Counts}
 use Rattle.eap_world.specs.declared.verdict.Verdict.{Verdict}
 use Rattle.eap_world.specs.declared.verdict.Verdict.TheVariants as verdict

@@ -9,11 +9,11 @@ use Rattle.login_setup.specs.declared.setup.Port.{Port}
 use Rattle.login_setup.specs.declared.setup.Port.TheVariants as port
 use Rattle.eap_packet.specs.Words.{state_word}
 use Rattle.eap_packet.specs.declared.state.State.{State}
-use Rattle.eap_world.specs.Book.{tags_verdict}
+use Rattle.tag_book.specs.Book.{tags_verdict}
 use Rattle.eap_world.specs.Judgement.{verdict_of}
 use Rattle.eap_world.specs.World.{WorldNow, WorldOutcome, pass_state, told_octets}
-use Rattle.eap_world.specs.declared.book.TagsVerdict.{TagsVerdict}
-use Rattle.eap_world.specs.declared.book.TagsVerdict.TheVariants as tags
+use Rattle.tag_book.specs.declared.book.TagsVerdict.{TagsVerdict}
+use Rattle.tag_book.specs.declared.book.TagsVerdict.TheVariants as tags
 use Rattle.eap_world.specs.declared.told.Counts.{Counts}
 use Rattle.eap_world.specs.declared.told.Named.{Named}
 use Rattle.eap_world.specs.declared.told.SentPacket.{SentPacket}

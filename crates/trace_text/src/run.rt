@@ -17,10 +17,11 @@ use answer_text::{
 };
 use eap_method::{PeerMethod, ServerMethod};
 use eap_packet::State;
-use eap_world::{Counts, Named, SentPacket, Skip, TagsVerdict, Told, Verdict, World};
+use eap_world::{Counts, Named, SentPacket, Skip, Told, Verdict, World};
 use login_keys::key_name;
 use login_setup::{Mode, Party, Port};
 use octet_io::{Failed, Sink};
+use tag_book::TagsVerdict;
 
 fn name_of_party(party: Party) -> &'static str
     ensures { result.now ≡ party_word party }

@@ -8,7 +8,7 @@ use Rattle.login_setup.specs.declared.setup.Later.{Later}
 use Rattle.login_setup.specs.declared.setup.Setup.{Setup}
 use Rattle.eap_world.specs.Run.{run_of}
 use Rattle.world_laws.specs.Agreement.{AgreesWhereHonest, AreApart}
-use Rattle.eap_world.specs.Book.{tags_verdict}
+use Rattle.tag_book.specs.Book.{tags_verdict}
 use Rattle.eap_world.specs.Judgement.{verdict_of}
 use Rattle.world_laws.proofs.BeginsOnce.{begins_once}
 use Rattle.world_laws.proofs.Versions.{version_kept}

@@ -6,11 +6,11 @@ use Rattle.login_setup.specs.declared.setup.Setup.{Setup}
 use Rattle.octet_io.specs.Lines.{lines}
 use Rattle.eap_packet.specs.declared.state.State.{State}
 use Rattle.eap_world.specs.Run.{run_of}
-use Rattle.eap_world.specs.Book.{tags_verdict}
+use Rattle.tag_book.specs.Book.{tags_verdict}
 use Rattle.eap_world.specs.Judgement.{verdict_of}
 use Rattle.eap_world.specs.World.{WorldNow, pass_state, world_made, world_start}
-use Rattle.eap_world.specs.declared.book.TagsVerdict.{TagsVerdict}
-use Rattle.eap_world.specs.declared.book.TagsVerdict.TheVariants.{Honest}
+use Rattle.tag_book.specs.declared.book.TagsVerdict.{TagsVerdict}
+use Rattle.tag_book.specs.declared.book.TagsVerdict.TheVariants.{Honest}
 use Rattle.eap_world.specs.declared.told.Counts.{Counts}
 use Rattle.eap_world.specs.declared.verdict.Verdict.{Verdict}
 use Rattle.eap_world.specs.declared.verdict.Verdict.TheVariants.{Agree}

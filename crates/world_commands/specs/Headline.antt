@@ -8,8 +8,8 @@ use Rattle.login_setup.specs.declared.setup.Setup.{Setup}
 use Rattle.eap_world.specs.Run.{run_of}
 use Rattle.world_laws.specs.Agreement.{AgreesWhereHonest, TheirsWhereHonest, HasFewTags}
 use Rattle.world_laws.specs.Alone.{TellsAlone}
-use Rattle.eap_world.specs.Book.{tags_verdict, tags_verdict_either}
-use Rattle.eap_world.specs.declared.book.TagsVerdict.TheVariants.{Honest}
+use Rattle.tag_book.specs.Book.{tags_verdict, tags_verdict_either}
+use Rattle.tag_book.specs.declared.book.TagsVerdict.TheVariants.{Honest}
 use Rattle.world_laws.specs.EachConversation.{peer_conversations, server_conversations}
 use Rattle.world_laws.specs.Matching.{Match}
 use Rattle.world_laws.specs.Passing.{IsAlone}

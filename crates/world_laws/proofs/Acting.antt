@@ -15,7 +15,7 @@ use Rattle.pass_through.specs.Inputs as pass_inputs
 use Rattle.eap_world.specs.Conversations.{Conversations, begins, peer_begins, server_begins}
 use Rattle.eap_world.specs.World.{Acted, Call, Skipped, WorldNow, WorldOutcome, act, call_at, call_octets, call_of, call_with, called, called_unless, conversed, conversed_by, conversed_unless, counted, first_skip, heard_in, held_anew, held_before, held_unless, next_call, restart_call, run_after, skip_table, skipped, timer_call, to_pass, to_peer, to_server, told_of, world_acted, world_outcome, world_step}
 use Rattle.eap_world.specs.Sent.{Sent, packet_numbered}
-use Rattle.eap_world.specs.declared.book.End.TheVariants as end
+use Rattle.tag_book.specs.declared.book.End.TheVariants as end
 use Rattle.eap_world.specs.declared.conversations.Waiting.{Waiting}
 use Rattle.eap_world.specs.declared.told.Skip.{Skip}
 use Rattle.eap_world.specs.declared.world.Held.{Held}

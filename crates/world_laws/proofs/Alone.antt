@@ -11,17 +11,17 @@ use Rattle.server_machine.specs.ServerTable as servers
 use Rattle.eap_world.specs.Run.{run_of}
 use Rattle.world_laws.specs.Agreement.{IsWhole}
 use Rattle.world_laws.specs.Alone.{OneEndTells, PeerIsHeard, PeerKnows, PeersConversation, ServerHears, ServersConversation}
-use Rattle.eap_world.specs.Book.{first_broken, tags_verdict, tags_verdict_either}
+use Rattle.tag_book.specs.Book.{first_broken, tags_verdict, tags_verdict_either}
 use Rattle.eap_world.specs.Conversations.{Conversations, front}
 use Rattle.world_laws.specs.Foreign.{server_foreign}
 use Rattle.eap_world.specs.Judgement.{is_success}
 use Rattle.world_laws.specs.Records.{IsIn, tags_by}
 use Rattle.world_laws.specs.ToldTags.{MadeByPeer, NotByServer, PeerTold, ServerTold}
 use Rattle.eap_world.specs.World.{WorldNow}
-use Rattle.eap_world.specs.declared.book.End.TheVariants as end
-use Rattle.eap_world.specs.declared.book.Makers.TheVariants.{Other}
-use Rattle.eap_world.specs.declared.book.TagsVerdict.TheVariants.{Honest}
-use Rattle.eap_world.specs.declared.book.Use.TheVariants.{Accepted, Made}
+use Rattle.tag_book.specs.declared.book.End.TheVariants as end
+use Rattle.tag_book.specs.declared.book.Makers.TheVariants.{Other}
+use Rattle.tag_book.specs.declared.book.TagsVerdict.TheVariants.{Honest}
+use Rattle.tag_book.specs.declared.book.Use.TheVariants.{Accepted, Made}
 use Rattle.world_laws.proofs.Conversing.{BothConverse, peer_moment, run_converses, server_moment}
 use Rattle.world_laws.proofs.EndsStand.{BothStandFirst, every_run_so_far, stand_first}
 use Rattle.world_laws.proofs.FreshAgree.{peer_won, server_holds, server_won}

@@ -32,8 +32,8 @@ use Rattle.world_laws.specs.PeerStands.{PeerStands}
 use Rattle.world_laws.specs.Records.{tags_by}
 use Rattle.world_laws.specs.ServerStands.{ServerStands}
 use Rattle.eap_world.specs.World.{Acted, WorldNow, WorldOutcome, booked_by, called, heard_in, pass_octets, peer_octets, server_octets, start_call, to_pass, to_peer, to_server, world_made, world_start}
-use Rattle.eap_world.specs.declared.book.End.TheVariants as end
-use Rattle.eap_world.specs.declared.book.Use.TheVariants.{Accepted, Made}
+use Rattle.tag_book.specs.declared.book.End.TheVariants as end
+use Rattle.tag_book.specs.declared.book.Use.TheVariants.{Accepted, Made}
 use Rattle.eap_world.specs.declared.conversations.Waiting.{Waiting}
 use Rattle.eap_world.specs.declared.world.Held.{Held}
 use Rattle.world_laws.proofs.Acting.{Steps, calls, counted_acted, peer_restarts, peer_same, run_keeps, server_restarts, server_same, skips}

@@ -9,15 +9,15 @@ use Rattle.eap_method.specs.declared.tags.TagRecord.{TagRecord}
 use Rattle.eap_method.specs.declared.tags.Tags.{Tags}
 use Rattle.peer_machine.specs.Inputs.{peer_takes}
 use Rattle.server_machine.specs.Inputs.{server_takes}
-use Rattle.eap_world.specs.Book.{booked, entry, same_end}
+use Rattle.tag_book.specs.Book.{booked, entry, same_end}
 use Rattle.eap_world.specs.Conversations.{begun, since_from, since_of}
 use Rattle.world_laws.specs.Records.{is_after, since}
 use Rattle.eap_world.specs.World.{WorldNow, WorldOutcome, call_octets, to_pass, to_peer, to_server}
-use Rattle.eap_world.specs.declared.book.End.{End}
-use Rattle.eap_world.specs.declared.book.End.TheVariants as end
-use Rattle.eap_world.specs.declared.book.Entry.{Entry}
-use Rattle.eap_world.specs.declared.book.Use.{Use}
-use Rattle.eap_world.specs.declared.book.Use.TheVariants.{Accepted, Made}
+use Rattle.tag_book.specs.declared.book.End.{End}
+use Rattle.tag_book.specs.declared.book.End.TheVariants as end
+use Rattle.tag_book.specs.declared.book.Entry.{Entry}
+use Rattle.tag_book.specs.declared.book.Use.{Use}
+use Rattle.tag_book.specs.declared.book.Use.TheVariants.{Accepted, Made}
 use Rattle.eap_world.specs.declared.conversations.Begun.{Begun}
 use Rattle.world_laws.proofs.Acting.{Steps, skips, calls, peer_restarts, server_restarts, still_begun}
 use Rattle.world_laws.proofs.PeerKeeps.{peer_tags_none}

@@ -21,7 +21,7 @@ use Rattle.pass_through.proofs.Carrying as pass_discards
 use Rattle.eap_world.specs.Conversations.{Conversations}
 use Rattle.world_laws.specs.Laws.{HasToldReports, KeepsBothEnds, DiscardsKeep, RunsTellReports}
 use Rattle.eap_world.specs.World.{Call, Called, Did, Parties, WorldNow, WorldOutcome, acted, booked_of, called, did_by, did_pass, end_of, first_report, has_held, held_after, held_by, is_delivery, named_by, report_of, sent_to, start_call, to_pass, to_peer, to_server, world_made, world_start, world_step}
-use Rattle.eap_world.specs.declared.book.End.{End}
+use Rattle.tag_book.specs.declared.book.End.{End}
 use Rattle.eap_world.specs.declared.world.Held.{Held}
 use Rattle.world_laws.proofs.Acting.{Steps, skips, calls, peer_restarts, server_restarts, counted_acted, run_keeps, step_steps}
 

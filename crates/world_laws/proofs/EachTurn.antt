@@ -15,14 +15,14 @@ use Rattle.server_machine.specs.Inputs as server_inputs
 use Rattle.server_machine.specs.Inputs.{server_takes}
 use Rattle.server_machine.specs.ServerTable as servers
 use Rattle.server_machine.specs.ServerTable.{ServerNow}
-use Rattle.eap_world.specs.Book.{booked, same_end}
+use Rattle.tag_book.specs.Book.{booked, same_end}
 use Rattle.eap_world.specs.Conversations.{Conversations, begins, begun, begun_by, is_used, one_of}
 use Rattle.world_laws.specs.EachConversation.{begins_another, nonces_of, peer_at, server_at}
 use Rattle.world_laws.specs.PeerStands.{PeerStands}
 use Rattle.world_laws.specs.ServerStands.{ServerStands}
 use Rattle.eap_world.specs.World.{Call, WorldNow, WorldOutcome, call_octets, called, heard_in, to_pass, to_peer, to_server, world_step}
-use Rattle.eap_world.specs.declared.book.End.{End}
-use Rattle.eap_world.specs.declared.book.End.TheVariants as end
+use Rattle.tag_book.specs.declared.book.End.{End}
+use Rattle.tag_book.specs.declared.book.End.TheVariants as end
 use Rattle.eap_world.specs.declared.conversations.Begun.{Begun}
 use Rattle.eap_world.specs.declared.conversations.Waiting.{Waiting}
 use Rattle.world_laws.proofs.Acting.{Steps, calls, counted_acted, peer_restarts, peer_same, server_restarts, server_same, skips, step_steps, still_begun}

@@ -19,17 +19,17 @@ use Rattle.server_machine.specs.Inputs.{ServerInput, server_takes, start}
 use Rattle.server_machine.specs.ServerTable as servers
 use Rattle.server_machine.specs.ServerTable.{ServerNow, server_start}
 use Rattle.eap_world.specs.Run.{run_of}
-use Rattle.eap_world.specs.Book.{booked, same_end}
+use Rattle.tag_book.specs.Book.{booked, same_end}
 use Rattle.eap_world.specs.Conversations.{begun, since_from, since_of}
 use Rattle.world_laws.specs.EndsStand.{BothStand, EndsStand}
 use Rattle.world_laws.specs.PeerStands.{PeerStands}
 use Rattle.world_laws.specs.Records.{since, tags_by}
 use Rattle.world_laws.specs.ServerStands.{ServerStands}
 use Rattle.eap_world.specs.World.{Parties, WorldNow, WorldOutcome, call_octets, called, start_call, to_pass, to_peer, to_server, world_acted, world_made, world_start}
-use Rattle.eap_world.specs.declared.book.End.{End}
-use Rattle.eap_world.specs.declared.book.End.TheVariants as end
-use Rattle.eap_world.specs.declared.book.Entry.{Entry}
-use Rattle.eap_world.specs.declared.book.Use.TheVariants.{Accepted, Made}
+use Rattle.tag_book.specs.declared.book.End.{End}
+use Rattle.tag_book.specs.declared.book.End.TheVariants as end
+use Rattle.tag_book.specs.declared.book.Entry.{Entry}
+use Rattle.tag_book.specs.declared.book.Use.TheVariants.{Accepted, Made}
 use Rattle.world_laws.proofs.Acting.{Steps, skips, calls, peer_restarts, server_restarts, peer_same, run_keeps, server_same, still_begun}
 use Rattle.world_laws.proofs.Dates.{Dates, IsDated, IsOf, all_since, booked_of_event, books_date, one_longer, present, present_anew, present_more, steps_book, untagged}
 use Rattle.world_laws.proofs.PeerKeeps as peer_calls

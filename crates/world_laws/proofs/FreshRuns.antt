@@ -12,8 +12,8 @@ use Rattle.server_machine.specs.Inputs as server_inputs
 use Rattle.eap_world.specs.Conversations.{Conversations, begins, begun, front, hears, is_new, is_used, stands_in, waiting}
 use Rattle.world_laws.specs.Fresh.{Happening, came, began, FreshIsTold, came_of, clashes, happens_at, happens_in, happens_unless, history_after, history_of}
 use Rattle.eap_world.specs.World.{Call, WorldNow, call_octets, call_of, conversed, conversed_by, conversed_unless, first_skip, heard_in, run_after, skip_table, to_pass, to_peer, to_server, world_made, world_start, world_step}
-use Rattle.eap_world.specs.declared.book.End.{End}
-use Rattle.eap_world.specs.declared.book.End.TheVariants as end
+use Rattle.tag_book.specs.declared.book.End.{End}
+use Rattle.tag_book.specs.declared.book.End.TheVariants as end
 use Rattle.eap_world.specs.declared.conversations.Begun.{Begun}
 use Rattle.eap_world.specs.declared.conversations.Waiting.{Waiting}
 use Rattle.eap_world.specs.declared.told.Skip.{Skip}

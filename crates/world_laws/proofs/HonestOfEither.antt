@@ -4,11 +4,11 @@ use Rattle.std.specs.Prelude.{not, if◌then◌else◌}
 use Rattle.std.specs.List.{list_any}
 use Rattle.std.proofs.lemmas.Bool.{and_parts, and_from, or_cases, or_left, or_right}
 use Rattle.world_laws.specs.Agreement.{HonestOfEither}
-use Rattle.eap_world.specs.Book.{same_end, same_tag, is_accepted, vouches, is_honest, first_broken, verdict_on}
-use Rattle.eap_world.specs.declared.book.Entry.{Entry}
-use Rattle.eap_world.specs.declared.book.Makers.TheVariants.{Other, Either}
-use Rattle.eap_world.specs.declared.book.TagsVerdict.TheVariants.{Honest}
-use Rattle.eap_world.proofs.FirstBroken.{passed}
+use Rattle.tag_book.specs.Book.{same_end, same_tag, is_accepted, vouches, is_honest, first_broken, verdict_on}
+use Rattle.tag_book.specs.declared.book.Entry.{Entry}
+use Rattle.tag_book.specs.declared.book.Makers.TheVariants.{Other, Either}
+use Rattle.tag_book.specs.declared.book.TagsVerdict.TheVariants.{Honest}
+use Rattle.tag_book.proofs.FirstBroken.{passed}
 use Rattle.world_laws.proofs.TagsOfEnds.{unbroken}
 
 pub none_if_honest : (o : Option ℕ) → verdict_on o ≡ Honest → o ≡ None

@@ -4,12 +4,12 @@ use Rattle.std.specs.Prelude.{◌&&◌, not, if◌then◌else◌}
 use Rattle.std.specs.List.{list_any}
 use Rattle.std.proofs.lemmas.Bool.{and_parts, and_from, or_cases}
 use Rattle.eap_method.specs.declared.tags.TagRecord.{TagRecord}
-use Rattle.eap_world.specs.Book.{same_end, is_accepted, vouches, first_broken}
-use Rattle.eap_world.specs.declared.book.End.{End}
-use Rattle.eap_world.specs.declared.book.End.TheVariants.{Peer, Server}
-use Rattle.eap_world.specs.declared.book.Use.TheVariants.{Accepted, Made}
-use Rattle.eap_world.specs.declared.book.Entry.{Entry}
-use Rattle.eap_world.specs.declared.book.Makers.TheVariants.{Other}
+use Rattle.tag_book.specs.Book.{same_end, is_accepted, vouches, first_broken}
+use Rattle.tag_book.specs.declared.book.End.{End}
+use Rattle.tag_book.specs.declared.book.End.TheVariants.{Peer, Server}
+use Rattle.tag_book.specs.declared.book.Use.TheVariants.{Accepted, Made}
+use Rattle.tag_book.specs.declared.book.Entry.{Entry}
+use Rattle.tag_book.specs.declared.book.Makers.TheVariants.{Other}
 use Rattle.world_laws.specs.Records.{same_use, tags_by, IsIn}
 use Rattle.world_laws.proofs.TagsOfEnds.{by_test_in, honest_vouched, in_if, is_in_front, not_true, other_end, skip_if, tags_append, tags_equal, unbroken, use_accepted, use_is}
 

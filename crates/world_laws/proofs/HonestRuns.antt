@@ -4,14 +4,14 @@ use Rattle.std.proofs.Common.{◌≡◌, List, [], length, Bool, true, false, re
 use Rattle.std.specs.Prelude.{if◌then◌else◌, ◌&&◌}
 use Rattle.login_setup.specs.declared.event.Event.{Event}
 use Rattle.login_setup.specs.declared.setup.Setup.{Setup}
-use Rattle.eap_world.specs.Book.{first_broken, tags_verdict, tags_verdict_either}
-use Rattle.eap_world.specs.declared.book.Makers.TheVariants.{Either}
-use Rattle.eap_world.specs.declared.book.TagsVerdict.TheVariants.{Honest}
+use Rattle.tag_book.specs.Book.{first_broken, tags_verdict, tags_verdict_either}
+use Rattle.tag_book.specs.declared.book.Makers.TheVariants.{Either}
+use Rattle.tag_book.specs.declared.book.TagsVerdict.TheVariants.{Honest}
 use Rattle.eap_world.specs.Judgement.{verdict_of, is_success, judged}
 use Rattle.eap_world.specs.declared.verdict.Verdict.{Verdict}
 use Rattle.eap_world.specs.declared.verdict.Verdict.TheVariants.{Agree, Apart, Unfinished}
 use Rattle.eap_world.specs.World.{WorldNow}
-use Rattle.eap_world.specs.declared.book.End.TheVariants as end
+use Rattle.tag_book.specs.declared.book.End.TheVariants as end
 use Rattle.eap_world.specs.Run.{run_of}
 use Rattle.world_laws.specs.Agreement.{AreApart, HonestEndsAgree, IsWhole}
 use Rattle.world_laws.proofs.EndsStand.{BothStandFirst, every_run_so_far, stand_first}

@@ -12,7 +12,7 @@ use Rattle.server_machine.specs.ServerTable as servers
 use Rattle.server_machine.specs.ServerTable.{server_reports}
 use Rattle.eap_world.specs.Run.{run_of}
 use Rattle.world_laws.specs.Agreement.{IsWhole}
-use Rattle.eap_world.specs.Book.{first_broken, tags_verdict, tags_verdict_either}
+use Rattle.tag_book.specs.Book.{first_broken, tags_verdict, tags_verdict_either}
 use Rattle.eap_world.specs.Conversations.{front}
 use Rattle.world_laws.specs.EachConversation.{AreTwoOf, IsOneOf, OfPeer, OfServer, all_made, nonces_of, peer_at, peer_conversations, peer_holds, peer_nonce, server_at, server_conversations, server_holds, server_nonce}
 use Rattle.eap_world.specs.Judgement.{is_success}
@@ -23,11 +23,11 @@ use Rattle.world_laws.specs.Records.{IsIn, tags_by}
 use Rattle.world_laws.specs.ServerStands.{HasSucceeded, ServerStands, gpsk_succeeded, psk_succeeded}
 use Rattle.world_laws.specs.ToldTags.{MadeByPeer, MadeByServer, NotByServer, PeerTold, ServerTold}
 use Rattle.eap_world.specs.World.{WorldNow, world_made, world_start}
-use Rattle.eap_world.specs.declared.book.End.TheVariants as end
-use Rattle.eap_world.specs.declared.book.Entry.{Entry}
-use Rattle.eap_world.specs.declared.book.Makers.TheVariants.{Either, Other}
-use Rattle.eap_world.specs.declared.book.TagsVerdict.TheVariants.{Honest}
-use Rattle.eap_world.specs.declared.book.Use.TheVariants.{Accepted, Made}
+use Rattle.tag_book.specs.declared.book.End.TheVariants as end
+use Rattle.tag_book.specs.declared.book.Entry.{Entry}
+use Rattle.tag_book.specs.declared.book.Makers.TheVariants.{Either, Other}
+use Rattle.tag_book.specs.declared.book.TagsVerdict.TheVariants.{Honest}
+use Rattle.tag_book.specs.declared.book.Use.TheVariants.{Accepted, Made}
 use Rattle.world_laws.proofs.Conversing.{BothConverse, start_converses, starts_so}
 use Rattle.world_laws.proofs.EachOf.{Told, walk}
 use Rattle.world_laws.proofs.EachTurn.{PeerWell, ServerWell, converses_on, grow, peer_nonce_of, peer_turns, peer_used, server_nonce_of, server_turns, server_used}

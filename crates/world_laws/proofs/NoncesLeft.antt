@@ -6,9 +6,9 @@ use Rattle.std.specs.Str.{bytes_eq}
 use Rattle.std.proofs.lemmas.Bool.{and_from, and_parts, or_left, or_right}
 use Rattle.std.proofs.lemmas.List.Folds.{list_any-append}
 use Rattle.std.proofs.lemmas.Slice.Eq.{bytes_eq-Decides}
-use Rattle.eap_world.specs.Book.{same_end}
+use Rattle.tag_book.specs.Book.{same_end}
 use Rattle.eap_world.specs.Conversations.{front, has_begun, hears, is_new, is_used, stands_in}
-use Rattle.eap_world.specs.declared.book.End.{End}
+use Rattle.tag_book.specs.declared.book.End.{End}
 use Rattle.eap_world.specs.declared.conversations.Begun.{Begun}
 use Rattle.eap_world.specs.declared.conversations.Waiting.{Waiting}
 

@@ -3,10 +3,10 @@
 use Rattle.std.proofs.Common.{◌≡◌, ℕ, ◌+◌, ◌≤◌, ◌<◌, Bool, true, List, [], ◌∷◌, ◌++◌, length, Option, Some, None, refl, sym, ap, subst, ◌∙◌, arith, append_assoc, append-nil, inl, inr}
 use Rattle.std.specs.Prelude.{◌⊎◌}
 use Rattle.eap_method.specs.declared.tags.TagRecord.{TagRecord}
-use Rattle.eap_world.specs.Book.{same_end}
+use Rattle.tag_book.specs.Book.{same_end}
 use Rattle.eap_world.specs.Conversations.{front, has_begun, is_used}
 use Rattle.world_laws.specs.Records.{IsIn, here, later}
-use Rattle.eap_world.specs.declared.book.End.{End}
+use Rattle.tag_book.specs.declared.book.End.{End}
 use Rattle.eap_world.specs.declared.conversations.Begun.{Begun}
 use Rattle.eap_world.specs.declared.conversations.Waiting.{Waiting}
 use Rattle.world_laws.proofs.NoncesLeft.{IsMarked, none_marked, now_begun, now_used, still_begun, still_used, used_front}

@@ -11,7 +11,7 @@ use Rattle.eap_method.specs.PskTags.{ak_record, rand_of, mac_p_octets, mac_s_oct
 use Rattle.peer_machine.specs.PeerTable as peers
 use Rattle.peer_machine.specs.PeerTable.{PeerNow}
 use Rattle.eap_world.specs.Run.{run_of}
-use Rattle.eap_world.specs.Book.{first_broken, tags_verdict_either}
+use Rattle.tag_book.specs.Book.{first_broken, tags_verdict_either}
 use Rattle.eap_world.specs.Conversations.{front}
 use Rattle.eap_world.specs.Judgement.{is_success}
 use Rattle.world_laws.specs.PeerStands.{PskPeerTags, psk_unset, psk_fresh, psk_waits, psk_over, PeerTags, none_selected, psk_selected, gpsk_selected, PskBegun, psk2_record}
@@ -19,10 +19,10 @@ use Rattle.world_laws.specs.Records.{IsIn, tags_by}
 use Rattle.world_laws.specs.Reflected.{AgreeAnew, ReflectedEndsAgree}
 use Rattle.world_laws.specs.ToldTags.{MadeByServer, NotByServer, PeerTold, ServerTold}
 use Rattle.eap_world.specs.World.{WorldNow}
-use Rattle.eap_world.specs.declared.book.End.TheVariants as end
-use Rattle.eap_world.specs.declared.book.Makers.TheVariants.{Either}
-use Rattle.eap_world.specs.declared.book.TagsVerdict.TheVariants.{Honest}
-use Rattle.eap_world.specs.declared.book.Use.TheVariants.{Accepted, Made}
+use Rattle.tag_book.specs.declared.book.End.TheVariants as end
+use Rattle.tag_book.specs.declared.book.Makers.TheVariants.{Either}
+use Rattle.tag_book.specs.declared.book.TagsVerdict.TheVariants.{Honest}
+use Rattle.tag_book.specs.declared.book.Use.TheVariants.{Accepted, Made}
 use Rattle.world_laws.proofs.Among.{among_one, among_two}
 use Rattle.world_laws.proofs.Conversing.{BothConverse, run_converses}
 use Rattle.world_laws.proofs.Fields.{ends}

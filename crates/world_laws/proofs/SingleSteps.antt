@@ -37,9 +37,9 @@ use Rattle.eap_world.specs.Conversations.{Conversations}
 use Rattle.eap_world.specs.Sent.{Sent, last_to, packet_numbered}
 use Rattle.world_laws.specs.SingleSteps.{identifier_of, handed_in, is_delivery_of, is_restart, Sends, AnswersIt, is_again, CountsOn, has_ended, end_state, StepsAreLawful}
 use Rattle.eap_world.specs.World.{Call, Parties, WorldNow, WorldOutcome, act, call_at, call_of, call_with, called, called_unless, conversed, conversed_by, conversed_unless, first_skip, goes_to, held_anew, held_before, held_unless, is_alone, is_delivery, pass_port, pass_state, restart_call, restart_skips, role_in, run_after, sent_to, skip_table, skipped, start_call, state_of, timer_call, timer_skips, to_pass, to_peer, to_server, world_made, world_start, world_step}
-use Rattle.eap_world.specs.declared.book.End.{End}
-use Rattle.eap_world.specs.declared.book.End.TheVariants as end
-use Rattle.eap_world.specs.declared.book.Use.TheVariants.{Accepted}
+use Rattle.tag_book.specs.declared.book.End.{End}
+use Rattle.tag_book.specs.declared.book.End.TheVariants as end
+use Rattle.tag_book.specs.declared.book.Use.TheVariants.{Accepted}
 use Rattle.eap_world.specs.declared.told.Skip.{Skip}
 use Rattle.world_laws.specs.EndsStand.{BothStand, present_tags}
 use Rattle.world_laws.proofs.Acting.{counted_acted, next_is, restart_is, some_call, step_steps}

@@ -9,14 +9,14 @@ use Rattle.eap_method.specs.declared.tags.Label.{Label}
 use Rattle.eap_method.specs.declared.tags.Label.TheVariants.{Ak, Tek, Sk}
 use Rattle.eap_method.specs.declared.tags.TagRecord.{TagRecord}
 use Rattle.eap_method.specs.declared.tags.Tags.{Tags}
-use Rattle.eap_world.specs.Book.{entry, booked, same_end, same_label, label_number, same_tag, is_accepted, vouches, is_honest, first_broken}
-use Rattle.eap_world.specs.declared.book.End.{End}
-use Rattle.eap_world.specs.declared.book.End.TheVariants.{Peer, Server}
-use Rattle.eap_world.specs.declared.book.Use.{Use}
-use Rattle.eap_world.specs.declared.book.Use.TheVariants.{Accepted, Made}
-use Rattle.eap_world.specs.declared.book.Entry.{Entry}
-use Rattle.eap_world.specs.declared.book.Makers.{Makers}
-use Rattle.eap_world.specs.declared.book.Makers.TheVariants.{Either}
+use Rattle.tag_book.specs.Book.{entry, booked, same_end, same_label, label_number, same_tag, is_accepted, vouches, is_honest, first_broken}
+use Rattle.tag_book.specs.declared.book.End.{End}
+use Rattle.tag_book.specs.declared.book.End.TheVariants.{Peer, Server}
+use Rattle.tag_book.specs.declared.book.Use.{Use}
+use Rattle.tag_book.specs.declared.book.Use.TheVariants.{Accepted, Made}
+use Rattle.tag_book.specs.declared.book.Entry.{Entry}
+use Rattle.tag_book.specs.declared.book.Makers.{Makers}
+use Rattle.tag_book.specs.declared.book.Makers.TheVariants.{Either}
 use Rattle.world_laws.specs.Records.{same_use, tags_by, IsIn, here, later, AreInEither}
 
 -- ---- the lists of a longer book

@@ -2,11 +2,11 @@
 use Rattle.std.proofs.Common.{◌≡◌, List, [], length, true, inl, inr}
 use Rattle.login_setup.specs.declared.setup.Setup.{Setup}
 use Rattle.login_setup.specs.declared.event.Event.{Event}
-use Rattle.eap_world.specs.Book.{first_broken, tags_verdict, tags_verdict_either}
-use Rattle.eap_world.specs.declared.book.Makers.TheVariants.{Either}
-use Rattle.eap_world.specs.declared.book.TagsVerdict.TheVariants.{Honest}
+use Rattle.tag_book.specs.Book.{first_broken, tags_verdict, tags_verdict_either}
+use Rattle.tag_book.specs.declared.book.Makers.TheVariants.{Either}
+use Rattle.tag_book.specs.declared.book.TagsVerdict.TheVariants.{Honest}
 use Rattle.eap_world.specs.Judgement.{is_success}
-use Rattle.eap_world.specs.declared.book.End.TheVariants as end
+use Rattle.tag_book.specs.declared.book.End.TheVariants as end
 use Rattle.eap_world.specs.Run.{run_of}
 use Rattle.world_laws.specs.Agreement.{AreApart, AreTheirs, HonestNamesAreTheirs, IsWhole}
 use Rattle.world_laws.proofs.EndsStand.{every_run_so_far, stand_first}

@@ -27,7 +27,7 @@ use Rattle.server_machine.specs.declared.variables.Progress.TheVariants.{End}
 use Rattle.server_machine.specs.declared.variables.Role.TheVariants.{StandAlone}
 use Rattle.pass_through.specs.PassTable.{pass_made}
 use Rattle.eap_world.specs.Conversations.{begun}
-use Rattle.eap_world.specs.declared.book.End.TheVariants as end
+use Rattle.tag_book.specs.declared.book.End.TheVariants as end
 use Rattle.eap_world.specs.World.{world_made, world_start, act, conversed_by, held_before, world_step, outcomes_after, run_after}
 
 -- alice logs in at the server srv, which sends a Request again four times; no end has a method

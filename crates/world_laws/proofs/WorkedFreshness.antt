@@ -14,7 +14,7 @@ use Rattle.server_machine.specs.ServerTable.{server_deliver, server_restart, ser
 use Rattle.eap_world.specs.Conversations.{begun, hears, is_used, since_from, since_of, stands_in, waiting}
 use Rattle.eap_world.specs.Run.{run_of}
 use Rattle.eap_world.specs.World.{act, conversed_by, held_before, run_after, world_start, world_step}
-use Rattle.eap_world.specs.declared.book.End.TheVariants as end
+use Rattle.tag_book.specs.declared.book.End.TheVariants as end
 use Rattle.eap_world.specs.declared.told.Skip.TheVariants.{NoNonce, NoParty}
 
 -- 32 octets, all different

@@ -13,7 +13,7 @@ use Rattle.eap_method.specs.declared.tags.Label.TheVariants.{Sk}
 use Rattle.eap_method.specs.declared.tags.TagRecord.{TagRecord}
 use Rattle.peer_machine.specs.PeerTable.{peer_restart}
 use Rattle.server_machine.specs.ServerTable.{server_restart, server_start}
-use Rattle.eap_world.specs.Book.{entry, first_broken, tags_verdict}
+use Rattle.tag_book.specs.Book.{entry, first_broken, tags_verdict}
 use Rattle.eap_world.specs.Conversations.{heard_by, stands_in}
 use Rattle.world_laws.specs.EachConversation.{OfPeer, OfServer, conversations_along, moments, peer_along, peer_conversations, peer_nonce, server_along, server_conversations, server_nonce}
 use Rattle.eap_world.specs.Judgement.{is_success}
@@ -21,9 +21,9 @@ use Rattle.world_laws.specs.Matching.{RestsOn}
 use Rattle.world_laws.specs.Records.{here, tags_by}
 use Rattle.eap_world.specs.Conversations.{begun_by}
 use Rattle.eap_world.specs.World.{WorldNow, act, conversed_by, held_before, world_made, world_start, world_step}
-use Rattle.eap_world.specs.declared.book.End.TheVariants as end
-use Rattle.eap_world.specs.declared.book.TagsVerdict.TheVariants.{Honest}
-use Rattle.eap_world.specs.declared.book.Use.TheVariants.{Accepted, Made}
+use Rattle.tag_book.specs.declared.book.End.TheVariants as end
+use Rattle.tag_book.specs.declared.book.TagsVerdict.TheVariants.{Honest}
+use Rattle.tag_book.specs.declared.book.Use.TheVariants.{Accepted, Made}
 use Rattle.world_laws.proofs.Among.{among_one}
 use Rattle.world_laws.proofs.SucceedingEnds.{first_in}
 

@@ -14,12 +14,12 @@ use Rattle.eap_method.specs.GpskTags.{suite_list}
 use Rattle.eap_method.specs.Peer.{key_for}
 use Rattle.peer_machine.specs.PeerTable.{peer_reports}
 use Rattle.server_machine.specs.ServerTable.{server_reports}
-use Rattle.eap_world.specs.Book.{tags_verdict, tags_verdict_either}
-use Rattle.eap_world.specs.declared.book.TagsVerdict.TheVariants.{Honest}
-use Rattle.eap_world.specs.declared.book.End.{End}
-use Rattle.eap_world.specs.declared.book.Entry.{Entry}
+use Rattle.tag_book.specs.Book.{tags_verdict, tags_verdict_either}
+use Rattle.tag_book.specs.declared.book.TagsVerdict.TheVariants.{Honest}
+use Rattle.tag_book.specs.declared.book.End.{End}
+use Rattle.tag_book.specs.declared.book.Entry.{Entry}
 use Rattle.eap_world.specs.declared.conversations.Begun.{Begun}
-use Rattle.eap_world.specs.declared.book.Use.{Use}
+use Rattle.tag_book.specs.declared.book.Use.{Use}
 use Rattle.eap_world.specs.Conversations.{Conversations, begun_by, front}
 use Rattle.world_laws.specs.Foreign.{peer_foreign, server_foreign}
 use Rattle.eap_world.specs.Judgement.{verdict_of, is_success}

@@ -12,7 +12,7 @@ use Rattle.peer_machine.specs.PeerTable.{peer_reports}
 use Rattle.server_machine.specs.ServerTable.{server_reports}
 use Rattle.eap_world.specs.Run.{run_of}
 use Rattle.world_laws.specs.Agreement.{IsWhole}
-use Rattle.eap_world.specs.Book.{tags_verdict, tags_verdict_either}
+use Rattle.tag_book.specs.Book.{tags_verdict, tags_verdict_either}
 use Rattle.eap_world.specs.Conversations.{front, has_begun}
 use Rattle.world_laws.specs.Foreign.{peer_foreign, server_foreign}
 use Rattle.eap_world.specs.Judgement.{is_success}
@@ -20,9 +20,9 @@ use Rattle.world_laws.specs.Logins.{peer_login, server_login}
 use Rattle.world_laws.specs.Records.{IsIn, tags_by}
 use Rattle.world_laws.specs.ToldTags.{MadeByPeer, PeerTold, ServerTold}
 use Rattle.eap_world.specs.World.{WorldNow}
-use Rattle.eap_world.specs.declared.book.End.TheVariants as end
-use Rattle.eap_world.specs.declared.book.TagsVerdict.TheVariants.{Honest}
-use Rattle.eap_world.specs.declared.book.Use.TheVariants.{Accepted, Made}
+use Rattle.tag_book.specs.declared.book.End.TheVariants as end
+use Rattle.tag_book.specs.declared.book.TagsVerdict.TheVariants.{Honest}
+use Rattle.tag_book.specs.declared.book.Use.TheVariants.{Accepted, Made}
 
 -- a conversation of the server, present or past: the nonce with which it began, the peer's nonce that it holds, and the tags that
 -- it has accepted and made, all of them in the book

@@ -5,14 +5,14 @@ use Rattle.login_setup.specs.declared.setup.Setup.{Setup}
 use Rattle.eap_method.specs.declared.tags.TagRecord.{TagRecord}
 use Rattle.peer_machine.specs.PeerTable.{PeerNow}
 use Rattle.server_machine.specs.ServerTable.{ServerNow}
-use Rattle.eap_world.specs.Book.{same_end}
+use Rattle.tag_book.specs.Book.{same_end}
 use Rattle.eap_world.specs.Conversations.{begun_by}
 use Rattle.world_laws.specs.Foreign.{peer_foreign, server_foreign}
 use Rattle.world_laws.specs.Records.{tags_by}
 use Rattle.eap_world.specs.World.{WorldNow, world_made, world_start, world_step}
-use Rattle.eap_world.specs.declared.book.End.{End}
-use Rattle.eap_world.specs.declared.book.End.TheVariants as end
-use Rattle.eap_world.specs.declared.book.Use.TheVariants.{Accepted, Made}
+use Rattle.tag_book.specs.declared.book.End.{End}
+use Rattle.tag_book.specs.declared.book.End.TheVariants as end
+use Rattle.tag_book.specs.declared.book.Use.TheVariants.{Accepted, Made}
 use Rattle.eap_world.specs.declared.conversations.Begun.{Begun}
 
 -- a conversation of an end: where the end stands in it, or stood when it began the next one, and the tags that it accepted and

@@ -10,7 +10,7 @@ use Rattle.server_machine.specs.ServerTable as server_table
 use Rattle.server_machine.specs.ServerTable.{server_reports}
 use Rattle.eap_world.specs.Run.{run_of}
 use Rattle.world_laws.specs.Agreement.{IsWhole}
-use Rattle.eap_world.specs.Book.{tags_verdict, tags_verdict_either}
+use Rattle.tag_book.specs.Book.{tags_verdict, tags_verdict_either}
 use Rattle.eap_world.specs.Conversations.{front}
 use Rattle.world_laws.specs.EachConversation.{AreTwoOf, IsOneOf, OfPeer, OfServer, all_accepted, all_made, last_now, nonces_of, peer_conversations, peer_holds, peer_nonce, server_conversations, server_holds, server_nonce}
 use Rattle.eap_world.specs.Judgement.{is_success, judged}
@@ -19,9 +19,9 @@ use Rattle.world_laws.specs.PeerStands.{PeerStands}
 use Rattle.world_laws.specs.Records.{IsIn, tags_by}
 use Rattle.world_laws.specs.ServerStands.{ServerStands}
 use Rattle.eap_world.specs.World.{WorldNow}
-use Rattle.eap_world.specs.declared.book.End.TheVariants as end
-use Rattle.eap_world.specs.declared.book.TagsVerdict.TheVariants.{Honest}
-use Rattle.eap_world.specs.declared.book.Use.TheVariants.{Accepted, Made}
+use Rattle.tag_book.specs.declared.book.End.TheVariants as end
+use Rattle.tag_book.specs.declared.book.TagsVerdict.TheVariants.{Honest}
+use Rattle.tag_book.specs.declared.book.Use.TheVariants.{Accepted, Made}
 
 -- a conversation that accepted these tags rests on one of the other end, which made those: the first tag that it accepted is among
 -- them. At the server the first one is MAC_P of PSK-2 (RFC 4764 section 5.2) or the MAC of GPSK-2 (RFC 5433 section 9.2), which

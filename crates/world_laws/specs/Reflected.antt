@@ -5,10 +5,10 @@ use Rattle.login_setup.specs.declared.setup.Setup.{Setup}
 use Rattle.eap_base.specs.Among.{psk_kind}
 use Rattle.eap_world.specs.Run.{run_of}
 use Rattle.world_laws.specs.Agreement.{AreTheirs, HoldEachOther, IsWhole}
-use Rattle.eap_world.specs.Book.{tags_verdict_either}
+use Rattle.tag_book.specs.Book.{tags_verdict_either}
 use Rattle.eap_world.specs.Judgement.{is_success, verdict_of}
 use Rattle.eap_world.specs.World.{WorldNow}
-use Rattle.eap_world.specs.declared.book.TagsVerdict.TheVariants.{Honest}
+use Rattle.tag_book.specs.declared.book.TagsVerdict.TheVariants.{Honest}
 use Rattle.eap_world.specs.declared.verdict.Verdict.TheVariants.{Agree}
 
 -- two ends agree, on names, key and suite that are their own, and each holds the nonce of the other's present conversation

@@ -14,9 +14,9 @@ use Rattle.eap_packet.specs.declared.state.State.{State}
 use Rattle.eap_packet.specs.declared.state.State.TheVariants as state
 use Rattle.eap_method.specs.Steps.{is_end}
 use Rattle.pass_through.specs.PassTable.{is_over}
-use Rattle.eap_world.specs.declared.book.End.{End}
-use Rattle.eap_world.specs.declared.book.End.TheVariants as end
-use Rattle.eap_world.specs.declared.book.Use.TheVariants.{Accepted}
+use Rattle.tag_book.specs.declared.book.End.{End}
+use Rattle.tag_book.specs.declared.book.End.TheVariants as end
+use Rattle.tag_book.specs.declared.book.Use.TheVariants.{Accepted}
 use Rattle.eap_world.specs.Run.{run_of}
 use Rattle.eap_world.specs.Judgement.{is_success}
 use Rattle.world_laws.specs.EndsStand.{present_tags}

@@ -1,6 +1,6 @@
 use Rattle.std.proofs.Common.{◌≡◌, [], take, drop}
-use Rattle.eap_world.specs.Book.{first_broken}
-use Rattle.eap_world.proofs.book.judge_tags.Given as goal
+use Rattle.tag_book.specs.Book.{first_broken}
+use Rattle.tag_book.proofs.book.judge_tags.Given as goal
 
 abbrev pub invariant-loop-place : goal.invariant-loop-place
 invariant-loop-place l = first_broken l.makers [] l.book ≡ first_broken l.makers (take l.place l.book) (drop l.place l.book)

@@ -1,6 +1,6 @@
 use Rattle.std.proofs.Common.{◌≡◌, ◌+◌, ◌≤◌, ◌++◌, map, take, vec_len, vec_capacity}
-use Rattle.eap_world.specs.Book.{entry}
-use Rattle.eap_world.proofs.book.book_each.Given as goal
+use Rattle.tag_book.specs.Book.{entry}
+use Rattle.tag_book.proofs.book.book_each.Given as goal
 
 abbrev pub invariant-loop-tag : goal.invariant-loop-tag
 invariant-loop-tag l = record {

@@ -7,15 +7,15 @@ use Rattle.eap_method.specs.declared.tags.Label.{Label}
 use Rattle.eap_method.specs.declared.tags.Label.TheVariants.{Ak, Tek, Sk}
 use Rattle.eap_method.specs.declared.tags.TagRecord.{TagRecord}
 use Rattle.eap_method.specs.declared.tags.Tags.{Tags}
-use Rattle.eap_world.specs.declared.book.End.{End}
-use Rattle.eap_world.specs.declared.book.End.TheVariants.{Peer, Server}
-use Rattle.eap_world.specs.declared.book.Use.{Use}
-use Rattle.eap_world.specs.declared.book.Use.TheVariants.{Accepted, Made}
-use Rattle.eap_world.specs.declared.book.Entry.{Entry}
-use Rattle.eap_world.specs.declared.book.Makers.{Makers}
-use Rattle.eap_world.specs.declared.book.Makers.TheVariants.{Other, Either}
-use Rattle.eap_world.specs.declared.book.TagsVerdict.{TagsVerdict}
-use Rattle.eap_world.specs.declared.book.TagsVerdict.TheVariants.{Honest, Broken}
+use Rattle.tag_book.specs.declared.book.End.{End}
+use Rattle.tag_book.specs.declared.book.End.TheVariants.{Peer, Server}
+use Rattle.tag_book.specs.declared.book.Use.{Use}
+use Rattle.tag_book.specs.declared.book.Use.TheVariants.{Accepted, Made}
+use Rattle.tag_book.specs.declared.book.Entry.{Entry}
+use Rattle.tag_book.specs.declared.book.Makers.{Makers}
+use Rattle.tag_book.specs.declared.book.Makers.TheVariants.{Other, Either}
+use Rattle.tag_book.specs.declared.book.TagsVerdict.{TagsVerdict}
+use Rattle.tag_book.specs.declared.book.TagsVerdict.TheVariants.{Honest, Broken}
 
 abbrev pub entry : ℕ → End → Use → TagRecord → Entry
 entry event end how tag = record { event = event; end = end; used = how; tag = tag }

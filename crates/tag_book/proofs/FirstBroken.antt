@@ -1,9 +1,9 @@
 -- The book of tags, entry by entry.
 use Rattle.std.proofs.Common.{◌≡◌, ℕ, ◌+◌, ◌<◌, ◌≤◌, Bool, true, false, cond, List, [], ◌∷◌, ◌++◌, length, take, drop, get_or, None, Some, refl, ap, ◌∙◌, sym}
 use Rattle.std.proofs.lemmas.List.{drop_more, take_more, drop_all}
-use Rattle.eap_world.specs.declared.book.Entry.{Entry}
-use Rattle.eap_world.specs.declared.book.Makers.{Makers}
-use Rattle.eap_world.specs.Book.{is_honest, first_broken}
+use Rattle.tag_book.specs.declared.book.Entry.{Entry}
+use Rattle.tag_book.specs.declared.book.Makers.{Makers}
+use Rattle.tag_book.specs.Book.{is_honest, first_broken}
 
 -- an honest entry is passed over
 pub passed : (makers : Makers) (earlier rest : List Entry) (e : Entry) → is_honest makers earlier e ≡ true → first_broken makers earlier (e ∷ rest) ≡ first_broken makers (earlier ++ e ∷ []) rest

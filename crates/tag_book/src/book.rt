@@ -2,7 +2,7 @@
 
 ghost use Rattle.std.specs.Prelude.{◌≡◌, ◌≤◌, ◌+◌, ◌++◌, ◌∷◌, [], map, vec_len, vec_capacity};
 ghost use Rattle.std.specs.List.{list_any};
-ghost use Rattle.eap_world.specs.Book.{entry, booked, first_broken, verdict_on, is_honest, may_make, vouches, same_tag};
+ghost use Rattle.tag_book.specs.Book.{entry, booked, first_broken, verdict_on, is_honest, may_make, vouches, same_tag};
 
 use eap_method::{TagList, TagRecord, Tags};
 

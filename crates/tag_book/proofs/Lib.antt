@@ -1,0 +1,2 @@
+-- The book of tags, entry by entry.
+pub mod FirstBroken
