@@ -1,22 +1,14 @@
--- What holds of every encryption: it is a block, and its octets are octets where the key's are. The
--- inverse of an octet is the only one.
-use Rattle.std.proofs.Common.{◌≡◌, ℕ, zero, suc, ◌+◌, ◌-◌, ◌*◌, ◌/◌, ◌%◌, ◌<◌, eqb, true, cond, ◌&&◌, nat_lt, List, [], ◌∷◌, ◌++◌, length, refl, sym, ◌∙◌, All, map, bit_xor, slice_index, lit<, inl, inr, arith}
-use Rattle.std.proofs.lemmas.Nat.{xor_lt}
-use Rattle.std.proofs.lemmas.Bool.{cases_lt, ltb-true, eq-eqb, eqb-true, ne_eqb, and_parts, cond-true, cond-false, cond_both}
-use Rattle.std.proofs.lemmas.List.{get_or_past}
-use Rattle.std.proofs.lemmas.Grind.{get_or_default_zero}
+-- An encryption is a block. The inverse of an octet is the only one.
+use Rattle.std.proofs.Common.{◌≡◌, ℕ, ◌<◌, eqb, true, cond, ◌&&◌, nat_lt, List, length, refl, sym, ◌∙◌, map, arith}
+use Rattle.std.proofs.lemmas.Bool.{ltb-true, eq-eqb, eqb-true, ne_eqb, and_parts, cond-true, cond-false}
 use Rattle.aes_block.proofs.Octets.{same_at}
-use Rattle.aes_block.proofs.Sbox.{sub_byte_lt}
-use Rattle.aes_block.specs.Field.{times, octets, inverse, sub_byte, InversesStandAlone}
-use Rattle.aes_block.specs.KeySchedule.{KeyWords, word_of, key_words, change_at, power_of_x, round_constant, xor_words, sub_word, rot_word, round_key}
-use Rattle.aes_block.specs.Cipher.{sub_bytes, shift_rows, entry, add_round_key, rounds, aes128}
+use Rattle.aes_block.specs.Field.{times, octets, inverse, InversesStandAlone}
+use Rattle.aes_block.specs.Cipher.{add_round_key, aes128}
 
 -- an encryption has sixteen octets
 pub length-aes128 : (key block : List ℕ) → length (aes128 key block) ≡ 16
 unfolding aes128 add_round_key
 length-aes128 key block = refl
-
--- ---- the inverse
 
 only_test : map (λ b. map (λ c. cond (eqb (times b c) 1) c (inverse b)) octets) octets ≡ map (λ b. map (λ _. inverse b) octets) octets
 unfolding times inverse
@@ -45,20 +37,3 @@ inverses_stand_alone b some fits =
       product = eqb-true (times b (inverse b)) 1 both.1;
       alone = λ other small one. inverse_only b other fits small one;
     }
-
--- ---- octets
-
--- each number is an octet
-AreOctets : List ℕ → Type 0
-AreOctets xs = (i : ℕ) → slice_index xs i < 256
-
-octet_at : (xs : List ℕ) (i : ℕ) → AreOctets xs → slice_index xs i < 256
-unfolding AreOctets
-octet_at xs i h = h i
-
--- each word is of octets
-record WordsAreOctets (k : KeyWords) : Type 0 where
-  first : AreOctets k.first
-  second : AreOctets k.second
-  third : AreOctets k.third
-  fourth : AreOctets k.fourth

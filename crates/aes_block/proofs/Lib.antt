@@ -20,7 +20,7 @@ pub mod Schedule
 pub mod KeyLanes
 -- The first round key, and the rounds one by one.
 pub mod RoundByRound
--- What holds of every encryption: it is a block, and its octets are octets where the key's are.
+-- An encryption is a block. The inverse of an octet is the only one.
 pub mod Laws
 -- The definition gives the standard's example.
 pub mod Example

@@ -86,20 +86,6 @@ module _ {S : Type 0} (written : S → Option (List ℕ)) (faults : S → ℕ) (
   appending_ends result before now after text rest a r =
       subst (λ t. Appends written faults last result before after t) (sym a.split) (appends_both result tt before now after a.front rest a.appends r)
 
-  -- one more piece was not written whole
-  pub appending_cut : (result : Result (Unit {0}) Failed) (fault : Failed) (before now after : S) (text rest piece more : List ℕ) → IsErr result
-      → rest ≡ piece ++ more → Appending before now text rest
-      → Appends written faults last (Err fault) now after piece → Appends written faults last result before after text
-  appending_cut result fault before now after text rest piece more is e a p =
-      appending_ends result before now after text rest a
-      (subst (λ t. Appends written faults last result now after t) (sym e) (appends_front result (Err fault) now after piece more is refl p))
-
-  -- nothing is left
-  pub appending_over : (before now : S) (text rest : List ℕ) → Appending before now text rest → rest ≡ []
-      → Appends written faults last (Ok tt) before now text
-  appending_over before now text rest a e =
-      appending_ends (Ok tt) before now now text rest a (subst (λ t. Appends written faults last (Ok tt) now now t) (sym e) (appends_none tt now))
-
   -- some octets of a slice were written, and the rest of it is a range
   pub appending_range : (before now after : S) (text rest : List ℕ) (n : ℕ) → Appending before now text rest
       → append_known (written now) (take n rest) ≡ written after → faults after ≡ faults now

@@ -90,12 +90,6 @@ module _ {S : Type 0} (written : S → Option (List ℕ)) (faults : S → ℕ) (
       → Puts written faults last result before after held now other → Puts written faults last result before after held now text
   puts_text result before after held now text other e p = subst (λ t. Puts written faults last result before after held now t) (sym e) p
 
-  -- it failed in the same way
-  pub puts_failed : (result first_result : Result (Unit {0}) Failed) (before after : S) (held now other text : List ℕ) → IsErr result → IsErr first_result
-      → Puts written faults last first_result before after held other text → Puts written faults last result before after held now text
-  puts_failed result first_result before after held now other text e f a =
-      puts_text result before after held now text (text ++ []) (sym (append-nil text)) (puts_front result first_result before after held now other text [] e f a)
-
   -- a text was put, and what is held was written
   pub puts_sent : (result : Result (Unit {0}) Failed) (done : Unit {0}) (before mid after : S) (held between now text : List ℕ)
       → Puts written faults last (Ok done) before mid held between text → Puts written faults last result mid after between now []

@@ -1,6 +1,6 @@
 //! Octets drawn from a number.
 
-ghost use Rattle.std.specs.Prelude.{◌≡◌, ◌+◌, ◌/◌, ◌^◌, ℕ};
+ghost use Rattle.std.specs.Prelude.{◌≡◌, ◌+◌, ◌/◌, ℕ};
 ghost use Rattle.bulk_run.specs.Draws.{next_state, state_at, octet_at, octets_after};
 
 use eap_base::{Octets, array_of};

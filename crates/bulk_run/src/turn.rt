@@ -1,6 +1,6 @@
 //! One event of a conversation.
 
-ghost use Rattle.std.specs.Prelude.{◌≡◌, ◌<◌, ◌≤◌, ◌+◌, ◌%◌, ◌∷◌, ◌++◌, ℕ, List, [], length, true, false, IfOk};
+ghost use Rattle.std.specs.Prelude.{◌≡◌, ◌<◌, ◌+◌, ◌%◌, ℕ, List, [], length, true, false, IfOk};
 ghost use Rattle.login_setup.specs.declared.event.Event.{Event};
 ghost use Rattle.login_setup.specs.declared.setup.Setup.{Setup};
 ghost use Rattle.eap_world.specs.Run.{run_of, BeginsRun, GoesOn};

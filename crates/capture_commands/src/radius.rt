@@ -181,7 +181,6 @@ fn judged_reply(secret: &[u8], asked: &Option<KeptRequest>, view: &RadiusView) -
 }
 
 impl Radius {
-    ghost use Rattle.std.specs.Prelude.{ℕ};
     ghost use Rattle.capture_commands.specs.Radius.{nothing_asked, reply_took, read_took, item_took};
     ghost use Rattle.radius_carry.specs.Fault.{packet_of};
     ghost use Rattle.command_driver.specs.Commands.{AnswersLine};

@@ -1,5 +1,5 @@
--- What holds of every tag: it is a block, and its octets are octets where the key's are.
-use Rattle.std.proofs.Common.{◌≡◌, ℕ, ◌<◌, List, length, All}
+-- The size of a tag, for those who cut it or send it.
+use Rattle.std.proofs.Common.{◌≡◌, ℕ, List, length}
 use Rattle.aes_block.proofs.Laws.{length-aes128}
 use Rattle.cmac_mac.specs.Cmac.{aes_cmac}
 

@@ -6,7 +6,7 @@ mod Growing
 mod Tag
 -- A text that is fed piece by piece.
 pub mod Pieces
--- What holds of every tag: it is a block, and its octets are octets where the key's are.
+-- The size of a tag, for those who cut it or send it.
 pub mod Laws
 -- The definition gives the standard's examples with no octet and with forty (RFC 4493, section 4).
 mod Example

@@ -1,10 +1,10 @@
 -- A command on its way through lines.
-use Rattle.std.proofs.Common.{◌≡◌, ℕ, ◌+◌, List, [], ◌++◌, Bool, true, false, ◌||◌, Option, Some, None, refl, sym, ◌∙◌, ap, subst, append_assoc}
+use Rattle.std.proofs.Common.{◌≡◌, ℕ, ◌+◌, List, ◌++◌, Bool, true, false, ◌||◌, Option, Some, None, refl, sym, ◌∙◌, ap, subst, append_assoc}
 use Rattle.std.specs.Prelude.{option_map}
 use Rattle.octet_io.specs.Known.{append_known}
 use Rattle.octet_io.specs.Lines.{Lines, ended, too_long, too_much, line}
 use Rattle.answer_text.specs.Writes.{WritesFront}
-use Rattle.answer_text.proofs.Fronts.{append_known_append, append_known_nil}
+use Rattle.answer_text.proofs.Fronts.{append_known_append}
 use Rattle.command_driver.specs.declared.status.Status.{Status}
 use Rattle.command_driver.specs.Answers.{after_text, refusal, overlong, Ends}
 use Rattle.command_driver.specs.Commands.{Took, Closing, after_ruling, lacking_after, closing_answer, answer, lacking, GoesOn, Stops}
@@ -52,12 +52,6 @@ module _ {C : Type 0} (took : C → List ℕ → Took C) (closing : C → Closin
   pub record Driving (before now : Option (List ℕ)) (begun : C) (all : Lines) (n : ℕ) (c : C) (rest : Lines) : Type 0 where
     pub progress : Progress before now (answer took closing 0 begun all) (answer took closing n c rest)
     pub memory : lacking took lacks c rest ≡ true → lacking took lacks begun all ≡ true
-
-  pub driving_begins : (before : Option (List ℕ)) (begun : C) (all : Lines) → Driving before before begun all 0 begun all
-  driving_begins before begun all = record {
-    progress = record { front = []; split = refl; appended = append_known_nil before };
-    memory = λ e. e;
-  }
 
   -- a line is taken and the command goes on
   pub driving_goes : (before mid now : Option (List ℕ)) (begun : C) (all : Lines) (n : ℕ) (c new : C) (l : List ℕ) (rest : Lines)

@@ -4,7 +4,7 @@ use Rattle.octet_io.specs.Known.{append_known}
 use Rattle.answer_text.specs.Writes.{WritesFront}
 use Rattle.command_driver.specs.Answers.{Answer, after_text, Ends, cut_short, by_read, by_write, by_memory, Drains, HasRisen, Finishes, IsWritten}
 use Rattle.command_driver.specs.Commands.{SomeLacks}
-use Rattle.command_driver.specs.Responding.{Lacking, MayLack, never, Reads, Says}
+use Rattle.command_driver.specs.Responding.{Lacking, MayLack, never, Reads}
 use Rattle.command_driver.specs.declared.status.Status.{Status}
 use Rattle.command_driver.specs.declared.status.Status.TheVariants as status
 use Rattle.command_driver.proofs.Endings.{keeps_writes_from, ends_after, ends_same}

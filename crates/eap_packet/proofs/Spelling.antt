@@ -1,10 +1,9 @@
 -- The spelling of a packet: how long it is, and that it is read as that packet.
-use Rattle.std.proofs.Common.{◌≡◌, ◌≢◌, ℕ, ◌+◌, ◌-◌, ◌/◌, ◌%◌, ◌<◌, ◌≤◌, List, [], ◌∷◌, ◌++◌, length, take, drop, Ok, refl, ap, ◌∙◌, sym, arith, length-append, append-nil, IsTrue}
+use Rattle.std.proofs.Common.{◌≡◌, ◌≢◌, ℕ, ◌+◌, ◌-◌, ◌<◌, ◌≤◌, List, [], ◌∷◌, ◌++◌, length, take, drop, Ok, refl, ap, ◌∙◌, arith, length-append, IsTrue}
 use Rattle.std.proofs.lemmas.List.{take_at}
-use Rattle.std.proofs.lemmas.List.Elements.{All-cons, All-nil, All-append, All-from_recursion}
 use Rattle.eap_packet.specs.declared.packet.Code.{Code}
 use Rattle.eap_packet.specs.declared.packet.Code.TheVariants.{Request, Response, Success, Failure}
-use Rattle.eap_packet.specs.Packet.{PacketValue, request, response, success, failure, spelled, framed, two_octets, number_of, value_with, has_type, IsPacket, IsOctets, AreTypedFields}
+use Rattle.eap_packet.specs.Packet.{PacketValue, request, response, success, failure, spelled, framed, two_octets, number_of, value_with, has_type, IsPacket}
 use Rattle.eap_packet.specs.Fault.{code_of, length_of, fields_of, packet_of, packet_unless}
 use Rattle.eap_packet.proofs.Faults.{Begins, none_if_begins}
 

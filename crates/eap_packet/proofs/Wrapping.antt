@@ -14,10 +14,6 @@ if_so : {A : Type 0} (b : Bool) (one other : A) → b ≡ true → (if b then on
 if_so true one other e = refl
 if_so false one other e = absurd cc
 
-if_not : {A : Type 0} (b : Bool) (one other : A) → b ≡ false → (if b then one else other) ≡ other
-if_not true one other e = absurd cc
-if_not false one other e = refl
-
 wrapped_plain : (kind : ℕ) (body : List ℕ) → has_plain kind ≡ true → is_plain_body (ietf ++ kind ∷ body) ≡ true
 wrapped_plain kind body has = and_from _ _ (and_from _ _ (le-leb 7 (length (ietf ++ kind ∷ body)) (omega arith)) refl) has
 

@@ -1,6 +1,6 @@
 //! The packets that were sent.
 
-ghost use Rattle.std.specs.Prelude.{◌≡◌, ◌≤◌, ◌<◌, ◌+◌, ◌++◌, ◌∷◌, [], true, length, take, drop, Some, IfSome, is_some};
+ghost use Rattle.std.specs.Prelude.{◌≡◌, ◌≤◌, ◌+◌, ◌++◌, ◌∷◌, [], true, length, take, drop, Some, IfSome, is_some};
 ghost use Rattle.eap_base.specs.Sizes.{max_packet};
 ghost use Rattle.eap_world.specs.Sent.{last_to, packet_numbered, same_port};
 ghost use Rattle.eap_world.specs.Store.{AreThere, IsThere, last_slot, lent, packet_at, packets_at};

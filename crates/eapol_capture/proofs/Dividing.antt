@@ -41,10 +41,6 @@ none-behind held (Some rest) octets none nothing is =
     let joined : held ++ rest ≡ octets = cc in
     sym joined ∙ rw (none, empty) refl
 
--- what keeps a reader from a part is why its octets are missing
-Missing : ℕ → Reading → Option (List ℕ) → NextRecord → Type 0
-Missing count before was answer = (octets : List ℕ) → octets_left before was ≡ Some octets → missing count (max_input - before.taken) octets ≡ Some answer
-
 cut-is-missing : (count : ℕ) (before after : Reading) (was left : Option (List ℕ)) → before.taken ≤ max_input → after.taken ≤ max_input →
     (cut : IsCut count before after was left) → (rest : List ℕ) → octets_left after left ≡ Some rest →
     missing count (max_input - before.taken) (cut.part ++ rest) ≡ Some CutFile

@@ -1,6 +1,6 @@
 //! A source read as a pcap file.
 
-ghost use Rattle.std.specs.Prelude.{◌≡◌, ◌≤◌, ◌<◌, ◌+◌, ◌-◌, ◌++◌, min, take, drop, true, false, length, ℕ, [], Some, Ok, IfOk, IfErr, OnErr, OnOk};
+ghost use Rattle.std.specs.Prelude.{◌≡◌, ◌≤◌, ◌<◌, ◌+◌, ◌-◌, ◌++◌, min, take, drop, true, false, length, [], Some, Ok, IfOk, IfErr, OnErr, OnOk};
 ghost use Rattle.octet_io.specs.Known.{nothing_known};
 
 use crate::header::judge_header;

@@ -1,11 +1,8 @@
--- What holds of every sealed text, for those who send it: its sizes, and that it is of octets.
-use Rattle.std.proofs.Common.{◌≡◌, ℕ, ◌+◌, ◌%◌, ◌^◌, ◌<◌, List, [], ◌∷◌, length, All, bit_xor, ◌∙◌}
+-- The sizes of a sealed text, for those who send it.
+use Rattle.std.proofs.Common.{◌≡◌, ℕ, List, length, ◌∙◌}
 use Rattle.std.specs.Int.{div_ceil}
-use Rattle.std.specs.List.{flat_map, range_with_len}
-use Rattle.std.proofs.lemmas.Nat.{xor_lt}
-use Rattle.std.proofs.lemmas.List.Elements.{All-append, All-cons, All-head, All-nil, All-tail}
 use Rattle.cmac_mac.proofs.Laws.{length_aes_cmac}
-use Rattle.eax_mode.specs.Eax.{block_of, combined, counter_mode, eax_ciphertext, eax_plaintext, eax_tag, first_counter, key_stream, omac, stream_block}
+use Rattle.eax_mode.specs.Eax.{combined, counter_mode, eax_ciphertext, eax_tag, first_counter, key_stream, omac}
 use Rattle.eax_mode.proofs.Combining.{length-combined}
 
 -- a ciphertext has the size of its text

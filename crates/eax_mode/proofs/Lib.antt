@@ -1,6 +1,6 @@
 -- What it does to combine octets with the ones at their places in a second list.
 pub mod Combining
--- What holds of every sealed text, for those who send it: its sizes, and that it is of octets.
+-- The sizes of a sealed text, for those who send it.
 pub mod Laws
 -- A sealed text and its one plaintext.
 pub mod Sealing

@@ -1,7 +1,6 @@
 -- A sealed text and its one plaintext.
-use Rattle.std.proofs.Common.{◌≡◌, refl, true, List, ℕ, sym, ap, ◌∙◌}
-use Rattle.eax_mode.specs.Eax.{IsOnlyTextOf, Sealed, eax_accepts, eax_ciphertext, eax_plaintext, eax_tag, first_counter}
-use Rattle.std.proofs.lemmas.Slice.Eq.{bytes_eq-Decides}
+use Rattle.std.proofs.Common.{◌≡◌, List, ℕ, sym, ap, ◌∙◌}
+use Rattle.eax_mode.specs.Eax.{IsOnlyTextOf, Sealed, eax_ciphertext, eax_plaintext, eax_tag, first_counter}
 use Rattle.eax_mode.proofs.Stream.{counter_mode_twice}
 
 -- the text comes back

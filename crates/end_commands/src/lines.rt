@@ -1,7 +1,7 @@
 //! The lines that tell what an end does. Each call answers `Failed` exactly where a write of the sink failed; a front of the
 //! lines was then appended.
 
-ghost use Rattle.std.specs.Prelude.{◌≡◌, ◌∷◌, [], Some, None, if◌then◌else◌};
+ghost use Rattle.std.specs.Prelude.{Some, None, if◌then◌else◌};
 ghost use Rattle.eap_method.specs.declared.tags.Tags.{Tags};
 ghost use Rattle.answer_text.specs.Writes.{Appends};
 ghost use Rattle.end_pipe.specs.EndRun.{told_with};

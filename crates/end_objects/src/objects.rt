@@ -1,7 +1,5 @@
 //! An object of either method, for each side.
 
-ghost use Rattle.std.specs.Prelude.{◌≡◌};
-
 use eap_base::{Nonce, Packet};
 use eap_method::{
     Credential, PeerMethod, PeerTurn, Report, ServerMethod, ServerSide, ServerTurn, Tags,

@@ -1,6 +1,6 @@
 //! The peer alone, over what comes to it.
 
-ghost use Rattle.std.specs.Prelude.{◌≡◌, ◌||◌, ◌∷◌, ◌++◌, [], List, map, true, false, is_some};
+ghost use Rattle.std.specs.Prelude.{◌≡◌, ◌||◌, [], List, map, true, false, is_some};
 ghost use Rattle.login_setup.specs.Setup.{IsSoundPeer, HasKeys};
 ghost use Rattle.login_setup.specs.declared.setup.PeerSetup.{PeerSetup};
 ghost use Rattle.eap_method.specs.Peer.{have_each, peer_kinds};

@@ -1,7 +1,7 @@
 //! Reading an end's text, line by line: its header, its settings, the line `events`, its inputs, the line `end`. After
 //! the header an empty line and one that begins with `#` are passed over.
 
-ghost use Rattle.std.specs.Prelude.{◌≡◌, ◌<◌, ◌≤◌, false, unwrap_or, IfOk, OnErr, Ok};
+ghost use Rattle.std.specs.Prelude.{◌≡◌, ◌≤◌, false, unwrap_or, IfOk, OnErr, Ok};
 ghost use Rattle.text_tables.specs.Words.{words};
 ghost use Rattle.scenario_text.specs.Reading.{peer_setup_of, server_setup_of};
 ghost use Rattle.scenario_text.specs.Valid.{IsValidPeer, IsValidServer};

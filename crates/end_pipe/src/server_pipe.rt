@@ -1,6 +1,6 @@
 //! The stand-alone server alone, over what comes to it.
 
-ghost use Rattle.std.specs.Prelude.{◌≡◌, ◌≤◌, ◌||◌, ◌∷◌, ◌++◌, [], ℕ, List, map, true, false, is_some};
+ghost use Rattle.std.specs.Prelude.{◌≡◌, ◌≤◌, ◌||◌, [], ℕ, List, map, true, false, is_some};
 ghost use Rattle.login_setup.specs.Setup.{IsSoundServer};
 ghost use Rattle.login_setup.specs.declared.setup.ServerSetup.{ServerSetup};
 ghost use Rattle.eap_method.specs.Peer.{have_each};

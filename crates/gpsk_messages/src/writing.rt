@@ -1,6 +1,6 @@
 //! Writing a message as a packet (RFC 5433 section 9).
 
-ghost use Rattle.std.specs.Prelude.{◌≡◌, ◌+◌, ◌≤◌, ◌++◌, [], ◌∷◌, length, IsTrue};
+ghost use Rattle.std.specs.Prelude.{◌≡◌, ◌+◌, ◌≤◌, ◌++◌, length, IsTrue};
 ghost use Rattle.std.specs.Int.{w32, to_be_bytes};
 ghost use Rattle.eap_base.specs.Suite.{suite_octets};
 ghost use Rattle.eap_base.specs.Sizes.{max_packet};

@@ -1,9 +1,6 @@
--- What holds of every result, for those who cut it or send it.
-use Rattle.std.proofs.Common.{◌≡◌, ℕ, zero, suc, ◌<◌, List, [], ◌∷◌, length, All, arith}
-use Rattle.std.specs.Prelude.{slice_index}
-use Rattle.std.specs.Int.{byte_at, to_be_bytes, w32}
-use Rattle.std.proofs.lemmas.List.Elements.{All-append, All-cons, All-nil}
-use Rattle.sha2.specs.Sha256.{digest_bytes, final_hash, initial_hash_256, sha256}
+-- The size of a result, for those who cut it or send it.
+use Rattle.std.proofs.Common.{◌≡◌, ℕ, List, length}
+use Rattle.sha2.specs.Sha256.{sha256}
 use Rattle.sha2.proofs.Facts256.{length-sha256}
 use Rattle.hmac_mac.specs.Hmac.{hmac, hmac_sha256}
 

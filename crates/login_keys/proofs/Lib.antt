@@ -5,5 +5,5 @@ pub mod Blocks
 -- The definitions computed, with values of an independent program (Python with its hashlib and hmac, and with AES of
 -- the package cryptography).
 pub mod Examples
--- The sizes of keys and tags, and that they are of octets, for those who cut them or send them.
+-- The size of a tag, for those who cut it or send it.
 pub mod Laws

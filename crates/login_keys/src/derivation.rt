@@ -1,6 +1,6 @@
 //! The key derivation function of EAP-GPSK.
 
-ghost use Rattle.std.specs.Prelude.{◌≡◌, ℕ, ◌≤◌, List, ◌++◌, length, map};
+ghost use Rattle.std.specs.Prelude.{◌≡◌, ℕ, ◌≤◌, List, length, map};
 ghost use Rattle.std.specs.List.{concat};
 ghost use Rattle.eap_base.specs.Suite.{ks_of};
 ghost use Rattle.login_keys.specs.Gkdf as spec;

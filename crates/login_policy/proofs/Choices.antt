@@ -4,7 +4,7 @@ use Rattle.login_policy.proofs.Finding.{among_there}
 use Rattle.eap_base.specs.Among.{is_among}
 use Rattle.eap_base.specs.Suite.{suite_number}
 use Rattle.eap_base.specs.declared.suite.Suite.{Suite}
-use Rattle.login_policy.specs.Policy.{nak_of, picked_suite, is_desired, next_kind}
+use Rattle.login_policy.specs.Policy.{nak_of, picked_suite, next_kind}
 use Rattle.login_policy.specs.Laws.{IsNext}
 use Rattle.login_policy.proofs.Firsts.{next_is_first, picked_is_first}
 

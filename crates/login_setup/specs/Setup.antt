@@ -1,5 +1,5 @@
 -- When the settings of an end are sound: its methods, its suites and the keys that it holds.
-use Rattle.std.specs.Prelude.{ℕ, List, [], ◌∷◌, length, Bool, true, ◌==◌, ◌&&◌, ◌||◌, if◌then◌else◌, nat_le, IsTrue, IfSome, IsSome, All}
+use Rattle.std.specs.Prelude.{ℕ, List, [], length, Bool, true, ◌==◌, ◌&&◌, ◌||◌, if◌then◌else◌, nat_le, IsTrue, IfSome, IsSome, All}
 use Rattle.std.specs.List.{list_all}
 use Rattle.std.specs.Str.{bytes_eq}
 use Rattle.eap_base.specs.Among.{is_among, are_distinct, is_filled, psk_kind, gpsk_kind, is_kind}

@@ -1,6 +1,6 @@
 //! A source cut into lines.
 
-ghost use Rattle.std.specs.Prelude.{◌≡◌, ◌≢◌, ◌≤◌, ◌<◌, ◌+◌, false, length, drop, ℕ, List, Option, [], ◌∷◌, ◌==◌};
+ghost use Rattle.std.specs.Prelude.{◌≡◌, ◌≤◌, ◌<◌, ◌+◌, false, length, drop, ℕ, List, Option, [], ◌∷◌, ◌==◌};
 ghost use Rattle.std.specs.List.{position, position_or_len};
 ghost use Rattle.octet_io.specs.Known.{nothing_known};
 ghost use Rattle.octet_io.specs.Lines.{without_cr};

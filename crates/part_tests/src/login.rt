@@ -10,7 +10,7 @@
 //! - `server success` and `server failure`: the server ends the method;
 //! - `peer-has SUITE MSK EMSK` and `server-has SUITE MSK EMSK`: what the end reports, `none` for nothing.
 
-ghost use Rattle.std.specs.Prelude.{◌≡◌, ◌≤◌, length, All, IsTrue};
+ghost use Rattle.std.specs.Prelude.{◌≤◌, length, All, IsTrue};
 ghost use Rattle.eap_base.specs.Sizes.{max_name};
 ghost use Rattle.login_setup.specs.Setup.{fits_kind};
 

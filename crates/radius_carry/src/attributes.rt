@@ -1,6 +1,6 @@
 //! The attributes of a RADIUS packet (RFC 2865 section 5).
 
-ghost use Rattle.std.specs.Prelude.{◌≡◌, ◌≤◌, ◌+◌, ◌++◌, ◌∷◌, [], ℕ, length, IsTrue, ◌↔◌, IfSome, MatchOption};
+ghost use Rattle.std.specs.Prelude.{◌≡◌, ◌≤◌, ◌+◌, ◌++◌, ◌∷◌, [], length, IsTrue, ◌↔◌, IfSome, MatchOption};
 ghost use Rattle.eap_base.specs.Sizes.{max_packet};
 ghost use Rattle.radius_carry.specs.Packet.{count, joined};
 ghost use Rattle.radius_carry.specs.Fault.{attributes_of, left_of};

@@ -1,6 +1,6 @@
 //! Reading RADIUS packets that carry EAP (RFC 2865 section 3, RFC 3579 section 3).
 
-ghost use Rattle.std.specs.Prelude.{◌≡◌, ◌≤◌, ◌++◌, [], take, drop, length, IfOk, None, IsTrue, slice_index};
+ghost use Rattle.std.specs.Prelude.{◌≡◌, ◌≤◌, take, drop, length, IfOk, None, IsTrue, slice_index};
 ghost use Rattle.radius_carry.specs.Packet as spec;
 ghost use Rattle.radius_carry.specs.Packet.{IsRadius, number_of};
 ghost use Rattle.radius_carry.specs.Fault.{fault, first_cause, head_table, body_table, body_of, code_of, length_of, packet_at, packet_of, value_of, heard};

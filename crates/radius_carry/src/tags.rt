@@ -1,6 +1,6 @@
 //! Whether a packet comes from one who knows the secret (RFC 2865 section 3, RFC 3579 section 3.2).
 
-ghost use Rattle.std.specs.Prelude.{◌≡◌, ◌≤◌, ◌↔◌, ◌++◌, [], ℕ, List, length, take, drop, ◌+◌, ◌==◌, IsTrue};
+ghost use Rattle.std.specs.Prelude.{◌≡◌, ◌≤◌, ◌↔◌, ℕ, List, length, take, drop, ◌+◌, ◌==◌, IsTrue};
 ghost use Rattle.std.specs.Str.{bytes_eq};
 ghost use Rattle.radius_carry.specs.Packet.{IsRadius, number_of, tag_of};
 ghost use Rattle.radius_carry.specs.Fault.{value_of};

@@ -1,6 +1,6 @@
 //! Writing RADIUS packets that carry EAP (RFC 2865 sections 3 and 5, RFC 3579 section 3).
 
-ghost use Rattle.std.specs.Prelude.{◌≡◌, ◌≢◌, ◌≤◌, ◌+◌, ◌++◌, ◌∷◌, [], ℕ, List, length};
+ghost use Rattle.std.specs.Prelude.{◌≡◌, ◌≢◌, ◌≤◌, ◌+◌, ◌++◌, [], List, length};
 ghost use Rattle.eap_base.specs.Sizes.{max_packet};
 ghost use Rattle.md5.specs.Md5.{md5};
 ghost use Rattle.radius_carry.specs.Packet.{Attribute, attribute_octets, head_of, number_of, octets_of, spelled, max_value};

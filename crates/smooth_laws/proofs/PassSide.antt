@@ -6,8 +6,8 @@ use Rattle.eap_packet.specs.Packet.{request, response, success}
 use Rattle.eap_packet.specs.Fault.{packet_of}
 use Rattle.eap_packet.specs.declared.state.State.{State}
 use Rattle.eap_packet.specs.declared.state.State.TheVariants as state
-use Rattle.pass_through.specs.PassTable.{answer, asks, passes_on, pass_made, pass_start, pass_from_peer, pass_from_backend, idle_row, idle2_row, aaa_row}
-use Rattle.pass_through.specs.PassTable.{identity_request, unpadded}
+use Rattle.pass_through.specs.PassTable.{answer, asks, passes_on, pass_from_peer, pass_from_backend, idle_row, idle2_row, aaa_row}
+use Rattle.pass_through.specs.PassTable.{unpadded}
 use Rattle.pass_through.specs.declared.variables.PassVariables.{PassVariables}
 
 -- a pass-through that has started: where it stands, the Identifier of the last Request, and that Request
@@ -16,14 +16,6 @@ pass_at first_id max_retrans at id last =
     record { first_id = first_id; max_retrans = max_retrans; state = at; current_id = Some id; retrans_count = 0; last_request = last }
 
 module _ (first_id max_retrans : ℕ) where
-  pub starts : pass_start (pass_made first_id max_retrans)
-      ≡ answer
-      (asks (state.Initialize ∷ state.SelectAction ∷ state.ProposeMethod ∷ state.MethodRequest ∷ state.SendRequest ∷ state.Idle ∷ [])
-      (identity_request first_id))
-      (pass_at first_id max_retrans state.Idle first_id (identity_request first_id))
-  unfolding pass_start
-  starts = refl
-
   -- the Identity Response goes on to the server
   pub hands_identity : (octets : List ℕ) (id : ℕ) (name last : List ℕ) → packet_of octets ≡ Ok (response id 1 name) → unpadded octets ≡ octets
       → pass_from_peer (pass_at first_id max_retrans state.Idle id last) octets

@@ -17,8 +17,8 @@ use Rattle.eap_method.specs.Steps.{sends, is_end}
 use Rattle.eap_method.specs.Tags.{no_tags}
 use Rattle.eap_method.specs.Turns.{ServerOutcome}
 use Rattle.server_machine.specs.Expanded.{takes_nak, response_octets, wraps, server_reads, server_hears}
-use Rattle.server_machine.specs.ServerTable.{ServerNow, ServerAnswer, answer, server_made, vars_made, identity_request, success_packet, select_action}
-use Rattle.server_machine.specs.ServerTable.{proposes, offers, server_row, server_deliver, server_method, server_start, method_answers, pick_up}
+use Rattle.server_machine.specs.ServerTable.{ServerNow, ServerAnswer, answer, server_made, vars_made, success_packet, select_action}
+use Rattle.server_machine.specs.ServerTable.{proposes, offers, server_row, server_deliver, server_method, method_answers, pick_up}
 use Rattle.server_machine.specs.ServerTable.{before_proposal, is_backend, awaits_first}
 use Rattle.server_machine.specs.declared.variables.Progress.{Progress}
 use Rattle.server_machine.specs.declared.variables.Progress.TheVariants as progress
@@ -147,14 +147,6 @@ module _ (made : Made) where
       let now : ServerNow = server_at made id kind at last proposed views in
       checks octets id kind body last at proposed views read not_3 not_1
       ∙ ap (λ (out : ServerOutcome ServerViews). method_answers now id out.after out.turn) turned
-
--- the start of a server of its own
-pub starts : (made : Made) → (let now = server_made made.role made.setup made.first_id made.max_retrans in server_start now
-    ≡ replies (state.Initialize ∷ state.SelectAction ∷ state.ProposeMethod ∷ state.MethodRequest ∷ state.SendRequest ∷ state.Idle ∷ [])
-    (identity_request made.first_id) no_tags
-    (server_at made made.first_id 1 progress.Continue (identity_request made.first_id) [] (views_begun made.setup)))
-unfolding server_start
-starts made = refl
 
 -- a backend
 abbrev pub backend : ServerSetup → ℕ → ℕ → Made

@@ -1,7 +1,7 @@
 //! The trace of a run: lines of words, each ended by LF. States have their names of RFC 4137, packets the
 //! fields of RFC 3748 section 4.
 
-ghost use Rattle.std.specs.Prelude.{◌≡◌, Some, length, slice_index, [], ◌∷◌, codes, decimal};
+ghost use Rattle.std.specs.Prelude.{◌≡◌, Some, slice_index, [], ◌∷◌, codes, decimal};
 ghost use Rattle.std.specs.List.{concat};
 ghost use Rattle.answer_text.specs.Writes.{Appends, Puts};
 ghost use Rattle.answer_text.specs.Pieces.{hex_text};

@@ -1,6 +1,6 @@
 //! The methods alone, for a program with machines of its own.
 
-ghost use Rattle.std.specs.Prelude.{◌≡◌, ◌≤◌, false, IsTrue, All, Ok, Err, None, IfSome, IfOk, IfErr};
+ghost use Rattle.std.specs.Prelude.{◌≡◌, false, IsTrue, All, Ok, Err, None, IfSome, IfOk, IfErr};
 ghost use Rattle.login_setup.specs.Setup.{fits_kind};
 ghost use Rattle.eap_packet.specs.Fault.{packet_of};
 ghost use Rattle.eap_method.specs.Peer.{peer_kind, peer_step, IsRequest};

@@ -19,11 +19,11 @@ use Rattle.eap_method.specs.declared.tags.TagRecord.{TagRecord}
 use Rattle.peer_machine.specs.Inputs as peer_inputs
 use Rattle.peer_machine.specs.Inputs.{PeerInput, peer_takes}
 use Rattle.peer_machine.specs.PeerTable as peers
-use Rattle.peer_machine.specs.PeerTable.{PeerNow, peer_made, peer_restart}
+use Rattle.peer_machine.specs.PeerTable.{PeerNow, peer_restart}
 use Rattle.server_machine.specs.Inputs as server_inputs
 use Rattle.server_machine.specs.Inputs.{ServerInput, server_takes}
 use Rattle.server_machine.specs.ServerTable as servers
-use Rattle.server_machine.specs.ServerTable.{ServerNow, ServerAnswer, answer, is_backend, made_again, server_made, server_restart, server_start}
+use Rattle.server_machine.specs.ServerTable.{ServerNow, ServerAnswer, answer, is_backend, made_again, server_restart, server_start}
 use Rattle.eap_world.specs.Run.{run_of}
 use Rattle.world_laws.specs.Agreement.{IsWhole}
 use Rattle.eap_world.specs.Conversations.{Conversations, begins, begun, front, hears, since_from, since_of, waiting}

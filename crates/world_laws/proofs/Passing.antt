@@ -10,7 +10,7 @@ use Rattle.login_setup.specs.declared.setup.Port.{Port}
 use Rattle.login_setup.specs.declared.setup.Port.TheVariants as port
 use Rattle.login_setup.specs.declared.setup.Setup.{Setup}
 use Rattle.pass_through.specs.Inputs.{PassInput, pass_takes}
-use Rattle.pass_through.specs.PassTable.{PassStep, Side, pass_made}
+use Rattle.pass_through.specs.PassTable.{Side, pass_made}
 use Rattle.pass_through.specs.PassTable as passes
 use Rattle.pass_through.specs.Runs.{IsCarried, SentOn, pass_after, pass_sends, sent_on}
 use Rattle.pass_through.specs.declared.variables.PassVariables.{PassVariables}

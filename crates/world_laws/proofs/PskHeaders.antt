@@ -6,7 +6,7 @@ use Rattle.eap_packet.specs.Packet as packets
 use Rattle.eap_packet.specs.declared.cause.Cause.{Cause}
 use Rattle.eap_packet.specs.declared.cause.Cause.TheVariants.{PskShape}
 use Rattle.psk_messages.specs.Message as messages
-use Rattle.psk_messages.specs.Message.{Message, psk1, psk2, psk3, psk4}
+use Rattle.psk_messages.specs.Message.{Message, psk4}
 use Rattle.psk_messages.specs.Reading.{is_size, psk1_at, psk2_at, psk3_at, psk4_at, message_at, read_of}
 use Rattle.eap_method.specs.PskPeer as psk
 use Rattle.eap_method.specs.PskTags.{channel_nonce, channel_octets, header_of}

@@ -4,7 +4,7 @@ use Rattle.std.proofs.raw_atomic.Walks.{proved}
 use Rattle.std.proofs.VecSteps.Shapes.{after}
 use seplogic.Ra.Ura.{Ura}
 use base.Fraction.{full_share}
-use base.Logic.{SProp, ent, sep, never, fst∗}
+use base.Logic.{ent, sep, never, fst∗}
 use base.Fml.{Fml, GName, ftrue, flft, fsep}
 use mir.Raw.{raw as bare}
 use mir.Syntax.{named}
