@@ -136,12 +136,12 @@ refuses "call has no clause other" "$small/tools/reading" 'high::call: other'
 refuses "a DEFINITION is wanted" "$small/tools/reading"
 
 # Here: each file of the headline has as many lines as are told, and the definitions that it rests on are among them.
-tools/reading login_call::eap_login eap_world::honest_ends_agree >"$work/said"
+tools/reading login_call::eap_login world_laws::honest_ends_agree >"$work/said"
 sed -n 's/^| `\([^`]*\)` .* of \([0-9]*\) |.*/\2 crates\/\1/p' "$work/said" | sort -k 2 >"$work/told"
 cut -d ' ' -f 2 "$work/told" | xargs wc -l | sed '/ total$/d; s/^ *//' | sort -k 2 >"$work/wanted"
 cp "$work/told" "$work/said"
 is_file "$work/wanted" "reading of the headline"
-for file in eap_world/specs/Agreement gpsk_messages/specs/Message psk_messages/specs/Message eap_packet/specs/Packet \
+for file in world_laws/specs/Agreement gpsk_messages/specs/Message psk_messages/specs/Message eap_packet/specs/Packet \
     peer_machine/specs/PeerTable server_machine/specs/ServerTable aes_block/specs/Cipher hmac_mac/specs/Hmac; do
     count=$((count + 1))
     grep -q " crates/$file.antt$" "$work/told" || fail "reading of the headline doesn't have $file"
