@@ -245,3 +245,18 @@ fn each_line_is_one_write(rt: HostRuntime) -> Result<(), Fail> {
     assert!(rt; lines_are_writes(rt.alloc())?);
     Ok(())
 }
+
+/// True where conversations, over a source that would fail at its first read and a sink that fails at its first
+/// write, end with the status of a failed write.
+fn fails_to_write(alloc: Global) -> io::Result<bool> {
+    let source = MemSource::new(alloc, b"", 100, &[1])?;
+    let sink = MemSink::new(alloc, 1000, 100, &[1])?;
+    let (status, sink) = answered(alloc, "bulk 1 3", source, sink)?;
+    Ok(status == Status::WriteFault && sink.written().is_empty())
+}
+
+#[test]
+fn many_conversations_read_nothing_and_a_write_may_fail(rt: HostRuntime) -> Result<(), Fail> {
+    assert!(rt; fails_to_write(rt.alloc())?);
+    Ok(())
+}

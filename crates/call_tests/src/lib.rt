@@ -5,18 +5,12 @@
 #[cfg(test)]
 mod call;
 #[cfg(test)]
-mod conversations;
-#[cfg(test)]
 mod faults;
-#[cfg(test)]
-mod pipes;
 #[cfg(test)]
 mod reads;
 #[cfg(test)]
 mod reflections;
 #[cfg(test)]
 mod runs;
-#[cfg(test)]
-mod soundness;
 #[cfg(test)]
 mod worlds;

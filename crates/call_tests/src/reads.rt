@@ -1,6 +1,7 @@
-//! Nothing is read once an answer is decided: the read after the octets that decide it would fail.
+//! Nothing is read once an answer is decided, and a line is answered before more is read: the read after the octets that
+//! decide would fail.
 
-use crate::call::answered;
+use crate::call::{Status, answered};
 use octet_io::{MemSink, MemSource};
 use std::alloc::{AllocError, Global};
 use std::io;
@@ -95,5 +96,37 @@ fn nothing_is_read_once_a_file_is_refused(rt: HostRuntime) -> Result<(), Fail> {
         is_refused(rt.alloc(), BAD_MAGIC, b"refused record 0 BadMagic\n")?
             && is_refused(rt.alloc(), BAD_RECORD, b"refused record 1 BadRecord\n")?
     );
+    Ok(())
+}
+
+/// Alice's text up to the first packet that comes to her.
+const PEER: &str = "\
+eap-end 1
+peer-name alice
+peer-server srv
+peer-methods 51 47
+peer-psk 51 000102030405060708090a0b0c0d0e0f101112131415161718191a1b1c1d1e1f
+peer-psk 47 000102030405060708090a0b0c0d0e0f
+peer-nonce 1111111111111111111111111111111111111111111111111111111111111111
+events
+packet 0100000501
+";
+
+/// What alice answers to the first packet.
+const ANSWER: &[u8] = b"1 RECEIVED IDENTITY SEND_RESPONSE IDLE\n1 send 0200000a01616c696365\n";
+
+/// True where a source of one octet a read, whose read behind the first packet's line fails, leaves both lines of the
+/// answer written.
+fn is_answered_first(alloc: Global) -> io::Result<bool> {
+    let failing = u32::try_from(PEER.len()).unwrap_or(0).wrapping_add(1);
+    let source = MemSource::new(alloc, PEER.as_bytes(), 1, &[failing])?;
+    let sink = MemSink::new(alloc, 10_000, 100, &[])?;
+    let (status, sink) = answered(alloc, "peer", source, sink)?;
+    Ok(status == Status::ReadFault && sink.written() == ANSWER)
+}
+
+#[test]
+fn a_line_is_answered_before_more_is_read(rt: HostRuntime) -> Result<(), Fail> {
+    assert!(rt; is_answered_first(rt.alloc())?);
     Ok(())
 }

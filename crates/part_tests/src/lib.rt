@@ -1,5 +1,5 @@
-//! Tests of what stands below the machines, by public calls: the base's streams, lines and lists, the block cipher, captured
-//! frames, RADIUS packets and the methods' ends.
+//! Tests of what stands below the machines, by public calls: streams, lines and lists, copies of settings, the block cipher,
+//! captured frames and long RADIUS packets. Whole logins are in cases/.
 #![tactic(auto)]
 
 #[cfg(test)]
@@ -7,13 +7,7 @@ mod captures;
 #[cfg(test)]
 mod ciphers;
 #[cfg(test)]
-mod gpsk;
-#[cfg(test)]
 mod lines;
-#[cfg(test)]
-mod login;
-#[cfg(test)]
-mod psk;
 #[cfg(test)]
 mod radius;
 #[cfg(test)]

@@ -1,2 +1,0 @@
--- The keys of a server's users.
-pub mod UserKeys
