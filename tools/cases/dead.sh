@@ -127,6 +127,7 @@ dead_tells $sums '\nabbrev pub cited : ℕ\ncited = 0\n' "$sums:11: $is_reached 
 needs="the file doesn't need its import"
 dead_tells $facts 'use Rattle.std.proofs.Common.{sym, ap}\n' "$facts:14: $needs ap" "$facts:14: $needs sym"
 dead_tells $facts 'use Rattle.std.proofs.Common.{◌+◌}\n' "$facts:14: $needs ◌+◌"
+dead_tells $facts 'use Rattle.std.proofs.Common.{sum}\n\nsum-row : 1 ≡ 1\nsum-row = refl\n' "$facts:14: $needs sum"
 dead_tells $facts 'use Rattle.low.specs.Form as form\n' "$facts:14: $needs form"
 dead_tells $lib 'ghost use Rattle.low.specs.Form.{is_sum as same};\n' "$lib:19: $needs same"
 dead_tells $lib 'use std::io;\n' "$lib:19: $needs io"
