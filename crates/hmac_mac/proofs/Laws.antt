@@ -1,6 +1,5 @@
 -- The size of a result, for those who cut it or send it.
 use Rattle.std.proofs.Common.{◌≡◌, ℕ, List, length}
-use Rattle.sha2.specs.Sha256.{sha256}
 use Rattle.sha2.proofs.Facts256.{length-sha256}
 use Rattle.hmac_mac.specs.Hmac.{hmac, hmac_sha256}
 
