@@ -82,7 +82,8 @@ pub fn call(kind: Kind) -> u8
 }
 TEXT
 reading() { "$small/tools/reading" "$@" >"$work/said" 2>"$work/errors" || fail "reading $* ends with a failure"; }
-# One definition needs no other line; a form is read where it is used; a clause of a contract takes what it names.
+# One definition needs no other line; a form is read where it is used; a clause of a contract takes what it names, what is
+# asked first, and the types of what is handed over.
 reading alone
 cat >"$work/wanted" <<'TEXT'
 | File | Definitions | Lines | Sections |
@@ -99,13 +100,21 @@ cat >"$work/wanted" <<'TEXT'
 | File | Definitions | Lines | Sections |
 |---|---|---|---|
 | `low/specs/Base.antt` | 2 | 7 of 21 | RFC 3748 4, 5, RFC 5433 9.1, 9.2 |
-| `high/specs/Top.antt` | 1 | 2 of 14 | – |
-| `high/src/lib.rt` | 1 | 1 of 15 | – |
+| `low/src/kind.rt` | 1 | 7 of 16 | RFC 4137 4.4 |
+| `high/specs/Top.antt` | 2 | 4 of 14 | – |
+| `high/src/lib.rt` | 1 | 3 of 15 | – |
 
-Files: 3; definitions: 4; lines: 10 of 50.
+Files: 4; definitions: 6; lines: 21 of 66.
 Names of the kit: 2, of `std.specs.Prelude`.
 TEXT
 is_file "$work/wanted" "reading of a clause"
+# (several clauses of a call, as a claim names them)
+reading 'high::call: sums, tells'
+grep -v 'high/src/lib.rt' "$work/said" >"$work/several"
+reading high::call
+grep -v 'high/src/lib.rt' "$work/said" | sed 's/; lines: 31 of/; lines: 29 of/' >"$work/wanted"
+cp "$work/several" "$work/said"
+is_file "$work/wanted" "reading of two clauses"
 # The whole contract takes the record, through its module and an alias the shape, and the type of the sources in it.
 reading high::call
 cat >"$work/wanted" <<'TEXT'
@@ -131,6 +140,80 @@ cat >"$work/wanted" <<'TEXT'
 | RFC 5433 9.2 | `one` in `low/specs/Base.antt` |
 TEXT
 is_file "$work/wanted" "reading --sections"
+# A call that is written for a trait has the trait's contract: what the trait's objects show, what this one shows, and of a
+# type with a model the type of its values; its fields and its view are left out.
+cat >"$small/crates/low/src/steps.rt" <<'TEXT'
+//! Steps.
+
+/// What steps.
+pub trait Steps {
+    ghost use Rattle.low.specs.Base.{Shape};
+
+    /// Its shape.
+    ghost shape: { Self → Shape };
+
+    /// One step.
+    fn step(&mut self) -> u8
+        requires { shape self.old ≡ shape self.old }
+        ensures goes { shape self.new ≡ shape self.old }
+        ensures ends { result ≡ 0 };
+}
+TEXT
+cat >"$small/crates/high/src/ends.rt" <<'TEXT'
+//! Ends.
+
+ghost use Rattle.high.specs.Top.{alone, summed};
+
+use low::{Other, Steps};
+
+/// An end.
+pub struct End {
+    hidden: Other,
+}
+
+impl Model for End {
+    ghost use Rattle.low.specs.Base.{Shape};
+
+    ghost Value = { Shape };
+
+    ghost view = { λ e. summed e.hidden };
+}
+
+impl Steps for End {
+    ghost use Rattle.low.specs.Base.{two};
+
+    ghost shape = { λ e. two e };
+
+    fn step(&mut self) -> u8 {
+        0
+    }
+}
+TEXT
+reading 'high::End::step: goes'
+cat >"$work/wanted" <<'TEXT'
+| File | Definitions | Lines | Sections |
+|---|---|---|---|
+| `low/src/kind.rt` | 1 | 7 of 16 | RFC 4137 4.4 |
+| `low/specs/Base.antt` | 3 | 8 of 21 | RFC 3748 4, RFC 5433 9.1, 9.2, RFC 4137 7 |
+| `low/src/steps.rt` | 2 | 7 of 15 | – |
+| `high/src/ends.rt` | 3 | 7 of 28 | – |
+
+Files: 4; definitions: 9; lines: 29 of 80.
+Names of the kit: 2, of `std.specs.Prelude`.
+TEXT
+is_file "$work/wanted" "reading of a call that is written for a trait"
+reading 'low::Steps::step: ends'
+cat >"$work/wanted" <<'TEXT'
+| File | Definitions | Lines | Sections |
+|---|---|---|---|
+| `low/src/kind.rt` | 1 | 7 of 16 | RFC 4137 4.4 |
+| `low/specs/Base.antt` | 1 | 3 of 21 | RFC 3748 4, RFC 4137 7 |
+| `low/src/steps.rt` | 2 | 7 of 15 | – |
+
+Files: 3; definitions: 4; lines: 17 of 52.
+Names of the kit: 0, of .
+TEXT
+is_file "$work/wanted" "reading of a trait's call"
 refuses "there is no definition, type or contract nothing" "$small/tools/reading" nothing
 refuses "call has no clause other" "$small/tools/reading" 'high::call: other'
 refuses "a DEFINITION is wanted" "$small/tools/reading"

@@ -1,50 +1,114 @@
-"""The definitions, types and contracts of the crates: where each stands, and which others it names."""
+"""The definitions, types and contracts of the crates: where each stands, which others it names, and what it promises."""
 
 import functools
 import re
 from dataclasses import dataclass, field
+from pathlib import Path
+from typing import Dict, Iterable, Iterator, List, NamedTuple, Optional, Set, Tuple
 
+from lib import rattle
 from lib.common import ROOT, Refused
 
 NAME = r"[A-Za-z_][\w']*"
 # (within a module a definition is indented; so are the fields of a record, which have no other word than pub)
 HEADER = re.compile(r"(?!pub mod )(?=\S| *(?:pub )?(?:abbrev|unfoldable|opaque|record|data) ) *"
-                    r"(?:(?:abbrev|unfoldable|opaque|pub|record|data)\s+)+([^\s:(]+)|module ")
-RUST = re.compile(rf"(?:pub(?:\(\w+\))? )?(?:unsafe |const (?=fn))*(struct|enum|trait|type|const|static|fn|impl)\b(.*)")
-USE = re.compile(rf"^(?:pub )?(?:ghost )?use ([\w.:]+?)(?:(?:\.|::)\{{(.*?)\}})?(?: as ({NAME}))?;?\n", re.M | re.S)
+                    r"(?:(?:abbrev|unfoldable|opaque|pub|record|data)\s+)+([^\s:({]+)|module ")
+USE = re.compile(rf"^ *(?:pub )?(?:ghost )?use ([\w:.]+?)(?:(?:\.|::)\{{(.*?)\}})?(?: as ({NAME}))?;?\n", re.M | re.S)
+class Clause(NamedTuple):
+    """A clause of a contract: `requires` or `ensures`, its name or nothing, its text, and the lines where it stands."""
+
+    kind: str
+    name: str
+    text: str
+    lines: range
 
 
 @dataclass(eq=False)
 class Item:
-    """A definition, a type or a contract: its crate, file and name, its lines, its text, and what is said of it.
+    """A definition, a type, a contract or the head of a block: its crate, file and name, its lines, its text, and what
+    is said of it.
 
     `part` is the comment that stands by itself above it and others. `inner` has the constructors of a type, `inside`
-    the parameters of the module around it, which have no name."""
+    the module or the block around it, which has no name. `of_trait` is the trait that it is written for."""
 
     crate: str
     file: str
     name: str
-    first: int
-    last: int
+    lines: Set[int]
     text: str
     comment: str
     part: str = ""
-    inner: list = field(default_factory=list)
-    inside: object = None
-
-    @property
-    def lines(self):
-        return self.last - self.first + 1
+    inner: List[str] = field(default_factory=list)
+    inside: Optional["Item"] = None
+    of_trait: Optional[str] = None
 
     @functools.cached_property
-    def tokens(self):
+    def tokens(self) -> Set[str]:
         return set(re.findall(NAME, self.text)) | set(re.split(r"[\s(),]+", self.text))
+
+    @property
+    def place(self) -> str:
+        return f"{self.crate}::{self.name}"
+
+    @property
+    def line(self) -> int:
+        return min(self.lines)
+
+
+@dataclass(eq=False)
+class Call(Item):
+    """A function with its contract. `owner` is the type or trait that it belongs to, `meets` the own function of the trait
+    that it is written for. A law is open and has an empty body. `code` is all its text."""
+
+    at: int = 0
+    owner: Optional[str] = None
+    meets: Optional["Call"] = None
+    is_open: bool = False
+    is_for_c: bool = False
+    is_empty: bool = False
+    front: str = ""
+    clauses: List[Clause] = field(default_factory=list)
+    code: str = ""
+
+    @property
+    def call(self) -> str:
+        return f"{self.owner}::{self.name.rpartition('::')[2]}" if self.owner else self.name
+
+    @property
+    def is_law(self) -> bool:
+        return self.is_open and self.is_empty and not self.owner and bool(self.clauses)
+
+    @property
+    def contract(self) -> "Call":
+        """The call whose clauses it keeps: those of the trait that it is written for, where it has none of its own."""
+        has_own = any(it.kind == "ensures" for it in self.clauses)
+        return self if has_own or not self.meets else self.meets
+
+    def promises(self) -> Dict[str, str]:
+        """What it ensures, by name."""
+        return {it.name: it.text for it in self.contract.clauses if it.kind == "ensures"}
+
+    def named(self) -> List[str]:
+        return [it.name for it in self.clauses if it.kind == "ensures" and it.name]
+
+    def with_clauses(self, names: List[str]) -> "Item":
+        """Its contract with no more than these of its promises, beside what it asks first."""
+        kept = [it for it in self.clauses if it.kind == "requires" or it.name in names]
+        lines = self.head_lines | {line for it in kept for line in it.lines}
+        return Item(self.crate, self.file, self.name, lines, "\n".join([self.front, *(it.text for it in kept)]), "",
+                    inside=self.inside)
+
+    @property
+    def head_lines(self) -> Set[int]:
+        """The lines of its name and its parameters."""
+        first = min([line for it in self.clauses for line in it.lines], default=max(self.lines) + 1)
+        return set(range(self.at, first)) or {self.at}
 
 
 class Source:
     """A file: its crate, its lines, its items, and where other names come from."""
 
-    def __init__(self, path):
+    def __init__(self, path: Path):
         self.path = path
         self.file = str(path.relative_to(ROOT))
         self.crate = self.file.split("/")[1]
@@ -52,10 +116,10 @@ class Source:
         self.lines = self.text.splitlines()
         self.is_rust = path.suffix == ".rt"
         self.mark = "//" if self.is_rust else "--"
-        self.items = list(self.rust_items() if self.is_rust else self.definitions())
+        self.items: List[Item] = list(self.rust_items() if self.is_rust else self.definitions())
 
     @property
-    def heading(self):
+    def heading(self) -> str:
         """The comment at the top of the file."""
         found = []
         for line in self.lines:
@@ -64,7 +128,7 @@ class Source:
             found.append(line.lstrip("/-! "))
         return " ".join(found)
 
-    def front(self, at):
+    def front(self, at: int) -> int:
         """The first of the lines of comments and attributes right above this one."""
         above = (self.mark, "#[", "infix")
         # (the heading of a file of specs is none of them)
@@ -72,21 +136,26 @@ class Source:
             at -= 1
         return at
 
-    def item(self, name, at, end, inner=()):
+    def said(self, lines: Iterable[str]) -> str:
+        """What the comments of these lines say."""
+        return " ".join(line.split(self.mark, 1)[1].lstrip("/! ") for line in lines if self.mark in line)
+
+    def bare(self, lines: Iterable[str]) -> str:
+        """These lines without their comments."""
+        return "\n".join(line.split(self.mark, 1)[0] for line in lines)
+
+    # Definitions.
+
+    def item(self, name: str, at: int, end: int, inner: List[str]) -> Item:
         """An item whose header is in the line `at`, and whose last line is before `end`; what is blank or a comment at
         its end isn't its own."""
         first = self.front(at)
         while end > at + 1 and (not self.lines[end - 1].strip() or self.lines[end - 1].lstrip().startswith(self.mark)):
             end -= 1
         lines = self.lines[first:end]
-        text = "\n".join(line.split(self.mark, 1)[0] for line in lines)
-        return Item(self.crate, self.file, name, first + 1, end, text, self.said(lines), inner=list(inner))
+        return Item(self.crate, self.file, name, set(range(first + 1, end + 1)), self.bare(lines), self.said(lines), inner=inner)
 
-    def said(self, lines):
-        """What the comments of these lines say."""
-        return " ".join(line.split(self.mark, 1)[1].lstrip("/! ") for line in lines if self.mark in line)
-
-    def definitions(self):
+    def definitions(self) -> Iterator[Item]:
         """The definitions of a file of specs."""
         heads = [(at, HEADER.match(line)) for at, line in enumerate(self.lines)]
         heads = [(at, found[1] or "") for at, found in heads if found]
@@ -100,88 +169,169 @@ class Source:
             item.inside = module if self.lines[at].startswith(" ") else None
             module = item.inside or (item if not name else None)
             if last is not None:
-                part = self.said(self.lines[last : item.first - 1]) or part
-            item.part, last = part, item.last
+                part = self.said(self.lines[last : item.line - 1]) or part
+            item.part, last = part, max(item.lines)
             yield item
 
-    def end_of(self, at, indent, kind):
-        """The line behind an item of Rattle that begins here: of a function, behind its contract."""
-        if kind == "fn":
-            for end, line in enumerate(self.lines[at:], at):
-                if re.search(r"\{\}?$", line) and not re.match(r"\s*(requires|ensures)\b.*\{$", line):
-                    return end + (line.strip() not in ("{", "{}"))
-        elif kind in ("const", "static", "type"):
-            return next(end for end in range(at, len(self.lines)) if self.lines[end].endswith(";")) + 1
-        elif not self.lines[at].endswith((";", "}")):
-            for end in range(at + 1, len(self.lines)):
-                if self.lines[end].startswith(" " * indent + "}"):
-                    return end + 1
-        return at + 1
+    # Types and contracts.
 
-    def rust_items(self):
+    def line_of(self, place: int) -> int:
+        return self.text.count("\n", 0, place) + 1
+
+    def rust_items(self) -> Iterator[Item]:
         """The types, constants and contracts of a file of sources, and of each type the model that it is."""
-        at = 0
-        while at < len(self.lines):
-            found = RUST.match(self.lines[at])
-            if not found:
-                at += 1
-                continue
-            end = self.end_of(at, 0, found[1])
-            if found[1] == "impl":
-                yield from self.methods(at, end, found[2])
-            else:
-                yield self.item(re.match(rf"\s*(?:mut )?({NAME})", found[2])[1], at, end)
-            at = end
+        blank = rattle.blanked(self.text)
+        blocks = rattle.blocks_in(blank)
+        functions = list(rattle.functions_in(blank, blocks))
+        closed = {it.owner for it in blocks if it.of_trait == "Model"}
+        for name, begin, end in rattle.types_in(blank):
+            yield self.declared(name, begin, end, name in closed)
+        heads = {}
+        for block in blocks:
+            heads[block] = self.head_of(blank, block, [it for it in functions if it.block == block])
+            yield heads[block]
+        for it in functions:
+            yield self.call(it, heads.get(it.block))
 
-    def methods(self, at, end, header):
-        owner = re.match(rf".*?({NAME})(?:<[^>]*>)?\s*\{{?$", header)
-        if not owner:
-            return
-        if "Model for" in header:
-            yield self.item(owner[1], at, end)
-        for line in range(at + 1, end):
-            found = re.match(rf"    (?:pub )?(?:const )?fn ({NAME})", self.lines[line])
-            if found:
-                yield self.item(f"{owner[1]}::{found[1]}", line, self.end_of(line, 4, "fn"))
+    def stretch(self, begin: int, end: int) -> Tuple[int, int]:
+        """The first line of what stands here, comments and attributes with it, and the last."""
+        return self.front(self.line_of(begin) - 1) + 1, self.line_of(end - 1)
+
+    def declared(self, name: str, begin: int, end: int, is_closed: bool) -> Item:
+        """A type as it is declared; one that has a model is closed, and a reader sees no field of it."""
+        first, last = self.stretch(begin, end)
+        last = self.line_of(begin) if is_closed else last
+        lines = self.lines[first - 1 : last]
+        text = rattle.without_tactics(self.bare(lines))
+        return Item(self.crate, self.file, name, set(range(first, last + 1)), text, self.said(lines))
+
+    def head_of(self, blank: str, block: rattle.Block, functions: List[rattle.Function]) -> Item:
+        """A block without its functions: of a trait what its objects show, of a type the values of its model, or what it
+        shows to a trait."""
+        first, last = self.stretch(block.begin, block.end)
+        lines = set(range(first, last + 1))
+        others = [(it.begin, it.end) for it in functions]
+        others += [(begin, end) for name, begin, end in rattle.members_in(blank, block)
+                   if name == "use" or block.of_trait == "Model" and name != "Value"]
+        for begin, end in others:
+            lines -= set(range(self.stretch(begin, end)[0], self.line_of(end - 1) + 1))
+        lines = {it for it in lines if self.lines[it - 1].strip() not in ("", "}")}
+        own = [self.lines[it - 1] for it in sorted(lines)]
+        is_named = block.is_trait or block.of_trait == "Model"
+        name, text = block.owner if is_named else "", rattle.without_tactics(self.bare(own))
+        return Item(self.crate, self.file, name, lines, text, self.said(own), of_trait=block.of_trait)
+
+    def call(self, it: rattle.Function, block: Optional[Item]) -> Call:
+        first, last = self.stretch(it.begin, it.contract_end)
+        at = self.line_of(it.begin)
+        own = self.lines[first - 1 : at - 1]
+        # (a body's brace that stands alone isn't the contract's)
+        last = max(at, last)
+        text = self.bare(self.text[it.begin : it.contract_end].splitlines())
+        end = it.clauses[0].begin if it.clauses else it.contract_end
+        owner = it.block.owner if it.block else None
+        name = f"{owner}::{it.name}" if owner else it.name
+        return Call(self.crate, self.file, name, set(range(first, last + 1)), text, self.said(own), inside=block, at=at,
+                    owner=owner, of_trait=it.block.of_trait if it.block else None, is_open=it.is_pub, is_for_c=it.is_for_c,
+                    is_empty=it.is_empty, front=self.bare(self.text[it.begin : end].splitlines()),
+                    clauses=[self.clause(one) for one in it.clauses], code=self.text[it.begin : it.end])
+
+    def clause(self, it: rattle.Clause) -> Clause:
+        text = " ".join(self.bare(self.text[it.begin : it.end].splitlines()).split())
+        return Clause(it.kind, it.name, text, range(self.line_of(it.begin), self.line_of(it.end - 1) + 1))
 
     @functools.cached_property
-    def imports(self):
+    def imports(self) -> Dict[str, List[Tuple[str, Optional[str]]]]:
         """Names and where they come from: the module, with the name there; None for all of a module."""
-        found = {}
+        found: Dict[str, List[Tuple[str, Optional[str]]]] = {}
+        add = lambda name, *there: found.setdefault(name, []).append(there)
         for module, names, alias in USE.findall(self.text):
             module = module.replace("::", ".")
             if alias:
-                found[alias] = (module, None)
+                add(alias, module, None)
             elif names:
                 for name in filter(None, re.split(r",\s*", names.strip())):
-                    found[name.split("::")[-1]] = (module, name.split("::")[-1])
+                    there, _, here = name.split("::")[-1].partition(" as ")
+                    add(here or there, module, there)
             else:
-                found[module.split(".")[-1]] = (module.rpartition(".")[0], module.split(".")[-1])
+                add(module.split(".")[-1], module.rpartition(".")[0], module.split(".")[-1])
         return found
 
 
 class Repository:
     """All crates, lowest first, with what is defined in each."""
 
-    def __init__(self):
+    def __init__(self) -> None:
         lines = (ROOT / "crates.txt").read_text().splitlines()
         self.crates = [line.split(":")[0].split()[0] for line in lines if line and not line.startswith("#")]
-        self.sources, self.of = {}, {}
+        self.sources: Dict[str, Source] = {}
+        self.of: Dict[Tuple[str, str], List[Item]] = {}
         for crate in self.crates:
             for part in ("specs", "src"):
                 for path in sorted((ROOT / "crates" / crate / part).rglob("*.*t*")):
                     if path.suffix in (".rt", ".antt"):
-                        source = Source(path)
-                        self.sources[source.file] = source
-                        for item in source.items:
-                            for name in (item.name, *item.inner):
-                                self.of.setdefault((crate, name), []).append(item)
+                        self.add(Source(path))
+        self.calls: List[Call] = [it for source in self.sources.values() for it in source.items if isinstance(it, Call)]
+        of_traits = {(it.owner, it.name): it for it in self.calls if it.inside and it.inside.name == it.owner and not it.of_trait}
+        for it in self.calls:
+            it.meets = of_traits.get((it.of_trait, f"{it.of_trait}::{it.name.rpartition('::')[2]}")) if it.of_trait else None
+        self.known: Dict[Item, Tuple[List[Item], Set[Tuple[str, str]]]] = {}
 
-    def rank(self, file):
+    def add(self, source: Source) -> None:
+        self.sources[source.file] = source
+        for item in source.items:
+            for name in (item.name, *item.inner):
+                self.of.setdefault((source.crate, name), []).append(item)
+
+    # What the pages name.
+
+    @functools.cached_property
+    def exported(self) -> Set[Call]:
+        """The calls that a crate gives to those above it or to C: functions, methods, and what is written for a trait."""
+        names = {crate: exports_of(self.sources.get(f"crates/{crate}/src/lib.rt")) for crate in self.crates}
+        return {it for it in self.calls if it.is_open and (it.is_for_c or (it.owner or it.name) in names[it.crate])}
+
+    def place_of(self, name: str, crate: Optional[str]) -> Tuple[Optional[str], str]:
+        """The crate and the name that are meant by `NAME`, or by `CRATE::NAME`."""
+        front, _, rest = name.partition("::")
+        return (front, rest) if rest and front in self.crates else (crate, name)
+
+    def calls_named(self, name: str, crate: Optional[str]) -> List[Call]:
+        """The functions of a crate, or of all, with this name, `TYPE::NAME` or `NAME`; the exported ones where there are some."""
+        crate, name = self.place_of(name, crate)
+        owner, _, name = name.rpartition("::")
+        here = [it for it in self.called.get(name, []) if crate in (None, it.crate)]
+        here = [it for it in here if it.owner == (owner or None)] or [it for it in here if not owner]
+        return [it for it in here if it in self.exported] or here
+
+    @functools.cached_property
+    def called(self) -> Dict[str, List[Call]]:
+        found: Dict[str, List[Call]] = {}
+        for it in self.calls:
+            found.setdefault(it.name.rpartition("::")[2], []).append(it)
+        return found
+
+    def declared(self, name: str, crate: Optional[str]) -> List[Item]:
+        """What a crate, or each, declares by this name, `NAME`, or `FILE::NAME` for a file of specs: its definitions, else
+        its types."""
+        crate, name = self.place_of(name, crate)
+        stem, _, name = name.rpartition("::")
+        found = [it for of in ([crate] if crate else self.crates) for it in self.of.get((of, name), [])
+                 if it.name == name and not isinstance(it, Call) and stem in ("", Path(it.file).stem)]
+        return [it for it in found if it.file.endswith(".antt")] or found
+
+    def definition(self, name: str, crate: Optional[str]) -> List[Item]:
+        """The same, where it stands in just one file."""
+        found = self.declared(name, crate)
+        return found if len({it.file for it in found}) == 1 else []
+
+    # What rests on what.
+
+    def rank(self, file: str) -> int:
         """The place of a file's crate among the crates."""
         return self.crates.index(self.sources[file].crate)
 
-    def at(self, module, name):
+    def at(self, module: str, name: Optional[str]) -> List[Item]:
         """The items of a name of a module; none where it isn't of these crates."""
         words = module.removeprefix("Rattle.").split(".")
         crate = words[0]
@@ -191,42 +341,60 @@ class Repository:
         if source is None:
             # (a type of the sources; its variants and its inside are read with it)
             type_name = words[-2] if words[-1] in ("TheVariants", "TheInside") else name or words[-1]
-            return [it for it in self.of.get((crate, type_name), []) if it.file.endswith(".rt")]
+            return [it for it in self.of.get((crate, type_name), []) if it.file.endswith(".rt") and not isinstance(it, Call)]
         return [it for it in source.items if name is None or name == it.name or name in it.inner]
 
-    def named_by(self, item):
+    def named_by(self, item: Item) -> Tuple[List[Item], Set[Tuple[str, str]]]:
         """The items that an item names, and the names that come from the kit."""
-        source = self.sources[item.file]
-        others = [it for it in source.items if it is not item and it.name and "::" not in it.name]
-        own = {name: it for it in others for name in (it.name, *it.inner)}
-        items, foreign = [item.inside] if item.inside else [], set()
-        for name, other in own.items():
-            if is_named(name, item.tokens):
-                items.append(other)
-        for name, (module, there) in source.imports.items():
-            if not is_named(name, item.tokens):
-                continue
-            if module.startswith(("crate", "super", "self")):
-                module = source.crate
-            if there is None:
-                items += self.members(module, name, item)
-                continue
-            found = self.at(module, there)
-            items += found
-            if not found and module.startswith("Rattle."):
-                foreign.add((module, there))
-        return [it for it in items if it is not item], foreign
+        if item not in self.known:
+            self.known[item] = self.look_at(item)
+        return self.known[item]
 
-    def members(self, module, alias, item):
+    def look_at(self, item: Item) -> Tuple[List[Item], Set[Tuple[str, str]]]:
+        source = self.sources[item.file]
+        names = lambda it: any(is_named(one, item.tokens) for one in (it.name, *it.inner))
+        found = [it for it in source.items if it is not item and it.name and not isinstance(it, Call) and names(it)]
+        foreign = set()
+        for name, places in source.imports.items():
+            for module, there in places if is_named(name, item.tokens) else ():
+                if module.startswith(("crate", "super", "self")):
+                    module = source.crate
+                if there is None:
+                    found += self.members(module, name, item)
+                    continue
+                items = self.at(module, there)
+                found += items
+                if not items and module.startswith("Rattle."):
+                    foreign.add((module, there))
+        # (who names a trait means its contracts; what stands in it, or is written for it, no more than what its objects show)
+        found += [call for it in found for call in self.functions_of(it) if it is not item.inside and it.name != item.of_trait]
+        found += [item.inside] if item.inside else []
+        if isinstance(item, Call) and item.contract is not item:
+            found.append(item.contract)
+        return [it for it in dict.fromkeys(found) if it is not item], foreign
+
+    def functions_of(self, item: Item) -> List[Call]:
+        """The functions of a trait whose head this is."""
+        return self.of_heads.get(item, [])
+
+    @functools.cached_property
+    def of_heads(self) -> Dict[Item, List[Call]]:
+        found: Dict[Item, List[Call]] = {}
+        for it in self.calls:
+            if it.inside and it.inside.name == it.owner and not it.of_trait:
+                found.setdefault(it.inside, []).append(it)
+        return found
+
+    def members(self, module: str, alias: str, item: Item) -> List[Item]:
         """The items of a module that an item names behind an alias."""
         if "declared" in module.split("."):
             return self.at(module, None)
         names = set(re.findall(rf"\b{alias}\.({NAME})", item.text))
         return [it for it in self.at(module, None) if names & {it.name, *it.inner}]
 
-    def root(self, words):
-        """The item that CRATE::NAME or NAME names, with no more than one of its clauses where `: CLAUSE` follows."""
-        name, _, clause = words.partition(": ")
+    def root(self, words: str) -> List[Item]:
+        """The items that CRATE::NAME or NAME names; of a call no more than the clauses that `: CLAUSE, ..` names."""
+        name, _, clauses = words.partition(": ")
         crate, _, rest = name.partition("::")
         if crate in self.crates and rest:
             found = self.of.get((crate, rest), [])
@@ -237,27 +405,35 @@ class Repository:
             raise Refused(f"there is no definition, type or contract {name}")
         if len({it.crate for it in found}) > 1:
             raise Refused(f"{name} stands in several crates ({', '.join(files)}): CRATE::NAME says which")
-        return [with_clause(it, clause) for it in found] if clause else found
+        if not clauses:
+            return found
+        return [it for one in found for it in promised(one, re.findall(r"\w+", clauses))]
 
 
-def with_clause(item, clause):
-    """The item with no more than this clause of its contract."""
-    lines = item.text.split("\n")
-    heads = [at for at, line in enumerate(lines) if re.match(r" +(?:ensures|requires)\b", line)] + [len(lines)]
-    for at, end in zip(heads, heads[1:]):
-        if re.match(rf" +(?:ensures|requires) {re.escape(clause)} ", lines[at]):
-            text = "\n".join(lines[at:end]).rstrip()
-            first = item.first + at
-            return Item(item.crate, item.file, item.name, first, first + text.count("\n"), text, "")
-    raise Refused(f"{item.name} has no clause {clause}")
+def exports_of(source: Optional[Source]) -> Set[str]:
+    """The names that a crate gives to those above it, by its lib.rt."""
+    blank = rattle.blanked(source.text) if source else ""
+    names = {it[1] for it in re.finditer(r"^pub (?:fn|struct|enum|trait|type) (\w+)", blank, re.M)}
+    for used in re.finditer(r"^pub use ([^;]*);", blank, re.M):
+        names |= set(re.findall(r"\w+", used[1].rpartition("::")[2]))
+    return names
 
 
-def is_named(name, tokens):
+def promised(item: Item, clauses: List[str]) -> List[Item]:
+    """What one reads for these clauses of a call."""
+    kept = item.contract if isinstance(item, Call) else None
+    for clause in clauses:
+        if kept is None or clause not in [it.name for it in kept.clauses]:
+            raise Refused(f"{item.name} has no clause {clause}")
+    return [kept.with_clauses(clauses), *([item.with_clauses([])] if kept is not item else [])]
+
+
+def is_named(name: str, tokens: Set[str]) -> bool:
     """Whether a name is among the words of a text; of a form as ◌+◌ or if◌then◌else◌ each part."""
-    return all(part in tokens for part in name.split("◌") if part)
+    return name in tokens or "◌" in name and all(part in tokens for part in name.split("◌") if part)
 
 
-def behind(roots, others_of):
+def behind(roots: List, others_of) -> List:
     """All that can be reached from the roots, each behind what it needs where there is no circle."""
     order, seen, stack = [], set(), [(it, False) for it in reversed(roots)]
     while stack:
@@ -271,11 +447,12 @@ def behind(roots, others_of):
     return order
 
 
-def closure(repository, roots):
+def closure(repository: Repository, roots: List[Item]) -> Tuple[List[Item], Set[Tuple[str, str]]]:
     """All items that have to be read, file by file, the lowest first, and the names that come from the kit."""
-    foreign, needs = set(), {}
+    foreign: Set[Tuple[str, str]] = set()
+    needs: Dict[str, List[str]] = {}
 
-    def others_of(item):
+    def others_of(item: Item) -> List[Item]:
         items, names = repository.named_by(item)
         foreign.update(names)
         needs.setdefault(item.file, []).extend(it.file for it in items)
@@ -284,7 +461,7 @@ def closure(repository, roots):
     items = behind(roots, others_of)
     files = behind(sorted(needs, key=repository.rank), lambda file: needs[file])
     place = {file: at for at, file in enumerate(files)}
-    return sorted(items, key=lambda it: (repository.rank(it.file), place[it.file], it.first)), foreign
+    return sorted(items, key=lambda it: (repository.rank(it.file), place[it.file], it.line)), foreign
 
 
 # What comments say of the standards.
@@ -293,7 +470,7 @@ TITLE = r"(RFC \d+|FIPS \d+|draft-[\w-]+|IEEE [\w.]+)"
 STANDARD = re.compile(TITLE + r"|\bsections? ([0-9A-Z][\w.]*(?:(?:, | and | to )[0-9][\w.]*)*)(?: of " + TITLE + ")?")
 
 
-def sections_of(text, standard=""):
+def sections_of(text: str, standard: str = "") -> Tuple[List[Tuple[str, str]], str]:
     """The sections of standards that a text names, in its order, and the standard that it names last. A section by
     itself is of the standard named before."""
     found = []

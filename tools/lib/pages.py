@@ -1,0 +1,279 @@
+"""The pages: their prose and blocks, their links, the files, numbers and commands that they name."""
+
+import os
+import re
+import signal
+import subprocess
+import sys
+import tempfile
+from importlib.machinery import SourceFileLoader
+from importlib.util import module_from_spec, spec_from_loader
+from pathlib import Path
+from typing import Dict, Iterator, List, Optional, Set, Tuple
+
+from lib.common import ROOT
+
+COMMANDS = ROOT / "docs/claims.commands"
+TESTED = ROOT / "docs/TESTED.md"
+SECONDS = 300
+
+PAGE_FILES = sorted(file for it in ("README.md", "docs/*.md", "*/README.md", "*/*/README.md") for file in ROOT.glob(it))
+TOPS = {it.name for it in ROOT.iterdir() if it.name != "out"}
+KEPT = [it.relative_to(ROOT).as_posix() for top in sorted(TOPS - {".git"}) for it in (ROOT / top, *(ROOT / top).rglob("*"))]
+ENDS = ("rt", "antt", "md", "py", "sh", "c", "h", "awk", "edit", "txt", "svg", "hex", "cases", "sums", "inner", "commands",
+        "capture", "scenario", "trace", "findings", "replies", "settings", "1")
+
+Lines = List[Tuple[int, str]]
+Block = Tuple[int, str, List[str]]
+
+
+class Tally:
+    """What holds and what doesn't."""
+
+    def __init__(self) -> None:
+        self.passed = 0
+        self.faults: List[str] = []
+
+    def holds(self, fact: object, fault: str) -> bool:
+        self.passed += bool(fact)
+        self.faults += [] if fact else [fault]
+        return bool(fact)
+
+
+def parts_of(page: Path) -> Tuple[Lines, List[Block]]:
+    """The prose of a page, with its fenced blocks as empty lines, and these blocks: their line, their kind, their
+    lines."""
+    prose: Lines = []
+    blocks: List[Block] = []
+    block: Optional[Block] = None
+    for number, line in enumerate(page.read_text().splitlines(), 1):
+        if block is None and line.startswith("```"):
+            block = (number, line[3:].strip(), [])
+        elif block and line.startswith("```"):
+            blocks.append(block)
+            block = None
+        elif block:
+            block[2].append(line)
+        else:
+            prose.append((number, line))
+            continue
+        prose.append((number, ""))
+    return prose, blocks
+
+
+def anchor_of(head: str) -> str:
+    """The name by which a browser finds a heading."""
+    return re.sub(r"[^\w\- ]", "", head.strip().lower()).replace(" ", "-")
+
+
+def anchors_of(page: Path) -> Set[str]:
+    return {anchor_of(line.lstrip("#")) for _, line in parts_of(page)[0] if line.startswith("#")}
+
+
+def section_of(page: str, anchor: str) -> str:
+    """The text of a page below one of its headings."""
+    parts = re.split(r"^#+ (.*)$", (ROOT / "docs" / page).read_text(), flags=re.M)
+    return next((text for head, text in zip(parts[1::2], parts[2::2]) if anchor_of(head) == anchor), "")
+
+
+def cells_of(line: str) -> List[str]:
+    return [it.strip() for it in line.strip().strip("|").split(" | ")]
+
+
+# Links and names of files.
+
+
+def check_links(check: Tally, page: Path, prose: Lines) -> None:
+    for number, line in prose:
+        for target in re.findall(r"\]\(([^)\s]+)\)", line) + re.findall(r'<img src="([^"]+)"', line):
+            path, _, anchor = target.partition("#")
+            if re.match(r"\w+:", target):
+                continue
+            to = (page.parent / path).resolve() if path else page
+            fault = f"{page.relative_to(ROOT)}:{number}: the link {target} leads nowhere"
+            if check.holds(to.exists(), fault) and anchor:
+                check.holds(to.suffix == ".md" and anchor in anchors_of(to), fault)
+
+
+def is_there(page: Path, name: str) -> bool:
+    """Whether a file or folder of this name stands in the repository, by the top, the page or a crate, or somewhere."""
+    name = name.removeprefix("./").rstrip("/")
+    places = [ROOT, page.parent, *(ROOT / "crates").glob("*"), *(ROOT / "crates").glob("*/proofs")]
+    if "/" in name:
+        found = [*(it.glob(name) for it in places), *((ROOT / "crates").glob(f"{name}{end}") for end in ("", ".antt"))]
+        return any(next(it, None) for it in found)
+    return any(re.fullmatch(rf"(.*/)?{re.escape(name)}".replace(r"\*", "[^/]*"), it) for it in KEPT)
+
+
+def names_file(word: str) -> bool:
+    """Whether a word in code names a file: one with an ending of ours, or one below a folder that stands at the top."""
+    is_below = "/" in word and word.removeprefix("./").partition("/")[0] in TOPS
+    is_file = re.fullmatch(r"[\w./*-]+", word) and (is_below or re.fullmatch(rf"[\w/*-]+\.({'|'.join(ENDS)})", word))
+    # (capitals stand for a name; what is built stands in out/)
+    has_capitals = re.search(r"(^|[/_.-])[A-Z]+([/_.-]|$)", word.replace("README.md", ""))
+    return bool(is_file) and "/out/" not in word and not has_capitals or word == "README.md"
+
+
+def check_names(check: Tally, page: Path, prose: Lines) -> None:
+    for number, line in prose:
+        for word in [it.strip("(),;<>") for code in re.findall(r"`([^`]+)`", line) for it in code.split()]:
+            if names_file(word):
+                check.holds(is_there(page, word), f"{page.relative_to(ROOT)}:{number}: there is no file {word}")
+
+
+# Numbers.
+
+
+def lines_of(part: str, crates: List[str]) -> int:
+    files = [it for crate in crates for it in (ROOT / "crates" / crate / part).rglob("*") if it.is_file()]
+    return sum(len(it.read_text().splitlines()) for it in files)
+
+
+def cases() -> int:
+    """How many cases cases/run runs."""
+    sys.dont_write_bytecode = True
+    loader = SourceFileLoader("run", str(ROOT / "cases/run"))
+    run = module_from_spec(spec_from_loader("run", loader))
+    loader.exec_module(run)
+    return sum(len(run.read(it)) for it in sorted((ROOT / "cases").glob("*.cases")))
+
+
+def refused() -> List[Tuple[str, str, int, int]]:
+    """The rows of wrong/refused.txt: a crate, whether its edits of wrong/ were tried or all, how many, and how many were
+    refused."""
+    table = ROOT / "wrong/refused.txt"
+    rows = [it.split() for it in table.read_text().splitlines() if it and not it.startswith("#")] if table.exists() else []
+    return [(it[0], it[1], int(it[2]), int(it[3])) for it in rows]
+
+
+def counted(crates: List[str], rows: int) -> Dict[str, List[int]]:
+    """What docs/TESTED.md and README.md count, by the first cell of the row."""
+    tests = [it for it in crates if it.endswith("_tests")]
+    others = [it for it in crates if it not in tests]
+    has_test = lambda it: len(re.findall(r"^#\[test\]", it.read_text(), re.M))
+    outputs = (".trace", ".names", ".findings", ".replies", ".out", ".peer-told", ".server-told")
+    return {
+        "crates proved": [len(others)],
+        "rows of claims and answers, each read against its clauses": [rows],
+        "wrong bodies in the gate": [len(list(ROOT.glob("crates/*/must-fail/*.edit")))],
+        "wrong bodies in `wrong/`": [len(list(ROOT.glob("wrong/*/*.edit")))],
+        "of all these refused, as `wrong/refused.txt` has it": [sum(it[3] for it in refused())],
+        "cases of texts": [cases()],
+        "tests in code": [sum(map(has_test, (ROOT / "crates").glob("*/src/**/*.rt")))],
+        "stored outputs in `examples/`": [len([it for it in ROOT.glob("examples/*") if it.name.endswith(outputs)])],
+        "Lines of code, of definitions, of proofs, of tests": [
+            *(lines_of(it, others) for it in ("src", "specs", "proofs")), lines_of("src", tests)],
+        "Crates": [len(others), len(tests)],
+    }
+
+
+def is_count(label: str, said: str, counts: List[int]) -> bool:
+    """Whether these numbers are told; those of lines are rounded, and within a hundredth."""
+    numbers = [int(it.replace(",", "")) for it in re.findall(r"\d[\d,]*", said)]
+    room = 0.01 if label.startswith("Lines") else 0
+    return len(numbers) == len(counts) and all(abs(one - other) <= room * other for one, other in zip(numbers, counts))
+
+
+def check_counts(check: Tally, crates: List[str], rows: int) -> None:
+    counts = counted(crates, rows)
+    told = set()
+    for page in (ROOT / "README.md", TESTED):
+        for number, line in parts_of(page)[0]:
+            label, *cells = cells_of(line)
+            if line.startswith("|") and label in counts:
+                told.add(label)
+                fault = f"{page.relative_to(ROOT)}:{number}: {label}: {', '.join(map(str, counts[label]))} are counted"
+                check.holds(is_count(label, cells[0], counts[label]), fault)
+    for label in counts:
+        check.holds(label in told, f"{label}: no page says how many there are")
+    # (what a login costs is measured)
+    measured = (ROOT / "bench/README.md").read_text().replace(",", "")
+    costs = next(line for line in (ROOT / "README.md").read_text().splitlines() if "in instructions |" in line)
+    for cost in re.findall(r"\d+,\d{3}", costs):
+        check.holds(cost.replace(",", "") in measured, f"README.md: bench/README.md doesn't have {cost}")
+
+
+def check_refused(check: Tally) -> None:
+    """wrong/refused.txt records no more edits than there are: it may be older than some."""
+    for crate, which, tried, taken in refused():
+        folders = [f"wrong/{crate}", *[f"crates/{crate}/must-fail"] * (which == "all")]
+        there = sum(len(list((ROOT / it).glob("*.edit"))) for it in folders)
+        fault = f"wrong/refused.txt: {crate}: {taken} of {tried} edits refused, and {there} stand in {' and '.join(folders)}"
+        check.holds(taken <= tried <= there, fault)
+
+
+# Commands.
+
+
+def whole_commands(lines: List[str]) -> Iterator[Tuple[str, str]]:
+    """The commands of a block with their comments; one that ends with a backslash goes on in the next line."""
+    for line in re.sub(r"\\\n\s*", "", "\n".join(lines)).splitlines():
+        command, _, comment = line.partition(" #") if not line.startswith("#") else ("", "", line)
+        if command.strip():
+            yield command.strip(), comment.strip()
+
+
+def unrun() -> Set[str]:
+    """The commands of docs/claims.commands: each is indented below its reason."""
+    return {line.strip() for line in COMMANDS.read_text().splitlines() if line.startswith(" ")} if COMMANDS.exists() else set()
+
+
+def run(command: str, folder: str) -> Tuple[object, str, str]:
+    """What a command ends with, its output and its errors; one that takes too long is ended with all that it started."""
+    names = {**os.environ, "CLAIMS": "run"}
+    with subprocess.Popen(["sh", "-c", command], cwd=folder, env=names, stdin=subprocess.DEVNULL, stdout=subprocess.PIPE,
+                          stderr=subprocess.PIPE, text=True, start_new_session=True) as process:
+        try:
+            output, error = process.communicate(timeout=SECONDS)
+        except subprocess.TimeoutExpired:
+            os.killpg(process.pid, signal.SIGKILL)
+            return "no status in time", "", ""
+    return process.returncode, output, error
+
+
+def said_by(check: Tally, folder: str, place: str, lines: List[str], kept: Set[str]) -> Optional[List[str]]:
+    """What the commands of a block write, line by line; None where none of them is run."""
+    said = None
+    for command, comment in whole_commands(lines):
+        if command in kept:
+            continue
+        status = re.search(r"\bstatus (\d)", comment)
+        ended, output, error = run(command, folder)
+        said = (said or []) + output.splitlines()
+        check.holds(ended == (int(status[1]) if status else 0), f"{place}: `{command}` ends with {ended}: {error[-200:]}")
+    return said
+
+
+def check_blocks(check: Tally, page: Path, blocks: List[Block], kept: Set[str]) -> None:
+    """Runs the commands of a page in a folder of their own, in their order."""
+    name = page.relative_to(ROOT)
+    with tempfile.TemporaryDirectory() as folder:
+        for top in TOPS:
+            os.symlink(ROOT / top, Path(folder) / top)
+        for (number, kind, lines), (text_number, next_kind, text) in zip(blocks, [*blocks[1:], (0, "", [])]):
+            said = said_by(check, folder, f"{name}:{number}", lines, kept) if kind == "sh" else None
+            if said is not None and next_kind == "text":
+                rest = iter(said)
+                lost = next((line for line in text if line not in rest), None)
+                check.holds(lost is None, f"{name}:{text_number}: the commands before don't write: {lost}")
+
+
+def check_commands(check: Tally, blocks: Dict[Path, List[Block]]) -> None:
+    kept = unrun()
+    for page, found in blocks.items():
+        check_blocks(check, page, found, kept)
+    shells = [lines for found in blocks.values() for _, kind, lines in found if kind == "sh"]
+    told = {command for lines in shells for command, _ in whole_commands(lines)}
+    for command in sorted(kept - told):
+        check.faults.append(f"claims.commands: no page has the command {command}")
+
+
+def check_pages(check: Tally, with_commands: bool) -> None:
+    """Looks at the links, names and commands of all pages."""
+    blocks = {}
+    for page in PAGE_FILES:
+        prose, blocks[page] = parts_of(page)
+        check_links(check, page, prose)
+        check_names(check, page, prose)
+    if with_commands:
+        check_commands(check, blocks)

@@ -1,0 +1,144 @@
+"""Rattle's sources as text: functions with their clauses, and the types, traits and blocks around them."""
+
+import re
+from dataclasses import dataclass, field
+from typing import Iterator, List, NamedTuple, Optional, Tuple
+
+SHAPE = re.compile(r"//[^\n]*|b?\"(?:\\.|[^\"\\])*\"|b?'(?:\\[^']+|[^'\\])'", re.S)
+FUNCTION = re.compile(r"^ *(pub |pub\(\w+\) )?(?:const |unsafe )*(extern +)?fn (\w+)", re.M)
+MEMBER = re.compile(r"^ +ghost (\w+)", re.M)
+BLOCK = re.compile(r"^(?:pub )?(?:unsafe )?(impl|trait)\b[^{;]*\{", re.M)
+TYPE = re.compile(r"^(?:pub(?:\(\w+\))? )?(struct|enum|type|const|static) (?:mut )?(\w+)", re.M)
+CLAUSE = re.compile(r"\b(requires|ensures)\b\*?([^{]*)\{")
+NESTING = {"(": 1, "[": 1, ")": -1, "]": -1}
+
+
+class Clause(NamedTuple):
+    """A clause of a contract: `requires` or `ensures`, its name or nothing, and the places where it begins and ends."""
+
+    kind: str
+    name: str
+    begin: int
+    end: int
+
+
+@dataclass(frozen=True)
+class Block:
+    """An `impl` or a trait: the type or trait that it belongs to, and the trait that it is written for."""
+
+    begin: int
+    end: int
+    owner: str
+    of_trait: Optional[str]
+    is_trait: bool
+
+
+@dataclass
+class Function:
+    """A function: its name, the block around it, where it begins, where its contract and its body end."""
+
+    name: str
+    block: Optional[Block]
+    begin: int
+    contract_end: int
+    end: int
+    is_pub: bool
+    is_for_c: bool
+    is_empty: bool
+    clauses: List[Clause] = field(default_factory=list)
+
+
+def blanked(text: str) -> str:
+    """The text with spaces in place of comments, strings and characters."""
+    return SHAPE.sub(lambda found: re.sub(r"[^\n]", " ", found[0]), text)
+
+
+def end_of(blank: str, at: int, pair: str = "{}") -> int:
+    """The place behind the bracket that closes the one at this place."""
+    depth = 0
+    for place in range(at, len(blank)):
+        depth += (blank[place] == pair[0]) - (blank[place] == pair[1])
+        if depth == 0:
+            return place + 1
+    return len(blank)
+
+
+def without_tactics(text: str) -> str:
+    """The text without the attributes that tell the prover how to search."""
+    while (at := text.find("#[tactic(")) >= 0 or (at := text.find("#![tactic(")) >= 0:
+        text = text[:at] + text[end_of(text, text.index("[", at), "[]") :]
+    return text
+
+
+def clauses_at(blank: str, at: int) -> Tuple[List[Clause], int]:
+    """The clauses of the function whose parameters begin at this place, and where its body or its semicolon stands."""
+    found, depth = [], 0
+    while at < len(blank):
+        if depth == 0 and blank[at] in "{;":
+            break
+        clause = CLAUSE.match(blank, at) if depth == 0 and blank[at] in "re" else None
+        if clause:
+            end = end_of(blank, clause.end() - 1)
+            found.append(Clause(clause[1], clause[2].strip(), at, end))
+            at = end
+            continue
+        depth += NESTING.get(blank[at], 0)
+        at += 1
+    return found, at
+
+
+def block_of(header: str, begin: int, end: int) -> Block:
+    if trait := re.match(r"(?:pub )?(?:unsafe )?trait (\w+)", header):
+        return Block(begin, end, trait[1], None, True)
+    rest = header.partition("impl")[2]
+    if rest.startswith("<"):
+        depth = 0
+        for place, sign in enumerate(rest):
+            depth += (sign == "<") - (sign == ">" and rest[place - 1] not in "-=")
+            if depth == 0:
+                rest = rest[place + 1 :]
+                break
+    last = lambda it: re.split(r"::", re.match(r"&?(?:mut )?([\w:]+)", it.strip())[1])[-1]
+    one, of, other = rest.partition(" for ")
+    return Block(begin, end, last(other) if of else last(one), last(one) if of else None, False)
+
+
+def blocks_in(blank: str) -> List[Block]:
+    found = BLOCK.finditer(blank)
+    return [block_of(" ".join(it[0].split()), it.start(), end_of(blank, it.end() - 1)) for it in found]
+
+
+def functions_in(blank: str, blocks: List[Block]) -> Iterator[Function]:
+    for it in FUNCTION.finditer(blank):
+        block = next((block for block in blocks if block.begin < it.start() < block.end), None)
+        clauses, at = clauses_at(blank, it.end())
+        end = end_of(blank, at) if blank[at : at + 1] == "{" else at + 1
+        is_empty = blank[at:end].strip("{} \n") == "" and blank[at : at + 1] == "{"
+        # (what a trait has, or is written for one, is as open as that)
+        is_pub = it[1] == "pub " or bool(block and (block.is_trait or block.of_trait))
+        yield Function(it[3], block, it.start(), clauses[-1].end if clauses else at, end, is_pub, bool(it[2]), is_empty, clauses)
+
+
+def members_in(blank: str, block: Block) -> Iterator[Tuple[str, int, int]]:
+    """The ghost members of a block and what it uses: the first word, and where each begins and ends."""
+    for it in MEMBER.finditer(blank, block.begin, block.end):
+        at = it.end()
+        while blank[at] != ";":
+            at = end_of(blank, at) if blank[at] == "{" else at + 1
+        yield it[1], it.start(), at + 1
+
+
+def types_in(blank: str) -> Iterator[Tuple[str, int, int]]:
+    """The types and constants outside of blocks: their names, and where they begin and end."""
+    for it in TYPE.finditer(blank):
+        at = it.end()
+        while at < len(blank) and blank[at] not in ";{=":
+            at = end_of(blank, at, {"(": "()", "[": "[]"}[blank[at]]) if blank[at] in "([" else at + 1
+        if blank[at : at + 1] == "{":
+            yield it[2], it.start(), end_of(blank, at)
+        else:
+            depth = 0
+            while at < len(blank) and (depth or blank[at] != ";"):
+                depth += {"{": 1, "}": -1}.get(blank[at], 0) + NESTING.get(blank[at], 0)
+                at += 1
+            yield it[2], it.start(), at + 1

@@ -1,0 +1,121 @@
+"""The tables of what is to be read: by file, by section of the standards, and those of docs/READING.md."""
+
+import re
+from typing import Dict, Iterable, Iterator, List, Set, Tuple
+
+from lib import sources
+from lib.sources import Item, Repository, Source
+
+# The standards of the second table, in its order.
+STANDARDS = ("RFC 3748", "RFC 4137", "RFC 4764", "RFC 5433")
+
+# docs/READING.md: which promise takes how much reading, what of which crate, and where each section of a standard went.
+PROMISES = ("world_laws::honest_ends_agree", "world_laws::one_end_tells", "smooth_laws::smooth_logins_succeed",
+            "login_call::eap_login", "login_keys::gpsk_keys", "eax_mode::eax_seal", "aes_block::Aes128::encrypt")
+
+Section = Tuple[str, str]
+
+
+def listed(sections: Iterable[Section], between: str = ", ") -> str:
+    """Sections in words, those of one standard together."""
+    by_standard: Dict[str, List[str]] = {}
+    for standard, number in sections:
+        by_standard.setdefault(standard, []).append(number)
+    return between.join(f"{standard} {', '.join(numbers)}" for standard, numbers in by_standard.items()) or "–"
+
+
+def sections_in(source: Source, items: List[Item]) -> List[Section]:
+    """The sections that the heading of a file, and below it the comments of these items, name."""
+    found, standard = sources.sections_of(source.heading)
+    for item in items:
+        part, its_standard = sources.sections_of(item.part, standard)
+        own, _ = sources.sections_of(item.comment, its_standard)
+        found += [it for it in dict.fromkeys(part + own) if it not in found]
+    return found
+
+
+def lines_of(items: Iterable[Item]) -> int:
+    return len({(it.file, line) for it in items for line in it.lines})
+
+
+def named(items: Iterable[Item]) -> int:
+    return sum(it.name != "" for it in items)
+
+
+def by_file(order: List[Item]) -> Dict[str, List[Item]]:
+    files: Dict[str, List[Item]] = {}
+    for item in order:
+        files.setdefault(item.file, []).append(item)
+    return files
+
+
+def of_files(repository: Repository, order: List[Item], foreign: Set[Tuple[str, str]]) -> Iterator[str]:
+    yield "| File | Definitions | Lines | Sections |\n|---|---|---|---|"
+    files = by_file(order)
+    for file, items in files.items():
+        source = repository.sources[file]
+        lines = f"{lines_of(items)} of {len(source.lines)}"
+        yield f"| `{file.removeprefix('crates/')}` | {named(items)} | {lines} | {listed(sections_in(source, items))} |"
+    total = sum(len(repository.sources[file].lines) for file in files)
+    yield f"\nFiles: {len(files)}; definitions: {named(order)}; lines: {lines_of(order)} of {total}."
+    kit = sorted({module.removeprefix("Rattle.") for module, _ in foreign})
+    yield f"Names of the kit: {len(foreign)}, of {', '.join(f'`{it}`' for it in kit)}."
+
+
+def order_of(section: Section) -> Tuple[int, List[int]]:
+    standard, number = section
+    return STANDARDS.index(standard), [int(it) if it.isdigit() else 0 for it in re.split(r"\.", number)]
+
+
+def by_section(repository: Repository, order: List[Item]) -> Iterator[Tuple[Section, Dict[str, List[Tuple[str, bool]]]]]:
+    """Each section with the definitions of each file that it is about, and whether these name it themselves. What names
+    none itself stands under those of its part or of its file's heading."""
+    rows: Dict[Section, Dict[str, List[Tuple[str, bool]]]] = {}
+    for item in filter(lambda it: it.name, order):
+        heading, standard = sources.sections_of(repository.sources[item.file].heading)
+        part, standard = sources.sections_of(item.part, standard)
+        own, _ = sources.sections_of(item.comment, standard)
+        for section in own or part or heading:
+            if section[0] in STANDARDS:
+                rows.setdefault(section, {}).setdefault(item.file, []).append((item.name, bool(own)))
+    yield from sorted(rows.items(), key=lambda it: order_of(it[0]))
+
+
+def of_sections(repository: Repository, order: List[Item]) -> Iterator[str]:
+    yield "| Section | Definitions |\n|---|---|"
+    for section, files in by_section(repository, order):
+        told = []
+        for file, names in files.items():
+            own = [f"`{name}`" for name, is_own in dict.fromkeys(names) if is_own]
+            rest = len(names) - len(own)
+            more = [f"{rest} {'more' if own else 'definition' if rest == 1 else 'definitions'}"] if rest else []
+            told.append(f"{', '.join(own + more)} in `{file.removeprefix('crates/')}`")
+        yield f"| {' '.join(section)} | {'; '.join(told)} |"
+
+
+def of_crates(repository: Repository, order: List[Item]) -> Iterator[str]:
+    """A crate a row, with the lines of each of its files."""
+    yield from ("| Crate | Lines to read of each file | Sections |", "|---|---|---|")
+    crates: Dict[str, Tuple[List[str], Dict[Section, None]]] = {}
+    for file, items in by_file(order).items():
+        source = repository.sources[file]
+        files, found = crates.setdefault(source.crate, ([], {}))
+        files.append(f"`{file.split('/', 2)[2]}` {lines_of(items)}")
+        found.update(dict.fromkeys(sections_in(source, items)))
+    for crate, (files, found) in crates.items():
+        yield f"| `{crate}` | {', '.join(files)} | {listed(found, '; ')} |"
+
+
+def of_promises(repository: Repository) -> Iterator[str]:
+    """The lines of the tables of docs/READING.md."""
+    orders = [sources.closure(repository, repository.root(it))[0] for it in PROMISES]
+    yield from ("| Promise | Files | Definitions | Lines |", "|---|---|---|---|")
+    for promise, order in zip(PROMISES, orders):
+        yield f"| `{promise}` | {len(by_file(order))} | {named(order)} | {lines_of(order)} |"
+    yield ""
+    yield from of_crates(repository, orders[0])
+    yield from ("", "| Section | Where it is defined |", "|---|---|")
+    both, _ = sources.closure(repository, repository.root(PROMISES[0]) + repository.root(PROMISES[3]))
+    for section, files in by_section(repository, both):
+        told = [f"`{file.removeprefix('crates/')}`" for file in files]
+        yield f"| {' '.join(section)} | {', '.join(told)} |"
