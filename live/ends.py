@@ -1,17 +1,25 @@
 """What the scripts beside this file share: the program's words `peer`, `server` and `radius` as processes that are asked
-line by line, and the settings of a login.
+line by line, and the words of the scripts.
 
-Each octet of EAP that a script sends was written by `peer` or `server`, and each octet of RADIUS by `radius`; the
-scripts add sockets, timers and nonces. EAP_LOGIN names another program than ./eap_login.
+Each octet of EAP that a script sends was written by `peer` or `server` (but for the Failure that `failure` makes), and
+each octet of RADIUS by `radius` or by attributes.py; the scripts add sockets, timers and nonces. EAP_LOGIN names another
+program than ./eap_login.
 """
 
+from __future__ import annotations
+
 import argparse
+import dataclasses
+import ipaddress
 import os
+import re
 import secrets
 import select
 import signal
+import socket
 import subprocess
 import sys
+from typing import Callable, List, NoReturn, Optional, Tuple
 
 ROOT = os.path.dirname(os.path.dirname(os.path.realpath(__file__)))
 # How long the program may think about a line, in seconds; what is slower has stopped.
@@ -25,16 +33,20 @@ OVER = ("SUCCESS", "FAILURE", "TIMEOUT_FAILURE")
 # The first octet of an EAP packet (RFC 3748 section 4).
 REQUEST, RESPONSE, SUCCESS, FAILURE = 1, 2, 3, 4
 
+Trace = Callable[[str], None]
+# The names of an MSK and an EMSK.
+Names = Tuple[str, str]
+
 
 class Failed(Exception):
     """Why a script can't go on, in a line."""
 
 
-def program():
+def program() -> str:
     return os.environ.get("EAP_LOGIN") or f"{ROOT}/eap_login"
 
 
-def try_program():
+def try_program() -> None:
     """Runs the program once on nothing, so that it is built, and its complaints are read, before a login begins.
     Who is started by a script that has tried it doesn't."""
     if os.environ.get("LIVE_TRIED") == program():
@@ -51,30 +63,37 @@ def try_program():
     os.environ["LIVE_TRIED"] = program()
 
 
+def shown(line: str) -> str:
+    """A line without the octets of a key."""
+    return " ".join(it if len(it) <= 16 else it[:8] + ".." for it in line[:400].split(" "))
+
+
 class Words:
     """The program with some words, told and read by lines."""
 
-    def __init__(self, *words):
+    def __init__(self, *words: str) -> None:
         self.name = " ".join(("eap_login", *words))
         self.process = subprocess.Popen(
             [program(), *words], stdin=subprocess.PIPE, stdout=subprocess.PIPE, stderr=subprocess.DEVNULL, bufsize=0
         )
+        assert self.process.stdin and self.process.stdout
+        self.into, self.out = self.process.stdin, self.process.stdout
         self.read = b""
-        self.told = []
+        self.told: List[str] = []
 
-    def put(self, line):
+    def put(self, line: str) -> None:
         self.told.append(line)
         try:
-            self.process.stdin.write(line.encode() + b"\n")
+            self.into.write(line.encode("latin-1") + b"\n")
         except BrokenPipeError:
             pass  # what it wrote before it ended is read by `get`
 
-    def get(self):
+    def get(self) -> Optional[List[str]]:
         """The next line, or None at the end of what it writes."""
         while b"\n" not in self.read:
-            if not select.select([self.process.stdout], [], [], ANSWER_SECONDS)[0]:
-                raise Failed(f"{self.name} gives no answer to the line: {self.told[-1]}")
-            more = os.read(self.process.stdout.fileno(), 65536)
+            if not select.select([self.out], [], [], ANSWER_SECONDS)[0]:
+                raise Failed(f"{self.name} gives no answer to the line: {self.line_of(len(self.told))}")
+            more = os.read(self.out.fileno(), 65536)
             if not more:
                 return None
             self.read += more
@@ -84,42 +103,42 @@ class Words:
             raise Failed(f"{self.name} refuses line {words[2]} ({words[3]}): {self.line_of(int(words[2]))}")
         return words
 
-    def line_of(self, number):
-        """A line that was told, without the octets of a key."""
-        words = self.told[number - 1].split(" ") if number <= len(self.told) else ["(none)"]
-        return " ".join(it if len(it) <= 16 else it[:8] + ".." for it in words)
+    def line_of(self, number: int) -> str:
+        return shown(self.told[number - 1]) if 0 < number <= len(self.told) else "(none)"
 
-    def close(self):
+    def close(self) -> List[List[str]]:
         """Tells it that no more comes, and reads the rest."""
-        self.process.stdin.close()
+        self.into.close()
         rest = []
         while (words := self.get()) is not None:
             rest.append(words)
-        self.process.stdout.close()
+        self.out.close()
         self.process.wait(ANSWER_SECONDS)
         return rest
 
-    def stop(self):
+    def stop(self) -> None:
         """Ends it, wherever it is."""
         self.process.kill()
         self.process.wait()
-        for pipe in (self.process.stdin, self.process.stdout):
-            pipe.close()
+        self.into.close()
+        self.out.close()
 
 
+@dataclasses.dataclass
 class Turn:
     """What an end made of a line: the states that it entered, why it discarded what came, and what it sends."""
 
-    def __init__(self, path, cause=None, sends=None):
-        self.path, self.cause, self.sends = path, cause, sends
+    path: List[str]
+    cause: Optional[str] = None
+    sends: Optional[bytes] = None
 
 
-def says_cause(word, line, path):
+def says_cause(word: str, line: str, path: List[str]) -> bool:
     """Whether a line `cause` follows a path: at a discard, and where a packet comes to an end that is over."""
     return "DISCARD" in path or (path == ["-"] and line.startswith("packet "))
 
 
-def says_send(word, line, path):
+def says_send(word: str, line: str, path: List[str]) -> bool:
     """Whether a line `send` follows a path (RFC 4137 sections 4 and 5)."""
     if "SEND_RESPONSE" in path or "SEND_REQUEST" in path:
         return True
@@ -129,20 +148,22 @@ def says_send(word, line, path):
 class End:
     """One end of one login: `eap_login peer` or `eap_login server`, with a nonce of its own from the system's source."""
 
-    def __init__(self, word, settings, trace):
+    def __init__(self, word: str, settings: List[str], trace: Trace) -> None:
         self.word, self.trace = word, trace
         self.words = Words(word)
         self.count = 0
         self.state = "IDLE"
-        self.keys = None
+        self.keys: Optional[Names] = None
+        # (why it discarded last)
+        self.cause = ""
         for line in ["eap-end 1", *settings, f"{word}-nonce {secrets.token_hex(32)}", "events"]:
             self.words.put(line)
 
-    def start(self):
+    def start(self) -> Turn:
         """The first Request of a server, which it makes by itself."""
         return self.turn("(start)")
 
-    def tell(self, line):
+    def tell(self, line: str) -> Turn:
         """Tells it an input line, `packet HEX` or another."""
         if self.count >= MOST_INPUTS:
             raise Failed(f"a login that takes over {MOST_INPUTS} packets and timers is given up")
@@ -150,19 +171,19 @@ class End:
         self.words.put(line)
         return self.turn(line)
 
-    def packet(self, octets):
-        return self.tell(f"packet {octets.hex() or '-'}")
+    def packet(self, octets: bytes) -> Turn:
+        return self.tell(f"packet {hex_of(octets)}")
 
-    def is_over(self):
+    def is_over(self) -> bool:
         return self.state in OVER
 
-    def turn(self, line):
+    def turn(self, line: str) -> Turn:
         path = self.next()
-        if path[0] == "skip":
-            return Turn(path)
         turn = Turn(path)
+        if path[0] == "skip":
+            return turn
         if says_cause(self.word, line, path):
-            turn.cause = self.next("cause")[0]
+            turn.cause = self.cause = self.next("cause")[0]
         if says_send(self.word, line, path):
             turn.sends = bytes.fromhex(self.next("send")[0])
         if path != ["-"]:
@@ -170,7 +191,7 @@ class End:
         self.show(line, turn)
         return turn
 
-    def next(self, wanted=None):
+    def next(self, wanted: str = "") -> List[str]:
         """The words of the next line behind its number, and behind the word that is wanted."""
         while True:
             words = self.words.get()
@@ -183,14 +204,29 @@ class End:
             raise Failed(f"{self.words.name} says {' '.join(words)} where {self.count} {wanted or 'PATH'} was to come")
         return words[2:] if wanted else words[1:]
 
-    def take_keys(self, words):
+    def take_keys(self, words: List[str]) -> bool:
         """Keeps the names of the MSK and the EMSK, where the line has them."""
         if words[1:2] != ["keys"]:
             return False
         self.keys = (words[3], words[5])
         return True
 
-    def end(self):
+    def success_keys(self) -> Names:
+        """The names of the keys of an end in SUCCESS; their line stands behind its last packet at the latest."""
+        if self.keys is None:
+            words = self.words.get()
+            if words is None or not self.take_keys(words):
+                raise Failed(f"{self.words.name} stands in SUCCESS and names no keys")
+        assert self.keys
+        return self.keys
+
+    def last_cause(self) -> str:
+        """Why it discarded what came last, in words."""
+        if self.cause == "BadTag":
+            return "the last cause is BadTag (another key, or a packet altered on its way)"
+        return f"the last cause is {self.cause}" if self.cause else "nothing was discarded"
+
+    def end(self) -> str:
         """Ends it, and answers the state in which it stood."""
         self.words.put("end")
         for words in self.words.close():
@@ -200,42 +236,47 @@ class End:
                 self.take_keys(words)
         return self.state
 
-    def stop(self):
+    def stop(self) -> None:
         self.words.stop()
 
-    def show(self, line, turn):
+    def show(self, line: str, turn: Turn) -> None:
         self.trace(f"{self.word} < {line}")
         self.trace(f"{self.word} {' '.join(turn.path)}{' cause ' + turn.cause if turn.cause else ''}")
         if turn.sends:
             self.trace(f"{self.word} > packet {turn.sends.hex()}")
 
-    def verdict(self):
+    def verdict(self) -> str:
         """The state at the end, and the names of the keys where it holds some."""
         return f"state {self.end()}" + (f" msk {self.keys[0]} emsk {self.keys[1]}" if self.keys else "")
+
+
+def failure(identifier: int) -> bytes:
+    """A Failure, which a server that has given its peer up doesn't send (RFC 3748 section 4.2)."""
+    return bytes([FAILURE, identifier, 0, 4])
 
 
 class Read:
     """What `radius` says of a packet: its kind, Identifier, EAP packet and verdict; or a cause alone."""
 
-    def __init__(self, words):
-        self.kind = self.eap = None
+    def __init__(self, words: List[str]) -> None:
+        self.kind, self.identifier, self.eap = "", 0, b""
         self.verdict = words[1]
         if len(words) > 2:
             self.kind, self.identifier, self.eap, self.verdict = words[1], int(words[3]), octets_of(words[5]), words[6]
 
-    def is_good(self, *kinds):
+    def is_good(self, *kinds: str) -> bool:
         return self.verdict == "good" and self.kind in kinds
 
 
 class Radius:
     """`eap_login radius` with the secret of both sides."""
 
-    def __init__(self, secret):
+    def __init__(self, secret: str) -> None:
         self.words = Words("radius")
         self.words.put("eap-radius 1")
         self.words.put(f"secret {secret}")
 
-    def ask(self, *words):
+    def ask(self, *words: str) -> List[str]:
         self.words.put(" ".join(words))
         self.words.told = self.words.told[-2:]
         answer = self.words.get()
@@ -243,89 +284,48 @@ class Radius:
             raise Failed("eap_login radius ended before its answer")
         return answer
 
-    def read(self, octets):
+    def read(self, octets: bytes) -> Read:
         return Read(self.ask("read", hex_of(octets)))
 
-    def request(self, identifier, authenticator, user, state, eap):
+    def request(self, identifier: int, authenticator: bytes, user: bytes, state: bytes, eap: bytes) -> bytes:
         """An Access-Request (RFC 2865 section 4.1, RFC 3579 section 3)."""
         words = self.ask("request", str(identifier), hex_of(authenticator), hex_of(user), hex_of(state), hex_of(eap))
         return bytes.fromhex(words[1])
 
-    def reply(self, kind, state, eap):
+    def reply(self, kind: str, state: bytes, eap: bytes) -> bytes:
         """The answer to the Access-Request that was read last."""
         return bytes.fromhex(self.ask("reply", kind, hex_of(state), hex_of(eap))[1])
 
-    def stop(self):
+    def stop(self) -> None:
         self.words.stop()
 
 
-def hex_of(octets):
+def hex_of(octets: bytes) -> str:
     return octets.hex() or "-"
 
 
-def octets_of(word):
+def octets_of(word: str) -> bytes:
     return b"" if word == "-" else bytes.fromhex(word)
 
 
-STATE = 24
-
-
-def attribute(packet, kind):
-    """The octets of the first attribute of a kind, in a RADIUS packet that `radius` found good; none where it has none."""
-    at, end = 20, int.from_bytes(packet[2:4], "big")
-    while at < end:
-        if packet[at] == kind:
-            return packet[at + 2 : at + packet[at + 1]]
-        at += packet[at + 1]
-    return b""
-
-
-class Settings:
-    """A file of settings: lines of a scenario that begin with `peer-` or `server-`, `user` and `max-retrans`, in the words of
-    docs/TEXTS.md, and `secret HEX` for RADIUS. It has no nonce: each login draws its own."""
-
-    def __init__(self, path):
-        self.path = path
-        self.lines = {"peer": [], "server": []}
-        self.secret = self.peer_name = None
-        try:
-            with open(path) as text:
-                for number, line in enumerate(text, 1):
-                    self.take(number, line.rstrip("\r\n"))
-        except (OSError, UnicodeDecodeError) as fault:
-            raise Failed(f"{path} can't be read: {fault}")
-
-    def take(self, number, line):
-        if line == "" or line.startswith("#"):
-            return
-        keyword, _, rest = line.partition(" ")
-        if keyword in ("peer-nonce", "server-nonce"):
-            raise Failed(f"{self.path} line {number}: a nonce is no setting of a live login, each draws its own")
-        if keyword == "secret":
-            self.secret = rest
-        elif keyword.startswith("peer-"):
-            self.lines["peer"].append(line)
-        elif keyword.startswith("server-") or keyword in ("user", "max-retrans"):
-            self.lines["server"].append(line)
-        else:
-            raise Failed(f"{self.path} line {number}: {keyword} is no setting of a live login; live/README.md has them")
-        if keyword == "peer-name":
-            self.peer_name = rest.encode()
-
-    def needs(self, what, it):
-        """A setting that a script can't go without."""
-        if it is None:
-            raise Failed(f"{self.path} has no line `{what}`")
-        return it
-
-
 class Faults:
-    """What is done to the packets that a script sends, counted from 1: one is lost, one is sent twice."""
+    """What is done to the packets that a script sends, counted from 1: one is lost, one is sent twice, one is altered."""
 
-    def __init__(self, words, trace):
+    def __init__(self, words: argparse.Namespace, trace: Trace) -> None:
         self.lose, self.repeat, self.trace, self.count = words.lose, words.repeat, trace, 0
+        self.alter = getattr(words, "alter", None)
+        self.written = 0
 
-    def times(self):
+    def altered(self, packet: bytes) -> bytes:
+        """The EAP packet as it goes out, the next of those that the end has made."""
+        self.written += 1
+        if not self.alter or self.written != self.alter[0] or self.alter[1] >= len(packet):
+            return packet
+        self.trace(f"packet {self.written} is altered at {self.alter[1]}")
+        at = self.alter[1]
+        return packet[:at] + bytes([packet[at] ^ 1]) + packet[at + 1 :]
+
+    def times(self) -> int:
         """How often the next packet goes out."""
         self.count += 1
         if self.count == self.lose:
@@ -337,31 +337,87 @@ class Faults:
         return 1
 
 
+# The words of a script.
+
+
 class Parser(argparse.ArgumentParser):
     """The words of a script, whose faults end it with status 1, as those of the other scripts do."""
 
-    def error(self, message):
+    def error(self, message: str) -> NoReturn:
         self.print_usage(sys.stderr)
         self.exit(1, f"{self.prog}: {message}\n")
 
 
-def parser(name, text):
+def whole(least: int, most: int) -> Callable[[str], int]:
+    """A number in decimal digits, with its bounds."""
+
+    def read(word: str) -> int:
+        if not re.fullmatch("[0-9]{1,9}", word) or not least <= int(word) <= most:
+            raise argparse.ArgumentTypeError(f"{word[:40]!a} is no number of {least} to {most}")
+        return int(word)
+
+    return read
+
+
+def seconds(least: float, most: float) -> Callable[[str], float]:
+    """Seconds, as 2 or 0.25, with their bounds."""
+
+    def read(word: str) -> float:
+        if not re.fullmatch(r"[0-9]{1,9}(\.[0-9]{1,9})?", word) or not least <= float(word) <= most:
+            raise argparse.ArgumentTypeError(f"{word[:40]!a} is no number of {least} to {most} seconds")
+        return float(word)
+
+    return read
+
+
+def address(word: str) -> str:
+    try:
+        return str(ipaddress.ip_address(word))
+    except ValueError:
+        raise argparse.ArgumentTypeError(f"{word[:60]!a} is no address, as 127.0.0.1 or ::1")
+
+
+def hexes(word: str) -> bytes:
+    if not re.fullmatch("([0-9a-fA-F]{2}){1,253}", word):
+        raise argparse.ArgumentTypeError(f"{word[:40]!a} isn't 1 to 253 octets in hex")
+    return bytes.fromhex(word)
+
+
+def parser(name: str, text: Optional[str]) -> Parser:
     made = Parser(prog=f"live/{name}", description=text, formatter_class=argparse.RawDescriptionHelpFormatter)
     made.add_argument("settings", metavar="SETTINGS", help="a file of settings, as live/alice.settings")
     return made
 
 
-def add_faults(made):
-    made.add_argument("--lose", type=int, metavar="N", help="the N-th packet isn't sent")
-    made.add_argument("--repeat", type=int, metavar="N", help="the N-th packet is sent twice")
+def add_faults(made: Parser, is_peer: bool) -> None:
+    count = whole(0, 1000000)
+    made.add_argument("--lose", type=count, default=0, metavar="N", help="the N-th packet isn't sent")
+    made.add_argument("--repeat", type=count, default=0, metavar="N", help="the N-th packet is sent twice")
+    if is_peer:
+        help_text = "the N-th packet of the peer has its octet at PLACE altered"
+        made.add_argument("--alter", type=count, nargs=2, metavar=("N", "PLACE"), help=help_text)
     made.add_argument("--trace", action="store_true", help="write what each end is told and says to standard error")
 
 
-def tracer(is_wanted):
-    return (lambda line: print(line, file=sys.stderr, flush=True)) if is_wanted else (lambda line: None)
+def udp_socket(address: str) -> socket.socket:
+    family = socket.AF_INET6 if ":" in address else socket.AF_INET
+    return socket.socket(family, socket.SOCK_DGRAM)
 
 
-def run(name, main):
+def tracer(is_wanted: bool) -> Trace:
+    return say if is_wanted else (lambda line: None)
+
+
+def say(line: str) -> None:
+    print(line, file=sys.stderr, flush=True)
+
+
+def text_of(octets: bytes) -> str:
+    """What the network says, as it may be shown."""
+    return ascii(octets.decode("latin-1"))
+
+
+def run(name: str, main: Callable[[], Optional[int]]) -> NoReturn:
     """Runs a script's main, and says why it couldn't go on. A signal ends it as a fault does, so that it stops what it has
     started."""
     signal.signal(signal.SIGTERM, lambda *_: sys.exit(143))
