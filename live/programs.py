@@ -128,7 +128,7 @@ def run(*words: str) -> None:
         raise ends.Failed(f"{' '.join(words)}: {done.stdout.decode(errors='replace').strip()}")
 
 
-def enter_namespace(name: str, words: Sequence[str]) -> Optional[str]:
+def enter_namespace(script_words: Sequence[str]) -> Optional[str]:
     """Runs a script again in a network namespace of its own, where it isn't in one; says what stands against it."""
     if os.environ.get("LIVE_NAMESPACE") == os.readlink("/proc/self/ns/net"):
         run("ip", "link", "set", "lo", "up")
@@ -145,7 +145,7 @@ def enter_namespace(name: str, words: Sequence[str]) -> Optional[str]:
         return f"no network namespace can be made: {tried.stderr.decode(errors='replace').strip()}"
     again = 'LIVE_NAMESPACE=$(readlink /proc/self/ns/net) && export LIVE_NAMESPACE && exec "$@"'
     sys.stdout.flush()
-    os.execvp("unshare", [*enter, "sh", "-c", again, "sh", *script(name, *words)])
+    os.execvp("unshare", [*enter, "sh", "-c", again, "sh", *script_words])
 
 
 def script(name: str, *words: str) -> List[str]:
