@@ -1,9 +1,11 @@
-# The cases of tools/install. Read by tools/check after captures.sh and first_run.sh, whose copy of the repository has a
-# program that a stand-in for the kit has proved.
+# The cases of tools/install. Read by tools/check.
+
+. tools/cases/lib/kit.sh
+in_copy tools/prove
 
 # The program that is kept, proved or not, in a folder of its own; it then runs without the kit on the PATH.
 there=$work/there
-tools/install --unchecked --prefix "$there" >"$work/put" 2>"$work/errors" || fail "install ends with a failure"
+tools/install --unchecked --prefix="$there" >"$work/put" 2>"$work/errors" || fail "install ends with a failure"
 installed=$(head -n 1 "$work/put")
 name=${installed##*/}
 docs=$there/share/doc/$name
@@ -24,20 +26,10 @@ without_kit sh "$work/commands" >"$work/said" 2>"$work/errors" || true
     cat bulk-1-100.out gpsk-login.peer-told gpsk-login.server-told
 ) >"$work/wanted"
 is_file "$work/wanted" "the man page's examples"
-# The man page has each form, each status and each fault, and nothing in it is wrong for groff.
-{
-    "$EAP_LOGIN" </dev/null 2>"$work/errors" | sed 's/.*eap_login //; s/ | /\n/g' | sed "s/ .*//; s/^/^$name /"
-    sed -n '/^| Status/,/^$/s/^| \([0-9, ]*\) |.*/\1/p' docs/TEXTS.md | tr -d ' ' | tr , '\n' |
-        sed 's/.*/^\\.BR\\? \\(.* \\)\\?&\\>/'
-    sed -n '/^### Faults/,/^### The trace/s/^| \([A-Z][A-Za-z]*\) |.*/^\\.BR\\? .*\1/p' docs/TEXTS.md
-    sed -n 's/^| `refused record . \([A-Za-z]*\)`.*/^\\.BR\\? .*\1/p' docs/TEXTS.md
-} | sort -u >"$work/patterns"
+# Its forms, statuses and faults are made of the words that the program is held to, as is all that is made; and nothing in
+# it is wrong for groff.
 count=$((count + 1))
-[ "$(wc -l <"$work/patterns")" -ge 33 ] || fail "too few forms, statuses and faults are looked for"
-while read -r pattern; do
-    count=$((count + 1))
-    grep -q -- "$pattern" "$plain" || fail "the man page has no line like $pattern"
-done <"$work/patterns"
+tools/make-docs --check 2>"$work/said" || fail "a page isn't as tools/make-docs makes it: $(head -n 1 "$work/said")"
 if command -v groff >/dev/null; then
     groff -man -ww -Tutf8 "$page" >"$work/rendered" 2>"$work/said" || true
     is_file /dev/null "groff -ww of the man page"
@@ -67,6 +59,28 @@ TEXT
 else
     echo "tools/check: bash's completion is passed over: bash isn't installed" >&2
 fi
+# zsh does too, with stand-ins for its own functions that write what they are given.
+if command -v zsh >/dev/null; then
+    cat >"$work/complete.zsh" <<'TEXT'
+_describe() { print -r -- ${(P)2%%:*} }
+compadd() { print -r -- $@ }
+_default() { print files }
+file=$1
+shift
+words=("$@") CURRENT=$#
+. $file
+TEXT
+    for case in ':replay decode keys check pcap radius bulk peer server' 'replay :names' 'check :files' \
+        'pcap alice :47 51' 'pcap alice 51 :files'; do
+        count=$((count + 1))
+        words=${case%%:*}
+        set -- $words ''
+        got=$(zsh -f "$work/complete.zsh" "$there/share/zsh/site-functions/_$name" eap_login "$@")
+        [ "$got" = "${case#*:}" ] || fail "zsh completes 'eap_login $words' by '$got', and not by '${case#*:}'"
+    done
+else
+    echo "tools/check: zsh's completion is passed over: zsh isn't installed" >&2
+fi
 
 # As a Debian package, unpacked elsewhere: it runs there, and asks for what the program is linked with and no more.
 if command -v dpkg-deb >/dev/null; then
@@ -86,14 +100,25 @@ else
 fi
 
 # What is refused, and that nothing is there then.
-refuses "one of --prefix and --deb is wanted" tools/install
-refuses "the prefix here isn't a whole path" tools/install --prefix here
-refuses "--prefix wants a name behind it" tools/install --unchecked --prefix
-refuses "there is no folder $work/none" tools/install --unchecked --deb "$work/none/login.deb"
+refuses_words() {
+    told=$1
+    shift
+    ended=0
+    tools/install "$@" >"$work/out" 2>"$work/said" || ended=$?
+    holds "install $* ends with $ended" [ "$ended $(cat "$work/out")" = '1 ' ]
+    has_line "tools/install: $told" "install $*"
+    has_line 'usage: tools/install [--unchecked] --prefix=DIR' "install $*"
+    has_line 'usage: tools/install [--unchecked] --deb=FILE' "install $*"
+}
+refuses_words "one of --prefix and --deb is wanted"
+refuses_words "the prefix here isn't a whole path: it begins with no /" --prefix=here
+refuses_words "--prefix wants a name behind it" --unchecked --prefix
+refuses_words "--other is no word of it" --other
+refuses "there is no folder $work/none" tools/install --unchecked --deb="$work/none/login.deb"
 
 # The stand-in's program is proved: it is installed by its own name, below DESTDIR, with the library, which another
 # program finds by pkg-config. When a source has changed it isn't proved, and is refused, with nothing put in place.
-mkdir -p "$copy/share" "$copy/docs" "$copy/crates/tuvaddri_c/out"
+mkdir -p "$copy/share" "$copy/docs" "$copy/c" "$copy/examples" "$copy/crates/tuvaddri_c/out"
 cp tools/install "$copy/tools"
 cp share/* "$copy/share"
 cp docs/TEXTS.md "$copy/docs"

@@ -1,100 +1,205 @@
-#!/usr/bin/env -S python3 -B
-"""Reads a page that tools/page made, as a browser's reader would, and writes what its rows say.
+"""Pages that tools/page makes, as a browser's reader reads them: what their rows say beside the trace, and that each page is
+well-formed, needs nothing else, and has enough contrast (WCAG 2: 4.5) in its light and its dark palette."""
 
-    tools/cases/page.py < login.html
-
-A line for each row with a number: `K octets HEX` for a packet, `K cause WORD` for a discard whose cause is told in
-words, `K finding WORD ..`; then the verdict. The status is 1 where the page isn't well-formed, would fetch something,
-has a script, or has text of too little contrast (WCAG 2: 4.5) in the light or the dark palette."""
+from __future__ import annotations
 
 import re
-import sys
 from html.parser import HTMLParser
+from pathlib import Path
+from typing import Callable, Iterator, Optional
 
-EMPTY = {"meta"}
-FETCHING = {"src", "href", "srcset", "action", "data", "poster", "background", "onclick", "onload"}
+from lib.common import answer
+
+Run = Callable[..., tuple[int, str, str]]
+EMPTY = {"meta", "input"}
+FETCHING = {"src", "srcset", "action", "data", "poster", "background", "onclick", "onload"}
 LIVE = {"script", "link", "img", "iframe", "object", "embed", "base", "form"}
-TEXTS, GROUNDS = ("text", "dim", "plain", "good", "bad", "open"), ("ground", "card")
+TEXTS, GROUNDS = ("text", "dim", "plain", "good", "bad", "open", "key0", "key1", "key2"), ("ground", "card")
 
 
 class Page(HTMLParser):
     """The elements that are open, and the text of each row by the class or the name of what it stands in."""
 
-    def __init__(self):
+    def __init__(self, text: str) -> None:
         super().__init__()
-        self.open, self.rows, self.verdict, self.style, self.wrong = [], [], "", "", []
+        self.open: list[tuple[str, str]] = []
+        self.rows: list[dict[str, str]] = []
+        self.verdicts: list[str] = []
+        self.style, self.wrong, self.names, self.links = "", list[str](), set[str](), set[str]()
+        self.feed(text)
+        self.close()
+        self.wrong += [f"<{name}> stays open" for name, _ in self.open]
+        if re.search(r"https?:|url\(|@import", text):
+            self.wrong.append("it names something elsewhere")
+        if self.links - self.names:
+            self.wrong.append(f"no row is {self.links - self.names}")
 
-    def handle_starttag(self, name, words):
-        if name in LIVE or FETCHING & {key for key, _ in words}:
+    def handle_starttag(self, name: str, given: list[tuple[str, Optional[str]]]) -> None:
+        words = {key: value or "" for key, value in given}
+        if name in LIVE or FETCHING & set(words):
             self.wrong.append(f"<{name}> isn't wanted")
-        if name == "li" and not any(it == "li" for it, _ in self.open):
-            self.rows.append({})
+        if "href" in words:
+            self.links.add(words["href"].removeprefix("#"))
+        if "id" in words and words["id"] in self.names:
+            self.wrong.append(f"two are named {words['id']}")
+        self.names.add(words.get("id", ""))
+        classes = words.get("class", "")
+        if name == "li" and ("ol", "") in self.open and not any(it == "li" for it, _ in self.open):
+            self.rows.append({"id": words.get("id", "")})
+        if "verdict" in classes:
+            self.verdicts.append("")
         if name not in EMPTY:
-            self.open.append((name, dict(words).get("class", "")))
+            self.open.append((name, classes))
 
-    def handle_endtag(self, name):
+    def handle_endtag(self, name: str) -> None:
         if not self.open or self.open.pop()[0] != name:
             self.wrong.append(f"</{name}> closes nothing")
 
-    def handle_data(self, text):
+    def handle_data(self, text: str) -> None:
         names = [name for name, _ in self.open]
         classes = " ".join(it for _, it in self.open)
         if "style" in names:
             self.style += text
-        elif "verdict" in classes and "strong" in names:
-            self.verdict += text
-        elif self.rows and "li" in names:
+        elif "verdict" in classes:
+            self.verdicts[-1] += text
+        elif self.rows and "ol" in names and "li" in names:
             part = next((it for it in ("number", "body") if it in classes), "top")
-            part = "pre" if "pre" in names else part
+            part = "pre" if "pre" in names else "mark" if "mark" in names else part
             self.rows[-1][part] = self.rows[-1].get(part, "") + text
+            if "pre" in names and "mark" in names:
+                self.rows[-1]["mark"] = self.rows[-1].get("mark", "") + text
 
 
-def light_of(color):
+def light_of(color: str) -> float:
     parts = [int(color[at : at + 2], 16) / 255 for at in (1, 3, 5)]
     red, green, blue = (it / 12.92 if it <= 0.03928 else ((it + 0.055) / 1.055) ** 2.4 for it in parts)
     return 0.2126 * red + 0.7152 * green + 0.0722 * blue
 
 
-def faint(style):
+def faint(style: str) -> Iterator[str]:
     """The pairs of colours of a palette whose contrast is too low."""
-    for palette in re.findall(r":root \{(.*?)\}", style, re.S):
+    palettes = re.findall(r":root \{(.*?)\}", style, re.S)
+    if len(palettes) != 2:
+        yield "it hasn't two palettes"
+    for palette in palettes:
         colors = dict(re.findall(r"--(\w+): (#\w{6})", palette))
         for text in TEXTS:
             for ground in GROUNDS:
                 low, high = sorted((light_of(colors[text]), light_of(colors[ground])))
                 if (high + 0.05) / (low + 0.05) < 4.5:
-                    yield f"{text} on {ground}"
+                    yield f"{text} on {ground} is faint"
 
 
-def tell(row):
-    number = row.get("number", "")
-    if not number:
-        return
-    if "pre" in row:
-        print(number, "octets", row["pre"].replace(" ", "").replace("nooctets", "-"))
-    if cause := re.search(r"discarded: (\w+)", row.get("top", "")):
-        words = re.search(rf"^Discarded by the [a-z-]+: {cause[1]}: (.+?)\.", row["body"])
-        print(number, "cause", cause[1] if words else f"{cause[1]} without words")
-    if found := re.search(r"Finding of check: (.*?): .", row.get("body", "")):
-        print(number, "finding", found[1])
+def page_of(run: Run, *words: str, given: bytes = b"") -> Page:
+    status, out, errors = run(["page", *words], given)
+    page = Page(out)
+    page.wrong += [f"it ends with {status}: {errors}"] * (status != 0) + list(faint(page.style))
+    return page
 
 
-def main():
-    page, text = Page(), sys.stdin.read()
-    page.feed(text)
-    page.close()
-    wrong = page.wrong + [f"<{name}> stays open" for name, _ in page.open]
-    wrong += [f"faint: {it}" for it in faint(page.style)]
-    if re.search(r"https?:|url\(|@import", text):
-        wrong.append("it names something elsewhere")
-    if page.style.count(":root") != 2:
-        wrong.append("it hasn't two palettes")
-    for row in page.rows:
-        tell(row)
-    print("verdict", page.verdict)
-    for line in wrong:
-        print(line, file=sys.stderr)
-    return bool(wrong)
+def octets_in(row: dict[str, str]) -> str:
+    return row.get("pre", "").replace(" ", "").replace("nooctets", "")
 
 
-sys.exit(main())
+# ---- Replays.
+
+
+def brought(name: str) -> tuple[list[str], list[str], list[str]]:
+    """What each event that brings octets as they were sent brings, the causes of discards, by trace and scenario; and the
+    octets that are altered."""
+    text = Path(f"examples/{name}.scenario").read_bytes()
+    trace = [it.split(" ") for it in answer(["replay", "names"], text)[1]]
+    sent: dict[str, str] = {}
+    for line, after in zip(trace, trace[1:]):
+        if line[1:2] == ["sent"]:
+            sent[line[2]] = after[2]
+    events = [it.split(" ") for it in text.decode().split("\nevents\n")[1].splitlines()]
+    skipped = {int(it[0]) for it in trace if it[1:2] == ["skip"]}
+    plain = [sent[it[1]] if it[0] == "deliver" else it[2].replace("-", "") for at, it in enumerate(events, 1)
+             if it[0] in ("deliver", "inject") and at not in skipped]
+    altered = [f"{int(sent[it[1]][2 * int(it[2]) : 2 * int(it[2]) + 2], 16) ^ int(it[3]):02x}" for it in events
+               if it[0] == "alter"]
+    return plain, [it[2] for it in trace if it[1:2] == ["cause"]], altered
+
+
+def case_replays(run: Run) -> Iterator[Optional[str]]:
+    """The rows have the octets of the packets that come as they were sent, or are injected, each cause in words, and the
+    altered octet marked."""
+    for name in ("altered", "replayed", "through", "lost-server"):
+        page, (plain, causes, altered) = page_of(run, f"examples/{name}.scenario"), brought(name)
+        yield f"{name}: {page.wrong[0]}" if page.wrong else None
+        rows = [octets_in(it) for it in page.rows if "mark" not in it and "lost" not in it.get("top", "") and "pre" in it]
+        yield None if rows == plain else f"{name} has other octets"
+        found = [m[1] for it in page.rows if (m := re.search(r"discarded: (\w+)", it.get("top", "")))]
+        yield None if found == causes else f"{name} has other causes: {found}"
+        told = [m[1] for it in page.rows if (m := re.search(r"discards it \((\w+)\): .+\.", it.get("body", "")))]
+        yield None if told == causes else f"{name} tells other causes: {told}"
+        marks = [it["mark"][:2] for it in page.rows if "mark" in it]
+        yield None if marks == altered else f"{name} marks other octets: {marks}"
+
+
+def case_numbers(run: Run) -> Iterator[Optional[str]]:
+    """One numbering, the packet's; a row can be linked; and what stands at both ends is seen."""
+    page = page_of(run, "examples/altered.scenario")
+    numbers = [it.get("number", "") for it in page.rows]
+    yield None if numbers == ["", *"12344567"] else f"the rows have the numbers {numbers}"
+    names = [it["id"] for it in page.rows]
+    wanted = ["event-0", "packet-1", "packet-2", "packet-3", "packet-4", "packet-4-2", "packet-5", "packet-6", "packet-7"]
+    yield None if names == wanted else f"the rows are named {names}"
+    yield None if "packet-4" in page.links else "the reason isn't linked to its row"
+    _, out, _ = run(["page", "examples/altered.scenario"])
+    yield None if out.count('<small class="key key-0">MSK 65018e7c</small>') == 2 else "MSK isn't told at both ends alike"
+    for word in ("last line of check", "At the end stand", "Events 8", "peer: IDLE"):
+        yield f"it says {word!r}" if word in out else None
+    yield None if "Made by tools/page of Tuvaddri, " in out else "it doesn't say what made it"
+
+
+# ---- Captures, and what is told at the top.
+
+
+def case_captures(run: Run) -> Iterator[Optional[str]]:
+    """The findings are those beside a capture."""
+    for name in ("altered", "login", "no-key"):
+        page = page_of(run, f"examples/{name}.capture")
+        yield f"{name}: {page.wrong[0]}" if page.wrong else None
+        found = [m[1] for it in page.rows if (m := re.search(r"Under the keys given: (.*?): .", it.get("body", "")))]
+        wanted = [it.split(" ", 1)[1] for it in Path(f"examples/{name}.findings").read_text().splitlines()[:-1]]
+        yield None if found == wanted else f"{name} has the findings {found}"
+
+
+def case_verdicts(run: Run) -> Iterator[Optional[str]]:
+    """Why it failed stands at the top."""
+    for name, said in (
+        ("two-logins.scenario", "Both ends succeeded, and agree."),
+        ("wrong-key.scenario", "`peer-psk 47` and `user alice 47` have different keys."),
+        ("failing/wrong-key.pcap", "packet 5, GPSK-2 of alice: its MAC is wrong under the key given for alice"),
+        ("failing/barred.pcap", "the server knows alice, and bars it."),
+        ("failing/radius.pcap", "the server knows alice, and bars it."),
+        ("gpsk-login.server", "The server is in SUCCESS."),
+        ("gpsk-login.trace", "Both ends succeeded, and agree."),
+        ("packets.hex", "it has no end here."),
+    ):
+        key = ["000102030405060708090a0b0c0d0e0f101112131415161718191a1b1c1d1e1f"] if name.endswith(".pcap") else []
+        page = page_of(run, f"examples/{name}", *key)
+        yield f"{name}: {page.wrong[0]}" if page.wrong else None
+        yield None if any(said in it for it in page.verdicts) else f"{name} says {page.verdicts}"
+
+
+def case_names(run: Run) -> Iterator[Optional[str]]:
+    """A name that spells an element is a name."""
+    text = Path("examples/identity.scenario").read_text()
+    text = re.sub("(?m)^peer-name .*", "peer-name <script>x</script>", text)
+    page = page_of(run, "-", given=re.sub("(?m)^(# .*)", r"\1 <img src=x>", text).encode())
+    yield page.wrong[0] if page.wrong else None
+    yield None if any("<script>" in it.get("top", "") for it in page.rows) else "the name isn't there"
+
+
+def case_refused(run: Run) -> Iterator[Optional[str]]:
+    for words, status, said in (
+        (["examples/bad-number.scenario"], 2, "refused line 4 BadNumber"),
+        (["examples/keys.txt"], 2, "it is requests of `keys`"),
+        (["no-file"], 2, "no-file can't be read"),
+        (["--nothing"], 1, "unrecognized arguments: --nothing"),
+    ):
+        found = run(["page", *words])
+        yield None if found[0] == status and said in found[2] and not found[1] else f"{words} gives {found}"

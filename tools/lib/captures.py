@@ -1,41 +1,44 @@
-"""Captures of logins: texts for `check`, pcap files, and what comes to the ends in the replay of a scenario."""
+"""Captures of logins: the EAP packets of a text for `check`, of a file of captured frames, or of lines in hex."""
+
+from __future__ import annotations
 
 import io
-import struct
+from collections import Counter
 from dataclasses import dataclass, field
+from typing import Iterable, Optional
 
+from lib import frames
 from lib.common import Refused, ask
-from lib.replays import replay_of
-from lib.texts import MOST_OCTETS, comments_of, lines_of, packet_of
+from lib.texts import comments_of, lines_of, packet_of
 
-# The addresses that a file made here has: the group to which a port's two ends send, and both ends (IEEE 802.1X).
-PAE_GROUP = bytes.fromhex("0180c2000003")
-AUTHENTICATOR = bytes.fromhex("020000000001")
-STATION = bytes.fromhex("020000000002")
-EAPOL = 0x888E
-VLANS = (0x8100, 0x88A8)
-ETHERNET = 1
-MOST_FRAME = 262144
+User = tuple[str, str, str]
 
 
 @dataclass
 class Packet:
-    """A packet of a capture: whether it goes to the peer, its octets, and where it stands, as in `line 7`."""
+    """A packet of a capture: whether it goes to the peer, its octets, where it stands, as in `line 7`, how it is called
+    by number, when it came, and the RADIUS packet around it."""
 
     is_to_peer: bool
     octets: bytes
     place: str = ""
+    number: int = 0
+    at: Optional[float] = None
+    radius: Optional[frames.Radius] = None
 
 
 @dataclass
 class Capture:
-    """Packets in their order; the users, as the words NAME, KIND and KEY; and what is said of them."""
+    """Packets in their order; the users, as the words NAME, KIND and KEY; what the text says of itself; the station, and
+    what was left out of a file."""
 
-    packets: list
-    users: list = field(default_factory=list)
-    comments: list = field(default_factory=list)
+    packets: list[Packet]
+    users: list[User] = field(default_factory=list)
+    comments: list[str] = field(default_factory=list)
+    station: str = ""
+    notes: list[str] = field(default_factory=list)
 
-    def text(self):
+    def text(self) -> str:
         lines = ["eap-capture 1"]
         lines += self.comments
         lines += [" ".join(("user", *user)) for user in self.users]
@@ -43,173 +46,129 @@ class Capture:
         lines += [f"{'>' if it.is_to_peer else '<'} {it.octets.hex() or '-'}" for it in self.packets]
         return "\n".join(lines) + "\nend\n"
 
-    def pcap(self):
-        return pcap_of(frame_of(it) for it in self.packets)
+    def pcap(self) -> bytes:
+        """A file of these packets, one a second where nothing says when they came."""
+        records = []
+        for at, it in enumerate(self.packets):
+            frame, seconds = frames.frame_of(it.octets, it.is_to_peer), float(at) if it.at is None else it.at
+            records.append(frames.Record(at, int(seconds), int(seconds % 1 * 1000000), frame, len(frame)))
+        return frames.header_of("<") + b"".join(frames.record_of("<", it) for it in records)
 
 
-# Texts.
+# ---- Texts.
 
 
-def of_capture(octets):
+def of_capture(octets: bytes) -> Capture:
     """The capture of a text for `check`, which the program has to take."""
     ask(["check"], octets, (0, 7))
     found = Capture([], comments=comments_of(octets))
     for number, words in lines_of(octets):
         if words[0] == "user":
-            found.users.append(tuple(words[1:4]))
+            found.users.append((words[1], words[2], words[3]))
         elif words[0] in ("<", ">"):
-            found.packets.append(Packet(words[0] == ">", packet_of(words[1], f"line {number}"), f"line {number}"))
+            place = f"line {number}"
+            found.packets.append(Packet(words[0] == ">", packet_of(words[1], place), place, len(found.packets) + 1))
     return found
 
 
-def of_replay(replay):
-    """What comes to both ends of the peer's link, as it comes: altered, cut, again, injected; without what is lost."""
-    ways = {"peer": True, "server" if replay.mode == "alone" else "pass-peer": False}
-    came = [it for it in replay.events if it.port in ways]
-    packets = [Packet(ways[it.port], it.octets, f"event {it.number}") for it in came]
-    return Capture(packets, replay.users, replay.comments)
-
-
-def of_trace(octets):
-    """The packets that a trace with names has, in the order of sending."""
-    found, way = Capture([]), None
-    for number, words in lines_of(octets):
-        if words[1:2] == ["sent"] and len(words) > 4:
-            way = words[4] == "peer"
-        elif words[1:2] == ["octets"] and len(words) == 3:
-            found.packets.append(Packet(way, packet_of(words[2], f"line {number}"), f"line {number}"))
-    if not found.packets:
-        raise Refused("the trace has no octets: `replay names` writes them")
-    return found
-
-
-def of_packets(octets):
+def of_packets(octets: bytes) -> Capture:
     """Packets in hex, one a line."""
     found = Capture([])
     for number, words in lines_of(octets):
         if len(words) != 1:
             raise Refused(f"line {number} isn't one packet in hex: {' '.join(words)[:60]!a}")
         packet = packet_of(words[0], f"line {number}")
-        found.packets.append(Packet(packet[:1] != b"\2", packet, f"line {number}"))
+        found.packets.append(Packet(packet[:1] != b"\2", packet, f"line {number}", len(found.packets) + 1))
     return found
 
 
-def of_any(octets):
-    """The packets of a capture, of a scenario, of a trace with names, of a pcap file, or of lines in hex."""
-    if is_pcap(octets):
-        return of_pcap(octets)
-    header = octets.split(b"\n", 1)[0].rstrip(b"\r")
-    if header.startswith(b"eap-scenario "):
-        return of_replay(replay_of(octets))
-    if header == b"eap-capture 1":
-        return of_capture(octets)
-    return of_trace(octets) if header == b"eap-trace 1" else of_packets(octets)
+# ---- Files of captured frames.
 
 
-# Files of captured frames.
-
-
-@dataclass
-class Record:
-    """A record of a pcap file: its number, its time in seconds and microseconds, the frame, its length on the wire."""
-
-    number: int
-    seconds: int
-    micros: int
-    frame: bytes
-    wire: int
-
-
-def frame_of(packet):
-    """The frame that carries a packet on a wire, with zeros up to the 60 octets that Ethernet asks for."""
-    source = AUTHENTICATOR if packet.is_to_peer else STATION
-    eapol = struct.pack(">HBBH", EAPOL, 1, 0, len(packet.octets)) + packet.octets
-    return (PAE_GROUP + source + eapol).ljust(60, b"\0")
-
-
-def header_of(order):
-    return struct.pack(order + "IHHiIII", 0xA1B2C3D4, 2, 4, 0, 0, 65535, ETHERNET)
-
-
-def record_of(order, record):
-    return struct.pack(order + "IIII", record.seconds, record.micros, len(record.frame), record.wire) + record.frame
-
-
-def pcap_of(frames):
-    """A file of these frames, one a second."""
-    records = (Record(at, at, 0, frame, len(frame)) for at, frame in enumerate(frames))
-    return header_of("<") + b"".join(record_of("<", record) for record in records)
-
-
-def is_pcap(octets):
-    """Whether octets begin as a file of a capture tool does, be it one that can be read or not."""
-    return octets[:4].hex() in ("0a0d0d0a", "a1b2c3d4", "d4c3b2a1", "a1b23c4d", "4d3cb2a1")
-
-
-def order_of(header):
-    """The order of octets in a file, by its header; or why it can't be read."""
-    magic = header[:4].hex()
-    if magic == "0a0d0d0a":
-        raise Refused("it is a pcapng file: `editcap -F pcap IN OUT` makes a pcap file of it")
-    if magic in ("a1b23c4d", "4d3cb2a1"):
-        raise Refused("its times are in nanoseconds: `editcap -F pcap IN OUT` makes a file of it with microseconds")
-    if magic not in ("a1b2c3d4", "d4c3b2a1"):
-        raise Refused("it isn't a pcap file")
-    if len(header) < 24:
-        raise Refused("it ends within its header")
-    order = ">" if magic == "a1b2c3d4" else "<"
-    major, minor, _, _, _, link = struct.unpack(order + "HHiIII", header[4:])
-    if (major, minor) != (2, 4):
-        raise Refused(f"it is of version {major}.{minor}, and 2.4 is read")
-    if link != ETHERNET:
-        raise Refused(f"it was captured on a link of the type {link}, and Ethernet alone, which is 1, is read")
-    return order
-
-
-def records_of(file, order):
-    """The records of an open pcap file behind its header; one that is cut ends them with a refusal."""
-    number = 0
-    while header := file.read(16):
-        number += 1
-        if len(header) < 16:
-            raise Refused(f"it ends within record {number}")
-        seconds, micros, size, wire = struct.unpack(order + "IIII", header)
-        if size > MOST_FRAME:
-            raise Refused(f"record {number} has {size} octets, and {MOST_FRAME} are the most")
-        frame = file.read(size)
-        if len(frame) < size:
-            raise Refused(f"it ends within record {number}")
-        yield Record(number, seconds, micros, frame, wire)
-
-
-def eapol_of(frame):
-    """The EAPOL packet that a frame carries, or None."""
-    return frame[14:] if frame[12:14] == EAPOL.to_bytes(2, "big") else None
-
-
-def eap_of(eapol):
-    """The EAP packet of an EAPOL packet: None where it is of another type, b"" at the least where it is whole; or a
-    refusal where it is cut."""
-    if len(eapol) < 4:
-        raise Refused("its header is cut")
-    size = int.from_bytes(eapol[2:4], "big")
-    if eapol[1] != 0:
-        return None
-    if size > min(len(eapol) - 4, MOST_OCTETS):
-        raise Refused(f"its body of {size} octets is cut, or over 2,000")
-    return eapol[4 : 4 + size]
-
-
-def of_pcap(octets):
-    """The EAP packets of a pcap file that are whole."""
-    found, file = Capture([]), io.BytesIO(octets)
-    order = order_of(file.read(24))
-    for record in records_of(file, order):
-        eapol = eapol_of(record.frame)
+def packets_of(pair: Iterable[frames.Frame], left: Counter[str]) -> list[Packet]:
+    """The EAP packets that EAPOL frames carry."""
+    found = []
+    for it in pair:
         try:
-            packet = None if eapol is None else eap_of(eapol)
+            eap = frames.eap_of(it.payload)
         except Refused:
+            left["whose EAPOL packet is cut"] += 1
             continue
-        if packet is not None:
-            found.packets.append(Packet(packet[:1] != b"\2", packet, f"record {record.number}"))
+        if eap is not None:
+            number = it.record.number
+            found.append(Packet(eap[:1] != b"\2", eap, f"record {number}", number, it.record.at))
     return found
+
+
+def by_eapol(found: list[frames.Frame], left: Counter[str]) -> list[Capture]:
+    """The captures of EAPOL frames, one for each station."""
+    votes = frames.stations_of(found)
+    if len({it.source for it in found}) <= 2:
+        station = next((it for it, vote in votes.items() if vote > 0), b"")
+        pairs = {(station, b""): found} if found else {}
+    else:
+        pairs = frames.pairs_of(found, left)
+    return [Capture(packets_of(pair, left), station=ends[0].hex("-")) for ends, pair in pairs.items()]
+
+
+def by_radius(found: list[frames.Radius], left: Counter[str]) -> list[Capture]:
+    """The captures of RADIUS packets that carry EAP, one for each station; a reply belongs to its request."""
+    stations: dict[str, Capture] = {}
+    requests: dict[object, frames.Radius] = {}
+    for it in found:
+        it.request = None if it.is_request else requests.get(it.exchange)
+        if it.is_request:
+            requests[it.exchange] = it
+        first = it.request or it
+        name = (first.get(frames.CALLING_STATION) or first.get(frames.USER_NAME)).decode("latin-1")
+        if not it.eap and it.octets[0] != 3:
+            left["of RADIUS without EAP"] += 1
+            continue
+        number = it.frame.record.number
+        station = stations.setdefault(name, Capture([], station=name))
+        station.packets.append(Packet(not it.is_request, it.eap, f"record {number}", number, it.frame.record.at, it))
+    return list(stations.values())
+
+
+def of_pcap(octets: bytes) -> list[Capture]:
+    """The EAP packets of a file that are whole, parted by station; what is left out is noted."""
+    file, left = io.BytesIO(octets), Counter[str]()
+    eapol: list[frames.Frame] = []
+    radius: list[frames.Radius] = []
+    notes = []
+    _, records = frames.of_file(file)
+    try:
+        for record in records:
+            frame = frames.of_record(record)
+            found = None if frame.kind == frames.EAPOL else frames.radius_of(frame)
+            if found:
+                radius.append(found)
+            elif frame.kind == frames.EAPOL:
+                eapol.append(frame)
+            else:
+                left["without EAP"] += 1
+    except Refused as fault:
+        if not eapol and not radius:
+            raise
+        notes.append(str(fault))
+    captures = [it for it in by_eapol(eapol, left) + by_radius(radius, left) if it.packets]
+    notes += [f"left out: frames {what}: {count}" for what, count in sorted(left.items())]
+    if not captures:
+        raise Refused("; ".join(["no frame has a whole EAP packet: by EAPOL (EtherType 888e, type 0), or in a RADIUS "
+                                 "packet by UDP port 1812", *notes]))
+    captures[0].notes = notes
+    return captures
+
+
+def judge_radius(captures: list[Capture], secret: str) -> None:
+    """Asks `radius` of the authenticators of each packet, each reply behind its request."""
+    packets = [it.radius for capture in captures for it in capture.packets if it.radius]
+    lines, asked = ["eap-radius 1", f"secret {secret.encode('utf-8', 'surrogateescape').hex()}"], []
+    for it in packets:
+        if it.request:
+            lines.append(f"read {it.request.octets[:2000].hex()}")
+        lines.append(f"read {it.octets[:2000].hex()}")
+        asked.append(len(lines) - 3)
+    answers = ask(["radius"], "\n".join([*lines, "end", ""]).encode())
+    for it, at in zip(packets, asked):
+        it.verdict = answers[at].split(" ")[-1]

@@ -1,10 +1,13 @@
 """What the tools in Python share: their words, how they end, and the program that they ask."""
 
+from __future__ import annotations
+
 import argparse
 import os
 import subprocess
 import sys
 from pathlib import Path
+from typing import Any, Callable, NoReturn, Sequence
 
 ROOT = Path(__file__).resolve().parent.parent.parent
 
@@ -14,39 +17,52 @@ class Refused(Exception):
 
 
 class Parser(argparse.ArgumentParser):
-    """Words of a tool, whose help is the tool's own text; a fault of them is a line, and the status 2."""
+    """Words of a tool, whose help is the tool's own text; a fault of them is a line, and the status 1."""
 
-    def __init__(self, text):
-        super().__init__(description=text, formatter_class=argparse.RawDescriptionHelpFormatter)
+    def __init__(self, text: str, **more: Any) -> None:
+        super().__init__(description=text, formatter_class=argparse.RawDescriptionHelpFormatter, **more)
+        self.add_argument("--version", action=Version, nargs=0, help="the version of the tools and of the program")
 
-    def error(self, message):
-        self.exit(2, f"{self.prog}: {message} (--help says more)\n")
+    def parse(self) -> argparse.Namespace:
+        """The words, of which options may stand anywhere."""
+        return self.parse_intermixed_args()
+
+    def error(self, message: str) -> NoReturn:
+        self.exit(1, f"{self.prog}: {message} (--help says more)\n")
 
 
-def tool(main):
+class Version(argparse.Action):
+    def __call__(self, parser: argparse.ArgumentParser, *words: Any) -> None:
+        print(f"{parser.prog}: {version()}")
+        parser.exit()
+
+
+def tool(main: Callable[[], int]) -> NoReturn:
     """Runs a tool: what it refuses is a line and the status 2; where what it writes can't be written it ends with 4."""
+    name = Path(sys.argv[0]).name
     if sys.stdout is None:
-        print(f"{Path(sys.argv[0]).name}: standard output is closed", file=sys.stderr)
+        print(f"{name}: standard output is closed", file=sys.stderr)
         sys.exit(4)
-    sys.stdout.reconfigure(encoding="utf-8")
+    if hasattr(sys.stdout, "reconfigure"):
+        sys.stdout.reconfigure(encoding="utf-8")
     try:
         status = main()
         sys.stdout.flush()
     except Refused as fault:
         status = 2
-        print(f"{Path(sys.argv[0]).name}: {fault}", file=sys.stderr)
+        print(f"{name}: {fault}", file=sys.stderr)
     except OSError as fault:
         # (what is read and written by name says so where it fails)
         status = 4
         if not isinstance(fault, BrokenPipeError):
-            print(f"{Path(sys.argv[0]).name}: standard output can't be written: {fault.strerror}", file=sys.stderr)
+            print(f"{name}: standard output can't be written: {fault.strerror}", file=sys.stderr)
         os.dup2(os.open(os.devnull, os.O_WRONLY), sys.stdout.fileno())
     except KeyboardInterrupt:
         status = 130
     sys.exit(status)
 
 
-def octets_of(path):
+def octets_of(path: str) -> bytes:
     """The octets of a file, or of standard input for `-`."""
     try:
         return sys.stdin.buffer.read() if path == "-" else Path(path).read_bytes()
@@ -54,28 +70,58 @@ def octets_of(path):
         raise Refused(f"{path} can't be read: {fault.strerror}")
 
 
-def write_file(path, octets):
+def write_file(path: str, octets: bytes) -> None:
     try:
         Path(path).write_bytes(octets)
     except OSError as fault:
         raise Refused(f"{path} can't be written: {fault.strerror}")
 
 
-def ask(words, octets, statuses=(0,)):
-    """What the program writes of these octets by these words, in lines, where it ends with one of these statuses."""
+# What ./eap_login says of itself, as that it is being built, is said once.
+told: list[bool] = []
+
+
+def answer(words: Sequence[str], octets: bytes) -> tuple[int, list[str]]:
+    """The status with which the program ends at these words and octets, and what it writes, in lines."""
     program = os.environ.get("EAP_LOGIN") or str(ROOT / "eap_login")
-    # (what ./eap_login says of itself, as that it is being built, is said once)
-    errors = subprocess.DEVNULL if ask.is_told else None
+    errors = subprocess.DEVNULL if told else None
     try:
-        done = subprocess.run([program, *words], input=octets, stdout=subprocess.PIPE, stderr=errors)
-    except OSError as fault:
-        raise Refused(f"{program} can't be run: {fault.strerror}")
-    ask.is_told = True
-    lines = done.stdout.decode("latin-1").splitlines()
-    if done.returncode not in statuses:
-        last = lines[-1] if lines else f"status {done.returncode}"
-        raise Refused(f"eap_login {' '.join(words)} doesn't take it: {last}")
+        done = subprocess.run([program, *words], input=octets, stdout=subprocess.PIPE, stderr=errors,
+                              env={**os.environ, "NO_HINTS": "yes"})
+    except (OSError, ValueError) as fault:
+        raise Refused(f"{program} can't be run: {getattr(fault, 'strerror', None) or fault}")
+    told.append(True)
+    if done.returncode in (126, 127):
+        raise Refused(f"{program} can't be run: it ends with status {done.returncode}")
+    return done.returncode, done.stdout.decode("latin-1").splitlines()
+
+
+def ask(words: Sequence[str], octets: bytes, statuses: Sequence[int] = (0,)) -> list[str]:
+    """What the program writes, where it ends with one of these statuses."""
+    status, lines = answer(words, octets)
+    if status not in statuses:
+        raise Refused(f"eap_login {' '.join(words)} doesn't take it: {lines[-1] if lines else f'status {status}'}")
     return lines
 
 
-ask.is_told = False
+def said_by(*words: str) -> str:
+    """What a command of this repository writes."""
+    try:
+        done = subprocess.run(words, cwd=ROOT, stdin=subprocess.DEVNULL, stdout=subprocess.PIPE, stderr=subprocess.DEVNULL)
+    except OSError:
+        return ""
+    return done.stdout.decode("utf-8", "replace").strip()
+
+
+PROOFS = {"proved": "its proofs were checked on this machine", "unchecked": "its proofs were not checked on this machine"}
+
+
+def version() -> str:
+    """The commit, the kit, and whether the proofs of the program that is kept were checked on this machine."""
+    commit = said_by("git", "log", "-1", "--format=commit %h of %cs") or "no commit"
+    if os.environ.get("EAP_LOGIN"):
+        return f"Tuvaddri, {commit}; the program is the one that EAP_LOGIN names"
+    kind, _, rest = said_by("tools/prove", "status").partition(":")
+    if kind not in PROOFS:
+        return f"Tuvaddri, {commit}; no program of these sources is built"
+    return f"Tuvaddri, {commit}; the program is built by {rest.rpartition(', by ')[2]}; {PROOFS[kind]}"

@@ -1,22 +1,17 @@
 """The rows of a ladder: what passes between the parties of a login, in order, out of a replay or a capture."""
 
+from __future__ import annotations
+
 from dataclasses import dataclass, field
+from typing import Optional
 
 from lib import packets
-from lib.captures import of_replay
+from lib.captures import Capture, Packet
 from lib.common import ask
+from lib.replays import Event, Replay, Sent
 
-# What the program says of a packet in a capture, by the second word of its line.
-FINDINGS = {
-    "good": "nothing is wrong with it, and it has no tag to be judged",
-    "tag-good": "each tag is right under the key of the user",
-    "tag-bad": "a tag is wrong",
-    "no-key": "its tag isn't judged: no key is known for this name and method",
-    "no-context": "its tag isn't judged: the message that it rests on isn't there, or has no good tag itself",
-    "malformed": "it is no packet, or no message that may go this way",
-}
 MARKS = {
-    "timeout": "its retransmission timer ends",
+    "timeout": "its retransmission timer expires",
     "aaa-timeout": "no answer of the server comes any more",
     "aaa-noreq": "the server has nothing to ask",
     "idle": "its lower layer is idle",
@@ -24,110 +19,186 @@ MARKS = {
     "alt-reject": "its lower layer reports failure",
     "restart": "it begins anew",
     "start": "the login begins",
+    "event": "",
 }
 
 
 @dataclass
 class Row:
-    """A row: `kind` is arrow, injected, lost, mark or skip. What happened on the way is in `changes`, and `changed_at`
-    is the place of an octet that was altered. `finding` is the program's line of it, without the number."""
+    """A row: `kind` is arrow, injected, lost, mark or skip; `number` is the packet's, `event` that of the event, where
+    there is one. What happened on the way is in `changes`, and `was` has the octets as they were sent, where these are
+    others. `finding` is the program's line of it, without the number; `at` the time in a file."""
 
-    number: str
     kind: str
+    number: str = ""
+    event: str = ""
     sender: str = ""
     receiver: str = ""
     title: str = ""
-    changes: list = field(default_factory=list)
-    octets: bytes = None
-    changed_at: int = -1
-    acts: list = field(default_factory=list)
+    changes: list[str] = field(default_factory=list)
+    octets: Optional[bytes] = None
+    was: Optional[bytes] = None
+    acts: list[tuple[str, list[str]]] = field(default_factory=list)
     cause: str = ""
-    keys: list = field(default_factory=list)
+    keys: list[tuple[str, str, str]] = field(default_factory=list)
     finding: str = ""
+    at: Optional[float] = None
+    carrier: str = ""
 
     @property
-    def reading(self):
-        return None if self.octets is None else packets.read(self.octets)
+    def reading(self) -> packets.Reading:
+        return packets.read(self.octets or b"")
+
+    @property
+    def word(self) -> str:
+        """The word of the finding."""
+        return self.finding.split(" ")[0]
+
+    @property
+    def called(self) -> str:
+        """How the row is called in a sentence: `packet 5, GPSK-2 of alice`."""
+        front = f"packet {self.number}" if self.number else f"event {self.event}"
+        if self.kind == "injected":
+            front = f"event {self.event}, injected"
+        return f"{front}, {self.reading.called}" if self.octets is not None else front
+
+    @property
+    def altered(self) -> list[int]:
+        """The places whose octets are others than those that were sent."""
+        if self.was is None or self.octets is None:
+            return []
+        return [at for at, (one, other) in enumerate(zip(self.was, self.octets)) if one != other]
 
 
-def name_of(octets):
-    return packets.read(octets).name if octets else "no octets"
+@dataclass
+class Ladder:
+    """A ladder, with what it was made of."""
+
+    parties: list[str]
+    rows: list[Row]
+    capture: Capture
+    replay: Optional[Replay] = None
+    counted: str = ""
+
+    @property
+    def comments(self) -> list[str]:
+        return (self.replay or self.capture).comments
 
 
-def party_of(port):
+def title_of(octets: Optional[bytes], told: str = "") -> str:
+    return told if octets is None else packets.read(octets).label if octets else "no octets"
+
+
+def party_of(port: str) -> str:
     return "pass" if port.startswith("pass") else port
 
 
-def side_of(port, parties):
+def side_of(port: str, parties: list[str]) -> str:
     """The party on whose side something injected comes in at a port."""
     if port in ("peer", "pass-peer"):
         return parties[1] if port == "peer" else "peer"
     return parties[-1] if port == "pass-server" else parties[-2]
 
 
-def findings_of(capture):
+def findings_of(capture: Capture) -> tuple[dict[str, str], str]:
     """What `check` says of each packet, by where it stands, and its last line."""
-    lines = ask(["check"], capture.text().encode(), (0, 7))
+    lines = ask(["check"], capture.text().encode("latin-1"), (0, 7))
     return {it.place: line.split(" ", 1)[1] for it, line in zip(capture.packets, lines)}, lines[-1]
 
 
-def arrow_of(event, came, parties):
+# ---- Replays.
+
+
+def arrow_of(event: Event, came: set[int], parties: list[str]) -> Row:
     """The row of an event that brings octets."""
-    row = Row(str(event.number), "arrow", receiver=party_of(event.port), title=name_of(event.octets))
-    row.octets = event.octets
-    kind, *words = event.words
+    row = Row("arrow", receiver=party_of(event.port), title=title_of(event.octets), octets=event.octets)
     if event.of is None:
-        row.kind, row.sender = "injected", side_of(event.port, parties)
-        row.changes = ["injected"]
+        row.kind, row.sender, row.changes = "injected", side_of(event.port, parties), ["injected"]
         return row
-    row.sender, row.title = event.of.sender, f"{event.of.number} {name_of(event.of.octets)}"
+    kind, *words = event.words
+    row.number, row.sender = str(event.of.number), event.of.sender
     if kind == "alter":
-        row.changed_at = int(words[1])
+        row.was, row.title = event.of.octets, title_of(event.of.octets)
         row.changes = [f"octet {words[1]} altered"]
     elif kind == "cut":
-        row.changes = [f"cut to {words[1]} octets"]
+        row.title, row.changes = title_of(event.of.octets), [f"cut to {words[1]} octets"]
     elif event.of.number in came:
         row.changes = ["again"]
-    if kind == "deliver":
+    if kind in ("deliver", "packet"):
         came.add(event.of.number)
     return row
 
 
-def row_of(event, came, parties):
+def row_of(event: Event, came: set[int], parties: list[str]) -> Row:
     if event.skip:
-        return Row(str(event.number), "skip", title=" ".join(event.words), cause=event.skip)
+        return Row("skip", event=str(event.number), title=" ".join(event.words), cause=event.skip)
     if event.port:
         row = arrow_of(event, came, parties)
     else:
-        row = Row(str(event.number), "mark", receiver=event.acts[0][0], title=MARKS.get(event.words[0], event.words[0]))
-    row.acts, row.cause, row.keys = event.acts, event.cause, event.keys
+        row = Row("mark", receiver=event.acts[0][0], title=MARKS.get(event.words[0], event.words[0]))
+    row.event, row.acts, row.cause, row.keys = str(event.number), event.acts, event.cause, event.keys
     return row
 
 
-def rows_of_replay(replay):
-    """The parties and the rows of a replay, and the last line of what `check` says."""
-    parties = ["peer", "server"] if replay.mode == "alone" else ["peer", "pass", "server"]
-    findings, last = findings_of(of_replay(replay))
+def row_of_sent(it: Sent, kind: str) -> Row:
+    row = Row(kind, str(it.number), sender=it.sender, receiver=party_of(it.port), octets=it.octets)
+    row.title, row.changes = title_of(it.octets, it.told), ["lost"] if kind == "lost" else []
+    return row
+
+
+def of_a_replay(replay: Replay) -> Ladder:
+    """A packet that no event brings is lost; where only one end's text, or a trace, tells of it, it is on its way."""
     arriving = {event.of.number for event in replay.events if event.of}
-    rows, came = [], set()
+    rows, came = [], set[int]()
     for event in replay.events:
-        row = row_of(event, came, parties)
-        row.finding = findings.get(f"event {event.number}", "")
-        rows.append(row)
+        # (one end alone may do nothing at the start)
+        if event.acts or event.skip or event.port:
+            rows.append(row_of(event, came, replay.parties))
         for it in event.sent:
             if it.number not in arriving:
-                title = f"{it.number} {name_of(it.octets)}"
-                rows.append(Row("", "lost", it.sender, party_of(it.port), title, ["lost"], it.octets))
-    return parties, rows, last
+                rows.append(row_of_sent(it, "lost" if replay.has_losses else "arrow"))
+    capture = captured(replay, rows)
+    findings, counted = findings_of(capture)
+    for at, row in enumerate(rows):
+        row.finding = findings.get(f"row {at}", "")
+    return Ladder(replay.parties, rows, capture, replay, counted)
 
 
-def rows_of_capture(capture):
-    """The same of a capture, whose parties are the peer and whatever it talks to."""
-    findings, last = findings_of(capture)
+def captured(replay: Replay, rows: list[Row]) -> Capture:
+    """What passes at the peer's link, as it comes: altered, cut, again, injected; without what is lost. The keys are
+    those of the server's users, and of a text of the peer its own."""
+    link = set(replay.parties[:2])
+    passed = [(at, it) for at, it in enumerate(rows) if it.octets is not None and {it.sender, it.receiver} == link
+              and it.kind in ("arrow", "injected")]
+    packets = [Packet(it.receiver == "peer", it.octets or b"", f"row {at}", number)
+               for number, (at, it) in enumerate(passed, 1)]
+    name = next((it[1] for it in replay.settings if it[0] == "peer-name"), "")
+    own = [(name, it[1], it[2]) for it in replay.settings if it[0] == "peer-psk" and name]
+    return Capture(packets, replay.users or (own if not replay.has_losses else []), replay.comments)
+
+
+# ---- Captures.
+
+
+def find_altered(rows: list[Row]) -> None:
+    """A packet with a wrong tag that comes again with a right one was altered on its way: `was` are the octets of the
+    right one. The two have one sender, one Identifier and one length."""
+    for row in rows:
+        if row.word == "tag-bad" and row.octets is not None:
+            twins = (it.octets for it in rows if it.word == "tag-good" and it.sender == row.sender and it.octets)
+            row.was = next((it for it in twins if it[:4] == row.octets[:4] and len(it) == len(row.octets)), None)
+
+
+def of_a_capture(capture: Capture) -> Ladder:
+    """The parties are the peer and whatever it talks to."""
+    findings, counted = findings_of(capture)
     rows = []
-    for number, it in enumerate(capture.packets, 1):
+    for it in capture.packets:
         sender, receiver = ("server", "peer") if it.is_to_peer else ("peer", "server")
-        row = Row(str(number), "arrow", sender, receiver, name_of(it.octets), octets=it.octets)
-        row.finding = findings[it.place]
+        row = Row("arrow", str(it.number), sender=sender, receiver=receiver, title=title_of(it.octets), octets=it.octets)
+        row.finding, row.at = findings[it.place], it.at
+        if it.radius:
+            row.carrier = f"{it.radius.name}, {it.radius.verdict}" if it.radius.verdict else it.radius.name
         rows.append(row)
-    return ["peer", "server"], rows, last
+    find_altered(rows)
+    return Ladder(["peer", "server"], rows, capture, counted=counted)

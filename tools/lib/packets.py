@@ -2,7 +2,12 @@
 
 A packet that is short or odd gives the fields that it has, and what is wrong with it in words."""
 
+from __future__ import annotations
+
 from dataclasses import dataclass, field
+from typing import Callable, Optional
+
+from lib.texts import shown
 
 CODES = {1: "Request", 2: "Response", 3: "Success", 4: "Failure"}
 TYPES = {1: "Identity", 2: "Notification", 3: "Nak", 4: "MD5-Challenge", 13: "EAP-TLS", 47: "EAP-PSK", 51: "EAP-GPSK"}
@@ -12,6 +17,9 @@ FAILURES = {1: "PSK Not Found", 2: "Authentication Failure", 3: "Authorization F
 # The octets of the MAC by the suites of RFC 5433 section 6.
 MAC_SIZES = {1: 16, 2: 32}
 MOST_SUITES, MOST_NAME, MOST_OCTETS = 20, 253, 1500
+# The field with the name of the end that a message names first.
+NAMING = {"Identity": "Type-Data", "GPSK-1": "ID_Server", "GPSK-2": "ID_Peer", "GPSK-3": "ID_Server"}
+NAMING.update({"PSK-1": "ID_S", "PSK-2": "ID_P"})
 
 
 @dataclass
@@ -29,27 +37,62 @@ class Reading:
     """A packet's name, its fields in their order, and what is wrong with it."""
 
     name: str = "no packet"
-    fields: list = field(default_factory=list)
-    faults: list = field(default_factory=list)
+    fields: list[Field] = field(default_factory=list)
+    faults: list[str] = field(default_factory=list)
 
     @property
-    def message(self):
+    def message(self) -> str:
         """The name of the message, whatever form it has."""
         return self.name.removeprefix("Expanded ")
 
-    def get(self, name):
+    def get(self, name: str) -> Optional[bytes]:
         return next((it.octets for it in self.fields if it.name == name), None)
 
+    def note(self, name: str) -> str:
+        return next((it.note for it in self.fields if it.name == name), "")
+
     @property
-    def number(self):
+    def number(self) -> dict[str, int]:
         return {it.name: int.from_bytes(it.octets, "big") for it in self.fields}
+
+    @property
+    def identity(self) -> str:
+        """The name of an end that the message names, as it is shown."""
+        octets = self.get(NAMING.get(self.message, ""))
+        return shown(octets.decode("latin-1"), 60) if octets else ""
+
+    @property
+    def desired(self) -> str:
+        """What a Nak desires, in its plain form or its expanded one."""
+        listed = [it.note for it in self.fields if it.name == "Vendor-Type"][1:]
+        return ", ".join(listed) or self.note("Type-Data").replace("desired: ", "") or "no method"
+
+    @property
+    def called(self) -> str:
+        """The message with what it names: `GPSK-2 of alice`, `Nak, desired: EAP-PSK`."""
+        if self.message == "Nak":
+            return f"{self.name}, desired: {self.desired}"
+        if "Failure-Code" in self.number:
+            return f"{self.name}, {self.note('Failure-Code')}"
+        return f"{self.name} of {self.identity}" if self.identity else self.name
+
+    @property
+    def label(self) -> str:
+        """The same behind the Code and the Identifier: `Response 1, GPSK-2 of alice`."""
+        code, identifier = self.note("Code"), self.number.get("Identifier")
+        if identifier is None:
+            return self.called
+        return f"{code} {identifier}, {self.called}" if self.called != code else f"{code} {identifier}"
+
+
+Note = Callable[[bytes], str]
 
 
 class Short(Exception):
     """The packet ends within a field."""
 
 
-def text_of(octets):
+def text_of(octets: bytes) -> str:
     """The plain characters that octets spell, in quotes; nothing where they aren't plain."""
     return f'"{octets.decode()}"' if octets and all(0x20 <= it <= 0x7E for it in octets) else ""
 
@@ -57,13 +100,13 @@ def text_of(octets):
 class Reader:
     """Takes one field after the other."""
 
-    def __init__(self, octets, end, reading):
+    def __init__(self, octets: bytes, end: int, reading: Reading) -> None:
         self.octets, self.end, self.at, self.reading = octets, end, 0, reading
 
-    def left(self):
+    def left(self) -> int:
         return self.end - self.at
 
-    def take(self, name, count, note=None):
+    def take(self, name: str, count: int, note: Optional[Note] = None) -> bytes:
         """A field of so many octets. What it says is the note's value at them, or the text that they spell."""
         there = self.octets[self.at : min(self.at + count, self.end)]
         said = note(there) if note and len(there) == count else ""
@@ -75,42 +118,42 @@ class Reader:
             raise Short
         return there
 
-    def fault(self, text):
+    def fault(self, text: str) -> None:
         self.reading.faults.append(text)
 
-    def number(self, name, count, note=lambda value: str(value)):
+    def number(self, name: str, count: int, note: Callable[[int], str] = str) -> int:
         return int.from_bytes(self.take(name, count, lambda it: note(int.from_bytes(it, "big"))), "big")
 
-    def sized(self, name, note=None):
+    def sized(self, name: str, note: Optional[Note] = None) -> bytes:
         """A field behind its length in two octets."""
         return self.take(name, self.number(f"length({name})", 2), note)
 
-    def rest(self, name, note=None):
+    def rest(self, name: str, note: Optional[Note] = None) -> bytes:
         return self.take(name, self.left(), note)
 
 
-def identity(reader, name, take):
-    if len(take(name, note=text_of)) > MOST_NAME:
+def identity(reader: Reader, name: str, take: Callable[[str, Note], bytes]) -> None:
+    if len(take(name, text_of)) > MOST_NAME:
         reader.fault(f"{name} has over {MOST_NAME} octets")
 
 
-def named(names):
+def named(names: dict[int, str]) -> Callable[[int], str]:
     return lambda value: names.get(value, f"{value}")
 
 
-def suite_of(octets):
+def suite_of(octets: bytes) -> str:
     vendor, number = int.from_bytes(octets[:4], "big"), int.from_bytes(octets[4:], "big")
     return f"suite {number}" if vendor == 0 else f"suite {number} of vendor {vendor}"
 
 
-def suites_of(octets):
+def suites_of(octets: bytes) -> str:
     return ", ".join(suite_of(octets[at : at + 6]) for at in range(0, len(octets), 6))
 
 
 # EAP-GPSK: RFC 5433 section 9.
 
 
-def take_suites(reader):
+def take_suites(reader: Reader) -> None:
     octets = reader.sized("CSuite_List", suites_of)
     if not octets or len(octets) % 6:
         reader.fault(f"CSuite_List has {len(octets)} octets, and six for each suite are wanted")
@@ -118,29 +161,29 @@ def take_suites(reader):
         reader.fault(f"CSuite_List has over {MOST_SUITES} suites")
 
 
-def take_mac(reader, suite=None):
+def take_mac(reader: Reader, suite: Optional[int] = None) -> None:
     """The MAC, of the size of its suite, where the message tells that; else what is left."""
-    mac = reader.take("MAC", MAC_SIZES.get(suite, reader.left()))
+    mac = reader.take("MAC", MAC_SIZES.get(suite or 0, reader.left()))
     if len(mac) not in MAC_SIZES.values():
         reader.fault(f"the MAC has {len(mac)} octets, and suite 1 has 16, suite 2 has 32")
 
 
-def take_suite_and_mac(reader):
+def take_suite_and_mac(reader: Reader) -> None:
     suite = reader.take("CSuite_Sel", 6, suite_of)
-    number = suite[5] if suite[:5] == bytes(5) else None
+    number = suite[5] if suite[:5] == bytes(5) else 0
     if number not in MAC_SIZES:
         reader.fault(f"CSuite_Sel is no suite of RFC 5433: {suite_of(suite)}")
     reader.sized("PD_Payload_Block")
     take_mac(reader, number)
 
 
-def take_gpsk1(reader):
+def take_gpsk1(reader: Reader) -> None:
     identity(reader, "ID_Server", reader.sized)
     reader.take("RAND_Server", 32)
     take_suites(reader)
 
 
-def take_gpsk2(reader):
+def take_gpsk2(reader: Reader) -> None:
     identity(reader, "ID_Peer", reader.sized)
     identity(reader, "ID_Server", reader.sized)
     reader.take("RAND_Peer", 32)
@@ -149,23 +192,23 @@ def take_gpsk2(reader):
     take_suite_and_mac(reader)
 
 
-def take_gpsk3(reader):
+def take_gpsk3(reader: Reader) -> None:
     reader.take("RAND_Peer", 32)
     reader.take("RAND_Server", 32)
     identity(reader, "ID_Server", reader.sized)
     take_suite_and_mac(reader)
 
 
-def take_gpsk4(reader):
+def take_gpsk4(reader: Reader) -> None:
     reader.sized("PD_Payload_Block")
     take_mac(reader)
 
 
-def take_failure_code(reader):
+def take_failure_code(reader: Reader) -> None:
     reader.number("Failure-Code", 4, named(FAILURES))
 
 
-def take_protected_fail(reader):
+def take_protected_fail(reader: Reader) -> None:
     take_failure_code(reader)
     take_mac(reader)
 
@@ -173,7 +216,7 @@ def take_protected_fail(reader):
 GPSK = {1: take_gpsk1, 2: take_gpsk2, 3: take_gpsk3, 4: take_gpsk4, 5: take_failure_code, 6: take_protected_fail}
 
 
-def take_gpsk(reader):
+def take_gpsk(reader: Reader) -> None:
     op = reader.number("OP-Code", 1, named(OP_CODES))
     reader.reading.name = OP_CODES.get(op, f"EAP-GPSK with OP-Code {op}")
     if op not in GPSK:
@@ -185,14 +228,14 @@ def take_gpsk(reader):
 # EAP-PSK: RFC 4764 section 5.
 
 
-def take_channel(reader):
+def take_channel(reader: Reader) -> None:
     """PCHANNEL (section 3.3): what is sealed has R and E in its first octet."""
     reader.number("PCHANNEL Nonce", 4)
     reader.take("PCHANNEL Tag", 16)
     reader.take("PCHANNEL R, E, Reserved", 1, lambda it: "encrypted")
 
 
-def take_psk(reader):
+def take_psk(reader: Reader) -> None:
     flags = reader.number("Flags", 1, lambda it: f"T = {it >> 6}")
     name = reader.reading.name = f"PSK-{(flags >> 6) + 1}"
     reader.take("RAND_S", 16)
@@ -211,7 +254,7 @@ def take_psk(reader):
 # The packet: RFC 3748 section 4.
 
 
-def take_entries(reader):
+def take_entries(reader: Reader) -> None:
     """The list of an Expanded Nak (section 5.3.2)."""
     while reader.left() >= 8:
         reader.number("Type", 1)
@@ -222,7 +265,7 @@ def take_entries(reader):
         reader.fault("an entry of an Expanded Nak has 8 octets")
 
 
-def take_expanded(reader):
+def take_expanded(reader: Reader) -> None:
     """Type 254 (section 5.7): of the IETF's Types the data of the Type inside."""
     vendor = reader.number("Vendor-Id", 3)
     kind = reader.number("Vendor-Type", 4, lambda it: (vendor == 0 and TYPES.get(it)) or str(it))
@@ -236,20 +279,24 @@ def take_expanded(reader):
         reader.reading.name = f"Expanded {reader.reading.name}"
 
 
-def take_data(reader, kind):
+def desired_of(octets: bytes) -> str:
+    """What a Nak desires; 0 is for no other method (RFC 3748 section 5.3.1)."""
+    return "desired: " + (", ".join(TYPES.get(it, f"Type {it}") for it in octets if it) or "no method")
+
+
+def take_data(reader: Reader, kind: int) -> None:
     """The Type-Data of a Type."""
     reader.reading.name = TYPES.get(kind, f"Type {kind}")
     if kind in (47, 51, 254):
         {47: take_psk, 51: take_gpsk, 254: take_expanded}[kind](reader)
     elif kind == 3:
-        names = lambda it: "desired: " + ", ".join(TYPES.get(one, f"Type {one}") for one in it)
-        if not reader.rest("Type-Data", names):
+        if not reader.rest("Type-Data", desired_of):
             reader.fault("a Nak desires no method")
     else:
         reader.rest("Type-Data", text_of)
 
 
-def take_header(reader):
+def take_header(reader: Reader) -> int:
     """Code, Identifier and Length; gives the Code."""
     code = reader.number("Code", 1, named(CODES))
     reader.number("Identifier", 1)
@@ -267,7 +314,7 @@ def take_header(reader):
     return code
 
 
-def read(octets):
+def read(octets: bytes) -> Reading:
     """The fields of a packet."""
     reading = Reading()
     reader = Reader(octets, len(octets), reading)

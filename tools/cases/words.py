@@ -1,0 +1,249 @@
+"""Each row of tools/lib/words.py beside the program, by running it: each word of each line at its limits, which is taken,
+and past them, which is refused with its fault; and that the program has no other causes, skips, statuses and forms."""
+
+from __future__ import annotations
+
+import re
+import subprocess
+from pathlib import Path
+from typing import Callable, Iterator, Optional
+
+from lib import words
+from lib.common import answer
+from lib.words import TEXTS, Field, Line
+
+Run = Callable[..., tuple[int, str, str]]
+# A setting of each keyword, for the texts in which the others stand.
+SETTINGS = {
+    "mode": "mode alone", "first-id": "first-id 0", "max-retrans": "max-retrans 4", "peer-name": "peer-name alice",
+    "peer-server": "peer-server srv", "peer-methods": "peer-methods 51 47", "peer-suites": "peer-suites 1 2",
+    "peer-psk 51": f"peer-psk 51 {'00' * 32}", "peer-psk 47": f"peer-psk 47 {'00' * 16}", "peer-nonce": f"peer-nonce {'11' * 32}",
+    "server-name": "server-name srv", "server-methods": "server-methods 51", "server-suites": "server-suites 1 2",
+    "server-nonce": f"server-nonce {'22' * 32}", "user": f"user alice 51 {'00' * 32} allowed",
+}
+seen: set[str] = set()
+
+
+# ---- Words at their limits.
+
+
+def hex_of(size: int) -> str:
+    return "5a" * size or "-"
+
+
+def taken(field: Field, kind: str) -> list[str]:
+    """Words at the limits of a field, which are taken."""
+    if field.spelling == "number":
+        return [str(field.least), str(field.most)]
+    if field.spelling == "hex":
+        return [hex_of(field.least), hex_of(field.most)]
+    if field.spelling == "name":
+        return ["~", "a" * field.most]
+    if field.spelling == "key":
+        return [hex_of(it) for it in words.KEY_SIZES[kind]]
+    ways = {"choice": list(field.choices), "method": [kind], "methods": ["47", "51 47", "-"], "suites": ["1", "2 1"]}
+    return ways[field.spelling]
+
+
+def refused(field: Field, kind: str) -> list[tuple[str, str]]:
+    """Words past the limits, each with its fault."""
+    if field.spelling == "number":
+        under = [(str(field.least - 1), "BadNumber")] if field.least else []
+        return [*under, (str(field.most + 1), "BadNumber"), (f"0{field.least}", "BadNumber"), ("+1", "BadNumber")]
+    if field.spelling in ("hex", "key"):
+        least, most = words.KEY_SIZES[kind] if field.spelling == "key" else (field.least, field.most)
+        under = [(hex_of(least - 1), "BadSize")] if least > 1 else []
+        over = [(hex_of(most + 1), "BadSize")] if most < words.MOST_OCTETS else [("5a" * (most + 1), "BadSize")]
+        return [*under, *over, ("5a5", "BadHex"), ("5g", "BadHex"), *([("-", "BadSize")] if least else [])]
+    ways = {
+        "choice": [("other", "BadChoice")],
+        "name": [("a" * (field.most + 1), "BadSize")],
+        "method": [("48", "BadNumber")],
+        "methods": [("48", "BadNumber"), ("47 47", "Repeated"), ("47 51 47", "BadCount"), ("- 47", "BadNumber")],
+        "suites": [("3", "BadNumber"), ("2 2", "Repeated"), ("1 2 1", "BadCount")],
+    }
+    return ways[field.spelling]
+
+
+def kinds_of(line: Line) -> tuple[str, ...]:
+    return ("47", "51") if any(it.spelling == "method" for it in line.fields) else ("51",)
+
+
+def with_word(line: Line, at: int, word: str, kind: str) -> str:
+    """The line with this word at a place, and good ones elsewhere."""
+    others = [taken(it, kind)[0] for it in line.fields]
+    return " ".join([line.keyword, *others[:at], word, *others[at + 1 :]])
+
+
+def good_lines(line: Line) -> list[str]:
+    found = [with_word(line, at, word, kind) for kind in kinds_of(line) for at, field in enumerate(line.fields)
+             for word in taken(field, kind)]
+    return list(dict.fromkeys(found or [line.keyword]))
+
+
+def bad_lines(line: Line) -> list[tuple[str, str]]:
+    """Lines with one word that is wrong, or a word too many, or too few."""
+    found = [(with_word(line, at, word, kind), fault) for kind in kinds_of(line) for at, field in enumerate(line.fields)
+             for word, fault in refused(field, kind)]
+    one = good_lines(line)[0]
+    found += [(f"{one} {one.split()[0]} x", "BadCount")]
+    if line.fields:
+        found.append((line.keyword, "BadCount"))
+    return list(dict.fromkeys(found))
+
+
+# ---- Texts.
+
+
+def settings_with(form: str, line: str) -> list[str]:
+    """The settings of a text with this line in the place of its own."""
+    first, kind = line.split(" ")[0], (line.split(" ") + [""])[1]
+    own = {it.keyword for it in TEXTS[form].lines + TEXTS[form].later}
+    found = []
+    for key, it in SETTINGS.items():
+        same = it.split(" ")[0] == first and (first != "peer-psk" or kind == key[9:] or kind not in words.METHODS)
+        if it.split(" ")[0] in own and not same:
+            found.append(it)
+    return [*found, line] if first in own else found
+
+
+def text_with(form: str, row: Line, lines: list[str], is_later: bool = False) -> bytes:
+    """A text in which these lines stand where such lines belong."""
+    header = [] if form in ("keys", "decode") else [TEXTS[form].headers[-1 if is_later else 0]]
+    is_setting = row.keyword in {it.keyword for it in words.SETTINGS + words.LATER_SETTINGS}
+    if form in ("replay", "peer", "server"):
+        front = settings_with(form, lines[0]) if is_setting else settings_with(form, "none")
+        made = [*front, "events", *([] if is_setting else lines), "end"]
+    elif form == "check":
+        made = [*lines, "packets", "end"] if row.keyword == "user" else ["packets", *lines, "end"]
+    elif form == "radius":
+        made = [*lines, "end"] if row.keyword == "secret" else ["secret 00", *lines, *([] if row.keyword == "end" else ["end"])]
+    else:
+        made = lines
+    return "".join(f"{it}\n" for it in header + made).encode()
+
+
+def fault_at(form: str, text: bytes) -> str:
+    """The fault with which the program refuses a text, or nothing."""
+    lines = answer([form], text)[1]
+    found = re.fullmatch(r"refused line \d+ (\w+)", lines[-1]) if lines else None
+    return found[1] if found else ""
+
+
+def texts() -> Iterator[tuple[str, Line, bool]]:
+    for form, text in TEXTS.items():
+        for row in text.lines:
+            yield form, row, row in words.LATER_SETTINGS
+        for row in text.later:
+            yield form, row, True
+
+
+def case_taken(run: Run) -> Iterator[Optional[str]]:
+    for form, row, is_later in texts():
+        lines = good_lines(row)
+        is_single = row.keyword in {it.keyword for it in words.SETTINGS + words.LATER_SETTINGS} | {"secret", "end"}
+        for group in ([[it] for it in lines] if is_single else [lines]):
+            fault = fault_at(form, text_with(form, row, group, is_later))
+            yield f"{form} refuses with {fault}: {group[0][:80]}" if fault else None
+
+
+def case_refused(run: Run) -> Iterator[Optional[str]]:
+    for form, row, is_later in texts():
+        # (an end's settings are those of a scenario: a line of each suffices)
+        for line, wanted in bad_lines(row)[: 1 if form in ("peer", "server") else None]:
+            fault = fault_at(form, text_with(form, row, [line], is_later))
+            seen.add(fault)
+            yield None if fault == wanted else f"{form} has {fault or 'no fault'}, and not {wanted}: {line[:80]}"
+
+
+def case_needed(run: Run) -> Iterator[Optional[str]]:
+    """What is needed is missed, and what has a default has that."""
+    for form in ("replay", "peer", "server"):
+        own = {it.keyword: it for it in TEXTS[form].settings}
+        front = [it for it in SETTINGS.values() if it.split(" ")[0] in own]
+        text = lambda lines: "".join(f"{it}\n" for it in [TEXTS[form].headers[0], *lines, "events", "end"]).encode()  # noqa: E731
+        whole = answer([form], text(front))[1]
+        for keyword, row in own.items():
+            rest = [it for it in front if it.split(" ")[0] != keyword]
+            if row.needed.startswith("needed"):
+                fault = fault_at(form, text(rest))
+                seen.add(fault)
+                yield None if fault == "Missing" else f"{form} without {keyword} has {fault or 'no fault'}"
+            elif keyword in {it.split(" ")[0] for it in front} and keyword != "user":
+                default = f"{keyword} {row.needed.strip('`')}"
+                same = answer([form], text([*rest, default]))[1]
+                yield None if answer([form], text(rest))[1] == same == whole else f"{form}: {default} is no default"
+
+
+def case_other_faults(run: Run) -> Iterator[Optional[str]]:
+    """Each fault of a line comes, and so does TooMuch; the 16 users, and a 17th."""
+    many = [f"user a{it} 47 {'00' * 16}" for it in range(17)]
+    front = "eap-capture 1\n"
+    for text, wanted in (
+        (front + "\n".join(many[:16]) + "\npackets\nend\n", ""),
+        (front + "\n".join(many) + "\npackets\nend\n", "BadCount"),
+        ("eap-capture\n", "NoHeader"), (front + "\x7f\n", "BadWord"), (front + "end\n", "Order"),
+        (front + "packets\n> " + "0" * words.MOST_LINE + "\nend\n", "TooMuch"),
+    ):
+        fault = fault_at("check", text.encode())
+        seen.add(fault)
+        yield None if fault == wanted else f"check has {fault or 'no fault'}, and not {wanted}"
+    wanted_faults = {*words.FAULTS, "TooMuch"}
+    yield None if seen - {""} == wanted_faults else f"other faults: {(seen - {''}) ^ wanted_faults}"
+
+
+# ---- The words, the statuses, what a trace says.
+
+
+def case_forms(run: Run) -> Iterator[Optional[str]]:
+    usage = answer([], b"")[1][0].removeprefix("usage: eap_login ").split(" | ")
+    found = {it.split(" ")[0] for it in usage}
+    yield None if found == {it.words.split(" ")[0] for it in words.FORMS} else f"the usage line has {found}"
+    for form in ("bulk {} 1", "bulk 0 {}"):
+        low, high = (it for it in words.BULK_WORDS[form.index("{") // 6].range.split(" to "))
+        for word, wanted in ((low, 0), (high, 0), (str(int(high) + 1), 1), (f"0{low}", 1)):
+            if not (form == "bulk 0 {}" and word == high):
+                status = answer(form.format(word).split(), b"")[0]
+                yield None if status == wanted else f"{form.format(word)} ends with {status}"
+    for kind, (least, most) in words.KEY_SIZES.items():
+        for size, wanted in ((least, 2), (most, 2), (least - 1, 1), (most + 1, 1)):
+            status = answer(["pcap", "a", kind, hex_of(size)], b"")[0]
+            yield None if status == wanted else f"pcap a {kind} of {size} octets ends with {status}"
+
+
+def case_statuses(run: Run) -> Iterator[Optional[str]]:
+    """Each status but the one for want of memory."""
+    program = str(Path(answer.__globals__["os"].environ["EAP_LOGIN"]))
+    altered = Path("examples/altered.capture").read_bytes()
+    ended = {answer(["decode"], b"")[0], answer(["other"], b"")[0], answer(["replay"], b"")[0], answer(["check"], altered)[0]}
+    ended.add(answer(["decode"], b"0" * 5000)[0])
+    with open("/dev/full", "wb") as full:
+        ended.add(subprocess.run([program, "check"], input=altered, stdout=full).returncode)
+    ended.add(subprocess.run(f'"{program}" decode </', shell=True, stdout=subprocess.DEVNULL).returncode)
+    ended.add(subprocess.run([program.encode(), b"\xff"], stdout=subprocess.DEVNULL).returncode)
+    yield None if {str(it) for it in ended} == set(words.STATUSES) - {"5"} else f"the statuses are {sorted(ended)}"
+
+
+def said_in_cases(pattern: str) -> set[str]:
+    """The words that lines of output in cases/ and examples/ have."""
+    texts = [it.read_text("latin-1") for folder in ("cases", "examples") for it in Path(folder).iterdir()
+             if it.suffix in (".cases", ".names", ".trace", ".findings", ".out")]
+    return {it for text in texts for it in re.findall(pattern, text, re.M)}
+
+
+def case_causes(run: Run) -> Iterator[Optional[str]]:
+    """The causes are those of the border; a case has each, and each skip."""
+    header = re.findall(r"TUV_CAUSE_(\w+) = \d+", Path("c/tuvaddri.h").read_text())
+    named = [re.sub(r"(?<=[a-z])(?=[A-Z])", "_", it.word).upper() for it in words.CAUSES]
+    yield None if set(header) == set(named) else f"c/tuvaddri.h has other causes: {set(header) ^ set(named)}"
+    causes = said_in_cases(r"\d+ (?:cause|malformed) (\w+)$") | said_in_cases(r"\d+ cause (\w+)")
+    other = {it for it in causes if it[0].isupper()} - set(words.CAUSE_OF)
+    yield f"cases have other causes: {other}" if other else None
+    skips = said_in_cases(r"\d+ skip (\w+)$")
+    yield None if skips == set(words.SKIPS) else f"cases have other skips: {skips ^ set(words.SKIPS)}"
+    radius = said_in_cases(r"read ([A-Z]\w+)$")
+    yield None if set(words.RADIUS_CAUSES) >= radius else f"other causes of radius: {radius - set(words.RADIUS_CAUSES)}"
+    faults = said_in_cases(r"refused record \w+ (\w+)$")
+    yield None if faults == set(words.PCAP_FAULTS) else f"other faults of pcap: {faults ^ set(words.PCAP_FAULTS)}"
+    findings = said_in_cases(r"^(?:> |\| )?\d+ (good|malformed|no-\w+|tag-\w+)\b")
+    yield None if findings == set(words.FINDING_OF) else f"other findings: {findings ^ set(words.FINDING_OF)}"

@@ -1,0 +1,173 @@
+"""What a tool is given: a file by name, `-` or standard input, of whatever form, and the users whose keys judge it."""
+
+from __future__ import annotations
+
+import re
+import sys
+from argparse import Namespace
+from pathlib import Path
+from typing import Optional
+
+from lib import captures, frames, ladder, packets, refusals, replays, words
+from lib.captures import Capture, User
+from lib.common import Parser, Refused, octets_of
+from lib.texts import lines_of
+
+HEADERS = {b"eap-scenario": "replay", b"eap-capture": "check", b"eap-radius": "radius", b"eap-end": "end",
+           b"eap-trace": "trace", b"bulk ": "bulk"}
+KEY = re.compile("([0-9a-fA-F]{2}){16}|([0-9a-fA-F]{2}){32,64}")
+FINDINGS = re.compile(rb"(packets|records) \d+ .*findings \d+\n?\Z")
+# The messages that name the user, with the field that does.
+NAMING = {"GPSK-2": ("ID_Peer", "51"), "PSK-2": ("ID_P", "47")}
+
+
+def form_of(octets: bytes) -> str:
+    """The word of the program that reads an input, or `pcap`, `gzip`, `end`, `trace`, `findings`; nothing where it is of
+    no form that is known."""
+    if frames.is_file(octets):
+        return "pcap"
+    if octets[:2] == b"\x1f\x8b":
+        return "gzip"
+    front = octets.removeprefix(b"\xef\xbb\xbf").lstrip().lower()
+    for header, form in HEADERS.items():
+        if front.startswith(header):
+            return form
+    if FINDINGS.search(octets[-200:]):
+        return "findings"
+    first = next((line for _, line in lines_of(octets)), [""])
+    if first[0] in {it.keyword for it in words.KEY_REQUESTS}:
+        return "keys"
+    return "decode" if re.fullmatch("-|([0-9a-fA-F]{2})+", first[0]) else ""
+
+
+# ---- Words.
+
+
+def add_words(parser: Parser) -> None:
+    """The words of a tool that reads a login."""
+    parser.add_argument("words", metavar="WORD", nargs="*", help="[FILE] [NAME KIND HEX ..]: a file, - or nothing for "
+                        "standard input; of what has no keys itself, its users as for `pcap`, or one key in hex alone")
+    parser.add_argument("--users", metavar="FILE", help="takes the users from the lines `user` of a text")
+    parser.add_argument("--secret", metavar="TEXT", help="the secret of RADIUS, which judges its authenticators")
+    parser.add_argument("--station", metavar="NAME", help="of several stations in a file, this one")
+
+
+def is_key(given: list[str]) -> bool:
+    """Whether the words are one key alone."""
+    return len(given) == 1 and KEY.fullmatch(given[0]) is not None
+
+
+def take_file(given: list[str], parser: Parser) -> tuple[str, list[str]]:
+    """The name of the file, `-` where none is given, and the other words."""
+    if given and (given[0] == "-" or Path(given[0]).exists()):
+        return given[0], given[1:]
+    if len(given) == 1 and not is_key(given):
+        return given[0], []
+    if len(given) % 3 == 1 and len(given) > 1 and not given[1:2] == ["51"]:
+        parser.error(f"{given[0]} is no file, and of {len(given)} words each user takes three: NAME KIND HEX")
+    return "-", given
+
+
+def users_of(given: list[str], users_file: Optional[str]) -> tuple[list[User], str]:
+    """The users that the words name, or the one key that stands alone."""
+    users: list[User] = []
+    if users_file:
+        lines = [line for _, line in lines_of(octets_of(users_file)) if line[0] == "user" and len(line) > 3]
+        users = [(line[1], line[2], line[3]) for line in lines]
+        if not users:
+            raise Refused(f"{users_file} has no line `user NAME K HEX`")
+    if is_key(given):
+        return users, given[0]
+    wrong = refusals.of_users(given)
+    if wrong:
+        raise Refused(f"the users aren't whole: {'; '.join(wrong)}")
+    return users + [(given[at], given[at + 1], given[at + 2]) for at in range(0, len(given), 3)], ""
+
+
+def named_in(capture: Capture) -> list[tuple[str, str]]:
+    """The users that the packets name, with the method."""
+    found = []
+    for it in capture.packets:
+        reading = packets.read(it.octets)
+        if reading.message in NAMING and reading.get("Code") == b"\2":
+            field, kind = NAMING[reading.message]
+            found.append(((reading.get(field) or b"").decode("latin-1"), kind))
+    return list(dict.fromkeys(found))
+
+
+def give_users(capture: Capture, users: list[User], key: str) -> None:
+    """Adds users to a capture; a key that stands alone is that of each user whom the packets name, as its size fits."""
+    capture.users += users
+    for name, kind in named_in(capture) if key else []:
+        least, most = words.KEY_SIZES[kind]
+        is_plain = name and all("!" <= it <= "~" for it in name)
+        if least <= len(key) // 2 <= most and is_plain and len(capture.users) < words.MOST_USERS:
+            capture.users.append((name, kind, key))
+    if key and not capture.users:
+        capture.notes.append(f"no packet names a user whose method takes a key of {len(key) // 2} octets")
+
+
+# ---- Ladders.
+
+
+def named(capture: Capture, station: str) -> bool:
+    return not station or capture.station.lower().replace(":", "-") == station.lower().replace(":", "-")
+
+
+def captures_of(octets: bytes, given: Namespace, rest: list[str]) -> list[Capture]:
+    """The captures of an input that has packets and no replay, one for each station."""
+    form = form_of(octets)
+    users, key = users_of(rest, given.users)
+    if form == "pcap":
+        found = captures.of_pcap(octets)
+    elif form == "check":
+        found = [captures.of_capture(octets)]
+    else:
+        found = [captures.of_packets(octets)]
+    stations = ", ".join(it.station for it in found)
+    found = [it for it in found if named(it, given.station or "")]
+    if not found:
+        raise Refused(f"there is no station {given.station}; there are {stations}")
+    for it in found:
+        give_users(it, users, key)
+    if given.secret is not None:
+        captures.judge_radius(found, given.secret)
+    return found
+
+
+def ladders_of(octets: bytes, given: Namespace, rest: list[str]) -> list[ladder.Ladder]:
+    """The ladders of an input of any form that has packets."""
+    form = form_of(octets)
+    readers = {"replay": replays.of_scenario, "end": replays.of_end, "trace": replays.of_trace}
+    if form in readers:
+        if rest:
+            raise Refused(f"{' '.join(rest)[:60]!a}: it has its users itself")
+        return [ladder.of_a_replay(readers[form](octets))]
+    if form in ("pcap", "check", "decode"):
+        return [ladder.of_a_capture(it) for it in captures_of(octets, given, rest)]
+    if form == "gzip":
+        raise Refused("it is packed by gzip: `gzip -dc FILE | ..`")
+    raise Refused("it is no pcap file, capture, scenario, trace or text of `peer` or `server`"
+                  + (f": it is {refusals.named(form)}" if form else ": its first line is none's"))
+
+
+def read(given: Namespace, parser: Parser) -> tuple[str, list[ladder.Ladder]]:
+    """The name of the file and the ladders that the words ask for; what is left out of a file is said."""
+    path, rest = take_file(given.words, parser)
+    octets = octets_of(path)
+    try:
+        found = ladders_of(octets, given, rest)
+    except Refused as fault:
+        raise Refused(f"{path}: {fault}")
+    for it in found:
+        for note in it.capture.notes:
+            print(f"{Path(sys.argv[0]).name}: {note}", file=sys.stderr)
+    return path, found
+
+
+def one_of(found: list[ladder.Ladder]) -> ladder.Ladder:
+    """The one ladder of an input; where there are several stations, one has to be asked for."""
+    if len(found) > 1:
+        stations = ", ".join(it.capture.station for it in found)
+        raise Refused(f"there are {len(found)} stations, and --station NAME asks for one: {stations}")
+    return found[0]

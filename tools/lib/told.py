@@ -1,0 +1,88 @@
+"""Whether any tag was judged in what `check`, `pcap` or `radius` wrote, and why the others weren't."""
+
+from __future__ import annotations
+
+import re
+from collections import Counter
+
+from lib import words
+from lib.texts import lines_of
+
+LAST = re.compile(r"(packets (\d+)|records \d+ eap (\d+)) findings \d+")
+WITHOUT_EAP = "no frame has a whole EAP packet (EtherType 888e, EAPOL type 0)"
+
+
+def counts_of(lines: list[str]) -> tuple[Counter[str], int, bool]:
+    """How often each finding stands there, how many packets there are, and whether it is an output of `pcap`; where it
+    isn't whole there are -1 packets."""
+    known = {*words.FINDING_OF, "eapol-cut"}
+    count = Counter(it.split(" ")[1] for it in lines if it[:1].isdigit() and it.split(" ")[1:2] and it.split(" ")[1] in known)
+    found = LAST.fullmatch(lines[-1]) if lines else None
+    if found is None:
+        return count, -1, False
+    return count, int(found[2] or found[3]), found[3] is not None
+
+
+def judged(count: Counter[str]) -> int:
+    return count["tag-good"] + count["tag-bad"]
+
+
+def of_findings(lines: list[str]) -> list[str]:
+    """What the output of `check` or `pcap` says, in sentences."""
+    count, packets, is_pcap = counts_of(lines)
+    if is_pcap and packets == 0:
+        return [f"no tag was judged at all: packets {packets}", WITHOUT_EAP]
+    tags = judged(count)
+    told = [f"packets whose tags were judged: {tags} of {packets}" if tags else f"no tag was judged at all: packets {packets}"]
+    told += [f"{it.word} {count[it.word]}: {it.where}" for it in reversed(words.FINDINGS) if it.kind != "good"
+             and count[it.word] and it.word != "malformed"]
+    causes = Counter(it.split(" ")[2] for it in lines if it.split(" ")[1:2] == ["malformed"] and len(it.split(" ")) > 2)
+    told += [f"malformed {cause} {times}: {words.CAUSE_OF[cause].where}" for cause, times in sorted(causes.items())
+             if cause in words.CAUSE_OF]
+    if count["eapol-cut"]:
+        told.append(f"eapol-cut {count['eapol-cut']}: the EAPOL packet isn't whole: capture with -s 0")
+    if not tags and not count["no-key"] and not count["no-context"] and count["good"]:
+        told.append(f"the packets that are good have no tag: {count['good']}")
+    return told
+
+
+def without_tag(form: str, lines: list[str]) -> str:
+    """Why no tag was judged, in a clause; nothing where one was, or the output isn't whole."""
+    if form == "radius":
+        reads = [it for it in lines if it.startswith("read ")]
+        if any(it.endswith((" good", " tag-bad")) for it in reads):
+            return ""
+        causes = sorted({it.split(" ")[-1] for it in reads})
+        return f"each of {len(reads)} packets is {', '.join(causes)}" if reads else "there is no line `read`"
+    count, packets, is_pcap = counts_of(lines)
+    if packets < 0 or judged(count):
+        return ""
+    if packets == 0:
+        return WITHOUT_EAP if is_pcap else "there is no packet"
+    if count["no-key"]:
+        return f"for {count['no-key']} of them no key is given, by the name and the method in the packet"
+    if count["no-context"]:
+        return f"for {count['no-context']} the message that they rest on isn't there"
+    if count["malformed"]:
+        return f"malformed {count['malformed']}, and the others have no tag"
+    return "none of them has a tag"
+
+
+def of_radius(octets: bytes, lines: list[str]) -> list[str]:
+    """What `radius` says of the packets that it read, line by line."""
+    asked = [number for number, line in lines_of(octets) if line[0] in ("request", "reply", "read")]
+    told = []
+    for number, answer in zip(asked, lines):
+        verdict = answer.split(" ")[-1]
+        if answer.startswith("read ") and verdict != "good":
+            told.append(f"line {number}: {verdict}: {RADIUS.get(verdict) or words.RADIUS_CAUSES.get(verdict, '')}")
+        elif answer == "reply no-request":
+            told.append(f"line {number}: {RADIUS['no-request']}")
+    return told or ["each packet that was read is good"]
+
+
+RADIUS = {
+    "tag-bad": "its Message-Authenticator, or a reply's Response Authenticator, is wrong under this secret: the other side "
+               "has another secret, or an octet was changed",
+    "no-request": "no request of its Identifier was written, or read as good, before it",
+}
