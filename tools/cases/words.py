@@ -21,6 +21,9 @@ SETTINGS = {
     "server-name": "server-name srv", "server-methods": "server-methods 51", "server-suites": "server-suites 1 2",
     "server-nonce": f"server-nonce {'22' * 32}", "user": f"user alice 51 {'00' * 32} allowed",
 }
+# What is wrong with a word wherever it stands.
+NUMBERS = [("00", "BadNumber"), ("+1", "BadNumber"), ("one", "BadNumber")]
+ANYWHERE = {"first-id": NUMBERS, "peer-nonce": [("5a5", "BadHex"), ("5g", "BadHex")]}
 seen: set[str] = set()
 
 
@@ -49,12 +52,12 @@ def refused(field: Field, kind: str) -> list[tuple[str, str]]:
     """Words past the limits, each with its fault."""
     if field.spelling == "number":
         under = [(str(field.least - 1), "BadNumber")] if field.least else []
-        return [*under, (str(field.most + 1), "BadNumber"), (f"0{field.least}", "BadNumber"), ("+1", "BadNumber")]
+        return [*under, (str(field.most + 1), "BadNumber")]
     if field.spelling in ("hex", "key"):
         least, most = words.KEY_SIZES[kind] if field.spelling == "key" else (field.least, field.most)
         under = [(hex_of(least - 1), "BadSize")] if least > 1 else []
         over = [(hex_of(most + 1), "BadSize")] if most < words.MOST_OCTETS else [("5a" * (most + 1), "BadSize")]
-        return [*under, *over, ("5a5", "BadHex"), ("5g", "BadHex"), *([("-", "BadSize")] if least else [])]
+        return [*under, *over, *([("-", "BadSize")] if least else [])]
     ways = {
         "choice": [("other", "BadChoice")],
         "name": [("a" * (field.most + 1), "BadSize")],
@@ -85,6 +88,7 @@ def bad_lines(line: Line) -> list[tuple[str, str]]:
     """Lines with one word that is wrong, or a word too many, or too few."""
     found = [(with_word(line, at, word, kind), fault) for kind in kinds_of(line) for at, field in enumerate(line.fields)
              for word, fault in refused(field, kind)]
+    found += [(f"{line.keyword} {word}", fault) for word, fault in ANYWHERE.get(line.keyword, [])]
     one = good_lines(line)[0]
     found += [(f"{one} {one.split()[0]} x", "BadCount")]
     if line.fields:
