@@ -74,6 +74,11 @@ def case_file_of(run: Run) -> Iterator[Optional[str]]:
             yield holds(lines[-1] == "records 7 eap 7 findings 0" and "4 tag-good alice" in lines, f"{name}: {lines}")
 
 
+def block(order: str, kind: int, body: bytes) -> bytes:
+    size = struct.pack(order + "I", len(body) + 12)
+    return struct.pack(order + "I", kind) + size + body + size
+
+
 def others_of(octets: bytes) -> Iterator[tuple[str, bytes]]:
     """A pcap file with times in nanoseconds, and as pcapng in both orders of octets (draft-ietf-opsawg-pcapng)."""
     nano, frames, at = bytes.fromhex("4d3cb2a1") + octets[4:24], [], 24
@@ -84,13 +89,11 @@ def others_of(octets: bytes) -> Iterator[tuple[str, bytes]]:
         at += 16 + size
     yield "nanoseconds", nano
     for order in "<>":
-        block = lambda kind, body: struct.pack(order + "II", kind, len(body) + 12) + body + struct.pack(  # noqa: E731
-            order + "I", len(body) + 12)
-        made = block(0x0A0D0D0A, struct.pack(order + "IHHq", 0x1A2B3C4D, 1, 0, -1))
-        made += block(1, struct.pack(order + "HHI", 1, 0, 0) + struct.pack(order + "HHIHH", 9, 1, 9, 0, 0)[:12])
+        made = block(order, 0x0A0D0D0A, struct.pack(order + "IHHq", 0x1A2B3C4D, 1, 0, -1))
+        made += block(order, 1, struct.pack(order + "HHI", 1, 0, 0) + struct.pack(order + "HHIHH", 9, 1, 9, 0, 0)[:12])
         for frame in frames:
             padded = frame + bytes(-len(frame) % 4)
-            made += block(6, struct.pack(order + "IIIII", 0, 0, 5, len(frame), len(frame)) + padded)
+            made += block(order, 6, struct.pack(order + "IIIII", 0, 0, 5, len(frame), len(frame)) + padded)
         yield f"pcapng {order}", made
 
 
@@ -248,7 +251,19 @@ def refused_stations(run: Run, folder: str) -> Iterator[Optional[str]]:
     yield holds(status == 2 and ".pcap: frames 2\n" in out and "it ends within record 3" in errors, f"a cut file: {errors}")
 
 
-# ---- What can't be written.
+# ---- What can't be run, and what can't be written.
+
+
+def case_program(run: Run) -> Iterator[Optional[str]]:
+    """A program that isn't there is named."""
+    kept = os.environ["EAP_LOGIN"]
+    os.environ["EAP_LOGIN"] = "/nope"
+    try:
+        for tool in ("why", "chart", "page", "capture-of"):
+            found = run([tool, "examples/altered.scenario"])
+            yield holds(found[0] == 2 and "/nope can't be run: No such file or directory" in found[2], f"{tool}: {found}")
+    finally:
+        os.environ["EAP_LOGIN"] = kept
 
 
 def case_full_device(run: Run) -> Iterator[Optional[str]]:

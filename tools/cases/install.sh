@@ -1,3 +1,4 @@
+# shellcheck shell=sh disable=SC2154,SC2034,SC2086
 # The cases of tools/install. Read by tools/check.
 
 . tools/cases/lib/kit.sh
@@ -21,7 +22,7 @@ sed 's/\\-/-/g; s/\\(aq/'"'"'/g' "$page" >"$plain"
 sed -n '/^\.EX/,/^\.EE/{ /^\./!p; }' "$plain" >"$work/commands"
 without_kit sh "$work/commands" >"$work/said" 2>"$work/errors" || true
 (
-    cd examples
+    cd examples || exit
     cat gpsk-login.trace gpsk-login.names packets.out keys.out login.replies altered.findings pcap.findings
     cat bulk-1-100.out gpsk-login.peer-told gpsk-login.server-told
 ) >"$work/wanted"

@@ -160,23 +160,27 @@ def case_refused(run: Run) -> Iterator[Optional[str]]:
             yield None if fault == wanted else f"{form} has {fault or 'no fault'}, and not {wanted}: {line[:80]}"
 
 
+def whole_text(form: str, settings: list[str]) -> bytes:
+    return "".join(f"{it}\n" for it in [TEXTS[form].headers[0], *settings, "events", "end"]).encode()
+
+
 def case_needed(run: Run) -> Iterator[Optional[str]]:
     """What is needed is missed, and what has a default has that."""
     for form in ("replay", "peer", "server"):
         own = {it.keyword: it for it in TEXTS[form].settings}
         front = [it for it in SETTINGS.values() if it.split(" ")[0] in own]
-        text = lambda lines: "".join(f"{it}\n" for it in [TEXTS[form].headers[0], *lines, "events", "end"]).encode()  # noqa: E731
-        whole = answer([form], text(front))[1]
+        whole = answer([form], whole_text(form, front))[1]
         for keyword, row in own.items():
             rest = [it for it in front if it.split(" ")[0] != keyword]
             if row.needed.startswith("needed"):
-                fault = fault_at(form, text(rest))
+                fault = fault_at(form, whole_text(form, rest))
                 seen.add(fault)
                 yield None if fault == "Missing" else f"{form} without {keyword} has {fault or 'no fault'}"
             elif keyword in {it.split(" ")[0] for it in front} and keyword != "user":
                 default = f"{keyword} {row.needed.strip('`')}"
-                same = answer([form], text([*rest, default]))[1]
-                yield None if answer([form], text(rest))[1] == same == whole else f"{form}: {default} is no default"
+                same = answer([form], whole_text(form, [*rest, default]))[1]
+                without = answer([form], whole_text(form, rest))[1]
+                yield None if without == same == whole else f"{form}: {default} is no default"
 
 
 def case_other_faults(run: Run) -> Iterator[Optional[str]]:

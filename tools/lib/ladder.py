@@ -102,7 +102,7 @@ def side_of(port: str, parties: list[str]) -> str:
 
 def findings_of(capture: Capture) -> tuple[dict[str, str], str]:
     """What `check` says of each packet, by where it stands, and its last line."""
-    lines = ask(["check"], capture.text().encode("latin-1"), (0, 7))
+    lines = ask(["check"], Capture(capture.packets, capture.users).text().encode("latin-1"), (0, 7))
     return {it.place: line.split(" ", 1)[1] for it, line in zip(capture.packets, lines)}, lines[-1]
 
 

@@ -10,6 +10,10 @@ from lib.common import Refused, ask
 from lib.texts import comments_of, lines_of, packet_of
 
 
+PARTIES = {"peer", "pass", "server"}
+PORTS = {"peer", "server", "pass-peer", "pass-server"}
+
+
 @dataclass
 class Sent:
     """A packet that a party sent: its number, the party, the port to which it goes, its octets, or what is told of it
@@ -172,8 +176,9 @@ def of_trace(octets: bytes) -> Replay:
                 tell(events.setdefault(number, Event(number, ["start" if number == 0 else "event"])), words[1:])
             except (IndexError, ValueError):
                 raise Refused(f"a line of the trace isn't whole: {' '.join(words)[:60]!a}")
-    if not events:
-        raise Refused("the trace has no event")
-    acting = {party for event in events.values() for party, _ in event.acts}
+    acting = {party for event in events.values() for party, states in event.acts if states}
+    ports = {it.port for event in events.values() for it in event.sent}
+    if not acting or acting - PARTIES or ports - PORTS or any(not it for event in events.values() for _, it in event.acts):
+        raise Refused("the trace has no event, or one of no party")
     parties = ["peer", "pass", "server"] if "pass" in acting else ["peer", "server"]
     return Replay(parties, [events[at] for at in sorted(events)], ended(lines), has_losses=False)

@@ -1,3 +1,4 @@
+# shellcheck shell=sh disable=SC2034,SC2012,SC2015
 # What the cases in shell share; tools/check runs each NAME.sh beside this file behind it. A case counts itself in `count`,
 # and where it fails, by `fail`, in `failed`.
 set -eu
