@@ -13,7 +13,7 @@ use Rattle.world_laws.specs.Agreement.{IsWhole}
 use Rattle.world_laws.specs.Alone.{OneEndTells, PeerIsHeard, PeerKnows, PeersConversation, ServerHears, ServersConversation}
 use Rattle.tag_book.specs.Book.{first_broken, tags_verdict, tags_verdict_either}
 use Rattle.eap_world.specs.Conversations.{Conversations, front}
-use Rattle.world_laws.specs.Foreign.{server_foreign}
+use Rattle.world_laws.specs.Foreign.{HoldWhole, server_foreign}
 use Rattle.eap_world.specs.Judgement.{is_success}
 use Rattle.world_laws.specs.Records.{IsIn, tags_by}
 use Rattle.world_laws.specs.ToldTags.{MadeByPeer, NotByServer, PeerTold, ServerTold}
@@ -33,6 +33,7 @@ use Rattle.world_laws.proofs.Reflected.{asks_present, of_peer, of_server}
 use Rattle.world_laws.proofs.SameLogins.{peers_login, servers_login, whole_login}
 use Rattle.world_laws.proofs.ServerTells.{AsksPeer, AsksServer, peer_asks, server_asks}
 use Rattle.world_laws.proofs.SucceedingEnds.{first_in, server_succeeds}
+use Rattle.world_laws.proofs.WholeNonces as whole
 
 module _ (setup : Setup) (w : WorldNow) (h : BothConverse setup w) where
   -- the tags that each end has accepted and made
@@ -92,10 +93,13 @@ module _ (setup : Setup) (w : WorldNow) (h : BothConverse setup w) where
       (peer_won setup w h p_in) by.told.current by.told.views by.accepted by.made by.told.tags
       (first_in h.peer.accepted by.made asked.tag asked.rest asked.first by.is_made)
       (first_in by.accepted h.peer.made asks.tag asks.rest asks.first answered.0) in
+      let are = whole.server_on setup.peer setup.server h.peer_nonce by.nonce h.peer.size by.size w.parties.peer.vars.selected w.parties.peer.views
+      by.told.current by.told.views _ _ by.told.tags _ _ h.peer.now.stands.tags asks.tag asks.rest asks.first answered.0 in
       record {
         by = servers_own asked.tag by;
         rand_s = h.peer.now.held_is ∙ answered.1;
         rand_p = rand_p ∙ ap (λ (s : PeerSetup). Some (front s.nonce)) (sym own);
+        whole = λ by_gpsk. subst (λ (s : PeerSetup). HoldWhole w.parties.peer.views s.nonce by.told.views by.nonce) (sym own) (are.whole by_gpsk);
         tag = asks.tag;
         accepted = first_is_in asks.tag asks.rest by.accepted asks.first;
         made = made;
@@ -126,10 +130,14 @@ module _ (setup : Setup) (w : WorldNow) (h : BothConverse setup w) where
       let login = servers_login (peers.own_nonce setup.peer of.nonce) (servers.own_nonce setup.server h.server_nonce) of.size h.server.size w.parties.server _ _
       (server_won setup w h s_in) of.told.selected of.told.views of.accepted of.made of.told.tags
       (first_in h.server.accepted of.made asks.tag asks.rest asks.first of.is_made) in
+      let are = whole.server_on setup.peer setup.server of.nonce h.server_nonce of.size h.server.size of.told.selected of.told.views
+      w.parties.server.vars.current w.parties.server.views _ _ h.server.now.stands.tags _ _ of.told.tags asks.tag asks.rest asks.first of.is_made in
       record {
         of = peers_own asks.tag of;
         rand_p = holds ∙ ap (λ (x : List ℕ). Some x) (sym tells.0);
         rand_s = tells.1 ∙ ap (λ (s : ServerSetup). Some (front s.nonce)) (sym own);
+        whole = λ by_gpsk. subst (λ (s : ServerSetup). HoldWhole of.told.views of.nonce w.parties.server.views s.nonce) (sym own)
+            (are.whole (are.method ∙ by_gpsk));
         tag = asks.tag;
         made = of.is_made;
         accepted = accepted;

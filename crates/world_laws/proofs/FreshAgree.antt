@@ -1,5 +1,5 @@
 -- Over an honest book and fresh nonces two ends that both stand in SUCCESS agree, and hold each other's present nonces.
-use Rattle.std.proofs.Common.{◌≡◌, ℕ, Bool, true, List, [], Option, Some, refl, sym, ap, ◌∙◌}
+use Rattle.std.proofs.Common.{◌≡◌, ℕ, Bool, true, List, [], Option, Some, refl, sym, ap, subst, ◌∙◌}
 use Rattle.std.specs.Prelude.{◌&&◌, if◌then◌else◌}
 use Rattle.login_setup.specs.declared.event.Event.{Event}
 use Rattle.login_setup.specs.declared.setup.PeerSetup.{PeerSetup}
@@ -13,7 +13,7 @@ use Rattle.eap_world.specs.Run.{run_of}
 use Rattle.world_laws.specs.Agreement.{IsWhole}
 use Rattle.tag_book.specs.Book.{first_broken, tags_verdict}
 use Rattle.eap_world.specs.Conversations.{front}
-use Rattle.world_laws.specs.Foreign.{server_foreign, psk_rand_p_in, gpsk_rand_p_in}
+use Rattle.world_laws.specs.Foreign.{HoldWhole, server_foreign, psk_rand_p_in, gpsk_rand_p_in}
 use Rattle.eap_world.specs.Judgement.{is_success, verdict_of}
 use Rattle.world_laws.specs.Records.{IsIn, tags_by}
 use Rattle.world_laws.specs.Reflected.{AgreeAnew}
@@ -32,6 +32,7 @@ use Rattle.world_laws.proofs.PastConversations.{accepted_now}
 use Rattle.world_laws.proofs.ServerTells.{AsksServer, peer_asks, server_asks}
 use Rattle.world_laws.proofs.SucceedingEnds.{FirstIn, PeerSucceeds, ServerSucceeds, both_agree, both_succeed, first_in, of_gpsk, of_psk, peer_succeeds, server_succeeds}
 use Rattle.world_laws.proofs.Theirs.{own_theirs}
+use Rattle.world_laws.proofs.WholeNonces as whole
 use Rattle.world_laws.specs.ToldTags.{NotByServer, PeerTold}
 
 -- a server that has succeeded holds a nonce of the peer
@@ -89,11 +90,15 @@ agree_anew setup w h fresh p_in s_in p_asks p_made server_honest =
     let succeed = both_succeed peer_setup server_setup p s h.peer.size h.server.size _ _ _ _ p_won s_won (λ is_psk. of_peer)
     (first_in h.server.accepted h.peer.made s_asks.tag s_asks.rest s_asks.first one.server_tag) in
     let same = both_agree peer_setup server_setup p s h.peer.size h.server.size succeed in
+    let are = whole.server_on setup.peer setup.server h.peer_nonce h.server_nonce h.peer.size h.server.size p.vars.selected p.views s.vars.current s.views
+    _ _ s_stands.tags _ _ p_stands.tags s_asks.tag s_asks.rest s_asks.first one.server_tag in
     record {
       agree = agree_if (is_success p.vars.state) (is_success s.vars.state) _ p_in s_in (rw (p_stands.own, s_stands.own) same);
       hold = record {
         rand_s = h.peer.now.held_is ∙ (one.peer_holds ∙ ap (λ (x : ServerSetup). Some (front x.nonce)) (sym s_stands.own));
         rand_p = h.server.now.held_is ∙ (one.server_holds ∙ ap (λ (x : PeerSetup). Some (front x.nonce)) (sym p_stands.own));
+        whole = λ by_gpsk. subst (λ (x : PeerSetup). HoldWhole p.views x.nonce s.views s.vars.setup.nonce) (sym p_stands.own)
+            (subst (λ (x : ServerSetup). HoldWhole p.views h.peer_nonce s.views x.nonce) (sym s_stands.own) (are.whole by_gpsk));
       };
       theirs = own_theirs setup w h.peer_nonce h.server_nonce succeed;
     }

@@ -109,6 +109,8 @@ pub mod Theirs
 pub mod TypeData
 -- The version of a scenario's text stays in its world.
 pub mod Versions
+-- Two conversations of which one rests on the other are of one method, and by EAP-GPSK hold the whole of each other's nonces.
+pub mod WholeNonces
 -- In every run, what two ends that both stand in SUCCESS report over an honest book is their own: names, key and suite.
 pub mod Whose
 -- The Identity round (RFC 3748 section 2), computed from the definitions alone.

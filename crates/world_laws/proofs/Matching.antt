@@ -17,7 +17,7 @@ use Rattle.eap_world.specs.Conversations.{front}
 use Rattle.world_laws.specs.EachConversation.{AreTwoOf, IsOneOf, OfPeer, OfServer, all_made, nonces_of, peer_at, peer_conversations, peer_holds, peer_nonce, server_at, server_conversations, server_holds, server_nonce}
 use Rattle.eap_world.specs.Judgement.{is_success}
 use Rattle.world_laws.specs.Logins.{peer_login}
-use Rattle.world_laws.specs.Matching.{AreAll, ConversationsAreAll, ConversationsMatch, HoldNonces, Match, NoTwoAlike, PeerMatches, PeerRests, ReportsAgree, RestsOn, ServerMatches, ServerRests}
+use Rattle.world_laws.specs.Matching.{AreAll, AreOfOne, ConversationsAreAll, ConversationsMatch, HoldNonces, Match, NoTwoAlike, PeerMatches, PeerRests, ReportsAgree, RestsOn, ServerMatches, ServerRests}
 use Rattle.world_laws.specs.PeerStands.{PeerStands}
 use Rattle.world_laws.specs.Records.{IsIn, tags_by}
 use Rattle.world_laws.specs.ServerStands.{HasSucceeded, ServerStands, gpsk_succeeded, psk_succeeded}
@@ -44,6 +44,7 @@ use Rattle.world_laws.proofs.ServerKeeps.{told_by_psk}
 use Rattle.world_laws.proofs.ServerTells.{AsksPeer, AsksServer, peer_asks, server_asks}
 use Rattle.world_laws.proofs.SucceedingEnds.{PeerSucceeds, ServerSucceeds, both_agree, both_succeed, first_in, peer_succeeds, server_succeeds}
 use Rattle.world_laws.proofs.TagsOfEnds.{honest_tags}
+use Rattle.world_laws.proofs.WholeNonces as whole
 
 -- ---- one conversation
 
@@ -136,6 +137,20 @@ module _ (setup : Setup) where
       let a = peer_in p known p_in in
       made_at s s_known a.tag (front (peer_nonce p)) a.made (is_first p.accepted s.made a.tag a.rest a.first r)
 
+  -- one of the server that rests on one of the peer; and one of the peer in SUCCESS that rests on one of the server
+  server_one : (s : OfServer) → ServerKnown setup.server s → (p : OfPeer) → PeerKnown setup.peer p → RestsOn s.accepted p.made → AreOfOne p s
+  server_one s known p p_known r =
+      let are = whole.server_on setup.peer setup.server (peer_nonce p) (server_nonce s) p_known.size known.size p.now.vars.selected p.now.views
+      s.now.vars.current s.now.views _ _ known.stands.tags _ _ p_known.stands.tags r.tag r.more r.first r.is_made in
+      record { method = are.method; whole = are.whole }
+
+  peer_one : (p : OfPeer) → PeerKnown setup.peer p → is_success p.now.vars.state ≡ true → (s : OfServer) → ServerKnown setup.server s
+      → RestsOn p.accepted s.made → AreOfOne p s
+  peer_one p known p_in s s_known r =
+      let are = whole.peer_on setup.peer setup.server (peer_nonce p) (server_nonce s) known.size s_known.size p.now s.now.vars.current s.now.views
+      _ _ (peer_won p known p_in) _ _ s_known.stands.tags r.tag r.more r.first r.is_made in
+      record { method = are.method; whole = are.whole }
+
   -- two in SUCCESS that rest on each other agree
   reports_agree : (p : OfPeer) → PeerKnown setup.peer p → is_success p.now.vars.state ≡ true → (s : OfServer) → ServerKnown setup.server s
       → is_success s.now.vars.state ≡ true → RestsOn p.accepted s.made → RestsOn s.accepted p.made → ReportsAgree p s
@@ -225,12 +240,18 @@ module _ (setup : Setup) where
         subst (λ (l : List TagRecord). IsIn asks.tag l) (sym all.server_accepted)
         (accepted_in asks.tag s ss is_one (first_is_in asks.tag asks.rest s.accepted asks.first)) in
         let m = made_in asks.tag ps (by_peer honest asks.tag asks.alien listed) in
-        let told = made_by m.by (ps_known m.by m.is_one) asks.tag foreign (front (server_nonce s)) asks.made m.is_in in
+        let known = ps_known m.by m.is_one in
+        let told = made_by m.by known asks.tag foreign (front (server_nonce s)) asks.made m.is_in in
+        let rests : RestsOn s.accepted m.by.made = record { tag = asks.tag; more = asks.rest; first = asks.first; is_made = m.is_in } in
         record {
           on = m.by;
           is_one = m.is_one;
-          rests = record { tag = asks.tag; more = asks.rest; first = asks.first; is_made = m.is_in };
-          hold = record { rand_s = told.1; rand_p = holds ∙ ap (λ (x : List ℕ). Some x) (sym told.0) };
+          rests = rests;
+          hold = record {
+            rand_s = told.1;
+            rand_p = holds ∙ ap (λ (x : List ℕ). Some x) (sym told.0);
+            one = server_one s (ss_known s is_one) m.by known rests;
+          };
         }
 
     servers_rest : tags_verdict_either last.book ≡ Honest → (s : OfServer) → IsOneOf s ss → is_success s.now.vars.state ≡ true → ServerRests ps s
@@ -258,7 +279,13 @@ module _ (setup : Setup) where
     -- ---- the peer's
 
     -- one of the peer rests on the one of the server that made its first tag
-    rests_on : (p : OfPeer) → IsOneOf p ps → (asks : AsksServer (peer_nonce p) p.accepted) → IsIn asks.tag (all_made ss) → PeerRests ss p
+    record RestsSo (p : OfPeer) : Type 0 where
+      pub on : OfServer
+      pub is_one : IsOneOf on ss
+      pub rests : RestsOn p.accepted on.made
+      pub rand_p : server_holds on ≡ Some (front (peer_nonce p))
+
+    rests_on : (p : OfPeer) → IsOneOf p ps → (asks : AsksServer (peer_nonce p) p.accepted) → IsIn asks.tag (all_made ss) → RestsSo p
     rests_on p is_one asks is =
         let m = made_in asks.tag ss is in
         record {
@@ -267,6 +294,16 @@ module _ (setup : Setup) where
           rests = record { tag = asks.tag; more = asks.rest; first = asks.first; is_made = m.is_in };
           rand_p = made_at m.by (ss_known m.by m.is_one) asks.tag (front (peer_nonce p)) asks.made m.is_in;
         }
+
+    -- and where it is in SUCCESS, both are of one method
+    in_one : (p : OfPeer) → IsOneOf p ps → is_success p.now.vars.state ≡ true → RestsSo p → PeerRests ss p
+    in_one p is_one p_in r = record {
+      on = r.on;
+      is_one = r.is_one;
+      rests = r.rests;
+      rand_p = r.rand_p;
+      one = peer_one p (ps_known p is_one) p_in r.on (ss_known r.on r.is_one) r.rests;
+    }
 
     listed_peer : (p : OfPeer) → IsOneOf p ps → (asks : AsksServer (peer_nonce p) p.accepted) → IsIn asks.tag (tags_by end.Peer Accepted last.book)
     listed_peer p is_one asks =
@@ -279,8 +316,9 @@ module _ (setup : Setup) where
     peers_rest : tags_verdict last.book ≡ Honest → (p : OfPeer) → IsOneOf p ps → is_success p.now.vars.state ≡ true → PeerRests ss p
     peers_rest honest p is_one p_in =
         let asks = peer_in p (ps_known p is_one) p_in in
-        rests_on p is_one asks
-        (by_server asks.tag (honest_other end.Peer last.book (none_if_honest (first_broken Other [] last.book) honest) asks.tag (listed_peer p is_one asks)))
+        in_one p is_one p_in
+        (rests_on p is_one asks
+        (by_server asks.tag (honest_other end.Peer last.book (none_if_honest (first_broken Other [] last.book) honest) asks.tag (listed_peer p is_one asks))))
 
     module _ (honest : tags_verdict_either last.book ≡ Honest) (fresh : last.conversations.fresh ≡ true) (p : OfPeer) (is_one : IsOneOf p ps) where
       -- one of the server that holds the nonce of one of the peer rests on that one, which holds its nonce
@@ -399,7 +437,7 @@ module _ (setup : Setup) where
           | inl made ↦ by_server asked.asks.tag made
           | inr own ↦ absurd (not_peers fresh p is_one asked own)
         ] in
-        peer_matches honest fresh p is_one p_in (rests_on p is_one asked.asks made)
+        peer_matches honest fresh p is_one p_in (in_one p is_one p_in (rests_on p is_one asked.asks made))
 
     they_match : Match last ps ss
     they_match = record {

@@ -19,7 +19,7 @@ use Rattle.world_laws.proofs.Among.{among_one, among_two}
 use Rattle.world_laws.proofs.Fields.{ends, fronts, sized_fronts}
 use Rattle.world_laws.proofs.PskFields.{front_size}
 use Rattle.peer_machine.specs.PeerTable as peers
-use Rattle.world_laws.specs.Foreign.{psk_rand_s, gpsk_rand_s, peer_foreign}
+use Rattle.world_laws.specs.Foreign.{front_in, gpsk_whole_rand_s, peer_foreign, psk_rand_s}
 use Rattle.eap_world.specs.Conversations.{front}
 use Rattle.world_laws.specs.ToldTags.{MadeByPeer}
 
@@ -136,14 +136,15 @@ module _ (s : gpsk_server.Login) (pd : List ℕ) (p_size : length s.rand_p ≡ 3
   gpsk2_tag = sk_record s.psk (gpsk2_taken s pd)
 
   gpsk2_tells : (setup : PeerSetup) (nonce : List ℕ) (login : gpsk.Login) (list : List ℕ) → length nonce ≡ 32 → GpskBegun (peers.own_nonce setup nonce) login list
-      → gpsk2_tag ≡ gpsk2_record login list → (front nonce ≡ front s.rand_p) × (Some (front login.rand_s) ≡ Some (front s.nonce))
+      → gpsk2_tag ≡ gpsk2_record login list → (nonce ≡ s.rand_p) × (Some login.rand_s ≡ Some s.nonce)
   gpsk2_tells setup nonce login list size facts e =
       let both = gpsk2_covers s login list pd p_size s_size (ap length facts.nonce ∙ size) facts.size (ap (λ (r : TagRecord). r.octets) e) in
-      (sym (ap front (both.0 ∙ facts.nonce)), ap (λ (x : List ℕ). Some (front x)) (sym both.1))
+      (sym (both.0 ∙ facts.nonce), ap (λ (x : List ℕ). Some x) (sym both.1))
 
-  gpsk_view_tells : (setup : PeerSetup) (nonce : List ℕ) (view : gpsk.View) (accepted made : List TagRecord) → length nonce ≡ 32
+  -- both nonces whole
+  pub gpsk_view_tells : (setup : PeerSetup) (nonce : List ℕ) (view : gpsk.View) (accepted made : List TagRecord) → length nonce ≡ 32
       → GpskPeerTags (peers.own_nonce setup nonce) view accepted made → IsIn gpsk2_tag made
-      → (front nonce ≡ front s.rand_p) × (gpsk_rand_s view ≡ Some (front s.nonce))
+      → (nonce ≡ s.rand_p) × (gpsk_whole_rand_s view ≡ Some s.nonce)
   gpsk_view_tells setup nonce _ _ _ size gpsk_unset is = elim is [ ]
   gpsk_view_tells setup nonce _ _ _ size (gpsk_fresh allowed) is = elim is [ ]
   gpsk_view_tells setup nonce _ _ _ size (gpsk_waits login list facts) is = gpsk2_tells setup nonce login list size facts (among_one _ _ is)
@@ -167,7 +168,7 @@ module _ (s : gpsk_server.Login) (pd : List ℕ) (p_size : length s.rand_p ≡ 3
       kinds_apart gpsk_kind (psk_method (peers.own_nonce setup nonce) views.psk accepted made gpsk2_tag told is) refl
   gpsk_tags_tell setup nonce selected views _ _ size (gpsk_selected accepted made is_selected told) is =
       let t = gpsk_view_tells setup nonce views.gpsk accepted made size told is in
-      (t.0, ap (λ (o : Option ℕ). peer_foreign o views) is_selected ∙ t.1)
+      (ap front t.0, ap (λ (o : Option ℕ). peer_foreign o views) is_selected ∙ ap front_in t.1)
 
   pub gpsk2_made : MadeByPeer gpsk2_tag (front s.rand_p) (front s.nonce)
   gpsk2_made = record {

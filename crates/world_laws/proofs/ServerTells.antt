@@ -26,7 +26,7 @@ use Rattle.world_laws.proofs.Among.{among_one, among_two}
 use Rattle.world_laws.proofs.Fields.{ends, fronts}
 use Rattle.world_laws.proofs.PskFields.{front_size}
 use Rattle.world_laws.proofs.SucceedingEnds.{PeerSucceeds, with_psk, with_gpsk}
-use Rattle.world_laws.specs.Foreign.{psk_rand_p, gpsk_rand_p, psk_rand_p_in, gpsk_rand_p_in, server_foreign}
+use Rattle.world_laws.specs.Foreign.{front_in, psk_rand_p, gpsk_rand_p, gpsk_whole_rand_p, psk_rand_p_in, gpsk_rand_p_in, server_foreign}
 use Rattle.eap_world.specs.Conversations.{front}
 use Rattle.world_laws.specs.ToldTags.{MadeByPeer, MadeByServer, NotByServer, ServerTold}
 use Rattle.world_laws.proofs.PeerTells.{mac_p_made, gpsk2_made, kinds_apart, labels_apart, long}
@@ -97,9 +97,11 @@ module _ (key id_s rand_p mac : List ℕ) (p_size : length rand_p ≡ 16) where
 -- ---- EAP-GPSK
 
 gpsk3_covers : (p : gpsk_peer.Login) (pd : List ℕ) (s : gpsk.Login) → length p.nonce ≡ 32 → length s.rand_p ≡ 32
-    → covered_of (gpsk3_taken p pd) ≡ covered_of (gpsk.gpsk3_of s) → p.nonce ≡ s.rand_p
+    → covered_of (gpsk3_taken p pd) ≡ covered_of (gpsk.gpsk3_of s)
+    → (p.nonce ≡ s.rand_p) × (length p.rand_s ≡ 32 → length s.nonce ≡ 32 → p.rand_s ≡ s.nonce)
 unfolding covered_of
-gpsk3_covers p pd s size size' e = (fronts 32 p.nonce _ s.rand_p _ size size' e).0
+gpsk3_covers p pd s size size' e =
+    let t0 = fronts 32 p.nonce _ s.rand_p _ size size' e in (t0.0, λ size_s size_s'. (fronts 32 p.rand_s _ s.nonce _ size_s size_s' t0.1).0)
 
 pub not_bars : (p : gpsk_peer.Login) (pd : List ℕ) (s : gpsk.Login) → length p.nonce ≡ 32 → covered_of (gpsk3_taken p pd) ≡ covered_of (gpsk.bars_with s) → ⊥
 unfolding covered_of
@@ -113,20 +115,29 @@ module _ (p : gpsk_peer.Login) (pd : List ℕ) (p_size : length p.nonce ≡ 32) 
   abbrev gpsk3_tag : TagRecord
   gpsk3_tag = sk_record p.cred.psk (gpsk3_taken p pd)
 
-  gpsk3_tells : (setup : ServerSetup) (login : gpsk.Login) (barred : Bool) → GpskChecked setup login barred → gpsk3_tag ≡ sk_record login.psk (gpsk.gpsk3_of login)
-      → Some (front login.rand_p) ≡ Some (front p.nonce)
-  gpsk3_tells setup login barred facts e =
-      ap (λ (x : List ℕ). Some (front x)) (sym (gpsk3_covers p pd login p_size facts.size (ap (λ (r : TagRecord). r.octets) e)))
+  -- it tells the peer's nonce, and the server's, whole
+  pub record Gpsk3Tells (setup : ServerSetup) (view : gpsk.View) : Type 0 where
+    pub rand_p : gpsk_whole_rand_p view ≡ Some p.nonce
+    pub rand_s : length p.rand_s ≡ 32 → length setup.nonce ≡ 32 → p.rand_s ≡ setup.nonce
 
-  gpsk_view_tells : (setup : ServerSetup) (view : gpsk.View) (accepted made : List TagRecord) → GpskServerTags setup view accepted made → IsIn gpsk3_tag made
-      → gpsk_rand_p view ≡ Some (front p.nonce)
+  gpsk3_tells : (setup : ServerSetup) (view : gpsk.View) (login : gpsk.Login) (barred : Bool) → gpsk_whole_rand_p view ≡ Some login.rand_p
+      → GpskChecked setup login barred → gpsk3_tag ≡ sk_record login.psk (gpsk.gpsk3_of login) → Gpsk3Tells setup view
+  gpsk3_tells setup view login barred holds facts e =
+      let both = gpsk3_covers p pd login p_size facts.size (ap (λ (r : TagRecord). r.octets) e) in
+      record {
+        rand_p = holds ∙ ap (λ (x : List ℕ). Some x) (sym both.0);
+        rand_s = λ size own_size. both.1 size (ap length facts.nonce ∙ own_size) ∙ facts.nonce;
+      }
+
+  pub gpsk_view_tells : (setup : ServerSetup) (view : gpsk.View) (accepted made : List TagRecord) → GpskServerTags setup view accepted made → IsIn gpsk3_tag made
+      → Gpsk3Tells setup view
   gpsk_view_tells setup _ _ _ (gpsk_asked ordered) is = elim is [ ]
   gpsk_view_tells setup _ _ _ gpsk_refusing is = elim is [ ]
   gpsk_view_tells setup _ _ _ gpsk_refused is = elim is [ ]
   gpsk_view_tells setup _ _ _ (gpsk_barring login their_pd facts) is = absurd (not_bars p pd login p_size (ap (λ (r : TagRecord). r.octets) (among_one _ _ is)))
-  gpsk_view_tells setup _ _ _ (gpsk_checked login their_pd facts) is = gpsk3_tells setup login false facts (among_one _ _ is)
+  gpsk_view_tells setup _ _ _ (gpsk_checked login their_pd facts) is = gpsk3_tells setup _ login false refl facts (among_one _ _ is)
   gpsk_view_tells setup _ _ _ (gpsk_barred login their_pd facts) is = absurd (not_bars p pd login p_size (ap (λ (r : TagRecord). r.octets) (among_one _ _ is)))
-  gpsk_view_tells setup _ _ _ (gpsk_confirmed login their_pd last_pd facts) is = gpsk3_tells setup login false facts (among_one _ _ is)
+  gpsk_view_tells setup _ _ _ (gpsk_confirmed login their_pd last_pd facts) is = gpsk3_tells setup _ login false refl facts (among_one _ _ is)
 
   gpsk_tags_tell : (setup : ServerSetup) (current : Option ℕ) (views : ServerViews) (accepted made : List TagRecord)
       → ServerTags setup current views accepted made → IsIn gpsk3_tag made → server_foreign current views ≡ Some (front p.nonce)
@@ -135,7 +146,8 @@ module _ (p : gpsk_peer.Login) (pd : List ℕ) (p_size : length p.nonce ≡ 32) 
   gpsk_tags_tell setup current views _ _ (psk_current view accepted made is_current in_view told) is =
       kinds_apart gpsk_kind (psk_method setup view accepted made gpsk3_tag told is) refl
   gpsk_tags_tell setup current views _ _ (gpsk_current view accepted made is_current in_view told) is =
-      ap (λ (o : Option ℕ). server_foreign o views) is_current ∙ (ap gpsk_rand_p_in in_view ∙ gpsk_view_tells setup view accepted made told is)
+      ap (λ (o : Option ℕ). server_foreign o views) is_current
+      ∙ (ap gpsk_rand_p_in in_view ∙ ap front_in (gpsk_view_tells setup view accepted made told is).rand_p)
 
   pub gpsk3_made : MadeByServer gpsk3_tag (front p.nonce)
   gpsk3_made = record {

@@ -21,7 +21,7 @@ use Rattle.tag_book.specs.declared.book.Entry.{Entry}
 use Rattle.eap_world.specs.declared.conversations.Begun.{Begun}
 use Rattle.tag_book.specs.declared.book.Use.{Use}
 use Rattle.eap_world.specs.Conversations.{Conversations, begun_by, front}
-use Rattle.world_laws.specs.Foreign.{peer_foreign, server_foreign}
+use Rattle.world_laws.specs.Foreign.{HoldWhole, peer_foreign, server_foreign}
 use Rattle.eap_world.specs.Judgement.{verdict_of, is_success}
 use Rattle.eap_world.specs.declared.verdict.Verdict.TheVariants.{Agree, Apart}
 use Rattle.eap_world.specs.Run.{run_of}
@@ -46,10 +46,13 @@ HonestOfEither = (book : List Entry) → tags_verdict book ≡ Honest → tags_v
 abbrev pub AreApart : Conversations → Type 0
 AreApart all = (length all.begun ≡ 2) ⊎ (all.fresh ≡ true)
 
--- each end holds the nonce of the other's present conversation, of which its front tells
+-- each end holds the nonce of the other's present conversation, of which its front tells; by EAP-GPSK all its 32 octets. EAP-PSK has no
+-- more than these 16 of it (RFC 4764 section 3.2)
 pub record HoldEachOther (w : WorldNow) : Type 0 where
   pub rand_s : peer_foreign w.parties.peer.vars.selected w.parties.peer.views ≡ Some (front w.parties.server.vars.setup.nonce)
   pub rand_p : server_foreign w.parties.server.vars.current w.parties.server.views ≡ Some (front w.parties.peer.vars.setup.nonce)
+  pub whole : w.parties.peer.vars.selected ≡ Some gpsk_kind
+      → HoldWhole w.parties.peer.views w.parties.peer.vars.setup.nonce w.parties.server.views w.parties.server.vars.setup.nonce
 
 -- two ends that both stand in SUCCESS in their present conversations agree, and the verdict is never that they don't
 pub record AgreesWhereHonest (w : WorldNow) : Type 0 where

@@ -14,7 +14,7 @@ use Rattle.eap_world.specs.Run.{run_of}
 use Rattle.world_laws.specs.Agreement.{IsWhole}
 use Rattle.tag_book.specs.Book.{tags_verdict, tags_verdict_either}
 use Rattle.eap_world.specs.Conversations.{front, has_begun}
-use Rattle.world_laws.specs.Foreign.{peer_foreign, server_foreign}
+use Rattle.world_laws.specs.Foreign.{HoldWhole, peer_foreign, server_foreign}
 use Rattle.eap_world.specs.Judgement.{is_success}
 use Rattle.world_laws.specs.Logins.{peer_login, server_login}
 use Rattle.world_laws.specs.Records.{IsIn, tags_by}
@@ -64,12 +64,13 @@ pub record HasPeersKey (setup : Setup) (report : Report) : Type 0 where
   pub known : user_of setup.server.users report.id_p report.method ≡ Some user
   pub key : user.psk ≡ key_for setup.peer report.method
 
--- a conversation of the server and the peer's present one hold each other's nonces; and the server's has accepted a tag that the
--- peer has made, and that only a conversation of the peer with these nonces can have made
+-- a conversation of the server and the peer's present one hold each other's nonces, by EAP-GPSK all 32 octets of them; and the server's
+-- has accepted a tag that the peer has made, and that only a conversation of the peer with these nonces can have made
 pub record PeerIsHeard (setup : Setup) (w : WorldNow) : Type 0 where
   pub by : ServersConversation setup w
   pub rand_s : peer_foreign w.parties.peer.vars.selected w.parties.peer.views ≡ Some (front by.nonce)
   pub rand_p : by.held ≡ Some (front w.parties.peer.vars.setup.nonce)
+  pub whole : w.parties.peer.vars.selected ≡ Some gpsk_kind → HoldWhole w.parties.peer.views w.parties.peer.vars.setup.nonce by.told.views by.nonce
   pub tag : TagRecord
   pub accepted : IsIn tag by.accepted
   pub made : IsIn tag (tags_by end.Peer Made w.book)
@@ -81,12 +82,13 @@ pub record PeerIsHeard (setup : Setup) (w : WorldNow) : Type 0 where
   pub keyed : HasPeersKey setup report
   pub id_p : report.id_p ≡ setup.peer.name
 
--- a conversation of the peer and the server's present one hold each other's nonces; and the server has accepted a tag that the
--- peer's has made, and that only a conversation of the peer with these nonces can have made
+-- a conversation of the peer and the server's present one hold each other's nonces, by EAP-GPSK all 32 octets of them; and the server
+-- has accepted a tag that the peer's has made, and that only a conversation of the peer with these nonces can have made
 pub record ServerHears (setup : Setup) (w : WorldNow) : Type 0 where
   pub of : PeersConversation setup w
   pub rand_p : server_foreign w.parties.server.vars.current w.parties.server.views ≡ Some (front of.nonce)
   pub rand_s : of.held ≡ Some (front w.parties.server.vars.setup.nonce)
+  pub whole : w.parties.server.vars.current ≡ Some gpsk_kind → HoldWhole of.told.views of.nonce w.parties.server.views w.parties.server.vars.setup.nonce
   pub tag : TagRecord
   pub made : IsIn tag of.made
   pub accepted : IsIn tag (tags_by end.Server Accepted w.book)

@@ -1,6 +1,6 @@
 -- Matching conversations: each one in SUCCESS, present or past, rests on one of the other end, and no two of an end on the same.
 use Rattle.std.specs.Prelude.{◌≡◌, List, ◌∷◌, map, true, None, Some}
-use Rattle.eap_base.specs.Among.{psk_kind}
+use Rattle.eap_base.specs.Among.{gpsk_kind, psk_kind}
 use Rattle.login_setup.specs.declared.event.Event.{Event}
 use Rattle.login_setup.specs.declared.setup.Setup.{Setup}
 use Rattle.eap_method.specs.declared.tags.TagRecord.{TagRecord}
@@ -14,6 +14,7 @@ use Rattle.tag_book.specs.Book.{tags_verdict, tags_verdict_either}
 use Rattle.eap_world.specs.Conversations.{front}
 use Rattle.world_laws.specs.EachConversation.{AreTwoOf, IsOneOf, OfPeer, OfServer, all_accepted, all_made, last_now, nonces_of, peer_conversations, peer_holds, peer_nonce, server_conversations, server_holds, server_nonce}
 use Rattle.eap_world.specs.Judgement.{is_success, judged}
+use Rattle.world_laws.specs.Foreign.{HoldWhole}
 use Rattle.world_laws.specs.Logins.{peer_login}
 use Rattle.world_laws.specs.PeerStands.{PeerStands}
 use Rattle.world_laws.specs.Records.{IsIn, tags_by}
@@ -32,10 +33,16 @@ pub record RestsOn (accepted made : List TagRecord) : Type 0 where
   pub first : accepted ≡ tag ∷ more
   pub is_made : IsIn tag made
 
--- a conversation of the peer and one of the server hold each other's nonces
+-- a conversation of the peer and one of the server are of one method; by EAP-GPSK they hold all 32 octets of each other's nonces
+pub record AreOfOne (p : OfPeer) (s : OfServer) : Type 0 where
+  pub method : p.now.vars.selected ≡ s.now.vars.current
+  pub whole : p.now.vars.selected ≡ Some gpsk_kind → HoldWhole p.now.views (peer_nonce p) s.now.views (server_nonce s)
+
+-- they hold each other's nonces, whose fronts are all that EAP-PSK has of them (RFC 4764 section 3.2)
 pub record HoldNonces (p : OfPeer) (s : OfServer) : Type 0 where
   pub rand_s : peer_holds p ≡ Some (front (server_nonce s))
   pub rand_p : server_holds s ≡ Some (front (peer_nonce p))
+  pub one : AreOfOne p s
 
 -- both report the same, keys included, and both policies allow it
 abbrev pub ReportsAgree : OfPeer → OfServer → Type 0
@@ -60,12 +67,13 @@ pub record ServerRests (peers : List OfPeer) (s : OfServer) : Type 0 where
   pub rests : RestsOn s.accepted on.made
   pub hold : HoldNonces on s
 
--- a conversation of the peer rests on one of the server, which holds its nonce
+-- a conversation of the peer rests on one of the server, which holds its nonce; by EAP-GPSK they hold each other's
 pub record PeerRests (servers : List OfServer) (p : OfPeer) : Type 0 where
   pub on : OfServer
   pub is_one : IsOneOf on servers
   pub rests : RestsOn p.accepted on.made
   pub rand_p : server_holds on ≡ Some (front (peer_nonce p))
+  pub one : AreOfOne p on
 
 -- a conversation of the server rests on one of the peer and on no other, no other one in SUCCESS rests on that, and they hold each
 -- other's nonces

@@ -42,7 +42,8 @@ pub fn honest_of_either()
 /// Whatever is delivered, lost, repeated, reordered, altered, injected or restarted: where each tag that an end accepted was made
 /// earlier by the other end, and no end has begun a second conversation or each conversation has begun with a fresh nonce, two
 /// ends that both stand in SUCCESS agree in method, identities, suite, MSK and EMSK, which both policies allow; with fresh nonces
-/// each then holds the nonce of the other's present conversation. Where no end has begun a second one, they agree also where each
+/// each then holds the nonce of the other's present conversation, by EAP-PSK the 16 octets that are all it has of it (RFC 4764
+/// section 3.2), by EAP-GPSK all 32. Where no end has begun a second one, they agree also where each
 /// accepted tag was made earlier by either end, so that reflected ones do no harm.
 pub fn honest_ends_agree()
     ensures { HonestEndsAgree }
@@ -72,6 +73,8 @@ pub fn honest_names_are_theirs()
 /// (RFC 4764 section 5.2). Where the other end made each accepted tag, and no end has begun a second conversation, to the same
 /// ones by either method.
 ///
+/// By EAP-GPSK they hold all 32 octets of each other's nonces, by EAP-PSK the 16 that are all it has of them.
+///
 /// It doesn't say that the other end has succeeded too, or will.
 pub fn one_end_tells()
     ensures { OneEndTells }
@@ -100,6 +103,8 @@ pub fn reflected_ends_agree()
 /// leads to just what that reports, names, suite and keys; and by EAP-PSK that conversation has accepted PSK-3, as
 /// PSK-4's header tells (RFC 4764 section 5.4). It doesn't say that the conversation on which one in SUCCESS rests has
 /// succeeded too, or will.
+///
+/// Two that rest so are of one method, and by EAP-GPSK hold all 32 octets of each other's nonces.
 pub fn conversations_match()
     ensures { ConversationsMatch }
 {}
