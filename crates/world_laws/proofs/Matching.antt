@@ -9,6 +9,7 @@ use Rattle.eap_method.specs.declared.tags.TagRecord.{TagRecord}
 use Rattle.eap_method.specs.PskTags.{tek_record}
 use Rattle.peer_machine.specs.PeerTable as peers
 use Rattle.server_machine.specs.ServerTable as servers
+use Rattle.peer_machine.specs.PeerTable.{peer_reports}
 use Rattle.server_machine.specs.ServerTable.{server_reports}
 use Rattle.eap_world.specs.Run.{run_of}
 use Rattle.world_laws.specs.Agreement.{IsWhole}
@@ -16,8 +17,8 @@ use Rattle.tag_book.specs.Book.{first_broken, tags_verdict, tags_verdict_either}
 use Rattle.eap_world.specs.Conversations.{front}
 use Rattle.world_laws.specs.EachConversation.{AreTwoOf, IsOneOf, OfPeer, OfServer, all_made, nonces_of, peer_at, peer_conversations, peer_holds, peer_nonce, server_at, server_conversations, server_holds, server_nonce}
 use Rattle.eap_world.specs.Judgement.{is_success}
-use Rattle.world_laws.specs.Logins.{peer_login}
-use Rattle.world_laws.specs.Matching.{AreAll, AreOfOne, ConversationsAreAll, ConversationsMatch, HoldNonces, Match, NoTwoAlike, PeerMatches, PeerRests, ReportsAgree, RestsOn, ServerMatches, ServerRests}
+use Rattle.world_laws.specs.Logins.{peer_login, server_login}
+use Rattle.world_laws.specs.Matching.{AreAll, AreOfOne, ConversationsAreAll, ConversationsMatch, HasSameKeys, HoldNonces, Match, NoTwoAlike, PeerMatches, PeerRests, ReportsAgree, RestsOn, ServerMatches, ServerRests}
 use Rattle.world_laws.specs.PeerStands.{PeerStands}
 use Rattle.world_laws.specs.Records.{IsIn, tags_by}
 use Rattle.world_laws.specs.ServerStands.{HasSucceeded, ServerStands, gpsk_succeeded, psk_succeeded}
@@ -39,6 +40,7 @@ use Rattle.world_laws.proofs.OneOf.{accepted_in, first_of, made_in, same_or_two,
 use Rattle.world_laws.proofs.OneMethod.{apart as apart_kinds}
 use Rattle.world_laws.proofs.PskAnswered.{HasAsked, HasPsk4, has_asked, psk4_taken}
 use Rattle.world_laws.proofs.Reflected.{AsksAnother, asks_another}
+use Rattle.world_laws.proofs.SameLogins as logins
 use Rattle.world_laws.proofs.SameReports.{same_report}
 use Rattle.world_laws.proofs.ServerKeeps.{told_by_psk}
 use Rattle.world_laws.proofs.ServerTells.{AsksPeer, AsksServer, peer_asks, server_asks}
@@ -415,6 +417,25 @@ module _ (setup : Setup) where
         (server_won s s_known s_in) p.now.vars.selected p.now.views p.accepted p.made known.stands.tags rests
         (λ by_psk. psk_servers_back honest fresh s s_is s_in by_psk p p_is rests)
 
+    servers_lead : (p : OfPeer) → IsOneOf p ps → is_success p.now.vars.state ≡ true → (s : OfServer) → IsOneOf s ss
+        → RestsOn p.accepted s.made → RestsOn s.accepted p.made → server_login s.now.vars.current s.now.views ≡ peer_reports p.now
+    servers_lead p p_is p_in s s_is rests back =
+        let known = ps_known p p_is in
+        let s_known = ss_known s s_is in
+        let led = logins.peers_login (peers.own_nonce setup.peer (peer_nonce p)) (servers.own_nonce setup.server (server_nonce s)) known.size s_known.size
+        p.now p.accepted p.made (peer_won p known p_in) s.now.vars.current s.now.views s.accepted s.made s_known.stands.tags
+        (first_in p.accepted s.made rests.tag rests.more rests.first rests.is_made) (first_in s.accepted p.made back.tag back.more back.first back.is_made) in
+        led.login.same ∙ sym led.holds
+
+    same_keys : (s : OfServer) → IsOneOf s ss → is_success s.now.vars.state ≡ true → (p : OfPeer) → IsOneOf p ps → RestsOn s.accepted p.made → HasSameKeys p s
+    same_keys s s_is s_in p p_is rests =
+        let known = ps_known p p_is in
+        let s_known = ss_known s s_is in
+        let led = logins.servers_login (peers.own_nonce setup.peer (peer_nonce p)) (servers.own_nonce setup.server (server_nonce s)) known.size s_known.size
+        s.now s.accepted s.made (server_won s s_known s_in) p.now.vars.selected p.now.views p.accepted p.made known.stands.tags
+        (first_in s.accepted p.made rests.tag rests.more rests.first rests.is_made) in
+        record { report = led.report; holds = led.holds; theirs = led.leads_to.theirs; leads = led.leads_to.leads; same = led.leads_to.same }
+
     -- ---- by EAP-PSK a tag that came back to the peer is none of its own
 
     not_peers : last.conversations.fresh ≡ true → (p : OfPeer) → IsOneOf p ps → (asked : AsksAnother setup.peer (peer_nonce p) p.accepted p.made)
@@ -449,6 +470,8 @@ module _ (setup : Setup) where
       psk_peers_match = psk_peers_match;
       psk_servers_back = psk_servers_back;
       peers_lead = peers_lead;
+      servers_lead = servers_lead;
+      same_keys = same_keys;
       both_agree = agree_both;
     }
 

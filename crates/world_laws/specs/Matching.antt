@@ -4,18 +4,20 @@ use Rattle.eap_base.specs.Among.{gpsk_kind, psk_kind}
 use Rattle.login_setup.specs.declared.event.Event.{Event}
 use Rattle.login_setup.specs.declared.setup.Setup.{Setup}
 use Rattle.eap_method.specs.declared.tags.TagRecord.{TagRecord}
+use Rattle.eap_method.specs.declared.values.Report.{Report}
 use Rattle.peer_machine.specs.PeerTable as peer_table
 use Rattle.peer_machine.specs.PeerTable.{peer_reports}
 use Rattle.server_machine.specs.ServerTable as server_table
 use Rattle.server_machine.specs.ServerTable.{server_reports}
 use Rattle.eap_world.specs.Run.{run_of}
 use Rattle.world_laws.specs.Agreement.{IsWhole}
+use Rattle.world_laws.specs.Alone.{SameKeys}
 use Rattle.tag_book.specs.Book.{tags_verdict, tags_verdict_either}
 use Rattle.eap_world.specs.Conversations.{front}
 use Rattle.world_laws.specs.EachConversation.{AreTwoOf, IsOneOf, OfPeer, OfServer, all_accepted, all_made, last_now, nonces_of, peer_conversations, peer_holds, peer_nonce, server_conversations, server_holds, server_nonce}
 use Rattle.eap_world.specs.Judgement.{is_success, judged}
 use Rattle.world_laws.specs.Foreign.{HoldWhole}
-use Rattle.world_laws.specs.Logins.{peer_login}
+use Rattle.world_laws.specs.Logins.{peer_login, server_login}
 use Rattle.world_laws.specs.PeerStands.{PeerStands}
 use Rattle.world_laws.specs.Records.{IsIn, tags_by}
 use Rattle.world_laws.specs.ServerStands.{ServerStands}
@@ -47,6 +49,14 @@ pub record HoldNonces (p : OfPeer) (s : OfServer) : Type 0 where
 -- both report the same, keys included, and both policies allow it
 abbrev pub ReportsAgree : OfPeer → OfServer → Type 0
 ReportsAgree p s = judged p.now.vars.setup s.now.vars.setup (peer_reports p.now) (server_reports s.now) ≡ true
+
+-- the login of a conversation of the peer has the method, the suite, the MSK and the EMSK that one of the server reports
+pub record HasSameKeys (p : OfPeer) (s : OfServer) : Type 0 where
+  pub report : Report
+  pub holds : server_reports s.now ≡ Some report
+  pub theirs : Report
+  pub leads : peer_login p.now.vars.selected p.now.views ≡ Some theirs
+  pub same : SameKeys report theirs
 
 -- no two conversations of an end have nonces of the same front, no two in SUCCESS rest on the same one of the other end, and one of
 -- the server in SUCCESS rests on no two of the peer
@@ -123,6 +133,13 @@ pub record Match (w : WorldNow) (peers : List OfPeer) (servers : List OfServer) 
   pub peers_lead : tags_verdict w.book ≡ Honest → w.conversations.fresh ≡ true
       → (s : OfServer) → IsOneOf s servers → is_success s.now.vars.state ≡ true
       → (p : OfPeer) → IsOneOf p peers → RestsOn s.accepted p.made → peer_login p.now.vars.selected p.now.views ≡ server_reports s.now
+  -- whatever the tags and nonces are: the login of one of the server on which one of the peer in SUCCESS rests, and which rests on it in
+  -- its turn, leads to just what the peer's reports
+  pub servers_lead : (p : OfPeer) → IsOneOf p peers → is_success p.now.vars.state ≡ true → (s : OfServer) → IsOneOf s servers
+      → RestsOn p.accepted s.made → RestsOn s.accepted p.made → server_login s.now.vars.current s.now.views ≡ peer_reports p.now
+  -- and that of one of the peer on which one of the server in SUCCESS rests has the keys which that reports
+  pub same_keys : (s : OfServer) → IsOneOf s servers → is_success s.now.vars.state ≡ true → (p : OfPeer) → IsOneOf p peers
+      → RestsOn s.accepted p.made → HasSameKeys p s
   -- where one of the server rests on one of the peer, and both are in SUCCESS: that rests on this one too, and what both report agrees
   pub both_agree : tags_verdict w.book ≡ Honest → w.conversations.fresh ≡ true
       → (p : OfPeer) → IsOneOf p peers → is_success p.now.vars.state ≡ true

@@ -101,8 +101,10 @@ pub fn reflected_ends_agree()
 ///
 /// Over honest tags and fresh nonces the login of the peer's conversation on which one of the server in SUCCESS rests
 /// leads to just what that reports, names, suite and keys; and by EAP-PSK that conversation has accepted PSK-3, as
-/// PSK-4's header tells (RFC 4764 section 5.4). It doesn't say that the conversation on which one in SUCCESS rests has
-/// succeeded too, or will.
+/// PSK-4's header tells (RFC 4764 section 5.4). Whatever tags and nonces are, the login of the server's conversation on
+/// which one of the peer in SUCCESS rests, and which rests on that in its turn, leads to just what the peer's reports; and
+/// the login of the peer's on which one of the server in SUCCESS rests has the method, suite, MSK and EMSK that this
+/// reports. It doesn't say that the conversation on which one in SUCCESS rests has succeeded too, or will.
 ///
 /// Two that rest so are of one method, and by EAP-GPSK hold all 32 octets of each other's nonces.
 pub fn conversations_match()
