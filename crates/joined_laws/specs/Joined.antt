@@ -11,7 +11,7 @@ use Rattle.login_setup.specs.declared.setup.Setup.{Setup}
 use Rattle.peer_machine.specs.PeerTable.{PeerNow, peer_reports}
 use Rattle.server_machine.specs.ServerTable.{ServerNow, server_reports}
 use Rattle.eap_world.specs.Run.{run_of}
-use Rattle.world_laws.specs.Agreement.{IsWhole}
+use Rattle.world_laws.specs.Agreement.{AreTheirs, IsWhole}
 use Rattle.tag_book.specs.Book.{tags_verdict_either}
 use Rattle.eap_world.specs.Judgement.{is_success, judged}
 use Rattle.tag_book.specs.declared.book.TagsVerdict.TheVariants.{Honest}
@@ -90,9 +90,14 @@ HaveSucceeded peer server = (is_success peer.vars.state ≡ true) × (is_success
 abbrev pub ReportTheSame : PeerNow → ServerNow → Type 0
 ReportTheSame peer server = judged peer.vars.setup server.vars.setup (peer_reports peer) (server_reports server) ≡ true
 
--- where each tag that one of them accepted was made earlier by either of them, two ends that have succeeded report the same
+-- both report the same, and what they report is their own: names, user, key and suite
+pub record EndsAgree (setup : Setup) (peer : PeerNow) (server : ServerNow) : Type 0 where
+  pub same : ReportTheSame peer server
+  pub theirs : AreTheirs setup peer server
+
+-- where each tag that one of them accepted was made earlier by either of them, two ends that have succeeded agree
 abbrev pub JoinedEndsAgree : Type 0
 JoinedEndsAgree =
     (setup : Setup) (list : List Comes) → setup.mode ≡ mode.Alone → IsWhole setup → list_all is_input list ≡ true
     → tags_verdict_either (world_of setup list).book ≡ Honest
-    → HaveSucceeded (peer_alone setup list) (server_alone setup list) → ReportTheSame (peer_alone setup list) (server_alone setup list)
+    → HaveSucceeded (peer_alone setup list) (server_alone setup list) → EndsAgree setup (peer_alone setup list) (server_alone setup list)

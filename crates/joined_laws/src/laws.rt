@@ -12,8 +12,9 @@ pub fn interleavings_are_runs()
 
 /// Two ends that run alone agree as those of a world do: whatever was carried between them, where each tag that one of
 /// them accepted was made earlier by either, as the world over the interleaving books them, and both stand in SUCCESS,
-/// both report the same method, identities, suite, MSK and EMSK, which both policies allow.
-#[tactic(auto, using(crate::proofs::JoinedAgreement::joined_ends_agree))]
+/// both report the same method, identities, suite, MSK and EMSK, which both policies allow. These are their own: ID_P is
+/// the peer's name and ID_S the server's, the server has a user of that name and method who isn't barred, with the peer's
+/// own PSK, and by EAP-GPSK the suite is the first of the server's list that the peer allows.
 pub fn joined_ends_agree()
     ensures { JoinedEndsAgree }
 {}

@@ -40,7 +40,7 @@ module _ (setup : Setup) (w : WorldNow) (login : psk_peer.Login) (facts : PskBeg
   psk_server_name = same.id_s ∙ ap (λ own. own.id_s) checked.own
 
   psk_theirs : w.parties.peer.vars.selected ≡ Some psk_kind → w.parties.peer.views.psk ≡ psk_peer.over login true
-      → w.parties.server.vars.current ≡ Some psk_kind → w.parties.server.views.psk ≡ Some (psk_server.over other true) → other.r ≡ 2 → AreTheirs setup w
+      → w.parties.server.vars.current ≡ Some psk_kind → w.parties.server.views.psk ≡ Some (psk_server.over other true) → other.r ≡ 2 → AreTheirs setup w.parties.peer w.parties.server
   unfolding psk_peer.report_of
   psk_theirs is_selected in_view is_current in_other r_sent =
       let name : login.cred.id_p ≡ setup.peer.name = own_name setup.peer psk_kind login.cred facts.cred in
@@ -78,7 +78,7 @@ module _ (setup : Setup) (w : WorldNow) (login : gpsk_peer.Login) (list : List �
   }
 
   gpsk_theirs : w.parties.peer.vars.selected ≡ Some gpsk_kind → w.parties.peer.views.gpsk ≡ gpsk_peer.over login true
-      → w.parties.server.vars.current ≡ Some gpsk_kind → w.parties.server.views.gpsk ≡ Some (gpsk_server.over other true) → AreTheirs setup w
+      → w.parties.server.vars.current ≡ Some gpsk_kind → w.parties.server.views.gpsk ≡ Some (gpsk_server.over other true) → AreTheirs setup w.parties.peer w.parties.server
   unfolding gpsk_peer.report_of
   gpsk_theirs is_selected in_view is_current in_other =
       let name : login.cred.id_p ≡ setup.peer.name = own_name setup.peer gpsk_kind login.cred facts.cred in
@@ -95,7 +95,7 @@ module _ (setup : Setup) (w : WorldNow) (login : gpsk_peer.Login) (list : List �
         first_suite = λ e. gpsk_suite;
       }
 
-pub both_theirs : (setup : Setup) (w : WorldNow) → BothSucceed setup.peer setup.server w.parties.peer w.parties.server → AreTheirs setup w
+pub both_theirs : (setup : Setup) (w : WorldNow) → BothSucceed setup.peer setup.server w.parties.peer w.parties.server → AreTheirs setup w.parties.peer w.parties.server
 both_theirs setup w (by_psk login facts other checked is_selected in_view is_current in_other r_sent same) =
     psk_theirs setup w login facts other checked same is_selected in_view is_current in_other r_sent
 both_theirs setup w (by_gpsk login list facts other pd checked is_selected in_view is_current in_other same) =
@@ -103,7 +103,7 @@ both_theirs setup w (by_gpsk login list facts other pd checked is_selected in_vi
 
 -- the nonces of the present conversations change nothing of that
 pub own_theirs : (setup : Setup) (w : WorldNow) (peer_nonce server_nonce : List ℕ)
-    → BothSucceed (peers.own_nonce setup.peer peer_nonce) (servers.own_nonce setup.server server_nonce) w.parties.peer w.parties.server → AreTheirs setup w
+    → BothSucceed (peers.own_nonce setup.peer peer_nonce) (servers.own_nonce setup.server server_nonce) w.parties.peer w.parties.server → AreTheirs setup w.parties.peer w.parties.server
 own_theirs setup w peer_nonce server_nonce succeed =
     let own = record setup { peer = peers.own_nonce setup.peer peer_nonce; server = servers.own_nonce setup.server server_nonce } in
     let theirs = both_theirs own w succeed in

@@ -18,7 +18,7 @@ use Rattle.world_laws.proofs.Theirs.{both_theirs}
 
 module _ (setup : Setup) (events : List Event) (whole : IsWhole setup) where
   reflected_theirs : (let w = run_of setup events in tags_verdict_either w.book ≡ Honest → length w.conversations.begun ≡ 2
-      → is_success w.parties.peer.vars.state ≡ true → is_success w.parties.server.vars.state ≡ true → AreTheirs setup w)
+      → is_success w.parties.peer.vars.state ≡ true → is_success w.parties.server.vars.state ≡ true → AreTheirs setup w.parties.peer w.parties.server)
   reflected_theirs honest two p_in s_in =
       let w = run_of setup events in
       let both = stand_first setup w (every_run_so_far setup events) two in
@@ -28,7 +28,7 @@ module _ (setup : Setup) (events : List Event) (whole : IsWhole setup) where
       (honest_tags end.Peer w.book none) (honest_tags end.Server w.book none) p_in s_in)
 
   honest_theirs : (let w = run_of setup events in tags_verdict w.book ≡ Honest → AreApart w.conversations
-      → is_success w.parties.peer.vars.state ≡ true → is_success w.parties.server.vars.state ≡ true → AreTheirs setup w)
+      → is_success w.parties.peer.vars.state ≡ true → is_success w.parties.server.vars.state ≡ true → AreTheirs setup w.parties.peer w.parties.server)
   honest_theirs honest (inl two) = reflected_theirs (honest_of_either _ honest) two
   honest_theirs honest (inr fresh) = λ p_in s_in. (fresh_ends_agree setup events whole honest fresh p_in s_in).theirs
 

@@ -12,8 +12,8 @@ use Rattle.login_policy.specs.Policy.{picked_suite}
 use Rattle.eap_method.specs.declared.values.Report.{Report}
 use Rattle.eap_method.specs.GpskTags.{suite_list}
 use Rattle.eap_method.specs.Peer.{key_for}
-use Rattle.peer_machine.specs.PeerTable.{peer_reports}
-use Rattle.server_machine.specs.ServerTable.{server_reports}
+use Rattle.peer_machine.specs.PeerTable.{PeerNow, peer_reports}
+use Rattle.server_machine.specs.ServerTable.{ServerNow, server_reports}
 use Rattle.tag_book.specs.Book.{tags_verdict, tags_verdict_either}
 use Rattle.tag_book.specs.declared.book.TagsVerdict.TheVariants.{Honest}
 use Rattle.tag_book.specs.declared.book.End.{End}
@@ -87,10 +87,10 @@ pub record TakesFirstSuite (setup : Setup) (report : Report) : Type 0 where
 
 -- both ends hold one report, whose names are those of both setups; the server knows the peer by its name, with
 -- the peer's own key, and lets it in; by EAP-GPSK the suite is the one picked of the server's own list
-pub record AreTheirs (setup : Setup) (w : WorldNow) : Type 0 where
+pub record AreTheirs (setup : Setup) (peer : PeerNow) (server : ServerNow) : Type 0 where
   pub report : Report
-  pub holds : peer_reports w.parties.peer ≡ Some report
-  pub same : server_reports w.parties.server ≡ Some report
+  pub holds : peer_reports peer ≡ Some report
+  pub same : server_reports server ≡ Some report
   pub id_p : report.id_p ≡ setup.peer.name
   pub id_s : report.id_s ≡ setup.server.name
   pub user : User
@@ -102,9 +102,9 @@ pub record AreTheirs (setup : Setup) (w : WorldNow) : Type 0 where
 -- what two ends that both stand in SUCCESS report in their present conversations is their own
 pub record TheirsWhereHonest (setup : Setup) (w : WorldNow) : Type 0 where
   pub theirs : tags_verdict w.book ≡ Honest → AreApart w.conversations
-      → is_success w.parties.peer.vars.state ≡ true → is_success w.parties.server.vars.state ≡ true → AreTheirs setup w
+      → is_success w.parties.peer.vars.state ≡ true → is_success w.parties.server.vars.state ≡ true → AreTheirs setup w.parties.peer w.parties.server
   pub reflected_theirs : tags_verdict_either w.book ≡ Honest → length w.conversations.begun ≡ 2
-      → is_success w.parties.peer.vars.state ≡ true → is_success w.parties.server.vars.state ≡ true → AreTheirs setup w
+      → is_success w.parties.peer.vars.state ≡ true → is_success w.parties.server.vars.state ≡ true → AreTheirs setup w.parties.peer w.parties.server
 
 -- under the premises of agreement, what both ends report is their own: names, key and suite
 abbrev pub HonestNamesAreTheirs : Type 0

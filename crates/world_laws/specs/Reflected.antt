@@ -15,7 +15,7 @@ use Rattle.eap_world.specs.declared.verdict.Verdict.TheVariants.{Agree}
 pub record AgreeAnew (setup : Setup) (w : WorldNow) : Type 0 where
   pub agree : verdict_of w ≡ Agree
   pub hold : HoldEachOther w
-  pub theirs : AreTheirs setup w
+  pub theirs : AreTheirs setup w.parties.peer w.parties.server
 
 -- where each accepted tag was made by either end, in whichever of its conversations, and nonces are fresh: so do two ends that both
 -- stand in SUCCESS, the peer by EAP-PSK
