@@ -23,17 +23,17 @@ use Rattle.end_pipe.specs.declared.input.EndInput.{EndInput}
 use Rattle.end_pipe.specs.declared.input.EndInput.TheVariants as inputs
 
 -- what an input makes of the variables and views of an end
-abbrev peer_moved : PeerNow → EndInput → PeerNow
+abbrev pub peer_moved : PeerNow → EndInput → PeerNow
 peer_moved now input = cond (is_skipped now.vars.state input) now (peer_answers now (peer_input input)).after
 
-abbrev server_moved : ServerNow → EndInput → ServerNow
+abbrev pub server_moved : ServerNow → EndInput → ServerNow
 server_moved now input = cond (is_skipped now.vars.state input) now (server_answers now (server_input input)).after
 
 peer_by : (e : EndNow PeerNow) (out : PeerAnswer) (skipped : Bool) → (cond skipped (skips e) (peer_goes e.held out)).after.now ≡ cond skipped e.now out.after
 peer_by e out true = refl
 peer_by e out false = refl
 
-peer_moves : (e : EndNow PeerNow) (input : EndInput) → (peer_step e input).after.now ≡ peer_moved e.now input
+pub peer_moves : (e : EndNow PeerNow) (input : EndInput) → (peer_step e input).after.now ≡ peer_moved e.now input
 unfolding peer_step
 peer_moves e input = peer_by e (peer_answers e.now (peer_input input)) (is_skipped e.now.vars.state input)
 
@@ -42,20 +42,20 @@ server_by : (e : EndNow ServerNow) (out : ServerAnswer) (skipped : Bool)
 server_by e out true = refl
 server_by e out false = refl
 
-server_moves : (e : EndNow ServerNow) (input : EndInput) → (server_step e input).after.now ≡ server_moved e.now input
+pub server_moves : (e : EndNow ServerNow) (input : EndInput) → (server_step e input).after.now ≡ server_moved e.now input
 unfolding server_step
 server_moves e input = server_by e (server_answers e.now (server_input input)) (is_skipped e.now.vars.state input)
 
 -- what comes to one end makes that of it, and nothing of the other
-abbrev peer_next : Comes → PeerNow → PeerNow
+abbrev pub peer_next : Comes → PeerNow → PeerNow
 peer_next (to_peer input) now = peer_moved now input
 peer_next (to_server input) now = now
 
-abbrev server_next : Comes → ServerNow → ServerNow
+abbrev pub server_next : Comes → ServerNow → ServerNow
 server_next (to_peer input) now = now
 server_next (to_server input) now = server_moved now input
 
-record Next (input : Comes) (before after : Parties) : Type 0 where
+pub record Next (input : Comes) (before after : Parties) : Type 0 where
   pub alone : after.mode ≡ mode.Alone
   pub peer : after.peer ≡ peer_next input before.peer
   pub server : after.server ≡ server_next input before.server
@@ -90,7 +90,7 @@ by_peer parties after input n = record { alone = n.alone; peer = n.peer; server 
 by_server : (parties after : Parties) (input : EndInput) → NextServer parties (server_moved parties.server input) after → Next (to_server input) parties after
 by_server parties after input n = record { alone = n.alone; peer = n.peer; server = n.server }
 
-acts_so : (parties : Parties) (conversations : Conversations) (sent : List Sent) (input : Comes) → parties.mode ≡ mode.Alone → is_input input ≡ true
+pub acts_so : (parties : Parties) (conversations : Conversations) (sent : List Sent) (input : Comes) → parties.mode ≡ mode.Alone → is_input input ≡ true
     → Next input parties (act parties conversations sent (event_of input)).after
 unfolding act
 acts_so parties conversations sent (to_peer (inputs.Octets octets)) alone fits = rw alone (record { alone = refl; peer = refl; server = refl })
@@ -128,12 +128,12 @@ goes w p s (to_server input ∷ rest) alone peer server fit =
     let g = goes (world_step w (event_of (to_server input))).after p (server_step s input).after rest n.alone (n.peer ∙ peer) moved parts.1 in
     record { peer = g.peer; server = g.server }
 
-record Begun (setup : Setup) (w : WorldNow) : Type 0 where
+pub record Begun (setup : Setup) (w : WorldNow) : Type 0 where
   pub alone : w.parties.mode ≡ mode.Alone
   pub peer : w.parties.peer ≡ (peer_begun setup.peer).now
   pub server : w.parties.server ≡ (server_begun setup.server setup.first_id setup.max_retrans).now
 
-begun : (setup : Setup) → setup.mode ≡ mode.Alone → Begun setup (world_start (world_made setup)).after
+pub begun : (setup : Setup) → setup.mode ≡ mode.Alone → Begun setup (world_start (world_made setup)).after
 unfolding world_start server_starts
 begun setup alone = rw alone (record { alone = refl; peer = refl; server = refl })
 

@@ -1,5 +1,5 @@
 -- Both ends, each alone over its own inputs, and the world over an interleaving of them.
-use Rattle.std.specs.Prelude.{◌≡◌, List, [], ◌∷◌, map, Bool, true}
+use Rattle.std.specs.Prelude.{◌≡◌, ℕ, ◌+◌, List, [], ◌∷◌, ◌++◌, map, Bool, true}
 use Rattle.std.specs.List.{list_all}
 use Rattle.login_setup.specs.declared.event.Event.{Event}
 use Rattle.login_setup.specs.declared.event.Event.TheVariants as event
@@ -12,11 +12,13 @@ use Rattle.peer_machine.specs.PeerTable.{PeerNow, peer_reports}
 use Rattle.server_machine.specs.ServerTable.{ServerNow, server_reports}
 use Rattle.eap_world.specs.Run.{run_of}
 use Rattle.world_laws.specs.Agreement.{AreTheirs, IsWhole}
-use Rattle.tag_book.specs.Book.{tags_verdict_either}
+use Rattle.tag_book.specs.Book.{booked, tags_verdict_either}
 use Rattle.eap_world.specs.Judgement.{is_success, judged}
+use Rattle.tag_book.specs.declared.book.End.TheVariants as end
+use Rattle.tag_book.specs.declared.book.Entry.{Entry}
 use Rattle.tag_book.specs.declared.book.TagsVerdict.TheVariants.{Honest}
 use Rattle.eap_world.specs.World.{WorldNow}
-use Rattle.end_pipe.specs.EndRun.{end_after, peer_begun, peer_step, server_begun, server_step}
+use Rattle.end_pipe.specs.EndRun.{EndNow, end_after, peer_begun, peer_step, server_begun, server_step}
 use Rattle.end_pipe.specs.Inputs.{is_of_peer, is_of_server}
 use Rattle.end_pipe.specs.declared.input.EndInput.{EndInput}
 use Rattle.end_pipe.specs.declared.input.EndInput.TheVariants as inputs
@@ -81,6 +83,20 @@ pub record AreEnds (setup : Setup) (list : List Comes) (w : WorldNow) : Type 0 w
 abbrev pub InterleavingsAreRuns : Type 0
 InterleavingsAreRuns =
     (setup : Setup) (list : List Comes) → setup.mode ≡ mode.Alone → list_all is_input list ≡ true → AreEnds setup list (world_of setup list)
+
+-- the tags that both ends tell at their inputs, in the order of the interleaving, each with the number of the input and its end
+unfoldable pub told_book : ℕ → EndNow PeerNow → EndNow ServerNow → List Comes → List Entry
+told_book number p s [] = []
+told_book number p s (to_peer input ∷ rest) =
+    let out = peer_step p input in booked (number + 1) end.Peer out.told.tags ++ told_book (number + 1) out.after s rest
+told_book number p s (to_server input ∷ rest) =
+    let out = server_step s input in booked (number + 1) end.Server out.told.tags ++ told_book (number + 1) p out.after rest
+
+-- these are the book of the world
+abbrev pub BookIsTold : Type 0
+BookIsTold =
+    (setup : Setup) (list : List Comes) → setup.mode ≡ mode.Alone → list_all is_input list ≡ true
+    → (world_of setup list).book ≡ told_book 0 (peer_begun setup.peer) (server_begun setup.server setup.first_id setup.max_retrans) list
 
 -- both ends stand in SUCCESS
 abbrev pub HaveSucceeded : PeerNow → ServerNow → Type 0
