@@ -74,7 +74,9 @@ pub fn eap_login<P: PeerMethod, M: ServerMethod, S: Source, W: Sink>(
 
     // Where the input is a scenario of two ends that fit, whose events deliver packet 1, packet 2 and on, each once
     // and in order, at least as many as the login takes, the answer's status is 0, and its text ends with the lines
-    // `tags honest`, `result agree` and `end`.
+    // `tags honest`, `result agree` and `end`. So it does where all parties then begin anew, in any order, and from the
+    // last packet on each is delivered again once and in order, as often as that is done; and where the text is of the
+    // second version the line before them is `fresh yes` exactly where each of these conversations had a new nonce.
     ensures smooth_traces_agree { SmoothTracesAgree }
 
     // On octets alone: no text written with status 0 has the lines `tags honest` and `result apart`, and either the

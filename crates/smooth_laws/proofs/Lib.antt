@@ -32,3 +32,15 @@ mod PskTalk
 pub mod SmoothRuns
 -- Worked values of the definitions.
 mod Worked
+-- A run goes on in another world as in its own: what each event does there.
+mod Following
+-- Smooth logins after restarts.
+pub mod Again
+-- The settings of the parties stay through a run.
+mod Settings
+-- Each party begins anew.
+pub mod Restarts
+-- A login after restarts of all parties succeeds.
+pub mod LaterLogins
+-- Worked values of the definitions of later logins.
+mod WorkedAgain

@@ -41,7 +41,7 @@ abbrev SucceedsAt : Setup → ℕ → Type 0
 SucceedsAt setup number = EndsWell (run_of setup (deliveries 1 (number - 1))) (run_of setup (deliveries 1 number)) number
 
 -- the first deliveries of more
-take_deliveries : (first count more : ℕ) → count ≤ more → take count (deliveries first more) ≡ deliveries first count
+pub take_deliveries : (first count more : ℕ) → count ≤ more → take count (deliveries first more) ≡ deliveries first count
 unfolding deliveries
 take_deliveries first zero more few = refl
 take_deliveries first (suc count) zero few = absurd (omega arith)

@@ -17,7 +17,7 @@ user_of_kind : ℕ → List ℕ → User
 user_of_kind kind key = record { name = codes "alice"; kind = kind; psk = key; barred = false }
 
 -- alice has a key of each method, and logs in at the server srv; each end has these methods in its order
-example_setup : Mode → List ℕ → List ℕ → Setup
+pub example_setup : Mode → List ℕ → List ℕ → Setup
 example_setup runs allowed order = record {
   mode = runs;
   first_id = 255;
@@ -43,7 +43,7 @@ example_setup runs allowed order = record {
   later = no_later;
 }
 
-both : List ℕ
+pub both : List ℕ
 both = 51 ∷ 47 ∷ []
 
 -- the first method that the server proposes is taken, by either method

@@ -1,1 +1,4 @@
 pub mod Smooth
+pub mod Again
+pub mod Behind
+pub mod Restarts

@@ -1,7 +1,11 @@
 //! Smooth logins: two ends that fit, over a network that delivers each packet once and in order, succeed
-//! within a known number of deliveries. The law is the contract of a function that does nothing.
+//! within a known number of deliveries: first, and again behind the restarts of all parties. Each law is the
+//! contract of a function that does nothing.
 #![tactic(auto)]
 
+ghost use Rattle.smooth_laws.specs.Again.{SmoothLoginsSucceedAgain};
+ghost use Rattle.smooth_laws.specs.Behind.{RunsGoOnAsTheirOwn};
+ghost use Rattle.smooth_laws.specs.Restarts.{RestartsBeginAnew, LoginsAfterRestartsSucceed, LoginsSucceed};
 ghost use Rattle.smooth_laws.specs.Smooth.{SmoothLoginsSucceed};
 
 /// A login between two ends that fit, each of whose packets is delivered once and in order, succeeds: after 7
@@ -13,4 +17,39 @@ ghost use Rattle.smooth_laws.specs.Smooth.{SmoothLoginsSucceed};
 /// nonces.
 pub fn smooth_logins_succeed()
     ensures { SmoothLoginsSucceed }
+{}
+
+/// From any world whose parties have just begun anew, events in which no party begins again do what they do in a
+/// run of its own with the present nonces: the parties come to the same, and the packets, tags and counts of that run
+/// follow those that the world had.
+pub fn runs_go_on_as_their_own()
+    ensures { RunsGoOnAsTheirOwn }
+{}
+
+/// So a login succeeds there as the first one does: from any world whose parties have just begun anew, two ends that
+/// fit succeed after as many deliveries of the packets sent from then on. No delivery was discarded since, the tags
+/// are as honest as they were, and the ends agree in their present conversations, whatever went before.
+pub fn smooth_logins_succeed_again()
+    ensures { SmoothLoginsSucceedAgain }
+{}
+
+/// Where each end has a nonce left, the restart of every party, in any order, leads to such a world, wherever the
+/// parties stood and whatever was delivered, altered or injected before. Nothing is booked or discarded by it; and
+/// nonces are fresh afterwards exactly where they were, each of the two is new, and their first 16 octets differ.
+pub fn restarts_begin_anew()
+    ensures { RestartsBeginAnew }
+{}
+
+/// So after any run and the restarts of all parties a smooth login between two ends that fit succeeds, in as many
+/// deliveries as the first one.
+pub fn logins_after_restarts_succeed()
+    ensures { LoginsAfterRestartsSucceed }
+{}
+
+/// So any number of logins one after the other succeed, each a smooth one behind the restarts of all parties: after
+/// each of them both ends stand in SUCCESS in their present conversations and agree, no delivery was ever discarded,
+/// and each accepted tag of the run was made earlier by the other end. Nonces are fresh exactly where the first two
+/// differ in their first 16 octets, and each of those with which the ends began anew was new.
+pub fn logins_succeed()
+    ensures { LoginsSucceed }
 {}

@@ -1,21 +1,28 @@
--- The trace of a smooth login: between two ends that fit, each of whose packets is delivered once and in order.
-use Rattle.std.specs.Prelude.{◌≡◌, ◌≤◌, List, ℕ, ◌++◌, length, Bool, codes}
+-- The traces of smooth logins: between two ends that fit, each of whose packets is delivered once and in order; the first login, and
+-- later ones behind the restarts of all parties.
+use Rattle.std.specs.Prelude.{◌≡◌, List, ℕ, ◌++◌, ◌==◌, Bool, codes, if◌then◌else◌, Option, None, Some}
 use Rattle.login_setup.specs.declared.event.Event.{Event}
 use Rattle.login_setup.specs.declared.setup.Setup.{Setup}
-use Rattle.smooth_laws.specs.Smooth.{EndsFit, AreInOrder, bound}
+use Rattle.smooth_laws.specs.Restarts.{AreLogins}
+use Rattle.smooth_laws.specs.Smooth.{EndsFit}
+use Rattle.trace_text.specs.Run.{fresh_text}
 use Rattle.command_driver.specs.Answers.{Answer}
 use Rattle.world_commands.specs.Scenario.{replay_answer}
 use Rattle.world_commands.specs.Whole.{IsInputOf}
 use Rattle.command_driver.specs.declared.status.Status.TheVariants.{Done}
 
--- the status is 0, and the last three lines say that all tags are honest and that the ends agree
-pub record TellsAgreement (a : Answer) : Type 0 where
+-- whether nonces are fresh, where the text is of the second version
+abbrev pub told_of : ℕ → Bool → Option Bool
+told_of version fresh = if version == 2 then Some fresh else None
+
+-- the status is 0, and the last lines say whether nonces are fresh, where that is told, that all tags are honest, and that the ends agree
+pub record TellsAgreement (fresh : Option Bool) (a : Answer) : Type 0 where
   pub status : a.status ≡ Done
   pub before : List ℕ
-  pub text : a.text ≡ before ++ codes "\ntags honest\nresult agree\nend\n"
+  pub text : a.text ≡ before ++ (codes "\n" ++ (fresh_text fresh ++ codes "tags honest\nresult agree\nend\n"))
 
--- so it is where an input is a scenario of a smooth login of at least `bound` deliveries
+-- so it is where an input is a scenario of smooth logins, one after the other
 abbrev pub SmoothTracesAgree : Type 0
 SmoothTracesAgree =
-    (octets : List ℕ) (setup : Setup) (events : List Event) (names : Bool) → IsInputOf octets setup events →
-    EndsFit setup → AreInOrder events → bound setup ≤ length events → TellsAgreement (replay_answer names octets)
+    (octets : List ℕ) (setup : Setup) (fresh : Bool) (events : List Event) (names : Bool) → IsInputOf octets setup events →
+    EndsFit setup → AreLogins setup fresh events → TellsAgreement (told_of setup.later.version fresh) (replay_answer names octets)

@@ -1,0 +1,40 @@
+-- Worked values of the definitions: a world that has just begun, nonces that are left, restarts of all parties.
+use Rattle.std.proofs.Common.{[], ◌∷◌, false, refl}
+use Rattle.std.specs.Prelude.{replicate}
+use Rattle.login_setup.specs.declared.event.Event.TheVariants.{Restart}
+use Rattle.login_setup.specs.declared.setup.Mode.{Mode}
+use Rattle.login_setup.specs.declared.setup.Mode.TheVariants.{Alone, Through}
+use Rattle.login_setup.specs.declared.setup.Party.TheVariants.{Peer, Pass, Server}
+use Rattle.login_setup.specs.declared.setup.Setup.{Setup}
+use Rattle.eap_world.specs.Run.{run_of}
+use Rattle.eap_world.specs.World.{run_after, world_start}
+use Rattle.smooth_laws.specs.Again.{HasJustBegun}
+use Rattle.smooth_laws.specs.Restarts.{BeginAnew, HaveNext, peer_server, pass_server_peer}
+use Rattle.smooth_laws.proofs.Worked.{both, example_setup}
+
+-- after its start each world has just begun, so that the law of the first login is one of these
+first_begins : (setup : Setup) → HasJustBegun setup (run_of setup [])
+first_begins setup = record { parties = refl; before = []; sent = refl }
+
+-- each end has one nonce left
+again_setup : Mode → Setup
+again_setup runs = record (example_setup runs both both) {
+  later = record { version = 2; peer = replicate 32 18 ∷ []; server = replicate 32 19 ∷ [] };
+}
+
+have_next : (runs : Mode) → HaveNext (again_setup runs) []
+unfolding run_after world_start again_setup
+have_next runs = record {
+  peer = record { nonce = replicate 32 18; heard = false };
+  peer_more = [];
+  peer_left = refl;
+  server = record { nonce = replicate 32 19; heard = false };
+  server_more = [];
+  server_left = refl;
+}
+
+alone_anew : BeginAnew Alone (Restart Peer ∷ Restart Server ∷ [])
+alone_anew = peer_server
+
+through_anew : BeginAnew Through (Restart Pass ∷ Restart Server ∷ Restart Peer ∷ [])
+through_anew = pass_server_peer
