@@ -59,7 +59,7 @@ pub fn eap_login<P: PeerMethod, M: ServerMethod, S: Source, W: Sink>(
     // failed and memory wasn't wanting, the whole text was written and the status is the answer's, with 0 or 7
     // nothing is left to read, but for `bulk N K`. Else a front of the text was. A fault comes only where its count rose in this call, or
     // stands at its last value, and wherever it rose: none that is counted is passed over. Want of memory comes only
-    // for `replay`, after the line `events` was taken, and for `bulk N K`.
+    // for `replay` and `replay names`, where the input's settings are whole, and for `bulk N K`.
     ensures responds { Responds S.left S.read_faults S.last_read_fault W.written W.write_faults W.last_write_fault
         (asked_by (map string_bytes words.now.items)) result source.old source.new sink.old sink.new }
 

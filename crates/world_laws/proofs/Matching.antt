@@ -38,11 +38,12 @@ use Rattle.world_laws.proofs.HonestOther.{honest_other}
 use Rattle.world_laws.proofs.OneLogin.{first_is_in, one_held}
 use Rattle.world_laws.proofs.OneOf.{accepted_in, first_of, made_in, same_or_two, second_of}
 use Rattle.world_laws.proofs.OneMethod.{apart as apart_kinds}
+use Rattle.world_laws.proofs.PeerKeeps.{peer_few}
 use Rattle.world_laws.proofs.PskAnswered.{HasAsked, HasPsk4, has_asked, psk4_taken}
 use Rattle.world_laws.proofs.Reflected.{AsksAnother, asks_another}
 use Rattle.world_laws.proofs.SameLogins as logins
 use Rattle.world_laws.proofs.SameReports.{same_report}
-use Rattle.world_laws.proofs.ServerKeeps.{told_by_psk}
+use Rattle.world_laws.proofs.ServerKeeps.{server_few, told_by_psk}
 use Rattle.world_laws.proofs.ServerTells.{AsksPeer, AsksServer, peer_asks, server_asks}
 use Rattle.world_laws.proofs.SucceedingEnds.{PeerSucceeds, ServerSucceeds, both_agree, both_succeed, first_in, peer_succeeds, server_succeeds}
 use Rattle.world_laws.proofs.TagsOfEnds.{honest_tags}
@@ -539,6 +540,8 @@ module _ (setup : Setup) (events : List Event) (whole : IsWhole setup) where
     server_made = ap (tags_by end.Server Made) servers_told.book ∙ servers_told.made;
     peer_stands = λ p is_one. (peers_known p is_one).stands;
     server_stands = λ s is_one. (servers_known s is_one).stands;
+    peer_few = λ p is_one. peer_few _ p.now p.accepted p.made (peers_known p is_one).stands;
+    server_few = λ s is_one. server_few _ s.now s.accepted s.made (servers_known s is_one).stands;
   }
 
   run_matches : Match last (peer_conversations setup events) (server_conversations setup events)

@@ -110,7 +110,7 @@ pub record TheirsWhereHonest (setup : Setup) (w : WorldNow) : Type 0 where
 abbrev pub HonestNamesAreTheirs : Type 0
 HonestNamesAreTheirs = (setup : Setup) (events : List Event) → IsWhole setup → TheirsWhereHonest setup (run_of setup events)
 
--- at most two tags of each end and use in each of its conversations, so at most four a conversation
+-- on the whole at most two tags of each end and use for each of its conversations, so at most four a conversation
 pub record HasFewTags (begun : List Begun) (book : List Entry) : Type 0 where
   pub each : (end : End) (how : Use) → length (tags_by end how book) ≤ 2 * begun_by end begun
   pub all : length book ≤ 4 * length begun

@@ -19,7 +19,7 @@ use Rattle.eap_world.specs.Judgement.{is_success, judged}
 use Rattle.world_laws.specs.Foreign.{HoldWhole}
 use Rattle.world_laws.specs.Logins.{peer_login, server_login}
 use Rattle.world_laws.specs.PeerStands.{PeerStands}
-use Rattle.world_laws.specs.Records.{IsIn, tags_by}
+use Rattle.world_laws.specs.Records.{AreFew, IsIn, tags_by}
 use Rattle.world_laws.specs.ServerStands.{ServerStands}
 use Rattle.eap_world.specs.World.{WorldNow}
 use Rattle.tag_book.specs.declared.book.End.TheVariants as end
@@ -154,7 +154,7 @@ ConversationsMatch =
 -- ---- the conversations are all
 
 -- one for each that has begun, in order and with its nonce, and each end stands in the last of its own; their tags joined are those
--- of the book, and where each end stands or stood in one tells exactly the tags that it accepted and made in it
+-- of the book, and where each end stands or stood in one tells exactly the tags that it accepted and made in it, at most two of each
 pub record AreAll (setup : Setup) (w : WorldNow) (peers : List OfPeer) (servers : List OfServer) : Type 0 where
   pub peer_nonces : nonces_of end.Peer w.conversations.begun ≡ map peer_nonce peers
   pub server_nonces : nonces_of end.Server w.conversations.begun ≡ map server_nonce servers
@@ -166,6 +166,8 @@ pub record AreAll (setup : Setup) (w : WorldNow) (peers : List OfPeer) (servers 
   pub server_made : tags_by end.Server Made w.book ≡ all_made servers
   pub peer_stands : (p : OfPeer) → IsOneOf p peers → PeerStands (peer_table.own_nonce setup.peer (peer_nonce p)) p.now p.accepted p.made
   pub server_stands : (s : OfServer) → IsOneOf s servers → ServerStands (server_table.own_nonce setup.server (server_nonce s)) s.now s.accepted s.made
+  pub peer_few : (p : OfPeer) → IsOneOf p peers → AreFew p.accepted p.made
+  pub server_few : (s : OfServer) → IsOneOf s servers → AreFew s.accepted s.made
 
 abbrev pub ConversationsAreAll : Type 0
 ConversationsAreAll =

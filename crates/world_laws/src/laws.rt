@@ -113,7 +113,8 @@ pub fn conversations_match()
 
 /// The conversations of [`conversations_match`] are all: each end has one for each time that it has begun, in order and
 /// with the nonce with which it began, and stands in the last of them; their tags joined are those of the book; and
-/// where an end stands, or stood as it began the next one, tells exactly the tags that it accepted and made in it.
+/// where an end stands, or stood as it began the next one, tells exactly the tags that it accepted and made in it, which
+/// are at most two each.
 pub fn conversations_are_all()
     ensures { ConversationsAreAll }
 {}
@@ -164,8 +165,9 @@ pub fn few_packets()
     ensures { FewPackets }
 {}
 
-/// However many events there are, each end accepts at most two tags and makes at most two in each of its conversations, so that
-/// the book holds at most four for each conversation that has begun.
+/// However many events there are, an end that has begun so many conversations has accepted at most twice as many tags in
+/// them on the whole, and made at most twice as many, so that the book holds at most four for each conversation that has
+/// begun. That it is at most two in each is said by [`conversations_are_all`].
 pub fn few_tags()
     ensures { FewTags }
 {}
