@@ -9,8 +9,8 @@ use Rattle.world_laws.proofs.Alone.{one_end_tells}
 use Rattle.world_laws.proofs.HonestOfEither.{honest_of_either}
 use Rattle.world_laws.proofs.HonestRuns.{honest_ends_agree}
 use Rattle.world_laws.proofs.Few.{few_tags}
-use Rattle.world_laws.proofs.Matching.{conversations_match}
-use Rattle.world_laws.proofs.Passing.{pass_is_alone}
+use Rattle.world_laws.proofs.Matching.{conversations_are_all, conversations_match}
+use Rattle.world_laws.proofs.Passing.{pass_carries, pass_is_alone}
 use Rattle.world_laws.proofs.Reflected.{reflected_ends_agree}
 use Rattle.world_laws.proofs.Whose.{honest_names_are_theirs}
 use Rattle.scenario_text.specs.Reading.{Reading, ReadLine, no_settings, read_line}
@@ -84,7 +84,9 @@ headline octets setup is =
       reflected = reflected_ends_agree setup events whole;
       tells = one_end_tells setup events whole;
       matching = conversations_match setup events whole;
+      all = conversations_are_all setup events whole;
       pass = pass_is_alone setup events;
+      carries = pass_carries setup events;
       few_tags = few_tags setup events;
       few_packets = few_packets setup events;
     }

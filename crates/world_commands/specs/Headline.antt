@@ -11,8 +11,8 @@ use Rattle.world_laws.specs.Alone.{TellsAlone}
 use Rattle.tag_book.specs.Book.{tags_verdict, tags_verdict_either}
 use Rattle.tag_book.specs.declared.book.TagsVerdict.TheVariants.{Honest}
 use Rattle.world_laws.specs.EachConversation.{peer_conversations, server_conversations}
-use Rattle.world_laws.specs.Matching.{Match}
-use Rattle.world_laws.specs.Passing.{IsAlone}
+use Rattle.world_laws.specs.Matching.{AreAll, Match}
+use Rattle.world_laws.specs.Passing.{Carries, IsAlone}
 use Rattle.world_laws.specs.Reflected.{AgreesReflected}
 use Rattle.eap_world.specs.World.{WorldNow}
 use Rattle.answer_text.specs.Lines.{HasLine}
@@ -22,9 +22,9 @@ use Rattle.command_driver.specs.declared.status.Status.TheVariants.{Done}
 
 -- after the events: two ends that both succeed agree, and what they report is their own, over tags and nonces as the laws
 -- ask; so do they over tags that came back to their maker, where the peer has succeeded by EAP-PSK; what one end's success
--- tells by itself; the conversations of both ends match, past and present; what the pass-through sends is made of what came
--- to it alone; a book whose tags are honest is honest of either end, and it is small; and at most one packet more was sent
--- than there were events
+-- tells by itself; the conversations of both ends match, past and present, and they are all; what the pass-through sends is
+-- made of what came to it alone, and came to it; a book whose tags are honest is honest of either end, and it is small; and at
+-- most one packet more was sent than there were events
 pub record KeepsAgreement (setup : Setup) (events : List Event) (w : WorldNow) : Type 0 where
   pub of_either : tags_verdict w.book ≡ Honest → tags_verdict_either w.book ≡ Honest
   pub agrees : AgreesWhereHonest w
@@ -32,7 +32,9 @@ pub record KeepsAgreement (setup : Setup) (events : List Event) (w : WorldNow) :
   pub reflected : AgreesReflected setup w
   pub tells : TellsAlone setup w
   pub matching : Match w (peer_conversations setup events) (server_conversations setup events)
+  pub all : AreAll setup w (peer_conversations setup events) (server_conversations setup events)
   pub pass : setup.mode ≡ Through → IsAlone setup events
+  pub carries : setup.mode ≡ Through → Carries setup events
   pub few_tags : HasFewTags w.conversations.begun w.book
   pub few_packets : length w.sent ≤ w.counts.events + 1
 

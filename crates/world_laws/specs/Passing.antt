@@ -113,10 +113,11 @@ pub data IsPassedOn (first_id : ℕ) (came : List PassInput) : Sent → Type 0 w
   passed : (packet : SentOn) (is : IsCarried first_id came packet) → IsPassedOn first_id came (at_port packet)
 
 -- each packet that it sends is its Identity Request, or came to it from the other side and goes on without its padding
+abbrev pub Carries : Setup → List Event → Type 0
+Carries setup events = All (IsPassedOn setup.first_id (came_to_pass setup events)) (sent_by_pass setup events)
+
 abbrev pub PassCarries : Type 0
-PassCarries =
-    (setup : Setup) (events : List Event) → setup.mode ≡ mode.Through
-    → All (IsPassedOn setup.first_id (came_to_pass setup events)) (sent_by_pass setup events)
+PassCarries = (setup : Setup) (events : List Event) → setup.mode ≡ mode.Through → Carries setup events
 
 -- octets that an event brings to a port, where these packets were sent before it: those of a packet that was sent to it, as they are,
 -- altered or cut; or those that are injected
