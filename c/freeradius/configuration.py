@@ -12,7 +12,8 @@ from typing import Dict
 
 HERE = pathlib.Path(__file__).resolve().parent
 SECRET, HOME_SECRET = "testing123", "homesecret"
-PORT, HOME_PORT = 1812, 1813
+PORT = 1812
+HOME_PORTS = (1813, 1814)
 SQL_FILE = "users.db"
 # Where Debian's package has the configurations of FreeRADIUS's own modules.
 MODS_CONFIG = "/etc/freeradius/3.0/mods-config"
@@ -26,9 +27,11 @@ SITES = {
     # A store is asked once, by the module.
     "once": "eap {\n\t\t\tok = return\n\t\t\tupdated = return\n\t\t}",
     "proxy": "suffix\n\t\tfiles\n\t\teap",
+    # A proxy that shares all stations out; the key makes a conversation stay at its server.
+    "pool": 'update control {\n\t\t\t&Proxy-To-Realm := "far"\n\t\t\t&Load-Balance-Key := "%{Calling-Station-Id}"\n\t\t}',
 }
 # Where the virtual server "inner" looks a name up.
-STORES = {"files": "files", "sql": "sql", "stock": "files", "once": "sql", "proxy": "files"}
+STORES = {"files": "files", "sql": "sql", "stock": "files", "once": "sql", "proxy": "files", "pool": "files"}
 
 BOTH = 'gpsk {{\n\tserver_id = "srv"\n\tkey_attribute = "Tuvaddri-GPSK-Key"\n{0}}}\n'
 BOTH += 'psk {{\n\tserver_id = "srv"\n\tkey_attribute = "Tuvaddri-PSK-Key"\n{0}}}\n'
@@ -81,17 +84,10 @@ client local {{
 proxy server {{
 	default_fallback = no
 }}
-home_server home {{
-	type = auth
-	ipaddr = 127.0.0.1
-	port = {home_port}
-	secret = {home_secret}
-	require_message_authenticator = yes
-	status_check = none
-}}
+{homes}
 home_server_pool home {{
-	type = fail-over
-	home_server = home
+	type = keyed-balance
+	{pool}
 }}
 realm far {{
 	auth_pool = home
@@ -143,6 +139,19 @@ server inner {{
 	authorize {{
 		{store}
 	}}
+}}
+"""
+
+HOME = """home_server home{port} {{
+	type = auth
+	ipaddr = 127.0.0.1
+	port = {port}
+	secret = {secret}
+	require_message_authenticator = yes
+	response_window = 2
+	zombie_period = 1
+	revive_interval = 60
+	status_check = none
 }}
 """
 
@@ -199,7 +208,10 @@ class Configuration:
         shutil.rmtree(folder, ignore_errors=True)
         os.makedirs(folder)
         told: Dict[str, object] = {**dataclasses.asdict(self), "work": work, "folder": folder, "mods_config": MODS_CONFIG}
-        told.update(authorize=SITES[self.site], store=STORES[self.site], home_secret=HOME_SECRET, home_port=HOME_PORT)
+        told.update(authorize=SITES[self.site], store=STORES[self.site])
+        ports = HOME_PORTS if self.site == "pool" else HOME_PORTS[:1]
+        told["homes"] = "".join(HOME.format(port=it, secret=HOME_SECRET) for it in ports)
+        told["pool"] = "\n\t".join(f"home_server = home{it}" for it in ports)
         told["sql"] = SQL.format(**told, file=SQL_FILE) if STORES[self.site] == "sql" else ""
         told["modules"] = MODULES.get(self.modules, self.modules)
         pathlib.Path(folder, "radiusd.conf").write_text(RADIUSD.format(**told))

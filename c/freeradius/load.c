@@ -32,7 +32,7 @@
 enum { MOST = 4096, RETRY_MS = 2000, TRIES = 5, WHOLE_MS = 300000, SWEEP_MS = 100 };
 /* RFC 2865, RFC 3579, RFC 2548. */
 enum { REQUEST = 1, ACCEPT = 2, CHALLENGE = 11 };
-enum { USER_NAME = 1, NAS_IP_ADDRESS = 4, STATE = 24, VENDOR = 26, EAP_MESSAGE = 79, AUTHENTICATOR = 80 };
+enum { USER_NAME = 1, NAS_IP_ADDRESS = 4, STATE = 24, VENDOR = 26, STATION = 31, EAP_MESSAGE = 79, AUTHENTICATOR = 80 };
 enum { SEND_KEY = 16, RECV_KEY = 17 };
 
 /* What the words say. */
@@ -133,7 +133,7 @@ static void tag(struct slot *s)
 static void ask(struct worker *w, struct slot *s)
 {
 	uint8_t eap[TUV_PACKET_MAX], ip[4] = { 127, 0, 0, 1 };
-	char name[32];
+	char name[32], station[32];
 	size_t eap_len = tuv_end_packet(&s->end, eap, sizeof(eap));
 
 	if (eap_len > 5 && eap[4] == asked.kind && rand_r(&w->seed) % 100 < asked.altered)
@@ -144,6 +144,8 @@ static void ask(struct worker *w, struct slot *s)
 	s->len = 20;
 	put(s, USER_NAME, name, snprintf(name, sizeof(name), "user%d", s->user));
 	put(s, NAS_IP_ADDRESS, ip, sizeof(ip));
+	put(s, STATION, station, snprintf(station, sizeof(station), "02-00-00-%02X-%02X-%02X", s->user >> 16,
+					  s->user >> 8 & 255, s->user & 255));
 	put(s, EAP_MESSAGE, eap, eap_len);
 	if (s->state_len)
 		put(s, STATE, s->state, s->state_len);

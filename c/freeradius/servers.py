@@ -94,14 +94,14 @@ def freeradius(work: str, configuration: Configuration, before: Sequence[str] = 
     return Server(words, f"{folder}/server.log", "Ready to process requests", seconds)
 
 
-def hostapd(work: str, method: str) -> Server:
+def hostapd(work: str, method: str, before: Sequence[str] = ()) -> Server:
     """hostapd's RADIUS server, with its own methods."""
     pathlib.Path(work, "hostapd.users").write_text(keys_of(work, method.lower()))
     pathlib.Path(work, "hostapd.clients").write_text(f"127.0.0.1 {SECRET}\n")
     lines = ["driver=none", "interface=lo0", "eap_server=1", f"eap_user_file={work}/hostapd.users", "server_id=srv"]
     lines += [f"radius_server_clients={work}/hostapd.clients", f"radius_server_auth_port={PORT}"]
     pathlib.Path(work, "hostapd.conf").write_text("\n".join(lines) + "\n")
-    return Server(["hostapd", f"{work}/hostapd.conf"], f"{work}/hostapd.log", "AP-ENABLED")
+    return Server([*before, "hostapd", f"{work}/hostapd.conf"], f"{work}/hostapd.log", "AP-ENABLED", 120)
 
 
 @dataclasses.dataclass
@@ -111,6 +111,7 @@ class Station:
     is_good: bool
     requests: int
     said: str
+    is_same_front: bool = False  # by eapol_test's own comparison, which is about MS-MPPE-Recv-Key
 
     def is_refused(self, requests: int) -> bool:
         return not self.is_good and "(Access-Reject)" in self.said and self.requests == requests
@@ -132,8 +133,9 @@ def station(
     pathlib.Path(work, "station.conf").write_text("\n".join(lines))
     ask = ["eapol_test", "-c", f"{work}/station.conf", "-a", "127.0.0.1", "-p", str(PORT), "-s", SECRET, "-t", "10", *words]
     ran = subprocess.run(ask, stdout=subprocess.PIPE, stderr=subprocess.STDOUT, text=True, errors="replace", timeout=60)
-    is_good = ran.returncode == 0 and ways.EQUAL_LINK_KEYS in ran.stdout and has_same_keys(ran.stdout)
-    return Station(is_good, ran.stdout.count("Sending RADIUS message"), ran.stdout)
+    is_same = ran.returncode == 0 and ways.EQUAL_LINK_KEYS in ran.stdout
+    requests = ran.stdout.count("Sending RADIUS message")
+    return Station(is_same and has_same_keys(ran.stdout), requests, ran.stdout, is_same)
 
 
 def has_same_keys(said: str) -> bool:
