@@ -161,7 +161,7 @@ def write(folder: str, name: str, *lines: str) -> str:
 
 def need(process: Process, pattern: str) -> None:
     """Fails where a program doesn't say that it is ready."""
-    if not process.wait_for(pattern, 10):
+    if not process.wait_for(pattern, 30):
         last = process.text().strip().splitlines()[-3:]
         raise ends.Failed(f"{os.path.basename(process.log)[:-4]} doesn't begin: {' / '.join(last)}")
 

@@ -14,11 +14,11 @@ import programs
 
 # A case: its name, and what is wrong with what was said.
 Case = Tuple[str, List[str]]
-KEY = "aa" * 31
-PEER = ["peer-name alice", "peer-server any", "peer-methods 51", f"peer-psk 51 {KEY}aa"]
+KEY = "a1b2c3d4" * 7 + "a1b2c3"
+PEER = ["peer-name alice", "peer-server any", "peer-methods 51", f"peer-psk 51 {KEY}d4"]
 SERVER = ["server-name srv", "server-methods 51"]
 USER = "user alice 51 {} allowed"
-NOT_A_KEY = f"'user alice 51 {KEY[:8]}.. allowed' is refused; BadSize"
+NOT_A_KEY = f"'user alice 51 {KEY[:8]}.. allowed' is refused (BadSize)"
 # Settings that are refused, by script, and what is said of them: the number is that of the file's own line.
 REFUSED: List[Tuple[str, List[str], str]] = [
     ("radius_client", ["# a comment", "", "peer-nonce 00"], "line 3: a nonce is no setting of a live login"),
@@ -26,25 +26,25 @@ REFUSED: List[Tuple[str, List[str], str]] = [
     ("radius_client", PEER, "has no line `secret HEX`"),
     ("radius_client", ["secret 00", *PEER[2:]], ": missing: `peer-name`, `peer-server`"),
     ("radius_client", ["secret 00", *PEER[:3]], ": missing: `peer-psk 51`"),
-    ("radius_client", ["secret 00", "", "peer-methods 52"], "line 3: 'peer-methods 52' is refused; BadNumber"),
-    ("radius_client", [*PEER, "secret 00", "peer-name bob"], "line 6: 'peer-name bob' is refused; Repeated"),
-    ("radius_client", [*PEER, "peer-name bob"], "it stands in line 1 too"),
-    ("radius_client", [*PEER, "server-suites 3", "secret 00"], "line 5: 'server-suites 3' is refused; BadNumber"),
-    ("radius_client", [*PEER, "secret"], "line 5: 'secret' is refused; BadCount"),
-    ("radius_client", [*PEER, "secret 0"], "line 5: 'secret 0' is refused; BadHex"),
-    ("radius_client", [*PEER, "secret zz"], "line 5: 'secret zz' is refused; BadHex"),
-    ("radius_client", [*PEER, f"secret {'00' * 65}"], "line 5: 'secret 00000000..' is refused; BadSize"),
-    ("radius_client", [*PEER, "# again", "secret 00", "secret 01"], "line 7: 'secret 01' is refused; Repeated"),
+    ("radius_client", ["secret 00", "", "peer-methods 52"], "line 3: 'peer-methods 52' is refused (BadNumber)"),
+    ("radius_client", [*PEER, "secret 00", "peer-name bob"], "line 6: 'peer-name bob' is refused (Repeated)"),
+    ("radius_client", [*PEER, "peer-name bob"], "`peer-name` stands in line 1 too"),
+    ("radius_client", [*PEER, "server-suites 3", "secret 00"], "line 5: 'server-suites 3' is refused (BadNumber)"),
+    ("radius_client", [*PEER, "secret"], "line 5: 'secret' is refused (BadCount)"),
+    ("radius_client", [*PEER, "secret 0"], "line 5: 'secret 0' is refused (BadHex)"),
+    ("radius_client", [*PEER, "secret zz"], "line 5: 'secret zz' is refused (BadHex)"),
+    ("radius_client", [*PEER, f"secret {'00' * 65}"], "line 5: 'secret 00000000..' is refused (BadSize)"),
+    ("radius_client", [*PEER, "# again", "secret 00", "secret 01"], "line 7: 'secret 01' is refused (Repeated)"),
     ("radius_server", [*SERVER, "", USER.format(KEY), "secret 00"], f"line 4: {NOT_A_KEY}"),
-    ("radius_server", [*SERVER, "max-retrans 11", "secret 00"], "line 3: 'max-retrans 11' is refused; BadNumber"),
-    ("radius_server", [*SERVER, "max-retrans  1", "secret 00"], "line 3: 'max-retrans  1' is refused; BadCount"),
+    ("radius_server", [*SERVER, "max-retrans 11", "secret 00"], "line 3: 'max-retrans 11' is refused (BadNumber)"),
+    ("radius_server", [*SERVER, "max-retrans  1", "secret 00"], "line 3: 'max-retrans  1' is refused (BadCount)"),
     ("radius_server", [SERVER[0], "secret 00"], ": missing: `server-methods`"),
     ("radius_server", [*SERVER, "first-id 7"], "line 3: 'first-id' is no setting of a live login"),
-    ("radius_server", [*SERVER, "secret 00", "peer-suites 0"], "line 4: 'peer-suites 0' is refused; BadNumber"),
+    ("radius_server", [*SERVER, "secret 00", "peer-suites 0"], "line 4: 'peer-suites 0' is refused (BadNumber)"),
     ("radius_server", SERVER, "has no line `secret HEX`"),
-    ("radius_server", [*SERVER, f"server-name {'x' * 4096}"], "is refused; TooMuch"),
+    ("radius_server", [*SERVER, f"server-name {'x' * 4096}"], "is refused (TooMuch)"),
     ("wired", PEER[:2], ": missing: `peer-methods`"),
-    ("wired", [*PEER, "peer-suites 1 1"], "line 5: 'peer-suites 1 1' is refused; Repeated"),
+    ("wired", [*PEER, "peer-suites 1 1"], "line 5: 'peer-suites 1 1' is refused (Repeated)"),
 ]
 
 # The words of each script that are right, in which {} is the one that is tried, and numbers out of bounds there.
@@ -89,7 +89,7 @@ def ends_badly(words: Sequence[str], wanted: str, environment: Optional[Dict[str
         words, stdin=subprocess.DEVNULL, stdout=subprocess.PIPE, stderr=subprocess.STDOUT, text=True, env=environment
     )
     text = done.stdout.strip()
-    is_right = done.returncode == 1 and wanted in text and not re.search("^ready ", text, re.M) and KEY not in text
+    is_right = done.returncode == 1 and wanted in text and not re.search("^ready ", text, re.M) and KEY[:16] not in text
     return [] if is_right else [f"status {done.returncode}, and it says: {text[-300:]}"]
 
 

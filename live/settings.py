@@ -7,7 +7,7 @@ from __future__ import annotations
 import os
 import re
 import subprocess
-from typing import Dict, List, Optional, Tuple
+from typing import Dict, List, Match, Optional, Tuple
 
 import ends
 
@@ -74,7 +74,8 @@ class Settings:
             raise ends.Failed(f"{self.path}: {missing_of(why(text, told)) or fault}")
         if 0 < number <= self.count + 1:
             line = ends.shown(dict(self.numbered[text])[number - 1])
-            raise self.fault(number - 1, "; ".join([f"{line!a} is refused", *(why(text, told) or [fault])]))
+            reasons = [it for it in why(text, told) if not it.startswith(f"{fault}: ")]
+            raise self.fault(number - 1, "; ".join([f"{line!a} is refused ({fault})", *reasons]))
 
     def told(self, text: str) -> str:
         """The text in which each line of the file stands one line later, and those of the other texts are empty."""
@@ -120,14 +121,18 @@ def verdict(text: str, told: str) -> Tuple[int, str]:
 
 
 def why(text: str, told: str) -> List[str]:
-    """What tools/why says of a refused text, in the numbers of the file's lines; without the line itself, which may have a
-    key."""
+    """What tools/why says of a refused text, in the numbers of the file's lines; without the line itself, and without what
+    may be a key."""
     os.environ["EAP_LOGIN"] = ends.program()
     try:
         lines = ask([f"{ends.ROOT}/tools/why", text], told)[1:]
     except (OSError, subprocess.SubprocessError):
         return []
-    return [re.sub("line ([0-9]+)", lambda found: f"line {int(found[1]) - 1}", it) for it in lines]
+    return [re.sub("line ([0-9]+)", file_line, re.sub("([0-9A-Fa-f]{8})[0-9A-Fa-f]{9,}", r"\1..", it)) for it in lines]
+
+
+def file_line(found: Match[str]) -> str:
+    return f"line {int(found[1]) - 1}"
 
 
 def missing_of(reasons: List[str]) -> Optional[str]:

@@ -53,7 +53,7 @@ class Login:
     is_traced: bool = True  # whether our end says what passes
     state: str = "SUCCESS"  # in which our end is to stand at last; "none" where no login begins
     is_heard: bool = True  # whether our server comes to an end before the real end gives up
-    seconds: int = 20
+    seconds: int = 40
     seen: str = ""  # what our end says: a pattern
     their_seen: str = ""  # what the other end says: a pattern
 
