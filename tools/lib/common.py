@@ -64,6 +64,8 @@ def tool(main: Callable[[], int]) -> NoReturn:
 
 def octets_of(path: str) -> bytes:
     """The octets of a file, or of standard input for `-`."""
+    if path == "-" and sys.stdin.isatty():
+        print(f"{Path(sys.argv[0]).name}: reading standard input; Ctrl-D ends it, --help says more", file=sys.stderr)
     try:
         return sys.stdin.buffer.read() if path == "-" else Path(path).read_bytes()
     except OSError as fault:

@@ -165,6 +165,8 @@ def of_judged(given: list[str], octets: Optional[bytes], said: list[str]) -> Ite
         if octets is None and not unjudged:
             yield "`tools/why FILE NAME KIND HEX` names them"
         return
+    if octets is None and any(" tag-bad" in it for it in said):
+        yield "a tag is wrong: `tools/why FILE NAME KIND HEX` says which message that is, and what it can be"
     bad = [it.said for it in found if it.row and it.row.word in ("tag-bad", "malformed")]
     yield from bad[:MOST]
     if len(bad) > MOST:

@@ -3,6 +3,7 @@
 from __future__ import annotations
 
 from dataclasses import dataclass, field
+from functools import cached_property
 from typing import Optional
 
 from lib import packets
@@ -45,7 +46,7 @@ class Row:
     at: Optional[float] = None
     carrier: str = ""
 
-    @property
+    @cached_property
     def reading(self) -> packets.Reading:
         return packets.read(self.octets or b"")
 

@@ -23,11 +23,10 @@ FAILS = {
 
 @dataclass
 class Reason:
-    """A sentence on a row, and whether the login failed by it."""
+    """A sentence on a row, or on the whole."""
 
     row: Optional[Row]
     text: str
-    is_cause: bool = True
 
     @property
     def said(self) -> str:
@@ -106,14 +105,15 @@ def logins_of(rows: list[Row], users: list[tuple[str, str, str]]) -> list[Login]
     """A login begins with an Identity Request, or Response, after a message of a method or an end; or with a first
     message of a method after an end."""
     found: list[list[Row]] = []
+    has_end = has_method = False
     for row in rows:
-        message, before = row.reading.message, [it.reading.message for it in found[-1]] if found else []
-        has_end = before[-1:] in (["Success"], ["Failure"])
-        has_method = any(it in OF_PEER + OF_SERVER or it == "Nak" for it in before)
-        begins = not found or message == "Identity" and (has_end or has_method) or message in FIRST and has_end
-        if begins:
+        message = row.reading.message
+        if not found or message == "Identity" and (has_end or has_method) or message in FIRST and has_end:
             found.append([])
+            has_method = False
         found[-1].append(row)
+        has_end = message in ("Success", "Failure")
+        has_method = has_method or message in OF_PEER + OF_SERVER or message == "Nak"
     return [Login(it, users) for it in found]
 
 
@@ -122,12 +122,12 @@ def of_tags(login: Login) -> Iterator[Reason]:
         if row.word == "tag-bad":
             yield Reason(row, wrong_tag(login, at))
         elif row.word == "no-key":
-            yield Reason(row, without_key(login, login.read[at]), is_cause=False)
+            yield Reason(row, without_key(login, login.read[at]))
         elif row.word == "malformed":
             cause = row.finding.split(" ")[1]
             yield Reason(row, f"it is malformed ({cause}): {words.cause_said(cause, party='other end', server='', user='')}")
         elif row.word == "no-context" and not any(it.word in ("tag-bad", "no-key") for it in login.rows[:at]):
-            yield Reason(row, "its MAC isn't judged, since the message that it rests on isn't in the capture", False)
+            yield Reason(row, "its MAC isn't judged, since the message that it rests on isn't in the capture")
 
 
 def wrong_tag(login: Login, at: int) -> str:
@@ -192,7 +192,7 @@ def of_lost(login: Login) -> Iterator[Reason]:
             answers = [it for it in range(seen[key], at) if login.rows[it].sender == "peer"]
             said += (f": the answer, packet {login.rows[answers[-1]].number}, hadn't come to it, or it discarded it"
                      if answers else ": no answer had come; a packet was lost, or the peer discarded it")
-            yield Reason(row, said, is_cause=login.end is None or login.messages[-1] == "Failure")
+            yield Reason(row, said)
         seen.setdefault(key, at)
 
 
@@ -271,7 +271,7 @@ def of_no_end(login: Login) -> Iterator[Reason]:
                            f"name than `{login.read[-1].identity}`, or its answer was lost")
     elif login.kind or len(login.rows) > 1:
         yield Reason(last, "the capture ends with it, without a Success or a Failure: what came next was lost, or wasn't "
-                           "captured", is_cause=login.first(*LAST) is None)
+                           "captured")
 
 
 def of_others(login: Login) -> Iterator[Reason]:
@@ -279,7 +279,7 @@ def of_others(login: Login) -> Iterator[Reason]:
     types = {it.number.get("Type", 0) for it in login.read} - {0, 1, 2, 3, 47, 51}
     if types and not login.kind:
         names = ", ".join(packets.TYPES.get(it, f"Type {it}") for it in sorted(types))
-        yield Reason(None, f"the method is {names}, and EAP-PSK and EAP-GPSK alone are judged", is_cause=False)
+        yield Reason(None, f"the method is {names}, and EAP-PSK and EAP-GPSK alone are judged")
     for row in login.rows:
         verdict = row.carrier.partition(", ")[2]
         if verdict == "tag-bad":
@@ -344,10 +344,11 @@ def counts_of(rows: list[Row]) -> str:
 def of_capture(ladder: Ladder) -> list[Story]:
     logins = logins_of(ladder.rows, ladder.capture.users)
     stories = [story_of_login(it) for it in logins]
+    place = {id(row): at for at, it in enumerate(logins) for row in it.rows}
     for reason in repeated_nonces(logins):
-        at = next(at for at, it in enumerate(logins) if reason.row in it.rows)
-        stories[at].reasons.append(reason)
-        stories[at].kind = "bad"
+        story = stories[place[id(reason.row)]]
+        story.reasons.append(reason)
+        story.kind = "bad"
     if stories:
         stories[-1].facts.append(counts_of(ladder.rows))
     return stories
@@ -410,7 +411,7 @@ def of_discards(ladder: Ladder) -> Iterator[Reason]:
                     code, f"the server ends the method by the code {code}").format(user=named(ladder_user(ladder)))
                 yield Reason(row, said)
             elif row.kind == "injected":
-                yield Reason(row, "it is injected, and the peer takes it", is_cause=False)
+                yield Reason(row, "it is injected, and the peer takes it")
 
 
 def ladder_user(ladder: Ladder) -> str:
@@ -432,7 +433,7 @@ def of_ends(ladder: Ladder) -> Iterator[Reason]:
     waits = [party for party, state in replay.states().items() if state.startswith("IDLE") or state == "AAA_IDLE"]
     if lost and waits and replay.has_losses:
         yield Reason(lost[-1], f"it is lost, and at the end the {' and the '.join(map(party_name, waits))} still waits"
-                     if len(waits) == 1 else "it is lost, and at the end both ends still wait", is_cause=len(lost) > 0)
+                     if len(waits) == 1 else "it is lost, and at the end both ends still wait")
     # (only where the server came to propose a method, or to look for a user)
     if not any(it.reading.message in ("Nak", "Failure") or "Failure-Code" in it.reading.number for it in ladder.rows):
         return
@@ -496,8 +497,6 @@ def of_replay(ladder: Ladder) -> Story:
     if result == "agree":
         is_odd = replay.end.get("tags") == "broken" or replay.end.get("fresh") == "no"
         story.kind = "open" if is_odd else kind
-        for it in reasons:
-            it.is_cause = is_odd and it.text.startswith(("the peer accepted", "the server accepted", "`"))
     elif result:
         story.facts.append(states)
     if replay.end.get("tags") == "honest":
