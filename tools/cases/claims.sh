@@ -157,12 +157,6 @@ cat >"$pages/docs/EMBEDDING.md" <<'TEXT'
 TEXT
 cat >"$pages/docs/ARCHITECTURE.md" <<'TEXT'
 # House
-
-## Crates
-
-| Crate | Definitions |
-|---|---|
-| `small` | `Even`, `Rest` |
 TEXT
 echo 'small double: even' >"$pages/docs/claims.inner"
 "$pages/tools/claims" --read all >"$work/said"
@@ -218,7 +212,8 @@ claims_tell "a count that went" docs/TESTED.md '/tests in code/d' "tests in code
 claims_tell "a cost" README.md 's/1,234/1,235/' "README.md: bench/README.md doesn't have 1,235"
 claims_tell "a condition" docs/EMBEDDING.md 's/`double`/`same`/' "EMBEDDING.md doesn't say what small::double asks first" \
     "EMBEDDING.md: small::same asks nothing"
-claims_tell "a file of definitions" docs/ARCHITECTURE.md 's/`Even`/`Odd`/' "ARCHITECTURE.md doesn't name Even of small"
+claims_tell "a file of definitions" crates/small/specs/Even.antt '1s/^--.*//' \
+    "crates/small/specs/Even.antt doesn't begin with what it holds"
 claims_tell "a crate" docs/CLAIMS.md 's/## `small`/## `large`/' "CLAIMS.md:9: large is no crate"
 claims_tell "a page" docs/ANSWERS.md '/Ends/d' "ANSWERS.md has no row"
 cp -r "$work/whole" "$work/twice"
