@@ -103,12 +103,12 @@ class Login:
 
 def logins_of(rows: list[Row], users: list[tuple[str, str, str]]) -> list[Login]:
     """A login begins with an Identity Request, or Response, after a message of a method or an end; or with a first
-    message of a method after an end."""
+    message of a method after an end of one."""
     found: list[list[Row]] = []
     has_end = has_method = False
     for row in rows:
         message = row.reading.message
-        if not found or message == "Identity" and (has_end or has_method) or message in FIRST and has_end:
+        if not found or (message == "Identity" and (has_end or has_method)) or (message in FIRST and has_end and has_method):
             found.append([])
             has_method = False
         found[-1].append(row)
@@ -207,18 +207,20 @@ def of_failure(login: Login) -> Iterator[Reason]:
                          else "; so the peer answers it")
             if login.rows[at].sender == "server" and login.rows[at].octets not in [it.octets for it in login.rows[:at]]:
                 yield Reason(login.rows[at], said)
-        elif reading.message == "Failure":
-            goes_on = login.first(*OF_SERVER, "Success", after=at) or login.first(*OF_PEER, after=at)
+        elif reading.message in ("Failure", "Success"):
+            others = ("Success",) if reading.message == "Failure" else ()
+            goes_on = login.first(*OF_SERVER, *others, after=at) or login.first(*OF_PEER, after=at)
             if goes_on is not None:
-                yield Reason(login.rows[at], early_failure(login, at, goes_on))
-            elif at == login.end and (why := failure(login, at)):
+                yield Reason(login.rows[at], early_end(login, at, goes_on))
+            elif reading.message == "Failure" and at == login.end and (why := failure(login, at)):
                 yield Reason(login.rows[at], why)
 
 
-def early_failure(login: Login, at: int, goes_on: int) -> str:
-    row = login.rows[goes_on]
-    said = (f"a Failure in the middle of the login, and the {row.sender} went on with {login.called(goes_on)}: the server "
-            "didn't send it. Nothing authenticates a Failure, so anybody can send one")
+def early_end(login: Login, at: int, goes_on: int) -> str:
+    """A Success or a Failure after which the login goes on."""
+    row, message = login.rows[goes_on], login.messages[at]
+    said = (f"a {message} in the middle of the login, and the {row.sender} went on with {login.called(goes_on)}: the server "
+            f"didn't send it. Nothing authenticates a {message}, so anybody can send one")
     if row.sender == "server" and login.first(*OF_PEER, after=goes_on) is None:
         said += "; the peer believed it, and answered no more"
     return said
@@ -280,6 +282,8 @@ def of_others(login: Login) -> Iterator[Reason]:
     if types and not login.kind:
         names = ", ".join(packets.TYPES.get(it, f"Type {it}") for it in sorted(types))
         yield Reason(None, f"the method is {names}, and EAP-PSK and EAP-GPSK alone are judged")
+    if any(it.name.startswith("Expanded ") and it.message in OF_PEER + OF_SERVER for it in login.read):
+        yield Reason(None, "the messages are in packets of Type 254 (Expanded Types), whose MACs aren't judged")
     for row in login.rows:
         verdict = row.carrier.partition(", ")[2]
         if verdict == "tag-bad":
