@@ -57,7 +57,7 @@ def refused(field: Field, kind: str) -> list[tuple[str, str]]:
         least, most = words.KEY_SIZES[kind] if field.spelling == "key" else (field.least, field.most)
         under = [(hex_of(least - 1), "BadSize")] if least > 1 else []
         over = [(hex_of(most + 1), "BadSize")] if most < words.MOST_OCTETS else [("5a" * (most + 1), "BadSize")]
-        return [*under, *over, *([("-", "BadSize")] if least else [])]
+        return [*under, *over, *([("-", "BadSize")] if least == 1 else [])]
     ways = {
         "choice": [("other", "BadChoice")],
         "name": [("a" * (field.most + 1), "BadSize")],
@@ -89,10 +89,8 @@ def bad_lines(line: Line) -> list[tuple[str, str]]:
     found = [(with_word(line, at, word, kind), fault) for kind in kinds_of(line) for at, field in enumerate(line.fields)
              for word, fault in refused(field, kind)]
     found += [(f"{line.keyword} {word}", fault) for word, fault in ANYWHERE.get(line.keyword, [])]
-    one = good_lines(line)[0]
-    found += [(f"{one} {one.split()[0]} x", "BadCount")]
-    if line.fields:
-        found.append((line.keyword, "BadCount"))
+    # (the keyword alone; where that is right, with a word behind it)
+    found.append((line.keyword if line.fields else f"{line.keyword} x", "BadCount"))
     return list(dict.fromkeys(found))
 
 
