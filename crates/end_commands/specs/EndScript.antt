@@ -1,18 +1,18 @@
 -- An end's text, as all its lines make it, and what it answers: the text of the end's run.
 use Rattle.std.specs.Prelude.{ℕ, ◌+◌, List, [], ◌∷◌, Bool, true, false, nat_le, ◌&&◌, if◌then◌else◌, Option, Some, None, Result, Ok, Err, codes}
 use Rattle.octet_io.specs.Lines.{Lines, ended, too_long, too_much, line, lines}
-use Rattle.eap_packet.specs.declared.state.State.{State}
 use Rattle.text_tables.specs.Words.{fault_word}
 use Rattle.text_tables.specs.declared.fault.LineFault.{LineFault}
 use Rattle.scenario_text.specs.declared.settings.Settings.{Settings}
 use Rattle.end_pipe.specs.EndReading.{EndReading, ReadLine, Item, unread, read_line, finish_of}
 use Rattle.end_pipe.specs.EndReading as item
-use Rattle.end_pipe.specs.EndRun.{EndNow, EndOutcome, end_after, told_of}
+use Rattle.end_pipe.specs.EndRun.{Begun, EndNow, MachineTable, end_after, end_step, told_of}
 use Rattle.end_pipe.specs.declared.input.EndInput.{EndInput}
+use Rattle.end_pipe.specs.declared.table.Role.{Role}
 use Rattle.command_driver.specs.Answers.{Answer, after_text, refusal}
 use Rattle.command_driver.specs.declared.status.Status.{Status}
 use Rattle.command_driver.specs.declared.status.Status.TheVariants as status
-use Rattle.end_commands.specs.EndText.{tolds_text, last_text}
+use Rattle.end_commands.specs.EndText.{start_text, tolds_text, last_text}
 
 -- at most 10,000 inputs are taken
 abbrev pub max_inputs : ℕ
@@ -75,38 +75,33 @@ script_from n taken r too_much = stops (too_much_at (n + 1))
 script_from n taken r (line l rest) =
     with_line (n + 1) taken (read_line r l) (script_from (n + 1) (taken_after taken (read_line r l)) (read_after r (read_line r l)) rest)
 
--- the script that an input is: of the server, or of the peer
-abbrev pub script_of : Bool → List ℕ → Script
-script_of server octets = script_from 0 0 (unread server) (lines octets)
-
--- what settings begin: an end, and the lines of its start
-pub record Start (N : Type 0) : Type 0 where
-  pub text : List ℕ
-  pub begun : EndNow N
+-- the script that an input is to this end
+abbrev pub script_of : Role → List ℕ → Script
+script_of role octets = script_from 0 0 (unread role) (lines octets)
 
 -- without an end nothing is told
 abbrev pub unset_answer : Ending → Answer
 unset_answer whole = record { text = []; status = status.Done }
 unset_answer (refused number word s) = refusal number word s
 
--- an end that begins so, does this at an input, and stands in this state
-module _ {N : Type 0} (begin : Settings → Result (Start N) LineFault) (step : EndNow N → EndInput → EndOutcome N) (state : N → State) where
+-- an end with this machine
+module _ {N : Type 0} (table : MachineTable N) where
   -- after the inputs: the last lines, or those of a refusal
   abbrev pub ending_answer : EndNow N → Ending → Answer
-  ending_answer e whole = record { text = last_text (state e.now); status = status.Done }
+  ending_answer e whole = record { text = last_text (table.state e.now); status = status.Done }
   ending_answer e (refused number word s) = refusal number word s
 
   -- the answer from an end on that has taken so many inputs: what is told of the inputs to come, and the ending
   abbrev pub run_answer : ℕ → EndNow N → List EndInput → Ending → Answer
-  run_answer taken e inputs ending = after_text (tolds_text taken (told_of step e inputs)) (ending_answer (end_after step e inputs) ending)
+  run_answer taken e inputs ending = after_text (tolds_text taken (told_of (end_step table) e inputs)) (ending_answer (end_after (end_step table) e inputs) ending)
 
-  abbrev pub begun_answer : Result (Start N) LineFault → List EndInput → Ending → Answer
+  abbrev pub begun_answer : Result (Begun N) LineFault → List EndInput → Ending → Answer
   begun_answer (Err fault) inputs ending = unset_answer ending
-  begun_answer (Ok start) inputs ending = after_text start.text (run_answer 0 start.begun inputs ending)
+  begun_answer (Ok start) inputs ending = after_text (start_text start.told) (run_answer 0 start.after inputs ending)
 
   abbrev pub settings_answer : Option Settings → List EndInput → Ending → Answer
   settings_answer None inputs ending = unset_answer ending
-  settings_answer (Some settings) inputs ending = begun_answer (begin settings) inputs ending
+  settings_answer (Some settings) inputs ending = begun_answer (table.begins settings) inputs ending
 
   abbrev pub script_answer : Script → Answer
   script_answer s = settings_answer s.settings s.inputs s.ending

@@ -26,7 +26,8 @@ keys_text number (Some report) = keys_line number (key_name_of report.msk) (key_
 -- the states that were entered, the cause of a discard, the packet, the keys
 abbrev pub acted_text : ℕ → EndTold → List ℕ
 acted_text number told =
-    states_line number told.path ++ (cause_text number told.cause ++ (send_text number told.sent ++ keys_text number told.named))
+    states_line number told.step.path
+    ++ (cause_text number told.step.cause ++ (send_text number told.step.sent ++ keys_text number told.named))
 
 abbrev pub skip_line : ℕ → List ℕ
 skip_line number = concat (decimal number ∷ codes " skip Ended\n" ∷ [])
@@ -38,6 +39,11 @@ told_by number told false = acted_text number told
 -- the lines of an input of this number, and of the start, whose number is 0
 unfoldable pub told_text : ℕ → EndTold → List ℕ
 told_text number told = told_by number told told.skipped
+
+-- those of a start, where an end has one
+abbrev pub start_text : Option EndTold → List ℕ
+start_text None = []
+start_text (Some told) = told_text 0 told
 
 -- the lines of inputs, where this many came before
 unfoldable pub tolds_text : ℕ → List EndTold → List ℕ

@@ -2,11 +2,10 @@
 //! line before they ask for the next.
 #![tactic(auto)]
 
-mod ends;
+mod end;
 mod lines;
 mod peer;
 mod server;
 
-pub use ends::{peer_of, server_of};
-pub use peer::answer_peer;
-pub use server::answer_server;
+pub use peer::{answer_peer, peer_of};
+pub use server::{answer_server, server_of};

@@ -21,16 +21,16 @@ use octet_io::{Failed, Sink};
 pub fn write_step<W: Sink>(
     sink: &mut W,
     number: u32,
-    step: &EndStep,
+    told: &EndStep,
     octets: &[u8],
 ) -> Result<(), Failed>
     ensures { (tags : Tags) → Appends W.written W.write_faults W.last_write_fault result sink.old sink.new
-        (told_text number (told_with step.now octets.now tags)) }
+        (told_text number (told_with told.now octets.now tags)) }
 {
-    if step.skipped {
+    if told.skipped {
         write_skip(sink, number)
     } else {
-        write_acted(sink, number, step, octets)
+        write_acted(sink, number, told, octets)
     }
 }
 
@@ -61,16 +61,16 @@ fn write_skip<W: Sink>(sink: &mut W, number: u32) -> Result<(), Failed>
 fn write_acted<W: Sink>(
     sink: &mut W,
     number: u32,
-    step: &EndStep,
+    told: &EndStep,
     octets: &[u8],
 ) -> Result<(), Failed>
     ensures { (tags : Tags) → Appends W.written W.write_faults W.last_write_fault result sink.old sink.new
-        (acted_text number (told_with step.now octets.now tags)) }
+        (acted_text number (told_with told.now octets.now tags)) }
 {
-    write_states(sink, number, step.path.as_slice())?;
-    write_cause(sink, number, step.cause)?;
-    write_sent(sink, number, octets, step.sends)?;
-    write_keys(sink, number, &step.named)
+    write_states(sink, number, told.step.path.as_slice())?;
+    write_cause(sink, number, told.step.cause)?;
+    write_sent(sink, number, octets, told.step.sends)?;
+    write_keys(sink, number, &told.named)
 }
 
 /// Writes the line of the packet that is sent, if one is.

@@ -1,5 +1,5 @@
 -- What has been read of an end's text is within its limits.
-use Rattle.std.proofs.Common.{◌≡◌, ℕ, ◌≤◌, Bool, true, false, List, Option, Some, None, IfSome, IsOk, Result, Ok, Err, is_err, refl, sym, subst, lit≤, unwrap_or}
+use Rattle.std.proofs.Common.{◌≡◌, ℕ, ◌≤◌, false, List, Option, Some, None, IfSome, IsOk, Result, Ok, Err, is_err, refl, sym, subst, lit≤, unwrap_or}
 use Rattle.text_tables.proofs.Fitting.{fits, unless-ok}
 use Rattle.text_tables.specs.Fits.{Fits}
 use Rattle.text_tables.specs.Rows.{fault_of_words}
@@ -19,6 +19,8 @@ use Rattle.end_pipe.specs.declared.entry.EndEntry as told
 use Rattle.end_pipe.specs.declared.input.EndInput.{EndInput}
 use Rattle.end_pipe.specs.declared.table.EndWord.{EndWord}
 use Rattle.end_pipe.specs.declared.table.EndWord.TheVariants as word
+use Rattle.end_pipe.specs.declared.table.Role.{Role}
+use Rattle.end_pipe.specs.declared.table.Role.TheVariants.{Peer, Server}
 
 abbrev IsValidEntry : Entry → Type 0
 IsValidEntry (entry.Set v) = IsValidSetting v
@@ -52,9 +54,9 @@ there (Ok a) e = refl
 there (Err f) e = absurd cc
 
 -- settings that none is missing of
-pub whole : (server : Bool) (s : Settings) → lacks_some server s ≡ false → AreWhole server s
-whole true s e = there (server_setup_of s) e
-whole false s e = there (peer_setup_of s) e
+pub whole : (role : Role) (s : Settings) → lacks_some role s ≡ false → AreWhole role s
+whole Server s e = there (server_setup_of s) e
+whole Peer s e = there (peer_setup_of s) e
 
 pub few_retrans : (slot : Option ℕ) → IfSome slot (λ count. count ≤ 10) → unwrap_or slot 4 ≤ 10
 few_retrans None h = lit≤ tt

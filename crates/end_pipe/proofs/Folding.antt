@@ -1,11 +1,8 @@
 -- One more input at the end of others: what is told of it comes last, and the end is where it leaves it.
 use Rattle.std.proofs.Common.{◌≡◌, ℕ, List, [], ◌∷◌, ◌++◌, refl, sym, ap, ◌∙◌}
-use Rattle.login_setup.specs.declared.setup.PeerSetup.{PeerSetup}
 use Rattle.login_setup.specs.declared.setup.ServerSetup.{ServerSetup}
-use Rattle.peer_machine.specs.PeerTable.{PeerNow}
 use Rattle.server_machine.specs.ServerTable.{ServerNow}
-use Rattle.end_pipe.specs.EndRun.{EndNow, EndOutcome, EndTold, end_after, outcome, told_of, peer_begun, peer_step, server_begun, server_starts, server_step, server_unstarted}
-use Rattle.end_pipe.specs.EndRun.{PeerGoesOn, PeerStandsFor, ServerGoesOn, ServerStandsFor}
+use Rattle.end_pipe.specs.EndRun.{EndNow, EndOutcome, EndTold, GoesOn, ServerStandsFor, StandsFor, end_after, outcome, server_starts, server_unstarted, told_of}
 use Rattle.end_pipe.specs.declared.input.EndInput.{EndInput}
 
 module _ {N : Type 0} (step : EndNow N → EndInput → EndOutcome N) where
@@ -21,32 +18,14 @@ module _ {N : Type 0} (step : EndNow N → EndInput → EndOutcome N) where
   told_last e [] input = refl
   told_last e (first ∷ rest) input = ap (λ (l : List EndTold). (step e first).told ∷ l) (told_last (step e first).after rest input)
 
-  -- where an end stands for inputs and does so at one more
-  record GoesOn (begun : EndNow N) (inputs : List EndInput) (input : EndInput) (told : EndTold) (after : EndNow N) : Type 0 where
-    pub next : told_of step begun (inputs ++ input ∷ []) ≡ told_of step begun inputs ++ told ∷ []
-    pub stands : after ≡ end_after step begun (inputs ++ input ∷ [])
-
-  goes_on : (begun e after : EndNow N) (inputs : List EndInput) (input : EndInput) (told : EndTold)
-      → step e input ≡ outcome told after → e ≡ end_after step begun inputs → GoesOn begun inputs input told after
+  pub goes_on : (begun e after : EndNow N) (inputs : List EndInput) (input : EndInput) (told : EndTold)
+      → step e input ≡ outcome told after → StandsFor step begun inputs e → GoesOn step begun inputs input told after
   goes_on begun e after inputs input told is stands =
       let same : step (end_after step begun inputs) input ≡ outcome told after = ap (λ (x : EndNow N). step x input) (sym stands) ∙ is in
       record {
         next = told_last begun inputs input ∙ ap (λ (out : EndOutcome N). told_of step begun inputs ++ out.told ∷ []) same;
         stands = sym (after_last begun inputs input ∙ ap (λ (out : EndOutcome N). out.after) same);
       }
-
-pub peer_goes_on : (setup : PeerSetup) (inputs : List EndInput) (input : EndInput) (e after : EndNow PeerNow) (told : EndTold)
-    → peer_step e input ≡ outcome told after → PeerStandsFor setup inputs e → PeerGoesOn setup inputs input told after
-peer_goes_on setup inputs input e after told is stands =
-    let g = goes_on peer_step (peer_begun setup) e after inputs input told is stands in
-    record { next = g.next; stands = g.stands }
-
-pub server_goes_on : (setup : ServerSetup) (first_id max_retrans : ℕ) (inputs : List EndInput) (input : EndInput) (e after : EndNow ServerNow)
-    (told : EndTold) → server_step e input ≡ outcome told after → ServerStandsFor setup first_id max_retrans inputs e
-    → ServerGoesOn setup first_id max_retrans inputs input told after
-server_goes_on setup first_id max_retrans inputs input e after told is stands =
-    let g = goes_on server_step (server_begun setup first_id max_retrans) e after inputs input told is stands in
-    record { next = g.next; stands = g.stands }
 
 -- a server that starts stands for no inputs
 pub starts_so : (setup : ServerSetup) (first_id max_retrans : ℕ) (e after : EndNow ServerNow) (told : EndTold)

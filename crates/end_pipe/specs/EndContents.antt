@@ -13,6 +13,7 @@ use Rattle.end_pipe.specs.declared.input.EndInput.{EndInput}
 use Rattle.end_pipe.specs.declared.input.EndInput.TheVariants as inputs
 use Rattle.end_pipe.specs.declared.table.EndWord.{EndWord}
 use Rattle.end_pipe.specs.declared.table.EndWord.TheVariants as word
+use Rattle.end_pipe.specs.declared.table.Role.{Role}
 
 -- a setting, the line `events`, an input, the line `end`
 pub data Entry : Type 0 where
@@ -38,15 +39,15 @@ entry_of word.AltReject ws = Comes inputs.AltReject
 entry_of word.End ws = End
 
 -- the line has this fault, whatever came before it
-abbrev pub has_fault : Bool → List ℕ → LineFault → Bool
-has_fault server line f = line_has row_of (end_words server) line f
+abbrev pub has_fault : Role → List ℕ → LineFault → Bool
+has_fault role line f = line_has row_of (end_words role) line f
 
 -- its keyword, if it has one, and what it says
-abbrev pub word_of : Bool → List ℕ → EndWord
-word_of server line = unwrap_or (keyword_in row_of (end_words server) (words line)) word.End
+abbrev pub word_of : Role → List ℕ → EndWord
+word_of role line = unwrap_or (keyword_in row_of (end_words role) (words line)) word.End
 
-abbrev pub entry_in : Bool → List ℕ → Entry
-entry_in server line = entry_of (word_of server line) (words line)
+abbrev pub entry_in : Role → List ℕ → Entry
+entry_in role line = entry_of (word_of role line) (words line)
 
 -- the same of a keyword and its words
 unfoldable pub entry_for : EndWord → List (List ℕ) → Result Entry LineFault

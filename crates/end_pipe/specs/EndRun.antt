@@ -1,12 +1,11 @@
 -- One end over its inputs: what it does at each of them, and where it then stands.
-use Rattle.std.specs.Prelude.{◌≡◌, ℕ, List, [], ◌∷◌, ◌++◌, Bool, true, false, ◌||◌, if◌then◌else◌, Option, Some, None, is_some}
+use Rattle.std.specs.Prelude.{◌≡◌, ℕ, List, [], ◌∷◌, ◌++◌, Bool, true, false, ◌||◌, if◌then◌else◌, Option, Some, None, is_some, unwrap_or, Result, Ok}
 use Rattle.login_setup.specs.declared.setup.PeerSetup.{PeerSetup}
 use Rattle.login_setup.specs.declared.setup.ServerSetup.{ServerSetup}
-use Rattle.eap_packet.specs.declared.cause.Cause.{Cause}
 use Rattle.eap_packet.specs.declared.state.State.{State}
 use Rattle.eap_method.specs.Peer.{PeerShown}
 use Rattle.eap_method.specs.Server.{ServerShown}
-use Rattle.eap_method.specs.Steps.{Step, enters}
+use Rattle.eap_method.specs.Steps.{Step, enters, step_with}
 use Rattle.eap_method.specs.Tags.{no_tags}
 use Rattle.eap_method.specs.declared.tags.Tags.{Tags}
 use Rattle.eap_method.specs.declared.values.Report.{Report}
@@ -18,30 +17,25 @@ use Rattle.server_machine.specs.ServerTable as servers
 use Rattle.server_machine.specs.ServerTable.{ServerValue, ServerNow, ServerAnswer, is_started, server_made, server_reports, server_start}
 use Rattle.server_machine.specs.declared.variables.Role.TheVariants.{StandAlone}
 use Rattle.server_machine.specs.declared.variables.ServerVariables.{ServerVariables}
+use Rattle.text_tables.specs.Fields.{◌>>=◌}
+use Rattle.text_tables.specs.declared.fault.LineFault.{LineFault}
+use Rattle.scenario_text.specs.Reading.{peer_setup_of, server_setup_of}
+use Rattle.scenario_text.specs.declared.settings.Settings.{Settings}
 use Rattle.end_pipe.specs.Inputs.{peer_input, server_input, is_skipped}
 use Rattle.end_pipe.specs.declared.input.EndInput.{EndInput}
 use Rattle.end_pipe.specs.declared.told.EndStep as brief
 
--- what an end does at its start or at an input: the states that it enters, the cause of a discard, whether the input was
--- skipped, the packet that it sends, a report that it first holds, and the records of the tags accepted and made
+-- what an end does at its start or at an input: its machine's step, whether the input was skipped, and a report that the end
+-- first holds
 pub record EndTold : Type 0 where
-  pub path : List State
-  pub cause : Option Cause
+  pub step : Step
   pub skipped : Bool
-  pub sent : Option (List ℕ)
   pub named : Option Report
-  pub tags : Tags
 
 -- what a call tells, with the packet and the records that it wrote
 abbrev pub told_with : brief.EndStep → List ℕ → Tags → EndTold
-told_with step packet tags = record {
-  path = step.path;
-  cause = step.cause;
-  skipped = step.skipped;
-  sent = if step.sends then Some packet else None;
-  named = step.named;
-  tags = tags;
-}
+told_with told packet tags =
+    record { step = step_with told.step packet tags; skipped = told.skipped; named = told.named }
 
 -- an end: what its machine is, and whether it has held a report
 pub record EndNow (N : Type 0) : Type 0 where
@@ -58,18 +52,42 @@ outcome told after = record { told = told; after = after }
 
 -- a skipped input changes nothing, and nothing else is told of it
 abbrev pub skips : {N : Type 0} → EndNow N → EndOutcome N
-skips e = outcome (record { path = []; cause = None; skipped = true; sent = None; named = None; tags = no_tags }) e
+skips e = outcome (record { step = enters [] no_tags; skipped = true; named = None }) e
 
 -- a report is named where the end first holds one
 abbrev pub first_report : Bool → Option Report → Option Report
 first_report held report = if held then None else report
 
--- the machine makes this step, is then so, and reports this
-abbrev pub goes : {N : Type 0} → Bool → Step → N → Option Report → EndOutcome N
-goes held step now report =
-    outcome
-    (record { path = step.path; cause = step.cause; skipped = false; sent = step.sent; named = first_report held report; tags = step.tags })
-    (record { now = now; held = held || is_some report })
+-- what a machine does at an input, and what it is then
+pub record Moved (N : Type 0) : Type 0 where
+  pub step : Step
+  pub after : N
+
+abbrev pub moved : {N : Type 0} → Step → N → Moved N
+moved step after = record { step = step; after = after }
+
+-- what settings begin: an end, and what is told of its start, where it has one
+pub record Begun (N : Type 0) : Type 0 where
+  pub told : Option EndTold
+  pub after : EndNow N
+
+-- a machine: what settings begin, what it does at each input, the state in which it stands, and what it reports
+pub record MachineTable (N : Type 0) : Type 0 where
+  pub begins : Settings → Result (Begun N) LineFault
+  pub moves : N → EndInput → Moved N
+  pub state : N → State
+  pub reports : N → Option Report
+
+-- what the machine did is told, and a report is named where the end first holds one
+abbrev pub goes : {N : Type 0} → (N → Option Report) → Bool → Moved N → EndOutcome N
+goes reports held out =
+    let report = reports out.after in
+    outcome (record { step = out.step; skipped = false; named = first_report held report })
+    (record { now = out.after; held = held || is_some report })
+
+-- an end at an input
+unfoldable pub end_step : {N : Type 0} → MachineTable N → EndNow N → EndInput → EndOutcome N
+end_step table e input = if is_skipped (table.state e.now) input then skips e else goes table.reports e.held (table.moves e.now input)
 
 -- the peer
 
@@ -77,15 +95,22 @@ abbrev pub peer_answers : PeerNow → Option PeerInput → PeerAnswer
 peer_answers now (Some input) = peer_takes now input
 peer_answers now None = peers.answer (enters [] no_tags) now
 
-abbrev pub peer_goes : Bool → PeerAnswer → EndOutcome PeerNow
-peer_goes held out = goes held out.step out.after (peer_reports out.after)
-
-unfoldable pub peer_step : EndNow PeerNow → EndInput → EndOutcome PeerNow
-peer_step e input =
-    if is_skipped e.now.vars.state input then skips e else peer_goes e.held (peer_answers e.now (peer_input input))
+abbrev pub peer_moved : PeerAnswer → Moved PeerNow
+peer_moved out = moved out.step out.after
 
 abbrev pub peer_begun : PeerSetup → EndNow PeerNow
 peer_begun setup = record { now = peer_made setup; held = false }
+
+abbrev pub peer_table : MachineTable PeerNow
+peer_table = record {
+  begins = λ settings. peer_setup_of settings >>= λ setup. Ok (record { told = None; after = peer_begun setup });
+  moves = λ now input. peer_moved (peer_answers now (peer_input input));
+  state = λ now. now.vars.state;
+  reports = peer_reports;
+}
+
+abbrev pub peer_step : EndNow PeerNow → EndInput → EndOutcome PeerNow
+peer_step = end_step peer_table
 
 -- the server; its start is no input
 
@@ -93,24 +118,37 @@ abbrev pub server_answers : ServerNow → Option ServerInput → ServerAnswer
 server_answers now (Some input) = server_takes now input
 server_answers now None = servers.answer (enters [] no_tags) now
 
-abbrev pub server_goes : Bool → ServerAnswer → EndOutcome ServerNow
-server_goes held out = goes held out.step out.after (server_reports out.after)
-
-unfoldable pub server_step : EndNow ServerNow → EndInput → EndOutcome ServerNow
-server_step e input =
-    if is_skipped e.now.vars.state input then skips e else server_goes e.held (server_answers e.now (server_input input))
+abbrev pub server_moved : ServerAnswer → Moved ServerNow
+server_moved out = moved out.step out.after
 
 abbrev pub server_unstarted : ServerSetup → ℕ → ℕ → EndNow ServerNow
 server_unstarted setup first_id max_retrans = record { now = server_made StandAlone setup first_id max_retrans; held = false }
 
 unfoldable pub server_starts : EndNow ServerNow → EndOutcome ServerNow
-server_starts e = server_goes e.held (server_start e.now)
+server_starts e = goes server_reports e.held (server_moved (server_start e.now))
+
+abbrev pub started : EndOutcome ServerNow → Begun ServerNow
+started out = record { told = Some out.told; after = out.after }
 
 abbrev pub server_begun : ServerSetup → ℕ → ℕ → EndNow ServerNow
 server_begun setup first_id max_retrans = (server_starts (server_unstarted setup first_id max_retrans)).after
 
--- an end that does this at an input: where it stands after inputs, one after the other, and what it tells of each
+abbrev pub server_table : MachineTable ServerNow
+server_table = record {
+  begins = λ settings.
+      server_setup_of settings >>= λ setup.
+      Ok (started (server_starts (server_unstarted setup (unwrap_or settings.first_id 0) (unwrap_or settings.max_retrans 4))));
+  moves = λ now input. server_moved (server_answers now (server_input input));
+  state = λ now. now.vars.state;
+  reports = server_reports;
+}
+
+abbrev pub server_step : EndNow ServerNow → EndInput → EndOutcome ServerNow
+server_step = end_step server_table
+
+-- an end that does this at an input
 module _ {N : Type 0} (step : EndNow N → EndInput → EndOutcome N) where
+  -- where it stands after inputs, one after the other, and what it tells of each
   unfoldable pub end_after : EndNow N → List EndInput → EndNow N
   end_after e [] = e
   end_after e (input ∷ rest) = end_after (step e input).after rest
@@ -119,34 +157,35 @@ module _ {N : Type 0} (step : EndNow N → EndInput → EndOutcome N) where
   told_of e [] = []
   told_of e (input ∷ rest) = (step e input).told ∷ told_of (step e input).after rest
 
--- a pipe as its fields show it, and what it is, where an object shows its method and view
-pub record PipeValue (V : Type 0) : Type 0 where
-  pub machine : V
+  -- an end that has begun so stands for inputs where it is as these have left it
+  abbrev pub StandsFor : EndNow N → List EndInput → EndNow N → Type 0
+  StandsFor begun inputs e = e ≡ end_after begun inputs
+
+  -- one more input, and what is told of it: that is the next of what is told of the inputs, and the end then stands for them all
+  pub record GoesOn (begun : EndNow N) (inputs : List EndInput) (input : EndInput) (told : EndTold) (after : EndNow N) : Type 0 where
+    pub next : told_of begun (inputs ++ input ∷ []) ≡ told_of begun inputs ++ told ∷ []
+    pub stands : StandsFor begun (inputs ++ input ∷ []) after
+
+abbrev pub PeerStandsFor : PeerSetup → List EndInput → EndNow PeerNow → Type 0
+PeerStandsFor setup = StandsFor peer_step (peer_begun setup)
+
+-- a server that has started
+abbrev pub ServerStandsFor : ServerSetup → ℕ → ℕ → List EndInput → EndNow ServerNow → Type 0
+ServerStandsFor setup first_id max_retrans = StandsFor server_step (server_begun setup first_id max_retrans)
+
+-- a pipe as its fields show it, and what it is, where that of its machine is shown
+pub record PipeValue (E : Type 0) : Type 0 where
+  pub machine : E
   pub held : Bool
 
+abbrev pub end_now : {E N : Type 0} → (E → N) → PipeValue E → EndNow N
+end_now shown pipe = record { now = shown pipe.machine; held = pipe.held }
+
 abbrev pub peer_end : {M : Type 0} → (M → PeerShown) → PipeValue (PeerValue M) → EndNow PeerNow
-peer_end shown pipe = record { now = peers.now_of shown pipe.machine; held = pipe.held }
+peer_end shown = end_now (peers.now_of shown)
 
 abbrev pub server_end : {M : Type 0} → (M → ServerShown) → PipeValue (ServerValue M) → EndNow ServerNow
-server_end shown pipe = record { now = servers.now_of shown pipe.machine; held = pipe.held }
-
--- a peer, and a server that has started, stand for inputs where they are as these have left them
-abbrev pub PeerStandsFor : PeerSetup → List EndInput → EndNow PeerNow → Type 0
-PeerStandsFor setup inputs e = e ≡ end_after peer_step (peer_begun setup) inputs
-
-abbrev pub ServerStandsFor : ServerSetup → ℕ → ℕ → List EndInput → EndNow ServerNow → Type 0
-ServerStandsFor setup first_id max_retrans inputs e = e ≡ end_after server_step (server_begun setup first_id max_retrans) inputs
-
--- one more input, and what is told of it: that is the next of what is told of the inputs, and the end then stands for them all
-pub record PeerGoesOn (setup : PeerSetup) (inputs : List EndInput) (input : EndInput) (told : EndTold) (after : EndNow PeerNow) : Type 0 where
-  pub next : told_of peer_step (peer_begun setup) (inputs ++ input ∷ []) ≡ told_of peer_step (peer_begun setup) inputs ++ told ∷ []
-  pub stands : PeerStandsFor setup (inputs ++ input ∷ []) after
-
-pub record ServerGoesOn (setup : ServerSetup) (first_id max_retrans : ℕ) (inputs : List EndInput) (input : EndInput) (told : EndTold)
-    (after : EndNow ServerNow) : Type 0 where
-  pub next : told_of server_step (server_begun setup first_id max_retrans) (inputs ++ input ∷ [])
-      ≡ told_of server_step (server_begun setup first_id max_retrans) inputs ++ told ∷ []
-  pub stands : ServerStandsFor setup first_id max_retrans (inputs ++ input ∷ []) after
+server_end shown = end_now (servers.now_of shown)
 
 -- a stand-alone server that has started
 pub record IsServing (vars : ServerVariables) : Type 0 where

@@ -1,11 +1,13 @@
 -- The table of the lines of an end's text: each keyword, and what the words after it stand for.
-use Rattle.std.specs.Prelude.{List, [], ◌∷◌, Bool, if◌then◌else◌, codes}
+use Rattle.std.specs.Prelude.{List, [], ◌∷◌, codes}
 use Rattle.text_tables.specs.Rows.{Row, row}
 use Rattle.text_tables.specs.declared.rows.Field.TheVariants.{Hex}
 use Rattle.scenario_text.specs.Keywords as scenario
 use Rattle.scenario_text.specs.declared.keyword.Keyword.TheVariants as key
 use Rattle.end_pipe.specs.declared.table.EndWord.{EndWord}
 use Rattle.end_pipe.specs.declared.table.EndWord.TheVariants as word
+use Rattle.end_pipe.specs.declared.table.Role.{Role}
+use Rattle.end_pipe.specs.declared.table.Role.TheVariants.{Peer, Server}
 
 -- a setting has its row of a scenario of the second version
 abbrev pub row_of : EndWord → Row
@@ -18,18 +20,13 @@ row_of word.AltAccept = row (codes "alt-accept") 0 []
 row_of word.AltReject = row (codes "alt-reject") 0 []
 row_of word.End = row (codes "end") 0 []
 
-abbrev pub peer_words : List EndWord
-peer_words =
+-- the keywords of each end's text
+abbrev pub end_words : Role → List EndWord
+end_words Peer =
     word.Setting key.PeerName ∷ word.Setting key.PeerServer ∷ word.Setting key.PeerMethods ∷ word.Setting key.PeerSuites
     ∷ word.Setting key.PeerPsk ∷ word.Setting key.PeerNonce ∷ word.Setting key.PeerExpanded
     ∷ word.Events ∷ word.Packet ∷ word.Idle ∷ word.AltAccept ∷ word.AltReject ∷ word.End ∷ []
-
-abbrev pub server_words : List EndWord
-server_words =
+end_words Server =
     word.Setting key.FirstId ∷ word.Setting key.MaxRetrans ∷ word.Setting key.ServerName ∷ word.Setting key.ServerMethods
     ∷ word.Setting key.ServerSuites ∷ word.Setting key.ServerNonce ∷ word.Setting key.ServerExpanded ∷ word.Setting key.User
     ∷ word.Events ∷ word.Packet ∷ word.Timeout ∷ word.End ∷ []
-
--- the keywords of the server's text, or of the peer's
-abbrev pub end_words : Bool → List EndWord
-end_words server = if server then server_words else peer_words

@@ -1,39 +1,20 @@
-//! The peer alone, over what comes to it.
+//! The peer alone.
 
-ghost use Rattle.std.specs.Prelude.{◌≡◌, ◌||◌, [], List, map, true, false, is_some};
+ghost use Rattle.std.specs.Prelude.{◌≡◌, [], map, true};
 ghost use Rattle.login_setup.specs.Setup.{IsSoundPeer, HasKeys};
-ghost use Rattle.login_setup.specs.declared.setup.PeerSetup.{PeerSetup};
 ghost use Rattle.eap_method.specs.Peer.{have_each, peer_kinds};
-ghost use Rattle.eap_method.specs.Steps.{is_end, step_with};
-ghost use Rattle.peer_machine.specs.PeerTable.{answer, now_of, peer_reports};
-ghost use Rattle.end_pipe.specs.EndRun.{first_report, outcome, peer_answers, peer_begun, peer_end, peer_step, told_with, PeerGoesOn, PeerStandsFor};
-ghost use Rattle.end_pipe.specs.Inputs.{is_octets, is_skipped, peer_input};
-ghost use Rattle.end_pipe.specs.declared.input.EndInput.{EndInput};
+ghost use Rattle.end_pipe.specs.EndRun.{PeerStandsFor, peer_begun, peer_end};
 
 use crate::input::EndInput;
-use crate::told::EndStep;
+use crate::pipe::{EndPipe, Machine};
 use eap_base::Packet;
 use eap_method::{PeerMethod, Report, Step, Tags};
 use eap_packet::State;
 use login_setup::PeerSetup;
 use peer_machine::PeerMachine;
-use std::marker::Model;
 
-/// The peer of RFC 4137 section 4 alone. Contracts see its machine, and whether it has held a report.
-#[derive(Drop)]
-pub struct PeerPipe<M> {
-    machine: PeerMachine<M>,
-    held: bool,
-}
-
-impl<M> Model for PeerPipe<M> {
-    ghost use Rattle.end_pipe.specs.EndRun.{PipeValue};
-    ghost use Rattle.peer_machine.specs.PeerTable.{PeerValue};
-
-    ghost Value = { PipeValue (PeerValue M) };
-
-    ghost view = { λ p. record { machine = p.machine; held = p.held } };
-}
+/// The peer of RFC 4137 section 4 alone.
+pub type PeerPipe<M> = EndPipe<PeerMachine<M>>;
 
 impl<M: PeerMethod> PeerPipe<M> {
     /// The peer of these settings, to which nothing has come. Each method that they allow has an object.
@@ -45,96 +26,42 @@ impl<M: PeerMethod> PeerPipe<M> {
         ensures begun { peer_end M.peer_shown result ≡ peer_begun setup }
         ensures stands { PeerStandsFor setup [] (peer_end M.peer_shown result) }
     {
-        PeerPipe {
+        EndPipe {
             machine: PeerMachine::new(setup, methods),
             held: false,
         }
     }
+}
 
-    /// What comes next to the peer. The packet that is sent is written into `packet`, the records of the tags into `tags`,
-    /// in place of what was there; without a packet that is sent, nothing counts in `packet`. A report of the lower layer
-    /// after the end is skipped. The end of a timer is none of the peer's inputs, and does nothing.
-    pub fn step(&mut self, input: &EndInput, packet: &mut Packet, tags: &mut Tags) -> EndStep
-        ensures step { peer_step (peer_end M.peer_shown self.old) input.now
-            ≡ outcome (told_with result packet.new tags.new) (peer_end M.peer_shown self.new) }
-        ensures goes_on { (setup : PeerSetup) (inputs : List EndInput) → PeerStandsFor setup inputs (peer_end M.peer_shown self.old)
-            → PeerGoesOn setup inputs input.now (told_with result packet.new tags.new) (peer_end M.peer_shown self.new) }
-    {
-        self.step_by_table(input, packet, tags)
-    }
+impl<M: PeerMethod> Machine for PeerMachine<M> {
+    ghost use Rattle.peer_machine.specs.PeerTable.{PeerNow, now_of};
+    ghost use Rattle.end_pipe.specs.EndRun.{peer_table};
 
-    /// The state in which the peer stands: IDLE, SUCCESS or FAILURE.
-    pub fn state(&self) -> State
-        ensures { result ≡ self.now.machine.vars.state }
-    {
-        self.machine.state()
-    }
+    ghost Now = { PeerNow };
 
-    /// The same as `step`, by the table of its rows.
-    #[tactic(auto, unfolding(crate::specs::EndRun::peer_step))]
-    fn step_by_table(&mut self, input: &EndInput, packet: &mut Packet, tags: &mut Tags) -> EndStep
-        ensures { peer_step (peer_end M.peer_shown self.old) input.now
-            ≡ outcome (told_with result packet.new tags.new) (peer_end M.peer_shown self.new) }
-    {
-        if !input.is_octets() && self.machine.ended() {
-            packet.clear();
-            tags.clear();
-            return EndStep::skipping();
+    ghost shown = { now_of M.peer_shown };
+
+    ghost table = { peer_table };
+
+    ghost is_going = { λ machine. Unit {0} };
+
+    fn take(&mut self, input: &EndInput, packet: &mut Packet, tags: &mut Tags) -> Step {
+        packet.clear();
+        tags.clear();
+        match input {
+            EndInput::Octets(octets) => self.deliver(octets.as_slice(), packet, tags),
+            EndInput::Idle => self.idle(),
+            EndInput::AltAccept => self.alt_accept(),
+            EndInput::AltReject => self.alt_reject(),
+            EndInput::Timeout => Step::entering(&[]),
         }
-        let step = take(&mut self.machine, input, packet, tags);
-        let named = first_report(&mut self.held, &self.machine);
-        EndStep::of(step, named)
     }
-}
 
-/// The machine takes an input that isn't skipped.
-fn take<M: PeerMethod>(
-    machine: &mut PeerMachine<M>,
-    input: &EndInput,
-    packet: &mut Packet,
-    tags: &mut Tags,
-) -> Step
-    requires { is_skipped machine.old.vars.state input.now ≡ false }
-    ensures { peer_answers (now_of M.peer_shown machine.old) (peer_input input.now)
-        ≡ answer (step_with result packet.new tags.new) (now_of M.peer_shown machine.new) }
-{
-    match input {
-        EndInput::Octets(octets) => machine.deliver(octets.as_slice(), packet, tags),
-        _ => report(machine, input, packet, tags),
+    fn state(&self) -> State {
+        self.state()
     }
-}
 
-/// The peer's lower layer reports something. Nothing is sent for it, and no tag made.
-fn report<M: PeerMethod>(
-    machine: &mut PeerMachine<M>,
-    input: &EndInput,
-    packet: &mut Packet,
-    tags: &mut Tags,
-) -> Step
-    requires other { is_octets input.now ≡ false }
-    requires going { is_end machine.old.vars.state ≡ false }
-    ensures { peer_answers (now_of M.peer_shown machine.old) (peer_input input.now)
-        ≡ answer (step_with result packet.new tags.new) (now_of M.peer_shown machine.new) }
-{
-    packet.clear();
-    tags.clear();
-    match input {
-        EndInput::Idle => machine.idle(),
-        EndInput::AltAccept => machine.alt_accept(),
-        EndInput::AltReject => machine.alt_reject(),
-        _ => Step::entering(&[]),
+    fn report(&self) -> Option<Report> {
+        self.report()
     }
-}
-
-/// What the peer reports, where it first holds a report.
-fn first_report<M: PeerMethod>(held: &mut bool, machine: &PeerMachine<M>) -> Option<Report>
-    ensures named { result ≡ first_report held.old (peer_reports (now_of M.peer_shown machine.now)) }
-    ensures held { held.new ≡ (held.old || is_some (peer_reports (now_of M.peer_shown machine.now))) }
-{
-    if *held {
-        return None;
-    }
-    let report = machine.report();
-    *held = report.is_some();
-    report
 }

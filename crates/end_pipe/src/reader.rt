@@ -13,7 +13,7 @@ ghost use Rattle.scenario_text.specs.declared.scenario.Phase.TheVariants as phas
 
 use crate::entry::{EndEntry, read_end_entry};
 use crate::input::EndInput;
-use crate::table::EndWord;
+use crate::table::{EndWord, Role};
 use login_setup::{PeerSetup, ServerSetup};
 use scenario_text::{Phase, Settings};
 use std::marker::Model;
@@ -35,8 +35,7 @@ pub enum EndItem {
 /// Reads the text of the peer or of the server. A refused line leaves the reader as it was.
 #[derive(Drop)]
 pub struct EndReader {
-    /// Whether the end is the server.
-    server: bool,
+    role: Role,
     phase: Phase,
     settings: Settings,
 }
@@ -47,18 +46,18 @@ impl Model for EndReader {
 
     ghost Value = { EndReading };
 
-    ghost view = { λ r. record { server = r.server; phase = r.phase; settings = r.settings } };
+    ghost view = { λ r. record { role = r.role; phase = r.phase; settings = r.settings } };
 
     ghost invariant = { λ r. AreValid r.settings };
 }
 
 impl EndReader {
-    /// A reader that has read no line: of the server's text, or of the peer's.
-    pub fn new(server: bool) -> EndReader
-        ensures { result ≡ reading.unread server }
+    /// A reader of this end's text that has read no line.
+    pub fn new(role: Role) -> EndReader
+        ensures { result ≡ reading.unread role }
     {
         EndReader {
-            server,
+            role,
             phase: Phase::Unread,
             settings: Settings::new(),
         }
@@ -123,7 +122,7 @@ impl EndReader {
 
     /// Reads line 1.
     fn read_header(&mut self, line: &[u8]) -> Result<EndItem, LineFault>
-        ensures read { (input : EndInput) → reading.read_header self.old.server line.now ≡ answered result self.new input }
+        ensures read { (input : EndInput) → reading.read_header self.old.role line.now ≡ answered result self.new input }
         ensures ready { IfOk result (λ item. HasSetup item self.new) }
         ensures unchanged { OnErr result (self.new ≡ self.old) }
     {
@@ -137,7 +136,7 @@ impl EndReader {
 
     /// Reads a line after the first.
     fn read_body(&mut self, line: &[u8], input: &mut EndInput) -> Result<EndItem, LineFault>
-        ensures read { reading.read_body self.old.server self.old.phase self.old.settings line.now ≡ answered result self.new input.new }
+        ensures read { reading.read_body self.old.role self.old.phase self.old.settings line.now ≡ answered result self.new input.new }
         ensures ready { IfOk result (λ item. HasSetup item self.new) }
         ensures unchanged { OnErr result (self.new ≡ self.old) }
     {
@@ -147,7 +146,7 @@ impl EndReader {
         if !is_printable_line(line) {
             return Err(LineFault::BadWord);
         }
-        match EndWord::of_line(self.server, line) {
+        match EndWord::of_line(self.role, line) {
             None => Err(LineFault::BadWord),
             Some(word) => self.read_words(word, line, input),
         }
@@ -160,7 +159,7 @@ impl EndReader {
         line: &[u8],
         input: &mut EndInput,
     ) -> Result<EndItem, LineFault>
-        ensures read { read_words self.old.server self.old.phase self.old.settings word (words line.now) ≡ answered result self.new input.new }
+        ensures read { read_words self.old.role self.old.phase self.old.settings word (words line.now) ≡ answered result self.new input.new }
         ensures ready { IfOk result (λ item. HasSetup item self.new) }
         ensures unchanged { OnErr result (self.new ≡ self.old) }
     {
@@ -187,7 +186,7 @@ impl EndReader {
     #[tactic(auto, unfolding(crate::specs::EndReading::take))]
     fn take(&mut self, entry: EndEntry) -> Result<EndItem, LineFault>
         requires { IsValidTold entry }
-        ensures read { (input : EndInput) → reading.take self.old.server self.old.phase self.old.settings (entry_with entry input) ≡ answered result self.new input }
+        ensures read { (input : EndInput) → reading.take self.old.role self.old.phase self.old.settings (entry_with entry input) ≡ answered result self.new input }
         ensures ready { IfOk result (λ item. HasSetup item self.new) }
         ensures unchanged { OnErr result (self.new ≡ self.old) }
     {
@@ -201,7 +200,7 @@ impl EndReader {
     /// may stand.
     #[tactic(auto, unfolding(crate::specs::EndReading::fault_of_entry))]
     fn fault_of(&self, entry: &EndEntry) -> Option<LineFault>
-        ensures { (input : EndInput) → result ≡ fault_of_entry self.now.server self.now.phase self.now.settings (entry_with entry.now input) }
+        ensures { (input : EndInput) → result ≡ fault_of_entry self.now.role self.now.phase self.now.settings (entry_with entry.now input) }
     {
         if self.came_before(entry) {
             Some(LineFault::Repeated)
@@ -226,7 +225,7 @@ impl EndReader {
 
     /// True for the line `events` where a needed setting has not come.
     fn is_missing(&self, entry: &EndEntry) -> bool
-        ensures { (input : EndInput) → result ≡ is_missing self.now.server self.now.settings (entry_with entry.now input) }
+        ensures { (input : EndInput) → result ≡ is_missing self.now.role self.now.settings (entry_with entry.now input) }
     {
         match entry {
             EndEntry::Events => self.lacks_some(),
@@ -236,12 +235,11 @@ impl EndReader {
 
     /// True where a setting that the end needs has not come. (By itself, so that no other line makes room for a setup.)
     fn lacks_some(&self) -> bool
-        ensures { result ≡ lacks_some self.now.server self.now.settings }
+        ensures { result ≡ lacks_some self.now.role self.now.settings }
     {
-        if self.server {
-            self.settings.server().is_err()
-        } else {
-            self.settings.peer().is_err()
+        match self.role {
+            Role::Peer => self.settings.peer().is_err(),
+            Role::Server => self.settings.server().is_err(),
         }
     }
 
@@ -258,8 +256,8 @@ impl EndReader {
     /// Adds what a line says.
     fn add(&mut self, entry: EndEntry) -> EndItem
         requires valid { IsValidTold entry }
-        requires whole { (input : EndInput) → is_missing self.old.server self.old.settings (entry_with entry input) ≡ false }
-        ensures read { (input : EndInput) → Ok (taken self.old.server self.old.phase self.old.settings (entry_with entry input)) ≡ answered (Ok result) self.new input }
+        requires whole { (input : EndInput) → is_missing self.old.role self.old.settings (entry_with entry input) ≡ false }
+        ensures read { (input : EndInput) → Ok (taken self.old.role self.old.phase self.old.settings (entry_with entry input)) ≡ answered (Ok result) self.new input }
         ensures ready { HasSetup result self.new }
     {
         match entry {

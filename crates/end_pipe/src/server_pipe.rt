@@ -1,18 +1,15 @@
-//! The stand-alone server alone, over what comes to it.
+//! The stand-alone server alone.
 
-ghost use Rattle.std.specs.Prelude.{◌≡◌, ◌≤◌, ◌||◌, [], ℕ, List, map, true, false, is_some};
+ghost use Rattle.std.specs.Prelude.{◌≡◌, ◌≤◌, [], ℕ, map, true, false};
 ghost use Rattle.login_setup.specs.Setup.{IsSoundServer};
 ghost use Rattle.login_setup.specs.declared.setup.ServerSetup.{ServerSetup};
 ghost use Rattle.eap_method.specs.Peer.{have_each};
 ghost use Rattle.eap_method.specs.Server.{server_kinds};
-ghost use Rattle.eap_method.specs.Steps.{step_with};
-ghost use Rattle.server_machine.specs.ServerTable.{answer, is_started, now_of, server_reports};
-ghost use Rattle.end_pipe.specs.EndRun.{first_report, outcome, server_answers, server_end, server_starts, server_step, server_unstarted, told_with};
-ghost use Rattle.end_pipe.specs.EndRun.{IsServing, ServerGoesOn, ServerStandsFor};
-ghost use Rattle.end_pipe.specs.Inputs.{is_skipped, server_input};
-ghost use Rattle.end_pipe.specs.declared.input.EndInput.{EndInput};
+ghost use Rattle.server_machine.specs.ServerTable.{is_started};
+ghost use Rattle.end_pipe.specs.EndRun.{ServerStandsFor, outcome, server_end, server_starts, server_unstarted, told_with};
 
 use crate::input::EndInput;
+use crate::pipe::{EndPipe, Machine, first_report};
 use crate::told::EndStep;
 use eap_base::Packet;
 use eap_method::{Report, ServerMethod, Step, Tags};
@@ -21,25 +18,26 @@ use login_setup::ServerSetup;
 use server_machine::ServerMachine;
 use std::marker::Model;
 
-/// The stand-alone server of RFC 4137 section 5 alone. Contracts see its machine, and whether it has held a report.
+/// The machine of a stand-alone server, and of no backend. Contracts see it.
 #[derive(Drop)]
-pub struct ServerPipe<M> {
+pub struct StandAloneServer<M> {
     machine: ServerMachine<M>,
-    held: bool,
 }
 
-impl<M> Model for ServerPipe<M> {
+impl<M> Model for StandAloneServer<M> {
     ghost use Rattle.std.specs.Prelude.{◌≡◌};
-    ghost use Rattle.end_pipe.specs.EndRun.{PipeValue};
     ghost use Rattle.server_machine.specs.ServerTable.{ServerValue};
     ghost use Rattle.server_machine.specs.declared.variables.Role.TheVariants.{StandAlone};
 
-    ghost Value = { PipeValue (ServerValue M) };
+    ghost Value = { ServerValue M };
 
-    ghost view = { λ p. record { machine = p.machine; held = p.held } };
+    ghost view = { λ s. s.machine };
 
-    ghost invariant = { λ p. p.machine.vars.role ≡ StandAlone };
+    ghost invariant = { λ s. s.machine.vars.role ≡ StandAlone };
 }
+
+/// The stand-alone server of RFC 4137 section 5 alone.
+pub type ServerPipe<M> = EndPipe<StandAloneServer<M>>;
 
 impl<M: ServerMethod> ServerPipe<M> {
     /// The server of these settings, which hasn't started. Each method that it proposes has an object; `max_retrans` is
@@ -50,8 +48,10 @@ impl<M: ServerMethod> ServerPipe<M> {
         requires objects { have_each (server_kinds (map M.server_shown methods.items)) setup.methods ≡ true }
         ensures unstarted { server_end M.server_shown result ≡ server_unstarted setup first_id max_retrans }
     {
-        ServerPipe {
-            machine: ServerMachine::new(setup, first_id, max_retrans, methods),
+        EndPipe {
+            machine: StandAloneServer {
+                machine: ServerMachine::new(setup, first_id, max_retrans, methods),
+            },
             held: false,
         }
     }
@@ -69,38 +69,15 @@ impl<M: ServerMethod> ServerPipe<M> {
         self.start_by_table(packet, tags)
     }
 
-    /// What comes next to the server, which has started: octets, or the end of its timer. The packet that is sent is
-    /// written into `packet`, the records of the tags into `tags`, in place of what was there; without a packet that is
-    /// sent, nothing counts in `packet`. The end of the timer after the end is skipped. A report of the lower layer is none
-    /// of the server's inputs, and does nothing.
-    pub fn step(&mut self, input: &EndInput, packet: &mut Packet, tags: &mut Tags) -> EndStep
-        requires { is_started self.old.machine.vars ≡ true }
-        ensures step { server_step (server_end M.server_shown self.old) input.now
-            ≡ outcome (told_with result packet.new tags.new) (server_end M.server_shown self.new) }
-        ensures started { is_started self.new.machine.vars ≡ true }
-        ensures goes_on { (setup : ServerSetup) (first_id max_retrans : ℕ) (inputs : List EndInput)
-            → ServerStandsFor setup first_id max_retrans inputs (server_end M.server_shown self.old)
-            → ServerGoesOn setup first_id max_retrans inputs input.now (told_with result packet.new tags.new) (server_end M.server_shown self.new) }
-    {
-        self.step_by_table(input, packet, tags)
-    }
-
     /// True once the server has started.
     pub fn started(&self) -> bool
         ensures { result ≡ is_started self.now.machine.vars }
     {
-        self.machine.started()
+        let server = &self.machine;
+        server.machine.started()
     }
 
-    /// The state in which the server stands: INITIALIZE before the start, then IDLE, SUCCESS, FAILURE or
-    /// TIMEOUT_FAILURE.
-    pub fn state(&self) -> State
-        ensures { result ≡ self.now.machine.vars.state }
-    {
-        self.machine.state()
-    }
-
-    /// The same as `start`, by the table of its rows.
+    /// The same as `start`, without the clause that follows from the others.
     #[tactic(auto, unfolding(crate::specs::EndRun::server_starts))]
     fn start_by_table(&mut self, packet: &mut Packet, tags: &mut Tags) -> EndStep
         requires { is_started self.old.machine.vars ≡ false }
@@ -109,66 +86,45 @@ impl<M: ServerMethod> ServerPipe<M> {
         ensures started { is_started self.new.machine.vars ≡ true }
     {
         tags.clear();
-        let step = self.machine.start(packet);
+        let server = &mut self.machine;
+        let step = server.machine.start(packet);
         let named = first_report(&mut self.held, &self.machine);
-        EndStep::of(step, named)
-    }
-
-    /// The same as `step`, by the table of its rows.
-    #[tactic(auto, unfolding(crate::specs::EndRun::server_step))]
-    fn step_by_table(&mut self, input: &EndInput, packet: &mut Packet, tags: &mut Tags) -> EndStep
-        requires { is_started self.old.machine.vars ≡ true }
-        ensures step { server_step (server_end M.server_shown self.old) input.now
-            ≡ outcome (told_with result packet.new tags.new) (server_end M.server_shown self.new) }
-        ensures started { is_started self.new.machine.vars ≡ true }
-    {
-        if !input.is_octets() && self.machine.ended() {
-            packet.clear();
-            tags.clear();
-            return EndStep::skipping();
-        }
-        let step = take(&mut self.machine, input, packet, tags);
-        let named = first_report(&mut self.held, &self.machine);
-        EndStep::of(step, named)
-    }
-}
-
-/// The machine takes an input that isn't skipped.
-fn take<M: ServerMethod>(
-    machine: &mut ServerMachine<M>,
-    input: &EndInput,
-    packet: &mut Packet,
-    tags: &mut Tags,
-) -> Step
-    requires serving { IsServing machine.old.vars }
-    requires going { is_skipped machine.old.vars.state input.now ≡ false }
-    ensures step { server_answers (now_of M.server_shown machine.old) (server_input input.now)
-        ≡ answer (step_with result packet.new tags.new) (now_of M.server_shown machine.new) }
-    ensures serving { IsServing machine.new.vars }
-{
-    match input {
-        EndInput::Octets(octets) => machine.deliver(octets.as_slice(), packet, tags),
-        EndInput::Timeout => {
-            tags.clear();
-            machine.timeout(packet)
-        }
-        _ => {
-            packet.clear();
-            tags.clear();
-            Step::entering(&[])
+        EndStep {
+            step,
+            skipped: false,
+            named,
         }
     }
 }
 
-/// What the server reports, where it first holds a report.
-fn first_report<M: ServerMethod>(held: &mut bool, machine: &ServerMachine<M>) -> Option<Report>
-    ensures named { result ≡ first_report held.old (server_reports (now_of M.server_shown machine.now)) }
-    ensures held { held.new ≡ (held.old || is_some (server_reports (now_of M.server_shown machine.now))) }
-{
-    if *held {
-        return None;
+impl<M: ServerMethod> Machine for StandAloneServer<M> {
+    ghost use Rattle.std.specs.Prelude.{◌≡◌, true};
+    ghost use Rattle.server_machine.specs.ServerTable.{ServerNow, is_started, now_of};
+    ghost use Rattle.end_pipe.specs.EndRun.{server_table};
+
+    ghost Now = { ServerNow };
+
+    ghost shown = { now_of M.server_shown };
+
+    ghost table = { server_table };
+
+    ghost is_going = { λ machine. is_started machine.vars ≡ true };
+
+    fn take(&mut self, input: &EndInput, packet: &mut Packet, tags: &mut Tags) -> Step {
+        packet.clear();
+        tags.clear();
+        match input {
+            EndInput::Octets(octets) => self.machine.deliver(octets.as_slice(), packet, tags),
+            EndInput::Timeout => self.machine.timeout(packet),
+            _ => Step::entering(&[]),
+        }
     }
-    let report = machine.report();
-    *held = report.is_some();
-    report
+
+    fn state(&self) -> State {
+        self.machine.state()
+    }
+
+    fn report(&self) -> Option<Report> {
+        self.machine.report()
+    }
 }

@@ -3,10 +3,17 @@
 ghost use Rattle.std.specs.Prelude.{◌≡◌};
 ghost use Rattle.text_tables.specs.Words.{words};
 ghost use Rattle.text_tables.specs.Rows.{keyword_in};
-ghost use Rattle.end_pipe.specs.EndTable.{row_of, peer_words, server_words, end_words};
+ghost use Rattle.end_pipe.specs.EndTable.{row_of, end_words};
 
 use scenario_text::Keyword;
 use text_tables::{Field, Row, word_in};
+
+/// Which end of a login a text is of.
+#[derive(Clone, Copy, PartialEq, Eq, Debug)]
+pub enum Role {
+    Peer,
+    Server,
+}
 
 /// The first word of a line.
 #[derive(Clone, Copy)]
@@ -74,36 +81,25 @@ impl EndWord {
         }
     }
 
-    /// The keyword that a line begins with, if it is one of the end: of the server, or of the peer.
-    pub fn of_line(server: bool, line: &[u8]) -> Option<EndWord>
-        ensures { result ≡ keyword_in row_of (end_words server) (words line.now) }
-    {
-        if server {
-            EndWord::of_server(line)
-        } else {
-            EndWord::of_peer(line)
-        }
-    }
-
+    /// The keyword that a line begins with, if it is one of this end's text.
     #[tactic(auto, unfolding(text_tables::specs::Rows::keyword_in))]
-    fn of_peer(line: &[u8]) -> Option<EndWord>
-        ensures { result ≡ keyword_in row_of peer_words (words line.now) }
+    pub fn of_line(role: Role, line: &[u8]) -> Option<EndWord>
+        ensures { result ≡ keyword_in row_of (end_words role) (words line.now) }
     {
         let word = word_in(line, 0);
-        PEER_WORDS
+        words_of(role)
             .iter()
             .copied()
             .find(|keyword| word == keyword.row().word)
     }
+}
 
-    #[tactic(auto, unfolding(text_tables::specs::Rows::keyword_in))]
-    fn of_server(line: &[u8]) -> Option<EndWord>
-        ensures { result ≡ keyword_in row_of server_words (words line.now) }
-    {
-        let word = word_in(line, 0);
-        SERVER_WORDS
-            .iter()
-            .copied()
-            .find(|keyword| word == keyword.row().word)
+/// The keywords of this end's text.
+fn words_of(role: Role) -> &'static [EndWord]
+    ensures { result.now ≡ end_words role }
+{
+    match role {
+        Role::Peer => &PEER_WORDS,
+        Role::Server => &SERVER_WORDS,
     }
 }

@@ -1,22 +1,23 @@
 -- The world over an interleaving is each end over its own inputs.
-use Rattle.std.proofs.Common.{◌≡◌, List, [], ◌∷◌, Bool, true, false, map, Some, refl, sym, ap, ◌∙◌, cond}
+use Rattle.std.proofs.Common.{◌≡◌, List, [], ◌∷◌, Bool, true, false, map, Some, refl, sym, ap, ◌∙◌, cond, Option}
 use Rattle.std.proofs.lemmas.Bool.{and_parts}
 use Rattle.std.specs.List.{list_all}
 use Rattle.login_setup.specs.declared.setup.Mode.TheVariants as mode
 use Rattle.login_setup.specs.declared.setup.Setup.{Setup}
 use Rattle.eap_method.specs.Steps.{is_end}
+use Rattle.eap_method.specs.declared.values.Report.{Report}
 use Rattle.peer_machine.specs.Inputs as peer_inputs
 use Rattle.peer_machine.specs.Inputs.{PeerInput, peer_takes}
-use Rattle.peer_machine.specs.PeerTable.{PeerAnswer, PeerNow}
+use Rattle.peer_machine.specs.PeerTable.{PeerNow}
 use Rattle.server_machine.specs.Inputs as server_inputs
 use Rattle.server_machine.specs.Inputs.{server_takes}
-use Rattle.server_machine.specs.ServerTable.{ServerAnswer, ServerNow}
+use Rattle.server_machine.specs.ServerTable.{ServerNow}
 use Rattle.eap_world.specs.Conversations.{Conversations}
 use Rattle.eap_world.specs.Sent.{Sent}
 use Rattle.eap_world.specs.World as world
 use Rattle.eap_world.specs.World.{Parties, WorldNow, act, called_unless, first_skip, run_after, world_made, world_start, world_step}
 use Rattle.eap_world.specs.declared.told.Skip.TheVariants.{Ended, NoTimer}
-use Rattle.end_pipe.specs.EndRun.{EndNow, end_after, peer_answers, peer_begun, peer_goes, peer_step, skips, server_answers, server_begun, server_goes, server_starts, server_step}
+use Rattle.end_pipe.specs.EndRun.{EndNow, Moved, MachineTable, end_after, end_step, goes as end_goes, peer_answers, peer_begun, peer_step, peer_table, skips, server_answers, server_begun, server_starts, server_step, server_table}
 use Rattle.end_pipe.specs.Inputs.{is_skipped, peer_input, server_input}
 use Rattle.joined_laws.specs.Joined.{Comes, InterleavingsAreRuns, event_of, is_input, peers_of, servers_of, to_peer, to_server}
 use Rattle.end_pipe.specs.declared.input.EndInput.{EndInput}
@@ -29,22 +30,15 @@ peer_moved now input = cond (is_skipped now.vars.state input) now (peer_answers 
 abbrev pub server_moved : ServerNow → EndInput → ServerNow
 server_moved now input = cond (is_skipped now.vars.state input) now (server_answers now (server_input input)).after
 
-peer_by : (e : EndNow PeerNow) (out : PeerAnswer) (skipped : Bool) → (cond skipped (skips e) (peer_goes e.held out)).after.now ≡ cond skipped e.now out.after
-peer_by e out true = refl
-peer_by e out false = refl
+moved_by : {N : Type 0} (reports : N → Option Report) (e : EndNow N) (out : Moved N) (skipped : Bool)
+    → (cond skipped (skips e) (end_goes reports e.held out)).after.now ≡ cond skipped e.now out.after
+moved_by reports e out true = refl
+moved_by reports e out false = refl
 
-pub peer_moves : (e : EndNow PeerNow) (input : EndInput) → (peer_step e input).after.now ≡ peer_moved e.now input
-unfolding peer_step
-peer_moves e input = peer_by e (peer_answers e.now (peer_input input)) (is_skipped e.now.vars.state input)
-
-server_by : (e : EndNow ServerNow) (out : ServerAnswer) (skipped : Bool)
-    → (cond skipped (skips e) (server_goes e.held out)).after.now ≡ cond skipped e.now out.after
-server_by e out true = refl
-server_by e out false = refl
-
-pub server_moves : (e : EndNow ServerNow) (input : EndInput) → (server_step e input).after.now ≡ server_moved e.now input
-unfolding server_step
-server_moves e input = server_by e (server_answers e.now (server_input input)) (is_skipped e.now.vars.state input)
+pub moves : {N : Type 0} (table : MachineTable N) (e : EndNow N) (input : EndInput)
+    → (end_step table e input).after.now ≡ cond (is_skipped (table.state e.now) input) e.now (table.moves e.now input).after
+unfolding end_step
+moves table e input = moved_by table.reports e (table.moves e.now input) (is_skipped (table.state e.now) input)
 
 -- what comes to one end makes that of it, and nothing of the other
 abbrev pub peer_next : Comes → PeerNow → PeerNow
@@ -118,13 +112,13 @@ goes w p s [] alone peer server fit = record { peer = peer; server = server }
 goes w p s (to_peer input ∷ rest) alone peer server fit =
     let parts = and_parts (is_input (to_peer input)) (list_all is_input rest) fit in
     let n = acts_so w.parties w.conversations w.sent (to_peer input) alone parts.0 in
-    let moved = n.peer ∙ (ap (λ (now : PeerNow). peer_moved now input) peer ∙ sym (peer_moves p input)) in
+    let moved = n.peer ∙ (ap (λ (now : PeerNow). peer_moved now input) peer ∙ sym (moves peer_table p input)) in
     let g = goes (world_step w (event_of (to_peer input))).after (peer_step p input).after s rest n.alone moved (n.server ∙ server) parts.1 in
     record { peer = g.peer; server = g.server }
 goes w p s (to_server input ∷ rest) alone peer server fit =
     let parts = and_parts (is_input (to_server input)) (list_all is_input rest) fit in
     let n = acts_so w.parties w.conversations w.sent (to_server input) alone parts.0 in
-    let moved = n.server ∙ (ap (λ (now : ServerNow). server_moved now input) server ∙ sym (server_moves s input)) in
+    let moved = n.server ∙ (ap (λ (now : ServerNow). server_moved now input) server ∙ sym (moves server_table s input)) in
     let g = goes (world_step w (event_of (to_server input))).after p (server_step s input).after rest n.alone (n.peer ∙ peer) moved parts.1 in
     record { peer = g.peer; server = g.server }
 

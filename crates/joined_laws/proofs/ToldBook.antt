@@ -1,5 +1,5 @@
 -- The book of the world over an interleaving is that of the tags which both ends tell.
-use Rattle.std.proofs.Common.{◌≡◌, ℕ, ◌+◌, List, [], ◌∷◌, ◌++◌, Bool, true, false, map, Some, refl, sym, ap, ◌∙◌, cond, append_assoc, append-nil}
+use Rattle.std.proofs.Common.{◌≡◌, ℕ, ◌+◌, List, [], ◌∷◌, ◌++◌, Bool, true, false, map, Some, refl, sym, ap, ◌∙◌, cond, append_assoc, append-nil, Option}
 use Rattle.std.proofs.lemmas.Bool.{and_parts}
 use Rattle.std.specs.List.{list_all}
 use Rattle.login_setup.specs.declared.setup.Mode.TheVariants as mode
@@ -7,12 +7,13 @@ use Rattle.login_setup.specs.declared.setup.Setup.{Setup}
 use Rattle.eap_method.specs.Steps.{is_end}
 use Rattle.eap_method.specs.Tags.{no_tags}
 use Rattle.eap_method.specs.declared.tags.Tags.{Tags}
+use Rattle.eap_method.specs.declared.values.Report.{Report}
 use Rattle.peer_machine.specs.Inputs as peer_inputs
 use Rattle.peer_machine.specs.Inputs.{PeerInput, peer_takes}
-use Rattle.peer_machine.specs.PeerTable.{PeerAnswer, PeerNow}
+use Rattle.peer_machine.specs.PeerTable.{PeerNow}
 use Rattle.server_machine.specs.Inputs as server_inputs
 use Rattle.server_machine.specs.Inputs.{server_takes}
-use Rattle.server_machine.specs.ServerTable.{ServerAnswer, ServerNow, server_start}
+use Rattle.server_machine.specs.ServerTable.{ServerNow, server_start}
 use Rattle.tag_book.specs.Book.{booked}
 use Rattle.eap_world.specs.World as world
 use Rattle.eap_world.specs.World.{Action, Called, Parties, Skipped, WorldNow, act, booked_by, called_unless, counted, first_skip, run_after, world_made, world_start, world_step}
@@ -20,11 +21,11 @@ use Rattle.tag_book.specs.declared.book.End.TheVariants as end
 use Rattle.tag_book.specs.declared.book.Entry.{Entry}
 use Rattle.eap_world.specs.declared.told.Counts.{Counts}
 use Rattle.eap_world.specs.declared.told.Skip.TheVariants.{Ended, NoTimer}
-use Rattle.end_pipe.specs.EndRun.{EndNow, peer_answers, peer_begun, peer_goes, peer_step, server_answers, server_begun, server_goes, server_step, skips}
+use Rattle.end_pipe.specs.EndRun.{EndNow, MachineTable, Moved, end_step, goes as end_goes, peer_answers, peer_begun, peer_step, peer_table, server_answers, server_begun, server_step, server_table, skips}
 use Rattle.end_pipe.specs.Inputs.{is_skipped, peer_input, server_input}
 use Rattle.end_pipe.specs.declared.input.EndInput.{EndInput}
 use Rattle.end_pipe.specs.declared.input.EndInput.TheVariants as inputs
-use Rattle.joined_laws.proofs.Interleaved.{acts_so, begun, peer_moved, peer_moves, server_moved, server_moves}
+use Rattle.joined_laws.proofs.Interleaved.{acts_so, begun, moves, peer_moved, server_moved}
 use Rattle.joined_laws.specs.Joined.{BookIsTold, Comes, event_of, is_input, to_peer, to_server, told_book}
 
 -- the tags of an end at an input
@@ -35,22 +36,15 @@ abbrev server_tags : ServerNow → EndInput → Tags
 server_tags now input = cond (is_skipped now.vars.state input) no_tags (server_answers now (server_input input)).step.tags
 
 -- that it tells
-peer_by : (e : EndNow PeerNow) (out : PeerAnswer) (skipped : Bool) → (cond skipped (skips e) (peer_goes e.held out)).told.tags ≡ cond skipped no_tags out.step.tags
-peer_by e out true = refl
-peer_by e out false = refl
+tells_by : {N : Type 0} (reports : N → Option Report) (e : EndNow N) (out : Moved N) (skipped : Bool)
+    → (cond skipped (skips e) (end_goes reports e.held out)).told.step.tags ≡ cond skipped no_tags out.step.tags
+tells_by reports e out true = refl
+tells_by reports e out false = refl
 
-peer_tells : (e : EndNow PeerNow) (input : EndInput) → (peer_step e input).told.tags ≡ peer_tags e.now input
-unfolding peer_step
-peer_tells e input = peer_by e (peer_answers e.now (peer_input input)) (is_skipped e.now.vars.state input)
-
-server_by : (e : EndNow ServerNow) (out : ServerAnswer) (skipped : Bool)
-    → (cond skipped (skips e) (server_goes e.held out)).told.tags ≡ cond skipped no_tags out.step.tags
-server_by e out true = refl
-server_by e out false = refl
-
-server_tells : (e : EndNow ServerNow) (input : EndInput) → (server_step e input).told.tags ≡ server_tags e.now input
-unfolding server_step
-server_tells e input = server_by e (server_answers e.now (server_input input)) (is_skipped e.now.vars.state input)
+tells : {N : Type 0} (table : MachineTable N) (e : EndNow N) (input : EndInput)
+    → (end_step table e input).told.step.tags ≡ cond (is_skipped (table.state e.now) input) no_tags (table.moves e.now input).step.tags
+unfolding end_step
+tells table e input = tells_by table.reports e (table.moves e.now input) (is_skipped (table.state e.now) input)
 
 -- ---- that the world books
 
@@ -112,27 +106,27 @@ told w p s (to_peer input ∷ rest) alone peer server fit =
     let next : WorldNow = (world_step w (event_of (to_peer input))).after in
     let stepped = steps w (to_peer input) alone parts.0 in
     let out = peer_step p input in
-    let tags = ap (λ (now : PeerNow). peer_tags now input) peer ∙ sym (peer_tells p input) in
-    let moved = n.peer ∙ (ap (λ (now : PeerNow). peer_moved now input) peer ∙ sym (peer_moves p input)) in
+    let tags = ap (λ (now : PeerNow). peer_tags now input) peer ∙ sym (tells peer_table p input) in
+    let moved = n.peer ∙ (ap (λ (now : PeerNow). peer_moved now input) peer ∙ sym (moves peer_table p input)) in
     told next out.after s rest n.alone moved (n.server ∙ server) parts.1
     ∙ ap (λ (all : List Entry). all ++ told_book next.counts.events out.after s rest) stepped.book
     ∙ ap (λ (number : ℕ). (w.book ++ booked (w.counts.events + 1) end.Peer (peer_tags w.parties.peer input)) ++ told_book number out.after s rest) stepped.events
     ∙ ap (λ (t : Tags). (w.book ++ booked (w.counts.events + 1) end.Peer t) ++ told_book (w.counts.events + 1) out.after s rest) tags
-    ∙ append_assoc w.book (booked (w.counts.events + 1) end.Peer out.told.tags) (told_book (w.counts.events + 1) out.after s rest)
+    ∙ append_assoc w.book (booked (w.counts.events + 1) end.Peer out.told.step.tags) (told_book (w.counts.events + 1) out.after s rest)
 told w p s (to_server input ∷ rest) alone peer server fit =
     let parts = and_parts (is_input (to_server input)) (list_all is_input rest) fit in
     let n = acts_so w.parties w.conversations w.sent (to_server input) alone parts.0 in
     let next : WorldNow = (world_step w (event_of (to_server input))).after in
     let stepped = steps w (to_server input) alone parts.0 in
     let out = server_step s input in
-    let tags = ap (λ (now : ServerNow). server_tags now input) server ∙ sym (server_tells s input) in
-    let moved = n.server ∙ (ap (λ (now : ServerNow). server_moved now input) server ∙ sym (server_moves s input)) in
+    let tags = ap (λ (now : ServerNow). server_tags now input) server ∙ sym (tells server_table s input) in
+    let moved = n.server ∙ (ap (λ (now : ServerNow). server_moved now input) server ∙ sym (moves server_table s input)) in
     told next p out.after rest n.alone (n.peer ∙ peer) moved parts.1
     ∙ ap (λ (all : List Entry). all ++ told_book next.counts.events p out.after rest) stepped.book
     ∙ ap (λ (number : ℕ). (w.book ++ booked (w.counts.events + 1) end.Server (server_tags w.parties.server input)) ++ told_book number p out.after rest)
     stepped.events
     ∙ ap (λ (t : Tags). (w.book ++ booked (w.counts.events + 1) end.Server t) ++ told_book (w.counts.events + 1) p out.after rest) tags
-    ∙ append_assoc w.book (booked (w.counts.events + 1) end.Server out.told.tags) (told_book (w.counts.events + 1) p out.after rest)
+    ∙ append_assoc w.book (booked (w.counts.events + 1) end.Server out.told.step.tags) (told_book (w.counts.events + 1) p out.after rest)
 
 -- the start books nothing and is no event
 record Starts (w : WorldNow) : Type 0 where

@@ -88,9 +88,9 @@ InterleavingsAreRuns =
 unfoldable pub told_book : ℕ → EndNow PeerNow → EndNow ServerNow → List Comes → List Entry
 told_book number p s [] = []
 told_book number p s (to_peer input ∷ rest) =
-    let out = peer_step p input in booked (number + 1) end.Peer out.told.tags ++ told_book (number + 1) out.after s rest
+    let out = peer_step p input in booked (number + 1) end.Peer out.told.step.tags ++ told_book (number + 1) out.after s rest
 told_book number p s (to_server input ∷ rest) =
-    let out = server_step s input in booked (number + 1) end.Server out.told.tags ++ told_book (number + 1) p out.after rest
+    let out = server_step s input in booked (number + 1) end.Server out.told.step.tags ++ told_book (number + 1) p out.after rest
 
 -- these are the book of the world
 abbrev pub BookIsTold : Type 0

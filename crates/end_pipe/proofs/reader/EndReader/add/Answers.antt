@@ -13,6 +13,6 @@ invariant_of-self c =
 
 pub returns-in-Events-clause-ready : goal.returns-in-Events-clause-ready
 returns-in-Events-clause-ready c =
-    let IsSo : EndReading → Type 0 = λ r. AreWhole r.server r.settings in
-    let is_there : lacks_some c.args.self.now.server c.args.self.now.settings ≡ false = rw c.in-Events.is at (c.requires.whole inputs.Idle) in
-    subst IsSo (sym c.self.view_is) (whole c.args.self.now.server c.args.self.now.settings is_there)
+    let IsSo : EndReading → Type 0 = λ r. AreWhole r.role r.settings in
+    let is_there : lacks_some c.args.self.now.role c.args.self.now.settings ≡ false = rw c.in-Events.is at (c.requires.whole inputs.Idle) in
+    subst IsSo (sym c.self.view_is) (whole c.args.self.now.role c.args.self.now.settings is_there)

@@ -9,5 +9,5 @@ use Rattle.end_pipe.proofs.reader.EndReader.take.Goals as goal
 pub add-requires-clause-whole : goal.add-requires-clause-whole
 unfolding fault_of_entry
 add-requires-clause-whole c = λ input.
-    no_fault (entry_has c.args.self.now.server c.args.self.now.phase c.args.self.now.settings (entry_with c.args.entry input))
+    no_fault (entry_has c.args.self.now.role c.args.self.now.phase c.args.self.now.settings (entry_with c.args.entry input))
     (sym (c.fault_of.ensures input) ∙ c.in-None.is) fault.Missing

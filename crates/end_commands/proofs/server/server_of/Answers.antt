@@ -1,7 +1,7 @@
 use Rattle.std.proofs.Common.{map}
 use Rattle.eap_method.specs.Server.{server_kinds}
 use Rattle.end_commands.proofs.Objects.{have_methods}
-use Rattle.end_commands.proofs.ends.server_of.Goals as goal
+use Rattle.end_commands.proofs.server.server_of.Goals as goal
 
 pub new-requires-clause-objects : goal.new-requires-clause-objects
 new-requires-clause-objects g c =

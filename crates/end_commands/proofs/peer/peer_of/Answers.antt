@@ -1,7 +1,7 @@
 use Rattle.std.proofs.Common.{map}
 use Rattle.eap_method.specs.Peer.{peer_kinds}
 use Rattle.end_commands.proofs.Objects.{have_methods}
-use Rattle.end_commands.proofs.ends.peer_of.Goals as goal
+use Rattle.end_commands.proofs.peer.peer_of.Goals as goal
 
 pub new-requires-clause-objects : goal.new-requires-clause-objects
 new-requires-clause-objects g c =
