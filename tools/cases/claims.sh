@@ -84,6 +84,8 @@ Nothing is odd.
 TEXT
 printf '# Agreement\n\n> Each double is even.\n\nSo it is by `doubles_are_even`.\n' >"$pages/docs/AGREEMENT.md"
 printf '# Trusted\n\n- The prover.\n- The machine.\n' >"$pages/docs/TRUSTED.md"
+printf '# Limits\n\nNo time.\n' >"$pages/docs/LIMITS.md"
+printf '# For C\n\nA header.\n' >"$pages/docs/EMBEDDING.md"
 printf '# crate, edits, tried, refused, date, sum, toolchain\nsmall wrong 1 1 2026-01-01 0 kit\n' >"$pages/wrong/refused.txt"
 cat >"$pages/docs/ANSWERS.md" <<'TEXT'
 # Answers
@@ -148,7 +150,8 @@ cat >"$pages/docs/TESTED.md" <<'TEXT'
 | tests in code | 0 |
 | stored outputs in `examples/` | 0 |
 TEXT
-cat >"$pages/docs/EMBEDDING.md" <<'TEXT'
+cat >>"$pages/docs/ANSWERS.md" <<'TEXT'
+
 ## What each call asks first
 
 | Asked | Calls | Test |
@@ -210,8 +213,8 @@ claims_tell "a count of lines" README.md 's/, 0, 0 |/, 1, 0 |/' \
     "README.md:17: Lines of code, of definitions, of proofs, of tests: $(sed -n 's/^| Lines.* | \(.*\) |/\1/p' "$work/whole/README.md") are counted"
 claims_tell "a count that went" docs/TESTED.md '/tests in code/d' "tests in code: no page says how many there are"
 claims_tell "a cost" README.md 's/1,234/1,235/' "README.md: bench/README.md doesn't have 1,235"
-claims_tell "a condition" docs/EMBEDDING.md 's/`double`/`same`/' "EMBEDDING.md doesn't say what small::double asks first" \
-    "EMBEDDING.md: small::same asks nothing"
+claims_tell "a condition" docs/ANSWERS.md 's/`double`/`same`/' "ANSWERS.md doesn't say what small::double asks first" \
+    "ANSWERS.md: small::same asks nothing"
 claims_tell "a file of definitions" crates/small/specs/Even.antt '1s/^--.*//' \
     "crates/small/specs/Even.antt doesn't begin with what it holds"
 claims_tell "a crate" docs/CLAIMS.md 's/## `small`/## `large`/' "CLAIMS.md:9: large is no crate"
