@@ -6,7 +6,7 @@ from typing import Dict, Iterable, Iterator, List, Set, Tuple
 from lib import sources
 from lib.sources import Item, Repository, Source
 
-# The standards of the second table, in its order.
+# The standards of the table by sections, in its order.
 STANDARDS = ("RFC 3748", "RFC 4137", "RFC 4764", "RFC 5433")
 
 # docs/READING.md: which promise takes how much reading.
