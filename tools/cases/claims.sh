@@ -84,6 +84,8 @@ Nothing is odd.
 TEXT
 printf '# Agreement\n\n> Each double is even.\n\nSo it is by `doubles_are_even`.\n' >"$pages/docs/AGREEMENT.md"
 printf '# Trusted\n\n- The prover.\n- The machine.\n' >"$pages/docs/TRUSTED.md"
+printf '# Limits\n\nNo time.\n' >"$pages/docs/LIMITS.md"
+printf '# For C\n\nA header.\n' >"$pages/docs/EMBEDDING.md"
 printf '# crate, edits, tried, refused, date, sum, toolchain\nsmall wrong 1 1 2026-01-01 0 kit\n' >"$pages/wrong/refused.txt"
 cat >"$pages/docs/ANSWERS.md" <<'TEXT'
 # Answers
@@ -148,7 +150,8 @@ cat >"$pages/docs/TESTED.md" <<'TEXT'
 | tests in code | 0 |
 | stored outputs in `examples/` | 0 |
 TEXT
-cat >"$pages/docs/EMBEDDING.md" <<'TEXT'
+cat >>"$pages/docs/ANSWERS.md" <<'TEXT'
+
 ## What each call asks first
 
 | Asked | Calls | Test |
@@ -160,7 +163,7 @@ cat >"$pages/docs/ARCHITECTURE.md" <<'TEXT'
 TEXT
 echo 'small double: even' >"$pages/docs/claims.inner"
 "$pages/tools/claims" --read all >"$work/said"
-has_line "claims: read are 3 of 3 rows, 12 of 12 sentences, 5 of 5 definitions" "claims --read"
+has_line "claims: read are 3 of 3 rows, 14 of 14 sentences, 5 of 5 definitions" "claims --read"
 cp -r "$pages" "$work/whole"
 
 # tools/claims writes this line, over the pages after a change: a file of theirs, and what sed does to it.
@@ -179,7 +182,7 @@ code=crates/small/src/lib.rt
 unread="its sentence or its clauses changed since they were read: tools/claims --read"
 
 "$pages/tools/claims" >"$work/said" 2>&1 || fail "claims fails over whole pages: $(head -n 1 "$work/said")"
-has_line "claims: 85 passed, 0 failed" "claims"
+has_line "claims: 88 passed, 0 failed" "claims"
 
 claims_tell "a call" docs/CLAIMS.md 's/double: twice/same/' \
     "CLAIMS.md:9: same has no \`ensures\`" "small double: no row names its clause twice"
@@ -210,8 +213,8 @@ claims_tell "a count of lines" README.md 's/, 0, 0 |/, 1, 0 |/' \
     "README.md:17: Lines of code, of definitions, of proofs, of tests: $(sed -n 's/^| Lines.* | \(.*\) |/\1/p' "$work/whole/README.md") are counted"
 claims_tell "a count that went" docs/TESTED.md '/tests in code/d' "tests in code: no page says how many there are"
 claims_tell "a cost" README.md 's/1,234/1,235/' "README.md: bench/README.md doesn't have 1,235"
-claims_tell "a condition" docs/EMBEDDING.md 's/`double`/`same`/' "EMBEDDING.md doesn't say what small::double asks first" \
-    "EMBEDDING.md: small::same asks nothing"
+claims_tell "a condition" docs/ANSWERS.md 's/`double`/`same`/' "ANSWERS.md doesn't say what small::double asks first" \
+    "ANSWERS.md: small::same asks nothing"
 claims_tell "a file of definitions" crates/small/specs/Even.antt '1s/^--.*//' \
     "crates/small/specs/Even.antt doesn't begin with what it holds"
 claims_tell "a crate" docs/CLAIMS.md 's/## `small`/## `large`/' "CLAIMS.md:9: large is no crate"
@@ -241,11 +244,11 @@ claims_tell "a statement" docs/AGREEMENT.md 's/^> Each/> Some/' "AGREEMENT.md:3:
 claims_tell "what is trusted" docs/TRUSTED.md 's/prover/reader/' "TRUSTED.md:3: $changed TRUSTED.md:3"
 claims_tell "a sentence that went" docs/TRUSTED.md '/prover/d' \
     "TRUSTED.md: 1 of its sentences that were read are gone: - The prover.: tools/claims --read TRUSTED.md"
-claims_tell "what is asked" docs/EMBEDDING.md 's/a small/any/' "EMBEDDING.md:5: $changed EMBEDDING.md:5"
+claims_tell "what is asked" docs/ANSWERS.md 's/a small/any/' "ANSWERS.md:25: $changed ANSWERS.md:25"
 claims_tell "the header" c/tuvaddri.h 's/Nothing/All/' "tuvaddri.h:1: $changed tuvaddri.h:1"
 below="changed since it was read, and on it rest"
 claims_tell "a definition below" crates/small/specs/Rest.antt 's/by \* quotient/quotient/' "small::Rest::rest $below \
-CLAIMS.md:9, CLAIMS.md:10, README.md:5, ANSWERS.md:9, AGREEMENT.md:3, AGREEMENT.md:5, EMBEDDING.md:5: tools/claims --read small::Rest::rest"
+CLAIMS.md:9, CLAIMS.md:10, README.md:5, ANSWERS.md:9, ANSWERS.md:25, AGREEMENT.md:3, AGREEMENT.md:5: tools/claims --read small::Rest::rest"
 claims_tell "the words above a law" $code 's/is doubled/is halved/' "small::lib::doubles_are_even $below \
 CLAIMS.md:10, README.md:5, ANSWERS.md:9, AGREEMENT.md:3, AGREEMENT.md:5: tools/claims --read small::lib::doubles_are_even"
 # What nobody promises, and the comment of a definition, may change.
@@ -268,7 +271,7 @@ count=$((count + 1))
 has_line "tools/claims: nothing that is read is called TRUSTED.md:99" "claims --read"
 rm "$pages/docs/claims.sums"
 "$pages/tools/claims" --read small >"$work/said"
-has_line "claims: read are 3 of 3 rows, 1 of 11 sentences, 5 of 5 definitions" "claims --read"
+has_line "claims: read are 3 of 3 rows, 1 of 13 sentences, 5 of 5 definitions" "claims --read"
 rm "$pages/docs/claims.inner"
 "$pages/tools/claims" --inner >"$work/said"
 has_line "small double: even" "claims --inner"

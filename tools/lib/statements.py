@@ -17,7 +17,7 @@ HEADER = "c/tuvaddri.h"
 AGREEMENT = "docs/AGREEMENT.md"
 # (the pages whose sentences are read, each with those of its sections that are, or all)
 SENTENCES = {"README.md": ("What is promised", "What isn't"), "docs/CLAIMS.md": (), "docs/ANSWERS.md": (), AGREEMENT: (),
-             "docs/TRUSTED.md": (), "docs/EMBEDDING.md": ()}
+             "docs/LIMITS.md": (), "docs/TRUSTED.md": (), "docs/EMBEDDING.md": ()}
 
 
 def sum_of(words: Iterable[str]) -> str:

@@ -1,4 +1,4 @@
-"""The tables of what is to be read: by file, by section of the standards, and those of docs/READING.md."""
+"""The tables of what is to be read: by file, by section of the standards, and that of docs/READING.md."""
 
 import re
 from typing import Dict, Iterable, Iterator, List, Set, Tuple
@@ -6,22 +6,22 @@ from typing import Dict, Iterable, Iterator, List, Set, Tuple
 from lib import sources
 from lib.sources import Item, Repository, Source
 
-# The standards of the second table, in its order.
+# The standards of the table by sections, in its order.
 STANDARDS = ("RFC 3748", "RFC 4137", "RFC 4764", "RFC 5433")
 
-# docs/READING.md: which promise takes how much reading, what of which crate, and where each section of a standard went.
+# docs/READING.md: which promise takes how much reading.
 PROMISES = ("world_laws::honest_ends_agree", "world_laws::one_end_tells", "smooth_laws::smooth_logins_succeed",
             "login_call::eap_login", "login_keys::gpsk_keys", "eax_mode::eax_seal", "aes_block::Aes128::encrypt")
 
 Section = Tuple[str, str]
 
 
-def listed(sections: Iterable[Section], between: str = ", ") -> str:
+def listed(sections: Iterable[Section]) -> str:
     """Sections in words, those of one standard together."""
     by_standard: Dict[str, List[str]] = {}
     for standard, number in sections:
         by_standard.setdefault(standard, []).append(number)
-    return between.join(f"{standard} {', '.join(numbers)}" for standard, numbers in by_standard.items()) or "–"
+    return ", ".join(f"{standard} {', '.join(numbers)}" for standard, numbers in by_standard.items()) or "–"
 
 
 def sections_in(source: Source, items: List[Item]) -> List[Section]:
@@ -93,29 +93,9 @@ def of_sections(repository: Repository, order: List[Item]) -> Iterator[str]:
         yield f"| {' '.join(section)} | {'; '.join(told)} |"
 
 
-def of_crates(repository: Repository, order: List[Item]) -> Iterator[str]:
-    """A crate a row, with the lines of each of its files."""
-    yield from ("| Crate | Lines to read of each file | Sections |", "|---|---|---|")
-    crates: Dict[str, Tuple[List[str], Dict[Section, None]]] = {}
-    for file, items in by_file(order).items():
-        source = repository.sources[file]
-        files, found = crates.setdefault(source.crate, ([], {}))
-        files.append(f"`{file.split('/', 2)[2]}` {lines_of(items)}")
-        found.update(dict.fromkeys(sections_in(source, items)))
-    for crate, (files, found) in crates.items():
-        yield f"| `{crate}` | {', '.join(files)} | {listed(found, '; ')} |"
-
-
 def of_promises(repository: Repository) -> Iterator[str]:
-    """The lines of the tables of docs/READING.md."""
+    """The lines of the table of docs/READING.md."""
     orders = [sources.closure(repository, repository.root(it))[0] for it in PROMISES]
     yield from ("| Promise | Files | Definitions | Lines |", "|---|---|---|---|")
     for promise, order in zip(PROMISES, orders):
         yield f"| `{promise}` | {len(by_file(order))} | {named(order)} | {lines_of(order)} |"
-    yield ""
-    yield from of_crates(repository, orders[0])
-    yield from ("", "| Section | Where it is defined |", "|---|---|")
-    both, _ = sources.closure(repository, repository.root(PROMISES[0]) + repository.root(PROMISES[3]))
-    for section, files in by_section(repository, both):
-        told = [f"`{file.removeprefix('crates/')}`" for file in files]
-        yield f"| {' '.join(section)} | {', '.join(told)} |"
