@@ -26,7 +26,7 @@ for crate in $(sed -n 's/^\([a-z_]*\):.*/\1/p' "$work/crates.txt"); do
     done
 done
 (cd "$work" && rt new crates/login_count start_io >/dev/null 2>&1)
-echo 'login_count: eap_base eap_method eap_world gpsk_ends psk_ends scenario_text world_commands' >>"$work/crates.txt"
+echo 'login_count: login_setup eap_method eap_world gpsk_ends psk_ends scenario_text world_commands' >>"$work/crates.txt"
 crate="$work/crates/login_count"
 rm -rf "$crate/proofs" "$crate/specs" "$crate/src" "$crate/stdin" "$crate/stdout" "$crate/BUILD.bazel"
 mkdir -p "$crate/src" "$crate/proofs/login_of"
@@ -43,10 +43,10 @@ ghost use Rattle.eap_world.specs.World.{HasObjects};
 ghost use Rattle.scenario_text.specs.Valid.{IsValidSetup};
 ghost use Rattle.world_commands.specs.Replay.{HasBoth};
 
-use eap_base::{Event, Setup};
 use eap_method::{PeerMethod, ServerMethod};
 use eap_world::{MAX_EVENTS, Methods, Verdict, World};
 use gpsk_ends::{GpskPeer, GpskServer};
+use login_setup::{Event, Setup};
 use psk_ends::{PskPeer, PskServer};
 use scenario_text::{Item, ScenarioReader};
 use std::alloc::Global;
