@@ -290,7 +290,7 @@ static void disturb(void)
 		break;
 	default: break;
 	}
-	if (any(4))
+	if (any(2))
 		call(to, by, p.octets, p.len);
 	else
 		call(any(HANDLES), any(CALLS), p.octets, p.len);
@@ -441,6 +441,8 @@ int main(int argc, char *argv[])
 		return 2;
 	state = strtoull(argv[1], NULL, 10);
 	most = strtoul(argv[2], NULL, 10);
+	if (tuv_version() != TUV_VERSION)
+		fail("the header is of another version");
 	before = malloc(tuv_end_size());
 	if (!before)
 		return 5;
