@@ -1,5 +1,7 @@
+pub mod Failures
 pub mod Heard
 pub mod Keys
+pub mod Nonces
 pub mod PeerLogin
 pub mod PeerStage
 pub mod Sealed

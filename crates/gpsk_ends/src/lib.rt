@@ -4,10 +4,12 @@
 
 mod hearing;
 mod keys;
+mod nonces;
 mod peer;
 mod records;
 mod sealing;
 mod server;
 
+pub use nonces::Nonces;
 pub use peer::GpskPeer;
 pub use server::GpskServer;

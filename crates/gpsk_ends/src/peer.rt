@@ -9,6 +9,7 @@ mod offer;
 mod stage;
 mod turns;
 
+use crate::nonces::Nonces;
 use crate::peer::login::Begun;
 use crate::peer::stage::Stage;
 use crate::peer::turns::take;
@@ -34,6 +35,9 @@ impl Model for GpskPeer {
 }
 
 impl GpskPeer {
+    ghost use Rattle.gpsk_ends.specs.Failures.{peer_has_failed};
+    ghost use Rattle.gpsk_ends.specs.Nonces.{peer_nonces};
+
     /// A peer that has not begun: it answers no Request, and holds no report.
     pub fn new() -> GpskPeer
         ensures { result ≡ unset }
@@ -41,6 +45,20 @@ impl GpskPeer {
         GpskPeer {
             stage: Stage::Unset,
         }
+    }
+
+    /// The nonces of a login that succeeded; None before and after any other.
+    pub fn nonces(&self) -> Option<Nonces>
+        ensures { result ≡ peer_nonces self.now }
+    {
+        self.stage.nonces()
+    }
+
+    /// Whether the login has failed: GPSK-Fail or GPSK-Protected-Fail came (RFC 5433 section 10).
+    pub fn has_failed(&self) -> bool
+        ensures { result ≡ peer_has_failed self.now }
+    {
+        self.stage.has_failed()
     }
 }
 

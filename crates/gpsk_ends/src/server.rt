@@ -8,6 +8,7 @@ mod login;
 mod stage;
 mod turns;
 
+use crate::nonces::Nonces;
 use crate::server::login::Begun;
 use crate::server::stage::{Alone, Stage};
 use crate::server::turns::{ask, take};
@@ -34,6 +35,9 @@ impl Model for GpskServer {
 }
 
 impl GpskServer {
+    ghost use Rattle.gpsk_ends.specs.Failures.{is_unknown, server_has_failed};
+    ghost use Rattle.gpsk_ends.specs.Nonces.{server_nonces};
+
     /// A server that has not begun: it answers no Response, and holds no report.
     pub fn new() -> GpskServer
         ensures { result ≡ unset }
@@ -41,6 +45,27 @@ impl GpskServer {
         GpskServer {
             stage: Stage::Unset,
         }
+    }
+
+    /// The nonces of a login that succeeded; None before and after any other.
+    pub fn nonces(&self) -> Option<Nonces>
+        ensures { result ≡ server_nonces self.now }
+    {
+        self.stage.nonces()
+    }
+
+    /// Whether it has sent GPSK-Fail to a user that it doesn't know (RFC 5433 section 10).
+    pub fn is_unknown(&self) -> bool
+        ensures { result ≡ is_unknown self.now }
+    {
+        self.stage.is_unknown()
+    }
+
+    /// Whether it has sent GPSK-Protected-Fail to a user that it knows, who is barred.
+    pub fn has_failed(&self) -> bool
+        ensures { result ≡ server_has_failed self.now }
+    {
+        self.stage.has_failed()
     }
 }
 

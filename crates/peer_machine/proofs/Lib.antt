@@ -4,6 +4,8 @@ mod Worked
 pub mod Requests
 -- A method's turn, settled in the variables, is METHOD's row.
 pub mod Settling
+-- What the first object of a method shows is the method's view.
+pub mod Selected
 -- What the peer makes of an input is one of the rows of its table.
 pub mod PeerRows
 -- What a delivery comes to: the row of its table, a refusal, or the row of the plain form, expressed.

@@ -1,6 +1,6 @@
 //! The peer of RFC 4137 section 4 over the objects of its methods.
 
-ghost use Rattle.std.specs.Prelude.{◌≡◌, ◌≢◌, ◌≤◌, [], ◌∷◌, ◌++◌, length, slice_index, true, false, map, None, Some, Ok, ℕ, List};
+ghost use Rattle.std.specs.Prelude.{◌≡◌, ◌≢◌, ◌≤◌, [], ◌∷◌, ◌++◌, length, slice_index, true, false, map, None, Some, Ok, ℕ, List, option_map};
 ghost use Rattle.eap_base.specs.Among.{is_among, expanded_kind, ietf, nak_kind};
 ghost use Rattle.login_setup.specs.Setup.{IsSoundPeer, HasKeys};
 ghost use Rattle.eap_packet.specs.Packet.{spelled, value_of, IsPacket, max_type_data};
@@ -14,8 +14,8 @@ ghost use Rattle.eap_method.specs.Steps.{step_with};
 ghost use Rattle.eap_method.specs.Tags.{no_tags};
 ghost use Rattle.eap_method.specs.Unnamed.{KeepsPeers};
 ghost use Rattle.peer_machine.specs.Expanded.{express};
-ghost use Rattle.peer_machine.specs.PeerTable.{before_method, method_answers, settled, answer, is_allowed};
-ghost use Rattle.eap_method.specs.Peer.{IsRequest, PeerViews, have_each, peer_views, peer_turn, peer_kinds};
+ghost use Rattle.peer_machine.specs.PeerTable.{before_method, method_answers, settled, answer, is_allowed, first_of, selected_shown, selected_view};
+ghost use Rattle.eap_method.specs.Peer.{IsRequest, PeerShown, PeerViews, have_each, peer_views, peer_turn, peer_kinds};
 
 use crate::variables::PeerVariables;
 use eap_base::{EXPANDED, IDENTITY, IETF, NAK, NOTIFICATION, Nonce, Packet, VENDOR_SIZE};
@@ -204,6 +204,19 @@ impl<M: PeerMethod> PeerMachine<M> {
         match self.vars.selected {
             None => None,
             Some(kind) => peer_report(self.methods.as_slice(), kind),
+        }
+    }
+
+    /// The object of the selected method, the first of its Type, which shows the method's view. None where no method is
+    /// selected, or there is no object of it.
+    pub fn selected(&self) -> Option<&M>
+        ensures shown { option_map (λ o. M.peer_shown o.now) result ≡ selected_shown self.now.vars.selected (map M.peer_shown self.now.methods) }
+        ensures view { (shown : PeerShown) → option_map (λ o. M.peer_shown o.now) result ≡ Some shown
+            → selected_view (now_of M.peer_shown self.now) ≡ Some shown }
+    {
+        match self.vars.selected {
+            None => None,
+            Some(kind) => object_of(self.methods.as_slice(), kind),
         }
     }
 
@@ -728,5 +741,21 @@ fn has_object<M: PeerMethod>(methods: &[M], kind: u8) -> bool
     match methods.split_first() {
         None => false,
         Some((first, rest)) => first.kind() == kind || has_object(rest, kind),
+    }
+}
+
+/// The first object of this Type.
+fn object_of<M: PeerMethod>(methods: &[M], kind: u8) -> Option<&M>
+    ensures { option_map (λ o. M.peer_shown o.now) result ≡ first_of kind (map M.peer_shown methods.now) }
+{
+    match methods.split_first() {
+        None => None,
+        Some((first, rest)) => {
+            if first.kind() == kind {
+                Some(first)
+            } else {
+                object_of(rest, kind)
+            }
+        }
     }
 }

@@ -1,3 +1,5 @@
 pub mod Checks
+pub mod Failures
+pub mod Nonces
 pub mod PeerStage
 pub mod ServerStage

@@ -4,10 +4,12 @@
 
 mod channel;
 mod keys;
+mod nonces;
 mod octets;
 mod peer;
 mod records;
 mod server;
 
+pub use nonces::Nonces;
 pub use peer::PskPeer;
 pub use server::PskServer;

@@ -8,6 +8,7 @@ mod psk4;
 mod stage;
 mod turns;
 
+use crate::nonces::Nonces;
 use crate::peer::login::Begun;
 use crate::peer::stage::Stage;
 use crate::peer::turns::take;
@@ -32,6 +33,9 @@ impl Model for PskPeer {
 }
 
 impl PskPeer {
+    ghost use Rattle.psk_ends.specs.Failures.{peer_has_failed};
+    ghost use Rattle.psk_ends.specs.Nonces.{peer_nonces};
+
     /// A peer that hasn't begun.
     pub fn new() -> PskPeer
         ensures { result ≡ unset }
@@ -39,6 +43,20 @@ impl PskPeer {
         PskPeer {
             stage: Stage::Unset,
         }
+    }
+
+    /// The nonces of a login that succeeded; None before and after any other.
+    pub fn nonces(&self) -> Option<Nonces>
+        ensures { result ≡ peer_nonces self.now }
+    {
+        self.stage.nonces()
+    }
+
+    /// Whether the login has failed: PSK-3 carried DONE_FAILURE (RFC 4764 section 5.3).
+    pub fn has_failed(&self) -> bool
+        ensures { result ≡ peer_has_failed self.now }
+    {
+        self.stage.has_failed()
     }
 }
 

@@ -9,6 +9,7 @@ mod psk4;
 mod stage;
 mod turns;
 
+use crate::nonces::Nonces;
 use crate::server::login::Begun;
 use crate::server::stage::{EarlyPhase, Stage};
 use crate::server::turns::{ask, take};
@@ -34,6 +35,9 @@ impl Model for PskServer {
 }
 
 impl PskServer {
+    ghost use Rattle.psk_ends.specs.Failures.{is_unknown, server_has_failed};
+    ghost use Rattle.psk_ends.specs.Nonces.{server_nonces};
+
     /// A server that hasn't begun.
     pub fn new() -> PskServer
         ensures { result ≡ unset }
@@ -41,6 +45,28 @@ impl PskServer {
         PskServer {
             stage: Stage::Unset,
         }
+    }
+
+    /// The nonces of a login that succeeded; None before and after any other.
+    pub fn nonces(&self) -> Option<Nonces>
+        ensures { result ≡ server_nonces self.now }
+    {
+        self.stage.nonces()
+    }
+
+    /// Whether it has refused a user that it doesn't know.
+    pub fn is_unknown(&self) -> bool
+        ensures { result ≡ is_unknown self.now }
+    {
+        self.stage.is_unknown()
+    }
+
+    /// Whether the login of a user that it knows has failed: PSK-3 or PSK-4 carried DONE_FAILURE (RFC 4764
+    /// sections 5.3 and 5.4).
+    pub fn has_failed(&self) -> bool
+        ensures { result ≡ server_has_failed self.now }
+    {
+        self.stage.has_failed()
     }
 }
 

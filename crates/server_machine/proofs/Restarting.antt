@@ -1,8 +1,15 @@
--- The settings with another nonce are sound.
+-- The settings with another nonce, or with other users whose keys fit, are sound.
 use Rattle.std.proofs.Common.{List, ℕ}
-use Rattle.login_setup.specs.Setup.{IsSoundServer}
+use Rattle.std.specs.Prelude.{All, IsTrue}
+use Rattle.eap_base.specs.Among.{is_kind}
+use Rattle.login_setup.specs.Setup.{IsSoundServer, fits_kind}
 use Rattle.login_setup.specs.declared.setup.ServerSetup.{ServerSetup}
-use Rattle.server_machine.specs.ServerTable.{own_nonce}
+use Rattle.login_setup.specs.declared.users.User.{User}
+use Rattle.server_machine.specs.ServerTable.{own_nonce, own_users}
 
 pub still_sound : (setup : ServerSetup) (nonce : List ℕ) → IsSoundServer setup → IsSoundServer (own_nonce setup nonce)
 still_sound setup nonce is = record { methods = is.methods; suites = is.suites; kinds = is.kinds; keys = is.keys }
+
+pub sound_with_users : (setup : ServerSetup) (users : List User) → IsSoundServer setup → All (λ user. IsTrue (is_kind user.kind)) users
+    → All (λ user. IsTrue (fits_kind user.kind user.psk)) users → IsSoundServer (own_users setup users)
+sound_with_users setup users is kinds keys = record { methods = is.methods; suites = is.suites; kinds = kinds; keys = keys }

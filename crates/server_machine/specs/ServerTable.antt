@@ -1,8 +1,9 @@
 -- The stand-alone server of RFC 4137 section 5 and the backend of section 6, over the views of their
 -- methods: each call as a function. The backend is the same table behind another door: its first Response.
-use Rattle.std.specs.Prelude.{◌≡◌, ◌≤◌, ℕ, ◌+◌, ◌%◌, List, [], ◌∷◌, ◌++◌, Bool, true, false, ◌==◌, ◌&&◌, ◌||◌, not, nat_le, if◌then◌else◌, Option, Some, None, Result, Ok, Err, map}
+use Rattle.std.specs.Prelude.{◌≡◌, ◌≤◌, ℕ, ◌+◌, ◌%◌, List, [], ◌∷◌, ◌++◌, Bool, true, false, ◌==◌, ◌&&◌, ◌||◌, not, nat_le, if◌then◌else◌, Option, Some, None, Result, Ok, Err, map, find, option_map}
 use Rattle.login_setup.specs.declared.setup.ServerSetup.{ServerSetup}
-use Rattle.eap_base.specs.Among.{is_among, identity_kind, nak_kind}
+use Rattle.login_setup.specs.declared.users.User.{User}
+use Rattle.eap_base.specs.Among.{is_among, psk_kind, gpsk_kind, identity_kind, nak_kind}
 use Rattle.login_setup.specs.Setup.{are_kinds, IsSoundServer}
 use Rattle.eap_packet.specs.Packet.{PacketValue, request, response, success, failure, spelled}
 use Rattle.eap_packet.specs.Fault.{packet_of}
@@ -16,7 +17,7 @@ use Rattle.eap_method.specs.declared.tags.Tags.{Tags}
 use Rattle.eap_method.specs.ServerTurn.{ServerTurn}
 use Rattle.eap_method.specs.ServerTurn as turn
 use Rattle.eap_method.specs.declared.values.Report.{Report}
-use Rattle.eap_method.specs.Server.{ServerShown, ServerViews, server_views, views_begun, side_of, server_offer, server_turn, server_report_of}
+use Rattle.eap_method.specs.Server.{ServerShown, psk, gpsk, server_kind, ServerViews, server_views, views_begun, side_of, server_offer, server_turn, server_report_of}
 use Rattle.eap_method.specs.Steps.{sends, enters, discards, is_end}
 use Rattle.eap_method.specs.Tags.{no_tags}
 use Rattle.server_machine.specs.declared.variables.ServerVariables.{ServerVariables}
@@ -258,6 +259,13 @@ is_ready vars = is_backend vars || is_started vars
 abbrev pub own_nonce : ServerSetup → List ℕ → ServerSetup
 own_nonce setup nonce = record setup { nonce = nonce }
 
+-- the settings with these users, and the machine that knows them from now on
+abbrev pub own_users : ServerSetup → List User → ServerSetup
+own_users setup users = record setup { users = users }
+
+abbrev pub with_users : {M : Type 0} → ServerValue M → List User → ServerValue M
+with_users value users = record value { vars = record value.vars { setup = own_users value.vars.setup users } }
+
 -- every variable and the view of each method as INITIALIZE sets it, with this nonce
 abbrev pub made_again : ServerNow → List ℕ → ServerNow
 made_again now nonce = server_made now.vars.role (own_nonce now.vars.setup nonce) now.vars.first_id now.vars.max_retrans
@@ -296,6 +304,25 @@ current_report views (Some kind) = server_report_of kind views
 -- what the server reports
 abbrev pub server_reports : ServerNow → Option Report
 server_reports now = current_report now.views now.vars.current
+
+-- what the first object of a method shows
+abbrev pub first_of : ℕ → List ServerShown → Option ServerShown
+first_of kind shown = find (λ s. server_kind s == kind) shown
+
+-- the view of a method, if there is an object of it
+abbrev pub view_of : ServerViews → ℕ → Option ServerShown
+view_of views kind =
+    if kind == psk_kind then option_map psk views.psk
+    else if kind == gpsk_kind then option_map gpsk views.gpsk
+    else None
+
+-- the view of the current method
+abbrev pub current_of : ServerViews → Option ℕ → Option ServerShown
+current_of views None = None
+current_of views (Some kind) = view_of views kind
+
+abbrev pub current_view : ServerNow → Option ServerShown
+current_view now = current_of now.views now.vars.current
 
 -- whether a current method is Identity or one that the server proposes
 abbrev pub is_current : List ℕ → Option ℕ → Bool

@@ -1,13 +1,14 @@
 //! The backend of RFC 4137 section 6 over the objects of its methods.
 
-ghost use Rattle.std.specs.Prelude.{◌≡◌, [], map, true};
-ghost use Rattle.login_setup.specs.Setup.{IsSoundServer};
+ghost use Rattle.std.specs.Prelude.{◌≡◌, [], map, true, option_map, All, IsTrue};
+ghost use Rattle.eap_base.specs.Among.{is_kind};
+ghost use Rattle.login_setup.specs.Setup.{IsSoundServer, fits_kind};
 ghost use Rattle.eap_method.specs.Peer.{have_each};
 ghost use Rattle.eap_method.specs.Server.{server_kinds};
 ghost use Rattle.eap_method.specs.Steps.{is_end, step_with};
 ghost use Rattle.eap_method.specs.Tags.{no_tags};
 ghost use Rattle.eap_method.specs.Unnamed.{KeepsServers};
-ghost use Rattle.server_machine.specs.ServerTable.{answer, backend_made, now_of, own_nonce, server_reports, server_restart};
+ghost use Rattle.server_machine.specs.ServerTable.{answer, backend_made, current_view, now_of, own_nonce, server_reports, server_restart, with_users};
 ghost use Rattle.server_machine.specs.Expanded.{server_hears};
 
 use crate::machine::ServerMachine;
@@ -15,7 +16,7 @@ use crate::variables::Role;
 use eap_base::{Nonce, Packet};
 use eap_method::{Report, ServerMethod, Step, Tags};
 use eap_packet::State;
-use login_setup::ServerSetup;
+use login_setup::{ServerSetup, Users};
 use std::marker::Model;
 
 /// The backend authenticator of RFC 4137 section 6: a login server behind a pass-through, which asks for
@@ -86,6 +87,13 @@ impl<M: ServerMethod> Backend<M> {
         Step::entering(&[State::Initialize])
     }
 
+    /// The backend's settings.
+    pub fn setup(&self) -> &ServerSetup
+        ensures { result.now ≡ self.now.vars.setup }
+    {
+        self.machine.setup()
+    }
+
     /// The state in which the backend stands: INITIALIZE before the first Response, then IDLE, SUCCESS or
     /// FAILURE.
     pub fn state(&self) -> State
@@ -106,6 +114,23 @@ impl<M: ServerMethod> Backend<M> {
         ensures { result ≡ server_reports (now_of M.server_shown self.now) }
     {
         self.machine.report()
+    }
+
+    /// The object of the current method, which shows its view; None before the first, and where there is no object of it.
+    pub fn current(&self) -> Option<&M>
+        ensures { option_map (λ o. M.server_shown o.now) result ≡ current_view (now_of M.server_shown self.now) }
+    {
+        self.machine.current()
+    }
+
+    /// The users that the backend knows are these from now on, wherever it stands; nothing else changes. Each has a key
+    /// for one of the two methods, of the size that the method takes.
+    pub fn set_users(&mut self, users: Users)
+        requires kinds { All (λ user. IsTrue (is_kind user.kind)) users }
+        requires keys { All (λ user. IsTrue (fits_kind user.kind user.psk)) users }
+        ensures { self.new ≡ with_users self.old users }
+    {
+        self.machine.set_users(users)
     }
 
     /// Whether each method that the settings name has an object: the condition of [`restart`](Backend::restart).

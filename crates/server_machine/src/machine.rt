@@ -1,8 +1,8 @@
 //! The server of RFC 4137 over the objects of its methods: stand-alone (section 5), or a backend (section
 //! 6).
 
-ghost use Rattle.std.specs.Prelude.{◌≡◌, ◌≤◌, [], ◌∷◌, true, false, map, length, Some, None, Ok, option_copied, All, IsTrue, if◌then◌else◌};
-ghost use Rattle.eap_base.specs.Among.{is_among};
+ghost use Rattle.std.specs.Prelude.{◌≡◌, ◌≤◌, [], ◌∷◌, true, false, map, length, Some, None, Ok, option_copied, option_map, All, IsTrue, if◌then◌else◌};
+ghost use Rattle.eap_base.specs.Among.{is_among, is_kind};
 ghost use Rattle.login_setup.specs.Setup.{IsSoundServer, are_suites, fits_kind};
 ghost use Rattle.eap_packet.specs.Packet.{spelled, value_of, IsPacket, max_type_data};
 ghost use Rattle.eap_packet.specs.Packet as packets;
@@ -16,7 +16,7 @@ ghost use Rattle.eap_method.specs.Steps.{step_with};
 ghost use Rattle.eap_method.specs.Tags.{no_tags};
 ghost use Rattle.eap_method.specs.Unnamed.{KeepsServers};
 ghost use Rattle.server_machine.specs.Expanded.{MayWrap, reads_response};
-ghost use Rattle.server_machine.specs.ServerTable.{answer, before_proposal, identity_request, next_id, AreInOrder};
+ghost use Rattle.server_machine.specs.ServerTable.{answer, before_proposal, identity_request, next_id, AreInOrder, first_of};
 
 use crate::expanded::{awaits_first, wrap_sent, write_taken};
 use crate::outcome::{end_badly, next_id, settle, settle_offer};
@@ -28,14 +28,15 @@ use eap_method::{
 };
 use eap_packet::{Cause, Code, PacketView, State, decode, encode_into, is_bad_expanded};
 use login_policy::next_method;
-use login_setup::ServerSetup;
+use login_setup::{ServerSetup, Users};
 use std::marker::Model;
 
 /// The server of RFC 4137, stand-alone (section 5) or, for a world with a pass-through, in the role of the
 /// backend (section 6): its variables, and the objects of its methods. Contracts see both; what an object
-/// shows is its ghost member `server_shown`. No call changes the settings but [`restart`](ServerMachine::restart) their nonce,
-/// nor the view of an object whose method they don't name. Where the settings say `expanded`, it reads Expanded Types
-/// (RFC 3748 section 5.7) and asks in them. [`Backend`](crate::Backend) is the backend by itself.
+/// shows is its ghost member `server_shown`. No call changes the settings but [`restart`](ServerMachine::restart) their nonce
+/// and [`set_users`](ServerMachine::set_users) their users, nor the view of an object whose method they don't name. Where
+/// the settings say `expanded`, it reads Expanded Types (RFC 3748 section 5.7) and asks in them.
+/// [`Backend`](crate::Backend) is the backend by itself.
 #[derive(Drop)]
 pub struct ServerMachine<M> {
     vars: ServerVariables,
@@ -55,7 +56,7 @@ impl<M> Model for ServerMachine<M> {
 impl<M: ServerMethod> ServerMachine<M> {
     ghost use Rattle.eap_method.specs.Steps.{is_end};
     ghost use Rattle.server_machine.specs.ServerTable.{now_of, made_again, own_nonce, server_made, server_restart, server_start, server_deliver, server_timeout, server_reports, is_started, server_row, select_action, server_method, current_response};
-    ghost use Rattle.server_machine.specs.ServerTable.{first_response, has_timer, is_backend, is_ready, pick_up};
+    ghost use Rattle.server_machine.specs.ServerTable.{current_view, first_response, has_timer, is_backend, is_ready, pick_up, with_users};
     ghost use Rattle.server_machine.specs.Expanded.{server_hears, server_reads};
     ghost use Rattle.server_machine.specs.declared.variables.Role.TheVariants.{StandAlone};
 
@@ -383,6 +384,29 @@ impl<M: ServerMethod> ServerMachine<M> {
         }
     }
 
+    /// The object of the current method, which shows its view; None before the first, in the Identity round, and where
+    /// there is no object of it.
+    #[tactic(auto, using(crate::proofs::Current::found_is_view))]
+    pub fn current(&self) -> Option<&M>
+        ensures { option_map (λ o. M.server_shown o.now) result ≡ current_view (now_of M.server_shown self.now) }
+    {
+        match self.vars.current {
+            None => None,
+            Some(kind) => object_of(self.methods.as_slice(), kind),
+        }
+    }
+
+    /// The users that the server knows are these from now on, wherever it stands; nothing else changes. Each has a key for
+    /// one of the two methods, of the size that the method takes.
+    #[tactic(auto, using(crate::proofs::Restarting::sound_with_users))]
+    pub fn set_users(&mut self, users: Users)
+        requires kinds { All (λ user. IsTrue (is_kind user.kind)) users }
+        requires keys { All (λ user. IsTrue (fits_kind user.kind user.psk)) users }
+        ensures { self.new ≡ with_users self.old users }
+    {
+        self.vars.setup.users = users;
+    }
+
     /// Whether each method that the settings name has an object: the condition of [`restart`](ServerMachine::restart).
     pub fn has_objects(&self) -> bool
         ensures { result ≡ have_each (server_kinds (map M.server_shown self.now.methods)) self.now.vars.setup.methods }
@@ -622,5 +646,21 @@ fn has_object<M: ServerMethod>(methods: &[M], kind: u8) -> bool
     match methods.split_first() {
         None => false,
         Some((first, rest)) => first.kind() == kind || has_object(rest, kind),
+    }
+}
+
+/// The first object of this Type.
+fn object_of<M: ServerMethod>(methods: &[M], kind: u8) -> Option<&M>
+    ensures { option_map (λ o. M.server_shown o.now) result ≡ first_of kind (map M.server_shown methods.now) }
+{
+    match methods.split_first() {
+        None => None,
+        Some((first, rest)) => {
+            if first.kind() == kind {
+                Some(first)
+            } else {
+                object_of(rest, kind)
+            }
+        }
     }
 }

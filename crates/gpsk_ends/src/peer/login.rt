@@ -10,6 +10,7 @@ ghost use Rattle.gpsk_ends.specs.Heard.{IsHeard};
 ghost use Rattle.gpsk_ends.specs.Sealed.{packet_of, record_of};
 
 use crate::keys::Keys;
+use crate::nonces::Nonces;
 use crate::peer::offer::Offer;
 use crate::records::record;
 use crate::sealing::mac_place;
@@ -67,6 +68,7 @@ impl Model for Login {
 
 impl Login {
     ghost use Rattle.eap_method.specs.GpskPeer.{keys_of, gpsk2_of, gpsk4_of, protected_fail_of, is_tagged_by, repeats, report_of};
+    ghost use Rattle.gpsk_ends.specs.Nonces.{peer_nonces_of};
     ghost use Rattle.gpsk_ends.specs.PeerStage.{login_with};
 
     /// The login that begins with an offer. Its keys are derived here alone (RFC 5433 section 4).
@@ -177,6 +179,16 @@ impl Login {
             mac: mac_place(self.keys.suite()),
         };
         self.seal(&open, id, packet, made);
+    }
+
+    /// Both nonces.
+    pub fn nonces(&self) -> Nonces
+        ensures { result ≡ peer_nonces_of self.now }
+    {
+        Nonces {
+            rand_p: self.own.nonce,
+            rand_s: self.rand_s,
+        }
     }
 
     /// What the peer holds where the login succeeded.

@@ -2,6 +2,7 @@
 
 ghost use Rattle.std.specs.Prelude.{◌≡◌};
 
+use crate::nonces::Nonces;
 use crate::peer::login::{Begun, Login};
 use eap_method::Report;
 
@@ -28,6 +29,8 @@ pub enum Stage {
 impl Stage {
     ghost use Rattle.gpsk_ends.specs.PeerStage.{view_of};
     ghost use Rattle.eap_method.specs.GpskPeer.{report};
+    ghost use Rattle.gpsk_ends.specs.Failures.{peer_has_failed};
+    ghost use Rattle.gpsk_ends.specs.Nonces.{peer_nonces};
 
     /// What the peer holds where the login succeeded.
     pub fn report(&self) -> Option<Report>
@@ -40,5 +43,31 @@ impl Stage {
             } => Some(login.report()),
             _ => None,
         }
+    }
+
+    /// The nonces where the login succeeded.
+    pub fn nonces(&self) -> Option<Nonces>
+        ensures { result ≡ peer_nonces (view_of self.now) }
+    {
+        match self {
+            Stage::Login {
+                login,
+                phase: Phase::Over { good: true },
+            } => Some(login.nonces()),
+            _ => None,
+        }
+    }
+
+    /// Whether the login has failed.
+    pub fn has_failed(&self) -> bool
+        ensures { result ≡ peer_has_failed (view_of self.now) }
+    {
+        matches!(
+            self,
+            Stage::Login {
+                phase: Phase::Over { good: false },
+                ..
+            }
+        )
     }
 }

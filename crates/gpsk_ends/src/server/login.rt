@@ -12,6 +12,7 @@ ghost use Rattle.gpsk_ends.specs.Heard.{IsHeard};
 ghost use Rattle.gpsk_ends.specs.Sealed.{packet_of, record_of};
 
 use crate::keys::Keys;
+use crate::nonces::Nonces;
 use crate::records::record;
 use crate::sealing::mac_place;
 use eap_base::{GPSK_KIND, Identity, Nonce, Octets, Packet, Secret, Suite};
@@ -120,6 +121,7 @@ impl Model for Login {
 
 impl Login {
     ghost use Rattle.eap_method.specs.GpskServer.{keys_of, gpsk3_of, bars_with, is_tagged_by, report_of};
+    ghost use Rattle.gpsk_ends.specs.Nonces.{server_nonces_of};
 
     /// The login of the user that GPSK-2 names. Its keys are derived here alone (RFC 5433 section 4).
     #[tactic(auto, unfolding(eap_method::specs::GpskServer::keys_of))]
@@ -203,6 +205,16 @@ impl Login {
             mac: mac_place(self.keys.suite()),
         };
         self.seal(&open, id, packet, made);
+    }
+
+    /// Both nonces.
+    pub fn nonces(&self) -> Nonces
+        ensures { result ≡ server_nonces_of self.now }
+    {
+        Nonces {
+            rand_p: self.rand_p,
+            rand_s: self.own.nonce,
+        }
     }
 
     /// What the server holds where the login succeeded.

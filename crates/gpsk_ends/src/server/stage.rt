@@ -2,6 +2,7 @@
 
 ghost use Rattle.std.specs.Prelude.{◌≡◌};
 
+use crate::nonces::Nonces;
 use crate::server::login::{Begun, Login};
 use eap_method::Report;
 use eap_packet::Cause;
@@ -44,6 +45,8 @@ pub enum Stage {
 impl Stage {
     ghost use Rattle.gpsk_ends.specs.ServerStage.{view_of};
     ghost use Rattle.eap_method.specs.GpskServer.{report};
+    ghost use Rattle.gpsk_ends.specs.Failures.{is_unknown, server_has_failed};
+    ghost use Rattle.gpsk_ends.specs.Nonces.{server_nonces};
 
     /// What the server holds where the login succeeded.
     pub fn report(&self) -> Option<Report>
@@ -56,6 +59,45 @@ impl Stage {
             } => Some(login.report()),
             _ => None,
         }
+    }
+
+    /// The nonces where the login succeeded.
+    pub fn nonces(&self) -> Option<Nonces>
+        ensures { result ≡ server_nonces (view_of self.now) }
+    {
+        match self {
+            Stage::Login {
+                login,
+                phase: Phase::Over { good: true },
+            } => Some(login.nonces()),
+            _ => None,
+        }
+    }
+
+    /// Whether the user isn't known.
+    pub fn is_unknown(&self) -> bool
+        ensures { result ≡ is_unknown (view_of self.now) }
+    {
+        matches!(
+            self,
+            Stage::Alone {
+                phase: Alone::Refusing | Alone::Refused,
+                ..
+            }
+        )
+    }
+
+    /// Whether the user is known and barred.
+    pub fn has_failed(&self) -> bool
+        ensures { result ≡ server_has_failed (view_of self.now) }
+    {
+        matches!(
+            self,
+            Stage::Login {
+                phase: Phase::Barring | Phase::Over { good: false },
+                ..
+            }
+        )
     }
 }
 

@@ -4,6 +4,7 @@ ghost use Rattle.std.specs.Prelude.{◌≡◌, ◌≤◌, ◌<◌, [], ◌∷◌
 ghost use Rattle.eap_base.specs.Sizes.{max_name};
 
 use crate::keys::long_keys;
+use crate::nonces::Nonces;
 use crate::octets::rand_of;
 use crate::records::{add_mac_p, add_mac_s};
 use cmac_mac::CmacKey;
@@ -67,6 +68,7 @@ impl Model for Login {
 impl Login {
     ghost use Rattle.eap_method.specs.PskTags.{ak_record};
     ghost use Rattle.eap_method.specs.PskPeer.{rand_p_of, ak_of, keys_of, mac_p_covers, mac_p_of, mac_s_covers, mac_s_of, report_of};
+    ghost use Rattle.psk_ends.specs.Nonces.{peer_nonces_of};
 
     /// The login of a peer that has taken PSK-1.
     pub fn new(own: &Begun, id_s: &[u8], rand_s: &[u8; 16]) -> Login
@@ -171,6 +173,16 @@ impl Login {
     {
         let rand_p = self.rand_p();
         add_mac_s(accepted, self.psk(), self.id_s.as_slice(), &rand_p, mac);
+    }
+
+    /// Both nonces.
+    pub fn nonces(&self) -> Nonces
+        ensures { result ≡ peer_nonces_of self.now }
+    {
+        Nonces {
+            rand_p: self.rand_p(),
+            rand_s: self.rand_s,
+        }
     }
 
     /// What the peer holds where the login succeeded.

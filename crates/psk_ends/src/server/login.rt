@@ -7,6 +7,7 @@ ghost use Rattle.eap_method.specs.PskTags.{mac_p_octets, rand_of};
 ghost use Rattle.eap_method.specs.PskServer.{r_for};
 
 use crate::channel::{DONE_FAILURE, DONE_SUCCESS};
+use crate::nonces::Nonces;
 use crate::octets::rand_of;
 use crate::records::{add_mac_p, add_mac_s};
 use cmac_mac::CmacKey;
@@ -88,6 +89,7 @@ impl Login {
     ghost use Rattle.login_keys.specs.Psk.{psk_long_of};
     ghost use Rattle.eap_method.specs.PskTags.{ak_record};
     ghost use Rattle.eap_method.specs.PskServer.{rand_s_of, keys_of, mac_p_covers, mac_s_covers, mac_s_of, report_of};
+    ghost use Rattle.psk_ends.specs.Nonces.{server_nonces_of};
 
     /// The login of a user, from AK and KDK of the user's key.
     pub fn new(
@@ -187,6 +189,16 @@ impl Login {
     {
         let id_s = self.own.side.id_s.as_slice();
         add_mac_s(made, &self.psk, id_s, &self.rand_p, mac);
+    }
+
+    /// Both nonces.
+    pub fn nonces(&self) -> Nonces
+        ensures { result ≡ server_nonces_of self.now }
+    {
+        Nonces {
+            rand_p: self.rand_p,
+            rand_s: self.rand_s(),
+        }
     }
 
     /// What the server holds where the login succeeded.

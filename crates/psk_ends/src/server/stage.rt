@@ -2,6 +2,7 @@
 
 ghost use Rattle.std.specs.Prelude.{◌≡◌};
 
+use crate::nonces::Nonces;
 use crate::server::login::{Begun, Login};
 use eap_method::Report;
 
@@ -39,6 +40,8 @@ pub enum Stage {
 impl Stage {
     ghost use Rattle.psk_ends.specs.ServerStage.{view_of};
     ghost use Rattle.eap_method.specs.PskServer.{report};
+    ghost use Rattle.psk_ends.specs.Failures.{is_unknown, server_has_failed};
+    ghost use Rattle.psk_ends.specs.Nonces.{server_nonces};
 
     /// What the server holds where the login succeeded.
     pub fn report(&self) -> Option<Report>
@@ -51,5 +54,44 @@ impl Stage {
             } => Some(login.report()),
             _ => None,
         }
+    }
+
+    /// The nonces where the login succeeded.
+    pub fn nonces(&self) -> Option<Nonces>
+        ensures { result ≡ server_nonces (view_of self.now) }
+    {
+        match self {
+            Stage::Known {
+                login,
+                phase: KnownPhase::Over { success: true },
+            } => Some(login.nonces()),
+            _ => None,
+        }
+    }
+
+    /// Whether the user wasn't known.
+    pub fn is_unknown(&self) -> bool
+        ensures { result ≡ is_unknown (view_of self.now) }
+    {
+        matches!(
+            self,
+            Stage::Early {
+                phase: EarlyPhase::Refused,
+                ..
+            }
+        )
+    }
+
+    /// Whether the login of a known user has failed.
+    pub fn has_failed(&self) -> bool
+        ensures { result ≡ server_has_failed (view_of self.now) }
+    {
+        matches!(
+            self,
+            Stage::Known {
+                phase: KnownPhase::Over { success: false },
+                ..
+            }
+        )
     }
 }

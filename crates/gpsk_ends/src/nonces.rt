@@ -1,0 +1,12 @@
+//! The nonces of a login.
+
+use eap_base::Nonce;
+
+/// The two nonces of a login (RFC 5433 section 3).
+#[derive(Clone, Copy)]
+pub struct Nonces {
+    /// RAND_Peer.
+    pub rand_p: Nonce,
+    /// RAND_Server.
+    pub rand_s: Nonce,
+}

@@ -1,0 +1,21 @@
+-- The nonces of a login that has succeeded (RFC 4764 sections 5.1 and 5.2).
+use Rattle.std.specs.Prelude.{if◌then◌else◌, Option, Some, None}
+use Rattle.eap_method.specs.PskPeer as peer
+use Rattle.eap_method.specs.PskServer as server
+use Rattle.psk_ends.specs.declared.nonces.Nonces.{Nonces}
+
+-- RAND_P and RAND_S of a peer's login, and those that a view holds
+abbrev pub peer_nonces_of : peer.Login → Nonces
+peer_nonces_of login = record { rand_p = peer.rand_p_of login; rand_s = login.rand_s }
+
+abbrev pub peer_nonces : peer.View → Option Nonces
+peer_nonces (peer.over login good) = if good then Some (peer_nonces_of login) else None
+peer_nonces view = None
+
+-- the same of a server
+abbrev pub server_nonces_of : server.Login → Nonces
+server_nonces_of login = record { rand_p = login.rand_p; rand_s = server.rand_s_of login }
+
+abbrev pub server_nonces : server.View → Option Nonces
+server_nonces (server.over login good) = if good then Some (server_nonces_of login) else None
+server_nonces view = None
