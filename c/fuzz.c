@@ -5,13 +5,22 @@
  * made up.  Each login begins with fresh nonces, and so does each restart.  At
  * every call this holds, or the exit status is 1:
  *
- * - a call that says `misplaced`, and a begin that is refused, leave the block
- *   behind the handle as it was, octet for octet;
+ * - it is misplaced exactly where the header says, by a model of the ends; then,
+ *   and at a discard, no octet of the block behind the handle changes but the
+ *   one that says that nothing is sent;
+ * - a begin, or a user, is refused exactly where the header says, by the lowest
+ *   number; then the block stays as it was, octet for octet;
+ * - after a call that sends nothing the packet has no octets, and the one that
+ *   was sent last since the begin or restart can be had again;
  * - a packet is asked for by a room that is too small and then by one that fits;
- * - whenever both ends hold a report, both hold the same, and none where their
- *   keys differ;
- * - after a login that nothing disturbed each end begins again by a restart,
- *   without memory or a report, and logs in as before.
+ * - no call takes memory but tuv_end_new, of tuv_end_size octets, and the begins
+ *   of a peer, a server and a backend;
+ * - an end's report has its own nonce and names and a suite that both allow;
+ *   whenever both ends hold a report, both hold the same, with the same
+ *   Session-Ids, and none where their keys differ;
+ * - a login that nothing disturbs ends as the settings say, at both ends, and
+ *   with the reasons that the header gives; then each end begins again by a
+ *   restart, without memory or a report, and it ends as before.
  *
  * heap.c is compiled with -Dmalloc=fuzz_malloc: in between each allocation of a
  * login fails in its turn, and what was refused succeeds when it is asked
@@ -20,44 +29,38 @@
 #include <stdio.h>
 #include <stdlib.h>
 #include <string.h>
-#include "tuvaddri.h"
+#include "fuzz.h"
 
 void *fuzz_malloc(size_t size);
 
 /* The allocation that fails, counted from 1; none where it is 0. */
 static unsigned long fails_at, allocations;
+static size_t taken;	/* octets, by the last one */
 
 void *fuzz_malloc(size_t size)
 {
+	taken = size;
 	return ++allocations == fails_at ? NULL : malloc(size);
 }
-
-enum handle { PEER, SERVER, PASS, HANDLES };
-enum call { DELIVER, PEER_METHOD, SERVER_METHOD, FROM_PEER, FROM_BACKEND,
-	    START, TIMEOUT, IDLE, ACCEPT, REJECT, PASS_START, PASS_TIMEOUT,
-	    AAA_TIMEOUT, AAA_NOREQ, RESTART, PASS_RESTART, CALLS };
-enum setting { ALONE, THROUGH, METHODS };
-
-struct packet {
-	uint8_t octets[TUV_PACKET_MAX + 4];
-	size_t len;
-};
 
 /* What a call came to, of either kind. */
 struct turn {
 	bool sends, discards, misplaced;
+	uint8_t cause, state;
 };
 
 static struct tuv_end ends[HANDLES];
+struct model models[HANDLES];
 static uint8_t *before;		/* the block as it was before a call */
 static struct packet sent, kept[8];
 static enum handle to;		/* where `sent` goes, and by which call */
 static enum call by;
-static enum setting setting;
-static struct tuv_settings told[2];
-static uint8_t keys[2][TUV_KEY_MAX];
-static bool keys_agree;
-static unsigned long calls, logins, again, discarded, misplaced, refused;
+enum setting setting;
+struct tuv_settings told[2], user;
+unsigned int user_after;
+static uint8_t keys[4][TUV_KEY_MAX], names[2][TUV_NAME_MAX];
+bool keys_agree;
+static unsigned long calls, logins, again, discarded, misplaced, refused, failed;
 static uint64_t state;
 
 static uint32_t any(uint32_t below)
@@ -84,33 +87,57 @@ static void remember(enum handle h)
 	memcpy(before, ends[h].at, tuv_end_size());
 }
 
-static void same(enum handle h, const char *why)
+/* So many octets of the block may have changed. */
+static void same(enum handle h, size_t but, const char *why)
 {
-	if (memcmp(before, ends[h].at, tuv_end_size()) != 0)
-		fail(why);
+	const uint8_t *now = ends[h].at;
+	size_t i, size = tuv_end_size();
+
+	if (memcmp(before, now, size) == 0)
+		return;
+	for (i = 0; i < size; i++)
+		if (before[i] != now[i] && but-- == 0)
+			fail(why);
 }
 
 static struct turn of(struct tuv_turn turn)
 {
-	return (struct turn) { turn.sends, turn.discards, turn.misplaced };
-}
-
-static struct tuv_turn restarted(struct tuv_end *end)
-{
-	uint8_t nonce[TUV_NONCE_LEN];
-
-	fill(nonce, sizeof(nonce));
-	return tuv_end_restart(end, nonce);
+	return (struct turn) { turn.sends, turn.discards, turn.misplaced,
+			       turn.cause, turn.state };
 }
 
 static struct turn of_method(struct tuv_method_turn turn)
 {
-	return (struct turn) { turn.sends, turn.discards, turn.misplaced };
+	if (turn.state > TUV_METHOD_DONE || turn.decision > TUV_DECISION_UNCOND_SUCC)
+		fail("a method has no such state or decision");
+	return (struct turn) { turn.sends, turn.discards, turn.misplaced,
+			       turn.cause, turn.state };
 }
 
-static struct turn call_of(struct tuv_end *end, enum call c,
-			   const uint8_t *at, size_t len)
+static const uint8_t *fresh(enum handle h)
 {
+	fill(models[h].nonce, TUV_NONCE_LEN);
+	return models[h].nonce;
+}
+
+/* A restart's nonce counts where it has its place. */
+static struct tuv_turn restarted(enum handle h)
+{
+	uint8_t nonce[TUV_NONCE_LEN];
+	struct tuv_turn turn;
+
+	fill(nonce, sizeof(nonce));
+	turn = tuv_end_restart(&ends[h], nonce);
+	if (!turn.misplaced)
+		memcpy(models[h].nonce, nonce, sizeof(nonce));
+	return turn;
+}
+
+static struct turn call_of(enum handle h, enum call c, const uint8_t *at,
+			   size_t len)
+{
+	struct tuv_end *end = &ends[h];
+
 	switch (c) {
 	case DELIVER: return of(tuv_end_deliver(end, at, len));
 	case PEER_METHOD: return of_method(tuv_peer_method_handle(end, at, len));
@@ -128,7 +155,7 @@ static struct turn call_of(struct tuv_end *end, enum call c,
 	case PASS_TIMEOUT: return of(tuv_pass_timeout(end));
 	case AAA_TIMEOUT: return of(tuv_pass_aaa_timeout(end));
 	case AAA_NOREQ: return of(tuv_pass_aaa_noreq(end));
-	case RESTART: return of(restarted(end));
+	case RESTART: return of(restarted(h));
 	default: return of(tuv_pass_restart(end));
 	}
 }
@@ -148,63 +175,219 @@ static void route(enum handle h, enum call c)
 	}
 }
 
-/* Takes the packet of the last call, first by a room that is too small. */
-static void take(enum handle h, enum call c)
+/* Asks for a packet, first by a room that is too small; its length. */
+static size_t ask(enum handle h, size_t (*which)(struct tuv_end *, uint8_t *, size_t),
+		  struct packet *packet)
 {
 	uint8_t small[3] = { 1, 2, 3 };
 
+	packet->len = which(&ends[h], small, sizeof(small));
+	if (packet->len > TUV_PACKET_MAX || small[0] != 1 || small[1] != 2 ||
+	    small[2] != 3 ||
+	    which(&ends[h], packet->octets, packet->len) != packet->len)
+		fail("a packet is cut or lost");
+	return packet->len;
+}
+
+/* What is to be had of an end is what its model says. */
+static void hold_packets(enum handle h)
+{
+	static struct packet packet;
+	struct model *m = &models[h];
+
 	remember(h);
-	sent.len = tuv_end_packet(&ends[h], small, sizeof(small));
-	if (sent.len < 4 || sent.len > TUV_PACKET_MAX || small[0] != 1 ||
-	    small[1] != 2 || small[2] != 3 ||
-	    tuv_end_packet(&ends[h], sent.octets, sent.len) != sent.len)
-		fail("a packet was cut or lost");
-	same(h, "asking for a packet changed the end");
+	if (ask(h, tuv_end_packet, &packet) != (m->sends ? m->last.len : 0) ||
+	    memcmp(packet.octets, m->last.octets, packet.len) != 0)
+		fail("a packet isn't that of the last turn");
+	if (ask(h, tuv_end_again, &packet) != m->last.len ||
+	    memcmp(packet.octets, m->last.octets, packet.len) != 0)
+		fail("the packet isn't the one that was sent last");
+	same(h, 0, "asking for a packet changes the end");
+}
+
+/* Whether what the peer has sent is the first Response of a method, in either
+ * form (RFC 3748 section 5.7). */
+static bool is_first(const struct packet *p)
+{
+	static const uint8_t wrapped[7] = { 254 };
+	const uint8_t *at = p->octets + 4;
+	bool expanded = p->len > 13 && memcmp(at, wrapped, sizeof(wrapped)) == 0;
+
+	at += expanded ? 7 : 0;
+	return p->len > 6 && ((at[0] == TUV_KIND_PSK && at[1] >> 6 == 1) ||
+			      (at[0] == TUV_KIND_GPSK && at[1] == 2));
+}
+
+/* The name in what the peer has sent is the peer's. */
+static void hold_name(void)
+{
+	uint8_t room[TUV_NAME_MAX];
+	size_t len = tuv_response_name(sent.octets, sent.len, room);
+
+	calls++;
+	if (len != (is_first(&sent) ? told[0].name.len : 0) ||
+	    memcmp(room, told[0].name.at, len) != 0)
+		fail("the name in a Response is another");
+}
+
+/* Takes the packet of the last call. */
+static void take(enum handle h, enum call c)
+{
+	ask(h, tuv_end_packet, &sent);
+	if (sent.len < 4 || (size_t) (sent.octets[2] << 8 | sent.octets[3]) != sent.len)
+		fail("a packet has another Length");
+	models[h].last = sent;
+	if (h == PEER)
+		hold_name();
 	route(h, c);
 	kept[any(8)] = sent;
+}
+
+static bool known(const struct tuv_octets *name, const uint8_t *at, uint8_t len)
+{
+	return name->len == len && memcmp(name->at, at, len) == 0;
+}
+
+/* An end's report has what is its own. */
+static bool report(enum handle h, struct tuv_report *r)
+{
+	memset(r, 0, sizeof(*r));
+	remember(h);
+	if (tuv_end_report(&ends[h], r))
+		fail("a report of another size");
+	r->size = sizeof(*r);
+	if (!tuv_end_report(&ends[h], r))
+		return false;
+	same(h, 0, "a report changes the end");
+	if (r->rand_length != (r->method == TUV_KIND_PSK ? 16 : 32) ||
+	    memcmp(h == PEER ? r->peer_rand : r->server_rand, models[h].nonce,
+		   r->rand_length) != 0)
+		fail("a report has another nonce");
+	if (h == PEER ? !known(&told[0].name, r->peer, r->peer_length)
+		      : !known(&told[1].name, r->server, r->server_length))
+		fail("a report has another name");
+	return true;
+}
+
+/* The Session-Ids of an end, 0 behind their octets. */
+static size_t identify(enum handle h, const struct tuv_report *r,
+		       uint8_t ids[2][TUV_SESSION_ID_MAX])
+{
+	size_t len;
+
+	memset(ids, 0, 2 * sizeof(ids[0]));
+	remember(h);
+	len = tuv_end_session_id(&ends[h], ids[0]);
+	if (tuv_end_session_id_wpa(&ends[h], ids[1]) != len)
+		fail("Session-Ids of two lengths");
+	same(h, 0, "a Session-Id changes the end");
+	if (r && (len != (r->method == TUV_KIND_PSK ? 33 : 17) ||
+		  ids[0][0] != r->method || ids[1][0] != r->method))
+		fail("a Session-Id has another form");
+	if (r && r->method == TUV_KIND_PSK &&
+	    (memcmp(ids[0] + 1, r->peer_rand, 16) != 0 ||
+	     memcmp(ids[0] + 17, r->server_rand, 16) != 0 ||
+	     memcmp(ids[0], ids[1], 33) != 0))
+		fail("a Session-Id has other nonces");
+	if (r && r->method == TUV_KIND_GPSK && memcmp(ids[0], ids[1], 17) == 0)
+		fail("both Session-Ids have the same Method-ID");
+	if (!r && len != 0)
+		fail("a Session-Id without a report");
+	return len;
 }
 
 /* Whenever both ends hold a report, both hold the same: true where they do. */
 static bool compare(void)
 {
-	static struct tuv_report peer, server;
+	static struct tuv_report r[2];
+	static uint8_t ids[2][2][TUV_SESSION_ID_MAX];
+	bool has[2] = { report(PEER, &r[0]), report(SERVER, &r[1]) };
 
-	memset(&peer, 0, sizeof(peer));
-	memset(&server, 0, sizeof(server));
-	calls += 2;
-	if (!tuv_end_report(&ends[PEER], &peer) ||
-	    !tuv_end_report(&ends[SERVER], &server))
+	identify(PEER, has[0] ? &r[0] : NULL, ids[0]);
+	identify(SERVER, has[1] ? &r[1] : NULL, ids[1]);
+	if (!has[0] || !has[1])
 		return false;
 	if (!keys_agree)
 		fail("ends without a common key both succeeded");
-	if (memcmp(&peer, &server, sizeof(peer)) != 0)
+	if (memcmp(&r[0], &r[1], sizeof(r[0])) != 0)
 		fail("two ends succeeded with different reports");
+	if (memcmp(ids[0], ids[1], sizeof(ids[0])) != 0)
+		fail("two ends have different Session-Ids");
 	return true;
+}
+
+/* A reason fits the state of its end. */
+static void hold_reason(enum handle h)
+{
+	struct model *m = &models[h];
+	struct tuv_failure why;
+
+	remember(h);
+	why = tuv_end_failure(&ends[h]);
+	same(h, 0, "asking for a reason changes the end");
+	if (why.reason > TUV_FAILURE_ENDED || why.code > 3)
+		fail("there is no such reason");
+	if (why.code && (why.reason == TUV_FAILURE_NONE || why.reason > TUV_FAILURE_REFUSED))
+		fail("a code without its reason");
+	if ((m->role == CLOSED || m->state == TUV_STATE_SUCCESS ||
+	     m->state == TUV_STATE_SUCCESS2) && why.reason)
+		fail("what hasn't failed has a reason");
+	if (m->role != CLOSED && m->role < A_PEER_METHOD && !why.reason &&
+	    (m->state == TUV_STATE_FAILURE || m->state == TUV_STATE_FAILURE2 ||
+	     m->state == TUV_STATE_TIMEOUT_FAILURE ||
+	     m->state == TUV_STATE_TIMEOUT_FAILURE2))
+		fail("a failure has no reason");
+}
+
+/* What the turn says is what the model says, and what it left. */
+static void judge(enum handle h, enum call c, struct turn turn)
+{
+	struct model *m = &models[h];
+
+	if (turn.misplaced == has_place(m, c))
+		fail(turn.misplaced ? "a call has no place" : "a call has a place");
+	if (turn.misplaced && (turn.sends || turn.discards || turn.cause || turn.state))
+		fail("a call out of place says more than that");
+	if (turn.sends && turn.discards)
+		fail("a discard sends");
+	if (!turn.discards && turn.cause)
+		fail("a cause without a discard");
+	if (turn.misplaced || turn.discards)
+		same(h, 1, "a call that does nothing changes the end");
+	m->sends = turn.sends;
+	if (turn.misplaced)
+		return;
+	if (m->role < A_PEER_METHOD && !stands(m->role, turn.state))
+		fail("an end stands in a state that is none of its own");
+	m->state = turn.state;
+	if (c == RESTART || c == PASS_RESTART)
+		m->last.len = 0;
 }
 
 /* A call with these octets, which are handed in as a block of just their size. */
 static void call(enum handle h, enum call c, const uint8_t *octets, size_t len)
 {
-	uint8_t *copy = malloc(len ? len : 1);
+	uint8_t *copy = malloc(len ? len : 1), room[TUV_NAME_MAX];
+	unsigned long blocks = allocations;
 	struct turn turn;
 
 	if (!copy)
 		exit(5);
 	memcpy(copy, octets, len);
+	if (tuv_response_name(copy, len, room) > TUV_NAME_MAX)
+		fail("a name is too long");
 	remember(h);
-	turn = call_of(&ends[h], c, copy, len);
+	turn = call_of(h, c, copy, len);
 	free(copy);
+	if (allocations != blocks)
+		fail("a call takes memory");
 	discarded += turn.discards;
-	if (turn.misplaced) {
-		misplaced++;
-		same(h, "a call out of place changed the end");
-		if (turn.sends || turn.discards)
-			fail("a call out of place says more than that");
-	}
-	if (turn.sends && turn.discards)
-		fail("a discard sends");
+	misplaced += turn.misplaced;
+	judge(h, c, turn);
 	if (turn.sends)
 		take(h, c);
+	hold_packets(h);
+	hold_reason(h);
 }
 
 /* Settings of which one thing may be wrong. */
@@ -212,53 +395,97 @@ static struct tuv_settings spoiled(struct tuv_settings s)
 {
 	static const uint8_t long_name[TUV_NAME_MAX + 1];
 
-	switch (any(7)) {
-	case 0: s.kind = any(256); break;
-	case 1: s.suites = any(256); break;
-	case 2: s.name.len = 0; break;
-	case 3: s.name.at = long_name; s.name.len = sizeof(long_name); break;
-	case 4: s.other.at = long_name; s.other.len = sizeof(long_name); break;
-	case 5: s.psk.len = any(TUV_KEY_MAX + 1); break;
+	switch (any(10)) {
+	case 0: s.size = any(200); break;
+	case 1: s.methods[any(2)] = any(2) ? any(256) : TUV_KIND_PSK; break;
+	case 2: s.suites[any(2)] = any(4); break;
+	case 3: s.name.len = 0; break;
+	case 4: s.name.at = long_name; s.name.len = sizeof(long_name); break;
+	case 5: s.other.at = long_name; s.other.len = sizeof(long_name); break;
+	case 6: s.psk_key.at = keys[0]; s.psk_key.len = any(TUV_KEY_MAX); break;
+	case 7: s.gpsk_key.at = keys[1]; s.gpsk_key.len = any(TUV_KEY_MAX + 1); break;
+	case 8: s.other = TUV_ANY; break;
 	default: break;
 	}
 	return s;
 }
 
 static uint8_t begin_of(enum handle h, const struct tuv_settings *s,
-			uint8_t retries)
+			const uint8_t *nonce, uint8_t retries)
 {
-	uint8_t nonce[TUV_NONCE_LEN];
-
-	fill(nonce, sizeof(nonce));
-	if (h == PASS)
-		return tuv_pass_begin(&ends[h], any(256), retries);
-	if (setting == METHODS)
-		return h == PEER ? tuv_peer_method_begin(&ends[h], s, nonce)
-				 : tuv_server_method_begin(&ends[h], s, nonce,
-							   any(256));
-	if (h == PEER)
-		return tuv_peer_begin(&ends[h], s, nonce);
-	if (setting == THROUGH)
-		return tuv_backend_begin(&ends[h], s, nonce);
-	return tuv_server_begin(&ends[h], s, nonce, any(256), retries);
+	switch (role_of(h)) {
+	case A_PASS: return tuv_pass_begin(&ends[h], any(256), retries);
+	case A_PEER_METHOD: return tuv_peer_method_begin(&ends[h], s, nonce);
+	case A_SERVER_METHOD:
+		return tuv_server_method_begin(&ends[h], s, nonce, any(256));
+	case A_PEER: return tuv_peer_begin(&ends[h], s, nonce);
+	case A_BACKEND: return tuv_backend_begin(&ends[h], s, nonce);
+	default:
+		return tuv_server_begin(&ends[h], s, nonce, any(256), retries);
+	}
 }
 
 static uint8_t begin(enum handle h, const struct tuv_settings *s,
 		     uint8_t retries)
 {
-	uint8_t answer;
+	struct model *m = &models[h];
+	unsigned long blocks = allocations;
+	uint8_t nonce[TUV_NONCE_LEN], answer;
 
+	fill(nonce, sizeof(nonce));
 	remember(h);
-	answer = begin_of(h, s, retries);
+	answer = begin_of(h, s, nonce, retries);
+	if (answer != judged(h, s, retries))
+		fail("a begin is refused otherwise than the header says");
 	if (answer != TUV_BEGUN) {
 		refused++;
-		same(h, "a begin that was refused changed the end");
+		same(h, 0, "a begin that was refused changed the end");
+		return answer;
 	}
+	m->role = role_of(h);
+	if (m->role >= A_PASS && allocations != blocks)
+		fail("a begin takes memory");
+	m->state = m->role == A_PEER ? TUV_STATE_IDLE : TUV_STATE_INITIALIZE;
+	m->last.len = 0;
+	m->sends = m->role == A_SERVER_METHOD;
+	memcpy(m->nonce, nonce, sizeof(nonce));
+	if (m->sends)
+		take(h, SERVER_METHOD);
+	hold_packets(h);
 	return answer;
 }
 
+static void give(enum handle h, const struct tuv_settings *s, bool by_method)
+{
+	unsigned long blocks = allocations;
+	uint8_t answer;
+
+	remember(h);
+	answer = by_method ? tuv_server_method_user(&ends[h], s)
+			   : tuv_server_user(&ends[h], s);
+	if (answer != judged_user(h, s, by_method))
+		fail("a user is refused otherwise than the header says");
+	if (answer != TUV_BEGUN) {
+		refused++;
+		same(h, 0, "a user who was refused changed the end");
+	}
+	if (allocations != blocks)
+		fail("a user takes memory");
+	hold_packets(h);
+}
+
+/* The user of the login, of whom one thing may be wrong; then the right one, so
+ * that the keys of the login stay known. */
+static void give_any(void)
+{
+	struct tuv_settings s = spoiled(user);
+
+	give(any(HANDLES), &s, any(2));
+	give(SERVER, &user, setting == METHODS);
+}
+
 /* A begin with settings that may be wrong; where it isn't refused the end gets
- * the right ones at once, so that the keys of the login stay known. */
+ * the right ones at once. */
 static void begin_spoiled(enum handle h)
 {
 	struct tuv_settings s = spoiled(told[h == SERVER]);
@@ -266,6 +493,8 @@ static void begin_spoiled(enum handle h)
 	if (begin(h, &s, any(20)) == TUV_BEGUN &&
 	    begin(h, &told[h == SERVER], 3) != TUV_BEGUN)
 		fail("a sound begin was refused");
+	if (h == SERVER && models[h].role != CLOSED)
+		give(h, &user, setting == METHODS);
 }
 
 /* The packet on its way, or one from before; as it is, altered, cut, padded, or
@@ -287,6 +516,8 @@ static void disturb(void)
 		p.octets[0] = any(5);	/* Code; then the Length is right */
 		p.octets[2] = 0;
 		p.octets[3] = p.len;
+		if (p.len > 4 && any(2))
+			p.octets[4] = any(3) ? 254 : 2;
 		break;
 	default: break;
 	}
@@ -305,29 +536,129 @@ static void first_call(void)
 		     setting == ALONE ? START : PASS_START, sent.octets, 0);
 }
 
-/* A login with new keys and nonces; both ends' keys differ in one of eight. */
+static void list(uint8_t at[2], uint8_t one, uint8_t other)
+{
+	at[0] = any(5) == 0 ? 0 : any(2) ? one : other;
+	at[1] = at[0] == 0 || any(2) ? 0 : at[0] == one ? other : one;
+}
+
+/* A name of 1 to 253 octets, mostly a short one. */
+static struct tuv_octets new_name(uint8_t *at)
+{
+	size_t len = 1 + (any(4) ? any(8) : any(TUV_NAME_MAX));
+
+	fill(at, len);
+	return (struct tuv_octets) { at, len };
+}
+
+/* Keys for the methods of these settings; for those of a list of none any. */
+static void new_keys(struct tuv_settings *s, uint8_t *psk, uint8_t *gpsk, size_t len)
+{
+	unsigned int which = any(3);
+	bool lists = s->methods[0] != 0;
+
+	s->psk_key = s->gpsk_key = (struct tuv_octets) { NULL, 0 };
+	if (lists ? has_method(s, TUV_KIND_PSK) : which != 1)
+		s->psk_key = (struct tuv_octets) { psk, 16 };
+	if (lists ? has_method(s, TUV_KIND_GPSK) : which != 2)
+		s->gpsk_key = (struct tuv_octets) { gpsk, len };
+}
+
+/* A login with new names, keys and nonces; both ends' keys differ in one of
+ * eight, the user is unknown, barred or comes late in some. */
 static void prepare(void)
 {
-	static const uint8_t alice[] = "alice", srv[] = "srv";
-	struct tuv_settings *s = &told[0];
+	struct tuv_settings *s = &told[0], *t = &told[1];
+	size_t len = 32 + any(33);
 
 	setting = any(3);
-	s->kind = any(2) ? TUV_KIND_PSK : TUV_KIND_GPSK;
-	s->suites = 1 + any(3);
-	s->name = (struct tuv_octets) { alice, 5 };
-	s->other = (struct tuv_octets) { srv, any(3) ? 3 : 0 };
-	s->psk.at = keys[0];
-	s->psk.len = s->kind == TUV_KIND_PSK ? 16 : 32 + any(33);
-	fill(keys[0], s->psk.len);
-	memcpy(keys[1], keys[0], sizeof(keys[0]));
+	memset(told, 0, sizeof(told));
+	s->size = t->size = sizeof(*s);
+	fill(keys[0], 16);
+	fill(keys[1], len);
+	memcpy(keys[2], keys[0], 2 * sizeof(keys[0]));
 	keys_agree = any(8) != 0;
-	if (!keys_agree)
-		keys[1][any(s->psk.len)] ^= 1 << any(8);
-	told[1] = *s;
-	told[1].name = (struct tuv_octets) { srv, 3 };
-	told[1].other = s->name;
-	told[1].psk.at = keys[1];
+	if (!keys_agree) {
+		keys[2][any(16)] ^= 1 << any(8);
+		keys[3][any(len)] ^= 1 << any(8);
+	}
+	list(s->methods, TUV_KIND_PSK, TUV_KIND_GPSK);
+	list(s->suites, 1, 2);
+	list(t->methods, TUV_KIND_PSK, TUV_KIND_GPSK);
+	list(t->suites, 1, 2);
+	if (setting == METHODS)
+		memcpy(t->methods, s->methods, sizeof(s->methods));
+	new_keys(s, keys[0], keys[1], len);
+	new_keys(t, keys[2], keys[3], len);
+	if (setting == METHODS && !s->methods[0]) {
+		t->psk_key.len = s->psk_key.len;
+		t->gpsk_key.len = s->gpsk_key.len;
+		t->psk_key.at = keys[2];
+		t->gpsk_key.at = keys[3];
+	}
+	s->name = new_name(names[0]);
+	t->name = new_name(names[1]);
+	s->other = any(3) ? t->name : TUV_ANY;
+	t->other = s->name;
+	if (any(8) == 0)
+		t->other.len = s->name.len > 1 ? s->name.len - 1 : 0;
+	if (t->other.len == 0)	/* it is the peer's whole name after all */
+		t->other = s->name;
+	t->barred = any(8) == 0;
+	s->expanded = any(3) == 0;
+	t->expanded = any(3) == 0;
+	user = *t;
+	user_after = any(3) ? 0 : setting == METHODS ? 1 : 1 + any(3);
+	if (user_after) {
+		t->other = t->psk_key = t->gpsk_key = (struct tuv_octets) { NULL, 0 };
+		t->barred = any(2);
+		/* (the one method that it begins with is the user's) */
+		if (setting == METHODS && !t->methods[0])
+			t->methods[0] = first_method(&user);
+	}
 	sent.len = 0;
+}
+
+static bool ended_for(enum handle h, uint8_t reason, uint8_t code)
+{
+	struct tuv_failure why = tuv_end_failure(&ends[h]);
+
+	return why.reason == reason && why.code == code;
+}
+
+/* The login has ended as it should. */
+static void hold_outcome(bool both)
+{
+	uint8_t method;
+	enum outcome is = expected(&method);
+	bool gpsk = method == TUV_KIND_GPSK;
+	bool good = true;
+
+	switch (is) {
+	case SUCCEEDS:
+		good = both && ended_for(PEER, TUV_FAILURE_NONE, 0) &&
+			ended_for(SERVER, TUV_FAILURE_NONE, 0);
+		break;
+	case UNKNOWN:
+		good = !both && ended_for(SERVER, TUV_FAILURE_UNKNOWN_USER, gpsk) &&
+			(!gpsk || ended_for(PEER, TUV_FAILURE_REFUSED, 1));
+		break;
+	case BARRED:
+		good = !both && ended_for(SERVER, TUV_FAILURE_BARRED_USER, gpsk ? 3 : 0) &&
+			ended_for(PEER, TUV_FAILURE_REFUSED, gpsk ? 3 : 0);
+		break;
+	case NO_METHOD:
+		good = !both && ended_for(SERVER, TUV_FAILURE_NO_METHOD, 0) &&
+			ended_for(PEER, TUV_FAILURE_NO_METHOD, 0);
+		break;
+	case STUCK:
+		good = !both && ended_for(SERVER, TUV_FAILURE_NONE, 0);
+		break;
+	default: break;
+	}
+	failed += is > SUCCEEDS;
+	if (!good)
+		fail("a login that nothing disturbs ends otherwise than its settings say");
 }
 
 /* Carries packets, with disturbances in so many of a hundred: whether both ends
@@ -338,6 +669,8 @@ static bool carry(unsigned int disturbances)
 	bool both = false;
 
 	for (i = 0; i < 24; i++) {
+		if (user_after && i + 1 == user_after)
+			give(SERVER, &user, setting == METHODS);
 		if (any(100) >= disturbances)
 			call(to, by, sent.octets, sent.len);
 		else if (any(6))
@@ -347,8 +680,15 @@ static bool carry(unsigned int disturbances)
 		else if (any(3))
 			call(any(HANDLES), any(3) ? RESTART : PASS_RESTART,
 			     sent.octets, 0);
-		else
-			tuv_end_close(&ends[any(HANDLES)]);
+		else if (any(3))
+			give_any();
+		else {
+			enum handle h = any(HANDLES);
+
+			tuv_end_close(&ends[h]);
+			memset(&models[h], 0, sizeof(models[h]));
+			hold_packets(h);
+		}
 		both |= compare();
 	}
 	return both;
@@ -358,8 +698,8 @@ static bool carry(unsigned int disturbances)
  * which ends as the one before it did. */
 static void log_in_again(bool both)
 {
-	static struct tuv_report left;
-	unsigned long places = misplaced, blocks = allocations;
+	static struct tuv_report left = { .size = sizeof(left) };
+	unsigned long places = misplaced;
 
 	call(PEER, RESTART, sent.octets, 0);
 	call(SERVER, RESTART, sent.octets, 0);
@@ -367,13 +707,12 @@ static void log_in_again(bool both)
 		call(PASS, PASS_RESTART, sent.octets, 0);
 	if (misplaced != places)
 		fail("a restart has no place");
-	if (allocations != blocks)
-		fail("a restart takes memory");
 	if (tuv_end_report(&ends[PEER], &left) ||
 	    tuv_end_report(&ends[SERVER], &left))
 		fail("a restart leaves a report");
 	if (carry(0) != both)
 		fail("a login by a restart ends otherwise");
+	hold_outcome(both);
 	again += both;
 }
 
@@ -389,8 +728,33 @@ static void login(unsigned int disturbances)
 	first_call();
 	both = carry(disturbances);
 	logins += both;
-	if (disturbances == 0 && setting != METHODS)
+	if (disturbances)
+		return;
+	hold_outcome(both);
+	if (setting != METHODS)
 		log_in_again(both);
+}
+
+/* Nobody answers a server, or a pass-through. */
+static void be_silent(void)
+{
+	enum handle h = any(2) ? SERVER : PASS;
+	unsigned int i, retries = any(11);
+
+	prepare();
+	setting = ALONE;
+	if (begin(h, &told[1], retries) != TUV_BEGUN)
+		fail("a sound begin was refused");
+	call(h, h == SERVER ? START : PASS_START, sent.octets, 0);
+	for (i = 0; i < retries; i++) {
+		call(h, h == SERVER ? TIMEOUT : PASS_TIMEOUT, sent.octets, 0);
+		if (!models[h].sends)
+			fail("a Request isn't sent again");
+	}
+	call(h, h == SERVER ? TIMEOUT : PASS_TIMEOUT, sent.octets, 0);
+	if (models[h].sends || models[h].state != TUV_STATE_TIMEOUT_FAILURE ||
+	    !ended_for(h, TUV_FAILURE_TIMEOUT, 0))
+		fail("silence doesn't end a login");
 }
 
 static void drop(struct tuv_end *end)
@@ -401,34 +765,75 @@ static void drop(struct tuv_end *end)
 	free(end->at);
 }
 
-/* Each allocation of a login fails in its turn; asked again it is there. */
+/* Begins at an end whose allocations may fail: asked again, it has begun. Whether
+ * one did fail. */
+static bool starved(enum handle h, struct tuv_end *end)
+{
+	const struct tuv_settings *s = &told[h == SERVER];
+	unsigned int i;
+
+	for (i = 0; i < 2; i++) {
+		uint8_t answer = h == PEER
+			? tuv_peer_begin(end, s, fresh(PEER))
+			: h == SERVER
+			? tuv_server_begin(end, s, fresh(SERVER), 0, 3)
+			: tuv_backend_begin(end, &told[1], fresh(SERVER));
+
+		calls++;
+		if (answer == TUV_BEGUN)
+			return i == 1;
+		if (answer != TUV_NO_MEMORY || allocations != fails_at)
+			fail("a begin answers otherwise than its memory allows");
+	}
+	fail("memory is refused twice");
+	return false;
+}
+
+/* Each allocation of a login fails in its turn. */
 static void starve(void)
 {
-	unsigned long n;
+	unsigned int refusals, h;
 	struct tuv_end end;
-	uint8_t nonce[TUV_NONCE_LEN];
 
 	prepare();
-	fill(nonce, sizeof(nonce));
-	for (n = 1; n <= 3; n++) {
+	setting = ALONE;
+	fails_at = 0;
+	do {
 		allocations = 0;
-		fails_at = n;
-		calls += 4;
-		if (tuv_end_new(&end.at) == (n == 1))
+		fails_at++;
+		refusals = 0;
+		calls++;
+		if (!tuv_end_new(&end.at)) {
+			refusals++;
+			if (!tuv_end_new(&end.at))
+				fail("memory is refused twice");
+		}
+		for (h = 0; h < HANDLES; h++)
+			refusals += starved(h, &end);
+		if (refusals != (fails_at <= allocations))
 			fail("want of memory is not said");
-		if (n == 1 && !tuv_end_new(&end.at))
-			fail("memory is refused twice");
-		fails_at = n == 1 ? 0 : n;
-		if (tuv_peer_begin(&end, &told[0], nonce) !=
-		    (n == 2 ? TUV_NO_MEMORY : TUV_BEGUN))
-			fail("a peer begins otherwise than its memory allows");
-		if (tuv_server_begin(&end, &told[1], nonce, 0, 3) !=
-		    (n == 3 ? TUV_NO_MEMORY : TUV_BEGUN))
-			fail("a server begins otherwise than its memory allows");
-		fails_at = 0;
-		if (tuv_backend_begin(&end, &told[1], nonce) != TUV_BEGUN)
-			fail("a begin that was refused can't be repeated");
 		drop(&end);
+	} while (refusals);
+	fails_at = 0;
+}
+
+static void make_ends(void)
+{
+	int i;
+
+	if (tuv_version() != TUV_VERSION)
+		fail("the header is of another version");
+	before = malloc(tuv_end_size());
+	if (!before)
+		exit(5);
+	for (i = 0; i < HANDLES; i++) {
+		if (!tuv_end_new(&ends[i].at))
+			exit(5);
+		if (taken != tuv_end_size())
+			fail("tuv_end_size is another than what tuv_end_new takes");
+		hold_packets(i);
+		hold_reason(i);
+		call(i, any(CALLS), sent.octets, 0);
 	}
 }
 
@@ -441,23 +846,18 @@ int main(int argc, char *argv[])
 		return 2;
 	state = strtoull(argv[1], NULL, 10);
 	most = strtoul(argv[2], NULL, 10);
-	if (tuv_version() != TUV_VERSION)
-		fail("the header is of another version");
-	before = malloc(tuv_end_size());
-	if (!before)
-		return 5;
-	for (i = 0; i < HANDLES; i++)
-		if (!tuv_end_new(&ends[i].at))
-			return 5;
+	make_ends();
 	while (calls < most) {
 		login(any(2) ? 0 : 1 + any(60));
 		if (any(16) == 0)
 			starve();
+		if (any(16) == 0)
+			be_silent();
 	}
 	for (i = 0; i < HANDLES; i++)
 		drop(&ends[i]);
 	free(before);
-	printf("fuzz: %lu calls, %lu logins, %lu by a restart, %lu discards, %lu out of place, %lu refused, none wrong\n",
-	       calls, logins, again, discarded, misplaced, refused);
+	printf("fuzz: %lu calls, %lu logins, %lu by a restart, %lu that fail as they should, %lu discards, %lu out of place, %lu refused, none wrong\n",
+	       calls, logins, again, failed, discarded, misplaced, refused);
 	return 0;
 }

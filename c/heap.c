@@ -1,11 +1,13 @@
-/* What libtuvaddri_c.a asks for beside memcpy, memmove and memset: a heap.  A
- * block is cleared before it is given back, since it may hold keys. */
+/* The heap that libtuvaddri_c.a asks for beside memcpy, memmove and memset.  A
+ * block is cleared before it is given back, since it may hold keys.  Where the
+ * processor doesn't serve there is no memory: tuv_end_new answers false. */
 #define _DEFAULT_SOURCE
 #include <malloc.h>
 #include <stdbool.h>
 #include <stddef.h>
 #include <stdlib.h>
 #include <string.h>
+#include "tuvaddri.h"
 
 /* Whether there is memory, and where; the place is never null. */
 struct block {
@@ -28,6 +30,8 @@ static struct block block_at(void *at)
 
 struct block rattle_alloc(size_t size, size_t align)
 {
+	if (!tuv_processor_serves())
+		return block_at(NULL);
 	return block_at(malloc(size ? size : align));
 }
 

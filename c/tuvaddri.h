@@ -1,7 +1,7 @@
 /* EAP login by shared keys: the proved ends of Tuvaddri for programs in C.
  *
- * Link libtuvaddri_c.a and heap.c (README.md beside this file).  Nothing is
- * checked at the border, so these must hold at every call:
+ * Link libtuvaddri.a (README.md beside this file).  Nothing is checked at the
+ * border, so these must hold at every call:
  *
  * - A pointer is not null, also where its length is 0, and is valid for its
  *   length.  What a call writes overlaps nothing else that is handed to it.
@@ -22,20 +22,27 @@
 extern "C" {
 #endif
 
-/* The number of this interface; tuv_version tells that of the library. */
-#define TUV_VERSION 1
+/* The number of this interface; tuv_version tells that of the library.  README.md
+ * beside this file says what may change between versions. */
+#define TUV_VERSION 2
 uint32_t tuv_version(void);
 
 enum { TUV_KIND_PSK = 47, TUV_KIND_GPSK = 51 };
-enum { TUV_SUITE_CMAC = 1, TUV_SUITE_HMAC = 2, TUV_SUITE_BOTH = 3 };
+enum { TUV_SUITE_CMAC = 1, TUV_SUITE_HMAC = 2 };
 
-/* The most octets of a packet, of a name and of a key. */
-enum { TUV_PACKET_MAX = 1500, TUV_NAME_MAX = 253, TUV_KEY_MAX = 64 };
+/* The most octets of a packet, of a name, of a key, of a nonce in a report and of
+ * a Session-Id. */
+enum { TUV_PACKET_MAX = 1500, TUV_NAME_MAX = 253, TUV_KEY_MAX = 64,
+       TUV_RAND_MAX = 32, TUV_SESSION_ID_MAX = 33 };
 
 /* The octets of a nonce.  Each begin and each restart wants 32 fresh ones, from
  * getrandom(2) or its like, that were never used before, by this end or another,
  * and are never used again; EAP-PSK takes the first 16. */
 enum { TUV_NONCE_LEN = 32 };
+
+/* No call goes deeper into the stack, and tuv_clear_stack clears so many octets
+ * below its caller. */
+#define TUV_STACK_MAX 32768
 
 /* Octets that belong to the caller. */
 struct tuv_octets {
@@ -43,29 +50,56 @@ struct tuv_octets {
 	size_t len;
 };
 
-/* What an end is told. */
+/* No octets: in place of a name any name, in place of a key none. */
+#define TUV_ANY ((struct tuv_octets) { (const uint8_t *) "", 0 })
+
+/* What an end is told.  `size` is sizeof(struct tuv_settings); a field that is 0,
+ * or has no octets, has the default that is written beside it (no octets may be
+ * a null pointer). */
 struct tuv_settings {
-	struct tuv_octets name;	/* its own name: 1 to 253 octets */
-	/* At a peer the one server that it accepts, and any where there are no
-	 * octets; at a server its one user: 1 to 253 octets. */
+	size_t size;
+	struct tuv_octets name;		/* its own name: 1 to 253 octets */
+	/* At a peer the one server that it accepts, of at most 253 octets; any if
+	 * there are none.  At a server its one user; if there are none it knows
+	 * none, until tuv_server_user or tuv_server_method_user. */
 	struct tuv_octets other;
-	struct tuv_octets psk;	/* 16 octets for EAP-PSK, 32 to 64 for EAP-GPSK */
-	uint8_t kind;		/* TUV_KIND_.. */
-	uint8_t suites;		/* TUV_SUITE_.., also for EAP-PSK, which has none */
+	/* The keys that this end shares with `other`: 16 octets for EAP-PSK, 32 to
+	 * 64 for EAP-GPSK.  None: no login by that method. */
+	struct tuv_octets psk_key, gpsk_key;
+	/* The methods, TUV_KIND_.., each at most once: a peer's that it allows, in
+	 * the order of its Nak; a server's in the order in which it proposes them.
+	 * Both 0: those for which there is a key, EAP-GPSK first; at a server
+	 * without a user both. */
+	uint8_t methods[2];
+	/* The suites of EAP-GPSK, TUV_SUITE_.., each at most once: a peer's that it
+	 * allows, a server's in the order of its list.  Both 0: 1, then 2. */
+	uint8_t suites[2];
+	/* 1: it reads Expanded Types (RFC 3748 section 5.7), and a server asks in
+	 * them. */
+	uint8_t expanded;
+	/* 1: a server's user is barred: he is known by his key and refused (RFC
+	 * 5433's Authorization Failure; R = 3 of RFC 4764). */
+	uint8_t barred;
 };
 
 /* What a begin answers.  It makes the end anew, whatever it was before, also in
  * the middle of a login; after any other answer than TUV_BEGUN the end stays as
- * it was.  Where several reasons apply, the lowest number is told. */
+ * it was.  If several reasons apply, the lowest number is the answer. */
 enum {
 	TUV_BEGUN = 0,
-	TUV_NO_METHOD = 1,	/* `kind` is neither 47 nor 51 */
-	TUV_NO_SUITE = 2,	/* `suites` is none of 1, 2 and 3 */
-	TUV_BAD_NAME = 3,	/* `name` has no octet, or over 253 */
-	TUV_BAD_OTHER = 4,	/* `other` has over 253 octets; at a server also none */
-	TUV_BAD_KEY = 5,	/* `psk` has another size than the method takes */
-	TUV_MANY_RETRIES = 6,	/* `max_retrans` is over 10 */
-	TUV_NO_MEMORY = 7
+	TUV_OTHER_SIZE = 1,	/* `size` is that of no struct that is known */
+	TUV_NO_METHOD = 2,	/* `methods` has another number, one twice, or a 0
+				 * before one; or a peer has neither key nor method */
+	TUV_NO_SUITE = 3,	/* `suites` has another number, one twice, or a 0
+				 * before one */
+	TUV_BAD_NAME = 4,	/* `name` has no octet, or over 253 */
+	TUV_BAD_OTHER = 5,	/* `other` has over 253 octets */
+	TUV_BAD_KEY = 6,	/* a key has another size than its method takes; a
+				 * peer has none for one of its `methods`; a user has
+				 * none at all, or a server has one without a user */
+	TUV_MANY_RETRIES = 7,	/* `max_retrans` is over 10 */
+	TUV_NO_MEMORY = 8,
+	TUV_NO_PLACE = 9	/* a user is given to an end that has none */
 };
 
 /* The states of the machines (RFC 4137).  Between two calls an end stands in
@@ -151,7 +185,9 @@ enum { TUV_DECISION_FAIL = 0, TUV_DECISION_COND_SUCC = 1,
  *	tuv_end_close(&end);
  *	explicit_bzero(end.at, tuv_end_size());
  *	free(end.at);
- * for the octets of the keys still stand in the block after the close. */
+ *	tuv_clear_stack();
+ * for the octets of the keys still stand in the block after the close, and on
+ * the stack, where the calls left them. */
 struct tuv_end {
 	void *at;
 };
@@ -173,19 +209,46 @@ struct tuv_method_turn {
 	uint8_t decision;	/* TUV_DECISION_.. */
 };
 
-/* What an end holds after a method that succeeded.  Clear it after use. */
+/* What an end holds after a method that succeeded; `size` is sizeof(struct
+ * tuv_report).  Clear it after use. */
 struct tuv_report {
+	size_t size;
 	uint8_t method;		/* TUV_KIND_.. */
 	uint8_t suite;		/* 1 or 2; 0 for EAP-PSK */
 	uint8_t peer_length, server_length;
 	uint8_t peer[TUV_NAME_MAX], server[TUV_NAME_MAX];
 	uint8_t msk[64], emsk[64];
+	/* RAND_P and RAND_S of EAP-PSK, 16 octets; RAND_Peer and RAND_Server of
+	 * EAP-GPSK, 32. */
+	uint8_t rand_length;
+	uint8_t peer_rand[TUV_RAND_MAX], server_rand[TUV_RAND_MAX];
+};
+
+/* Why a login has failed, as far as this end can know. */
+enum {
+	TUV_FAILURE_NONE = 0,		/* it has not failed */
+	TUV_FAILURE_UNKNOWN_USER = 1,	/* a server has no such user for the method */
+	TUV_FAILURE_BARRED_USER = 2,	/* a server's user is barred, or (EAP-PSK) the
+					 * peer has answered that it fails */
+	TUV_FAILURE_REFUSED = 3,	/* a peer was refused within the method */
+	TUV_FAILURE_NO_METHOD = 4,	/* no method in common, or none begun */
+	TUV_FAILURE_TIMEOUT = 5,	/* a Request was never answered */
+	TUV_FAILURE_ENDED = 6		/* a Failure came, or the lower layer's word */
+};
+
+struct tuv_failure {
+	uint8_t reason;		/* TUV_FAILURE_.. */
+	/* The Failure-Code (RFC 5433 section 9.3) that EAP-GPSK sent, at a server,
+	 * or that came, at a peer: 1 PSK Not Found, 2 Authentication Failure, 3
+	 * Authorization Failure.  0 if there is none, or another. */
+	uint8_t code;
 };
 
 /* --- every end --- */
 
 /* Makes a closed end, by one allocation: tuv_end_new(&end.at).  False for want
- * of memory; `at` then stays. */
+ * of memory, and where tuv_processor_serves is false (heap.c then gives none);
+ * `at` then stays. */
 bool tuv_end_new(void **at);
 
 /* The octets of the block behind a handle. */
@@ -195,17 +258,37 @@ size_t tuv_end_size(void);
  * A handle that is closed stays so. */
 void tuv_end_close(struct tuv_end *end);
 
-/* The length of the packet of the last call that said `sends`; the packet is
- * copied to `room` where it fits, as it always does into TUV_PACKET_MAX octets.
- * Where it doesn't, nothing is copied, and the packet can be asked for again.
- * After a call that didn't say `sends`, what is here counts for nothing. */
+/* The length of the packet of the end's last turn (or of tuv_server_method_begin),
+ * 0 if that turn didn't say `sends`: after a discard, a misplaced call, a begin.
+ * The packet is copied to `room` if it fits, as it always does into TUV_PACKET_MAX
+ * octets.  If it doesn't, nothing is copied, and it can be asked for again. */
 size_t tuv_end_packet(struct tuv_end *end, uint8_t *room, size_t room_len);
 
+/* The same of the packet that the end has sent last, whatever came since; 0 if
+ * there was none since its begin or restart.  A program that has to answer after a
+ * discard too (RFC 3579 section 2.2) sends it again. */
+size_t tuv_end_again(struct tuv_end *end, uint8_t *room, size_t room_len);
+
 /* Writes the report of a method that has succeeded, and answers true; false, with
- * nothing written, before that and at any other end.  A peer has it before the
- * Success comes: the login has succeeded where the state is SUCCESS too.  Behind
- * a name the octets stay that stood there. */
+ * nothing written, before that, at any other end, and if `size` is another.  A
+ * peer has it before the Success comes: the login has succeeded if the state is
+ * SUCCESS too.  Behind a name and behind 16 octets of a nonce the octets stay that
+ * were there. */
 bool tuv_end_report(struct tuv_end *end, struct tuv_report *report);
+
+/* The Session-Id (RFC 5247) of a method that has succeeded, and its length; 0,
+ * with nothing written, before that and at any other end.  EAP-PSK's is 2f,
+ * RAND_P, RAND_S: 33 octets.  EAP-GPSK's is 33 and the 16 octets of Method-ID of
+ * RFC 5433 section 4: 17 octets. */
+size_t tuv_end_session_id(struct tuv_end *end, uint8_t room[TUV_SESSION_ID_MAX]);
+
+/* The same as wpa_supplicant and hostapd 2.10 derive it, which take for EAP-GPSK's
+ * Method-ID the front of the PSK for its key, not octets of zero. */
+size_t tuv_end_session_id_wpa(struct tuv_end *end,
+			      uint8_t room[TUV_SESSION_ID_MAX]);
+
+/* Why the login has failed. */
+struct tuv_failure tuv_end_failure(struct tuv_end *end);
 
 /* Octets come: to a peer, to a stand-alone server that has started, or to a
  * backend. */
@@ -258,6 +341,12 @@ uint8_t tuv_backend_begin(struct tuv_end *end,
 			  const struct tuv_settings *settings,
 			  const uint8_t nonce[TUV_NONCE_LEN]);
 
+/* Gives a stand-alone server or a backend its one user: `other`, the keys and
+ * `barred` of the settings, in place of the user that it had; of the others `size`
+ * alone is read.  At any time: the user counts from the next Response on.  It
+ * answers as a begin, and 0 if it has taken the user. */
+uint8_t tuv_server_user(struct tuv_end *end, const struct tuv_settings *settings);
+
 /* --- the pass-through (section 7) --- */
 
 /* It takes no memory. */
@@ -297,12 +386,43 @@ uint8_t tuv_server_method_begin(struct tuv_end *end,
 				const struct tuv_settings *settings,
 				const uint8_t nonce[TUV_NONCE_LEN], uint8_t id);
 
+/* The same of a server's method, as tuv_server_user: neither the begin nor the
+ * first Request wants a user. */
+uint8_t tuv_server_method_user(struct tuv_end *end,
+			       const struct tuv_settings *settings);
+
+/* The name of the peer, ID_P of PSK-2 or ID_Peer of GPSK-2, in a whole Response
+ * that came from it, also of Type 254, and its length; 0, with nothing written, in
+ * any other octets.  Its tag isn't checked yet, so anyone may have sent it. */
+size_t tuv_response_name(const uint8_t *octets, size_t len,
+			 uint8_t room[TUV_NAME_MAX]);
+
 /* A whole Response of the method's Type comes; a Request that follows has the
  * Identifier `next_id`.  A server that is done (TUV_METHOD_DONE) has succeeded
  * where the decision is TUV_DECISION_UNCOND_SUCC. */
 struct tuv_method_turn tuv_server_method_handle(struct tuv_end *end,
 						const uint8_t *octets,
 						size_t len, uint8_t next_id);
+
+/* --- written in C --- */
+
+/* Clears TUV_STACK_MAX octets of the stack below the caller, on which the calls
+ * above have left octets of keys: after the last call of a login, in the thread
+ * that made it, from no deeper than the calls were made. */
+void tuv_clear_stack(void);
+
+/* Whether the processor has what the library was built for (README.md). */
+bool tuv_processor_serves(void);
+
+/* For a log: the name of a cause, of a state, of what a begin answers and of a
+ * reason; "?" for a number that has none. */
+const char *tuv_cause_word(uint8_t cause);
+const char *tuv_state_word(uint8_t state);
+const char *tuv_refusal_word(uint8_t answer);
+const char *tuv_failure_word(uint8_t reason);
+
+/* The version of the interface and the commit, as in "tuvaddri 2 252dec7". */
+extern const char tuv_ident[];
 
 #ifdef __cplusplus
 }

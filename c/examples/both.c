@@ -1,12 +1,12 @@
-/* both KIND SUITES KEY PEER-NONCE SERVER-NONCE [PEER-NONCE SERVER-NONCE].. [through]
+/* both METHOD SUITE KEY PEER-NONCE SERVER-NONCE [PEER-NONCE SERVER-NONCE].. [through]
  *
- * Logs the peer alice in at the server srv, by KIND (47 or 51) and SUITES (1, 2
- * or 3), with a key and nonces in hex; where more nonces are given they log in
- * again by a restart, with these.  It prints each packet as `octets HEX`, then
- * the names, MSK and EMSK of the peer and of the server.  With `through` a
- * pass-through stands between the peer and a backend, which begins with the
- * user of the Identity Response.  The exit status is 0 where both succeed with
- * the same report each time. */
+ * Logs the peer alice in at the server srv, by METHOD (47 or 51) and SUITE (1 or
+ * 2; 0 for any), with a key and nonces in hex; where more nonces are given they
+ * log in again by a restart, with these.  It prints each packet as `octets HEX`,
+ * then the names, MSK, EMSK and Session-Id of the peer and of the server.  With
+ * `through` a pass-through stands between the peer and a backend, which begins
+ * with the user of the Identity Response.  The exit status is 0 where both
+ * succeed with the same report each time. */
 #define _DEFAULT_SOURCE
 #include <stdio.h>
 #include <stdlib.h>
@@ -20,16 +20,29 @@ struct ends {
 	uint8_t peer_nonce[TUV_NONCE_LEN], server_nonce[TUV_NONCE_LEN];
 };
 
+static int digit_of(char c)
+{
+	static const char digits[] = "0123456789abcdef";
+	const char *at = c ? strchr(digits, c) : NULL;
+
+	return at ? (int) (at - digits) : -1;
+}
+
+/* The octets of a word in hex; 0 if it is none, or has more than there is room. */
 static size_t octets_of(const char *hex, uint8_t *out, size_t room)
 {
-	size_t n = 0;
-	unsigned int octet;
+	size_t n, len = strlen(hex) / 2;
 
-	while (n < room && sscanf(hex, "%2x", &octet) == 1) {
-		out[n++] = octet;
-		hex += 2;
+	if (len > room || strlen(hex) % 2 != 0)
+		return 0;
+	for (n = 0; n < len; n++) {
+		int high = digit_of(hex[2 * n]), low = digit_of(hex[2 * n + 1]);
+
+		if (high < 0 || low < 0)
+			return 0;
+		out[n] = (uint8_t) (high << 4 | low);
 	}
-	return n;
+	return len;
 }
 
 static void print(const char *word, const uint8_t *octets, size_t len)
@@ -131,13 +144,19 @@ static int log_in_again(struct ends *e, int through)
 	return 0;
 }
 
-static void print_report(const char *who, const struct tuv_report *report)
+static void print_report(const char *who, struct tuv_end *end,
+			 const struct tuv_report *report)
 {
+	uint8_t id[TUV_SESSION_ID_MAX];
+	size_t len;
+
 	printf("%s\nmethod %d suite %d\n", who, report->method, report->suite);
 	print("peer-name", report->peer, report->peer_length);
 	print("server-name", report->server, report->server_length);
 	print("msk", report->msk, sizeof(report->msk));
 	print("emsk", report->emsk, sizeof(report->emsk));
+	len = tuv_end_session_id(end, id);
+	print("session-id", id, len);
 }
 
 static void drop(struct tuv_end *end)
@@ -155,10 +174,11 @@ static int agree(struct ends *e)
 
 	memset(&peer, 0, sizeof(peer));
 	memset(&server, 0, sizeof(server));
+	peer.size = server.size = sizeof(peer);
 	if (tuv_end_report(&e->peer, &peer) &&
 	    tuv_end_report(&e->server, &server)) {
-		print_report("peer", &peer);
-		print_report("server", &server);
+		print_report("peer", &e->peer, &peer);
+		print_report("server", &e->server, &server);
 		same = memcmp(&peer, &server, sizeof(peer)) == 0;
 	}
 	explicit_bzero(&peer, sizeof(peer));
@@ -169,35 +189,62 @@ static int agree(struct ends *e)
 static const struct tuv_octets alice = { (const uint8_t *) "alice", 5 };
 static const struct tuv_octets srv = { (const uint8_t *) "srv", 3 };
 
+/* What both are told: one method, with its key, and one suite or any. */
+static int set_up(struct ends *e, const char *method, const char *suite,
+		  const char *hex, uint8_t key[TUV_KEY_MAX])
+{
+	struct tuv_settings *told = &e->told_peer;
+	struct tuv_octets octets = { key, octets_of(hex, key, TUV_KEY_MAX) };
+
+	memset(e, 0, sizeof(*e));
+	told->size = sizeof(*told);
+	told->name = alice;
+	told->other = srv;
+	if (strcmp(method, "47") == 0)
+		told->psk_key = octets;
+	else if (strcmp(method, "51") == 0)
+		told->gpsk_key = octets;
+	if (strlen(suite) != 1 || suite[0] < '0' || suite[0] > '2')
+		return 2;
+	told->suites[0] = suite[0] - '0';
+	e->told_server = *told;
+	e->told_server.name = srv;
+	e->told_server.other = alice;
+	if (tuv_end_new(&e->peer.at) && tuv_end_new(&e->server.at) &&
+	    tuv_end_new(&e->pass.at))
+		return 0;
+	return 5;
+}
+
+/* A login with these nonces. */
+static int log_in_by(struct ends *e, char *nonces[2], int first, int through)
+{
+	if (octets_of(nonces[0], e->peer_nonce, TUV_NONCE_LEN) != TUV_NONCE_LEN ||
+	    octets_of(nonces[1], e->server_nonce, TUV_NONCE_LEN) != TUV_NONCE_LEN)
+		return 2;
+	if (first ? log_in(e, through) : log_in_again(e, through))
+		return 1;
+	return !agree(e);
+}
+
 int main(int argc, char *argv[])
 {
 	uint8_t key[TUV_KEY_MAX];
 	struct ends e;
-	int at, failed = 0;
+	int at, failed;
 	int through = strcmp(argv[argc - 1], "through") == 0;
 
 	if (argc < 6 || (argc - through) % 2 != 0)
 		return 2;
-	e.told_peer = (struct tuv_settings) { alice, srv, { key, 0 }, 0, 0 };
-	e.told_peer.kind = atoi(argv[1]);
-	e.told_peer.suites = atoi(argv[2]);
-	e.told_peer.psk.len = octets_of(argv[3], key, sizeof(key));
-	e.told_server = e.told_peer;
-	e.told_server.name = srv;
-	e.told_server.other = alice;
-	if (!tuv_end_new(&e.peer.at) || !tuv_end_new(&e.server.at) ||
-	    !tuv_end_new(&e.pass.at))
-		return 5;
-	for (at = 4; !failed && at + 1 < argc; at += 2) {
-		failed = octets_of(argv[at], e.peer_nonce, TUV_NONCE_LEN) != TUV_NONCE_LEN ||
-			octets_of(argv[at + 1], e.server_nonce, TUV_NONCE_LEN) != TUV_NONCE_LEN;
-		if (!failed)
-			failed = at == 4 ? log_in(&e, through) : log_in_again(&e, through);
-		failed = failed || !agree(&e);
-	}
+	failed = set_up(&e, argv[1], argv[2], argv[3], key);
+	if (failed)
+		return failed;
+	for (at = 4; !failed && at + 1 < argc; at += 2)
+		failed = log_in_by(&e, argv + at, at == 4, through);
 	drop(&e.peer);
 	drop(&e.server);
 	drop(&e.pass);
+	tuv_clear_stack();
 	explicit_bzero(key, sizeof(key));
 	return failed;
 }

@@ -1,9 +1,8 @@
 #!/usr/bin/env python3
-"""login.py LIBRARY KIND SUITES KEY PEER-NONCE SERVER-NONCE [PEER-NONCE SERVER-NONCE]..
+"""login.py LIBRARY METHOD SUITE KEY PEER-NONCE SERVER-NONCE [PEER-NONCE SERVER-NONCE]..
 
-Logs the peer alice in at the server srv through the shared form of the library (README.md says how it is made), and
-again by a restart where more nonces are given; prints what c/examples/both.c prints. The status is 0 where both ends
-report the same each time.
+Logs the peer alice in at the server srv through libtuvaddri.so, and again by a restart where more nonces are given;
+prints what both.c prints. The status is 0 where both ends report the same each time.
 """
 import ctypes
 import sys
@@ -21,7 +20,8 @@ class Octets(Structure):
 
 
 class Settings(Structure):
-    _fields_ = [("name", Octets), ("other", Octets), ("psk", Octets), ("kind", c_uint8), ("suites", c_uint8)]
+    _fields_ = [("size", c_size_t), ("name", Octets), ("other", Octets), ("psk_key", Octets), ("gpsk_key", Octets),
+                ("methods", c_uint8 * 2), ("suites", c_uint8 * 2), ("expanded", c_uint8), ("barred", c_uint8)]
 
 
 class Turn(Structure):
@@ -29,8 +29,10 @@ class Turn(Structure):
 
 
 class Report(Structure):
-    _fields_ = [("method", c_uint8), ("suite", c_uint8), ("peer_length", c_uint8), ("server_length", c_uint8),
-                ("peer", c_uint8 * 253), ("server", c_uint8 * 253), ("msk", c_uint8 * 64), ("emsk", c_uint8 * 64)]
+    _fields_ = [("size", c_size_t), ("method", c_uint8), ("suite", c_uint8), ("peer_length", c_uint8),
+                ("server_length", c_uint8), ("peer", c_uint8 * 253), ("server", c_uint8 * 253), ("msk", c_uint8 * 64),
+                ("emsk", c_uint8 * 64), ("rand_length", c_uint8), ("peer_rand", c_uint8 * 32),
+                ("server_rand", c_uint8 * 32)]
 
 
 def library(path):
@@ -42,19 +44,24 @@ def library(path):
         ("tuv_end_size", c_size_t, []),
         ("tuv_end_packet", c_size_t, [end, ctypes.c_char_p, c_size_t]),
         ("tuv_end_report", c_bool, [end, POINTER(Report)]),
+        ("tuv_end_session_id", c_size_t, [end, ctypes.c_char_p]),
         ("tuv_end_deliver", Turn, [end, ctypes.c_char_p, c_size_t]),
         ("tuv_end_restart", Turn, [end, ctypes.c_char_p]),
         ("tuv_peer_begin", c_uint8, [end, settings, ctypes.c_char_p]),
         ("tuv_server_begin", c_uint8, [end, settings, ctypes.c_char_p, c_uint8, c_uint8]),
         ("tuv_server_start", Turn, [end]),
+        ("tuv_clear_stack", None, []),
     ]:
         call = getattr(lib, name)
         call.restype, call.argtypes = result, arguments
     return lib
 
 
-def settings_of(name, other, key, kind, suites):
-    return Settings(Octets(name, len(name)), Octets(other, len(other)), Octets(key, len(key)), kind, suites)
+def settings_of(name, other, key, method, suite):
+    told = Settings(ctypes.sizeof(Settings), Octets(name, len(name)), Octets(other, len(other)))
+    setattr(told, {47: "psk_key", 51: "gpsk_key"}[method], Octets(key, len(key)))
+    told.suites[0] = suite
+    return told
 
 
 def converse(lib, peer, server, turn):
@@ -69,22 +76,25 @@ def converse(lib, peer, server, turn):
         sender, receiver = receiver, sender
 
 
-def show(who, told):
+def show(lib, who, end, told):
+    room = ctypes.create_string_buffer(33)
     print(who)
     print("method", told.method, "suite", told.suite)
     print("peer-name", bytes(told.peer)[: told.peer_length].hex())
     print("server-name", bytes(told.server)[: told.server_length].hex())
     print("msk", bytes(told.msk).hex())
     print("emsk", bytes(told.emsk).hex())
+    print("session-id", room.raw[: lib.tuv_end_session_id(byref(end), room)].hex())
 
 
 def agree(lib, peer, server):
     """Whether both ends report the same."""
-    reports = Report(), Report()
+    size = ctypes.sizeof(Report)
+    reports = Report(size), Report(size)
     held = [lib.tuv_end_report(byref(end), byref(report)) for end, report in zip((peer, server), reports)]
     if all(held):
-        show("peer", reports[0])
-        show("server", reports[1])
+        show(lib, "peer", peer, reports[0])
+        show(lib, "server", server, reports[1])
     return all(held) and bytes(reports[0]) == bytes(reports[1])
 
 
@@ -105,12 +115,12 @@ def login_again(lib, peer, server, nonces):
     return agree(lib, peer, server)
 
 
-def main(path, kind, suites, key, *nonces):
-    lib, kind, suites, key = library(path), int(kind), int(suites), bytes.fromhex(key)
+def main(path, method, suite, key, *nonces):
+    lib, method, suite, key = library(path), int(method), int(suite), bytes.fromhex(key)
     peer, server = End(), End()
     if not (lib.tuv_end_new(byref(peer)) and lib.tuv_end_new(byref(server))):
         return 5
-    told = settings_of(b"alice", b"srv", key, kind, suites), settings_of(b"srv", b"alice", key, kind, suites)
+    told = settings_of(b"alice", b"srv", key, method, suite), settings_of(b"srv", b"alice", key, method, suite)
     octets = [bytes.fromhex(nonce) for nonce in nonces]
     first, *others = zip(octets[::2], octets[1::2])
     good = login(lib, peer, server, told, first) and all([login_again(lib, peer, server, pair) for pair in others])
@@ -120,6 +130,7 @@ def main(path, kind, suites, key, *nonces):
         lib.tuv_end_close(byref(end))
         ctypes.memset(end.at, 0, lib.tuv_end_size())
         libc.free(end.at)
+    lib.tuv_clear_stack()
     return 0 if good else 1
 
 

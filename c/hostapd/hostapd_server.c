@@ -10,6 +10,8 @@
 int eap_server_identity_register(void);
 int eap_server_psk_register(void);
 int eap_server_gpsk_register(void);
+int our_server_psk_register(void);
+int our_server_gpsk_register(void);
 
 static const struct login *current;
 static struct eap_config config;
@@ -45,6 +47,12 @@ bool register_their_server(int method)
 {
 	return (method == 47 ? eap_server_psk_register()
 			     : eap_server_gpsk_register()) == 0;
+}
+
+bool register_our_server(int method)
+{
+	return (method == 47 ? our_server_psk_register()
+			     : our_server_gpsk_register()) == 0;
 }
 
 static bool open_server(const struct login *login)

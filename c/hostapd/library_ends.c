@@ -23,12 +23,17 @@ static struct tuv_octets name_of(const char *text)
 static struct tuv_settings settings_of(const struct login *login)
 {
 	struct tuv_settings told;
+	struct tuv_octets key = { login->key, login->key_len };
 
+	memset(&told, 0, sizeof(told));
+	told.size = sizeof(told);
 	told.name = name_of(login->peer_name);
 	told.other = name_of(login->server_name);
-	told.psk = (struct tuv_octets) { login->key, login->key_len };
-	told.kind = login->method;
-	told.suites = login->suite ? login->suite : TUV_SUITE_BOTH;
+	if (login->method == TUV_KIND_PSK)
+		told.psk_key = key;
+	else
+		told.gpsk_key = key;
+	told.suites[0] = login->suite;
 	return told;
 }
 
@@ -53,7 +58,7 @@ static bool open_server(const struct login *login)
 	os_get_random(nonce, sizeof(nonce));
 	told.other = told.name;
 	told.name = name;
-	told.suites = TUV_SUITE_BOTH;
+	told.suites[0] = 0;
 	memset(&server.turn, 0, sizeof(server.turn));
 	return tuv_end_new(&server.end.at) &&
 		tuv_server_begin(&server.end, &told, nonce, 0, 5) == TUV_BEGUN;
@@ -64,6 +69,7 @@ static void close_end(struct own *own)
 	tuv_end_close(&own->end);
 	explicit_bzero(own->end.at, tuv_end_size());
 	free(own->end.at);
+	tuv_clear_stack();
 }
 
 static void close_peer(void)
@@ -119,6 +125,7 @@ static bool server_succeeded(void)
 /* One report has both keys: the EMSK is asked for after the MSK. */
 static const unsigned char *msk_of(struct own *own)
 {
+	own->report.size = sizeof(own->report);
 	own->has_report = tuv_end_report(&own->end, &own->report);
 	return own->has_report ? own->report.msk : NULL;
 }

@@ -156,15 +156,30 @@ static const struct side *side_of(char letter, int method,
 		? theirs : NULL;
 }
 
+/* A number up to `most`, or -1. */
+static long number_of(const char *word, long most)
+{
+	char *end;
+	long number = strtol(word, &end, 10);
+
+	return *word && !*end && number >= 0 && number <= most ? number : -1;
+}
+
 int main(int argc, char *argv[])
 {
 	struct login login;
+	long logins;
+	bool alters;
 
 	if (argc != 6)
 		return 2;
 	memset(&login, 0, sizeof(login));
-	login.method = atoi(argv[3]);
-	login.suite = atoi(argv[4]);
+	login.method = number_of(argv[3], 51);
+	login.suite = number_of(argv[4], 2);
+	alters = strcmp(argv[5], "altered") == 0;
+	logins = alters ? 0 : number_of(argv[5], 1000000);
+	if ((login.method != 47 && login.method != 51) || login.suite < 0 || logins < 0)
+		return 2;
 	login.key_len = login.method == 47 ? 16 : 32;
 	login.peer_name = "alice";
 	login.server_name = "srv";
@@ -177,6 +192,5 @@ int main(int argc, char *argv[])
 		return 3;
 	printf("peer %s server %s method %s suite %s: ", argv[1], argv[2],
 	       argv[3], argv[4]);
-	return strcmp(argv[5], "altered") == 0 ? run_altered(&login)
-					       : run(&login, atoi(argv[5]));
+	return alters ? run_altered(&login) : run(&login, logins);
 }

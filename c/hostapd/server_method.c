@@ -1,4 +1,6 @@
-/* EAP-PSK and EAP-GPSK of the library as methods of hostapd's server. */
+/* EAP-PSK or EAP-GPSK of the library as a method of hostapd's server.  METHOD is
+ * 47 or 51; the function that registers it has the name of theirs, so this file
+ * stands in the place of eap_server_psk.c or eap_server_gpsk.c. */
 #include "includes.h"
 #include "common.h"
 #include "wpabuf.h"
@@ -7,73 +9,86 @@
 #include "eap_server/eap_i.h"
 #include "eap_server/eap_methods.h"
 #include "tuvaddri.h"
-#include "login.h"
+
+#if METHOD == 47
+#define NAME "PSK"
+#define REGISTER eap_server_psk_register
+#else
+#define NAME "GPSK"
+#define REGISTER eap_server_gpsk_register
+#endif
 
 struct server {
 	struct tuv_end end;
 	struct tuv_method_turn turn;
 	bool has_asked;
-	int method;
-	u8 nonce[TUV_NONCE_LEN];
 	/* Of a method that has succeeded; it has both keys, which are asked
 	 * for one by one. */
 	struct tuv_report report;
 	bool has_report;
 };
 
-static void *init(int method)
+static void drop(struct server *s)
+{
+	tuv_end_close(&s->end);
+	forced_memzero(s->end.at, tuv_end_size());
+	os_free(s->end.at);
+	bin_clear_free(s, sizeof(*s));
+	tuv_clear_stack();
+}
+
+/* The method begins, with its first Request; the user has been looked up. */
+static bool begin(struct eap_sm *sm, struct server *s, u8 id)
+{
+	struct tuv_settings told;
+	struct tuv_octets key;
+	u8 nonce[TUV_NONCE_LEN], answer;
+
+	if (!sm->user || !sm->user->password) {
+		wpa_printf(MSG_INFO, "EAP-" NAME ": the user has no key");
+		return false;
+	}
+	os_memset(&told, 0, sizeof(told));
+	told.size = sizeof(told);
+	told.name.at = sm->cfg->server_id;
+	told.name.len = sm->cfg->server_id_len;
+	told.other.at = sm->identity;
+	told.other.len = sm->identity_len;
+	key.at = sm->user->password;
+	key.len = sm->user->password_len;
+	if (METHOD == TUV_KIND_PSK)
+		told.psk_key = key;
+	else
+		told.gpsk_key = key;
+	if (random_get_bytes(nonce, sizeof(nonce)))
+		return false;
+	answer = tuv_server_method_begin(&s->end, &told, nonce, id);
+	if (answer != TUV_BEGUN)
+		wpa_printf(MSG_INFO, "EAP-" NAME ": the user's settings are refused: %s",
+			   tuv_refusal_word(answer));
+	return answer == TUV_BEGUN;
+}
+
+/* Settings that the method refuses are refused here, where the machine still goes
+ * on to the user's next method.  (That first Request isn't sent.) */
+static void *init(struct eap_sm *sm)
 {
 	struct server *s = os_zalloc(sizeof(*s));
 
-	if (!s)
-		return NULL;
-	s->method = method;
-	if (random_get_bytes(s->nonce, sizeof(s->nonce)) ||
-	    !tuv_end_new(&s->end.at)) {
+	if (!s || !tuv_end_new(&s->end.at)) {
 		os_free(s);
+		return NULL;
+	}
+	if (!begin(sm, s, 0)) {
+		drop(s);
 		return NULL;
 	}
 	return s;
 }
 
-static void *init_psk(struct eap_sm *sm)
-{
-	return init(TUV_KIND_PSK);
-}
-
-static void *init_gpsk(struct eap_sm *sm)
-{
-	return init(TUV_KIND_GPSK);
-}
-
 static void reset(struct eap_sm *sm, void *priv)
 {
-	struct server *s = priv;
-
-	tuv_end_close(&s->end);
-	forced_memzero(s->end.at, tuv_end_size());
-	os_free(s->end.at);
-	bin_clear_free(s, sizeof(*s));
-}
-
-/* The method begins with its first Request, whose Identifier is known here; the
- * user has been looked up by then. */
-static bool begin(struct eap_sm *sm, struct server *s, u8 id)
-{
-	struct tuv_settings told;
-
-	if (!sm->user || !sm->user->password)
-		return false;
-	told.name.at = sm->cfg->server_id;
-	told.name.len = sm->cfg->server_id_len;
-	told.other.at = sm->identity;
-	told.other.len = sm->identity_len;
-	told.psk.at = sm->user->password;
-	told.psk.len = sm->user->password_len;
-	told.kind = s->method;
-	told.suites = TUV_SUITE_BOTH;
-	return tuv_server_method_begin(&s->end, &told, s->nonce, id) ==
-		TUV_BEGUN;
+	drop(priv);
 }
 
 static struct wpabuf *build_request(struct eap_sm *sm, void *priv, u8 id)
@@ -86,23 +101,6 @@ static struct wpabuf *build_request(struct eap_sm *sm, void *priv, u8 id)
 	s->has_asked = true;
 	return wpabuf_alloc_copy(packet, tuv_end_packet(&s->end, packet,
 							sizeof(packet)));
-}
-
-/* m.check and m.process of RFC 4137 are one call of the library: true where the
- * Response is to be discarded. */
-static bool check(struct eap_sm *sm, void *priv, struct wpabuf *response)
-{
-	struct server *s = priv;
-
-	s->turn = tuv_server_method_handle(&s->end, wpabuf_head(response),
-					   wpabuf_len(response),
-					   sm->currentId + 1);
-	s->has_report = false;
-	return s->turn.discards || s->turn.misplaced;
-}
-
-static void process(struct eap_sm *sm, void *priv, struct wpabuf *response)
-{
 }
 
 static bool is_done(struct eap_sm *sm, void *priv)
@@ -118,8 +116,48 @@ static bool is_success(struct eap_sm *sm, void *priv)
 		s->turn.decision == TUV_DECISION_UNCOND_SUCC;
 }
 
+/* A discard is logged. Behind RADIUS an Access-Request waits for an answer, so a
+ * wrong key ends the login there, as with their own methods. */
+static bool discard(struct eap_sm *sm, struct server *s)
+{
+	wpa_printf(MSG_INFO, "EAP-" NAME ": discarded: %s",
+		   tuv_cause_word(s->turn.cause));
+	if (s->turn.cause != TUV_CAUSE_BAD_TAG || !sm->cfg->backend_auth)
+		return true;
+	s->turn.state = TUV_METHOD_DONE;
+	s->turn.decision = TUV_DECISION_FAIL;
+	return false;
+}
+
+/* m.check and m.process of RFC 4137 are one call of the library: true where the
+ * Response is to be discarded. */
+static bool check(struct eap_sm *sm, void *priv, struct wpabuf *response)
+{
+	struct server *s = priv;
+	struct tuv_failure why;
+
+	s->turn = tuv_server_method_handle(&s->end, wpabuf_head(response),
+					   wpabuf_len(response),
+					   sm->currentId + 1);
+	s->has_report = false;
+	if (s->turn.misplaced)
+		return true;
+	if (s->turn.discards)
+		return discard(sm, s);
+	why = tuv_end_failure(&s->end);
+	if (why.reason)
+		wpa_printf(MSG_INFO, "EAP-" NAME ": failed: %s, Failure-Code %u",
+			   tuv_failure_word(why.reason), why.code);
+	return false;
+}
+
+static void process(struct eap_sm *sm, void *priv, struct wpabuf *response)
+{
+}
+
 static bool has_key(struct server *s)
 {
+	s->report.size = sizeof(s->report);
 	if (!s->has_report)
 		s->has_report = tuv_end_report(&s->end, &s->report);
 	return s->has_report;
@@ -146,15 +184,25 @@ static u8 *emsk_of(struct eap_sm *sm, void *priv, size_t *len)
 	return has_key(s) ? copy_of(s->report.emsk, len) : NULL;
 }
 
-bool register_our_server(int method)
+/* The Session-Id as their methods derive it. */
+static u8 *session_id_of(struct eap_sm *sm, void *priv, size_t *len)
+{
+	struct server *s = priv;
+	u8 id[TUV_SESSION_ID_MAX];
+
+	*len = tuv_end_session_id_wpa(&s->end, id);
+	return *len ? os_memdup(id, *len) : NULL;
+}
+
+int REGISTER(void)
 {
 	struct eap_method *m = eap_server_method_alloc(
-		EAP_SERVER_METHOD_INTERFACE_VERSION, EAP_VENDOR_IETF, method,
-		method == TUV_KIND_PSK ? "PSK" : "GPSK");
+		EAP_SERVER_METHOD_INTERFACE_VERSION, EAP_VENDOR_IETF, METHOD,
+		NAME);
 
 	if (!m)
-		return false;
-	m->init = method == TUV_KIND_PSK ? init_psk : init_gpsk;
+		return -1;
+	m->init = init;
 	m->reset = reset;
 	m->buildReq = build_request;
 	m->check = check;
@@ -163,5 +211,6 @@ bool register_our_server(int method)
 	m->isSuccess = is_success;
 	m->getKey = msk_of;
 	m->get_emsk = emsk_of;
-	return eap_server_method_register(m) == 0;
+	m->getSessionId = session_id_of;
+	return eap_server_method_register(m);
 }

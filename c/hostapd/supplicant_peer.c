@@ -10,6 +10,8 @@
 
 int eap_peer_psk_register(void);
 int eap_peer_gpsk_register(void);
+int our_peer_psk_register(void);
+int our_peer_gpsk_register(void);
 
 static struct eap_peer_config config;
 static struct eap_method_type allowed[2];
@@ -78,6 +80,12 @@ bool register_their_peer(int method)
 {
 	return (method == 47 ? eap_peer_psk_register()
 			     : eap_peer_gpsk_register()) == 0;
+}
+
+bool register_our_peer(int method)
+{
+	return (method == 47 ? our_peer_psk_register()
+			     : our_peer_gpsk_register()) == 0;
 }
 
 static bool open_peer(const struct login *login)

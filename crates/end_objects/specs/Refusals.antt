@@ -1,52 +1,98 @@
 -- When settings are refused, and why.
-use Rattle.std.specs.Prelude.{ℕ, List, [], ◌∷◌, length, Bool, false, ◌&&◌, not, nat_lt, nat_le, if◌then◌else◌, Option, Some, None}
-use Rattle.eap_base.specs.Among.{is_kind}
+use Rattle.std.specs.Prelude.{◌≡◌, ℕ, ◌≤◌, List, [], ◌∷◌, length, Bool, true, false, ◌&&◌, ◌||◌, ◌==◌, not, nat_lt, nat_le, if◌then◌else◌, Option, Some, None}
+use Rattle.std.specs.List.{list_any}
+use Rattle.eap_base.specs.Among.{psk_kind, gpsk_kind, is_filled}
 use Rattle.eap_base.specs.Sizes.{max_name}
-use Rattle.login_setup.specs.Setup.{fits_kind}
-use Rattle.end_objects.specs.Settings.{SettingsValue}
-use Rattle.end_objects.specs.declared.settings.Refusal.{Refusal}
-use Rattle.end_objects.specs.declared.settings.Refusal.TheVariants as refusal
+use Rattle.login_setup.specs.Setup.{are_kinds, are_suites}
+use Rattle.end_objects.specs.Settings.{SettingsValue, is_set, keyed_kinds, named_kinds, kinds_of, suites_of, key_of}
+use Rattle.end_objects.specs.Soundness.{serves}
+use Rattle.end_objects.specs.declared.refusals.Refusal.{Refusal}
+use Rattle.end_objects.specs.declared.refusals.Refusal.TheVariants as refusal
+
+-- the octets of the struct of settings, on 64 bits
+abbrev pub settings_size : ℕ
+settings_size = 80
+
+-- a reason where it applies, else those that follow
+abbrev pub refuse_if : Bool → Refusal → Option Refusal → Option Refusal
+refuse_if applies reason others = if applies then Some reason else others
+
+-- whether the struct has another size
+abbrev pub has_other_size : SettingsValue → Bool
+has_other_size told = not (told.size == settings_size)
+
+-- whether a 0 stands before another number
+abbrev pub has_gap : List ℕ → Bool
+has_gap [] = false
+has_gap (number ∷ rest) = if number == 0 then list_any is_set rest else has_gap rest
+
+-- whether the methods are others than the two, or one stands twice
+unfoldable pub has_bad_methods : SettingsValue → Bool
+has_bad_methods told = has_gap told.methods || not (are_kinds (kinds_of told))
+
+-- whether the suites are others than 1 and 2, or one stands twice
+unfoldable pub has_bad_suites : SettingsValue → Bool
+has_bad_suites told = has_gap told.suites || not (are_suites (suites_of told))
 
 -- whether a name has octets, and no more than a field of it takes
 abbrev pub is_name : List ℕ → Bool
 is_name [] = false
 is_name (octet ∷ rest) = nat_le (length (octet ∷ rest)) max_name
 
--- whether a number says suite 1, suite 2, or both
-abbrev pub says_suites : ℕ → Bool
-says_suites which = nat_le 1 which && nat_le which 3
+-- whether the other end's name is too long
+abbrev pub has_long_other : SettingsValue → Bool
+has_long_other told = nat_lt max_name (length told.other)
 
--- the first reason to refuse what an end is told of itself
-abbrev pub own_refusal : SettingsValue → Option Refusal
-own_refusal told =
-    if not (is_kind told.kind) then Some refusal.NoMethod
-    else if not (says_suites told.suites) then Some refusal.NoSuite
-    else if not (is_name told.name) then Some refusal.BadName
-    else None
+-- whether each key fits its method, and there is one for each of these methods
+unfoldable pub has_keys : List ℕ → SettingsValue → Bool
+has_keys wanted told =
+    serves wanted psk_kind (key_of told.psk_key) && serves wanted gpsk_kind (key_of told.gpsk_key)
+
+-- whether there is a key exactly where there is a user
+unfoldable pub has_key_of_user : SettingsValue → Bool
+has_key_of_user told = if is_filled told.other then is_filled (keyed_kinds told) else not (is_filled (keyed_kinds told))
+
+-- the first reason to refuse a peer's settings; no name stands for any server
+unfoldable pub peer_refusal : SettingsValue → Option Refusal
+peer_refusal told =
+    refuse_if (has_other_size told) refusal.OtherSize (
+    refuse_if (has_bad_methods told || not (is_filled (named_kinds told))) refusal.NoMethod (
+    refuse_if (has_bad_suites told) refusal.NoSuite (
+    refuse_if (not (is_name told.name)) refusal.BadName (
+    refuse_if (has_long_other told) refusal.BadOther (
+    refuse_if (not (has_keys (kinds_of told) told)) refusal.BadKey None)))))
+
+-- the first reason to refuse a server's settings; no name stands for no user
+unfoldable pub server_refusal : SettingsValue → Option Refusal
+server_refusal told =
+    refuse_if (has_other_size told) refusal.OtherSize (
+    refuse_if (has_bad_methods told) refusal.NoMethod (
+    refuse_if (has_bad_suites told) refusal.NoSuite (
+    refuse_if (not (is_name told.name)) refusal.BadName (
+    refuse_if (has_long_other told) refusal.BadOther (
+    refuse_if (not (has_keys [] told && has_key_of_user told)) refusal.BadKey None)))))
+
+-- why MaxRetrans of RFC 4137 is refused
+abbrev pub retry_refusal : ℕ → Option Refusal
+retry_refusal max_retrans = refuse_if (nat_lt 10 max_retrans) refusal.ManyRetries None
 
 -- the first of two reasons
 abbrev pub first_of : Option Refusal → Option Refusal → Option Refusal
 first_of (Some reason) other = Some reason
 first_of None other = other
 
--- the first reason to refuse a peer's settings; no name stands for any server
-abbrev pub peer_refusal : SettingsValue → Option Refusal
-peer_refusal told = first_of (own_refusal told)
-    (if nat_lt max_name (length told.other) then Some refusal.BadOther
-    else if not (fits_kind told.kind told.psk) then Some refusal.BadKey
-    else None)
-
--- the first reason to refuse a server's settings
-abbrev pub server_refusal : SettingsValue → Option Refusal
-server_refusal told = first_of (own_refusal told)
-    (if not (is_name told.other) then Some refusal.BadOther
-    else if not (fits_kind told.kind told.psk) then Some refusal.BadKey
-    else None)
-
--- why MaxRetrans of RFC 4137 is refused
-abbrev pub retry_refusal : ℕ → Option Refusal
-retry_refusal max_retrans = if nat_lt 10 max_retrans then Some refusal.ManyRetries else None
-
 -- the first reason to refuse a stand-alone server's settings
-abbrev pub stand_alone_refusal : SettingsValue → ℕ → Option Refusal
+unfoldable pub stand_alone_refusal : SettingsValue → ℕ → Option Refusal
 stand_alone_refusal told max_retrans = first_of (server_refusal told) (retry_refusal max_retrans)
+
+-- the first reason to refuse a user of a server, who has a name and a key
+unfoldable pub user_refusal : SettingsValue → Option Refusal
+user_refusal told =
+    refuse_if (has_other_size told) refusal.OtherSize (
+    refuse_if (not (is_name told.other)) refusal.BadOther (
+    refuse_if (not (has_keys [] told && is_filled (keyed_kinds told))) refusal.BadKey None))
+
+-- the other end's name and the keys have the sizes that they may have
+pub record IsSoundOther (told : SettingsValue) : Type 0 where
+  pub name : length told.other ≤ max_name
+  pub keys : has_keys [] told ≡ true

@@ -1,57 +1,133 @@
 -- The settings of an end, from what a program gives.
-use Rattle.std.specs.Prelude.{ℕ, List, [], ◌∷◌, ◌==◌, if◌then◌else◌, Some, None, false}
-use Rattle.eap_base.specs.Among.{psk_kind}
+use Rattle.std.specs.Prelude.{ℕ, List, [], ◌∷◌, ◌++◌, map, slice_index, Bool, ◌==◌, not, if◌then◌else◌, Option, Some, None}
+use Rattle.eap_base.specs.Among.{psk_kind, gpsk_kind, is_filled}
 use Rattle.login_setup.specs.declared.setup.Accepts.{Accepts}
 use Rattle.login_setup.specs.declared.setup.Accepts.TheVariants.{Any, One}
 use Rattle.login_setup.specs.declared.setup.PeerSetup.{PeerSetup}
 use Rattle.login_setup.specs.declared.setup.ServerSetup.{ServerSetup}
 use Rattle.login_setup.specs.declared.users.User.{User}
+use Rattle.eap_method.specs.declared.values.Credential.{Credential}
+use Rattle.eap_method.specs.declared.values.ServerSide.{ServerSide}
 use Rattle.end_objects.specs.declared.settings.Settings.{Settings}
 
 -- what an end is told
 pub record SettingsValue : Type 0 where
+  pub size : ℕ
   pub name : List ℕ
   pub other : List ℕ
-  pub psk : List ℕ
-  pub kind : ℕ
-  pub suites : ℕ
+  pub psk_key : List ℕ
+  pub gpsk_key : List ℕ
+  pub methods : List ℕ
+  pub suites : List ℕ
+  pub expanded : ℕ
+  pub barred : ℕ
 
 abbrev pub settings_of : Settings → SettingsValue
-settings_of told = record { name = told.name.now; other = told.other.now; psk = told.psk.now; kind = told.kind; suites = told.suites }
+settings_of told = record {
+  size = told.size;
+  name = told.name.now;
+  other = told.other.now;
+  psk_key = told.psk_key.now;
+  gpsk_key = told.gpsk_key.now;
+  methods = told.methods;
+  suites = told.suites;
+  expanded = told.expanded;
+  barred = told.barred;
+}
 
--- suite 1 or 2 alone, or both
-abbrev pub suites_of : ℕ → List ℕ
-suites_of which = if which == 1 then 1 ∷ [] else if which == 2 then 2 ∷ [] else 1 ∷ 2 ∷ []
+-- these numbers or, where there are none, others
+abbrev pub or_else : List ℕ → List ℕ → List ℕ
+or_else [] others = others
+or_else (number ∷ rest) others = number ∷ rest
+
+-- the numbers of a field: those before its first 0
+abbrev pub listed : List ℕ → List ℕ
+listed [] = []
+listed (number ∷ rest) = if number == 0 then [] else number ∷ listed rest
+
+-- a method, where there is a key for it
+abbrev pub kind_if : List ℕ → ℕ → List ℕ
+kind_if [] kind = []
+kind_if (octet ∷ rest) kind = kind ∷ []
+
+-- the methods for which there is a key, EAP-GPSK first
+unfoldable pub keyed_kinds : SettingsValue → List ℕ
+keyed_kinds told = kind_if told.gpsk_key gpsk_kind ++ kind_if told.psk_key psk_kind
+
+-- the methods of the field or, where it has none, those for which there is a key
+unfoldable pub named_kinds : SettingsValue → List ℕ
+named_kinds told = or_else (listed told.methods) (keyed_kinds told)
+
+-- the methods of an end: where none is named, both
+unfoldable pub kinds_of : SettingsValue → List ℕ
+kinds_of told = or_else (named_kinds told) (gpsk_kind ∷ psk_kind ∷ [])
+
+-- the method of an end that has one alone
+abbrev pub first_kind : SettingsValue → ℕ
+first_kind told = slice_index (kinds_of told) 0
+
+-- the suites of EAP-GPSK
+unfoldable pub suites_of : SettingsValue → List ℕ
+suites_of told = or_else (listed told.suites) (1 ∷ 2 ∷ [])
+
+-- the octets of the key for a method
+abbrev pub key_for : SettingsValue → ℕ → List ℕ
+key_for told kind = if kind == psk_kind then told.psk_key else told.gpsk_key
+
+-- a key, where there are octets of it
+abbrev pub key_of : List ℕ → Option (List ℕ)
+key_of [] = None
+key_of (octet ∷ rest) = Some (octet ∷ rest)
+
+-- whether a field is set: it isn't 0
+abbrev pub is_set : ℕ → Bool
+is_set field = not (field == 0)
 
 -- a server of this name alone, or any where it is empty
 abbrev pub accepted : List ℕ → Accepts
 accepted [] = Any
 accepted (octet ∷ rest) = One (octet ∷ rest)
 
--- the settings of a peer with one method
-abbrev pub peer_setup_of : SettingsValue → List ℕ → PeerSetup
+-- the settings of a peer
+unfoldable pub peer_setup_of : SettingsValue → List ℕ → PeerSetup
 peer_setup_of told nonce = record {
   name = told.name;
   accepts = accepted told.other;
-  methods = told.kind ∷ [];
-  suites = suites_of told.suites;
-  psk47 = if told.kind == psk_kind then Some told.psk else None;
-  psk51 = if told.kind == psk_kind then None else Some told.psk;
+  methods = kinds_of told;
+  suites = suites_of told;
+  psk47 = key_of told.psk_key;
+  psk51 = key_of told.gpsk_key;
   nonce = nonce;
-  expanded = false;
+  expanded = is_set told.expanded;
 }
 
--- the one user of a server: the other end, with the key that both share
-abbrev pub users_of : SettingsValue → List User
-users_of told = record { name = told.other; kind = told.kind; psk = told.psk; barred = false } ∷ []
+-- the other end as a user of a method, with the key that both ends share
+abbrev pub user_with : SettingsValue → ℕ → User
+user_with told kind = record { name = told.other; kind = kind; psk = key_for told kind; barred = is_set told.barred }
 
--- the settings of a server with one method and one user
-abbrev pub server_setup_of : SettingsValue → List ℕ → ServerSetup
+-- the users of a server: for each method for which there is a key the one user, if there is one
+unfoldable pub users_of : SettingsValue → List User
+users_of told = if is_filled told.other then map (user_with told) (keyed_kinds told) else []
+
+-- the settings of a server
+unfoldable pub server_setup_of : SettingsValue → List ℕ → ServerSetup
 server_setup_of told nonce = record {
   name = told.name;
-  methods = told.kind ∷ [];
-  suites = suites_of told.suites;
+  methods = kinds_of told;
+  suites = suites_of told;
   users = users_of told;
   nonce = nonce;
-  expanded = false;
+  expanded = is_set told.expanded;
 }
+
+-- what a peer brings into its one method; what a server does
+unfoldable pub credential_of : SettingsValue → Credential
+credential_of told = record {
+  id_p = told.name;
+  accepts = accepted told.other;
+  suites = suites_of told;
+  psk = key_for told (first_kind told);
+}
+
+unfoldable pub side_of : SettingsValue → ServerSide
+side_of told = record { id_s = told.name; suites = suites_of told }

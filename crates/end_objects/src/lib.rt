@@ -1,15 +1,19 @@
-//! An object of either method for each end, and the settings of an end with one method from octets and numbers.
+//! An object of either method for each end, and the settings of an end from octets and numbers.
 #![tactic(auto)]
 
 mod making;
 mod objects;
+mod refusals;
 mod settings;
 mod soundness;
 
 pub use making::{peer_object, peer_objects, server_object, server_objects};
-pub use objects::{PeerObject, ServerObject};
+pub use objects::{Nonces, PeerObject, ServerObject};
+pub use refusals::{
+    Refusal, peer_refusal, retry_refusal, server_refusal, stand_alone_refusal, user_refusal,
+};
 pub use settings::{
-    Refusal, Settings, accepts, one_user, peer_refusal, peer_setup, retry_refusal, server_refusal,
-    server_setup, stand_alone_refusal, suites,
+    SETTINGS_SIZE, Settings, credential, first_kind, key_for, keyed_kinds, kinds_of, peer_setup,
+    server_setup, server_side, suites_of, users_of,
 };
 pub use soundness::{is_sound_peer, is_sound_server};

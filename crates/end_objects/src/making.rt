@@ -1,7 +1,9 @@
-//! The object of one method, as a machine takes it.
+//! The objects of methods, as a machine takes them.
 
-ghost use Rattle.std.specs.Prelude.{◌≡◌, ◌∷◌, [], true, map, IfOk};
+ghost use Rattle.std.specs.Prelude.{◌≡◌, ◌++◌, true, map, IfOk, OnOk, IsTrue};
+ghost use Rattle.std.specs.List.{list_all};
 ghost use Rattle.eap_base.specs.Among.{is_kind};
+ghost use Rattle.login_setup.specs.Setup.{are_kinds};
 ghost use Rattle.eap_method.specs.Peer.{peer_kind, peer_kinds, have_each};
 ghost use Rattle.eap_method.specs.Server.{server_kind, server_kinds};
 ghost use Rattle.end_objects.specs.Objects.{peer_object_shown, server_object_shown};
@@ -24,14 +26,31 @@ pub fn peer_object(kind: u8) -> PeerObject
     }
 }
 
-/// The objects of a peer that has this one method. An `Err` is want of memory.
-pub fn peer_objects(alloc: Global, kind: u8) -> Result<Vec<PeerObject>, AllocError>
-    requires { is_kind kind ≡ true }
-    ensures { IfOk result (λ objects. have_each (peer_kinds (map peer_object_shown objects.items)) (kind ∷ []) ≡ true) }
+/// The objects of a peer with these methods, one for each, in their order. An `Err` is want of memory.
+#[tactic(auto, using(crate::proofs::MadeObjects::each_of_its_own))]
+pub fn peer_objects(alloc: Global, kinds: &[u8]) -> Result<Vec<PeerObject>, AllocError>
+    requires { IsTrue (are_kinds kinds.now) }
+    ensures kinds { IfOk result (λ objects. peer_kinds (map peer_object_shown objects.items) ≡ kinds.now) }
+    ensures each { IfOk result (λ objects. have_each (peer_kinds (map peer_object_shown objects.items)) kinds.now ≡ true) }
 {
-    let mut objects = Vec::new(alloc);
-    objects.push(peer_object(kind))?;
+    let mut objects = Vec::with_capacity(alloc, kinds.len())?;
+    add_peers(&mut objects, kinds)?;
     Ok(objects)
+}
+
+/// Appends an object of each of these methods.
+#[tactic(auto, using(crate::proofs::MadeObjects::one_more_peer))]
+fn add_peers(objects: &mut Vec<PeerObject>, kinds: &[u8]) -> Result<(), AllocError>
+    requires { list_all is_kind kinds.now ≡ true }
+    ensures { OnOk result (peer_kinds (map peer_object_shown objects.new.items) ≡ peer_kinds (map peer_object_shown objects.old.items) ++ kinds.now) }
+{
+    match kinds {
+        [] => Ok(()),
+        [kind, rest @ ..] => {
+            objects.push(peer_object(*kind))?;
+            add_peers(objects, rest)
+        }
+    }
 }
 
 /// The server's object of the method, 47 or 51.
@@ -46,12 +65,29 @@ pub fn server_object(kind: u8) -> ServerObject
     }
 }
 
-/// The objects of a server that has this one method. An `Err` is want of memory.
-pub fn server_objects(alloc: Global, kind: u8) -> Result<Vec<ServerObject>, AllocError>
-    requires { is_kind kind ≡ true }
-    ensures { IfOk result (λ objects. have_each (server_kinds (map server_object_shown objects.items)) (kind ∷ []) ≡ true) }
+/// The objects of a server with these methods, one for each, in their order. An `Err` is want of memory.
+#[tactic(auto, using(crate::proofs::MadeObjects::each_of_its_own))]
+pub fn server_objects(alloc: Global, kinds: &[u8]) -> Result<Vec<ServerObject>, AllocError>
+    requires { IsTrue (are_kinds kinds.now) }
+    ensures kinds { IfOk result (λ objects. server_kinds (map server_object_shown objects.items) ≡ kinds.now) }
+    ensures each { IfOk result (λ objects. have_each (server_kinds (map server_object_shown objects.items)) kinds.now ≡ true) }
 {
-    let mut objects = Vec::new(alloc);
-    objects.push(server_object(kind))?;
+    let mut objects = Vec::with_capacity(alloc, kinds.len())?;
+    add_servers(&mut objects, kinds)?;
     Ok(objects)
+}
+
+/// Appends an object of each of these methods.
+#[tactic(auto, using(crate::proofs::MadeObjects::one_more_server))]
+fn add_servers(objects: &mut Vec<ServerObject>, kinds: &[u8]) -> Result<(), AllocError>
+    requires { list_all is_kind kinds.now ≡ true }
+    ensures { OnOk result (server_kinds (map server_object_shown objects.new.items) ≡ server_kinds (map server_object_shown objects.old.items) ++ kinds.now) }
+{
+    match kinds {
+        [] => Ok(()),
+        [kind, rest @ ..] => {
+            objects.push(server_object(*kind))?;
+            add_servers(objects, rest)
+        }
+    }
 }

@@ -1,6 +1,8 @@
 //! An object of either method, for each side.
 
-use eap_base::{Nonce, Packet};
+ghost use Rattle.std.specs.Prelude.{◌≡◌};
+
+use eap_base::{Nonce, Octets, Packet};
 use eap_method::{
     Credential, PeerMethod, PeerTurn, Report, ServerMethod, ServerSide, ServerTurn, Tags,
 };
@@ -8,11 +10,75 @@ use gpsk_ends::{GpskPeer, GpskServer};
 use login_setup::Users;
 use psk_ends::{PskPeer, PskServer};
 
+/// The two nonces of a login: RAND_P and RAND_S of EAP-PSK, of 16 octets (RFC 4764 sections 5.1 and 5.2), or RAND_Peer
+/// and RAND_Server of EAP-GPSK, of 32 (RFC 5433 section 3).
+#[derive(Drop)]
+pub struct Nonces {
+    pub peer: Octets<32>,
+    pub server: Octets<32>,
+}
+
+impl Nonces {
+    ghost use Rattle.end_objects.specs.Nonces.{of_psk, of_gpsk};
+
+    fn of_psk(psk: psk_ends::Nonces) -> Nonces
+        ensures { result ≡ of_psk psk }
+    {
+        Nonces {
+            peer: Octets::of(&psk.rand_p),
+            server: Octets::of(&psk.rand_s),
+        }
+    }
+
+    fn of_gpsk(gpsk: gpsk_ends::Nonces) -> Nonces
+        ensures { result ≡ of_gpsk gpsk }
+    {
+        Nonces {
+            peer: Octets::of(&gpsk.rand_p),
+            server: Octets::of(&gpsk.rand_s),
+        }
+    }
+}
+
 /// A peer of EAP-PSK or of EAP-GPSK.
 #[derive(Drop)]
 pub enum PeerObject {
     Psk(PskPeer),
     Gpsk(GpskPeer),
+}
+
+impl PeerObject {
+    ghost use Rattle.end_objects.specs.Objects.{peer_object_shown};
+    ghost use Rattle.end_objects.specs.Nonces.{peer_nonces};
+    ghost use Rattle.end_objects.specs.Failures.{peer_has_failed};
+
+    /// The nonces of a login that has succeeded; None before and after any other.
+    #[tactic(auto, unfolding(crate::specs::Nonces::peer_nonces))]
+    pub fn nonces(&self) -> Option<Nonces>
+        ensures { result ≡ peer_nonces (peer_object_shown self.now) }
+    {
+        match self {
+            PeerObject::Psk(peer) => match peer.nonces() {
+                None => None,
+                Some(nonces) => Some(Nonces::of_psk(nonces)),
+            },
+            PeerObject::Gpsk(peer) => match peer.nonces() {
+                None => None,
+                Some(nonces) => Some(Nonces::of_gpsk(nonces)),
+            },
+        }
+    }
+
+    /// Whether the login has failed within the method: the server has refused the peer.
+    #[tactic(auto, unfolding(crate::specs::Failures::peer_has_failed))]
+    pub fn has_failed(&self) -> bool
+        ensures { result ≡ peer_has_failed (peer_object_shown self.now) }
+    {
+        match self {
+            PeerObject::Psk(peer) => peer.has_failed(),
+            PeerObject::Gpsk(peer) => peer.has_failed(),
+        }
+    }
 }
 
 impl PeerMethod for PeerObject {
@@ -54,6 +120,51 @@ impl PeerMethod for PeerObject {
 pub enum ServerObject {
     Psk(PskServer),
     Gpsk(GpskServer),
+}
+
+impl ServerObject {
+    ghost use Rattle.end_objects.specs.Objects.{server_object_shown};
+    ghost use Rattle.end_objects.specs.Nonces.{server_nonces};
+    ghost use Rattle.end_objects.specs.Failures.{is_unknown, server_has_failed};
+
+    /// The nonces of a login that has succeeded; None before and after any other.
+    #[tactic(auto, unfolding(crate::specs::Nonces::server_nonces))]
+    pub fn nonces(&self) -> Option<Nonces>
+        ensures { result ≡ server_nonces (server_object_shown self.now) }
+    {
+        match self {
+            ServerObject::Psk(server) => match server.nonces() {
+                None => None,
+                Some(nonces) => Some(Nonces::of_psk(nonces)),
+            },
+            ServerObject::Gpsk(server) => match server.nonces() {
+                None => None,
+                Some(nonces) => Some(Nonces::of_gpsk(nonces)),
+            },
+        }
+    }
+
+    /// Whether the server has refused a user that it doesn't know.
+    #[tactic(auto, unfolding(crate::specs::Failures::is_unknown))]
+    pub fn is_unknown(&self) -> bool
+        ensures { result ≡ is_unknown (server_object_shown self.now) }
+    {
+        match self {
+            ServerObject::Psk(server) => server.is_unknown(),
+            ServerObject::Gpsk(server) => server.is_unknown(),
+        }
+    }
+
+    /// Whether the login of a user that the server knows has failed within the method.
+    #[tactic(auto, unfolding(crate::specs::Failures::server_has_failed))]
+    pub fn has_failed(&self) -> bool
+        ensures { result ≡ server_has_failed (server_object_shown self.now) }
+    {
+        match self {
+            ServerObject::Psk(server) => server.has_failed(),
+            ServerObject::Gpsk(server) => server.has_failed(),
+        }
+    }
 }
 
 impl ServerMethod for ServerObject {

@@ -1,255 +1,288 @@
 //! The settings of an end, as a program gives them: octets and numbers.
 
-ghost use Rattle.std.specs.Prelude.{◌≡◌, ◌≤◌, [], length, true, None, All, IsTrue};
+ghost use Rattle.std.specs.Prelude.{◌≡◌, ◌≤◌, ◌++◌, ◌∷◌, [], length, map, true, None, All, IsTrue};
 ghost use Rattle.eap_base.specs.Among.{is_kind};
 ghost use Rattle.eap_base.specs.Sizes.{max_name};
-ghost use Rattle.login_setup.specs.Setup.{fits_kind, IsSoundPeer, HasKeys, IsSoundServer};
-ghost use Rattle.end_objects.specs.Settings.{settings_of, suites_of, accepted, peer_setup_of, users_of, server_setup_of};
-ghost use Rattle.end_objects.specs.Refusals.{own_refusal, peer_refusal, server_refusal, retry_refusal, stand_alone_refusal};
+ghost use Rattle.login_setup.specs.Setup.{are_kinds, fits_kind, IsSoundPeer, HasKeys, IsSoundServer};
+ghost use Rattle.login_setup.specs.Users.{HasRoom};
+ghost use Rattle.end_objects.specs.Settings.{settings_of, or_else, listed, keyed_kinds, named_kinds, kinds_of, first_kind, suites_of, key_of, key_for, accepted, peer_setup_of, user_with, users_of, server_setup_of, credential_of, side_of};
+ghost use Rattle.end_objects.specs.Refusals.{peer_refusal, server_refusal, IsSoundOther};
 
-use eap_base::{GPSK_KIND, Identity, Kinds, MAX_NAME, Nonce, PSK_KIND, Secret, Suites};
+use eap_base::{GPSK_KIND, Identity, Kinds, Nonce, Octets, PSK_KIND, Secret, Suites};
+use eap_method::{Credential, ServerSide};
 use login_setup::{Accepts, PeerSetup, ServerSetup, User, Users};
 
-/// What an end is told: one method, and the two names and the key that both ends share.
+/// The octets of [`Settings`] on 64 bits.
+pub const SETTINGS_SIZE: usize = 80;
+
+/// What an end is told: its own name, and of the other end the name and the keys that both share. A field that is
+/// 0, or has no octets, has its default. Of a slice without octets nothing is read.
 #[repr(C)]
 pub struct Settings<'a> {
+    /// [`SETTINGS_SIZE`]. A caller that knows another struct has another number here.
+    pub size: usize,
     /// The end's own name, of 1 to 253 octets.
     pub name: &'a [u8],
-    /// The other end's name. At a peer the one server that it accepts, at most 253 octets, and any server where
-    /// there are none; at a server its one user, of 1 to 253 octets.
+    /// The other end's name, of at most 253 octets. At a peer the one server that it accepts, and any where there
+    /// are none; at a server its one user, and no user where there are none.
     pub other: &'a [u8],
-    /// The key: 16 octets for EAP-PSK, 32 to 64 for EAP-GPSK.
-    pub psk: &'a [u8],
-    /// The method: 47 (EAP-PSK) or 51 (EAP-GPSK).
-    pub kind: u8,
-    /// The suites of EAP-GPSK: 1 or 2 for that one alone, 3 for both.
-    pub suites: u8,
+    /// The key for EAP-PSK, of 16 octets, or none.
+    pub psk_key: &'a [u8],
+    /// The key for EAP-GPSK, of 32 to 64 octets, or none.
+    pub gpsk_key: &'a [u8],
+    /// The methods in their order, 47 (EAP-PSK) or 51 (EAP-GPSK), each at most once, with zeros behind them. Where
+    /// there are none: those for which there is a key, EAP-GPSK first, or both where there is no key.
+    pub methods: [u8; 2],
+    /// The suites of EAP-GPSK in their order, 1 or 2, each at most once, with zeros behind them. Where there are
+    /// none: 1, then 2.
+    pub suites: [u8; 2],
+    /// 1 where the end reads Expanded Types (RFC 3748 section 5.7); any number but 0 is taken as 1.
+    pub expanded: u8,
+    /// 1 where a server refuses its user by a protected failure; any number but 0 is taken as 1.
+    pub barred: u8,
 }
 
-/// Why settings are refused.
-#[derive(Clone, Copy, PartialEq, Eq, Debug)]
-pub enum Refusal {
-    /// The method is neither 47 nor 51.
-    NoMethod,
-    /// The suites are none of 1, 2 and 3.
-    NoSuite,
-    /// The end's own name has no octet, or over 253.
-    BadName,
-    /// The other end's name has over 253 octets or, at a server, none.
-    BadOther,
-    /// The key has another size than the method takes.
-    BadKey,
-    /// A Request would be sent again over 10 times.
-    ManyRetries,
-}
-
-/// The first reason, in the order of [`Refusal`], for which an end refuses what is said of itself.
-fn own_refusal(settings: &Settings) -> Option<Refusal>
-    ensures refused { result ≡ own_refusal (settings_of settings.now) }
-    ensures kind { result ≡ None → is_kind settings.now.kind ≡ true }
-    ensures name { result ≡ None → length settings.now.name.now ≤ max_name }
+/// The numbers of a field: those before its first 0.
+fn listed(field: &[u8; 2]) -> Octets<2>
+    ensures { result ≡ listed field.now }
 {
-    if !is_kind(settings.kind) {
-        Some(Refusal::NoMethod)
-    } else if settings.suites < 1 || settings.suites > 3 {
-        Some(Refusal::NoSuite)
-    } else if settings.name.is_empty() || settings.name.len() > MAX_NAME {
-        Some(Refusal::BadName)
+    let [first, second] = *field;
+    if first == 0 {
+        Octets::new()
+    } else if second == 0 {
+        Octets::of(&[first])
     } else {
-        None
+        Octets::of(&[first, second])
     }
 }
 
-/// Whether this is the Type of one of the two methods.
-pub(crate) fn is_kind(kind: u8) -> bool
-    ensures { result ≡ is_kind kind }
+/// These numbers or, where there are none, others.
+fn or_else(numbers: Octets<2>, others: &[u8]) -> Octets<2>
+    requires { length others.now ≤ 2 }
+    ensures { result ≡ or_else numbers others.now }
 {
-    kind == PSK_KIND || kind == GPSK_KIND
+    if numbers.is_empty() {
+        Octets::of(others)
+    } else {
+        numbers
+    }
 }
 
-/// Whether the key has the size that the method of this Type takes; false for any other Type.
-pub(crate) fn fits(kind: u8, psk: &[u8]) -> bool
-    ensures { result ≡ fits_kind kind psk.now }
+/// The methods for which there is a key, EAP-GPSK first.
+#[tactic(auto, unfolding(crate::specs::Settings::keyed_kinds))]
+pub fn keyed_kinds(settings: &Settings) -> Kinds
+    ensures { result ≡ keyed_kinds (settings_of settings.now) }
+{
+    match (settings.gpsk_key, settings.psk_key) {
+        ([], []) => Kinds::new(),
+        ([], [_, ..]) => Kinds::of(&[PSK_KIND]),
+        ([_, ..], []) => Kinds::of(&[GPSK_KIND]),
+        ([_, ..], [_, ..]) => Kinds::of(&[GPSK_KIND, PSK_KIND]),
+    }
+}
+
+/// The methods that the settings name or, where they name none, those for which there is a key.
+#[tactic(auto, unfolding(crate::specs::Settings::named_kinds))]
+pub(crate) fn named_kinds(settings: &Settings) -> Kinds
+    ensures { result ≡ named_kinds (settings_of settings.now) }
+{
+    let keyed = keyed_kinds(settings);
+    or_else(listed(&settings.methods), keyed.as_slice())
+}
+
+/// The methods of an end, in their order: those that its settings name, else those for which there is a key,
+/// EAP-GPSK first, else both.
+#[tactic(auto, unfolding(crate::specs::Settings::kinds_of))]
+pub fn kinds_of(settings: &Settings) -> Kinds
+    ensures { result ≡ kinds_of (settings_of settings.now) }
+{
+    or_else(named_kinds(settings), &[GPSK_KIND, PSK_KIND])
+}
+
+/// The method of an end that has one alone: the first.
+#[tactic(auto, using(crate::proofs::Taken::kinds_are_some, crate::proofs::Taken::first_is_kind))]
+pub fn first_kind(settings: &Settings) -> u8
+    requires kinds { IsTrue (are_kinds (kinds_of (settings_of settings.now))) }
+    ensures first { result ≡ first_kind (settings_of settings.now) }
+    ensures kind { is_kind result ≡ true }
+{
+    let kinds = kinds_of(settings);
+    kinds.as_slice()[0]
+}
+
+/// The suites of EAP-GPSK, in their order: those that the settings name, else 1 and 2.
+#[tactic(auto, unfolding(crate::specs::Settings::suites_of))]
+pub fn suites_of(settings: &Settings) -> Suites
+    ensures { result ≡ suites_of (settings_of settings.now) }
+{
+    or_else(listed(&settings.suites), &[1, 2])
+}
+
+/// The octets of the key for this method.
+pub fn key_for<'a>(settings: &Settings<'a>, kind: u8) -> &'a [u8]
+    ensures { result.now ≡ key_for (settings_of settings.now) kind }
 {
     if kind == PSK_KIND {
-        psk.len() == 16
+        settings.psk_key
     } else {
-        kind == GPSK_KIND && psk.len() >= 32 && psk.len() <= 64
+        settings.gpsk_key
     }
 }
 
-/// The first reason, in the order of [`Refusal`], for which a peer refuses these settings.
-pub fn peer_refusal(settings: &Settings) -> Option<Refusal>
-    ensures refused { result ≡ peer_refusal (settings_of settings.now) }
-    ensures kind { result ≡ None → is_kind settings.now.kind ≡ true }
-    ensures name { result ≡ None → length settings.now.name.now ≤ max_name }
-    ensures other { result ≡ None → length settings.now.other.now ≤ max_name }
-    ensures key { result ≡ None → IsTrue (fits_kind settings.now.kind settings.now.psk.now) }
+/// The key, where there are octets of it.
+fn key_of(octets: &[u8]) -> Option<Secret>
+    requires { length octets.now ≤ 64 }
+    ensures { result ≡ key_of octets.now }
 {
-    match own_refusal(settings) {
-        Some(refusal) => Some(refusal),
-        None => {
-            if settings.other.len() > MAX_NAME {
-                Some(Refusal::BadOther)
-            } else if !fits(settings.kind, settings.psk) {
-                Some(Refusal::BadKey)
-            } else {
-                None
-            }
-        }
-    }
-}
-
-/// The first reason, in the order of [`Refusal`], for which a server refuses these settings.
-pub fn server_refusal(settings: &Settings) -> Option<Refusal>
-    ensures refused { result ≡ server_refusal (settings_of settings.now) }
-    ensures kind { result ≡ None → is_kind settings.now.kind ≡ true }
-    ensures name { result ≡ None → length settings.now.name.now ≤ max_name }
-    ensures other { result ≡ None → length settings.now.other.now ≤ max_name }
-    ensures key { result ≡ None → IsTrue (fits_kind settings.now.kind settings.now.psk.now) }
-{
-    match own_refusal(settings) {
-        Some(refusal) => Some(refusal),
-        None => {
-            if settings.other.is_empty() || settings.other.len() > MAX_NAME {
-                Some(Refusal::BadOther)
-            } else if !fits(settings.kind, settings.psk) {
-                Some(Refusal::BadKey)
-            } else {
-                None
-            }
-        }
-    }
-}
-
-/// Why MaxRetrans of RFC 4137 is refused: it is over 10.
-pub fn retry_refusal(max_retrans: u8) -> Option<Refusal>
-    ensures refused { result ≡ retry_refusal max_retrans }
-    ensures few { result ≡ None → max_retrans ≤ 10 }
-{
-    if max_retrans > 10 {
-        Some(Refusal::ManyRetries)
-    } else {
-        None
-    }
-}
-
-/// The first reason, in the order of [`Refusal`], for which a stand-alone server refuses these settings.
-pub fn stand_alone_refusal(settings: &Settings, max_retrans: u8) -> Option<Refusal>
-    ensures refused { result ≡ stand_alone_refusal (settings_of settings.now) max_retrans }
-    ensures kind { result ≡ None → is_kind settings.now.kind ≡ true }
-    ensures name { result ≡ None → length settings.now.name.now ≤ max_name }
-    ensures other { result ≡ None → length settings.now.other.now ≤ max_name }
-    ensures key { result ≡ None → IsTrue (fits_kind settings.now.kind settings.now.psk.now) }
-    ensures few { result ≡ None → max_retrans ≤ 10 }
-{
-    match server_refusal(settings) {
-        Some(refusal) => Some(refusal),
-        None => retry_refusal(max_retrans),
-    }
-}
-
-/// Suite 1 or 2 alone, or for any other number both.
-pub fn suites(which: u8) -> Suites
-    ensures { result ≡ suites_of which }
-{
-    match which {
-        1 => Suites::of(&[1]),
-        2 => Suites::of(&[2]),
-        _ => Suites::of(&[1, 2]),
+    match octets {
+        [] => None,
+        [_, ..] => Some(Secret::of(octets)),
     }
 }
 
 /// A server of this name alone, or any where it is empty.
-pub fn accepts(server: &[u8]) -> Accepts
+fn accepts(server: &[u8]) -> Accepts
     requires { length server.now ≤ max_name }
     ensures { result ≡ accepted server.now }
 {
-    if server.is_empty() {
-        Accepts::Any
-    } else {
-        Accepts::One(Identity::of(server))
+    match server {
+        [] => Accepts::Any,
+        [_, ..] => Accepts::One(Identity::of(server)),
     }
 }
 
-/// The settings of a peer with one method.
+/// The settings of a peer.
 pub fn peer_setup(settings: &Settings, nonce: &Nonce) -> PeerSetup
-    requires name { length settings.now.name.now ≤ max_name }
-    requires other { length settings.now.other.now ≤ max_name }
-    requires key { IsTrue (fits_kind settings.now.kind settings.now.psk.now) }
+    requires taken { peer_refusal (settings_of settings.now) ≡ None }
     ensures made { result ≡ peer_setup_of (settings_of settings.now) nonce.now }
     ensures sound { IsSoundPeer result }
     ensures keys { HasKeys result }
 {
-    if settings.kind == PSK_KIND {
-        PeerSetup {
-            name: Identity::of(settings.name),
-            accepts: accepts(settings.other),
-            methods: Kinds::of(&[PSK_KIND]),
-            suites: suites(settings.suites),
-            psk47: Some(Secret::of(settings.psk)),
-            psk51: None,
-            nonce: *nonce,
-            expanded: false,
-        }
-    } else {
-        PeerSetup {
-            name: Identity::of(settings.name),
-            accepts: accepts(settings.other),
-            methods: Kinds::of(&[GPSK_KIND]),
-            suites: suites(settings.suites),
-            psk47: None,
-            psk51: Some(Secret::of(settings.psk)),
-            nonce: *nonce,
-            expanded: false,
+    peer_setup_from(settings, nonce)
+}
+
+/// The settings of a peer, whose octets have the sizes that they may have.
+#[tactic(auto, unfolding(crate::specs::Settings::peer_setup_of))]
+fn peer_setup_from(settings: &Settings, nonce: &Nonce) -> PeerSetup
+    requires name { length settings.now.name.now ≤ max_name }
+    requires other { length settings.now.other.now ≤ max_name }
+    requires psk { length settings.now.psk_key.now ≤ 64 }
+    requires gpsk { length settings.now.gpsk_key.now ≤ 64 }
+    ensures { result ≡ peer_setup_of (settings_of settings.now) nonce.now }
+{
+    PeerSetup {
+        name: Identity::of(settings.name),
+        accepts: accepts(settings.other),
+        methods: kinds_of(settings),
+        suites: suites_of(settings),
+        psk47: key_of(settings.psk_key),
+        psk51: key_of(settings.gpsk_key),
+        nonce: *nonce,
+        expanded: settings.expanded != 0,
+    }
+}
+
+/// Adds the other end as a user of this method.
+fn add_user(users: &mut Users, settings: &Settings, kind: u8)
+    requires room { HasRoom users.old (user_with (settings_of settings.now) kind) }
+    requires name { length settings.now.other.now ≤ max_name }
+    requires key { length (key_for (settings_of settings.now) kind) ≤ 64 }
+    ensures { users.new ≡ users.old ++ user_with (settings_of settings.now) kind ∷ [] }
+{
+    users.add(User {
+        name: Identity::of(settings.other),
+        kind,
+        psk: Secret::of(key_for(settings, kind)),
+        barred: settings.barred != 0,
+    });
+}
+
+/// Adds the other end as a user of each method for which there is a key, where there are no users.
+#[tactic(auto, unfolding(crate::specs::Settings::keyed_kinds))]
+fn add_keyed(users: &mut Users, settings: &Settings)
+    requires none { users.old ≡ [] }
+    requires other { IsSoundOther (settings_of settings.now) }
+    ensures { users.new ≡ map (user_with (settings_of settings.now)) (keyed_kinds (settings_of settings.now)) }
+{
+    match (settings.gpsk_key, settings.psk_key) {
+        ([], []) => {}
+        ([], [_, ..]) => add_user(users, settings, PSK_KIND),
+        ([_, ..], []) => add_user(users, settings, GPSK_KIND),
+        ([_, ..], [_, ..]) => {
+            add_user(users, settings, GPSK_KIND);
+            add_user(users, settings, PSK_KIND);
         }
     }
 }
 
-/// The one user of a server.
-pub fn one_user(settings: &Settings) -> Users
-    requires other { length settings.now.other.now ≤ max_name }
-    requires key { IsTrue (fits_kind settings.now.kind settings.now.psk.now) }
+/// Adds the users that the settings give, where there are none.
+#[tactic(auto, unfolding(crate::specs::Settings::users_of))]
+fn add_users(users: &mut Users, settings: &Settings)
+    requires none { users.old ≡ [] }
+    requires other { IsSoundOther (settings_of settings.now) }
+    ensures { users.new ≡ users_of (settings_of settings.now) }
+{
+    match settings.other {
+        [] => {}
+        [_, ..] => add_keyed(users, settings),
+    }
+}
+
+/// The users of a server: the other end, once for each method for which there is a key, that of EAP-GPSK first; none
+/// where the settings name no other end.
+#[tactic(auto, using(crate::proofs::Taken::users_have_kinds, crate::proofs::Taken::users_have_keys))]
+pub fn users_of(settings: &Settings) -> Users
+    requires other { IsSoundOther (settings_of settings.now) }
     ensures made { result ≡ users_of (settings_of settings.now) }
+    ensures kinds { All (λ user. IsTrue (is_kind user.kind)) result }
     ensures keys { All (λ user. IsTrue (fits_kind user.kind user.psk)) result }
 {
     let mut users = Users::new();
-    add_user(&mut users, settings);
+    add_users(&mut users, settings);
     users
 }
 
-/// Adds the one user of a server, where there is none.
-fn add_user(users: &mut Users, settings: &Settings)
-    requires none { users.old ≡ [] }
-    requires other { length settings.now.other.now ≤ max_name }
-    requires key { IsTrue (fits_kind settings.now.kind settings.now.psk.now) }
-    ensures made { users.new ≡ users_of (settings_of settings.now) }
-    ensures keys { All (λ user. IsTrue (fits_kind user.kind user.psk)) users.new }
-{
-    users.add(User {
-        name: Identity::of(settings.other),
-        kind: settings.kind,
-        psk: Secret::of(settings.psk),
-        barred: false,
-    });
-}
-
-/// The settings of a server with one method and one user.
+/// The settings of a server.
 pub fn server_setup(settings: &Settings, nonce: &Nonce) -> ServerSetup
-    requires name { length settings.now.name.now ≤ max_name }
-    requires other { length settings.now.other.now ≤ max_name }
-    requires key { IsTrue (fits_kind settings.now.kind settings.now.psk.now) }
+    requires taken { server_refusal (settings_of settings.now) ≡ None }
     ensures made { result ≡ server_setup_of (settings_of settings.now) nonce.now }
     ensures sound { IsSoundServer result }
 {
     let mut setup = ServerSetup {
         name: Identity::of(settings.name),
-        methods: Kinds::of(&[settings.kind]),
-        suites: suites(settings.suites),
+        methods: kinds_of(settings),
+        suites: suites_of(settings),
         users: Users::new(),
         nonce: *nonce,
-        expanded: false,
+        expanded: settings.expanded != 0,
     };
-    add_user(&mut setup.users, settings);
+    add_users(&mut setup.users, settings);
     setup
+}
+
+/// What a peer brings into its first method, for a method alone.
+#[tactic(auto, using(crate::proofs::Taken::peer_kinds), unfolding(crate::specs::Settings::credential_of))]
+pub fn credential(settings: &Settings) -> Credential
+    requires taken { peer_refusal (settings_of settings.now) ≡ None }
+    ensures made { result ≡ credential_of (settings_of settings.now) }
+    ensures key { IsTrue (fits_kind (first_kind (settings_of settings.now)) result.psk) }
+{
+    Credential {
+        id_p: Identity::of(settings.name),
+        accepts: accepts(settings.other),
+        suites: suites_of(settings),
+        psk: Secret::of(key_for(settings, first_kind(settings))),
+    }
+}
+
+/// What a server brings into a method, its users apart.
+#[tactic(auto, unfolding(crate::specs::Settings::side_of))]
+pub fn server_side(settings: &Settings) -> ServerSide
+    requires taken { server_refusal (settings_of settings.now) ≡ None }
+    ensures { result ≡ side_of (settings_of settings.now) }
+{
+    ServerSide {
+        id_s: Identity::of(settings.name),
+        suites: suites_of(settings),
+    }
 }

@@ -3,11 +3,10 @@
 ghost use Rattle.std.specs.Prelude.{◌≡◌, ◌↔◌, IsTrue};
 ghost use Rattle.std.specs.List.{list_all};
 ghost use Rattle.eap_base.specs.Among.{is_kind, are_distinct};
-ghost use Rattle.login_setup.specs.Setup.{are_kinds, are_suites};
+ghost use Rattle.login_setup.specs.Setup.{are_kinds, are_suites, fits_kind};
 ghost use Rattle.login_setup.specs.Setup.{IsSoundPeer, HasKeys, IsSoundServer};
 ghost use Rattle.end_objects.specs.Soundness.{is_suite, serves, is_sound_user};
 
-use crate::settings::{fits, is_kind};
 use eap_base::{GPSK_KIND, PSK_KIND, Secret, is_among};
 use login_setup::{PeerSetup, ServerSetup, User};
 
@@ -38,8 +37,26 @@ pub fn is_sound_server(setup: &ServerSetup) -> bool
         && are_sound(setup.users.as_slice())
 }
 
+/// Whether this is the Type of one of the two methods.
+fn is_kind(kind: u8) -> bool
+    ensures { result ≡ is_kind kind }
+{
+    kind == PSK_KIND || kind == GPSK_KIND
+}
+
+/// Whether the key has the size that the method of this Type takes; false for any other Type.
+pub(crate) fn fits(kind: u8, psk: &[u8]) -> bool
+    ensures { result ≡ fits_kind kind psk.now }
+{
+    if kind == PSK_KIND {
+        psk.len() == 16
+    } else {
+        kind == GPSK_KIND && psk.len() >= 32 && psk.len() <= 64
+    }
+}
+
 /// Whether these are Types of the two methods, each at most once.
-fn are_kinds(kinds: &[u8]) -> bool
+pub(crate) fn are_kinds(kinds: &[u8]) -> bool
     ensures { result ≡ are_kinds kinds.now }
 {
     all_kinds(kinds) && are_distinct(kinds)
@@ -52,7 +69,7 @@ fn all_kinds(kinds: &[u8]) -> bool
 }
 
 /// Whether these are suites, at least one, and each at most once.
-fn are_suites(suites: &[u8]) -> bool
+pub(crate) fn are_suites(suites: &[u8]) -> bool
     ensures { result ≡ are_suites suites.now }
 {
     !suites.is_empty() && all_suites(suites) && are_distinct(suites)

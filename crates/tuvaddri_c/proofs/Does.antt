@@ -1,6 +1,6 @@
 -- What a machine's step says is what is told of it.
-use Rattle.std.proofs.Common.{◌≡◌, refl, ℕ, List, sym, subst, Bool, true, false, None}
-use Rattle.std.specs.Prelude.{IfSome, if◌then◌else◌, Some}
+use Rattle.std.proofs.Common.{◌≡◌, refl, ℕ, List, [], sym, ap, subst, ◌∙◌, Bool, true, false, Option, None}
+use Rattle.std.specs.Prelude.{if◌then◌else◌, Some}
 use Rattle.eap_method.specs.Steps.{step_with}
 use Rattle.eap_method.specs.declared.step.Step as brief
 use Rattle.eap_method.specs.declared.tags.Tags.{Tags}
@@ -9,6 +9,8 @@ use Rattle.peer_machine.specs.PeerTable as peer
 use Rattle.server_machine.specs.ServerTable.{ServerValue, ServerAnswer}
 use Rattle.server_machine.specs.ServerTable as server
 use Rattle.end_objects.specs.Objects.{peer_object_shown, server_object_shown}
+use Rattle.tuvaddri_c.specs.declared.session.Sent.{Sent}
+use Rattle.tuvaddri_c.specs.Sent.{after_turn, rested}
 use Rattle.tuvaddri_c.specs.Turns.{turn_of, PeerDoes, ServerDoes, PassDoes, is_some}
 use Rattle.pass_through.specs.PassTable.{Side, PassAnswer, step_to}
 use Rattle.pass_through.specs.PassTable as pass
@@ -30,41 +32,70 @@ sends_so : (b : Bool) (p : List ℕ) → is_some (if b then Some p else None) �
 sends_so true p = refl
 sends_so false p = refl
 
-sent_so : (b : Bool) (p : List ℕ) → IfSome (if b then Some p else None) (λ octets. p ≡ octets)
-sent_so true p = refl
-sent_so false p = tt
-
-pub peer_does : (row : PeerAnswer) (step : brief.Step) (packet : List ℕ) (tags : Tags) (after : PeerValue PeerObject)
+pub peer_does : (row : PeerAnswer) (step : brief.Step) (packet : List ℕ) (tags : Tags) (after : PeerValue PeerObject) (before sent : Sent)
     → row ≡ peer.answer (step_with step packet tags) (peer.now_of peer_object_shown after)
-    → PeerDoes row (turn_of step after.vars.state) packet after
-peer_does row step packet tags after e = subst (λ (r : PeerAnswer). PeerDoes r (turn_of step after.vars.state) packet after) (sym e)
-    (record { turn_is = (λ i. record { sends = sym (sends_so step.sends packet) i; discards = is_some step.cause; misplaced = false; cause = (turn_of step after.vars.state).cause; state = (turn_of step after.vars.state).state }); sent = sent_so step.sends packet; machine = refl })
+    → sent ≡ after_turn (if step.sends then Some packet else None) before
+    → PeerDoes row before (turn_of step after.vars.state) sent after
+peer_does row step packet tags after before sent e s = subst (λ (r : PeerAnswer). PeerDoes r before (turn_of step after.vars.state) sent after) (sym e)
+    (record { turn_is = (λ i. record { sends = sym (sends_so step.sends packet) i; discards = is_some step.cause; misplaced = false; cause = (turn_of step after.vars.state).cause; state = (turn_of step after.vars.state).state }); sent_is = s; machine = refl })
 
-pub server_does : (row : ServerAnswer) (step : brief.Step) (packet : List ℕ) (tags : Tags) (after : ServerValue ServerObject)
+pub server_does : (row : ServerAnswer) (step : brief.Step) (packet : List ℕ) (tags : Tags) (after : ServerValue ServerObject) (before sent : Sent)
     → row ≡ server.answer (step_with step packet tags) (server.now_of server_object_shown after)
-    → ServerDoes row (turn_of step after.vars.state) packet after
-server_does row step packet tags after e = subst (λ (r : ServerAnswer). ServerDoes r (turn_of step after.vars.state) packet after) (sym e)
-    (record { turn_is = (λ i. record { sends = sym (sends_so step.sends packet) i; discards = is_some step.cause; misplaced = false; cause = (turn_of step after.vars.state).cause; state = (turn_of step after.vars.state).state }); sent = sent_so step.sends packet; machine = refl })
+    → sent ≡ after_turn (if step.sends then Some packet else None) before
+    → ServerDoes row before (turn_of step after.vars.state) sent after
+server_does row step packet tags after before sent e s = subst (λ (r : ServerAnswer). ServerDoes r before (turn_of step after.vars.state) sent after) (sym e)
+    (record { turn_is = (λ i. record { sends = sym (sends_so step.sends packet) i; discards = is_some step.cause; misplaced = false; cause = (turn_of step after.vars.state).cause; state = (turn_of step after.vars.state).state }); sent_is = s; machine = refl })
 
-pub pass_does : (to : Side) (row : PassAnswer) (step : brief.Step) (packet : List ℕ) (after : PassVariables)
-    → row ≡ pass.answer (step_to to step packet) after → PassDoes row (turn_of step after.state) packet after
-pass_does to row step packet after e = subst (λ (r : PassAnswer). PassDoes r (turn_of step after.state) packet after) (sym e)
-    (record { turn_is = (λ i. record { sends = sym (sends_so step.sends packet) i; discards = is_some step.cause; misplaced = false; cause = (turn_of step after.state).cause; state = (turn_of step after.state).state }); sent = sent_so step.sends packet; machine = refl })
+pub pass_does : (to : Side) (row : PassAnswer) (step : brief.Step) (packet : List ℕ) (after : PassVariables) (before sent : Sent)
+    → row ≡ pass.answer (step_to to step packet) after
+    → sent ≡ after_turn (if step.sends then Some packet else None) before
+    → PassDoes row before (turn_of step after.state) sent after
+pass_does to row step packet after before sent e s = subst (λ (r : PassAnswer). PassDoes r before (turn_of step after.state) sent after) (sym e)
+    (record { turn_is = (λ i. record { sends = sym (sends_so step.sends packet) i; discards = is_some step.cause; misplaced = false; cause = (turn_of step after.state).cause; state = (turn_of step after.state).state }); sent_is = s; machine = refl })
 
-pub peer_turns : (out : PeerOutcome PeerShown) (b : peer_briefs.PeerTurn) (packet : List ℕ) (tags : Tags) (after : PeerObject)
-    → out ≡ record { turn = peer_turn_with b packet tags; after = peer_object_shown after } → PeerTurns out (peer_brief b) packet after
-peer_turns out (peer_answer.Discard c) packet tags after e =
-    subst (λ (o : PeerOutcome PeerShown). PeerTurns o (peer_brief (peer_answer.Discard c)) packet after) (sym e) (record { turn_is = refl; sent = tt; object = refl })
-peer_turns out (peer_answer.Reply m d) packet tags after e =
-    subst (λ (o : PeerOutcome PeerShown). PeerTurns o (peer_brief (peer_answer.Reply m d)) packet after) (sym e) (record { turn_is = refl; sent = refl; object = refl })
+-- a call whose row sends nothing
+none_after : (told : Option (List ℕ)) (before sent : Sent) → told ≡ None → sent ≡ rested before → sent ≡ after_turn told before
+none_after told before sent none s = s ∙ ap (λ (o : Option (List ℕ)). after_turn o before) (sym none)
 
-pub server_turns : (out : ServerOutcome ServerShown) (b : server_briefs.ServerTurn) (packet : List ℕ) (tags : Tags) (after : ServerObject)
-    → out ≡ record { turn = server_turn_with b packet tags; after = server_object_shown after } → ServerTurns out (server_brief b) packet after
-server_turns out (server_answer.Discard c) packet tags after e =
-    subst (λ (o : ServerOutcome ServerShown). ServerTurns o (server_brief (server_answer.Discard c)) packet after) (sym e) (record { turn_is = refl; sent = tt; object = refl })
-server_turns out server_answer.Request packet tags after e =
-    subst (λ (o : ServerOutcome ServerShown). ServerTurns o (server_brief server_answer.Request) packet after) (sym e) (record { turn_is = refl; sent = refl; object = refl })
-server_turns out (server_answer.Done true) packet tags after e =
-    subst (λ (o : ServerOutcome ServerShown). ServerTurns o (server_brief (server_answer.Done true)) packet after) (sym e) (record { turn_is = refl; sent = tt; object = refl })
-server_turns out (server_answer.Done false) packet tags after e =
-    subst (λ (o : ServerOutcome ServerShown). ServerTurns o (server_brief (server_answer.Done false)) packet after) (sym e) (record { turn_is = refl; sent = tt; object = refl })
+pub peer_rests : (row : PeerAnswer) (step : brief.Step) (tags : Tags) (after : PeerValue PeerObject) (before sent : Sent)
+    → row ≡ peer.answer (step_with step [] tags) (peer.now_of peer_object_shown after)
+    → row.step.sent ≡ None → sent ≡ rested before
+    → PeerDoes row before (turn_of step after.vars.state) sent after
+peer_rests row step tags after before sent e none s = peer_does row step [] tags after before sent e
+    (none_after (if step.sends then Some [] else None) before sent (sym (ap (λ (r : PeerAnswer). r.step.sent) e) ∙ none) s)
+
+pub pass_rests : (to : Side) (row : PassAnswer) (step : brief.Step) (after : PassVariables) (before sent : Sent)
+    → row ≡ pass.answer (step_to to step []) after
+    → row.step.sent ≡ None → sent ≡ rested before
+    → PassDoes row before (turn_of step after.state) sent after
+pass_rests to row step after before sent e none s = pass_does to row step [] after before sent e
+    (none_after (if step.sends then Some [] else None) before sent (sym (ap (λ (r : PassAnswer). r.step.sent) e) ∙ none) s)
+
+-- a method's turn sends the packet that it wrote, where it says so
+peer_replies : (b : peer_briefs.PeerTurn) (packet : List ℕ) (tags : Tags) (after : PeerObject) (before sent : Sent)
+    → sent ≡ after_turn (if (peer_brief b).sends then Some packet else None) before
+    → PeerTurns (record { turn = peer_turn_with b packet tags; after = peer_object_shown after }) before (peer_brief b) sent after
+peer_replies (peer_answer.Discard c) packet tags after before sent s = record { turn_is = refl; sent_is = s; object = refl }
+peer_replies (peer_answer.Reply m d) packet tags after before sent s = record { turn_is = refl; sent_is = s; object = refl }
+
+pub peer_turns : (out : PeerOutcome PeerShown) (b : peer_briefs.PeerTurn) (packet : List ℕ) (tags : Tags) (after : PeerObject) (before sent : Sent)
+    → out ≡ record { turn = peer_turn_with b packet tags; after = peer_object_shown after }
+    → sent ≡ after_turn (if (peer_brief b).sends then Some packet else None) before
+    → PeerTurns out before (peer_brief b) sent after
+peer_turns out b packet tags after before sent e s =
+    subst (λ (o : PeerOutcome PeerShown). PeerTurns o before (peer_brief b) sent after) (sym e) (peer_replies b packet tags after before sent s)
+
+server_asks : (b : server_briefs.ServerTurn) (packet : List ℕ) (tags : Tags) (after : ServerObject) (before sent : Sent)
+    → sent ≡ after_turn (if (server_brief b).sends then Some packet else None) before
+    → ServerTurns (record { turn = server_turn_with b packet tags; after = server_object_shown after }) before (server_brief b) sent after
+server_asks (server_answer.Discard c) packet tags after before sent s = record { turn_is = refl; sent_is = s; object = refl }
+server_asks server_answer.Request packet tags after before sent s = record { turn_is = refl; sent_is = s; object = refl }
+server_asks (server_answer.Done true) packet tags after before sent s = record { turn_is = refl; sent_is = s; object = refl }
+server_asks (server_answer.Done false) packet tags after before sent s = record { turn_is = refl; sent_is = s; object = refl }
+
+pub server_turns : (out : ServerOutcome ServerShown) (b : server_briefs.ServerTurn) (packet : List ℕ) (tags : Tags) (after : ServerObject) (before sent : Sent)
+    → out ≡ record { turn = server_turn_with b packet tags; after = server_object_shown after }
+    → sent ≡ after_turn (if (server_brief b).sends then Some packet else None) before
+    → ServerTurns out before (server_brief b) sent after
+server_turns out b packet tags after before sent e s =
+    subst (λ (o : ServerOutcome ServerShown). ServerTurns o before (server_brief b) sent after) (sym e) (server_asks b packet tags after before sent s)

@@ -1,21 +1,30 @@
--- What a call that begins an end answers, as a number.
+-- What a call that begins an end, or gives a server its user, answers, as a number.
 use Rattle.std.specs.Prelude.{ℕ}
-use Rattle.end_objects.specs.declared.settings.Refusal.{Refusal}
-use Rattle.end_objects.specs.declared.settings.Refusal.TheVariants as refusal
+use Rattle.end_objects.specs.declared.refusals.Refusal.{Refusal}
+use Rattle.end_objects.specs.declared.refusals.Refusal.TheVariants as refusal
 
--- the end has begun
+-- the end has begun, or has taken the user
 abbrev pub begun : ℕ
 begun = 0
 
+-- there is no key for its method
+abbrev pub bad_key : ℕ
+bad_key = 6
+
 -- there is no memory for it
 abbrev pub no_memory : ℕ
-no_memory = 7
+no_memory = 8
+
+-- it has no users
+abbrev pub no_place : ℕ
+no_place = 9
 
 -- the settings are refused
 abbrev pub refusal_number : Refusal → ℕ
-refusal_number refusal.NoMethod = 1
-refusal_number refusal.NoSuite = 2
-refusal_number refusal.BadName = 3
-refusal_number refusal.BadOther = 4
-refusal_number refusal.BadKey = 5
-refusal_number refusal.ManyRetries = 6
+refusal_number refusal.OtherSize = 1
+refusal_number refusal.NoMethod = 2
+refusal_number refusal.NoSuite = 3
+refusal_number refusal.BadName = 4
+refusal_number refusal.BadOther = 5
+refusal_number refusal.BadKey = 6
+refusal_number refusal.ManyRetries = 7

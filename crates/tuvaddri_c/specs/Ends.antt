@@ -1,19 +1,23 @@
 -- Which end a session is, which calls it takes, and what it holds.
-use Rattle.std.specs.Prelude.{◌≡◌, ◌++◌, Bool, true, false, ◌&&◌, not, ⊤, Option, None, length, drop, map}
+use Rattle.std.specs.Prelude.{ℕ, List, Bool, true, false, ◌&&◌, not, ⊤, Option, None, Some, map}
+use Rattle.eap_base.specs.Among.{gpsk_kind}
+use Rattle.login_setup.specs.Users.{user_of}
+use Rattle.login_setup.specs.declared.users.User.{User}
 use Rattle.eap_method.specs.declared.values.Report.{Report}
-use Rattle.eap_method.specs.Peer.{peer_report, peer_kinds, have_each}
-use Rattle.eap_method.specs.Server.{server_report, server_kinds}
+use Rattle.eap_method.specs.Peer.{PeerShown, peer_report, peer_kinds, have_each}
+use Rattle.eap_method.specs.Server.{ServerShown, server_report, server_kinds}
 use Rattle.eap_method.specs.Steps.{is_end}
-use Rattle.peer_machine.specs.PeerTable.{PeerValue, peer_reports}
+use Rattle.peer_machine.specs.PeerTable.{PeerValue, peer_reports, selected_shown}
 use Rattle.peer_machine.specs.PeerTable as peer
-use Rattle.server_machine.specs.ServerTable.{ServerValue, server_reports, is_ready, is_started, is_backend}
+use Rattle.server_machine.specs.ServerTable.{ServerValue, server_reports, current_view, is_ready, is_started, is_backend}
 use Rattle.server_machine.specs.ServerTable as server
 use Rattle.pass_through.specs.PassTable as pass
 use Rattle.pass_through.specs.declared.variables.PassVariables.{PassVariables}
+use Rattle.end_objects.specs.Nonces.{peer_nonces, server_nonces}
 use Rattle.end_objects.specs.Objects.{peer_object_shown, server_object_shown}
+use Rattle.end_objects.specs.declared.objects.Nonces.{Nonces}
 use Rattle.end_objects.specs.declared.objects.PeerObject.{PeerObject}
 use Rattle.end_objects.specs.declared.objects.ServerObject.{ServerObject}
-use Rattle.tuvaddri_c.specs.declared.report.TuvReport.{TuvReport}
 use Rattle.tuvaddri_c.specs.declared.session.End.{End}
 use Rattle.tuvaddri_c.specs.declared.session.End.TheVariants as ends
 
@@ -90,23 +94,54 @@ has_timer_pass e = elim e [ ends.Pass m ↦ pass.has_timer m.state | _ ↦ false
 abbrev pub waits_for_backend : End → Bool
 waits_for_backend e = elim e [ ends.Pass m ↦ pass.is_aaa_idle m.state | _ ↦ false ]
 
--- what the end holds after a method that succeeded
+-- what a peer's selected method shows, and a server's current one
+abbrev pub selected_shown_of : PeerValue PeerObject → Option PeerShown
+selected_shown_of m = selected_shown m.vars.selected (map peer_object_shown m.methods)
+
+abbrev pub current_shown_of : ServerValue ServerObject → Option ServerShown
+current_shown_of m = current_view (server.now_of server_object_shown m)
+
+-- the report of a method that succeeded
 abbrev pub end_reports : End → Option Report
 end_reports ends.Closed = None
-end_reports (ends.PeerMethod object) = peer_report (peer_object_shown object)
-end_reports (ends.ServerMethod object users) = server_report (server_object_shown object)
+end_reports (ends.PeerMethod object key) = peer_report (peer_object_shown object)
+end_reports (ends.ServerMethod object known) = server_report (server_object_shown object)
 end_reports (ends.Peer m) = peer_reports (peer.now_of peer_object_shown m)
 end_reports (ends.Server m) = server_reports (server.now_of server_object_shown m)
 end_reports (ends.Backend m) = server_reports (server.now_of server_object_shown m)
 end_reports (ends.Pass m) = None
 
--- what is told of it; behind a name stands what stood there before
-pub record IsReport (held : Report) (before : TuvReport) (told : TuvReport) : Type 0 where
-  pub method : told.method ≡ held.method
-  pub suite : told.suite ≡ held.suite
-  pub peer_length : told.peer_length ≡ length held.id_p
-  pub server_length : told.server_length ≡ length held.id_s
-  pub peer : told.peer ≡ held.id_p ++ drop (length held.id_p) before.peer
-  pub server : told.server ≡ held.id_s ++ drop (length held.id_s) before.server
-  pub msk : told.msk ≡ held.msk
-  pub emsk : told.emsk ≡ held.emsk
+-- its nonces
+abbrev pub nonces_of_peer : Option PeerShown → Option Nonces
+nonces_of_peer None = None
+nonces_of_peer (Some shown) = peer_nonces shown
+
+abbrev pub nonces_of_server : Option ServerShown → Option Nonces
+nonces_of_server None = None
+nonces_of_server (Some shown) = server_nonces shown
+
+abbrev pub end_nonces : End → Option Nonces
+end_nonces ends.Closed = None
+end_nonces (ends.PeerMethod object key) = peer_nonces (peer_object_shown object)
+end_nonces (ends.ServerMethod object known) = server_nonces (server_object_shown object)
+end_nonces (ends.Peer m) = nonces_of_peer (selected_shown_of m)
+end_nonces (ends.Server m) = nonces_of_server (current_shown_of m)
+end_nonces (ends.Backend m) = nonces_of_server (current_shown_of m)
+end_nonces (ends.Pass m) = None
+
+-- its shared key for EAP-GPSK: a peer's own; a server's, that of its user with the peer's name
+abbrev pub key_of_user : Option User → Option (List ℕ)
+key_of_user None = None
+key_of_user (Some user) = Some user.psk
+
+abbrev pub key_in : List User → List ℕ → Option (List ℕ)
+key_in users name = key_of_user (user_of users name gpsk_kind)
+
+abbrev pub end_key : End → List ℕ → Option (List ℕ)
+end_key ends.Closed name = None
+end_key (ends.PeerMethod object key) name = Some key
+end_key (ends.ServerMethod object known) name = key_in known.users name
+end_key (ends.Peer m) name = m.vars.setup.psk51
+end_key (ends.Server m) name = key_in m.vars.setup.users name
+end_key (ends.Backend m) name = key_in m.vars.setup.users name
+end_key (ends.Pass m) name = None

@@ -1,5 +1,5 @@
 -- The methods alone: which one a session holds, and what a call of it came to, as numbers.
-use Rattle.std.specs.Prelude.{◌≡◌, ℕ, List, Bool, true, false, ⊤, ◌==◌, if◌then◌else◌, Result, Ok, Err}
+use Rattle.std.specs.Prelude.{◌≡◌, ℕ, List, Bool, true, false, ⊤, ◌==◌, if◌then◌else◌, Option, Some, None, Result, Ok, Err}
 use Rattle.eap_packet.specs.Packet.{PacketValue, request, response, success, failure, spelled}
 use Rattle.eap_packet.specs.declared.cause.Cause.{Cause}
 use Rattle.eap_packet.specs.declared.cause.Cause.TheVariants as cause
@@ -28,23 +28,24 @@ use Rattle.eap_method.specs.declared.turn.PeerTurn.TheVariants as peer_answer
 use Rattle.eap_method.specs.declared.turn.ServerTurn as server_briefs
 use Rattle.eap_method.specs.declared.turn.ServerTurn.TheVariants as server_answer
 use Rattle.end_objects.specs.Objects.{peer_object_shown, server_object_shown}
-use Rattle.end_objects.specs.Settings.{SettingsValue, accepted, suites_of}
 use Rattle.tuvaddri_c.specs.Turns.{cause_number}
 use Rattle.tuvaddri_c.specs.declared.method_turn.TuvMethodTurn.{TuvMethodTurn}
 use Rattle.end_objects.specs.declared.objects.PeerObject.{PeerObject}
 use Rattle.end_objects.specs.declared.objects.ServerObject.{ServerObject}
 use Rattle.tuvaddri_c.specs.declared.session.End.{End}
 use Rattle.tuvaddri_c.specs.declared.session.Known.{Known}
+use Rattle.tuvaddri_c.specs.declared.session.Sent.{Sent}
 use Rattle.tuvaddri_c.specs.declared.session.Session.{Session}
+use Rattle.tuvaddri_c.specs.Sent.{after_turn, untouched}
 use Rattle.tuvaddri_c.specs.declared.session.End.TheVariants as ends
 
--- where the session holds a peer's method, this holds of it
-abbrev pub IfPeerMethod : End → (PeerObject → Type 0) → Type 0
-IfPeerMethod e P = elim e [ ends.PeerMethod o ↦ P o | _ ↦ ⊤ ]
+-- where the session holds a peer's method, this holds of it and its key
+abbrev pub IfPeerMethod : End → (PeerObject → List ℕ → Type 0) → Type 0
+IfPeerMethod e P = elim e [ ends.PeerMethod o key ↦ P o key | _ ↦ ⊤ ]
 
--- the session holds a peer's method, and this holds of it
-abbrev pub AsPeerMethod : End → (PeerObject → Type 0) → Type 0
-AsPeerMethod e P = elim e [ ends.PeerMethod o ↦ P o | _ ↦ ⊥ ]
+-- the session holds a peer's method, and this holds of it and its key
+abbrev pub AsPeerMethod : End → (PeerObject → List ℕ → Type 0) → Type 0
+AsPeerMethod e P = elim e [ ends.PeerMethod o key ↦ P o key | _ ↦ ⊥ ]
 
 -- where the session holds a server's method, this holds of it and its users
 abbrev pub IfServerMethod : End → (ServerObject → Known → Type 0) → Type 0
@@ -83,25 +84,25 @@ replying m d = record { sends = true; discards = false; misplaced = false; cause
 abbrev pub method_done : ℕ → TuvMethodTurn
 method_done d = record { sends = false; discards = false; misplaced = false; cause = 0; state = 4; decision = d }
 
--- a call that has no place says so, and nothing is changed
+-- a call that has no place says so, and changes nothing
 pub record IsMisplaced (before : Session) (turn : TuvMethodTurn) (after : Session) : Type 0 where
   pub turn_is : turn ≡ no_method_turn
-  pub same : after ≡ before
+  pub same : after ≡ untouched before
 
--- what came is discarded, and nothing is changed
+-- what came is discarded, and changes nothing
 pub record IsDiscarded (c : Cause) (before : Session) (turn : TuvMethodTurn) (after : Session) : Type 0 where
   pub turn_is : turn ≡ discarding c
-  pub same : after ≡ before
+  pub same : after ≡ untouched before
 
 -- what a peer's turn comes to
 abbrev pub peer_told : PeerTurn → TuvMethodTurn
 peer_told (peer_turn.Discard c) = discarding c
 peer_told (peer_turn.Reply packet m d tags) = replying (method_number m) (decision_number d)
 
--- the packet is that of the turn, where it has one
-abbrev pub IsReply : PeerTurn → List ℕ → Type 0
-IsReply (peer_turn.Discard c) octets = ⊤
-IsReply (peer_turn.Reply packet m d tags) octets = packet ≡ octets
+-- the packet of the turn, where it has one
+abbrev pub reply_of : PeerTurn → Option (List ℕ)
+reply_of (peer_turn.Discard c) = None
+reply_of (peer_turn.Reply packet m d tags) = Some packet
 
 -- what a server's turn comes to: methodState CONT (2) or DONE (4), and decision FAIL (0) or UNCOND_SUCC (2)
 abbrev pub server_told : ServerTurn → TuvMethodTurn
@@ -110,10 +111,10 @@ server_told (server_turn.Request packet tags) = replying 2 0
 server_told (server_turn.Done true tags) = method_done 2
 server_told (server_turn.Done false tags) = method_done 0
 
-abbrev pub IsNext : ServerTurn → List ℕ → Type 0
-IsNext (server_turn.Discard c) octets = ⊤
-IsNext (server_turn.Request packet tags) octets = packet ≡ octets
-IsNext (server_turn.Done well tags) octets = ⊤
+abbrev pub request_of : ServerTurn → Option (List ℕ)
+request_of (server_turn.Discard c) = None
+request_of (server_turn.Request packet tags) = Some packet
+request_of (server_turn.Done well tags) = None
 
 -- what a turn comes to, as the method says it
 abbrev pub peer_brief : peer_briefs.PeerTurn → TuvMethodTurn
@@ -127,14 +128,14 @@ server_brief (server_answer.Done true) = method_done 2
 server_brief (server_answer.Done false) = method_done 0
 
 -- the call does what the method's definition says
-pub record PeerTurns (out : PeerOutcome PeerShown) (turn : TuvMethodTurn) (packet : List ℕ) (after : PeerObject) : Type 0 where
+pub record PeerTurns (out : PeerOutcome PeerShown) (before : Sent) (turn : TuvMethodTurn) (sent : Sent) (after : PeerObject) : Type 0 where
   pub turn_is : turn ≡ peer_told out.turn
-  pub sent : IsReply out.turn packet
+  pub sent_is : sent ≡ after_turn (reply_of out.turn) before
   pub object : out.after ≡ peer_object_shown after
 
-pub record ServerTurns (out : ServerOutcome ServerShown) (turn : TuvMethodTurn) (packet : List ℕ) (after : ServerObject) : Type 0 where
+pub record ServerTurns (out : ServerOutcome ServerShown) (before : Sent) (turn : TuvMethodTurn) (sent : Sent) (after : ServerObject) : Type 0 where
   pub turn_is : turn ≡ server_told out.turn
-  pub sent : IsNext out.turn packet
+  pub sent_is : sent ≡ after_turn (request_of out.turn) before
   pub object : out.after ≡ server_object_shown after
 
 -- the octets of the Request of this Type with which octets begin, or why they are discarded
@@ -155,17 +156,10 @@ responded kind (Ok (failure id)) = Err cause.WrongRole
 
 -- whether the session holds a peer's method; a server's method
 abbrev pub is_peer_method : End → Bool
-is_peer_method e = elim e [ ends.PeerMethod o ↦ true | _ ↦ false ]
+is_peer_method e = elim e [ ends.PeerMethod o key ↦ true | _ ↦ false ]
 
 abbrev pub is_server_method : End → Bool
 is_server_method e = elim e [ ends.ServerMethod o users ↦ true | _ ↦ false ]
-
--- what an end brings into its method
-abbrev pub credential_of : SettingsValue → Credential
-credential_of told = record { id_p = told.name; accepts = accepted told.other; suites = suites_of told.suites; psk = told.psk }
-
-abbrev pub side_of : SettingsValue → ServerSide
-side_of told = record { id_s = told.name; suites = suites_of told.suites }
 
 -- a peer's method that has just begun
 abbrev pub peer_fresh : ℕ → Credential → List ℕ → PeerShown

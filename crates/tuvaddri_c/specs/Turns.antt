@@ -1,5 +1,5 @@
 -- What a call came to, as numbers.
-use Rattle.std.specs.Prelude.{◌≡◌, ℕ, List, Bool, true, false, Option, Some, None, IfSome}
+use Rattle.std.specs.Prelude.{◌≡◌, ℕ, Bool, true, false, Option, Some, None}
 use Rattle.eap_packet.specs.declared.cause.Cause.{Cause}
 use Rattle.eap_packet.specs.declared.cause.Cause.TheVariants as cause
 use Rattle.eap_packet.specs.declared.state.State.{State}
@@ -16,8 +16,10 @@ use Rattle.pass_through.specs.declared.variables.PassVariables.{PassVariables}
 use Rattle.end_objects.specs.Objects.{peer_object_shown, server_object_shown}
 use Rattle.end_objects.specs.declared.objects.PeerObject.{PeerObject}
 use Rattle.end_objects.specs.declared.objects.ServerObject.{ServerObject}
+use Rattle.tuvaddri_c.specs.declared.session.Sent.{Sent}
 use Rattle.tuvaddri_c.specs.declared.session.Session.{Session}
 use Rattle.tuvaddri_c.specs.declared.turn.TuvTurn.{TuvTurn}
+use Rattle.tuvaddri_c.specs.Sent.{after_turn, untouched}
 
 -- the number of a cause, in the order of its declaration
 unfoldable pub cause_number : Cause → ℕ
@@ -101,10 +103,10 @@ number_of_cause (Some c) = cause_number c
 abbrev pub no_turn : TuvTurn
 no_turn = record { sends = false; discards = false; misplaced = true; cause = 0; state = 0 }
 
--- a call that has no place says so, and nothing is changed
+-- a call that has no place says so, and changes nothing
 pub record IsMisplaced (before : Session) (turn : TuvTurn) (after : Session) : Type 0 where
   pub turn_is : turn ≡ no_turn
-  pub same : after ≡ before
+  pub same : after ≡ untouched before
 
 -- what a step came to, as the machine says it
 abbrev pub turn_of : brief.Step → State → TuvTurn
@@ -116,16 +118,16 @@ abbrev pub told : Step → State → TuvTurn
 told step s =
     record { sends = is_some step.sent; discards = is_some step.cause; misplaced = false; cause = number_of_cause step.cause; state = state_number s }
 
--- the call answers what the peer's table says, leaves the packet where there is one, and the machine after it
-pub record PeerDoes (row : PeerAnswer) (turn : TuvTurn) (packet : List ℕ) (after : PeerValue PeerObject) : Type 0 where
+-- the call answers what the peer's table says, sends the packet that it says, and leaves the machine after it
+pub record PeerDoes (row : PeerAnswer) (before : Sent) (turn : TuvTurn) (sent : Sent) (after : PeerValue PeerObject) : Type 0 where
   pub turn_is : turn ≡ told row.step row.after.vars.state
-  pub sent : IfSome row.step.sent (λ octets. packet ≡ octets)
+  pub sent_is : sent ≡ after_turn row.step.sent before
   pub machine : row.after ≡ peer.now_of peer_object_shown after
 
 -- the same of a server's
-pub record ServerDoes (row : ServerAnswer) (turn : TuvTurn) (packet : List ℕ) (after : ServerValue ServerObject) : Type 0 where
+pub record ServerDoes (row : ServerAnswer) (before : Sent) (turn : TuvTurn) (sent : Sent) (after : ServerValue ServerObject) : Type 0 where
   pub turn_is : turn ≡ told row.step row.after.vars.state
-  pub sent : IfSome row.step.sent (λ octets. packet ≡ octets)
+  pub sent_is : sent ≡ after_turn row.step.sent before
   pub machine : row.after ≡ server.now_of server_object_shown after
 
 -- what a step of the pass-through comes to, whichever side it sends to
@@ -133,7 +135,7 @@ abbrev pub pass_told : PassStep → State → TuvTurn
 pass_told step s = told (record { path = step.path; cause = step.cause; sent = step.sent; tags = no_tags }) s
 
 -- the same of a pass-through's
-pub record PassDoes (row : PassAnswer) (turn : TuvTurn) (packet : List ℕ) (after : PassVariables) : Type 0 where
+pub record PassDoes (row : PassAnswer) (before : Sent) (turn : TuvTurn) (sent : Sent) (after : PassVariables) : Type 0 where
   pub turn_is : turn ≡ pass_told row.step row.after.state
-  pub sent : IfSome row.step.sent (λ octets. packet ≡ octets)
+  pub sent_is : sent ≡ after_turn row.step.sent before
   pub machine : row.after ≡ after

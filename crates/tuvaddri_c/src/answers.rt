@@ -1,28 +1,36 @@
-//! What a call that begins an end answers, as a number.
+//! What a call that begins an end, or gives a server its user, answers, as a number.
 
 ghost use Rattle.std.specs.Prelude.{◌≡◌};
-ghost use Rattle.tuvaddri_c.specs.Answers.{begun, no_memory, refusal_number};
+ghost use Rattle.tuvaddri_c.specs.Answers.{begun, no_memory, no_place, refusal_number};
 
 use end_objects::Refusal;
 
-/// The end has begun.
+/// The end has begun, or has taken the user.
 pub const BEGUN: u8 = 0;
 
-/// There is no memory for the end.
-pub const NO_MEMORY: u8 = 7;
+/// A key has another size than its method takes, or there is none for it.
+pub const BAD_KEY: u8 = 6;
 
-/// The number of a refusal, 1 to 6.
+/// There is no memory for the end.
+pub const NO_MEMORY: u8 = 8;
+
+/// The end has no users.
+pub const NO_PLACE: u8 = 9;
+
+/// The number of a refusal, 1 to 7.
 pub fn number_of_refusal(refusal: Refusal) -> u8
     ensures number { result ≡ refusal_number refusal }
     ensures not_begun { result ≡ begun → ⊥ }
     ensures in_memory { result ≡ no_memory → ⊥ }
+    ensures placed { result ≡ no_place → ⊥ }
 {
     match refusal {
-        Refusal::NoMethod => 1,
-        Refusal::NoSuite => 2,
-        Refusal::BadName => 3,
-        Refusal::BadOther => 4,
-        Refusal::BadKey => 5,
-        Refusal::ManyRetries => 6,
+        Refusal::OtherSize => 1,
+        Refusal::NoMethod => 2,
+        Refusal::NoSuite => 3,
+        Refusal::BadName => 4,
+        Refusal::BadOther => 5,
+        Refusal::BadKey => 6,
+        Refusal::ManyRetries => 7,
     }
 }

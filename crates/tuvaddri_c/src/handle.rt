@@ -1,11 +1,11 @@
 //! The handle that a program in C holds.
 
-ghost use Rattle.std.specs.Prelude.{◌≡◌, ◌≤◌, ◌<◌, ◌++◌, length, drop, []};
-ghost use Rattle.eap_method.specs.Tags.{no_tags};
+ghost use Rattle.std.specs.Prelude.{◌≡◌, IsTrue};
 ghost use Rattle.tuvaddri_c.specs.declared.session.Session.{Session};
-ghost use Rattle.tuvaddri_c.specs.declared.session.End.TheVariants.{Closed};
+ghost use Rattle.tuvaddri_c.specs.Rooms.{IsCopied};
+ghost use Rattle.tuvaddri_c.specs.Sent.{closed, turn_packet};
 
-use crate::session::{End, Session};
+use crate::session::{End, Sent, Session};
 use std::alloc::Global;
 use std::marker::Model;
 use std::mem::size_of;
@@ -47,15 +47,17 @@ fn as_octets(at: *mut Session) -> *mut u8 {
 /// The number of this interface: a program compares it with that of its header.
 #[unsafe(no_mangle)]
 pub extern "C" fn tuv_version() -> u32
-    ensures { result ≡ 1 }
+    ensures { result ≡ 2 }
 {
-    1
+    2
 }
 
 /// Makes a session without an end, and answers true; false for want of memory. The program gives its block back by
 /// `free`, after `tuv_end_close`.
 #[unsafe(no_mangle)]
-pub extern "C" fn tuv_end_new(alloc: Global, at: &mut *mut u8) -> bool {
+pub extern "C" fn tuv_end_new(alloc: Global, at: &mut *mut u8) -> bool
+    ensures { (IsTrue result → ⊥) → at.new ≡ at.old }
+{
     match Box::new(alloc, Session::closed()) {
         Err(_) => false,
         Ok(session) => {
@@ -71,39 +73,49 @@ pub extern "C" fn tuv_end_size() -> usize {
     size_of::<Session>()
 }
 
-/// Drops the end and what it holds, its last packet and the records of its tags. A handle that is closed stays so.
+/// Drops the end and what it holds, and its last packet. A handle that is closed stays so.
 #[unsafe(no_mangle)]
 pub extern "C" fn tuv_end_close(end: &mut TuvEnd)
-    ensures closed { end.new.value.end ≡ Closed }
-    ensures packet { end.new.value.packet ≡ [] }
-    ensures tags { end.new.value.tags ≡ no_tags }
+    ensures { end.new.value ≡ closed }
 {
     let session = end.session();
     session.end = End::Closed;
-    session.packet.clear();
-    session.tags.clear();
+    session.sent.clear();
 }
 
-/// Answers the length of the packet of the last call, and copies it to the front of `room` where it fits; else it
-/// copies nothing, and the packet is still there.
+/// Answers the length of the packet of the end's last turn, or of `tuv_server_method_begin`: 0 if that turn sent none.
+/// Copies the packet to the front of `room` if it fits; else it copies nothing, and the packet is still there.
 #[unsafe(no_mangle)]
 pub extern "C" fn tuv_end_packet(end: &mut TuvEnd, room: &mut [u8]) -> usize
     ensures same { end.new.value ≡ end.old.value }
-    ensures size { result ≡ length end.old.value.packet }
-    ensures copied { length end.old.value.packet ≤ length room.old
-        → room.new ≡ end.old.value.packet ++ drop (length end.old.value.packet) room.old }
-    ensures too_long { length room.old < length end.old.value.packet → room.new ≡ room.old }
+    ensures packet { IsCopied (turn_packet end.old.value.sent) room.old result room.new }
 {
-    copy(end.session(), room)
+    copy_fresh(&end.session().sent, room)
 }
 
-fn copy(session: &Session, room: &mut [u8]) -> usize
-    ensures size { result ≡ length session.now.packet }
-    ensures copied { length session.now.packet ≤ length room.old
-        → room.new ≡ session.now.packet ++ drop (length session.now.packet) room.old }
-    ensures too_long { length room.old < length session.now.packet → room.new ≡ room.old }
+fn copy_fresh(sent: &Sent, room: &mut [u8]) -> usize
+    ensures { IsCopied (turn_packet sent.now) room.old result room.new }
 {
-    let octets = session.packet.as_slice();
+    if sent.fresh {
+        copy(sent.packet.as_slice(), room)
+    } else {
+        copy(&[], room)
+    }
+}
+
+/// The same of the packet that the end sent last since its begin or restart, whatever came since.
+#[unsafe(no_mangle)]
+pub extern "C" fn tuv_end_again(end: &mut TuvEnd, room: &mut [u8]) -> usize
+    ensures same { end.new.value ≡ end.old.value }
+    ensures packet { IsCopied end.old.value.sent.packet room.old result room.new }
+{
+    copy(end.session().sent.packet.as_slice(), room)
+}
+
+/// Copies octets to the front of a room if they fit, and answers their number.
+fn copy(octets: &[u8], room: &mut [u8]) -> usize
+    ensures { IsCopied octets.now room.old result room.new }
+{
     if octets.len() <= room.len() {
         room[..octets.len()].copy_from_slice(octets);
     }

@@ -4,19 +4,25 @@
 
 mod answers;
 mod deliver;
+mod failure;
 mod handle;
+mod held;
 mod method_turn;
 mod methods;
+mod name;
 mod pass;
 mod peer;
 mod report;
 mod restart;
 mod server;
 mod session;
+mod session_id;
 mod turn;
+mod users;
 
+pub use failure::TuvFailure;
 pub use handle::TuvEnd;
 pub use method_turn::TuvMethodTurn;
 pub use report::TuvReport;
-pub use session::{End, Known, Session};
+pub use session::{End, Known, Sent, Session};
 pub use turn::TuvTurn;

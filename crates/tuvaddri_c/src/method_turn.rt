@@ -1,8 +1,10 @@
 //! What a call of a method alone came to, as numbers.
 
 ghost use Rattle.std.specs.Prelude.{◌≡◌};
+ghost use Rattle.tuvaddri_c.specs.Sent.{rested};
 ghost use Rattle.tuvaddri_c.specs.Methods.{no_method_turn, discarding, method_done, peer_brief, server_brief, method_number, decision_number};
 
+use crate::session::Sent;
 use crate::turn::number_of_cause;
 use eap_method::{Decision, MethodState, PeerTurn, ServerTurn};
 use eap_packet::Cause;
@@ -15,7 +17,7 @@ pub struct TuvMethodTurn {
     pub sends: bool,
     /// Whether what came is discarded.
     pub discards: bool,
-    /// Whether the call has no place at this end. The end then stays as it was, and the other fields are 0.
+    /// Whether the call has no place at this end, and changes nothing. The other fields are then 0.
     pub misplaced: bool,
     /// The number of the cause of a discard, in the order of `Cause`; else 0.
     pub cause: u8,
@@ -26,10 +28,12 @@ pub struct TuvMethodTurn {
 }
 
 impl TuvMethodTurn {
-    /// A call that has no place.
-    pub fn none() -> TuvMethodTurn
-        ensures { result ≡ no_method_turn }
+    /// A call that has no place; it sends nothing.
+    pub fn none(sent: &mut Sent) -> TuvMethodTurn
+        ensures turn { result ≡ no_method_turn }
+        ensures sent { sent.new ≡ rested sent.old }
     {
+        sent.rest();
         TuvMethodTurn {
             sends: false,
             discards: false,
@@ -40,8 +44,17 @@ impl TuvMethodTurn {
         }
     }
 
+    /// What came is discarded, and nothing is sent.
+    pub fn discard(cause: Cause, sent: &mut Sent) -> TuvMethodTurn
+        ensures turn { result ≡ discarding cause }
+        ensures sent { sent.new ≡ rested sent.old }
+    {
+        sent.rest();
+        TuvMethodTurn::discarding(cause)
+    }
+
     /// What came is discarded.
-    pub fn discard(cause: Cause) -> TuvMethodTurn
+    fn discarding(cause: Cause) -> TuvMethodTurn
         ensures { result ≡ discarding cause }
     {
         TuvMethodTurn {
@@ -59,7 +72,7 @@ impl TuvMethodTurn {
         ensures { result ≡ peer_brief turn }
     {
         match turn {
-            PeerTurn::Discard(cause) => TuvMethodTurn::discard(cause),
+            PeerTurn::Discard(cause) => TuvMethodTurn::discarding(cause),
             PeerTurn::Reply { state, decision } => TuvMethodTurn {
                 sends: true,
                 discards: false,
@@ -76,7 +89,7 @@ impl TuvMethodTurn {
         ensures { result ≡ server_brief turn }
     {
         match turn {
-            ServerTurn::Discard(cause) => TuvMethodTurn::discard(cause),
+            ServerTurn::Discard(cause) => TuvMethodTurn::discarding(cause),
             ServerTurn::Request => TuvMethodTurn {
                 sends: true,
                 discards: false,

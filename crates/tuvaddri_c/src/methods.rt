@@ -1,69 +1,84 @@
 //! The methods alone, for a program with machines of its own.
 
-ghost use Rattle.std.specs.Prelude.{◌≡◌, false, IsTrue, All, Ok, Err, None, IfSome, IfOk, IfErr};
-ghost use Rattle.login_setup.specs.Setup.{fits_kind};
+ghost use Rattle.std.specs.Prelude.{◌≡◌, true, false, IsTrue, All, Ok, Err, None, IfSome, IfOk, IfErr};
+ghost use Rattle.login_setup.specs.Setup.{are_kinds, fits_kind};
 ghost use Rattle.eap_packet.specs.Fault.{packet_of};
 ghost use Rattle.eap_method.specs.Peer.{peer_kind, peer_step, IsRequest};
 ghost use Rattle.eap_method.specs.Server.{server_kind, server_step, server_first_step, IsResponse};
 ghost use Rattle.end_objects.specs.Objects.{peer_object_shown, server_object_shown};
-ghost use Rattle.end_objects.specs.Refusals.{peer_refusal, server_refusal};
-ghost use Rattle.end_objects.specs.Settings.{settings_of, users_of};
+ghost use Rattle.end_objects.specs.Refusals.{peer_refusal, server_refusal, IsSoundOther};
+ghost use Rattle.end_objects.specs.Settings.{settings_of, kinds_of, first_kind, users_of, credential_of, side_of};
 ghost use Rattle.tuvaddri_c.specs.Answers.{begun, refusal_number};
-ghost use Rattle.tuvaddri_c.specs.Methods.{IfPeerMethod, AsPeerMethod, IfServerMethod, AsServerMethod, PeerTurns, ServerTurns, requested, responded, credential_of, side_of, peer_fresh, server_fresh, is_peer_method, is_server_method, IsMisplaced, IsDiscarded};
+ghost use Rattle.tuvaddri_c.specs.Sent.{none_sent};
+ghost use Rattle.tuvaddri_c.specs.declared.session.End.TheVariants as ends;
+ghost use Rattle.tuvaddri_c.specs.Methods.{IfPeerMethod, AsPeerMethod, IfServerMethod, AsServerMethod, PeerTurns, ServerTurns, requested, responded, peer_fresh, server_fresh, is_peer_method, is_server_method, IsMisplaced, IsDiscarded};
 
 use crate::answers::{BEGUN, number_of_refusal};
 use crate::handle::TuvEnd;
 use crate::method_turn::TuvMethodTurn;
-use crate::session::{End, Known, Session};
-use eap_base::{Identity, Nonce, Packet, Secret};
-use eap_method::{Credential, PeerMethod, ServerMethod, ServerSide, Tags};
+use crate::session::{End, Known, Sent, Session};
+use eap_base::{Nonce, Packet, Secret};
+use eap_method::{PeerMethod, ServerMethod, Tags};
 use eap_packet::{Cause, Code, decode};
 use end_objects::{
-    PeerObject, ServerObject, Settings, accepts, one_user, peer_object, peer_refusal,
-    server_object, server_refusal, suites,
+    PeerObject, ServerObject, Settings, credential, first_kind, peer_object, peer_refusal,
+    server_object, server_refusal, server_side, users_of,
 };
 use login_setup::Users;
 
-/// Makes the end a peer's method alone, which has begun, and answers 0. Else it answers the number of the refusal,
-/// 1 to 5, and the end stays as it was. It takes no memory.
+/// Makes the end the first of the peer's methods, alone.
+fn begin_peer(session: &mut Session, settings: &Settings, nonce: &Nonce)
+    requires taken { peer_refusal (settings_of settings.now) ≡ None }
+    requires kinds { IsTrue (are_kinds (kinds_of (settings_of settings.now))) }
+    ensures made { AsPeerMethod session.new.end (λ n key. (key ≡ (credential_of (settings_of settings.now)).psk)
+        × (peer_object_shown n ≡ peer_fresh (first_kind (settings_of settings.now)) (credential_of (settings_of settings.now)) nonce.now)) }
+    ensures sent { session.new.sent ≡ none_sent }
+{
+    let kind = first_kind(settings);
+    let credential = credential(settings);
+    let mut object = peer_object(kind);
+    object.begin(&credential, nonce);
+    hold_peer(&mut session.end, object, credential.psk.copy());
+    session.sent.clear();
+}
+
+/// Makes the end this peer's method. (By itself, since the compiler then builds it where it stays.)
+fn hold_peer(end: &mut End, object: PeerObject, key: Secret)
+    ensures { end.new ≡ ends.PeerMethod object key }
+{
+    *end = End::PeerMethod(object, key);
+}
+
+/// Makes the end the first of the peer's methods, alone, which has begun, and answers 0. Else it answers the number of
+/// the refusal, and the end stays as it was. It takes no memory.
 #[unsafe(no_mangle)]
 pub extern "C" fn tuv_peer_method_begin(end: &mut TuvEnd, settings: &Settings, nonce: &Nonce) -> u8
     ensures refused { IfSome (peer_refusal (settings_of settings.now)) (λ reason. result ≡ refusal_number reason) }
     ensures begun { peer_refusal (settings_of settings.now) ≡ None → result ≡ begun }
-    ensures made { result ≡ begun → AsPeerMethod end.new.value.end (λ n.
-        peer_object_shown n ≡ peer_fresh settings.now.kind (credential_of (settings_of settings.now)) nonce.now) }
+    ensures made { result ≡ begun → AsPeerMethod end.new.value.end (λ n key. (key ≡ (credential_of (settings_of settings.now)).psk)
+        × (peer_object_shown n ≡ peer_fresh (first_kind (settings_of settings.now)) (credential_of (settings_of settings.now)) nonce.now)) }
+    ensures sent { result ≡ begun → end.new.value.sent ≡ none_sent }
     ensures unchanged { (result ≡ begun → ⊥) → end.new.value ≡ end.old.value }
 {
     match peer_refusal(settings) {
         Some(refusal) => number_of_refusal(refusal),
         None => {
-            let cred = Credential {
-                id_p: Identity::of(settings.name),
-                accepts: accepts(settings.other),
-                suites: suites(settings.suites),
-                psk: Secret::of(settings.psk),
-            };
-            let mut object = peer_object(settings.kind);
-            object.begin(&cred, nonce);
-            let session = end.session();
-            session.end = End::PeerMethod(object);
+            begin_peer(end.session(), settings, nonce);
             BEGUN
         }
     }
 }
 
 #[tactic(auto, using(crate::proofs::Does::peer_turns))]
-fn hand_to_peer(
-    object: &mut PeerObject,
-    request: &[u8],
-    packet: &mut Packet,
-    tags: &mut Tags,
-) -> TuvMethodTurn
+fn hand_to_peer(object: &mut PeerObject, request: &[u8], sent: &mut Sent) -> TuvMethodTurn
     requires { IsRequest (peer_kind (peer_object_shown object.old)) request.now }
-    ensures { PeerTurns (peer_step (peer_object_shown object.old) request.now) result packet.new object.new }
+    ensures { PeerTurns (peer_step (peer_object_shown object.old) request.now) sent.old result sent.new object.new }
 {
-    let turn = object.handle(request, packet, tags);
-    TuvMethodTurn::of_peer(turn)
+    let mut packet = Packet::new();
+    let mut tags = Tags::new();
+    let turn = TuvMethodTurn::of_peer(object.handle(request, &mut packet, &mut tags));
+    sent.take(turn.sends, &packet);
+    turn
 }
 
 /// The Request of this Type with which the octets begin.
@@ -89,34 +104,63 @@ fn request_of<'a>(octets: &'a [u8], kind: u8) -> Result<&'a [u8], Cause>
 }
 
 fn handle_peer(session: &mut Session, octets: &[u8]) -> TuvMethodTurn
-    ensures turn { IfPeerMethod session.old.end (λ o. IfOk (requested (peer_kind (peer_object_shown o)) (packet_of octets.now)) (λ whole.
-        AsPeerMethod session.new.end (λ n. PeerTurns (peer_step (peer_object_shown o) whole) result session.new.packet n))) }
-    ensures discarded { IfPeerMethod session.old.end (λ o. IfErr (requested (peer_kind (peer_object_shown o)) (packet_of octets.now)) (λ cause.
+    ensures turn { IfPeerMethod session.old.end (λ o key. IfOk (requested (peer_kind (peer_object_shown o)) (packet_of octets.now)) (λ whole.
+        AsPeerMethod session.new.end (λ n after. (after ≡ key)
+        × PeerTurns (peer_step (peer_object_shown o) whole) session.old.sent result session.new.sent n))) }
+    ensures discarded { IfPeerMethod session.old.end (λ o key. IfErr (requested (peer_kind (peer_object_shown o)) (packet_of octets.now)) (λ cause.
         IsDiscarded cause session.old result session.new)) }
     ensures misplaced { is_peer_method session.old.end ≡ false → IsMisplaced session.old result session.new }
 {
     match &mut session.end {
-        End::PeerMethod(object) => match request_of(octets, object.kind()) {
-            Err(cause) => TuvMethodTurn::discard(cause),
-            Ok(whole) => hand_to_peer(object, whole, &mut session.packet, &mut session.tags),
+        End::PeerMethod(object, _) => match request_of(octets, object.kind()) {
+            Err(cause) => TuvMethodTurn::discard(cause, &mut session.sent),
+            Ok(whole) => hand_to_peer(object, whole, &mut session.sent),
         },
-        _ => TuvMethodTurn::none(),
+        _ => TuvMethodTurn::none(&mut session.sent),
     }
 }
 
 /// Octets come to a peer's method. Octets that begin with no Request of its Type are discarded, and change nothing.
 #[unsafe(no_mangle)]
 pub extern "C" fn tuv_peer_method_handle(end: &mut TuvEnd, octets: &[u8]) -> TuvMethodTurn
-    ensures turn { IfPeerMethod end.old.value.end (λ o. IfOk (requested (peer_kind (peer_object_shown o)) (packet_of octets.now)) (λ whole.
-        AsPeerMethod end.new.value.end (λ n. PeerTurns (peer_step (peer_object_shown o) whole) result end.new.value.packet n))) }
-    ensures discarded { IfPeerMethod end.old.value.end (λ o. IfErr (requested (peer_kind (peer_object_shown o)) (packet_of octets.now)) (λ cause.
+    ensures turn { IfPeerMethod end.old.value.end (λ o key. IfOk (requested (peer_kind (peer_object_shown o)) (packet_of octets.now)) (λ whole.
+        AsPeerMethod end.new.value.end (λ n after. (after ≡ key)
+        × PeerTurns (peer_step (peer_object_shown o) whole) end.old.value.sent result end.new.value.sent n))) }
+    ensures discarded { IfPeerMethod end.old.value.end (λ o key. IfErr (requested (peer_kind (peer_object_shown o)) (packet_of octets.now)) (λ cause.
         IsDiscarded cause end.old.value result end.new.value)) }
     ensures misplaced { is_peer_method end.old.value.end ≡ false → IsMisplaced end.old.value result end.new.value }
 {
     handle_peer(end.session(), octets)
 }
 
-/// Makes the end a server's method alone, with one user, which has begun and written its first Request, with this
+/// Makes the end the first of the server's methods, alone, which has made its first Request.
+#[tactic(auto, using(crate::proofs::Sides::side_has_suites))]
+fn begin_server(session: &mut Session, settings: &Settings, nonce: &Nonce, id: u8)
+    requires taken { server_refusal (settings_of settings.now) ≡ None }
+    requires kinds { IsTrue (are_kinds (kinds_of (settings_of settings.now))) }
+    requires other { IsSoundOther (settings_of settings.now) }
+    ensures made { AsServerMethod session.new.end (λ n known. (known.users ≡ users_of (settings_of settings.now))
+        × (server_first_step (server_fresh (first_kind (settings_of settings.now)) (side_of (settings_of settings.now)) nonce.now) id
+        ≡ record { packet = session.new.sent.packet; after = server_object_shown n })) }
+    ensures fresh { session.new.sent.fresh ≡ true }
+{
+    let own = server_side(settings);
+    let mut object = server_object(first_kind(settings));
+    object.begin(&own, nonce);
+    object.first(id, &mut session.sent.packet);
+    session.sent.fresh = true;
+    hold_server(&mut session.end, object, users_of(settings));
+}
+
+/// Makes the end this server's method. (By itself, since the compiler then builds it where it stays.)
+fn hold_server(end: &mut End, object: ServerObject, users: Users)
+    requires { All (λ user. IsTrue (fits_kind user.kind user.psk)) users }
+    ensures { AsServerMethod end.new (λ n known. (n ≡ object) × (known.users ≡ users)) }
+{
+    *end = End::ServerMethod(object, Known { users });
+}
+
+/// Makes the end the first of the server's methods, alone, which has begun and written its first Request, with this
 /// Identifier, and answers 0. Else it answers as `tuv_peer_method_begin`.
 #[unsafe(no_mangle)]
 pub extern "C" fn tuv_server_method_begin(
@@ -128,33 +172,18 @@ pub extern "C" fn tuv_server_method_begin(
     ensures refused { IfSome (server_refusal (settings_of settings.now)) (λ reason. result ≡ refusal_number reason) }
     ensures begun { server_refusal (settings_of settings.now) ≡ None → result ≡ begun }
     ensures made { result ≡ begun → AsServerMethod end.new.value.end (λ n known. (known.users ≡ users_of (settings_of settings.now))
-        × (server_first_step (server_fresh settings.now.kind (side_of (settings_of settings.now)) nonce.now) id
-        ≡ record { packet = end.new.value.packet; after = server_object_shown n })) }
+        × (server_first_step (server_fresh (first_kind (settings_of settings.now)) (side_of (settings_of settings.now)) nonce.now) id
+        ≡ record { packet = end.new.value.sent.packet; after = server_object_shown n })) }
+    ensures sent { result ≡ begun → end.new.value.sent.fresh ≡ true }
     ensures unchanged { (result ≡ begun → ⊥) → end.new.value ≡ end.old.value }
 {
     match server_refusal(settings) {
         Some(refusal) => number_of_refusal(refusal),
         None => {
-            let own = ServerSide {
-                id_s: Identity::of(settings.name),
-                suites: suites(settings.suites),
-            };
-            let mut object = server_object(settings.kind);
-            object.begin(&own, nonce);
-            let session = end.session();
-            object.first(id, &mut session.packet);
-            hold_server_method(&mut session.end, object, one_user(settings));
+            begin_server(end.session(), settings, nonce, id);
             BEGUN
         }
     }
-}
-
-/// Makes the end this server's method. (By itself, since the compiler then builds it where it stays.)
-fn hold_server_method(end: &mut End, object: ServerObject, users: Users)
-    requires { All (λ user. IsTrue (fits_kind user.kind user.psk)) users }
-    ensures { AsServerMethod end.new (λ n known. (n ≡ object) × (known.users ≡ users)) }
-{
-    *end = End::ServerMethod(object, Known { users });
 }
 
 #[tactic(auto, using(crate::proofs::Does::server_turns))]
@@ -163,15 +192,18 @@ fn hand_to_server(
     response: &[u8],
     next_id: u8,
     users: &Users,
-    packet: &mut Packet,
-    tags: &mut Tags,
+    sent: &mut Sent,
 ) -> TuvMethodTurn
     requires response { IsResponse (server_kind (server_object_shown object.old)) response.now }
     requires keys { All (λ user. IsTrue (fits_kind user.kind user.psk)) users.now }
-    ensures { ServerTurns (server_step users.now next_id (server_object_shown object.old) response.now) result packet.new object.new }
+    ensures { ServerTurns (server_step users.now next_id (server_object_shown object.old) response.now) sent.old result sent.new object.new }
 {
-    let turn = object.handle(response, next_id, users, packet, tags);
-    TuvMethodTurn::of_server(turn)
+    let mut packet = Packet::new();
+    let mut tags = Tags::new();
+    let turn = object.handle(response, next_id, users, &mut packet, &mut tags);
+    let turn = TuvMethodTurn::of_server(turn);
+    sent.take(turn.sends, &packet);
+    turn
 }
 
 /// The Response of this Type with which the octets begin.
@@ -199,24 +231,17 @@ fn response_of<'a>(octets: &'a [u8], kind: u8) -> Result<&'a [u8], Cause>
 fn handle_server(session: &mut Session, octets: &[u8], next_id: u8) -> TuvMethodTurn
     ensures turn { IfServerMethod session.old.end (λ o known. IfOk (responded (server_kind (server_object_shown o)) (packet_of octets.now)) (λ whole.
         AsServerMethod session.new.end (λ n after. (after.users ≡ known.users)
-        × ServerTurns (server_step known.users next_id (server_object_shown o) whole) result session.new.packet n))) }
+        × ServerTurns (server_step known.users next_id (server_object_shown o) whole) session.old.sent result session.new.sent n))) }
     ensures discarded { IfServerMethod session.old.end (λ o known. IfErr (responded (server_kind (server_object_shown o)) (packet_of octets.now)) (λ cause.
         IsDiscarded cause session.old result session.new)) }
     ensures misplaced { is_server_method session.old.end ≡ false → IsMisplaced session.old result session.new }
 {
     match &mut session.end {
         End::ServerMethod(object, known) => match response_of(octets, object.kind()) {
-            Err(cause) => TuvMethodTurn::discard(cause),
-            Ok(whole) => hand_to_server(
-                object,
-                whole,
-                next_id,
-                &known.users,
-                &mut session.packet,
-                &mut session.tags,
-            ),
+            Err(cause) => TuvMethodTurn::discard(cause, &mut session.sent),
+            Ok(whole) => { hand_to_server(object, whole, next_id, &known.users, &mut session.sent) }
         },
-        _ => TuvMethodTurn::none(),
+        _ => TuvMethodTurn::none(&mut session.sent),
     }
 }
 
@@ -230,7 +255,7 @@ pub extern "C" fn tuv_server_method_handle(
 ) -> TuvMethodTurn
     ensures turn { IfServerMethod end.old.value.end (λ o known. IfOk (responded (server_kind (server_object_shown o)) (packet_of octets.now)) (λ whole.
         AsServerMethod end.new.value.end (λ n after. (after.users ≡ known.users)
-        × ServerTurns (server_step known.users next_id (server_object_shown o) whole) result end.new.value.packet n))) }
+        × ServerTurns (server_step known.users next_id (server_object_shown o) whole) end.old.value.sent result end.new.value.sent n))) }
     ensures discarded { IfServerMethod end.old.value.end (λ o known. IfErr (responded (server_kind (server_object_shown o)) (packet_of octets.now)) (λ cause.
         IsDiscarded cause end.old.value result end.new.value)) }
     ensures misplaced { is_server_method end.old.value.end ≡ false → IsMisplaced end.old.value result end.new.value }

@@ -1,28 +1,30 @@
 //! The pass-through of RFC 4137 section 7.
 
-ghost use Rattle.std.specs.Prelude.{◌≡◌, [], true, false, None, IfSome};
+ghost use Rattle.std.specs.Prelude.{◌≡◌, true, false, None, IfSome};
 ghost use Rattle.pass_through.specs.PassTable.{pass_made, pass_start, pass_restart, pass_from_peer, pass_from_backend, pass_timeout, pass_aaa_timeout, pass_aaa_noreq, is_started, has_timer, is_aaa_idle};
 ghost use Rattle.end_objects.specs.Refusals.{retry_refusal};
 ghost use Rattle.tuvaddri_c.specs.Answers.{begun, refusal_number};
 ghost use Rattle.tuvaddri_c.specs.Ends.{IfPass, AsPass, is_pass, can_start_pass, has_timer_pass, waits_for_backend};
+ghost use Rattle.tuvaddri_c.specs.Sent.{none_sent};
 ghost use Rattle.tuvaddri_c.specs.Turns.{PassDoes, IsMisplaced};
 
 use crate::answers::{BEGUN, number_of_refusal};
 use crate::handle::TuvEnd;
-use crate::session::End;
+use crate::session::{End, Sent};
 use crate::turn::TuvTurn;
 use eap_base::Packet;
 use end_objects::retry_refusal;
 use pass_through::PassThrough;
 
 /// Makes the end a pass-through that has not started, and answers 0. Its first Request has the Identifier
-/// `first_id`; a Request is sent again at most `max_retrans` times. Where that is over 10 it answers 6, and the end
-/// stays as it was.
+/// `first_id`; a Request is sent again at most `max_retrans` times. If that is over 10 it answers 7, and the end stays as
+/// it was.
 #[unsafe(no_mangle)]
 pub extern "C" fn tuv_pass_begin(end: &mut TuvEnd, first_id: u8, max_retrans: u8) -> u8
     ensures refused { IfSome (retry_refusal max_retrans) (λ reason. result ≡ refusal_number reason) }
     ensures begun { retry_refusal max_retrans ≡ None → result ≡ begun }
     ensures made { result ≡ begun → AsPass end.new.value.end (λ n. n ≡ pass_made first_id max_retrans) }
+    ensures sent { result ≡ begun → end.new.value.sent ≡ none_sent }
     ensures unchanged { (result ≡ begun → ⊥) → end.new.value ≡ end.old.value }
 {
     match retry_refusal(max_retrans) {
@@ -30,68 +32,82 @@ pub extern "C" fn tuv_pass_begin(end: &mut TuvEnd, first_id: u8, max_retrans: u8
         None => {
             let session = end.session();
             session.end = End::Pass(PassThrough::new(first_id, max_retrans));
+            session.sent.clear();
             BEGUN
         }
     }
 }
 
 #[tactic(auto, using(crate::proofs::Does::pass_does))]
-fn start(machine: &mut PassThrough, packet: &mut Packet) -> TuvTurn
+fn start(machine: &mut PassThrough, sent: &mut Sent) -> TuvTurn
     requires { is_started machine.old.state ≡ false }
-    ensures { PassDoes (pass_start machine.old) result packet.new machine.new }
+    ensures { PassDoes (pass_start machine.old) sent.old result sent.new machine.new }
 {
-    let step = machine.start(packet);
+    let mut packet = Packet::new();
+    let step = machine.start(&mut packet);
+    sent.take(step.sends, &packet);
     TuvTurn::of(&step, machine.state())
 }
 
 #[tactic(auto, using(crate::proofs::Does::pass_does))]
-fn restart(machine: &mut PassThrough, packet: &mut Packet) -> TuvTurn
-    ensures { PassDoes (pass_restart machine.old) result packet.new machine.new }
+fn restart(machine: &mut PassThrough, sent: &mut Sent) -> TuvTurn
+    ensures { PassDoes (pass_restart machine.old) none_sent result sent.new machine.new }
 {
-    let step = machine.restart(packet);
+    let mut packet = Packet::new();
+    let step = machine.restart(&mut packet);
+    sent.clear();
+    sent.take(step.sends, &packet);
     TuvTurn::of(&step, machine.state())
 }
 
 #[tactic(auto, using(crate::proofs::Does::pass_does))]
-fn from_peer(machine: &mut PassThrough, octets: &[u8], packet: &mut Packet) -> TuvTurn
-    ensures { PassDoes (pass_from_peer machine.old octets.now) result packet.new machine.new }
+fn from_peer(machine: &mut PassThrough, octets: &[u8], sent: &mut Sent) -> TuvTurn
+    ensures { PassDoes (pass_from_peer machine.old octets.now) sent.old result sent.new machine.new }
 {
-    let step = machine.from_peer(octets, packet);
+    let mut packet = Packet::new();
+    let step = machine.from_peer(octets, &mut packet);
+    sent.take(step.sends, &packet);
     TuvTurn::of(&step, machine.state())
 }
 
 #[tactic(auto, using(crate::proofs::Does::pass_does))]
-fn from_backend(machine: &mut PassThrough, octets: &[u8], packet: &mut Packet) -> TuvTurn
-    ensures { PassDoes (pass_from_backend machine.old octets.now) result packet.new machine.new }
+fn from_backend(machine: &mut PassThrough, octets: &[u8], sent: &mut Sent) -> TuvTurn
+    ensures { PassDoes (pass_from_backend machine.old octets.now) sent.old result sent.new machine.new }
 {
-    let step = machine.from_backend(octets, packet);
+    let mut packet = Packet::new();
+    let step = machine.from_backend(octets, &mut packet);
+    sent.take(step.sends, &packet);
     TuvTurn::of(&step, machine.state())
 }
 
 #[tactic(auto, using(crate::proofs::Does::pass_does))]
-fn timeout(machine: &mut PassThrough, packet: &mut Packet) -> TuvTurn
+fn timeout(machine: &mut PassThrough, sent: &mut Sent) -> TuvTurn
     requires { has_timer machine.old.state ≡ true }
-    ensures { PassDoes (pass_timeout machine.old) result packet.new machine.new }
+    ensures { PassDoes (pass_timeout machine.old) sent.old result sent.new machine.new }
 {
-    let step = machine.timeout(packet);
+    let mut packet = Packet::new();
+    let step = machine.timeout(&mut packet);
+    sent.take(step.sends, &packet);
     TuvTurn::of(&step, machine.state())
 }
 
-#[tactic(auto, using(crate::proofs::Does::pass_does))]
-fn aaa_timeout(machine: &mut PassThrough) -> TuvTurn
+#[tactic(auto, using(crate::proofs::Does::pass_rests, crate::proofs::Rests::aaa_timeout_sends_nothing))]
+fn aaa_timeout(machine: &mut PassThrough, sent: &mut Sent) -> TuvTurn
     requires { is_aaa_idle machine.old.state ≡ true }
-    ensures { PassDoes (pass_aaa_timeout machine.old) result [] machine.new }
+    ensures { PassDoes (pass_aaa_timeout machine.old) sent.old result sent.new machine.new }
 {
     let step = machine.aaa_timeout();
+    sent.rest();
     TuvTurn::of(&step, machine.state())
 }
 
-#[tactic(auto, using(crate::proofs::Does::pass_does))]
-fn aaa_noreq(machine: &mut PassThrough) -> TuvTurn
+#[tactic(auto, using(crate::proofs::Does::pass_rests, crate::proofs::Rests::aaa_noreq_sends_nothing))]
+fn aaa_noreq(machine: &mut PassThrough, sent: &mut Sent) -> TuvTurn
     requires { is_aaa_idle machine.old.state ≡ true }
-    ensures { PassDoes (pass_aaa_noreq machine.old) result [] machine.new }
+    ensures { PassDoes (pass_aaa_noreq machine.old) sent.old result sent.new machine.new }
 {
     let step = machine.aaa_noreq();
+    sent.rest();
     TuvTurn::of(&step, machine.state())
 }
 
@@ -99,19 +115,19 @@ fn aaa_noreq(machine: &mut PassThrough) -> TuvTurn
 #[unsafe(no_mangle)]
 pub extern "C" fn tuv_pass_start(end: &mut TuvEnd) -> TuvTurn
     ensures pass { IfPass end.old.value.end (λ m. is_started m.state ≡ false → AsPass end.new.value.end (λ n.
-        PassDoes (pass_start m) result end.new.value.packet n)) }
+        PassDoes (pass_start m) end.old.value.sent result end.new.value.sent n)) }
     ensures misplaced { can_start_pass end.old.value.end ≡ false → IsMisplaced end.old.value result end.new.value }
 {
     let session = end.session();
     match &mut session.end {
         End::Pass(machine) => {
             if machine.started() {
-                TuvTurn::none()
+                TuvTurn::none(&mut session.sent)
             } else {
-                start(machine, &mut session.packet)
+                start(machine, &mut session.sent)
             }
         }
-        _ => TuvTurn::none(),
+        _ => TuvTurn::none(&mut session.sent),
     }
 }
 
@@ -120,13 +136,13 @@ pub extern "C" fn tuv_pass_start(end: &mut TuvEnd) -> TuvTurn
 #[unsafe(no_mangle)]
 pub extern "C" fn tuv_pass_restart(end: &mut TuvEnd) -> TuvTurn
     ensures pass { IfPass end.old.value.end (λ m. AsPass end.new.value.end (λ n.
-        PassDoes (pass_restart m) result end.new.value.packet n)) }
+        PassDoes (pass_restart m) none_sent result end.new.value.sent n)) }
     ensures misplaced { is_pass end.old.value.end ≡ false → IsMisplaced end.old.value result end.new.value }
 {
     let session = end.session();
     match &mut session.end {
-        End::Pass(machine) => restart(machine, &mut session.packet),
-        _ => TuvTurn::none(),
+        End::Pass(machine) => restart(machine, &mut session.sent),
+        _ => TuvTurn::none(&mut session.sent),
     }
 }
 
@@ -134,13 +150,13 @@ pub extern "C" fn tuv_pass_restart(end: &mut TuvEnd) -> TuvTurn
 #[unsafe(no_mangle)]
 pub extern "C" fn tuv_pass_from_peer(end: &mut TuvEnd, octets: &[u8]) -> TuvTurn
     ensures pass { IfPass end.old.value.end (λ m. AsPass end.new.value.end (λ n.
-        PassDoes (pass_from_peer m octets.now) result end.new.value.packet n)) }
+        PassDoes (pass_from_peer m octets.now) end.old.value.sent result end.new.value.sent n)) }
     ensures misplaced { is_pass end.old.value.end ≡ false → IsMisplaced end.old.value result end.new.value }
 {
     let session = end.session();
     match &mut session.end {
-        End::Pass(machine) => from_peer(machine, octets, &mut session.packet),
-        _ => TuvTurn::none(),
+        End::Pass(machine) => from_peer(machine, octets, &mut session.sent),
+        _ => TuvTurn::none(&mut session.sent),
     }
 }
 
@@ -148,13 +164,13 @@ pub extern "C" fn tuv_pass_from_peer(end: &mut TuvEnd, octets: &[u8]) -> TuvTurn
 #[unsafe(no_mangle)]
 pub extern "C" fn tuv_pass_from_backend(end: &mut TuvEnd, octets: &[u8]) -> TuvTurn
     ensures pass { IfPass end.old.value.end (λ m. AsPass end.new.value.end (λ n.
-        PassDoes (pass_from_backend m octets.now) result end.new.value.packet n)) }
+        PassDoes (pass_from_backend m octets.now) end.old.value.sent result end.new.value.sent n)) }
     ensures misplaced { is_pass end.old.value.end ≡ false → IsMisplaced end.old.value result end.new.value }
 {
     let session = end.session();
     match &mut session.end {
-        End::Pass(machine) => from_backend(machine, octets, &mut session.packet),
-        _ => TuvTurn::none(),
+        End::Pass(machine) => from_backend(machine, octets, &mut session.sent),
+        _ => TuvTurn::none(&mut session.sent),
     }
 }
 
@@ -162,19 +178,19 @@ pub extern "C" fn tuv_pass_from_backend(end: &mut TuvEnd, octets: &[u8]) -> TuvT
 #[unsafe(no_mangle)]
 pub extern "C" fn tuv_pass_timeout(end: &mut TuvEnd) -> TuvTurn
     ensures pass { IfPass end.old.value.end (λ m. has_timer m.state ≡ true → AsPass end.new.value.end (λ n.
-        PassDoes (pass_timeout m) result end.new.value.packet n)) }
+        PassDoes (pass_timeout m) end.old.value.sent result end.new.value.sent n)) }
     ensures misplaced { has_timer_pass end.old.value.end ≡ false → IsMisplaced end.old.value result end.new.value }
 {
     let session = end.session();
     match &mut session.end {
         End::Pass(machine) => {
             if machine.has_timer() {
-                timeout(machine, &mut session.packet)
+                timeout(machine, &mut session.sent)
             } else {
-                TuvTurn::none()
+                TuvTurn::none(&mut session.sent)
             }
         }
-        _ => TuvTurn::none(),
+        _ => TuvTurn::none(&mut session.sent),
     }
 }
 
@@ -182,19 +198,19 @@ pub extern "C" fn tuv_pass_timeout(end: &mut TuvEnd) -> TuvTurn
 #[unsafe(no_mangle)]
 pub extern "C" fn tuv_pass_aaa_timeout(end: &mut TuvEnd) -> TuvTurn
     ensures pass { IfPass end.old.value.end (λ m. is_aaa_idle m.state ≡ true → AsPass end.new.value.end (λ n.
-        PassDoes (pass_aaa_timeout m) result [] n)) }
+        PassDoes (pass_aaa_timeout m) end.old.value.sent result end.new.value.sent n)) }
     ensures misplaced { waits_for_backend end.old.value.end ≡ false → IsMisplaced end.old.value result end.new.value }
 {
     let session = end.session();
     match &mut session.end {
         End::Pass(machine) => {
             if machine.waits_for_server() {
-                aaa_timeout(machine)
+                aaa_timeout(machine, &mut session.sent)
             } else {
-                TuvTurn::none()
+                TuvTurn::none(&mut session.sent)
             }
         }
-        _ => TuvTurn::none(),
+        _ => TuvTurn::none(&mut session.sent),
     }
 }
 
@@ -202,18 +218,18 @@ pub extern "C" fn tuv_pass_aaa_timeout(end: &mut TuvEnd) -> TuvTurn
 #[unsafe(no_mangle)]
 pub extern "C" fn tuv_pass_aaa_noreq(end: &mut TuvEnd) -> TuvTurn
     ensures pass { IfPass end.old.value.end (λ m. is_aaa_idle m.state ≡ true → AsPass end.new.value.end (λ n.
-        PassDoes (pass_aaa_noreq m) result [] n)) }
+        PassDoes (pass_aaa_noreq m) end.old.value.sent result end.new.value.sent n)) }
     ensures misplaced { waits_for_backend end.old.value.end ≡ false → IsMisplaced end.old.value result end.new.value }
 {
     let session = end.session();
     match &mut session.end {
         End::Pass(machine) => {
             if machine.waits_for_server() {
-                aaa_noreq(machine)
+                aaa_noreq(machine, &mut session.sent)
             } else {
-                TuvTurn::none()
+                TuvTurn::none(&mut session.sent)
             }
         }
-        _ => TuvTurn::none(),
+        _ => TuvTurn::none(&mut session.sent),
     }
 }

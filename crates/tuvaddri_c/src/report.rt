@@ -1,18 +1,25 @@
-//! What an end holds after a method that succeeded.
+//! What is told of a method that succeeded.
 
 ghost use Rattle.std.specs.Prelude.{◌≡◌, ◌≤◌, ◌++◌, length, drop, IsTrue, None, IfSome};
 ghost use Rattle.eap_base.specs.Sizes.{max_name};
-ghost use Rattle.tuvaddri_c.specs.Ends.{end_reports, IsReport};
+ghost use Rattle.tuvaddri_c.specs.Reports.{report_size, both, end_held, IsReport};
 
 use crate::handle::TuvEnd;
-use crate::session::{End, Session};
+use crate::held::{nonces_of, report_of};
+use crate::session::Session;
 use eap_base::MAX_NAME;
-use eap_method::{PeerMethod, Report, ServerMethod};
+use eap_method::Report;
+use end_objects::Nonces;
+
+/// The octets of [`TuvReport`] on 64 bits.
+pub const REPORT_SIZE: usize = 712;
 
 /// What an end holds after a method that succeeded.
 #[repr(C)]
 #[derive(Drop)]
 pub struct TuvReport {
+    /// [`REPORT_SIZE`], as the caller writes it. A caller that knows another struct has another number here.
+    pub size: usize,
     /// The method: 47 (EAP-PSK) or 51 (EAP-GPSK).
     pub method: u8,
     /// The suite of EAP-GPSK, 1 or 2; 0 for EAP-PSK.
@@ -27,49 +34,55 @@ pub struct TuvReport {
     pub msk: [u8; 64],
     /// The Extended Master Session Key (RFC 3748 section 7.10).
     pub emsk: [u8; 64],
+    /// The octets of each nonce, 16 of EAP-PSK or 32 of EAP-GPSK, which stand at the front of `peer_rand` and of
+    /// `server_rand`.
+    pub rand_length: u8,
+    pub peer_rand: [u8; 32],
+    pub server_rand: [u8; 32],
 }
 
-/// Writes what the end holds, and answers true. Where it holds nothing it answers false and writes nothing.
+/// Writes what the end holds, and answers true. If it holds nothing, or the struct has another size, it answers false
+/// and writes nothing.
 #[unsafe(no_mangle)]
 pub extern "C" fn tuv_end_report(end: &mut TuvEnd, report: &mut TuvReport) -> bool
     ensures same { end.new.value ≡ end.old.value }
-    ensures held { IfSome (end_reports end.old.value.end) (λ held. IsTrue result × IsReport held report.old report.new) }
-    ensures none { end_reports end.old.value.end ≡ None → (IsTrue result → ⊥) × (report.new ≡ report.old) }
+    ensures held { report.old.size ≡ report_size → IfSome (end_held end.old.value.end) (λ held. IsTrue result × IsReport held report.old report.new) }
+    ensures none { end_held end.old.value.end ≡ None → (IsTrue result → ⊥) × (report.new ≡ report.old) }
+    ensures other_size { (report.old.size ≡ report_size → ⊥) → (IsTrue result → ⊥) × (report.new ≡ report.old) }
 {
     tell(end.session(), report)
 }
 
 fn tell(session: &Session, report: &mut TuvReport) -> bool
-    ensures held { IfSome (end_reports session.now.end) (λ held. IsTrue result × IsReport held report.old report.new) }
-    ensures none { end_reports session.now.end ≡ None → (IsTrue result → ⊥) × (report.new ≡ report.old) }
+    ensures held { report.old.size ≡ report_size → IfSome (end_held session.now.end) (λ held. IsTrue result × IsReport held report.old report.new) }
+    ensures none { end_held session.now.end ≡ None → (IsTrue result → ⊥) × (report.new ≡ report.old) }
+    ensures other_size { (report.old.size ≡ report_size → ⊥) → (IsTrue result → ⊥) × (report.new ≡ report.old) }
 {
-    match &session.end {
-        End::Closed => false,
-        End::PeerMethod(method) => write_held(&method.report(), report),
-        End::ServerMethod(method, _) => write_held(&method.report(), report),
-        End::Peer(machine) => write_held(&machine.report(), report),
-        End::Server(machine) => write_held(&machine.report(), report),
-        End::Backend(machine) => write_held(&machine.report(), report),
-        End::Pass(_) => false,
+    if report.size == REPORT_SIZE {
+        write_held(&report_of(&session.end), &nonces_of(&session.end), report)
+    } else {
+        false
     }
 }
 
-/// (By reference, since a report by value is moved at each step.)
-fn write_held(held: &Option<Report>, report: &mut TuvReport) -> bool
-    ensures held { IfSome held.now (λ held. IsTrue result × IsReport held report.old report.new) }
-    ensures none { held.now ≡ None → (IsTrue result → ⊥) × (report.new ≡ report.old) }
+fn write_held(held: &Option<Report>, nonces: &Option<Nonces>, report: &mut TuvReport) -> bool
+    ensures held { IfSome (both held.now nonces.now) (λ held. IsTrue result × IsReport held report.old report.new) }
+    ensures none { both held.now nonces.now ≡ None → (IsTrue result → ⊥) × (report.new ≡ report.old) }
 {
     match held {
         None => false,
-        Some(held) => {
-            write(held, report);
-            true
-        }
+        Some(held) => match nonces {
+            None => false,
+            Some(nonces) => {
+                write(held, nonces, report);
+                true
+            }
+        },
     }
 }
 
-fn write(held: &Report, report: &mut TuvReport)
-    ensures { IsReport held.now report.old report.new }
+fn write(held: &Report, nonces: &Nonces, report: &mut TuvReport)
+    ensures { IsReport (record { report = held.now; nonces = nonces.now }) report.old report.new }
 {
     report.method = held.method;
     report.suite = held.suite;
@@ -79,6 +92,8 @@ fn write(held: &Report, report: &mut TuvReport)
     report.msk = msk;
     let emsk = held.emsk;
     report.emsk = emsk;
+    report.rand_length = write_nonce(nonces.peer.as_slice(), &mut report.peer_rand);
+    write_nonce(nonces.server.as_slice(), &mut report.server_rand);
 }
 
 /// Writes a name to the front of the room, and answers its length.
@@ -89,4 +104,14 @@ fn write_name(name: &[u8], room: &mut [u8; MAX_NAME]) -> u8
 {
     room[..name.len()].copy_from_slice(name);
     name.len() as u8
+}
+
+/// Writes a nonce to the front of the room, and answers its length.
+fn write_nonce(nonce: &[u8], room: &mut [u8; 32]) -> u8
+    requires { length nonce.now ≤ 32 }
+    ensures size { result ≡ length nonce.now }
+    ensures copied { room.new ≡ nonce.now ++ drop (length nonce.now) room.old }
+{
+    room[..nonce.len()].copy_from_slice(nonce);
+    nonce.len() as u8
 }

@@ -1,10 +1,9 @@
-//! What a handle holds: an end, and the packet and the tags of its last call.
+//! What a handle holds: an end, and what it has sent.
 
 ghost use Rattle.std.specs.Prelude.{All, IsTrue};
 ghost use Rattle.login_setup.specs.Setup.{fits_kind};
 
-use eap_base::Packet;
-use eap_method::Tags;
+use eap_base::{Packet, Secret};
 use end_objects::{PeerObject, ServerObject};
 use login_setup::Users;
 use pass_through::PassThrough;
@@ -16,8 +15,8 @@ use server_machine::{Backend, ServerMachine};
 pub enum End {
     /// None.
     Closed,
-    /// A peer's method alone.
-    PeerMethod(PeerObject),
+    /// A peer's method alone, with its key.
+    PeerMethod(PeerObject, Secret),
     /// A server's method alone, with its users.
     ServerMethod(ServerObject, Known),
     /// A peer.
@@ -37,21 +36,73 @@ pub struct Known {
     pub ghost fit: { All (λ user. IsTrue (fits_kind user.kind user.psk)) users },
 }
 
-/// An end, with the packet and the records of tags that its last call wrote.
+/// What an end has sent.
+#[derive(Drop)]
+pub struct Sent {
+    /// The packet that it sent last since its begin or restart; no octets before the first.
+    pub packet: Packet,
+    /// Whether its last turn sent it.
+    pub fresh: bool,
+}
+
+impl Sent {
+    ghost use Rattle.std.specs.Prelude.{◌≡◌, if◌then◌else◌, Some, None};
+    ghost use Rattle.tuvaddri_c.specs.Sent.{none_sent, rested, after_turn};
+
+    /// Nothing.
+    pub fn none() -> Sent
+        ensures { result ≡ none_sent }
+    {
+        Sent {
+            packet: Packet::new(),
+            fresh: false,
+        }
+    }
+
+    /// The end begins: it has sent nothing.
+    pub fn clear(&mut self)
+        ensures { self.new ≡ none_sent }
+    {
+        self.packet.clear();
+        self.fresh = false;
+    }
+
+    /// A turn sends nothing.
+    pub fn rest(&mut self)
+        ensures { self.new ≡ rested self.old }
+    {
+        self.fresh = false;
+    }
+
+    /// A turn sends this packet, or nothing.
+    pub fn take(&mut self, sends: bool, packet: &Packet)
+        ensures { self.new ≡ after_turn (if sends then Some packet.now else None) self.old }
+    {
+        self.fresh = sends;
+        if sends {
+            self.packet.set(packet.as_slice());
+        }
+    }
+}
+
+/// An end, with what it has sent.
 #[derive(Drop)]
 pub struct Session {
     pub end: End,
-    pub packet: Packet,
-    pub tags: Tags,
+    pub sent: Sent,
 }
 
 impl Session {
+    ghost use Rattle.std.specs.Prelude.{◌≡◌};
+    ghost use Rattle.tuvaddri_c.specs.Sent.{closed};
+
     /// No end.
-    pub fn closed() -> Session {
+    pub fn closed() -> Session
+        ensures { result ≡ closed }
+    {
         Session {
             end: End::Closed,
-            packet: Packet::new(),
-            tags: Tags::new(),
+            sent: Sent::none(),
         }
     }
 }

@@ -1,8 +1,10 @@
 //! What a call came to, as numbers.
 
 ghost use Rattle.std.specs.Prelude.{◌≡◌};
+ghost use Rattle.tuvaddri_c.specs.Sent.{rested};
 ghost use Rattle.tuvaddri_c.specs.Turns.{turn_of, no_turn, cause_number, state_number};
 
+use crate::session::Sent;
 use eap_method::Step;
 use eap_packet::{Cause, State};
 
@@ -14,7 +16,7 @@ pub struct TuvTurn {
     pub sends: bool,
     /// Whether what came is discarded.
     pub discards: bool,
-    /// Whether the call has no place at this end. The end then stays as it was, and the other fields are 0.
+    /// Whether the call has no place at this end, and changes nothing. The other fields are then 0.
     pub misplaced: bool,
     /// The number of the cause of a discard, in the order of `Cause`; else 0.
     pub cause: u8,
@@ -23,10 +25,12 @@ pub struct TuvTurn {
 }
 
 impl TuvTurn {
-    /// A call that has no place.
-    pub fn none() -> TuvTurn
-        ensures { result ≡ no_turn }
+    /// A call that has no place; it sends nothing.
+    pub fn none(sent: &mut Sent) -> TuvTurn
+        ensures turn { result ≡ no_turn }
+        ensures sent { sent.new ≡ rested sent.old }
     {
+        sent.rest();
         TuvTurn {
             sends: false,
             discards: false,

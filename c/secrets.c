@@ -1,0 +1,397 @@
+/* secrets METHOD SUITE keep|clear [stop]
+ *
+ * Runs logins by METHOD (47 or 51) and SUITE (1 or 2; 0 for 47) in every way
+ * that a key can go: alone, again by a restart, with altered packets, with other
+ * keys, of unknown and barred users, after a Nak, through a pass-through, by the
+ * methods alone, refused, and cut off.  Standard input has 128 octets: the keys
+ * of EAP-PSK and of EAP-GPSK that both ends share, 16 and 48, and two others.
+ * Each packet is written as `packet HEX`, and after a login that succeeds both
+ * Session-Ids.
+ *
+ * For memcheck the keys are undefined, and what goes out is defined again: it is
+ * public.  At the end all is closed, cleared and freed as tuvaddri.h says, with
+ * `clear` the stack too.  With `stop` the process then stops, so that its memory
+ * can be searched, and no call may have gone deeper into the stack than
+ * TUV_STACK_MAX.  The exit status is 0 where each way ended as it should. */
+#define _DEFAULT_SOURCE
+#include <signal.h>
+#include <stdio.h>
+#include <stdlib.h>
+#include <string.h>
+#include <sys/random.h>
+#include <unistd.h>
+#include "tuvaddri.h"
+#if defined(__has_include) && __has_include(<valgrind/memcheck.h>)
+#include <valgrind/memcheck.h>
+#else
+#define VALGRIND_MAKE_MEM_UNDEFINED(at, len) ((void) (at), (void) (len))
+#define VALGRIND_MAKE_MEM_DEFINED(at, len) ((void) (at), (void) (len))
+#endif
+
+struct keys {
+	uint8_t psk[16], gpsk[48];
+};
+
+static struct keys shared, others;
+static struct tuv_end peer, server, pass;
+static struct tuv_settings of_peer, of_server;
+static uint8_t method, suite;
+
+static void fail(const char *why)
+{
+	printf("secrets: %s\n", why);
+	exit(1);
+}
+
+static void expect(int good, const char *what)
+{
+	if (!good)
+		fail(what);
+}
+
+static struct tuv_octets name_of(const char *text)
+{
+	return (struct tuv_octets) { (const uint8_t *) text, strlen(text) };
+}
+
+/* The keys for the one method, or for both. */
+static void take_keys(struct tuv_settings *s, const struct keys *keys, int both)
+{
+	s->psk_key = s->gpsk_key = TUV_ANY;
+	if (both || method == TUV_KIND_PSK)
+		s->psk_key = (struct tuv_octets) { keys->psk, sizeof(keys->psk) };
+	if (both || method == TUV_KIND_GPSK)
+		s->gpsk_key = (struct tuv_octets) { keys->gpsk, sizeof(keys->gpsk) };
+}
+
+static void set_up(void)
+{
+	memset(&of_peer, 0, sizeof(of_peer));
+	of_peer.size = sizeof(of_peer);
+	of_peer.name = name_of("alice");
+	of_peer.other = name_of("srv");
+	of_peer.methods[0] = method;
+	of_peer.suites[0] = suite;
+	take_keys(&of_peer, &shared, 0);
+	of_server = of_peer;
+	of_server.name = of_peer.other;
+	of_server.other = of_peer.name;
+}
+
+static const uint8_t *fresh(void)
+{
+	static uint8_t nonce[TUV_NONCE_LEN];
+
+	if (getrandom(nonce, sizeof(nonce), 0) != sizeof(nonce))
+		exit(5);
+	return nonce;
+}
+
+static void print(const char *word, const uint8_t *at, size_t len)
+{
+	size_t i;
+
+	printf("%s ", word);
+	for (i = 0; i < len; i++)
+		printf("%02x", at[i]);
+	putchar('\n');
+}
+
+/* The packet of an end's last turn, which is public from here on. */
+static size_t take(struct tuv_end *end, uint8_t packet[TUV_PACKET_MAX])
+{
+	size_t len = tuv_end_packet(end, packet, TUV_PACKET_MAX);
+
+	VALGRIND_MAKE_MEM_DEFINED(packet, len);
+	print("packet", packet, len);
+	return len;
+}
+
+static uint8_t octets[TUV_PACKET_MAX];
+static unsigned int count, altered;
+
+/* Takes what an end sends; in the packet of number `altered` one octet of the
+ * last 16 is another. */
+static size_t carried(struct tuv_end *end)
+{
+	size_t len = take(end, octets);
+
+	if (++count == altered && len > 16)
+		octets[len - 7] ^= 4;
+	return len;
+}
+
+/* From a server's turn on, until the server has ended: its timer ends where
+ * nothing is on its way. The states of both. */
+static void converse(struct tuv_turn turn, uint8_t *at_peer, uint8_t *at_server)
+{
+	unsigned int round;
+
+	*at_peer = TUV_STATE_IDLE;
+	*at_server = turn.state;
+	for (round = 0; round < 40; round++) {
+		struct tuv_turn answer = { 0 };
+
+		if (turn.sends) {
+			answer = tuv_end_deliver(&peer, octets, carried(&server));
+			*at_peer = answer.state;
+		}
+		if (turn.state != TUV_STATE_IDLE)
+			return;
+		turn = answer.sends
+			? tuv_end_deliver(&server, octets, carried(&peer))
+			: tuv_server_timeout(&server);
+		*at_server = turn.state;
+	}
+	fail("a server never ends");
+}
+
+/* Whether both ends have the same Session-Ids, which are public and printed. */
+static int identify(void)
+{
+	static uint8_t ids[4][TUV_SESSION_ID_MAX];
+	size_t len;
+
+	memset(ids, 0, sizeof(ids));
+	len = tuv_end_session_id(&peer, ids[0]);
+	if (len != tuv_end_session_id(&server, ids[1]) ||
+	    len != tuv_end_session_id_wpa(&peer, ids[2]) ||
+	    len != tuv_end_session_id_wpa(&server, ids[3]))
+		return 0;
+	VALGRIND_MAKE_MEM_DEFINED(ids, sizeof(ids));
+	print("session-id", ids[0], len);
+	print("session-id-wpa", ids[2], len);
+	return len && memcmp(ids[0], ids[1], len) == 0 && memcmp(ids[2], ids[3], len) == 0;
+}
+
+/* Whether both ends report the same; what they report is cleared. */
+static int agree(void)
+{
+	static struct tuv_report reports[2];
+	int same;
+
+	memset(reports, 0, sizeof(reports));
+	reports[0].size = reports[1].size = sizeof(struct tuv_report);
+	same = tuv_end_report(&peer, &reports[0]) &&
+		tuv_end_report(&server, &reports[1]);
+	VALGRIND_MAKE_MEM_DEFINED(reports, sizeof(reports));
+	same = same && memcmp(&reports[0], &reports[1], sizeof(reports[0])) == 0 &&
+		identify();
+	explicit_bzero(reports, sizeof(reports));
+	return same;
+}
+
+static void begin_both(void)
+{
+	count = 0;
+	expect(!tuv_peer_begin(&peer, &of_peer, fresh()), "a peer begins");
+	expect(!tuv_server_begin(&server, &of_server, fresh(), 0, 4), "a server begins");
+}
+
+/* Whether a login by these settings succeeds at the server. */
+static int log_in(void)
+{
+	uint8_t at_peer, at_server;
+
+	begin_both();
+	converse(tuv_server_start(&server), &at_peer, &at_server);
+	return at_server == TUV_STATE_SUCCESS && at_peer == TUV_STATE_SUCCESS && agree();
+}
+
+static void logins(void)
+{
+	uint8_t at_peer, at_server;
+
+	set_up();
+	expect(log_in(), "a login");
+	tuv_end_restart(&peer, fresh());
+	converse(tuv_end_restart(&server, fresh()), &at_peer, &at_server);
+	expect(at_server == TUV_STATE_SUCCESS && agree(), "a login by a restart");
+	for (altered = 1; altered < 12; altered++)
+		log_in();
+	altered = 0;
+	of_server.methods[0] = method == TUV_KIND_PSK ? TUV_KIND_GPSK : TUV_KIND_PSK;
+	of_server.methods[1] = method;
+	take_keys(&of_server, &shared, 1);
+	expect(log_in(), "a login after a Nak");
+}
+
+static void failures(void)
+{
+	struct tuv_failure why;
+
+	set_up();
+	take_keys(&of_server, &others, 0);
+	expect(!log_in(), "a login by another key");
+	set_up();
+	of_server.other = name_of("bob");
+	expect(!log_in(), "a login of an unknown user");
+	set_up();
+	of_server.barred = 1;
+	expect(!log_in(), "a login of a barred user");
+	why = tuv_end_failure(&server);
+	VALGRIND_MAKE_MEM_DEFINED(&why, sizeof(why));
+	expect(why.reason == TUV_FAILURE_BARRED_USER, "a barred user's reason");
+	set_up();
+	of_server.methods[0] = method == TUV_KIND_PSK ? TUV_KIND_GPSK : TUV_KIND_PSK;
+	take_keys(&of_server, &shared, 1);
+	expect(!log_in(), "a login without a common method");
+}
+
+/* The user is known when the first Response is there, and not before. */
+static void users(void)
+{
+	struct tuv_settings user;
+	uint8_t name[TUV_NAME_MAX];
+	struct tuv_turn turn;
+	uint8_t at_peer, at_server;
+
+	set_up();
+	user = of_server;
+	of_server.other = of_server.psk_key = of_server.gpsk_key = TUV_ANY;
+	begin_both();
+	turn = tuv_server_start(&server);
+	take_keys(&user, &others, 0);
+	expect(!tuv_server_user(&server, &user), "a user");
+	take_keys(&user, &shared, 0);
+	expect(!tuv_server_user(&server, &user), "another key of the user");
+	converse(turn, &at_peer, &at_server);
+	expect(at_server == TUV_STATE_SUCCESS && agree(), "a login of a late user");
+
+	expect(!tuv_peer_method_begin(&peer, &of_peer, fresh()), "a peer's method");
+	expect(!tuv_server_method_begin(&server, &of_server, fresh(), 7), "a server's method");
+	tuv_peer_method_handle(&peer, octets, take(&server, octets));
+	expect(tuv_response_name(octets, take(&peer, octets), name) == 5, "a name");
+	expect(!tuv_server_method_user(&server, &user), "a method's user");
+	tuv_server_method_handle(&server, octets, tuv_end_again(&peer, octets, sizeof(octets)), 8);
+	tuv_peer_method_handle(&peer, octets, take(&server, octets));
+	tuv_server_method_handle(&server, octets, take(&peer, octets), 9);
+	expect(agree(), "a login by the methods");
+}
+
+static void through(void)
+{
+	struct tuv_turn turn = { 0 };
+	unsigned int round;
+
+	set_up();
+	expect(!tuv_peer_begin(&peer, &of_peer, fresh()), "a peer begins");
+	expect(!tuv_backend_begin(&server, &of_server, fresh()), "a backend begins");
+	expect(!tuv_pass_begin(&pass, 0, 4), "a pass-through begins");
+	turn = tuv_pass_start(&pass);
+	for (round = 0; round < 20 && turn.sends; round++) {
+		turn = tuv_end_deliver(&peer, octets, take(&pass, octets));
+		if (!turn.sends)
+			break;
+		tuv_pass_from_peer(&pass, octets, take(&peer, octets));
+		tuv_end_deliver(&server, octets, take(&pass, octets));
+		turn = tuv_pass_from_backend(&pass, octets, take(&server, octets));
+	}
+	expect(turn.state == TUV_STATE_SUCCESS && agree(), "a login through a pass-through");
+}
+
+/* Begins that are refused, and logins that are cut off. */
+static void ends(void)
+{
+	struct tuv_settings wrong;
+	uint8_t key[TUV_KEY_MAX + 1];
+
+	set_up();
+	begin_both();
+	wrong = of_peer;
+	memcpy(key, shared.gpsk, sizeof(shared.gpsk));
+	wrong.psk_key = (struct tuv_octets) { key, 15 };
+	wrong.gpsk_key = (struct tuv_octets) { key, sizeof(key) };
+	expect(tuv_peer_begin(&peer, &wrong, fresh()) == TUV_BAD_KEY, "a wrong size");
+	explicit_bzero(key, sizeof(key));
+	tuv_server_start(&server);
+	tuv_end_deliver(&peer, octets, take(&server, octets));
+	tuv_end_deliver(&server, octets, take(&peer, octets));
+	tuv_end_deliver(&peer, octets, take(&server, octets));
+	begin_both();	/* in the middle of a login */
+	tuv_server_start(&server);
+	tuv_end_deliver(&peer, octets, take(&server, octets));
+	tuv_end_deliver(&server, octets, take(&peer, octets));
+	tuv_end_deliver(&peer, octets, take(&server, octets));
+	tuv_end_deliver(&server, octets, take(&peer, octets));
+	tuv_peer_alt_reject(&peer);
+	tuv_end_close(&server);
+}
+
+static void drop(struct tuv_end *end)
+{
+	tuv_end_close(end);
+	explicit_bzero(end->at, tuv_end_size());
+	free(end->at);
+}
+
+static void run(void)
+{
+	expect(tuv_end_new(&peer.at) && tuv_end_new(&server.at) &&
+	       tuv_end_new(&pass.at), "the ends are made");
+	logins();
+	failures();
+	users();
+	through();
+	ends();
+	drop(&peer);
+	drop(&server);
+	drop(&pass);
+}
+
+enum { PAINT = 0xa5, PAINTED = 8 * TUV_STACK_MAX };
+
+/* Paints the stack below the caller. */
+__attribute__((noinline)) static void paint(void)
+{
+	volatile uint8_t room[PAINTED];
+	size_t i;
+
+	for (i = 0; i < sizeof(room); i++)
+		room[i] = PAINT;
+}
+
+/* The octets below the caller down to where the paint is left. */
+__attribute__((noinline)) static size_t deepest(void)
+{
+	const volatile uint8_t *top = __builtin_frame_address(0);
+	size_t depth = PAINTED;
+
+	while (depth && *(top - depth) == PAINT)
+		depth--;
+	return depth;
+}
+
+static void read_keys(struct keys *keys)
+{
+	if (read(0, keys, sizeof(*keys)) != (ssize_t) sizeof(*keys))
+		exit(2);
+	VALGRIND_MAKE_MEM_UNDEFINED(keys, sizeof(*keys));
+}
+
+int main(int argc, char *argv[])
+{
+	if (argc < 4)
+		return 2;
+	method = strcmp(argv[1], "47") == 0 ? TUV_KIND_PSK : TUV_KIND_GPSK;
+	suite = argv[2][0] - '0';
+	read_keys(&shared);
+	read_keys(&others);
+	if (argc > 4)
+		paint();
+	run();
+	if (argc > 4) {
+		size_t depth = deepest();
+
+		printf("stack %zu\n", depth);
+		expect(depth <= TUV_STACK_MAX, "a call goes deeper than TUV_STACK_MAX");
+	}
+	if (strcmp(argv[3], "clear") == 0)
+		tuv_clear_stack();
+	explicit_bzero(&shared, sizeof(shared));
+	explicit_bzero(&others, sizeof(others));
+	fflush(stdout);
+	if (argc > 4)
+		raise(SIGSTOP);
+	return 0;
+}

@@ -1,0 +1,310 @@
+#!/usr/bin/env python3
+"""What becomes of keys in secrets.c.
+
+    secrets.py left PROGRAM keep|clear      where octets of a key are left in memory, when all is closed and cleared
+    secrets.py branches PROGRAM LIST        where memcheck sees an address or a branch that depends on a key, beside LIST
+
+`left` computes the keys and Session-Ids of each conversation from its packets, and searches the writable memory of the
+stopped program for any 16 successive octets of the keys. The status is 0 where none is found.
+
+`branches` needs valgrind. LIST has a line `FUNCTION PLACES`, ` # ` and why, for each function that branches on a key.
+The status is 0 where there is no such address, and no such branch but those of the list.
+"""
+
+import collections
+import hashlib
+import hmac
+import os
+import random
+import re
+import signal
+import subprocess
+import sys
+import tempfile
+
+WAYS = (("47", "0"), ("51", "1"), ("51", "2"))
+
+
+def sbox():
+    """The S-box of AES (FIPS 197 section 5.1.1)."""
+    box, p, q = [0] * 256, 1, 1
+    while True:
+        p = p ^ (p << 1) & 0xFF ^ (0x1B if p & 0x80 else 0)
+        for shift in (1, 2, 4):
+            q = (q ^ q << shift) & 0xFF
+        q ^= 0x09 if q & 0x80 else 0
+        turned = q
+        for shift in (1, 2, 3, 4):
+            turned ^= (q << shift | q >> 8 - shift) & 0xFF
+        box[p] = turned ^ 0x63
+        if p == 1:
+            break
+    box[0] = 0x63
+    return box
+
+
+SBOX = sbox()
+
+
+def xtime(a):
+    return (a << 1 ^ (0x1B if a & 0x80 else 0)) & 0xFF
+
+
+def xor(a, b):
+    return bytes(x ^ y for x, y in zip(a, b))
+
+
+def aes(key, block):
+    """AES-128 of one block (FIPS 197)."""
+    words, constant = [key[i : i + 4] for i in range(0, 16, 4)], 1
+    for i in range(4, 44):
+        last = words[-1]
+        if i % 4 == 0:
+            last = bytes(SBOX[b] for b in last[1:] + last[:1])
+            last, constant = xor(last, bytes([constant, 0, 0, 0])), xtime(constant)
+        words.append(xor(words[i - 4], last))
+    keys = [b"".join(words[i : i + 4]) for i in range(0, 44, 4)]
+    state = xor(block, keys[0])
+    for turn in range(1, 11):
+        state = bytes(SBOX[state[(i + 4 * (i % 4)) % 16]] for i in range(16))
+        if turn < 10:
+            mixed = []
+            for i in range(0, 16, 4):
+                column = state[i : i + 4]
+                every = column[0] ^ column[1] ^ column[2] ^ column[3]
+                mixed += [column[j] ^ every ^ xtime(column[j] ^ column[(j + 1) % 4]) for j in range(4)]
+            state = bytes(mixed)
+        state = xor(state, keys[turn])
+    return state
+
+
+def doubled(block):
+    number = int.from_bytes(block, "big") << 1
+    return (number ^ (0x87 if number >> 128 else 0)).to_bytes(17, "big")[1:]
+
+
+def cmac(key, text):
+    """AES-CMAC (RFC 4493)."""
+    first = doubled(aes(key, bytes(16)))
+    last, whole = text[(len(text) - 1) // 16 * 16 if text else 0 :], b""
+    if len(last) < 16:
+        first, last = doubled(first), (last + b"\x80").ljust(16, b"\0")
+    whole = bytes(16)
+    for i in range(0, (len(text) - 1) // 16 * 16 if text else 0, 16):
+        whole = aes(key, xor(whole, text[i : i + 16]))
+    return aes(key, xor(whole, xor(last, first)))
+
+
+def check_aes():
+    key = bytes.fromhex("2b7e151628aed2a6abf7158809cf4f3c")
+    text = bytes.fromhex("6bc1bee22e409f96e93d7e117393172aae2d8a571e03ac9c9eb76fac45af8e5130c81c46a35ce411")
+    made = cmac(key, b"").hex(), cmac(key, text[:16]).hex(), cmac(key, text).hex()
+    wanted = "bb1d6929e95937287fa37d129b756746", "070a16b46b4d4144f79bdd9dd04a287c", "dfa66747de9ae63030ca32611497c827"
+    if made != wanted:
+        sys.exit("secrets.py: AES-CMAC isn't that of RFC 4493 section 4")
+
+
+def gkdf(mac, size, key, text, length):
+    """GKDF (RFC 5433 section 4)."""
+    made = b"".join(mac(key, i.to_bytes(2, "big") + text) for i in range(1, (length + size - 1) // size + 1))
+    return made[:length]
+
+
+def gpsk_keys(suite, psk, text):
+    """The keys of EAP-GPSK (RFC 5433 section 4), and of suite 2 what HMAC makes of its keys."""
+    mac, size = (cmac, 16) if suite == 1 else (lambda key, text: hmac.new(key, text, hashlib.sha256).digest(), 32)
+    seed = len(psk).to_bytes(2, "big") + psk + bytes(4) + suite.to_bytes(2, "big") + text
+    master = gkdf(mac, size, psk[:size], seed, size)
+    block = gkdf(mac, size, master, text, 128 + 2 * size)
+    keys = {"MK": master, "MSK": block[:64], "EMSK": block[64:128], "SK": block[128 : 128 + size]}
+    if suite == 1:
+        keys["PK"] = block[128 + size :]
+    else:
+        for name, key in (("PSK", psk[:size]), ("MK", master), ("SK", keys["SK"])):
+            for pad in (0x36, 0x5C):
+                keys[f"{name} under {pad:x}"] = bytes(octet ^ pad for octet in key)
+    return keys
+
+
+def gpsk_id(suite, key, text):
+    """The Session-Id of EAP-GPSK (RFC 5433 section 4): its Method-ID is of a key of zeros, theirs of the PSK's front."""
+    mac, size = (cmac, 16) if suite == 1 else (lambda key, text: hmac.new(key, text, hashlib.sha256).digest(), 32)
+    return b"\x33" + gkdf(mac, size, key[:size], b"Method ID\x33" + bytes(4) + suite.to_bytes(2, "big") + text, 16)
+
+
+def psk_keys(psk, rand_p):
+    """The keys of EAP-PSK (RFC 4764 section 3.2)."""
+
+    def modified(block, number):
+        return block[:-1] + bytes([block[-1] ^ number])
+
+    key_block = aes(psk, bytes(16))
+    access, derivation = aes(psk, modified(key_block, 1)), aes(psk, modified(key_block, 2))
+    block = aes(derivation, rand_p)
+    made = [aes(derivation, modified(block, number)) for number in range(1, 10)]
+    return {"AK": access, "KDK": derivation, "TEK": made[0], "MSK": b"".join(made[1:5]), "EMSK": b"".join(made[5:])}
+
+
+def field(packet, at):
+    end = at + 2 + int.from_bytes(packet[at : at + 2], "big")
+    return packet[at + 2 : end], end
+
+
+def conversations(method, packets):
+    """What the keys are derived from, of each conversation whose first Response was sent."""
+    for packet in packets:
+        if len(packet) < 6 or packet[0] != 2 or packet[4] != method:
+            continue
+        if method == 51 and packet[5] == 2:
+            peer, at = field(packet, 6)
+            server, at = field(packet, at)
+            yield packet[at : at + 32] + peer + packet[at + 32 : at + 64] + server
+        elif method == 47 and packet[5] >> 6 == 1:
+            yield packet[22:38] + packet[6:22]
+
+
+def secrets_of(method, suite, keys, packets):
+    """Every 16 successive octets of every key, by the name of the key."""
+    found = {"PSK of EAP-PSK": keys[:16], "PSK of EAP-GPSK": keys[16:64], "another PSK": keys[64:]}
+    psks = (keys[:16], keys[64:80]) if method == 47 else (keys[16:64], keys[80:])
+    parts = {}
+    for name, key in found.items():
+        parts.update({key[i : i + 16]: name for i in range(len(key) - 15)})
+    for text in set(conversations(method, packets)):
+        for psk in psks:
+            made = psk_keys(psk, text[:16]) if method == 47 else gpsk_keys(suite, psk, text)
+            for name, key in made.items():
+                parts.update({key[i : i + 16]: name for i in range(len(key) - 15)})
+    return parts
+
+
+def ids_of(method, suite, keys, packets):
+    """Both Session-Ids of every conversation: by its standard, and as wpa_supplicant derives it."""
+    for text in set(conversations(method, packets)):
+        if method == 47:
+            yield b"\x2f" + text, b"\x2f" + text
+        else:
+            yield gpsk_id(suite, bytes(32), text), gpsk_id(suite, keys[16:48], text)
+
+
+def writable(pid):
+    """The writable memory of a process: what each part is, and its octets."""
+    with open(f"/proc/{pid}/maps", encoding="utf-8") as maps, open(f"/proc/{pid}/mem", "rb") as memory:
+        for line in maps:
+            words = line.split(maxsplit=5)
+            name = words[5].strip() if len(words) > 5 else ""
+            if not words[1].startswith("rw"):
+                continue
+            start, end = (int(it, 16) for it in words[0].split("-"))
+            memory.seek(start)
+            try:
+                yield name.strip("[]") if name.startswith("[") else "data", memory.read(end - start)
+            except OSError:
+                continue
+
+
+def values(word, lines):
+    return [bytes.fromhex(line.split()[1]) for line in lines if line.split()[:1] == [word]]
+
+
+def run_stopped(program, way, word, keys):
+    """What is left of keys when the program has stopped."""
+    with tempfile.TemporaryFile("w+") as said:
+        it = subprocess.Popen([program, *way, word, "stop"], stdin=subprocess.PIPE, stdout=said)
+        it.stdin.write(keys)
+        it.stdin.close()
+        ended = os.waitid(os.P_PID, it.pid, os.WSTOPPED | os.WEXITED | os.WNOWAIT)
+        stopped = ended.si_code == os.CLD_STOPPED
+        parts = list(writable(it.pid)) if stopped else []
+        os.kill(it.pid, signal.SIGCONT)
+        status = it.wait()
+        said.seek(0)
+        lines = said.read().splitlines()
+    if status or not stopped:
+        sys.exit(f"secrets.py: {program} ends with {status}: {lines[-1:]}")
+    method, suite = int(way[0]), int(way[1])
+    packets, pairs = values("packet", lines), set(ids_of(method, suite, keys, values("packet", lines)))
+    made = set(zip(values("session-id", lines), values("session-id-wpa", lines)))
+    if not made or not made <= pairs:
+        sys.exit(f"secrets.py: {program} gives other Session-Ids than its packets")
+    secrets, left = secrets_of(method, suite, keys, packets), collections.Counter()
+    for name, octets in parts:
+        for i in range(len(octets) - 15):
+            secret = secrets.get(octets[i : i + 16])
+            if secret:
+                left[secret, name] += 1
+    return left, len(secrets), sum(len(octets) for _, octets in parts)
+
+
+def left(program, word):
+    check_aes()
+    found = 0
+    for way in WAYS:
+        keys = random.Random(int(way[1]) + 1).randbytes(128)
+        counts, secrets, octets = run_stopped(program, way, word, keys)
+        found += sum(counts.values())
+        told = ", ".join(f"{name} {n} times in {where}" for (name, where), n in sorted(counts.items())) or "nothing"
+        print(f"method {way[0]} suite {way[1]}: {secrets} parts of keys, {octets} octets of memory: {told}")
+    return 1 if found else 0
+
+
+def places_of(log):
+    """The places that memcheck tells, each once: addresses, branches, and what else, by function."""
+    kinds = {"Use of uninit": "address", "Conditional jump": "branch"}
+    places, kind = set(), None
+    for line in log:
+        line = re.sub(r"^==\d+== ?", "", line)
+        told = re.match(r"(Use of uninit|Conditional jump|Syscall param)", line)
+        if told:
+            kind = kinds.get(told[1], "call")
+        at = re.match(r"   at 0x([0-9A-F]+): (\S+)", line)
+        if at and kind:
+            places.add((kind, re.sub(r"::<#\w+>", "", at[2]), at[1]))
+            kind = None
+    return places
+
+
+def run_checked(program, way):
+    keys = random.Random(7).randbytes(128)
+    with tempfile.NamedTemporaryFile("r") as log:
+        words = ["valgrind", "--error-limit=no", "--num-callers=1", f"--log-file={log.name}", program, *way, "clear"]
+        ended = subprocess.run(words, input=keys, stdout=subprocess.PIPE)
+        if ended.returncode:
+            sys.exit(f"secrets.py: {program} ends with {ended.returncode}: {ended.stdout.decode()[-200:]}")
+        return places_of(log)
+
+
+def listed(path):
+    with open(path, encoding="utf-8") as it:
+        lines = [line.split("#")[0].split() for line in it]
+    return {words[0]: int(words[1]) for words in lines if words}
+
+
+def branches(program, path):
+    places = set()
+    for way in WAYS:
+        told = run_checked(program, way)
+        counts = collections.Counter(kind for kind, _, _ in told)
+        print(f"method {way[0]} suite {way[1]}: {counts['address']} addresses and {counts['branch']} branches"
+              f" depend on a key, {counts['call']} calls of the system")
+        places |= told
+    bad = [place for place in places if place[0] != "branch"]
+    for kind, function, _ in sorted(bad)[:20]:
+        print(f"{kind} in {function}")
+    seen, wanted = collections.Counter(function for kind, function, _ in places if kind == "branch"), listed(path)
+    for function in sorted(seen | wanted):
+        if seen[function] != wanted.get(function, 0):
+            print(f"{function} branches at {seen[function]} places, listed {wanted.get(function, 0)}")
+    return 1 if bad or seen != wanted else 0
+
+
+def main(words):
+    if len(words) == 3 and words[0] == "left" and words[2] in ("keep", "clear"):
+        return left(words[1], words[2])
+    if len(words) == 3 and words[0] == "branches":
+        return branches(*words[1:])
+    sys.exit(__doc__)
+
+
+if __name__ == "__main__":
+    sys.exit(main(sys.argv[1:]))

@@ -1,0 +1,17 @@
+-- The sizes and the key are those of settings that aren't refused.
+use Rattle.std.proofs.Common.{arith}
+use Rattle.end_objects.specs.Settings.{settings_of}
+use Rattle.end_objects.proofs.Taken.{peer_name, peer_other, first_key_size, first_key_fits}
+use Rattle.end_objects.proofs.settings.credential.Goals as goal
+
+pub of-requires : goal.of-requires
+of-requires c = let size = peer_name (settings_of c.args.settings.now) c.requires.taken in grind (arith, size)
+
+pub accepts-requires : goal.accepts-requires
+accepts-requires c = peer_other (settings_of c.args.settings.now) c.requires.taken
+
+pub of-requires-2 : goal.of-requires-2
+of-requires-2 c = let size = first_key_size (settings_of c.args.settings.now) c.requires.taken in grind (arith, size)
+
+pub returns-clause-key : goal.returns-clause-key
+returns-clause-key c = let fits = first_key_fits (settings_of c.args.settings.now) c.requires.taken in grind (arith, fits)

@@ -1,0 +1,192 @@
+//! Why the settings of an end are refused.
+
+ghost use Rattle.std.specs.Prelude.{◌≡◌, ◌≤◌, None, IsTrue};
+ghost use Rattle.login_setup.specs.Setup.{are_kinds};
+ghost use Rattle.end_objects.specs.Settings.{settings_of, kinds_of, key_of};
+ghost use Rattle.end_objects.specs.Soundness.{serves};
+ghost use Rattle.end_objects.specs.Refusals.{has_other_size, has_gap, has_bad_methods, has_bad_suites, is_name, has_keys, has_key_of_user, peer_refusal, server_refusal, retry_refusal, stand_alone_refusal, user_refusal, IsSoundOther};
+
+use crate::settings::{SETTINGS_SIZE, Settings, keyed_kinds, kinds_of, named_kinds, suites_of};
+use crate::soundness::{are_kinds, are_suites, fits};
+use eap_base::{GPSK_KIND, MAX_NAME, PSK_KIND, is_among};
+
+/// Why settings are refused. If several reasons apply, the first of them is the answer.
+#[derive(Clone, Copy, PartialEq, Eq, Debug)]
+pub enum Refusal {
+    /// The struct has another size than [`SETTINGS_SIZE`].
+    OtherSize,
+    /// A method is neither 47 nor 51, one stands twice, or a 0 stands before one; or a peer has neither a key nor a
+    /// method.
+    NoMethod,
+    /// A suite is neither 1 nor 2, one stands twice, or a 0 stands before one.
+    NoSuite,
+    /// The end's own name has no octet, or over 253.
+    BadName,
+    /// The other end's name has over 253 octets; or a user has none.
+    BadOther,
+    /// A key has another size than its method takes; a peer has none for one of its methods; a user has none at all,
+    /// or a server has one without a user.
+    BadKey,
+    /// A Request would be sent again over 10 times.
+    ManyRetries,
+}
+
+/// Whether the struct has another size.
+fn has_other_size(settings: &Settings) -> bool
+    ensures { result ≡ has_other_size (settings_of settings.now) }
+{
+    settings.size != SETTINGS_SIZE
+}
+
+/// Whether a 0 stands before another number.
+fn has_gap(field: &[u8; 2]) -> bool
+    ensures { result ≡ has_gap field.now }
+{
+    let [first, second] = *field;
+    first == 0 && second != 0
+}
+
+/// Whether the methods are others than the two, one stands twice, or a 0 stands before one.
+#[tactic(auto, unfolding(crate::specs::Refusals::has_bad_methods))]
+fn has_bad_methods(settings: &Settings) -> bool
+    ensures { result ≡ has_bad_methods (settings_of settings.now) }
+{
+    has_gap(&settings.methods) || !are_kinds(kinds_of(settings).as_slice())
+}
+
+/// Whether the suites are others than 1 and 2, one stands twice, or a 0 stands before one.
+#[tactic(auto, unfolding(crate::specs::Refusals::has_bad_suites))]
+fn has_bad_suites(settings: &Settings) -> bool
+    ensures { result ≡ has_bad_suites (settings_of settings.now) }
+{
+    has_gap(&settings.suites) || !are_suites(suites_of(settings).as_slice())
+}
+
+/// Whether a name has octets, and at most 253.
+fn is_name(name: &[u8]) -> bool
+    ensures { result ≡ is_name name.now }
+{
+    match name {
+        [] => false,
+        [_, ..] => name.len() <= MAX_NAME,
+    }
+}
+
+/// Whether the key fits the method or, where there is no octet of it, the method isn't wanted.
+fn serves(wanted: &[u8], kind: u8, key: &[u8]) -> bool
+    ensures { result ≡ serves wanted.now kind (key_of key.now) }
+{
+    match key {
+        [] => !is_among(wanted, kind),
+        [_, ..] => fits(kind, key),
+    }
+}
+
+/// Whether each key fits its method, and there is one for each of these methods.
+#[tactic(auto, unfolding(crate::specs::Refusals::has_keys))]
+fn has_keys(wanted: &[u8], settings: &Settings) -> bool
+    ensures { result ≡ has_keys wanted.now (settings_of settings.now) }
+{
+    serves(wanted, PSK_KIND, settings.psk_key) && serves(wanted, GPSK_KIND, settings.gpsk_key)
+}
+
+/// Whether there is a key exactly where there is a user.
+#[tactic(auto, unfolding(crate::specs::Refusals::has_key_of_user))]
+fn has_key_of_user(settings: &Settings) -> bool
+    ensures { result ≡ has_key_of_user (settings_of settings.now) }
+{
+    settings.other.is_empty() == keyed_kinds(settings).is_empty()
+}
+
+/// The first reason, in the order of [`Refusal`], for which a peer refuses these settings.
+#[tactic(auto, using(crate::proofs::Taken::peer_kinds), unfolding(crate::specs::Refusals::peer_refusal))]
+pub fn peer_refusal(settings: &Settings) -> Option<Refusal>
+    ensures refused { result ≡ peer_refusal (settings_of settings.now) }
+    ensures kinds { result ≡ None → IsTrue (are_kinds (kinds_of (settings_of settings.now))) }
+{
+    if has_other_size(settings) {
+        Some(Refusal::OtherSize)
+    } else if has_bad_methods(settings) || named_kinds(settings).is_empty() {
+        Some(Refusal::NoMethod)
+    } else if has_bad_suites(settings) {
+        Some(Refusal::NoSuite)
+    } else if !is_name(settings.name) {
+        Some(Refusal::BadName)
+    } else if settings.other.len() > MAX_NAME {
+        Some(Refusal::BadOther)
+    } else if !has_keys(kinds_of(settings).as_slice(), settings) {
+        Some(Refusal::BadKey)
+    } else {
+        None
+    }
+}
+
+/// The first reason, in the order of [`Refusal`], for which a server refuses these settings. It needs no user, and no
+/// key for each of its methods.
+#[tactic(auto, using(crate::proofs::Taken::server_kinds, crate::proofs::Taken::server_other), unfolding(crate::specs::Refusals::server_refusal))]
+pub fn server_refusal(settings: &Settings) -> Option<Refusal>
+    ensures refused { result ≡ server_refusal (settings_of settings.now) }
+    ensures kinds { result ≡ None → IsTrue (are_kinds (kinds_of (settings_of settings.now))) }
+    ensures other { result ≡ None → IsSoundOther (settings_of settings.now) }
+{
+    if has_other_size(settings) {
+        Some(Refusal::OtherSize)
+    } else if has_bad_methods(settings) {
+        Some(Refusal::NoMethod)
+    } else if has_bad_suites(settings) {
+        Some(Refusal::NoSuite)
+    } else if !is_name(settings.name) {
+        Some(Refusal::BadName)
+    } else if settings.other.len() > MAX_NAME {
+        Some(Refusal::BadOther)
+    } else if !has_keys(&[], settings) || !has_key_of_user(settings) {
+        Some(Refusal::BadKey)
+    } else {
+        None
+    }
+}
+
+/// Why MaxRetrans of RFC 4137 is refused: it is over 10.
+pub fn retry_refusal(max_retrans: u8) -> Option<Refusal>
+    ensures refused { result ≡ retry_refusal max_retrans }
+    ensures few { result ≡ None → max_retrans ≤ 10 }
+{
+    if max_retrans > 10 {
+        Some(Refusal::ManyRetries)
+    } else {
+        None
+    }
+}
+
+/// The first reason, in the order of [`Refusal`], for which a stand-alone server refuses these settings with this
+/// MaxRetrans of RFC 4137.
+#[tactic(auto, unfolding(crate::specs::Refusals::stand_alone_refusal))]
+pub fn stand_alone_refusal(settings: &Settings, max_retrans: u8) -> Option<Refusal>
+    ensures refused { result ≡ stand_alone_refusal (settings_of settings.now) max_retrans }
+    ensures taken { result ≡ None → server_refusal (settings_of settings.now) ≡ None }
+    ensures kinds { result ≡ None → IsTrue (are_kinds (kinds_of (settings_of settings.now))) }
+    ensures few { result ≡ None → max_retrans ≤ 10 }
+{
+    match server_refusal(settings) {
+        Some(refusal) => Some(refusal),
+        None => retry_refusal(max_retrans),
+    }
+}
+
+/// The first reason, in the order of [`Refusal`], for which these settings give a server no user: of them the size, the
+/// other end's name and the keys are looked at.
+#[tactic(auto, using(crate::proofs::Taken::user_other), unfolding(crate::specs::Refusals::user_refusal))]
+pub fn user_refusal(settings: &Settings) -> Option<Refusal>
+    ensures refused { result ≡ user_refusal (settings_of settings.now) }
+    ensures other { result ≡ None → IsSoundOther (settings_of settings.now) }
+{
+    if has_other_size(settings) {
+        Some(Refusal::OtherSize)
+    } else if !is_name(settings.other) {
+        Some(Refusal::BadOther)
+    } else if !has_keys(&[], settings) || keyed_kinds(settings).is_empty() {
+        Some(Refusal::BadKey)
+    } else {
+        None
+    }
+}

@@ -1,0 +1,96 @@
+//! What an end holds after a method that succeeded.
+
+ghost use Rattle.std.specs.Prelude.{◌≡◌, option_map};
+ghost use Rattle.end_objects.specs.Objects.{peer_object_shown, server_object_shown};
+ghost use Rattle.tuvaddri_c.specs.Ends.{nonces_of_peer, nonces_of_server, end_reports, end_nonces, key_in, end_key};
+
+use crate::session::End;
+use eap_base::{GPSK_KIND, Secret};
+use eap_method::{PeerMethod, Report, ServerMethod};
+use end_objects::{Nonces, PeerObject, ServerObject};
+use login_setup::Users;
+
+/// The report.
+pub fn report_of(end: &End) -> Option<Report>
+    ensures { result ≡ end_reports end.now }
+{
+    match end {
+        End::Closed => None,
+        End::PeerMethod(object, _) => object.report(),
+        End::ServerMethod(object, _) => object.report(),
+        End::Peer(machine) => machine.report(),
+        End::Server(machine) => machine.report(),
+        End::Backend(machine) => machine.report(),
+        End::Pass(_) => None,
+    }
+}
+
+/// The nonces of a peer's selected method.
+fn nonces_of_peer(selected: Option<&PeerObject>) -> Option<Nonces>
+    ensures { result ≡ nonces_of_peer (option_map (λ o. peer_object_shown o.now) selected.entry) }
+{
+    match selected {
+        None => None,
+        Some(object) => object.nonces(),
+    }
+}
+
+/// The nonces of a server's current method.
+fn nonces_of_server(current: Option<&ServerObject>) -> Option<Nonces>
+    ensures { result ≡ nonces_of_server (option_map (λ o. server_object_shown o.now) current.entry) }
+{
+    match current {
+        None => None,
+        Some(object) => object.nonces(),
+    }
+}
+
+/// The nonces.
+pub fn nonces_of(end: &End) -> Option<Nonces>
+    ensures { result ≡ end_nonces end.now }
+{
+    match end {
+        End::Closed => None,
+        End::PeerMethod(object, _) => object.nonces(),
+        End::ServerMethod(object, _) => object.nonces(),
+        End::Peer(machine) => nonces_of_peer(machine.selected()),
+        End::Server(machine) => nonces_of_server(machine.current()),
+        End::Backend(machine) => nonces_of_server(machine.current()),
+        End::Pass(_) => None,
+    }
+}
+
+/// The key for EAP-GPSK of the user of this name.
+fn key_in(users: &Users, name: &[u8]) -> Option<Secret>
+    ensures { result ≡ key_in users.now name.now }
+{
+    match users.find(name, GPSK_KIND) {
+        None => None,
+        Some(user) => Some(user.psk.copy()),
+    }
+}
+
+/// The shared key for EAP-GPSK, a server's for the peer of this name.
+pub fn key_of(end: &End, name: &[u8]) -> Option<Secret>
+    ensures { result ≡ end_key end.now name.now }
+{
+    match end {
+        End::Closed => None,
+        End::PeerMethod(_, key) => Some(key.copy()),
+        End::ServerMethod(_, known) => key_in(&known.users, name),
+        End::Peer(machine) => copy_of(&machine.setup().psk51),
+        End::Server(machine) => key_in(&machine.setup().users, name),
+        End::Backend(machine) => key_in(&machine.setup().users, name),
+        End::Pass(_) => None,
+    }
+}
+
+/// An equal key, if there is one.
+fn copy_of(key: &Option<Secret>) -> Option<Secret>
+    ensures { result ≡ key.now }
+{
+    match key {
+        None => None,
+        Some(key) => Some(key.copy()),
+    }
+}
