@@ -7,8 +7,8 @@ use Rattle.text_tables.specs.Words.{is_printable}
 use Rattle.text_tables.specs.Users.{with_user}
 use Rattle.request_text.specs.Captures.{Capture, CaptureLine, read_line}
 use Rattle.text_tables.specs.declared.fault.LineFault.{LineFault}
-use Rattle.request_text.specs.declared.capture.CapturePhase.{CapturePhase}
-use Rattle.request_text.specs.declared.capture.CapturePhase.TheVariants as phase
+use Rattle.text_tables.specs.declared.phase.Phase.{Phase}
+use Rattle.text_tables.specs.declared.phase.Phase.TheVariants as phase
 use Rattle.request_text.proofs.CaptureSteps.{Follows, Header, Passed, NewUser, AllUsers, NewPacket, AllPackets, line_follows}
 use Rattle.text_tables.proofs.Adding.{with_user-all}
 use Rattle.capture_check.specs.Heard.{Captured}
@@ -21,10 +21,10 @@ use Rattle.capture_commands.specs.CheckSteps.{begun, silent_step, packet_step, i
 use Rattle.capture_commands.specs.declared.check.Check.{Check}
 
 -- before the line `packets` there is no packet
-abbrev pub IsEarly : CapturePhase → List Captured → Type 0
+abbrev pub IsEarly : Phase → List Captured → Type 0
 IsEarly phase.Unread before = before ≡ []
-IsEarly phase.Users before = before ≡ []
-IsEarly phase.Packets before = Unit {0}
+IsEarly phase.Settings before = before ≡ []
+IsEarly phase.Events before = Unit {0}
 IsEarly phase.Ended before = Unit {0}
 
 -- and each name is printable
@@ -57,23 +57,23 @@ no_packets : (users others : List User) (before : List Captured) → before ≡ 
 no_packets users others before e = rw (e, kept_of_none users, kept_of_none others) refl
 
 module _ (users : List User) (before : List Captured) (findings : ℕ) where
-  abbrev at : CapturePhase → CheckNow
+  abbrev at : Phase → CheckNow
   at p = record { reader = record { phase = p; users = users }; before = before; findings = findings }
 
-  follows_alike : (p : CapturePhase) (out : CaptureLine) → Follows users p out → IsOrderly (at p) →
+  follows_alike : (p : Phase) (out : CaptureLine) → Follows users p out → IsOrderly (at p) →
       StepsAlike (at p) (item_took (at p) out.after out.item) (item_step (kept_in (at p)) out.after out.item)
   follows_alike _ _ Header h = record {
-    alike = silent_alike (at phase.Unread) (record { phase = phase.Users; users = [] }) (no_packets users [] before (h.early));
+    alike = silent_alike (at phase.Unread) (record { phase = phase.Settings; users = [] }) (no_packets users [] before (h.early));
     orderly = record { early = h.early; names = All-nil _ };
   }
   follows_alike _ _ (Passed p) h = record { alike = refl; orderly = h }
   follows_alike _ _ (NewUser user printable) h = record {
-    alike = silent_alike (at phase.Users) (record { phase = phase.Users; users = with_user users user }) (no_packets users (with_user users user) before (h.early));
+    alike = silent_alike (at phase.Settings) (record { phase = phase.Settings; users = with_user users user }) (no_packets users (with_user users user) before (h.early));
     orderly = record { early = h.early; names = with_user-all (λ (u : User). is_printable u.name ≡ true) users user (h.names) printable };
   }
   follows_alike _ _ AllUsers h = record { alike = refl; orderly = record { early = tt; names = h.names } }
   follows_alike _ _ (NewPacket to_peer octets) h = record {
-    alike = packet_alike (at phase.Packets) (record { phase = phase.Packets; users = users }) to_peer octets refl;
+    alike = packet_alike (at phase.Events) (record { phase = phase.Events; users = users }) to_peer octets refl;
     orderly = record { early = tt; names = h.names };
   }
   follows_alike _ _ AllPackets h = record { alike = refl; orderly = record { early = tt; names = h.names } }

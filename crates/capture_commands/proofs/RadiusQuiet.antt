@@ -18,7 +18,7 @@ use Rattle.answer_text.proofs.PlainWords.{either_within, hex_within}
 use Rattle.command_driver.specs.Commands.{Took}
 use Rattle.command_driver.proofs.Quiet.{IsQuiet, IsQuietLine, quiet_answer}
 use Rattle.capture_commands.specs.Radius.{hex_line, word_line, packet_line, read_text, kind_word, judgement_word, judged}
-use Rattle.capture_commands.specs.Radius.{reply_took, read_took, item_took, with_phase, line_took}
+use Rattle.capture_commands.specs.Radius.{reply_took, read_took, item_took, line_took}
 use Rattle.capture_commands.specs.Radius.{radius_took, radius_end, radius_closing, nothing_asked, radius_answer}
 use Rattle.capture_commands.specs.declared.radius.KeptRequest.{KeptRequest}
 use Rattle.capture_commands.specs.declared.radius.Judgement.{Judgement}
@@ -99,11 +99,11 @@ item_quiet c item.End = record { text = refl; refusing = tt; after = tt }
 
 line_quiet : (c : Radius) (x : Result RadiusLine LineFault) → IsQuietRadius (line_took c x)
 line_quiet c (Err fault) = record { text = refl; refusing = tt; after = tt }
-line_quiet c (Ok out) = item_quiet (with_phase c out.after) out.item
+line_quiet c (Ok out) = item_quiet (record c { reader = out.after }) out.item
 
 took_quiet : (c : Radius) (l : List ℕ) → IsQuietRadius (radius_took c l)
 unfolding radius_took
-took_quiet c l = line_quiet c (read_line c.reader.phase l)
+took_quiet c l = line_quiet c (read_line c.reader l)
 
 end_quiet : (x : Result (Unit {0}) LineFault) → plain begins_tags true (radius_end x).text ≡ true
 end_quiet (Err fault) = refl
@@ -111,7 +111,7 @@ end_quiet (Ok done) = refl
 
 closing_quiet : (c : Radius) → plain begins_tags true (radius_closing c).text ≡ true
 unfolding radius_closing
-closing_quiet c = end_quiet (finish_of c.reader.phase)
+closing_quiet c = end_quiet (finish_of c.reader)
 
 pub radius_quiet : (octets : List ℕ) → IsQuiet begins_tags (radius_answer octets)
 radius_quiet octets =

@@ -4,7 +4,7 @@ use Rattle.text_tables.specs.Words.{fault_word}
 use Rattle.request_text.specs.Captures.{Capture, CaptureLine, read_line, finish_of}
 use Rattle.request_text.specs.declared.capture.CaptureItem.{CaptureItem}
 use Rattle.request_text.specs.declared.capture.CaptureItem.TheVariants as item
-use Rattle.request_text.specs.declared.capture.CapturePhase.TheVariants.{Unread}
+use Rattle.text_tables.specs.declared.phase.Phase.TheVariants.{Unread}
 use Rattle.text_tables.specs.declared.fault.LineFault.{LineFault}
 use Rattle.capture_check.specs.Finding.{finding_in}
 use Rattle.capture_check.specs.Kept.{kept_of}

@@ -12,8 +12,7 @@ use Rattle.radius_carry.specs.declared.cause.RadiusCause.{RadiusCause}
 use Rattle.text_tables.specs.Words.{fault_word}
 use Rattle.request_text.specs.Radius.{RadiusLine, read_line, finish_of}
 use Rattle.text_tables.specs.declared.fault.LineFault.{LineFault}
-use Rattle.request_text.specs.declared.radius.RadiusPhase.{RadiusPhase}
-use Rattle.request_text.specs.declared.radius.RadiusPhase.TheVariants.{Unread}
+use Rattle.text_tables.specs.declared.phase.Phase.TheVariants.{Unread}
 use Rattle.request_text.specs.declared.radius_line.ReplyKind.{ReplyKind}
 use Rattle.request_text.specs.declared.radius_line.ReplyKind.TheVariants as kind
 use Rattle.request_text.specs.declared.radius_line.RadiusItem.{RadiusItem}
@@ -77,9 +76,6 @@ kept_after secret asked packet =
 
 -- ---- what a line brings
 
-abbrev pub with_phase : Radius → RadiusPhase → Radius
-with_phase c phase = record c { reader = record { phase = phase } }
-
 abbrev pub wrote : List ℕ → Radius → Took Radius
 wrote text c = record { text = text; ruling = goes; after = c }
 
@@ -109,10 +105,10 @@ item_took c item.End = wrote [] c
 
 abbrev pub line_took : Radius → Result RadiusLine LineFault → Took Radius
 line_took c (Err fault) = record { text = []; ruling = refuses (fault_word fault) status.Refused; after = c }
-line_took c (Ok line) = item_took (with_phase c line.after) line.item
+line_took c (Ok line) = item_took (record c { reader = line.after }) line.item
 
 unfoldable pub radius_took : Radius → List ℕ → Took Radius
-radius_took c line = line_took c (read_line c.reader.phase line)
+radius_took c line = line_took c (read_line c.reader line)
 
 -- the end of the input
 abbrev pub radius_end : Result (Unit {0}) LineFault → Closing
@@ -120,7 +116,7 @@ radius_end (Err fault) = record { text = []; closed = misses (fault_word fault) 
 radius_end (Ok done) = record { text = []; closed = ends status.Done }
 
 unfoldable pub radius_closing : Radius → Closing
-radius_closing c = radius_end (finish_of c.reader.phase)
+radius_closing c = radius_end (finish_of c.reader)
 
 -- no line finds memory wanting
 abbrev pub radius_lacks : Radius → List ℕ → Bool

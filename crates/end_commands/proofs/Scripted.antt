@@ -4,8 +4,8 @@ use Rattle.std.specs.Prelude.{codes}
 use Rattle.octet_io.specs.Lines.{Lines, ended, too_long, too_much, line, lines}
 use Rattle.text_tables.specs.declared.fault.LineFault.{LineFault}
 use Rattle.scenario_text.specs.Reading.{no_settings, with_setting}
-use Rattle.scenario_text.specs.declared.scenario.Phase.{Phase}
-use Rattle.scenario_text.specs.declared.scenario.Phase.TheVariants as phase
+use Rattle.text_tables.specs.declared.phase.Phase.{Phase}
+use Rattle.text_tables.specs.declared.phase.Phase.TheVariants as phase
 use Rattle.scenario_text.specs.declared.settings.Settings.{Settings}
 use Rattle.end_pipe.proofs.EndSteps.{Follows, Header, Passed, NewSetting, AllSet, NewInput, AllRead, line_follows}
 use Rattle.end_pipe.specs.EndReading.{EndReading, ReadLine, finish_of, lacks_some, read_line}

@@ -1,8 +1,6 @@
 -- What has been read of an end's text is within its limits.
-use Rattle.std.proofs.Common.{◌≡◌, ℕ, ◌≤◌, false, List, Option, Some, None, IfSome, IsOk, Result, Ok, Err, is_err, refl, sym, subst, lit≤, unwrap_or}
-use Rattle.text_tables.proofs.Fitting.{fits, unless-ok}
+use Rattle.std.proofs.Common.{◌≡◌, ℕ, ◌≤◌, false, List, Option, Some, None, IfSome, IsOk, Result, Ok, Err, is_err, refl, subst, lit≤, unwrap_or}
 use Rattle.text_tables.specs.Fits.{Fits}
-use Rattle.text_tables.specs.Rows.{fault_of_words}
 use Rattle.text_tables.specs.declared.fault.LineFault.{LineFault}
 use Rattle.scenario_text.proofs.ValidReading as scenario
 use Rattle.scenario_text.specs.Contents as item
@@ -11,7 +9,7 @@ use Rattle.scenario_text.specs.Reading.{peer_setup_of, server_setup_of}
 use Rattle.scenario_text.specs.Valid.{IsValidSetting}
 use Rattle.scenario_text.specs.Valid as valid
 use Rattle.scenario_text.specs.declared.settings.Settings.{Settings}
-use Rattle.end_pipe.specs.EndContents.{Entry, entry_for, entry_of, entry_with, setting_entry}
+use Rattle.end_pipe.specs.EndContents.{Entry, entry_of, entry_with, setting_entry}
 use Rattle.end_pipe.specs.EndContents as entry
 use Rattle.end_pipe.specs.EndReading.{AreWhole, IsValidTold, lacks_some}
 use Rattle.end_pipe.specs.EndTable.{row_of}
@@ -35,19 +33,13 @@ unfolding entry_of
 entry_of_valid (word.Setting keyword) ws h = setting_valid (item_of keyword ws) (scenario.item_of_valid keyword ws h)
 entry_of_valid other ws h = tt
 
-valid_entry : (k : EndWord) (ws : List (List ℕ)) (e : Entry) → Ok e ≡ entry_for k ws → IsValidEntry e
-unfolding entry_for
-valid_entry k ws e h =
-    let u = unless-ok (fault_of_words (row_of k).least (row_of k).fields ws) (entry_of k ws) e (sym h) in
-    subst IsValidEntry u.1 (entry_of_valid k ws (fits (row_of k) ws u.0))
-
 told_valid : (it : told.EndEntry) (input : EndInput) → IsValidEntry (entry_with it input) → IsValidTold it
 told_valid (told.TheVariants.Set v) input h = h
 told_valid other input h = tt
 
--- what is told of a line without a fault
-pub read_valid : (k : EndWord) (ws : List (List ℕ)) (it : told.EndEntry) (input : EndInput) → entry_for k ws ≡ Ok (entry_with it input) → IsValidTold it
-read_valid k ws it input e = told_valid it input (valid_entry k ws (entry_with it input) (sym e))
+-- what is told of a line whose words fit its row
+pub read_valid : (k : EndWord) (ws : List (List ℕ)) (it : told.EndEntry) (input : EndInput) → Fits (row_of k) ws → entry_of k ws ≡ entry_with it input → IsValidTold it
+read_valid k ws it input h e = told_valid it input (subst IsValidEntry e (entry_of_valid k ws h))
 
 there : {A : Type 0} (r : Result A LineFault) → is_err r ≡ false → IsOk r
 there (Ok a) e = refl

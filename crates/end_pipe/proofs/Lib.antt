@@ -1,5 +1,3 @@
--- A line of an end's text is refused with the first fault that it has where it stands, and taken where it has none.
-pub mod EndJudging
 -- What a line can say at each place of an end's text, and how far the text has come then.
 pub mod EndSteps
 -- What has been read of an end's text is within its limits.

@@ -6,14 +6,14 @@ ghost use Rattle.text_tables.specs.Fits.{Fits};
 ghost use Rattle.scenario_text.specs.Entries.{item_of};
 ghost use Rattle.scenario_text.specs.Keywords as scenario;
 ghost use Rattle.end_pipe.specs.EndTable.{row_of};
-ghost use Rattle.end_pipe.specs.EndContents.{entry_with, entered, entry_of, entry_for, setting_entry};
+ghost use Rattle.end_pipe.specs.EndContents.{entry_with, entry_of, setting_entry};
 ghost use Rattle.end_pipe.specs.declared.input.EndInput.{EndInput};
 
 use crate::input::EndInput;
 use crate::table::EndWord;
 use login_setup::Event;
 use scenario_text::{Entry, Keyword, Setting, item_of};
-use text_tables::{LineFault, fault_of_words, octets, word_in};
+use text_tables::{octets, word_in};
 
 /// What a line of an end's text holds after its header.
 #[derive(Drop)]
@@ -25,25 +25,9 @@ pub enum EndEntry {
     End,
 }
 
-/// What a keyword says with the words of its line, or their first fault. An input is written to `input`.
-#[tactic(auto, unfolding(crate::specs::EndContents::entry_for))]
-pub fn read_end_entry(
-    word: EndWord,
-    line: &[u8],
-    input: &mut EndInput,
-) -> Result<EndEntry, LineFault>
-    ensures { entry_for word (words line.now) ≡ entered result input.new }
-{
-    let row = word.row();
-    match fault_of_words(row.least, row.fields, line) {
-        Some(fault) => Err(fault),
-        None => Ok(entry_of(word, line, input)),
-    }
-}
-
 /// What a keyword says with the words of its line, which fit its row.
 #[tactic(auto, unfolding(crate::specs::EndContents::entry_of))]
-fn entry_of(word: EndWord, line: &[u8], input: &mut EndInput) -> EndEntry
+pub fn entry_of(word: EndWord, line: &[u8], input: &mut EndInput) -> EndEntry
     requires { Fits (row_of word) (words line.now) }
     ensures { entry_of word (words line.now) ≡ entry_with result input.new }
 {

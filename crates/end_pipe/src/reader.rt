@@ -1,23 +1,20 @@
 //! Reading an end's text, line by line: its header, its settings, the line `events`, its inputs, the line `end`. After
 //! the header an empty line and one that begins with `#` are passed over.
 
-ghost use Rattle.std.specs.Prelude.{◌≡◌, ◌≤◌, false, unwrap_or, IfOk, OnErr, Ok};
-ghost use Rattle.text_tables.specs.Words.{words};
+ghost use Rattle.std.specs.Prelude.{◌≡◌, ◌≤◌, unwrap_or, IfOk, OnErr};
+ghost use Rattle.text_tables.specs.Texts.{answered};
 ghost use Rattle.scenario_text.specs.Reading.{peer_setup_of, server_setup_of};
 ghost use Rattle.scenario_text.specs.Valid.{IsValidPeer, IsValidServer};
-ghost use Rattle.end_pipe.specs.EndContents.{entry_with};
-ghost use Rattle.end_pipe.specs.EndReading.{answered, HasSetup, IsValidTold, came_before, is_crowded, is_missing, lacks_some, may_stand, read_words, taken, fault_of_entry, finish_of};
+ghost use Rattle.end_pipe.specs.EndReading.{HasSetup, finish_of, item_with, lacks_some};
 ghost use Rattle.end_pipe.specs.EndReading as reading;
-ghost use Rattle.end_pipe.specs.declared.input.EndInput.{EndInput};
-ghost use Rattle.scenario_text.specs.declared.scenario.Phase.TheVariants as phase;
 
-use crate::entry::{EndEntry, read_end_entry};
+use crate::entry::{EndEntry, entry_of};
 use crate::input::EndInput;
-use crate::table::{EndWord, Role};
+use crate::table::{EndWord, Role, words_of};
 use login_setup::{PeerSetup, ServerSetup};
-use scenario_text::{Phase, Settings};
+use scenario_text::Settings;
 use std::marker::Model;
-use text_tables::{LineFault, is_comment, is_printable_line};
+use text_tables::{LineFault, Part, Phase, Text, read_line};
 
 /// What a line of an end's text says.
 #[derive(Clone, Copy)]
@@ -67,14 +64,11 @@ impl EndReader {
     /// line meets refuses it, and then the reader is as it was.
     #[tactic(auto, unfolding(crate::specs::EndReading::read_line))]
     pub fn line(&mut self, line: &[u8], input: &mut EndInput) -> Result<EndItem, LineFault>
-        ensures read { reading.read_line self.old line.now ≡ answered result self.new input.new }
+        ensures read { reading.read_line self.old line.now ≡ answered item_with result self.new input.new }
         ensures ready { IfOk result (λ item. HasSetup item self.new) }
         ensures unchanged { OnErr result (self.new ≡ self.old) }
     {
-        match self.phase {
-            Phase::Unread => self.read_header(line),
-            _ => self.read_body(line, input),
-        }
+        read_line(self, line, input)
     }
 
     /// The peer's settings, each within its limits, or `Missing` where a needed one has not come.
@@ -113,124 +107,7 @@ impl EndReader {
     pub fn finish(&self) -> Result<(), LineFault>
         ensures { result ≡ finish_of self.now }
     {
-        match self.phase {
-            Phase::Unread => Err(LineFault::NoHeader),
-            Phase::Ended => Ok(()),
-            _ => Err(LineFault::Missing),
-        }
-    }
-
-    /// Reads line 1.
-    fn read_header(&mut self, line: &[u8]) -> Result<EndItem, LineFault>
-        ensures read { (input : EndInput) → reading.read_header self.old.role line.now ≡ answered result self.new input }
-        ensures ready { IfOk result (λ item. HasSetup item self.new) }
-        ensures unchanged { OnErr result (self.new ≡ self.old) }
-    {
-        if line != b"eap-end 1".as_slice() {
-            return Err(LineFault::NoHeader);
-        }
-        self.phase = Phase::Settings;
-        self.settings = Settings::new();
-        Ok(EndItem::Nothing)
-    }
-
-    /// Reads a line after the first.
-    fn read_body(&mut self, line: &[u8], input: &mut EndInput) -> Result<EndItem, LineFault>
-        ensures read { reading.read_body self.old.role self.old.phase self.old.settings line.now ≡ answered result self.new input.new }
-        ensures ready { IfOk result (λ item. HasSetup item self.new) }
-        ensures unchanged { OnErr result (self.new ≡ self.old) }
-    {
-        if is_comment(line) {
-            return Ok(EndItem::Nothing);
-        }
-        if !is_printable_line(line) {
-            return Err(LineFault::BadWord);
-        }
-        match EndWord::of_line(self.role, line) {
-            None => Err(LineFault::BadWord),
-            Some(word) => self.read_words(word, line, input),
-        }
-    }
-
-    /// Reads what follows a keyword.
-    fn read_words(
-        &mut self,
-        word: EndWord,
-        line: &[u8],
-        input: &mut EndInput,
-    ) -> Result<EndItem, LineFault>
-        ensures read { read_words self.old.role self.old.phase self.old.settings word (words line.now) ≡ answered result self.new input.new }
-        ensures ready { IfOk result (λ item. HasSetup item self.new) }
-        ensures unchanged { OnErr result (self.new ≡ self.old) }
-    {
-        if self.is_crowded(word) {
-            return Err(LineFault::BadCount);
-        }
-        match read_end_entry(word, line, input) {
-            Err(fault) => Err(fault),
-            Ok(entry) => self.take(entry),
-        }
-    }
-
-    /// True where the line gives a user and 16 are there.
-    fn is_crowded(&self, word: EndWord) -> bool
-        ensures { result ≡ is_crowded self.now.settings word }
-    {
-        match word {
-            EndWord::Setting(keyword) => self.settings.is_crowded(keyword),
-            _ => false,
-        }
-    }
-
-    /// Takes what a line says, unless it may not stand where it does.
-    #[tactic(auto, unfolding(crate::specs::EndReading::take))]
-    fn take(&mut self, entry: EndEntry) -> Result<EndItem, LineFault>
-        requires { IsValidTold entry }
-        ensures read { (input : EndInput) → reading.take self.old.role self.old.phase self.old.settings (entry_with entry input) ≡ answered result self.new input }
-        ensures ready { IfOk result (λ item. HasSetup item self.new) }
-        ensures unchanged { OnErr result (self.new ≡ self.old) }
-    {
-        match self.fault_of(&entry) {
-            Some(fault) => Err(fault),
-            None => Ok(self.add(entry)),
-        }
-    }
-
-    /// The fault of what a line says where it stands: a setting that came before is `Repeated`, also where no setting
-    /// may stand.
-    #[tactic(auto, unfolding(crate::specs::EndReading::fault_of_entry))]
-    fn fault_of(&self, entry: &EndEntry) -> Option<LineFault>
-        ensures { (input : EndInput) → result ≡ fault_of_entry self.now.role self.now.phase self.now.settings (entry_with entry.now input) }
-    {
-        if self.came_before(entry) {
-            Some(LineFault::Repeated)
-        } else if self.is_missing(entry) {
-            Some(LineFault::Missing)
-        } else if self.may_stand(entry) {
-            None
-        } else {
-            Some(LineFault::Order)
-        }
-    }
-
-    /// True for a setting that came before.
-    fn came_before(&self, entry: &EndEntry) -> bool
-        ensures { (input : EndInput) → result ≡ came_before self.now.settings (entry_with entry.now input) }
-    {
-        match entry {
-            EndEntry::Set(setting) => self.settings.has(setting),
-            _ => false,
-        }
-    }
-
-    /// True for the line `events` where a needed setting has not come.
-    fn is_missing(&self, entry: &EndEntry) -> bool
-        ensures { (input : EndInput) → result ≡ is_missing self.now.role self.now.settings (entry_with entry.now input) }
-    {
-        match entry {
-            EndEntry::Events => self.lacks_some(),
-            _ => false,
-        }
+        self.phase.finish()
     }
 
     /// True where a setting that the end needs has not come. (By itself, so that no other line makes room for a setup.)
@@ -242,24 +119,87 @@ impl EndReader {
             Role::Server => self.settings.server().is_err(),
         }
     }
+}
 
-    /// Whether settings, or inputs, may stand here.
-    fn may_stand(&self, entry: &EndEntry) -> bool
-        ensures { (input : EndInput) → result ≡ may_stand self.now.phase (entry_with entry.now input) }
-    {
-        match entry {
-            EndEntry::Set(_) | EndEntry::Events => self.phase == Phase::Settings,
-            EndEntry::Comes | EndEntry::End => self.phase == Phase::Events,
+impl Text for EndReader {
+    ghost use Rattle.end_pipe.specs.EndContents.{Entry, entry_with};
+    ghost use Rattle.end_pipe.specs.EndReading as reading;
+    ghost use Rattle.end_pipe.specs.EndReading.{HasSetup, IsValidTold, end, item_with};
+
+    type Word = EndWord;
+
+    type Entry = EndEntry;
+
+    type Event = EndInput;
+
+    type Item = EndItem;
+
+    ghost Whole = { Entry };
+
+    ghost Said = { reading.Item };
+
+    ghost table = { end };
+
+    ghost whole = { entry_with };
+
+    ghost says = { item_with };
+
+    ghost is_valid = { IsValidTold };
+
+    ghost is_so = { HasSetup };
+
+    fn phase(&self) -> Phase {
+        self.phase
+    }
+
+    fn begin(&mut self, line: &[u8]) -> bool {
+        if line != b"eap-end 1".as_slice() {
+            return false;
+        }
+        self.phase = Phase::Settings;
+        self.settings = Settings::new();
+        true
+    }
+
+    fn keywords(&self) -> &[EndWord] {
+        words_of(self.role)
+    }
+
+    fn is_crowded(&self, word: EndWord) -> bool {
+        match word {
+            EndWord::Setting(keyword) => self.settings.is_crowded(keyword),
+            _ => false,
         }
     }
 
-    /// Adds what a line says.
-    fn add(&mut self, entry: EndEntry) -> EndItem
-        requires valid { IsValidTold entry }
-        requires whole { (input : EndInput) → is_missing self.old.role self.old.settings (entry_with entry input) ≡ false }
-        ensures read { (input : EndInput) → Ok (taken self.old.role self.old.phase self.old.settings (entry_with entry input)) ≡ answered (Ok result) self.new input }
-        ensures ready { HasSetup result self.new }
-    {
+    fn entry_of(word: EndWord, line: &[u8], input: &mut EndInput) -> EndEntry {
+        entry_of(word, line, input)
+    }
+
+    fn part(entry: &EndEntry) -> Part {
+        match entry {
+            EndEntry::Set(_) => Part::Setting,
+            EndEntry::Events => Part::Opening,
+            EndEntry::Comes => Part::Event,
+            EndEntry::End => Part::End,
+        }
+    }
+
+    fn came_before(&self, entry: &EndEntry) -> bool {
+        match entry {
+            EndEntry::Set(setting) => self.settings.has(setting),
+            _ => false,
+        }
+    }
+
+    fn is_missing(&self, entry: &EndEntry) -> bool {
+        match entry {
+            EndEntry::Events => self.lacks_some(),
+            _ => false,
+        }
+    }
+
+    fn add(&mut self, entry: EndEntry) -> EndItem {
         match entry {
             EndEntry::Set(setting) => {
                 self.settings.set(setting);
@@ -275,5 +215,9 @@ impl EndReader {
                 EndItem::End
             }
         }
+    }
+
+    fn nothing() -> EndItem {
+        EndItem::Nothing
     }
 }

@@ -1,12 +1,10 @@
 //! The table of the lines of an end's text: each keyword with what the words after it stand for.
 
 ghost use Rattle.std.specs.Prelude.{◌≡◌};
-ghost use Rattle.text_tables.specs.Words.{words};
-ghost use Rattle.text_tables.specs.Rows.{keyword_in};
 ghost use Rattle.end_pipe.specs.EndTable.{row_of, end_words};
 
 use scenario_text::Keyword;
-use text_tables::{Field, Row, word_in};
+use text_tables::{Field, Row, TableWord};
 
 /// Which end of a login a text is of.
 #[derive(Clone, Copy, PartialEq, Eq, Debug)]
@@ -62,13 +60,11 @@ const SERVER_WORDS: [EndWord; 12] = [
 
 const OCTETS: Field = Field::Hex { low: 0, high: 2000 };
 
-impl EndWord {
+impl TableWord for EndWord {
+    ghost row_of = { row_of };
+
     /// The keyword's row; that of a setting is its row in a scenario.
-    pub fn row(self) -> Row
-        ensures word { result.word.now ≡ (row_of self).word }
-        ensures least { result.least ≡ (row_of self).least }
-        ensures fields { result.fields.now ≡ (row_of self).fields }
-    {
+    fn row(self) -> Row {
         match self {
             EndWord::Setting(keyword) => keyword.row(),
             EndWord::Events => Row::new(b"events", 0, &[]),
@@ -80,22 +76,10 @@ impl EndWord {
             EndWord::End => Row::new(b"end", 0, &[]),
         }
     }
-
-    /// The keyword that a line begins with, if it is one of this end's text.
-    #[tactic(auto, unfolding(text_tables::specs::Rows::keyword_in))]
-    pub fn of_line(role: Role, line: &[u8]) -> Option<EndWord>
-        ensures { result ≡ keyword_in row_of (end_words role) (words line.now) }
-    {
-        let word = word_in(line, 0);
-        words_of(role)
-            .iter()
-            .copied()
-            .find(|keyword| word == keyword.row().word)
-    }
 }
 
 /// The keywords of this end's text.
-fn words_of(role: Role) -> &'static [EndWord]
+pub fn words_of(role: Role) -> &'static [EndWord]
     ensures { result.now ≡ end_words role }
 {
     match role {

@@ -1,13 +1,12 @@
 -- What a line asks for: it is refused with the first fault of its words, and taken where they have none.
-use Rattle.std.proofs.Common.{◌≡◌, ℕ, true, List, Option, Some, None, find, Result, Ok, Err, refl, sym, unwrap_or, subst}
+use Rattle.std.proofs.Common.{◌≡◌, ℕ, List, Option, Some, None, find, Result, Ok, Err, refl, sym, unwrap_or, subst}
 use Rattle.text_tables.specs.Words.{words}
 use Rattle.text_tables.specs.Fields.{◌>>=◌}
 use Rattle.text_tables.specs.Fits.{Fits}
-use Rattle.text_tables.specs.Rows.{faults, unless, fault_of_words, keyword_in, has_bad_word, line_has}
+use Rattle.text_tables.specs.Rows.{faults, unless, fault_of_words, keyword_in, first_word, line_has}
 use Rattle.text_tables.specs.declared.fault.LineFault.{LineFault}
-use Rattle.text_tables.specs.declared.fault.LineFault.TheVariants as fault
 use Rattle.text_tables.proofs.Fitting.{no_fault, unless-ok, faultless-fits}
-use Rattle.text_tables.proofs.Judging.{Begins, judges}
+use Rattle.text_tables.proofs.Judging.{Begins, bad_word, judges}
 use Rattle.request_text.specs.Keys.{row_of, requests, asked_of, asked_by, has_fault, HasSizes, key_line}
 use Rattle.request_text.specs.Laws.{RequestsAreJudged}
 use Rattle.request_text.specs.declared.key_line.KeyLine.{KeyLine}
@@ -24,9 +23,12 @@ pub asked_by_known : (line : List ℕ) (r : Request) → Begins row_of requests 
 unfolding asked_by line_has fault_of_words
 asked_by_known line r b = let p = b.printable in let q = b.found in rw (p, q) refl
 
-pub asked_by_unknown : (line : List ℕ) → has_bad_word row_of requests line ≡ true → asked_by line ≡ Err fault.BadWord
+pub asked_by_unknown : (line : List ℕ) (f : LineFault) → first_word row_of requests line ≡ Err f → asked_by line ≡ Err f
 unfolding asked_by line_has
-asked_by_unknown line h = rw h refl
+asked_by_unknown line f e =
+    let b = bad_word row_of requests line f e in
+    let bad = b.bad in
+    rw (bad, b.is) refl
 
 -- what is read has its sizes
 pub request_sizes : (line : List ℕ) (asked : KeyLine) → Ok asked ≡ asked_by line → HasSizes asked

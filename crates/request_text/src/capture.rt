@@ -1,18 +1,18 @@
 //! Reading a capture, line by line: its header, its users, the line `packets`, its packets, the line
 //! `end`. After the header an empty line and one that begins with `#` are passed over.
 
-ghost use Rattle.std.specs.Prelude.{◌≡◌, [], All, IsTrue, OnErr, Ok};
+ghost use Rattle.std.specs.Prelude.{◌≡◌, [], All, IsTrue, OnErr};
 ghost use Rattle.login_setup.specs.Setup.{fits_kind};
-ghost use Rattle.request_text.specs.Captures.{answered, HasKey, finish_of, is_crowded, came_before, may_stand, place_fault, taken, read_words, take};
+ghost use Rattle.request_text.specs.Captures.{finish_of};
 ghost use Rattle.request_text.specs.Captures as captures;
-ghost use Rattle.text_tables.specs.Words.{words};
-ghost use Rattle.request_text.specs.declared.capture.CapturePhase.TheVariants as phase;
+ghost use Rattle.text_tables.specs.Texts.{answered};
+ghost use Rattle.text_tables.specs.declared.phase.Phase.TheVariants as phase;
 
-use crate::capture_line::{CaptureEntry, CaptureWord, read_capture_entry, read_capture_word};
+use crate::capture_line::{CAPTURE_WORDS, CaptureEntry, CaptureWord, entry_of};
 use eap_base::Octets;
 use login_setup::Users;
 use std::marker::Model;
-use text_tables::{LineFault, add_user, is_comment};
+use text_tables::{LineFault, Part, Phase, Text, add_user, read_line};
 
 /// What a line of a capture says.
 #[derive(Drop)]
@@ -27,23 +27,10 @@ pub enum CaptureItem {
     End,
 }
 
-/// How far a capture has come.
-#[derive(Clone, Copy, PartialEq, Eq)]
-pub enum CapturePhase {
-    /// No line was read.
-    Unread,
-    /// The header was read: users may come.
-    Users,
-    /// The line `packets` was read: packets may come.
-    Packets,
-    /// The line `end` was read.
-    Ended,
-}
-
 /// Reads a capture. A refused line leaves the reader as it was.
 #[derive(Drop)]
 pub struct CaptureReader {
-    phase: CapturePhase,
+    phase: Phase,
     users: Users,
 }
 
@@ -65,7 +52,7 @@ impl CaptureReader {
         ensures { result ≡ record { phase = phase.Unread; users = [] } }
     {
         CaptureReader {
-            phase: CapturePhase::Unread,
+            phase: Phase::Unread,
             users: Users::new(),
         }
     }
@@ -74,13 +61,10 @@ impl CaptureReader {
     /// reader is as it was.
     #[tactic(auto, unfolding(crate::specs::Captures::read_line))]
     pub fn line(&mut self, line: &[u8]) -> Result<CaptureItem, LineFault>
-        ensures read { captures.read_line self.old line.now ≡ answered result self.new }
+        ensures read { captures.read_line self.old line.now ≡ answered (λ item after event. item) result self.new (tt {0}) }
         ensures unchanged { OnErr result (self.new ≡ self.old) }
     {
-        match self.phase {
-            CapturePhase::Unread => self.read_header(line),
-            _ => self.read_body(line),
-        }
+        read_line(self, line, &mut ())
     }
 
     /// The users that have come, at most 16. Each has a key of its method's size: 16 octets for EAP-PSK, 32
@@ -97,130 +81,104 @@ impl CaptureReader {
     pub fn finish(&self) -> Result<(), LineFault>
         ensures { result ≡ finish_of self.now }
     {
-        match self.phase {
-            CapturePhase::Unread => Err(LineFault::NoHeader),
-            CapturePhase::Ended => Ok(()),
-            _ => Err(LineFault::Missing),
-        }
+        self.phase.finish()
+    }
+}
+
+impl Text for CaptureReader {
+    ghost use Rattle.request_text.specs.Captures.{HasKey, capture};
+    ghost use Rattle.request_text.specs.declared.capture.CaptureItem.{CaptureItem};
+    ghost use Rattle.request_text.specs.declared.capture_line.CaptureEntry.{CaptureEntry};
+
+    type Word = CaptureWord;
+
+    type Entry = CaptureEntry;
+
+    type Event = ();
+
+    type Item = CaptureItem;
+
+    ghost Whole = { CaptureEntry };
+
+    ghost Said = { CaptureItem };
+
+    ghost table = { capture };
+
+    ghost whole = { λ entry event. entry };
+
+    ghost says = { λ item after event. item };
+
+    ghost is_valid = { HasKey };
+
+    ghost is_so = { λ item after. Unit {0} };
+
+    fn phase(&self) -> Phase {
+        self.phase
     }
 
-    /// Reads line 1.
-    fn read_header(&mut self, line: &[u8]) -> Result<CaptureItem, LineFault>
-        ensures read { captures.read_header line.now ≡ answered result self.new }
-        ensures unchanged { OnErr result (self.new ≡ self.old) }
-    {
+    fn begin(&mut self, line: &[u8]) -> bool {
         if line != b"eap-capture 1".as_slice() {
-            return Err(LineFault::NoHeader);
+            return false;
         }
-        self.phase = CapturePhase::Users;
+        self.phase = Phase::Settings;
         self.users = Users::new();
-        Ok(CaptureItem::Nothing)
+        true
     }
 
-    /// Reads a line after the first.
-    fn read_body(&mut self, line: &[u8]) -> Result<CaptureItem, LineFault>
-        ensures read { captures.read_body self.old.phase self.old.users line.now ≡ answered result self.new }
-        ensures unchanged { OnErr result (self.new ≡ self.old) }
-    {
-        if is_comment(line) {
-            return Ok(CaptureItem::Nothing);
-        }
-        match read_capture_word(line) {
-            Err(fault) => Err(fault),
-            Ok(word) => self.read_words(word, line),
-        }
+    fn keywords(&self) -> &[CaptureWord] {
+        &CAPTURE_WORDS
     }
 
-    /// Reads what follows a keyword.
-    fn read_words(&mut self, word: CaptureWord, line: &[u8]) -> Result<CaptureItem, LineFault>
-        ensures read { read_words self.old.phase self.old.users word (words line.now) ≡ answered result self.new }
-        ensures unchanged { OnErr result (self.new ≡ self.old) }
-    {
-        if self.is_crowded(word) {
-            return Err(LineFault::BadCount);
-        }
-        match read_capture_entry(word, line) {
-            Err(fault) => Err(fault),
-            Ok(entry) => self.take(entry),
-        }
-    }
-
-    /// True where the line gives a user and 16 are there.
-    fn is_crowded(&self, word: CaptureWord) -> bool
-        ensures { result ≡ is_crowded self.now.users word }
-    {
+    fn is_crowded(&self, word: CaptureWord) -> bool {
         match word {
             CaptureWord::User => self.users.as_slice().len() >= 16,
             _ => false,
         }
     }
 
-    /// Takes what a line says, unless it may not stand where it does.
-    #[tactic(auto, unfolding(crate::specs::Captures::take))]
-    fn take(&mut self, entry: CaptureEntry) -> Result<CaptureItem, LineFault>
-        requires { HasKey entry }
-        ensures read { take self.old.phase self.old.users entry ≡ answered result self.new }
-        ensures unchanged { OnErr result (self.new ≡ self.old) }
-    {
-        match self.fault_of(&entry) {
-            Some(fault) => Err(fault),
-            None => Ok(self.add(entry)),
+    fn entry_of(word: CaptureWord, line: &[u8], _event: &mut ()) -> CaptureEntry {
+        entry_of(word, line)
+    }
+
+    fn part(entry: &CaptureEntry) -> Part {
+        match entry {
+            CaptureEntry::User(_) => Part::Setting,
+            CaptureEntry::Packets => Part::Opening,
+            CaptureEntry::Packet { .. } => Part::Event,
+            CaptureEntry::End => Part::End,
         }
     }
 
-    /// The fault of what a line says where it stands: a user that came before is `Repeated`, also where none
-    /// may stand.
-    fn fault_of(&self, entry: &CaptureEntry) -> Option<LineFault>
-        ensures { result ≡ place_fault self.now.phase self.now.users entry.now }
-    {
-        if self.came_before(entry) {
-            Some(LineFault::Repeated)
-        } else if self.may_stand(entry) {
-            None
-        } else {
-            Some(LineFault::Order)
-        }
-    }
-
-    /// True for a user whose name and method came before.
-    fn came_before(&self, entry: &CaptureEntry) -> bool
-        ensures { result ≡ came_before self.now.users entry.now }
-    {
+    fn came_before(&self, entry: &CaptureEntry) -> bool {
         match entry {
             CaptureEntry::User(user) => self.users.find(user.name.as_slice(), user.kind).is_some(),
             _ => false,
         }
     }
 
-    /// Whether users, or packets, may stand here.
-    fn may_stand(&self, entry: &CaptureEntry) -> bool
-        ensures { result ≡ may_stand self.now.phase entry.now }
-    {
-        match entry {
-            CaptureEntry::User(_) | CaptureEntry::Packets => self.phase == CapturePhase::Users,
-            CaptureEntry::Packet { .. } | CaptureEntry::End => self.phase == CapturePhase::Packets,
-        }
+    fn is_missing(&self, _entry: &CaptureEntry) -> bool {
+        false
     }
 
-    /// Adds what a line says.
-    fn add(&mut self, entry: CaptureEntry) -> CaptureItem
-        requires { HasKey entry }
-        ensures { Ok (taken self.old.phase self.old.users entry) ≡ answered (Ok result) self.new }
-    {
+    fn add(&mut self, entry: CaptureEntry) -> CaptureItem {
         match entry {
             CaptureEntry::User(user) => {
                 add_user(&mut self.users, user);
                 CaptureItem::Nothing
             }
             CaptureEntry::Packets => {
-                self.phase = CapturePhase::Packets;
+                self.phase = Phase::Events;
                 CaptureItem::Ready
             }
             CaptureEntry::Packet { to_peer, octets } => CaptureItem::Packet { to_peer, octets },
             CaptureEntry::End => {
-                self.phase = CapturePhase::Ended;
+                self.phase = Phase::Ended;
                 CaptureItem::End
             }
         }
+    }
+
+    fn nothing() -> CaptureItem {
+        CaptureItem::Nothing
     }
 }

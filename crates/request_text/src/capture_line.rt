@@ -1,16 +1,13 @@
 //! The table of a capture's lines, and what each says.
 
-ghost use Rattle.std.specs.Prelude.{◌≡◌, IfOk};
+ghost use Rattle.std.specs.Prelude.{◌≡◌};
 ghost use Rattle.text_tables.specs.Words.{words};
-ghost use Rattle.text_tables.specs.Rows.{keyword_in, first_word};
 ghost use Rattle.text_tables.specs.Fits.{Fits};
-ghost use Rattle.request_text.specs.Captures.{row_of, capture_words, entry_of, HasKey, entry_for};
+ghost use Rattle.request_text.specs.Captures.{row_of, entry_of, HasKey};
 
 use eap_base::Octets;
 use login_setup::User;
-use text_tables::{
-    Field, LineFault, Row, fault_of_words, is_printable_line, kind_of, name, octets, word_in,
-};
+use text_tables::{Field, Row, TableWord, kind_of, name, octets, word_in};
 
 /// The first word of a line of a capture.
 #[derive(Clone, Copy)]
@@ -22,7 +19,8 @@ pub enum CaptureWord {
     End,
 }
 
-const CAPTURE_WORDS: [CaptureWord; 5] = [
+/// The keywords of a capture.
+pub const CAPTURE_WORDS: [CaptureWord; 5] = [
     CaptureWord::User,
     CaptureWord::Packets,
     CaptureWord::ToPeer,
@@ -41,13 +39,10 @@ pub enum CaptureEntry {
     End,
 }
 
-impl CaptureWord {
-    /// The keyword's row.
-    fn row(self) -> Row
-        ensures word { result.word.now ≡ (row_of self).word }
-        ensures least { result.least ≡ (row_of self).least }
-        ensures fields { result.fields.now ≡ (row_of self).fields }
-    {
+impl TableWord for CaptureWord {
+    ghost row_of = { row_of };
+
+    fn row(self) -> Row {
         match self {
             CaptureWord::User => Row::new(
                 b"user",
@@ -60,48 +55,11 @@ impl CaptureWord {
             CaptureWord::End => Row::new(b"end", 0, &[]),
         }
     }
-
-    /// The keyword that a line begins with, if it is one.
-    #[tactic(auto, unfolding(text_tables::specs::Rows::keyword_in))]
-    fn of_line(line: &[u8]) -> Option<CaptureWord>
-        ensures { result ≡ keyword_in row_of capture_words (words line.now) }
-    {
-        let word = word_in(line, 0);
-        CAPTURE_WORDS
-            .iter()
-            .copied()
-            .find(|keyword| word == keyword.row().word)
-    }
-}
-
-/// The keyword that a line begins with; `BadWord` where it is none, or an octet isn't printable.
-#[tactic(auto, unfolding(text_tables::specs::Rows::first_word))]
-pub fn read_capture_word(line: &[u8]) -> Result<CaptureWord, LineFault>
-    ensures { result ≡ first_word row_of capture_words line.now }
-{
-    if is_printable_line(line) {
-        CaptureWord::of_line(line).ok_or(LineFault::BadWord)
-    } else {
-        Err(LineFault::BadWord)
-    }
-}
-
-/// What a keyword says with the words of its line, or their first fault.
-#[tactic(auto, unfolding(crate::specs::Captures::entry_for))]
-pub fn read_capture_entry(word: CaptureWord, line: &[u8]) -> Result<CaptureEntry, LineFault>
-    ensures entry { result ≡ entry_for word (words line.now) }
-    ensures key { IfOk result HasKey }
-{
-    let row = word.row();
-    match fault_of_words(row.least, row.fields, line) {
-        Some(fault) => Err(fault),
-        None => Ok(entry_of(word, line)),
-    }
 }
 
 /// What a keyword says with the words of its line.
 #[tactic(auto, unfolding(crate::specs::Captures::entry_of))]
-fn entry_of(word: CaptureWord, line: &[u8]) -> CaptureEntry
+pub fn entry_of(word: CaptureWord, line: &[u8]) -> CaptureEntry
     requires { Fits (row_of word) (words line.now) }
     ensures entry { result ≡ entry_of word (words line.now) }
     ensures key { HasKey result }

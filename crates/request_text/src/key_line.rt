@@ -4,12 +4,12 @@ ghost use Rattle.std.specs.Prelude.{◌≡◌, ◌≢◌, [], true, Ok, IfErr};
 ghost use Rattle.text_tables.specs.Words.{words};
 ghost use Rattle.request_text.specs.declared.key_line.KeyLine.TheVariants as key;
 ghost use Rattle.text_tables.specs.Fits.{Fits};
-ghost use Rattle.text_tables.specs.Rows.{keyword_in};
-ghost use Rattle.request_text.specs.Keys.{row_of, requests, ciphersuite_of, asked_of, asked_by, key_line, read_into, asked_into, HasSizes};
+ghost use Rattle.request_text.specs.Keys.{row_of, ciphersuite_of, asked_of, asked_by, key_line, read_into, asked_into, HasSizes};
 
 use eap_base::{MAX_NAME, Octets, Suite};
 use text_tables::{
-    Field, LineFault, Row, array, fault_of_words, is_comment, is_printable_line, octets, word_in,
+    Field, LineFault, Row, TableWord, array, fault_of_words, is_comment, octets, read_keyword,
+    word_in,
 };
 
 /// The first word of a request.
@@ -45,13 +45,10 @@ const NAME: Field = Field::Hex {
 
 const TEXT: Field = Field::Hex { low: 0, high: 2000 };
 
-impl Request {
-    /// The request's row.
-    fn row(self) -> Row
-        ensures word { result.word.now ≡ (row_of self).word }
-        ensures least { result.least ≡ (row_of self).least }
-        ensures fields { result.fields.now ≡ (row_of self).fields }
-    {
+impl TableWord for Request {
+    ghost row_of = { row_of };
+
+    fn row(self) -> Row {
         match self {
             Request::Aes => Row::new(b"aes", 2, &[BLOCK, BLOCK]),
             Request::Cmac => Row::new(b"cmac", 2, &[BLOCK, TEXT]),
@@ -72,18 +69,6 @@ impl Request {
             Request::Psk => Row::new(b"psk", 2, &[BLOCK, BLOCK]),
             Request::Name => Row::new(b"name", 1, &[TEXT]),
         }
-    }
-
-    /// The request that a line begins with, if it is one.
-    #[tactic(auto, unfolding(text_tables::specs::Rows::keyword_in))]
-    fn of_line(line: &[u8]) -> Option<Request>
-        ensures { result ≡ keyword_in row_of requests (words line.now) }
-    {
-        let word = word_in(line, 0);
-        REQUESTS
-            .iter()
-            .copied()
-            .find(|request| word == request.row().word)
     }
 }
 
@@ -163,12 +148,9 @@ fn read_request(line: &[u8], asked: &mut KeyLine) -> Result<(), LineFault>
     ensures value { asked_into result asked.new ≡ asked_by line.now }
     ensures kept { IfErr result (λ fault. asked.new ≡ asked.old) }
 {
-    if !is_printable_line(line) {
-        return Err(LineFault::BadWord);
-    }
-    match Request::of_line(line) {
-        None => Err(LineFault::BadWord),
-        Some(request) => {
+    match read_keyword(&REQUESTS, line) {
+        Err(fault) => Err(fault),
+        Ok(request) => {
             let row = request.row();
             match fault_of_words(row.least, row.fields, line) {
                 Some(fault) => Err(fault),

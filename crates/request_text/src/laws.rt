@@ -4,7 +4,6 @@ ghost use Rattle.request_text.specs.Laws.{CapturesAreJudged, RadiusLinesAreJudge
 
 /// A line of a capture is refused with exactly the first fault that it has where it stands, and taken
 /// exactly where it has none; then it says what its keyword says with its words.
-#[tactic(auto, using(crate::proofs::CaptureJudging::captures_are_judged))]
 pub fn captures_are_judged()
     ensures { CapturesAreJudged }
 {}
@@ -18,7 +17,6 @@ pub fn requests_are_judged()
 
 /// A line of a text of RADIUS packets is refused with exactly the first fault that it has where it stands, and
 /// taken exactly where it has none; then it says what its keyword says with its words.
-#[tactic(auto, using(crate::proofs::RadiusJudging::radius_lines_are_judged))]
 pub fn radius_lines_are_judged()
     ensures { RadiusLinesAreJudged }
 {}

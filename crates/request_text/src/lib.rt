@@ -14,5 +14,5 @@ pub use capture::{CaptureItem, CaptureReader};
 pub use key_line::{KeyLine, read_key_line};
 pub use laws::{captures_are_judged, radius_lines_are_judged, requests_are_judged};
 pub use packet_line::read_packet_line;
-pub use radius::{RadiusPhase, RadiusReader};
+pub use radius::RadiusReader;
 pub use radius_line::{RadiusItem, ReplyKind};

@@ -1,40 +1,28 @@
 //! Reading a text of RADIUS packets, line by line: its header, the secret, requests, replies and packets,
 //! the line `end`. After the header an empty line and one that begins with `#` are passed over.
 
-ghost use Rattle.std.specs.Prelude.{◌≡◌, OnErr, Ok};
-ghost use Rattle.text_tables.specs.Words.{words};
+ghost use Rattle.std.specs.Prelude.{◌≡◌, OnErr};
+ghost use Rattle.text_tables.specs.Texts.{answered};
 ghost use Rattle.request_text.specs.Radius as radius;
-ghost use Rattle.request_text.specs.Radius.{answered, came_before, may_stand, phase_after, place_fault, read_words, take, finish_of};
+ghost use Rattle.request_text.specs.Radius.{finish_of};
 
-use crate::radius_line::{RadiusItem, RadiusWord, read_radius_item, read_radius_word};
-use text_tables::{LineFault, is_comment};
+use crate::radius_line::{RADIUS_WORDS, RadiusItem, RadiusWord, item_of};
+use text_tables::{LineFault, Part, Phase, Text, read_line};
 
-/// How far a text of RADIUS packets has come.
-#[derive(Clone, Copy, PartialEq, Eq)]
-pub enum RadiusPhase {
-    /// No line was read.
-    Unread,
-    /// The header was read: the secret may come.
-    Unkeyed,
-    /// The secret was read: requests, replies and packets may come.
-    Keyed,
-    /// The line `end` was read.
-    Ended,
-}
-
-/// Reads a text of RADIUS packets. A refused line leaves the reader as it was.
+/// Reads a text of RADIUS packets, whose one setting, the secret, opens the rest. A refused line leaves the reader as it
+/// was.
 #[derive(Drop)]
 pub struct RadiusReader {
-    pub phase: RadiusPhase,
+    pub phase: Phase,
 }
 
 impl RadiusReader {
     /// A reader that has read no line.
     pub fn new() -> RadiusReader
-        ensures { result.phase ≡ RadiusPhase.Unread }
+        ensures { result.phase ≡ Phase.Unread }
     {
         RadiusReader {
-            phase: RadiusPhase::Unread,
+            phase: Phase::Unread,
         }
     }
 
@@ -42,121 +30,100 @@ impl RadiusReader {
     /// reader is as it was.
     #[tactic(auto, unfolding(crate::specs::Radius::read_line))]
     pub fn line(&mut self, line: &[u8]) -> Result<RadiusItem, LineFault>
-        ensures read { radius.read_line self.old.phase line.now ≡ answered result self.new.phase }
+        ensures read { radius.read_line self.old line.now ≡ answered (λ item after event. item) result self.new (tt {0}) }
         ensures unchanged { OnErr result (self.new ≡ self.old) }
     {
-        match self.phase {
-            RadiusPhase::Unread => self.read_header(line),
-            _ => self.read_body(line),
-        }
+        read_line(self, line, &mut ())
     }
 
     /// What the end of the input means: `NoHeader` where no line was read, else `Missing` where the line
     /// `end` was not.
     pub fn finish(&self) -> Result<(), LineFault>
-        ensures { result ≡ finish_of self.now.phase }
+        ensures { result ≡ finish_of self.now }
     {
-        match self.phase {
-            RadiusPhase::Unread => Err(LineFault::NoHeader),
-            RadiusPhase::Ended => Ok(()),
-            _ => Err(LineFault::Missing),
-        }
+        self.phase.finish()
+    }
+}
+
+impl Text for RadiusReader {
+    ghost use Rattle.request_text.specs.Radius.{radius};
+    ghost use Rattle.request_text.specs.declared.radius_line.RadiusItem.{RadiusItem};
+
+    type Word = RadiusWord;
+
+    type Entry = RadiusItem;
+
+    type Event = ();
+
+    type Item = RadiusItem;
+
+    ghost Whole = { RadiusItem };
+
+    ghost Said = { RadiusItem };
+
+    ghost table = { radius };
+
+    ghost whole = { λ entry event. entry };
+
+    ghost says = { λ item after event. item };
+
+    ghost is_valid = { λ entry. Unit {0} };
+
+    ghost is_so = { λ item after. Unit {0} };
+
+    fn phase(&self) -> Phase {
+        self.phase
     }
 
-    /// Reads line 1.
-    fn read_header(&mut self, line: &[u8]) -> Result<RadiusItem, LineFault>
-        ensures read { radius.read_header line.now ≡ answered result self.new.phase }
-        ensures unchanged { OnErr result (self.new ≡ self.old) }
-    {
+    fn begin(&mut self, line: &[u8]) -> bool {
         if line != b"eap-radius 1".as_slice() {
-            return Err(LineFault::NoHeader);
+            return false;
         }
-        self.phase = RadiusPhase::Unkeyed;
-        Ok(RadiusItem::Nothing)
+        self.phase = Phase::Settings;
+        true
     }
 
-    /// Reads a line after the first.
-    fn read_body(&mut self, line: &[u8]) -> Result<RadiusItem, LineFault>
-        ensures read { radius.read_body self.old.phase line.now ≡ answered result self.new.phase }
-        ensures unchanged { OnErr result (self.new ≡ self.old) }
-    {
-        if is_comment(line) {
-            return Ok(RadiusItem::Nothing);
-        }
-        match read_radius_word(line) {
-            Err(fault) => Err(fault),
-            Ok(word) => self.read_words(word, line),
-        }
+    fn keywords(&self) -> &[RadiusWord] {
+        &RADIUS_WORDS
     }
 
-    /// Reads what follows a keyword.
-    fn read_words(&mut self, word: RadiusWord, line: &[u8]) -> Result<RadiusItem, LineFault>
-        ensures read { read_words self.old.phase word (words line.now) ≡ answered result self.new.phase }
-        ensures unchanged { OnErr result (self.new ≡ self.old) }
-    {
-        match read_radius_item(word, line) {
-            Err(fault) => Err(fault),
-            Ok(item) => self.take(item),
+    fn is_crowded(&self, _word: RadiusWord) -> bool {
+        false
+    }
+
+    fn entry_of(word: RadiusWord, line: &[u8], _event: &mut ()) -> RadiusItem {
+        item_of(word, line)
+    }
+
+    fn part(entry: &RadiusItem) -> Part {
+        match entry {
+            RadiusItem::Secret(_) => Part::Opening,
+            RadiusItem::End => Part::End,
+            _ => Part::Event,
         }
     }
 
-    /// Takes what a line says, unless it may not stand where it does.
-    #[tactic(auto, unfolding(crate::specs::Radius::take))]
-    fn take(&mut self, item: RadiusItem) -> Result<RadiusItem, LineFault>
-        ensures read { take self.old.phase item ≡ answered result self.new.phase }
-        ensures unchanged { OnErr result (self.new ≡ self.old) }
-    {
-        match self.fault_of(&item) {
-            Some(fault) => Err(fault),
-            None => {
-                self.phase = phase_after(self.phase, &item);
-                Ok(item)
-            }
+    fn came_before(&self, entry: &RadiusItem) -> bool {
+        match entry {
+            RadiusItem::Secret(_) => self.phase == Phase::Events || self.phase == Phase::Ended,
+            _ => false,
         }
     }
 
-    /// The fault of what a line says where it stands: a second secret is `Repeated`, also after the line
-    /// `end`.
-    fn fault_of(&self, item: &RadiusItem) -> Option<LineFault>
-        ensures { result ≡ place_fault self.now.phase item.now }
-    {
-        if came_before(self.phase, item) {
-            Some(LineFault::Repeated)
-        } else if may_stand(self.phase, item) {
-            None
-        } else {
-            Some(LineFault::Order)
+    fn is_missing(&self, _entry: &RadiusItem) -> bool {
+        false
+    }
+
+    fn add(&mut self, entry: RadiusItem) -> RadiusItem {
+        match entry {
+            RadiusItem::Secret(_) => self.phase = Phase::Events,
+            RadiusItem::End => self.phase = Phase::Ended,
+            _ => {}
         }
+        entry
     }
-}
 
-/// True for a secret where one came before.
-fn came_before(phase: RadiusPhase, item: &RadiusItem) -> bool
-    ensures { result ≡ came_before phase item.now }
-{
-    match item {
-        RadiusItem::Secret(_) => phase == RadiusPhase::Keyed || phase == RadiusPhase::Ended,
-        _ => false,
-    }
-}
-
-/// Whether a secret, or a line after it, may stand here.
-fn may_stand(phase: RadiusPhase, item: &RadiusItem) -> bool
-    ensures { result ≡ may_stand phase item.now }
-{
-    match item {
-        RadiusItem::Secret(_) => phase == RadiusPhase::Unkeyed || phase == RadiusPhase::Keyed,
-        _ => phase == RadiusPhase::Keyed,
-    }
-}
-
-/// How far the text has come with what a line says.
-fn phase_after(phase: RadiusPhase, item: &RadiusItem) -> RadiusPhase
-    ensures { result ≡ phase_after phase item.now }
-{
-    match item {
-        RadiusItem::Secret(_) => RadiusPhase::Keyed,
-        RadiusItem::End => RadiusPhase::Ended,
-        _ => phase,
+    fn nothing() -> RadiusItem {
+        RadiusItem::Nothing
     }
 }

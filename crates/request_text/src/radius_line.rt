@@ -2,15 +2,11 @@
 
 ghost use Rattle.std.specs.Prelude.{◌≡◌};
 ghost use Rattle.text_tables.specs.Words.{words};
-ghost use Rattle.text_tables.specs.Rows.{keyword_in, first_word};
 ghost use Rattle.text_tables.specs.Fits.{Fits};
-ghost use Rattle.request_text.specs.Radius.{row_of, radius_words, reply_of, item_of, item_for};
+ghost use Rattle.request_text.specs.Radius.{row_of, reply_of, item_of};
 
 use eap_base::{Identity, MAX_NAME, MAX_PACKET, Octets, Packet};
-use text_tables::{
-    Choices, Field, LineFault, Row, array, fault_of_words, is_printable_line, number, octets,
-    word_in,
-};
+use text_tables::{Choices, Field, Row, TableWord, array, number, octets, word_in};
 
 /// The first word of a line of a text of RADIUS packets.
 #[derive(Clone, Copy)]
@@ -22,7 +18,8 @@ pub enum RadiusWord {
     End,
 }
 
-const RADIUS_WORDS: [RadiusWord; 5] = [
+/// The keywords of a text of RADIUS packets.
+pub const RADIUS_WORDS: [RadiusWord; 5] = [
     RadiusWord::Secret,
     RadiusWord::Request,
     RadiusWord::Reply,
@@ -75,13 +72,10 @@ pub enum RadiusItem {
     End,
 }
 
-impl RadiusWord {
-    /// The keyword's row.
-    fn row(self) -> Row
-        ensures word { result.word.now ≡ (row_of self).word }
-        ensures least { result.least ≡ (row_of self).least }
-        ensures fields { result.fields.now ≡ (row_of self).fields }
-    {
+impl TableWord for RadiusWord {
+    ghost row_of = { row_of };
+
+    fn row(self) -> Row {
         match self {
             RadiusWord::Secret => Row::new(b"secret", 1, &[Field::Hex { low: 1, high: 64 }]),
             RadiusWord::Request => Row::new(
@@ -107,42 +101,6 @@ impl RadiusWord {
             RadiusWord::End => Row::new(b"end", 0, &[]),
         }
     }
-
-    /// The keyword that a line begins with, if it is one.
-    #[tactic(auto, unfolding(text_tables::specs::Rows::keyword_in))]
-    fn of_line(line: &[u8]) -> Option<RadiusWord>
-        ensures { result ≡ keyword_in row_of radius_words (words line.now) }
-    {
-        let word = word_in(line, 0);
-        RADIUS_WORDS
-            .iter()
-            .copied()
-            .find(|keyword| word == keyword.row().word)
-    }
-}
-
-/// The keyword that a line begins with; `BadWord` where it is none, or an octet isn't printable.
-#[tactic(auto, unfolding(text_tables::specs::Rows::first_word))]
-pub fn read_radius_word(line: &[u8]) -> Result<RadiusWord, LineFault>
-    ensures { result ≡ first_word row_of radius_words line.now }
-{
-    if is_printable_line(line) {
-        RadiusWord::of_line(line).ok_or(LineFault::BadWord)
-    } else {
-        Err(LineFault::BadWord)
-    }
-}
-
-/// What a keyword says with the words of its line, or their first fault.
-#[tactic(auto, unfolding(crate::specs::Radius::item_for))]
-pub fn read_radius_item(word: RadiusWord, line: &[u8]) -> Result<RadiusItem, LineFault>
-    ensures { result ≡ item_for word (words line.now) }
-{
-    let row = word.row();
-    match fault_of_words(row.least, row.fields, line) {
-        Some(fault) => Err(fault),
-        None => Ok(item_of(word, line)),
-    }
 }
 
 /// The kind of reply that a word names.
@@ -160,7 +118,7 @@ fn reply_of(name: &[u8]) -> ReplyKind
 
 /// What a keyword says with the words of its line.
 #[tactic(auto, unfolding(crate::specs::Radius::item_of))]
-fn item_of(word: RadiusWord, line: &[u8]) -> RadiusItem
+pub fn item_of(word: RadiusWord, line: &[u8]) -> RadiusItem
     requires { Fits (row_of word) (words line.now) }
     ensures { result ≡ item_of word (words line.now) }
 {

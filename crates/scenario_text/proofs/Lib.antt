@@ -1,10 +1,5 @@
--- A keyword is looked for among those of both versions, and then among those of the second.
-pub mod Finding
 -- No line of the first version tells of a later conversation.
 pub mod FirstVersion
--- A line is refused with the first fault that it has, by its keyword, its words and its place, and taken where it has
--- none.
-pub mod Judging
 -- Lines, and a whole scenario, read by the definitions alone.
 mod Samples
 -- Settings that come one after another, the values that their lines give, and the users among them.

@@ -10,11 +10,13 @@ use Rattle.login_setup.specs.declared.setup.Port.TheVariants as port
 use Rattle.login_setup.specs.declared.setup.Setup.{Setup}
 use Rattle.login_setup.specs.declared.event.Event.TheVariants as event
 use Rattle.text_tables.specs.Fields.{spells_number, spells_octets}
+use Rattle.text_tables.specs.Texts as texts
+use Rattle.text_tables.specs.Texts.{body_has, read_body}
 use Rattle.text_tables.specs.Rows.{faults, unless, keyword_in, line_has}
 use Rattle.scenario_text.specs.Entries.{item_of, has_fault, said_by}
 use Rattle.scenario_text.specs.Contents.{Entry, Set, Happens}
 use Rattle.text_tables.specs.Users.{with_user}
-use Rattle.scenario_text.specs.Reading.{with_later, peer_setup_of, server_setup_of, setup_of, body_has, read_body, read_line}
+use Rattle.scenario_text.specs.Reading.{with_later, peer_setup_of, server_setup_of, setup_of, read_line}
 use Rattle.scenario_text.specs.Whole.{IsScript, read_lines, read_all}
 use Rattle.text_tables.specs.declared.fault.LineFault.{LineFault}
 use Rattle.text_tables.specs.declared.fault.LineFault.TheVariants as fault
@@ -106,7 +108,7 @@ setup later = record {
 }
 
 reads : read_all sample ≡ Ok (record { setup = Some (setup no_later); events = event.Idle ∷ event.Deliver 2 ∷ [] })
-unfolding read_lines read_line read_body body_has line_has keyword_in item_of spells_number spells_octets peer_setup_of server_setup_of setup_of with_user nonce
+unfolding read_lines read_line texts.read_line read_body body_has line_has keyword_in item_of spells_number spells_octets peer_setup_of server_setup_of setup_of with_user nonce
 reads = refl
 
 stands : IsScript sample (record { setup = Some (setup no_later); events = event.Idle ∷ event.Deliver 2 ∷ [] })
@@ -125,7 +127,7 @@ reads-later : read_all later_sample
       setup = Some (setup (record { version = 2; peer = replicate 32 17 ∷ replicate 32 0 ∷ []; server = [] }));
       events = event.Restart party.Peer ∷ [];
     })
-unfolding read_lines read_line read_body body_has line_has keyword_in item_of spells_number spells_octets with_later peer_setup_of server_setup_of setup_of with_user nonce ones
+unfolding read_lines read_line texts.read_line read_body body_has line_has keyword_in item_of spells_number spells_octets with_later peer_setup_of server_setup_of setup_of with_user nonce ones
 reads-later = refl
 
 nonces : ℕ → List (List ℕ)
@@ -135,7 +137,7 @@ twice : (read_all (codes "eap-scenario 1" ∷ nonces 2) ≡ Err fault.Repeated)
     × (read_all (codes "eap-scenario 2" ∷ nonces 16) ≡ Err fault.Missing)
     × (read_all (codes "eap-scenario 2" ∷ nonces 17) ≡ Err fault.BadCount)
     × (read_all (codes "eap-scenario 3" ∷ []) ≡ Err fault.NoHeader)
-unfolding read_lines read_line read_body body_has line_has keyword_in item_of spells_octets with_later nonce nonces
+unfolding read_lines read_line texts.read_line read_body body_has line_has keyword_in item_of spells_octets with_later nonce nonces
 twice = (refl, refl, refl, refl)
 
 refused : (read_all [] ≡ Err fault.NoHeader)
@@ -143,5 +145,5 @@ refused : (read_all [] ≡ Err fault.NoHeader)
     × (read_all (codes "eap-scenario 1" ∷ codes "events" ∷ []) ≡ Err fault.Missing)
     × (read_all (codes "eap-scenario 1" ∷ codes "first-id 1" ∷ codes "first-id 1" ∷ []) ≡ Err fault.Repeated)
     × (read_all (codes "eap-scenario 1" ∷ codes "end" ∷ []) ≡ Err fault.Order)
-unfolding read_lines read_line read_body body_has line_has keyword_in item_of spells_number spells_octets peer_setup_of server_setup_of setup_of with_user nonce
+unfolding read_lines read_line texts.read_line read_body body_has line_has keyword_in item_of spells_number spells_octets peer_setup_of server_setup_of setup_of with_user nonce
 refused = (refl, refl, refl, refl, refl)

@@ -1,6 +1,6 @@
 -- What a line can say at each place of a scenario; lines that are read in order are those of a scenario.
-use Rattle.std.proofs.Common.{◌≡◌, ℕ, List, Bool, true, false, not, cond, ◌==◌, ◌||◌, Option, None, find, Result, Ok, Err, is_err, inl, inr, refl, sym, ap, ap₂, subst, ◌∙◌, [], ◌∷◌, ◌++◌, map, Some}
-use Rattle.std.proofs.lemmas.Bool.{cases_Bool, or_parts, not-false}
+use Rattle.std.proofs.Common.{◌≡◌, ℕ, List, Bool, true, false, cond, ◌==◌, Option, None, Result, Ok, Err, is_err, inl, inr, refl, sym, ap, subst, ◌∙◌, [], ◌∷◌, ◌++◌, map, Some}
+use Rattle.std.proofs.lemmas.Bool.{cases_Bool}
 use Rattle.std.proofs.lemmas.Slice.Eq.{bytes_eq-Decides}
 use Rattle.std.specs.Str.{bytes_eq}
 use Rattle.eap_base.specs.Among.{psk_kind}
@@ -8,16 +8,18 @@ use Rattle.login_setup.specs.declared.setup.Setup.{Setup}
 use Rattle.login_setup.specs.declared.event.Event.{Event}
 use Rattle.text_tables.specs.Words.{words, is_passed_over}
 use Rattle.text_tables.specs.Fields.{kind_of, word_in, ◌>>=◌}
-use Rattle.text_tables.specs.Rows.{faults}
-use Rattle.scenario_text.specs.Entries.{has_fault, keyword_of, item_of, said_by}
+use Rattle.text_tables.specs.Phases.{may_stand}
+use Rattle.text_tables.specs.Texts as texts
+use Rattle.text_tables.specs.Texts.{read_at, read_begin, read_body}
+use Rattle.scenario_text.specs.Entries.{keyword_of, item_of, said_by}
+use Rattle.scenario_text.specs.Keywords.{row_of}
 use Rattle.scenario_text.specs.Contents.{Entry}
 use Rattle.scenario_text.specs.Contents as entry
-use Rattle.scenario_text.specs.Reading.{Reading, ReadLine, said, has_setting, with_setting, no_settings, begun, setup_of, read_begin, is_crowded, came_before, is_missing, may_stand, place_has, body_has, ready, taken, read_body, read_at, read_line}
+use Rattle.scenario_text.specs.Reading.{Reading, ReadLine, said, has_setting, with_setting, no_settings, begun, begun_with, setup_of, part_of, is_crowded, came_before, is_missing, ready, scenario, taken, read_line}
 use Rattle.scenario_text.specs.Versions.{header, version_of}
 use Rattle.scenario_text.specs.Items as item
 use Rattle.scenario_text.specs.Whole.{IsFaultless, no_values, MakesSetup, told, IsScenario, Script, no_script, with_item, read_lines, read_all, IsScript, ScenariosAreRead}
 use Rattle.text_tables.specs.declared.fault.LineFault.{LineFault}
-use Rattle.text_tables.specs.declared.fault.LineFault.TheVariants as fault
 use Rattle.scenario_text.specs.declared.keyword.Keyword.{Keyword}
 use Rattle.scenario_text.specs.declared.keyword.Keyword.TheVariants as key
 use Rattle.scenario_text.specs.declared.entry.Setting.{Setting}
@@ -25,10 +27,10 @@ use Rattle.scenario_text.specs.declared.entry.Setting.TheVariants as setting
 use Rattle.scenario_text.specs.declared.settings.Settings.{Settings}
 use Rattle.scenario_text.specs.declared.version.Version.{Version}
 use Rattle.scenario_text.specs.declared.version.Version.TheVariants.{First, Second}
-use Rattle.scenario_text.specs.declared.scenario.Phase.{Phase}
-use Rattle.scenario_text.specs.declared.scenario.Phase.TheVariants as phase
+use Rattle.text_tables.specs.declared.phase.Phase.{Phase}
+use Rattle.text_tables.specs.declared.phase.Phase.TheVariants as phase
 use Rattle.scenario_text.proofs.Settling.{is_over, joined, AllNew, settings_after, gathers, none-kept, kept-after, version-after, same-version, all-given, all-new, all-set}
-use Rattle.text_tables.proofs.Fitting.{no_fault, none-found, unless-ok}
+use Rattle.text_tables.proofs.Reading.{Entered, MayStand, Passed, Stepped, enters, read_body_passed, stepped}
 use Rattle.std.proofs.lemmas.List.Elements.{All-from_recursion, recursion_from_All}
 use Rattle.std.proofs.lemmas.Result.{IfOk-at_ok}
 use Rattle.std.specs.List.{AllByRecursion}
@@ -52,57 +54,22 @@ pub record MayCome (p : Phase) (s : Settings) (e : Entry) : Type 0 where
   pub few : is_late s e ≡ false
   pub fresh : came_before s e ≡ false
   pub whole : is_missing s e ≡ false
-  pub stands : may_stand p e ≡ true
+  pub stands : may_stand p (part_of e) ≡ true
+
+abbrev at : Phase → Settings → Reading
+at p s = record { phase = p; settings = s }
 
 module _ (p : Phase) (s : Settings) (line : List ℕ) where
-  may-come : ((f : LineFault) → place_has p s (keyword_of s.version line) (said_by s.version line) f ≡ false) → MayCome p s (said_by s.version line)
-  may-come h = record {
-    few = sym (crowded s (keyword_of s.version line) (words line)) ∙ h fault.BadCount;
-    fresh = h fault.Repeated;
-    whole = h fault.Missing;
-    stands = not-false (may_stand p (said_by s.version line)) (h fault.Order);
-  }
+  may-come : MayStand row_of scenario (at p s) line → MayCome p s (said_by s.version line)
+  may-come m = record { few = sym (crowded s (keyword_of s.version line) (words line)) ∙ m.few; fresh = m.fresh; whole = m.whole; stands = m.stands }
 
-  no-place : MayCome p s (said_by s.version line) → (f : LineFault) → place_has p s (keyword_of s.version line) (said_by s.version line) f ≡ false
-  no-place m fault.BadCount = crowded s (keyword_of s.version line) (words line) ∙ m.few
-  no-place m fault.Repeated = m.fresh
-  no-place m fault.Missing = m.whole
-  no-place m fault.Order = ap not (m.stands)
-  no-place m other = refl
+  may-stand : MayCome p s (said_by s.version line) → MayStand row_of scenario (at p s) line
+  may-stand m = record { few = crowded s (keyword_of s.version line) (words line) ∙ m.few; fresh = m.fresh; whole = m.whole; stands = m.stands }
 
-  -- a line is passed over, or enters
-  pub data Stepped : ReadLine → Type 0 where
-    Passed : is_passed_over line ≡ true → Stepped (said item.Nothing p s)
-    Entered : is_passed_over line ≡ false → IsFaultless s.version line → MayCome p s (said_by s.version line) → Stepped (taken p s (said_by s.version line))
-
-  pub stepped : (out : ReadLine) → read_body p s line ≡ Ok out → Stepped out
-  unfolding read_body body_has
-  stepped out e =
-      elim (cases_Bool (is_passed_over line)) [
-        | inl k ↦
-            let over : Ok (said item.Nothing p s) ≡ Ok out = rw k at e in
-            let is : said item.Nothing p s ≡ out = cc in
-            subst Stepped is (Passed k)
-        | inr k ↦
-            let u = unless-ok (find (body_has p s line) faults) (taken p s (said_by s.version line)) out (rw k at e) in
-            let none : (f : LineFault) → body_has p s line f ≡ false = no_fault (body_has p s line) (u.0) in
-            subst Stepped (u.1) (Entered k (λ f. (or_parts (has_fault s.version line f) _ (none f)).0) (may-come (λ f. (or_parts (has_fault s.version line f) _ (none f)).1)))
-      ]
-
-  pub step-cases : (P : ReadLine → Type 0) → P (said item.Nothing p s) → (IsFaultless s.version line → MayCome p s (said_by s.version line) → P (taken p s (said_by s.version line))) →
-      (out : ReadLine) → Stepped out → P out
+  pub step-cases : (P : ReadLine → Type 0) → P (said item.Nothing p s) → (IsFaultless s.version line → MayCome p s (said_by s.version line) → P (taken p s (said_by s.version line)))
+      → (out : ReadLine) → Stepped row_of scenario (at p s) line out → P out
   step-cases P passed entered _ (Passed k) = passed
-  step-cases P passed entered _ (Entered k own may) = entered own may
-
-  pub passes : is_passed_over line ≡ true → read_body p s line ≡ Ok (said item.Nothing p s)
-  unfolding read_body
-  passes k = rw k refl
-
-  pub enters : is_passed_over line ≡ false → IsFaultless s.version line → MayCome p s (said_by s.version line) → read_body p s line ≡ Ok (taken p s (said_by s.version line))
-  unfolding read_body body_has
-  enters k own m =
-      let none : find (body_has p s line) faults ≡ None = none-found (body_has p s line) faults (λ f. ap₂ (λ a b. a || b) (own f) (no-place m f)) in
-      rw (k, none) refl
+  step-cases P passed entered _ (Entered k own may) = entered own (may-come may)
 
 -- before the line `events`: a line that is passed over, a new setting, or `events`
 pub data FromSettings (s : Settings) : ReadLine → Type 0 where
@@ -130,14 +97,16 @@ events-from s (entry.Happens event) may = NewEvent event
 events-from s entry.End may = AllRead
 events-from s other may = let no = may.stands in absurd cc
 
-pub none-stands : (e : Entry) → may_stand phase.Ended e ≡ true → ⊥
+none-stands : (e : Entry) → may_stand phase.Ended (part_of e) ≡ true → ⊥
 none-stands (entry.Set v) h = absurd cc
-none-stands other h = absurd cc
+none-stands entry.Events h = absurd cc
+none-stands (entry.Happens e) h = absurd cc
+none-stands entry.End h = absurd cc
 
 -- the reading at a known place
-read_line_at : (r : Reading) (p : Phase) (line : List ℕ) → r.phase ≡ p → read_line r line ≡ read_at p r.settings line
-unfolding read_line
-read_line_at r p line e = ap (λ q. read_at q r.settings line) e
+read_line_at : (r : Reading) (p : Phase) (line : List ℕ) → r.phase ≡ p → read_line r line ≡ read_at row_of scenario p (at p r.settings) line
+unfolding read_line texts.read_line
+read_line_at r p line e = ap (λ q. read_at row_of scenario q (at q r.settings) line) e
 
 -- the first line is the header of a version, and there are no settings then
 pub record Starts (line : List ℕ) (out : ReadLine) : Type 0 where
@@ -161,7 +130,7 @@ header-of line version e =
       ]
     ]
 
-starts-in : (line : List ℕ) (out : ReadLine) (found : Option Version) → version_of line ≡ found → read_begin found ≡ Ok out → Starts line out
+starts-in : (line : List ℕ) (out : ReadLine) (found : Option Version) → version_of line ≡ found → read_begin row_of scenario (begun_with found) ≡ Ok out → Starts line out
 starts-in line out None e h = absurd cc
 starts-in line out (Some version) e h = record { version = version; line_is = header-of line version e; out_is = cc }
 
@@ -169,10 +138,11 @@ module _ (r : Reading) (line : List ℕ) (out : ReadLine) where
   pub read_line_from_unread : r.phase ≡ phase.Unread → read_line r line ≡ Ok out → Starts line out
   read_line_from_unread at h = starts-in line out (version_of line) refl (sym (read_line_at r phase.Unread line at) ∙ h)
 
-  by-step : (p : Phase) (P : ReadLine → Type 0) → read_at p r.settings line ≡ read_body p r.settings line → P (said item.Nothing p r.settings) →
-      (MayCome p r.settings (said_by r.settings.version line) → P (taken p r.settings (said_by r.settings.version line))) → r.phase ≡ p → read_line r line ≡ Ok out → P out
-  by-step p P is passed entered at h =
-      step-cases p r.settings line P passed (λ own. entered) out (stepped p r.settings line out (sym is ∙ sym (read_line_at r p line at) ∙ h))
+  by-step : (p : Phase) (P : ReadLine → Type 0) → read_at row_of scenario p (at p r.settings) line ≡ read_body row_of scenario (at p r.settings) line
+      → P (said item.Nothing p r.settings) → (MayCome p r.settings (said_by r.settings.version line) → P (taken p r.settings (said_by r.settings.version line)))
+      → r.phase ≡ p → read_line r line ≡ Ok out → P out
+  by-step p P is passed entered e h =
+      step-cases p r.settings line P passed (λ own. entered) out (stepped row_of scenario (at p r.settings) line out (sym is ∙ sym (read_line_at r p line e) ∙ h))
 
   -- a line before `events`, one before `end`, and one after it, which is passed over
   pub read_line_from_settings : r.phase ≡ phase.Settings → read_line r line ≡ Ok out → FromSettings r.settings out
@@ -183,9 +153,6 @@ module _ (r : Reading) (line : List ℕ) (out : ReadLine) where
 
   pub read_line_from_ended : r.phase ≡ phase.Ended → read_line r line ≡ Ok out → out ≡ said item.Nothing phase.Ended r.settings
   read_line_from_ended = by-step phase.Ended (λ o. o ≡ said item.Nothing phase.Ended r.settings) refl refl (λ may. absurd (none-stands (said_by r.settings.version line) may.stands))
-
-abbrev at : Phase → Settings → Reading
-at p s = record { phase = p; settings = s }
 
 -- what is said in order, each where it may stand, and what it makes
 data Runs : Phase → Settings → List Entry → Script → Type 0 where
@@ -203,7 +170,8 @@ abbrev is_open : Phase → Bool
 is_open phase.Unread = false
 is_open other = true
 
-body-at : (p : Phase) (s : Settings) (line : List ℕ) → is_open p ≡ true → read_at p s line ≡ read_body p s line
+body-at : (p : Phase) (s : Settings) (line : List ℕ) → is_open p ≡ true → read_line (at p s) line ≡ read_body row_of scenario (at p s) line
+unfolding read_line texts.read_line
 body-at phase.Unread s line o = absurd cc
 body-at other s line o = refl
 
@@ -245,7 +213,7 @@ goes r line rest script h =
 
 -- lines that are read are told
 tells-line : (version : Version) (p : Phase) (s : Settings) (line : List ℕ) (rest : List (List ℕ)) (out : ReadLine) (m : Script) → s.version ≡ version → is_open p ≡ true →
-    Stepped p s line out →
+    Stepped row_of scenario (at p s) line out →
     ((q : Phase) (t : Settings) → t.version ≡ version → is_open q ≡ true → read_lines (at q t) rest ≡ Ok m → AreTold version q t (told rest) m) →
     read_lines out.after rest ≡ Ok m → AreTold version p s (told (line ∷ rest)) (with_item out.item m)
 tells-line version p s line rest _ m v o (Passed k) more h = rw k (more p s v o h)
@@ -254,18 +222,18 @@ tells-line version p s line rest _ m v o (Entered k own may) more h =
     rw k (subst (λ w. AreTold w p s (line ∷ told rest) (with_item (taken p s (said_by s.version line)).item m)) v
     (record {
       faultless = (own, subst (λ w. AllByRecursion (IsFaultless w) (told rest)) (sym v) (i.faultless));
-      runs = Then may (subst (λ w. Runs (taken p s (said_by s.version line)).after.phase (taken p s (said_by s.version line)).after.settings (map (said_by w) (told rest)) m) (sym v) (i.runs));
+      runs = Then (may-come p s line may) (subst (λ w. Runs (taken p s (said_by s.version line)).after.phase (taken p s (said_by s.version line)).after.settings (map (said_by w) (told rest)) m) (sym v) (i.runs));
     }))
 
 tells : (lines : List (List ℕ)) (version : Version) (p : Phase) (s : Settings) (script : Script) → s.version ≡ version → is_open p ≡ true →
     read_lines (at p s) lines ≡ Ok script → AreTold version p s (told lines) script
-unfolding read_lines read_line
+unfolding read_lines
 tells [] version phase.Ended s script v o h = let is : no_script ≡ script = cc in subst (AreTold version phase.Ended s []) is (record { faultless = tt; runs = Over s })
 tells [] version other s script v o h = absurd cc
 tells (line ∷ rest) version p s script v o h =
     let g = goes (at p s) line rest script h in
     subst (AreTold version p s (told (line ∷ rest))) (g.is)
-    (tells-line version p s line rest (g.out) (g.more) v o (stepped p s line (g.out) (sym (body-at p s line o) ∙ g.read)) (λ q t. tells rest version q t (g.more)) (g.rests))
+    (tells-line version p s line rest (g.out) (g.more) v o (stepped row_of scenario (at p s) line (g.out) (sym (body-at p s line o) ∙ g.read)) (λ q t. tells rest version q t (g.more)) (g.rests))
 
 -- and lines that are told are read
 ends : (p : Phase) (s : Settings) (script : Script) → Runs p s [] script → read_lines (at p s) [] ≡ Ok script
@@ -277,19 +245,17 @@ reads-line : (version : Version) (p : Phase) (s : Settings) (line : List ℕ) (r
     Runs p s (said_by s.version line ∷ map (said_by version) (told rest)) script →
     ((q : Phase) (t : Settings) (m : Script) → t.version ≡ version → is_open q ≡ true → AreTold version q t (told rest) m → read_lines (at q t) rest ≡ Ok m) →
     read_lines (at p s) (line ∷ rest) ≡ Ok script
-unfolding read_line
 reads-line version p s line rest _ v o k own others (Then {m = m} may next) more =
     let out : ReadLine = taken p s (said_by s.version line) in
-    both (at p s) line rest out m (body-at p s line o ∙ enters p s line k own may)
+    both (at p s) line rest out m (body-at p s line o ∙ enters row_of scenario (at p s) line k own (may-stand p s line may))
     (more _ _ m (stays-in p s (said_by s.version line) version v) (stays p s (said_by s.version line) o) (record { faultless = others; runs = next }))
 
 reads : (lines : List (List ℕ)) (version : Version) (p : Phase) (s : Settings) (script : Script) → s.version ≡ version → is_open p ≡ true →
     AreTold version p s (told lines) script → read_lines (at p s) lines ≡ Ok script
-unfolding read_line
 reads [] version p s script v o h = ends p s script (h.runs)
 reads (line ∷ rest) version p s script v o h =
     elim (cases_Bool (is_passed_over line)) [
-      | inl k ↦ both (at p s) line rest (said item.Nothing p s) script (body-at p s line o ∙ passes p s line k) (reads rest version p s script v o (rw k at h))
+      | inl k ↦ both (at p s) line rest (said item.Nothing p s) script (body-at p s line o ∙ read_body_passed row_of scenario (at p s) line k) (reads rest version p s script v o (rw k at h))
       | inr k ↦
           let t : AreTold version p s (line ∷ told rest) script = rw k at h in
           reads-line version p s line rest script v o k (subst (λ w. IsFaultless w line) (sym v) (t.faultless.0)) (t.faultless.1)
@@ -350,7 +316,7 @@ run-settings s (v ∷ more) setup events new made =
     Then (record { few = new.0; fresh = new.1; whole = refl; stands = refl }) (run-settings (with_setting s v) more setup events (new.2) made)
 
 starts-with : (version : Version) → read_line (at phase.Unread no_settings) (header version) ≡ Ok (said item.Nothing phase.Settings (begun version))
-unfolding read_line
+unfolding read_line texts.read_line
 starts-with First = refl
 starts-with Second = refl
 

@@ -15,13 +15,15 @@ use Rattle.login_setup.specs.declared.setup.ServerSetup.{ServerSetup}
 use Rattle.login_setup.specs.declared.setup.Setup.{Setup}
 use Rattle.text_tables.specs.Words.{words}
 use Rattle.text_tables.specs.Fields.{word_in, is_dash, octets_of, spells_kind, kind_of, spells_suite, suite_of}
-use Rattle.text_tables.specs.Rows.{is_kind_or_none, fault_of_words}
+use Rattle.text_tables.specs.Rows.{is_kind_or_none}
+use Rattle.text_tables.specs.Texts as texts
+use Rattle.text_tables.specs.Texts.{read_body}
 use Rattle.text_tables.specs.Fits.{IsName, IsOther, Fits}
 use Rattle.scenario_text.specs.Keywords.{row_of, keywords_in}
-use Rattle.scenario_text.specs.Entries.{accepts_of, kinds_of, suites_of, key_setting, item_of, entry_for, keyword_of, said_by}
+use Rattle.scenario_text.specs.Entries.{accepts_of, kinds_of, suites_of, key_setting, item_of, keyword_of, said_by}
 use Rattle.scenario_text.specs.Contents.{Entry, entry_with}
 use Rattle.scenario_text.specs.Contents as entry
-use Rattle.scenario_text.specs.Reading.{Reading, ReadLine, with_setting, with_later, with_nonce, no_settings, begun, both_suites, peer_setup_of, server_setup_of, later_nonces, setup_of, ready, taken, read_body, read_at, read_line}
+use Rattle.scenario_text.specs.Reading.{Reading, ReadLine, with_setting, with_later, with_nonce, no_settings, begun, both_suites, peer_setup_of, server_setup_of, later_nonces, setup_of, ready, scenario, taken, read_line}
 use Rattle.scenario_text.specs.Valid.{AcceptsName, IsValidUser, IsNonce, IsValidSetting, IsValidEntry, IsValidTold, AreValidNonces, AreValid, IsValidPeer, IsValidServer, IsValidSetup, IsValidItem, IsValidReadLine}
 use Rattle.scenario_text.specs.Versions.{most_later}
 use Rattle.scenario_text.specs.Whole.{IsFaultless, Values, no_values, IsGivenOr, IsGivenOrNone, AreNoncesOf, MakesPeer, MakesServer, MakesSetup}
@@ -31,14 +33,15 @@ use Rattle.scenario_text.specs.declared.entry.Setting.TheVariants as setting
 use Rattle.text_tables.specs.declared.fault.LineFault.{LineFault}
 use Rattle.scenario_text.specs.declared.keyword.Keyword.{Keyword}
 use Rattle.scenario_text.specs.declared.keyword.Keyword.TheVariants as key
-use Rattle.scenario_text.specs.declared.scenario.Phase.{Phase}
-use Rattle.scenario_text.specs.declared.scenario.Phase.TheVariants as phase
+use Rattle.text_tables.specs.declared.phase.Phase.{Phase}
+use Rattle.text_tables.specs.declared.phase.Phase.TheVariants as phase
 use Rattle.scenario_text.specs.declared.settings.GivenNonces.{GivenNonces}
 use Rattle.scenario_text.specs.declared.settings.Settings.{Settings}
 use Rattle.scenario_text.specs.declared.version.Version.{Version}
 use Rattle.scenario_text.specs.declared.version.Version.TheVariants.{First, Second}
-use Rattle.text_tables.proofs.Fitting.{unless-ok, fits, faultless-fits}
-use Rattle.scenario_text.proofs.Telling.{stepped, step-cases, read_line_from_unread}
+use Rattle.text_tables.proofs.Fitting.{faultless-fits}
+use Rattle.text_tables.proofs.Reading.{stepped}
+use Rattle.scenario_text.proofs.Telling.{step-cases, read_line_from_unread}
 use Rattle.text_tables.proofs.Adding.{with_user-all}
 use Rattle.scenario_text.proofs.Settling.{plus, plus_nonces, joined, none-kept, kept, nonces-set, peers-given, servers-given, all-given, none-later}
 
@@ -135,12 +138,6 @@ item_of_valid key.User ws h = record { name = h.fields.0; kind = kind-valid (wor
 item_of_valid other ws h = tt
 
 -- what a line says is within its limits
-pub valid_entry : (k : Keyword) (ws : List (List ℕ)) (e : Entry) → Ok e ≡ entry_for k ws → IsValidEntry e
-unfolding entry_for
-valid_entry k ws e h =
-    let u = unless-ok (fault_of_words (row_of k).least (row_of k).fields ws) (item_of k ws) e (sym h) in
-    subst IsValidEntry (u.1) (item_of_valid k ws (fits (row_of k) ws (u.0)))
-
 pub said_by_valid : (version : Version) (line : List ℕ) → IsFaultless version line → IsValidEntry (said_by version line)
 said_by_valid version line own = item_of_valid (keyword_of version line) (words line) (faultless-fits row_of (keywords_in version) key.End line own)
 
@@ -281,14 +278,14 @@ taken-valid p s (entry.Set v) h k = record { item = tt; settings = with_setting_
 taken-valid p s entry.Events h k = record { item = ready-valid (setup_of s) (setup_of_valid s h); settings = h }
 taken-valid p s other h k = record { item = tt; settings = h }
 
-step-valid : (p : Phase) (s : Settings) (line : List ℕ) (out : ReadLine) → AreValid s → read_body p s line ≡ Ok out → IsValidReadLine out
+step-valid : (p : Phase) (s : Settings) (line : List ℕ) (out : ReadLine) → AreValid s → read_body row_of scenario (record { phase = p; settings = s }) line ≡ Ok out → IsValidReadLine out
 step-valid p s line out h e =
     step-cases p s line IsValidReadLine (record { item = tt; settings = h }) (λ own may. taken-valid p s (said_by s.version line) h (said_by_valid s.version line own)) out
-    (stepped p s line out e)
+    (stepped row_of scenario (record { phase = p; settings = s }) line out e)
 
 -- what a line says and adds
-line-valid : (p : Phase) (s : Settings) (line : List ℕ) (out : ReadLine) → AreValid s → read_at p s line ≡ Ok out → IsValidReadLine out
-unfolding read_line
+line-valid : (p : Phase) (s : Settings) (line : List ℕ) (out : ReadLine) → AreValid s → read_line (record { phase = p; settings = s }) line ≡ Ok out → IsValidReadLine out
+unfolding read_line texts.read_line
 line-valid phase.Unread s line out h e =
     let begins = read_line_from_unread (record { phase = phase.Unread; settings = s }) line out refl e in
     subst IsValidReadLine (sym begins.out_is) (record { item = tt; settings = begun_valid begins.version })
@@ -299,7 +296,6 @@ if-ok (Ok out) h = h out refl
 if-ok (Err f) h = tt
 
 pub read_line_valid : (r : Reading) (line : List ℕ) → AreValid r.settings → IfOk (read_line r line) IsValidReadLine
-unfolding read_line
 read_line_valid r line h = if-ok (read_line r line) (λ out. line-valid r.phase r.settings line out h)
 
 -- settings that none is missing of

@@ -2,8 +2,6 @@
 use Rattle.login_setup.specs.declared.event.Event.{Event}
 use Rattle.scenario_text.specs.declared.entry.Setting.{Setting}
 use Rattle.scenario_text.specs.declared.entry.Entry as told
-use Rattle.text_tables.specs.declared.fault.LineFault.{LineFault}
-use Rattle.std.specs.Prelude.{Result, Ok, Err}
 
 -- a setting, the line `events`, an event, the line `end`
 pub data Entry : Type 0 where
@@ -18,7 +16,3 @@ entry_with (told.TheVariants.Set v) event = Set v
 entry_with told.TheVariants.Events event = Events
 entry_with told.TheVariants.Happens event = Happens event
 entry_with told.TheVariants.End event = End
-
-abbrev pub entered : Result told.Entry LineFault → Event → Result Entry LineFault
-entered (Ok it) event = Ok (entry_with it event)
-entered (Err fault) event = Err fault

@@ -1,5 +1,5 @@
 -- The lines of a scenario: what each says, where no fault keeps it from that.
-use Rattle.std.specs.Prelude.{ℕ, List, [], ◌∷◌, length, Bool, ◌==◌, nat_le, if◌then◌else◌, codes, unwrap_or, Result}
+use Rattle.std.specs.Prelude.{ℕ, List, [], ◌∷◌, length, Bool, ◌==◌, nat_le, if◌then◌else◌, codes, unwrap_or}
 use Rattle.std.specs.Str.{bytes_eq}
 use Rattle.eap_base.specs.Among.{psk_kind}
 use Rattle.login_setup.specs.declared.setup.Mode.{Mode}
@@ -13,7 +13,7 @@ use Rattle.login_setup.specs.declared.setup.Port.TheVariants as port
 use Rattle.login_setup.specs.declared.event.Event.TheVariants as event
 use Rattle.text_tables.specs.Words.{words}
 use Rattle.text_tables.specs.Fields.{word_in, is_dash, number, octets_of, kind_of, suite_of}
-use Rattle.text_tables.specs.Rows.{unless, fault_of_words, keyword_in, line_has}
+use Rattle.text_tables.specs.Rows.{keyword_in, line_has}
 use Rattle.scenario_text.specs.Keywords.{row_of, keywords_in}
 use Rattle.text_tables.specs.declared.fault.LineFault.{LineFault}
 use Rattle.scenario_text.specs.declared.keyword.Keyword.{Keyword}
@@ -110,7 +110,3 @@ keyword_of version line = unwrap_or (keyword_in row_of (keywords_in version) (wo
 
 abbrev pub said_by : Version → List ℕ → Entry
 said_by version line = item_of (keyword_of version line) (words line)
-
--- the same of a keyword and its words
-unfoldable pub entry_for : Keyword → List (List ℕ) → Result Entry LineFault
-entry_for k ws = unless (fault_of_words (row_of k).least (row_of k).fields ws) (item_of k ws)

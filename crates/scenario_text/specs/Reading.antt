@@ -1,5 +1,5 @@
 -- A scenario, line by line: what has been read, and what each line adds.
-use Rattle.std.specs.Prelude.{ℕ, List, [], ◌∷◌, ◌++◌, length, nat_le, nat_lt, not, ◌&&◌, ◌||◌, Bool, true, false, if◌then◌else◌, Option, Some, None, find, Result, Ok, Err, IsOk, ok_or, is_err, is_some, unwrap_or}
+use Rattle.std.specs.Prelude.{ℕ, List, [], ◌∷◌, ◌++◌, length, nat_le, nat_lt, not, ◌&&◌, Bool, false, if◌then◌else◌, Option, Some, None, Result, Ok, Err, IsOk, ok_or, is_err, is_some, unwrap_or}
 use Rattle.eap_base.specs.Among.{psk_kind, gpsk_kind, is_among}
 use Rattle.login_setup.specs.Users.{user_of, max_users}
 use Rattle.login_setup.specs.declared.setup.Later.{Later}
@@ -7,11 +7,12 @@ use Rattle.login_setup.specs.declared.setup.PeerSetup.{PeerSetup}
 use Rattle.login_setup.specs.declared.setup.ServerSetup.{ServerSetup}
 use Rattle.login_setup.specs.declared.setup.Setup.{Setup}
 use Rattle.login_setup.specs.declared.event.Event.{Event}
-use Rattle.text_tables.specs.Words.{is_passed_over}
 use Rattle.text_tables.specs.Fields.{◌>>=◌}
-use Rattle.text_tables.specs.Rows.{faults, unless}
+use Rattle.text_tables.specs.Phases as phases
+use Rattle.text_tables.specs.Texts as texts
 use Rattle.text_tables.specs.Users.{with_user}
-use Rattle.scenario_text.specs.Entries.{keyword_of, has_fault, said_by, entry_for}
+use Rattle.scenario_text.specs.Entries.{item_of}
+use Rattle.scenario_text.specs.Keywords.{row_of, keywords_in}
 use Rattle.scenario_text.specs.declared.keyword.Keyword.{Keyword}
 use Rattle.scenario_text.specs.declared.keyword.Keyword.TheVariants as key
 use Rattle.text_tables.specs.declared.fault.LineFault.{LineFault}
@@ -28,8 +29,10 @@ use Rattle.scenario_text.specs.Versions.{version_of, version_number, has_later, 
 use Rattle.scenario_text.specs.Items.{Item}
 use Rattle.scenario_text.specs.Items as item
 use Rattle.scenario_text.specs.declared.scenario.Item as answer
-use Rattle.scenario_text.specs.declared.scenario.Phase.{Phase}
-use Rattle.scenario_text.specs.declared.scenario.Phase.TheVariants as phase
+use Rattle.text_tables.specs.declared.phase.Part.{Part}
+use Rattle.text_tables.specs.declared.phase.Part.TheVariants as part
+use Rattle.text_tables.specs.declared.phase.Phase.{Phase}
+use Rattle.text_tables.specs.declared.phase.Phase.TheVariants as phase
 
 -- no settings
 abbrev pub no_settings : Settings
@@ -186,31 +189,40 @@ pub record Reading : Type 0 where
   pub settings : Settings
 
 -- what a line says, and what has been read after it
-pub record ReadLine : Type 0 where
-  pub item : Item
-  pub after : Reading
+abbrev pub ReadLine : Type 0
+ReadLine = texts.ReadLine Item Reading
 
 abbrev pub said : Item → Phase → Settings → ReadLine
-said item phase settings = record { item = item; after = record { phase = phase; settings = settings } }
+said item phase settings = texts.said item (record { phase = phase; settings = settings })
 
-abbrev pub reads : Item → Phase → Settings → Result ReadLine LineFault
-reads item phase settings = Ok (said item phase settings)
+-- the line `events`, where the settings are whole
+abbrev pub ready : Result Setup LineFault → Item
+ready (Ok setup) = item.Ready setup
+ready (Err f) = item.Nothing
 
--- the answer of a reader, what it holds after and the event that it wrote, as what a line says and adds:
--- where the settings are whole, the reader holds them
-abbrev pub answered : Result answer.Item LineFault → Reading → Event → Result ReadLine LineFault
-answered (Ok answer.TheVariants.Nothing) after event = Ok (record { item = item.Nothing; after = after })
-answered (Ok answer.TheVariants.Ready) after event = setup_of after.settings >>= λ setup. Ok (record { item = item.Ready setup; after = after })
-answered (Ok answer.TheVariants.Event) after event = Ok (record { item = item.Event event; after = after })
-answered (Ok answer.TheVariants.End) after event = Ok (record { item = item.End; after = after })
-answered (Err f) after event = Err f
+-- the answer of a reader, with what it holds after and the event that it wrote, as what a line says
+abbrev pub item_with : answer.Item → Reading → Event → Item
+item_with answer.TheVariants.Nothing after event = item.Nothing
+item_with answer.TheVariants.Ready after event = ready (setup_of after.settings)
+item_with answer.TheVariants.Event after event = item.Event event
+item_with answer.TheVariants.End after event = item.End
 
 -- the settings are whole where the answer says so
 abbrev pub HasSetup : answer.Item → Reading → Type 0
 HasSetup answer.TheVariants.Ready after = IsOk (setup_of after.settings)
 HasSetup other after = Unit {0}
 
--- the faults of a line where it stands
+-- line 1 is the header of a version
+abbrev pub begun_with : Option Version → Option Reading
+begun_with None = None
+begun_with (Some v) = Some (record { phase = phase.Settings; settings = begun v })
+
+-- settings stand before the line `events`, events and the line `end` after it
+abbrev pub part_of : Entry → Part
+part_of (entry.Set v) = part.Setting
+part_of entry.Events = part.Opening
+part_of (entry.Happens event) = part.Event
+part_of entry.End = part.End
 
 -- BadCount: a 17th user; in the second version a 17th nonce of an end
 abbrev pub is_crowded : Settings → Keyword → Bool
@@ -229,76 +241,32 @@ abbrev pub is_missing : Settings → Entry → Bool
 is_missing s entry.Events = is_err (setup_of s)
 is_missing s e = false
 
--- Order: settings stand before the line `events`, events and the line `end` after it
-abbrev pub may_stand : Phase → Entry → Bool
-may_stand phase.Settings (entry.Set v) = true
-may_stand phase.Settings entry.Events = true
-may_stand phase.Events (entry.Happens event) = true
-may_stand phase.Events entry.End = true
-may_stand p e = false
-
-abbrev pub entry_has : Phase → Settings → Entry → LineFault → Bool
-entry_has p s e fault.Repeated = came_before s e
-entry_has p s e fault.Missing = is_missing s e
-entry_has p s e fault.Order = not (may_stand p e)
-entry_has p s e other = false
-
-unfoldable pub fault_of_entry : Phase → Settings → Entry → Option LineFault
-fault_of_entry p s e = find (entry_has p s e) faults
-
-abbrev pub place_has : Phase → Settings → Keyword → Entry → LineFault → Bool
-place_has p s k e fault.BadCount = is_crowded s k
-place_has p s k e other = entry_has p s e other
-
--- a line after the first that isn't passed over has the fault, by its words or by its place
-unfoldable pub body_has : Phase → Settings → List ℕ → LineFault → Bool
-body_has p s line f = has_fault s.version line f || place_has p s (keyword_of s.version line) (said_by s.version line) f
-
--- what it says and adds, where it has none
-abbrev pub ready : Result Setup LineFault → Item
-ready (Ok setup) = item.Ready setup
-ready (Err f) = item.Nothing
-
+-- what a line says and adds
 abbrev pub taken : Phase → Settings → Entry → ReadLine
 taken p s (entry.Set v) = said item.Nothing p (with_setting s v)
 taken p s entry.Events = said (ready (setup_of s)) phase.Events s
 taken p s (entry.Happens event) = said (item.Event event) p s
 taken p s entry.End = said item.End phase.Ended s
 
-unfoldable pub take : Phase → Settings → Entry → Result ReadLine LineFault
-take p s e = unless (fault_of_entry p s e) (taken p s e)
-
-abbrev pub read_words : Phase → Settings → Keyword → List (List ℕ) → Result ReadLine LineFault
-read_words p s k ws = if is_crowded s k then Err fault.BadCount else entry_for k ws >>= take p s
-
--- a line after the first
-unfoldable pub read_body : Phase → Settings → List ℕ → Result ReadLine LineFault
-read_body p s line =
-    if is_passed_over line then reads item.Nothing p s
-    else unless (find (body_has p s line) faults) (taken p s (said_by s.version line))
-
--- the first line
-abbrev pub read_begin : Option Version → Result ReadLine LineFault
-read_begin None = Err fault.NoHeader
-read_begin (Some v) = reads item.Nothing phase.Settings (begun v)
-
-abbrev pub read_header : List ℕ → Result ReadLine LineFault
-read_header line = read_begin (version_of line)
-
--- a line of a scenario that has come so far
-abbrev pub read_at : Phase → Settings → List ℕ → Result ReadLine LineFault
-read_at phase.Unread s line = read_header line
-read_at p s line = read_body p s line
+abbrev pub scenario : texts.Table Keyword Entry Reading Item
+scenario = record {
+  keywords = λ r. keywords_in r.settings.version;
+  none = key.End;
+  entry = item_of;
+  part = part_of;
+  phase = λ r. r.phase;
+  begun = λ r line. begun_with (version_of line);
+  nothing = item.Nothing;
+  is_crowded = λ r. is_crowded r.settings;
+  came_before = λ r. came_before r.settings;
+  is_missing = λ r. is_missing r.settings;
+  taken = λ r. taken r.phase r.settings;
+}
 
 -- what a line says and adds, or its first fault
 unfoldable pub read_line : Reading → List ℕ → Result ReadLine LineFault
-read_line r line = read_at r.phase r.settings line
+read_line r line = texts.read_line row_of scenario r line
 
--- the end of the input: nothing was read, or the line `end` was not
-abbrev pub finish_at : Phase → Result (Unit {0}) LineFault
-finish_at phase.Unread = Err fault.NoHeader
-finish_at phase.Ended = Ok tt
-finish_at other = Err fault.Missing
-
+-- the end of the input
 abbrev pub finish_of : Reading → Result (Unit {0}) LineFault
-finish_of r = finish_at r.phase
+finish_of r = phases.finish_of r.phase

@@ -23,7 +23,7 @@ use Rattle.scenario_text.specs.Items as item
 use Rattle.text_tables.specs.declared.fault.LineFault.{LineFault}
 use Rattle.scenario_text.specs.declared.entry.Setting.{Setting}
 use Rattle.scenario_text.specs.declared.entry.Setting.TheVariants as setting
-use Rattle.scenario_text.specs.declared.scenario.Phase.TheVariants as phase
+use Rattle.text_tables.specs.declared.phase.Phase.TheVariants as phase
 use Rattle.scenario_text.specs.declared.version.Version.{Version}
 use Rattle.scenario_text.specs.declared.version.Version.TheVariants.{First}
 

@@ -3,17 +3,15 @@
 ghost use Rattle.std.specs.Prelude.{◌≡◌, ◌≤◌, length};
 ghost use Rattle.eap_base.specs.Sizes.{max_name};
 ghost use Rattle.text_tables.specs.Words.{words};
-ghost use Rattle.scenario_text.specs.Contents.{entry_with, entered};
+ghost use Rattle.scenario_text.specs.Contents.{entry_with};
 ghost use Rattle.text_tables.specs.Fits.{Fits};
 ghost use Rattle.scenario_text.specs.Keywords.{row_of};
-ghost use Rattle.scenario_text.specs.Entries.{accepts_of, kinds_of, suites_of, key_setting, port_of, party_of, is_yes, mode_of, item_of, entry_for};
+ghost use Rattle.scenario_text.specs.Entries.{accepts_of, kinds_of, suites_of, key_setting, port_of, party_of, is_yes, mode_of, item_of};
 
 use crate::keyword::Keyword;
 use eap_base::{Identity, Kinds, Nonce, PSK_KIND, Secret, Suites};
 use login_setup::{Accepts, Event, Mode, Party, Port, User};
-use text_tables::{
-    LineFault, array, fault_of_words, kind_of, name, number, octets, suite_of, word_count, word_in,
-};
+use text_tables::{array, kind_of, name, number, octets, suite_of, word_count, word_in};
 
 /// A setting with its value.
 #[derive(Drop)]
@@ -45,18 +43,6 @@ pub enum Entry {
     /// The event that was written.
     Happens,
     End,
-}
-
-/// What a keyword says with the words of its line, or their first fault. An event is written to `event`.
-#[tactic(auto, unfolding(crate::specs::Entries::entry_for), using(text_tables::proofs::Fitting::fits))]
-pub fn read_entry(keyword: Keyword, line: &[u8], event: &mut Event) -> Result<Entry, LineFault>
-    ensures { entry_for keyword (words line.now) ≡ entered result event.new }
-{
-    let row = keyword.row();
-    match fault_of_words(row.least, row.fields, line) {
-        Some(fault) => Err(fault),
-        None => Ok(item_of(keyword, line, event)),
-    }
 }
 
 /// What a keyword says with the words of its line, which fit its row. An event is written to `event`.

@@ -1,13 +1,11 @@
 //! The table of a scenario's lines: each keyword with what the words after it stand for.
 
 ghost use Rattle.std.specs.Prelude.{◌≡◌};
-ghost use Rattle.text_tables.specs.Words.{words};
-ghost use Rattle.text_tables.specs.Rows.{keyword_in};
-ghost use Rattle.scenario_text.specs.Keywords.{row_of, keywords, later_keywords, keywords_in};
+ghost use Rattle.scenario_text.specs.Keywords.{row_of, keywords_in};
 
 use crate::version::Version;
 use eap_base::MAX_PACKET;
-use text_tables::{Choices, Field, Row, word_in};
+use text_tables::{Choices, Field, Row, TableWord};
 
 /// The first word of a line.
 #[derive(Clone, Copy)]
@@ -43,8 +41,8 @@ pub enum Keyword {
     Restart,
 }
 
-/// The keywords of both versions, first those of events, which a scenario has the most of.
-const KEYWORDS: [Keyword; 26] = [
+/// The keywords, first those of events, which a scenario has the most of. The last three are of the second version alone.
+const KEYWORDS: [Keyword; 29] = [
     Keyword::Deliver,
     Keyword::Alter,
     Keyword::Cut,
@@ -71,10 +69,6 @@ const KEYWORDS: [Keyword; 26] = [
     Keyword::ServerNonce,
     Keyword::User,
     Keyword::Events,
-];
-
-/// The keywords that the second version has besides.
-const LATER_KEYWORDS: [Keyword; 3] = [
     Keyword::PeerExpanded,
     Keyword::ServerExpanded,
     Keyword::Restart,
@@ -93,13 +87,20 @@ const NONCE: Field = Field::Hex { low: 32, high: 32 };
 
 const YES_NO: [Field; 1] = [Field::Choice(Choices::YesNo)];
 
-impl Keyword {
-    /// The keyword's row.
-    pub fn row(self) -> Row
-        ensures word { result.word.now ≡ (row_of self).word }
-        ensures least { result.least ≡ (row_of self).least }
-        ensures fields { result.fields.now ≡ (row_of self).fields }
-    {
+/// The keywords of a version.
+pub fn keywords_in(version: Version) -> &'static [Keyword]
+    ensures { result.now ≡ keywords_in version }
+{
+    match version {
+        Version::First => &KEYWORDS[..26],
+        Version::Second => &KEYWORDS,
+    }
+}
+
+impl TableWord for Keyword {
+    ghost row_of = { row_of };
+
+    fn row(self) -> Row {
         match self {
             Keyword::Mode => Row::new(b"mode", 1, &[Field::Choice(Choices::Mode)]),
             Keyword::FirstId => Row::new(b"first-id", 1, &[Field::Number { low: 0, high: 255 }]),
@@ -169,43 +170,5 @@ impl Keyword {
             Keyword::ServerExpanded => Row::new(b"server-expanded", 1, &YES_NO),
             Keyword::Restart => Row::new(b"restart", 1, &[Field::Choice(Choices::Party)]),
         }
-    }
-
-    /// The keyword of this version that a line begins with, if it is one.
-    #[tactic(auto, using(crate::proofs::Finding::found_later))]
-    pub fn of_line(version: Version, line: &[u8]) -> Option<Keyword>
-        ensures { result ≡ keyword_in row_of (keywords_in version) (words line.now) }
-    {
-        match version {
-            Version::First => Keyword::of_both(line),
-            Version::Second => match Keyword::of_both(line) {
-                Some(keyword) => Some(keyword),
-                None => Keyword::of_second(line),
-            },
-        }
-    }
-
-    /// The keyword of both versions that a line begins with, if it is one.
-    #[tactic(auto, unfolding(text_tables::specs::Rows::keyword_in))]
-    fn of_both(line: &[u8]) -> Option<Keyword>
-        ensures { result ≡ keyword_in row_of keywords (words line.now) }
-    {
-        let word = word_in(line, 0);
-        KEYWORDS
-            .iter()
-            .copied()
-            .find(|keyword| word == keyword.row().word)
-    }
-
-    /// The keyword of the second version alone that a line begins with, if it is one.
-    #[tactic(auto, unfolding(text_tables::specs::Rows::keyword_in))]
-    fn of_second(line: &[u8]) -> Option<Keyword>
-        ensures { result ≡ keyword_in row_of later_keywords (words line.now) }
-    {
-        let word = word_in(line, 0);
-        LATER_KEYWORDS
-            .iter()
-            .copied()
-            .find(|keyword| word == keyword.row().word)
     }
 }

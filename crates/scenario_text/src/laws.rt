@@ -5,7 +5,6 @@ ghost use Rattle.scenario_text.specs.Whole.{ScenariosAreRead, FirstScenariosAreA
 
 /// A line of a scenario is refused with exactly the first fault that it has where it stands, and taken
 /// exactly where it has none; then it says what its keyword says with its words.
-#[tactic(auto, using(crate::proofs::Judging::lines_are_judged))]
 pub fn lines_are_judged()
     ensures { LinesAreJudged }
 {}

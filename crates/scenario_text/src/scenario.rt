@@ -1,21 +1,19 @@
 //! Reading a scenario, line by line: the header of its version, its settings, the line `events`, its events,
 //! the line `end`. After the header an empty line and one that begins with `#` are passed over.
 
-ghost use Rattle.std.specs.Prelude.{◌≡◌, false, IfOk, OnErr, Ok};
-ghost use Rattle.scenario_text.specs.Reading.{no_settings, answered, read_words, taken, fault_of_entry, is_missing, may_stand, setup_of, finish_of, HasSetup};
+ghost use Rattle.std.specs.Prelude.{◌≡◌, IfOk, OnErr};
+ghost use Rattle.text_tables.specs.Texts.{answered};
+ghost use Rattle.scenario_text.specs.Reading.{no_settings, item_with, setup_of, finish_of, HasSetup};
 ghost use Rattle.scenario_text.specs.Reading as reading;
-ghost use Rattle.text_tables.specs.Words.{words};
-ghost use Rattle.scenario_text.specs.Contents.{entry_with};
-ghost use Rattle.login_setup.specs.declared.event.Event.{Event};
-ghost use Rattle.scenario_text.specs.Valid.{IsValidTold, IsValidSetup};
+ghost use Rattle.scenario_text.specs.Valid.{IsValidSetup};
 
-use crate::entry::{Entry, read_entry};
-use crate::keyword::Keyword;
+use crate::entry::{Entry, item_of};
+use crate::keyword::{Keyword, keywords_in};
 use crate::settings::Settings;
 use crate::version::Version;
 use login_setup::{Event, Setup};
 use std::marker::Model;
-use text_tables::{LineFault, is_comment, is_printable_line};
+use text_tables::{LineFault, Part, Phase, Text, read_line};
 
 /// What a line of a scenario says.
 #[derive(Clone, Copy)]
@@ -28,19 +26,6 @@ pub enum Item {
     Event,
     /// The line `end`.
     End,
-}
-
-/// How far a scenario has come.
-#[derive(Clone, Copy, PartialEq, Eq)]
-pub enum Phase {
-    /// No line was read.
-    Unread,
-    /// The header was read: settings may come.
-    Settings,
-    /// The line `events` was read: events may come.
-    Events,
-    /// The line `end` was read.
-    Ended,
 }
 
 /// Reads a scenario. A refused line leaves the reader as it was.
@@ -76,14 +61,11 @@ impl ScenarioReader {
     /// fault that the line meets refuses it, and then the reader is as it was.
     #[tactic(auto, unfolding(crate::specs::Reading::read_line))]
     pub fn line(&mut self, line: &[u8], event: &mut Event) -> Result<Item, LineFault>
-        ensures read { reading.read_line self.old line.now ≡ answered result self.new event.new }
+        ensures read { reading.read_line self.old line.now ≡ answered item_with result self.new event.new }
         ensures ready { IfOk result (λ item. HasSetup item self.new) }
         ensures unchanged { OnErr result (self.new ≡ self.old) }
     {
-        match self.phase {
-            Phase::Unread => self.read_header(line),
-            _ => self.read_body(line, event),
-        }
+        read_line(self, line, event)
     }
 
     /// The settings of the run, each within its limits, or `Missing` where a needed one has not come.
@@ -99,116 +81,91 @@ impl ScenarioReader {
     pub fn finish(&self) -> Result<(), LineFault>
         ensures { result ≡ finish_of self.now }
     {
-        match self.phase {
-            Phase::Unread => Err(LineFault::NoHeader),
-            Phase::Ended => Ok(()),
-            _ => Err(LineFault::Missing),
-        }
+        self.phase.finish()
+    }
+}
+
+impl Text for ScenarioReader {
+    ghost use Rattle.scenario_text.specs.Contents as contents;
+    ghost use Rattle.scenario_text.specs.Contents.{entry_with};
+    ghost use Rattle.scenario_text.specs.Items as items;
+    ghost use Rattle.scenario_text.specs.Reading.{HasSetup, item_with, scenario};
+    ghost use Rattle.scenario_text.specs.Valid.{IsValidTold};
+
+    type Word = Keyword;
+
+    type Entry = Entry;
+
+    type Event = Event;
+
+    type Item = Item;
+
+    ghost Whole = { contents.Entry };
+
+    ghost Said = { items.Item };
+
+    ghost table = { scenario };
+
+    ghost whole = { entry_with };
+
+    ghost says = { item_with };
+
+    ghost is_valid = { IsValidTold };
+
+    ghost is_so = { HasSetup };
+
+    fn phase(&self) -> Phase {
+        self.phase
     }
 
-    /// Reads line 1.
-    fn read_header(&mut self, line: &[u8]) -> Result<Item, LineFault>
-        ensures read { (event : Event) → reading.read_header line.now ≡ answered result self.new event }
-        ensures ready { IfOk result (λ item. HasSetup item self.new) }
-        ensures unchanged { OnErr result (self.new ≡ self.old) }
-    {
+    fn begin(&mut self, line: &[u8]) -> bool {
         match Version::of_header(line) {
-            None => Err(LineFault::NoHeader),
+            None => false,
             Some(version) => {
                 self.phase = Phase::Settings;
                 self.settings = Settings::new();
                 self.settings.version = version;
-                Ok(Item::Nothing)
+                true
             }
         }
     }
 
-    /// Reads a line after the first.
-    fn read_body(&mut self, line: &[u8], event: &mut Event) -> Result<Item, LineFault>
-        ensures read { reading.read_body self.old.phase self.old.settings line.now ≡ answered result self.new event.new }
-        ensures ready { IfOk result (λ item. HasSetup item self.new) }
-        ensures unchanged { OnErr result (self.new ≡ self.old) }
-    {
-        if is_comment(line) {
-            return Ok(Item::Nothing);
-        }
-        if !is_printable_line(line) {
-            return Err(LineFault::BadWord);
-        }
-        match Keyword::of_line(self.settings.version, line) {
-            None => Err(LineFault::BadWord),
-            Some(keyword) => self.read_words(keyword, line, event),
-        }
+    fn keywords(&self) -> &[Keyword] {
+        keywords_in(self.settings.version)
     }
 
-    /// Reads what follows a keyword.
-    fn read_words(
-        &mut self,
-        keyword: Keyword,
-        line: &[u8],
-        event: &mut Event,
-    ) -> Result<Item, LineFault>
-        ensures read { read_words self.old.phase self.old.settings keyword (words line.now) ≡ answered result self.new event.new }
-        ensures ready { IfOk result (λ item. HasSetup item self.new) }
-        ensures unchanged { OnErr result (self.new ≡ self.old) }
-    {
-        if self.settings.is_crowded(keyword) {
-            return Err(LineFault::BadCount);
-        }
-        match read_entry(keyword, line, event) {
-            Err(fault) => Err(fault),
-            Ok(entry) => self.take(entry),
-        }
+    fn is_crowded(&self, word: Keyword) -> bool {
+        self.settings.is_crowded(word)
     }
 
-    /// Takes what a line says, unless it may not stand where it does.
-    #[tactic(auto, unfolding(crate::specs::Reading::take))]
-    fn take(&mut self, entry: Entry) -> Result<Item, LineFault>
-        requires { IsValidTold entry }
-        ensures read { (event : Event) → reading.take self.old.phase self.old.settings (entry_with entry event) ≡ answered result self.new event }
-        ensures ready { IfOk result (λ item. HasSetup item self.new) }
-        ensures unchanged { OnErr result (self.new ≡ self.old) }
-    {
-        match self.fault_of(&entry) {
-            Some(fault) => Err(fault),
-            None => Ok(self.add(entry)),
-        }
+    fn entry_of(word: Keyword, line: &[u8], event: &mut Event) -> Entry {
+        item_of(word, line, event)
     }
 
-    /// The fault of what a line says where it stands: a setting that came before is `Repeated`, also where
-    /// no setting may stand.
-    #[tactic(auto, unfolding(crate::specs::Reading::fault_of_entry))]
-    fn fault_of(&self, entry: &Entry) -> Option<LineFault>
-        ensures { (event : Event) → result ≡ fault_of_entry self.now.phase self.now.settings (entry_with entry.now event) }
-    {
-        if self.settings.came_before(entry) {
-            Some(LineFault::Repeated)
-        } else if self.settings.is_missing(entry) {
-            Some(LineFault::Missing)
-        } else if self.may_stand(entry) {
-            None
-        } else {
-            Some(LineFault::Order)
-        }
-    }
-
-    /// Whether settings, or events, may stand here.
-    fn may_stand(&self, entry: &Entry) -> bool
-        ensures { (event : Event) → result ≡ may_stand self.now.phase (entry_with entry.now event) }
-    {
+    fn part(entry: &Entry) -> Part {
         match entry {
-            Entry::Set(_) | Entry::Events => self.phase == Phase::Settings,
-            Entry::Happens | Entry::End => self.phase == Phase::Events,
+            Entry::Set(_) => Part::Setting,
+            Entry::Events => Part::Opening,
+            Entry::Happens => Part::Event,
+            Entry::End => Part::End,
         }
     }
 
-    /// Adds what a line says.
-    fn add(&mut self, entry: Entry) -> Item
-        requires valid { IsValidTold entry }
-        requires whole { (event : Event) → is_missing self.old.settings (entry_with entry event) ≡ false }
-        ensures read { (event : Event) → Ok (taken self.old.phase self.old.settings (entry_with entry event)) ≡ answered (Ok result) self.new event }
-        ensures ready { HasSetup result self.new }
-    {
+    fn came_before(&self, entry: &Entry) -> bool {
+        match entry {
+            Entry::Set(setting) => self.settings.has(setting),
+            _ => false,
+        }
+    }
+
+    fn is_missing(&self, entry: &Entry) -> bool {
+        match entry {
+            Entry::Events => self.settings.lacks_some(),
+            _ => false,
+        }
+    }
+
+    fn add(&mut self, entry: Entry) -> Item {
         match entry {
             Entry::Set(setting) => {
                 self.settings.set(setting);
@@ -224,5 +181,9 @@ impl ScenarioReader {
                 Item::End
             }
         }
+    }
+
+    fn nothing() -> Item {
+        Item::Nothing
     }
 }

@@ -1,12 +1,10 @@
 //! The settings of a scenario that have been read so far.
 
 ghost use Rattle.std.specs.Prelude.{◌≡◌, ◌∷◌, [], unwrap_or, is_err};
-ghost use Rattle.login_setup.specs.declared.event.Event.{Event};
-ghost use Rattle.scenario_text.specs.Contents.{entry_with};
 ghost use Rattle.scenario_text.specs.Reading.{no_settings, is_full, with_later, with_nonce, has_setting, with_setting, both_suites, key_for};
-ghost use Rattle.scenario_text.specs.Reading.{later_nonces, later_of, peer_setup_of, server_setup_of, setup_of, is_crowded, came_before, is_missing};
+ghost use Rattle.scenario_text.specs.Reading.{later_nonces, later_of, peer_setup_of, server_setup_of, setup_of, is_crowded};
 
-use crate::entry::{Entry, Setting};
+use crate::entry::Setting;
 use crate::keyword::Keyword;
 use crate::version::Version;
 use eap_base::{GPSK_KIND, Identity, Kinds, Nonce, PSK_KIND, Secret, Suites, is_among};
@@ -85,28 +83,8 @@ impl Settings {
         }
     }
 
-    /// True for a setting that has come before.
-    pub fn came_before(&self, entry: &Entry) -> bool
-        ensures { (event : Event) → result ≡ came_before self.now (entry_with entry.now event) }
-    {
-        match entry {
-            Entry::Set(setting) => self.has(setting),
-            _ => false,
-        }
-    }
-
-    /// True for the line `events` where a needed setting has not come.
-    pub fn is_missing(&self, entry: &Entry) -> bool
-        ensures { (event : Event) → result ≡ is_missing self.now (entry_with entry.now event) }
-    {
-        match entry {
-            Entry::Events => self.lacks_some(),
-            _ => false,
-        }
-    }
-
     /// True where a needed setting has not come. (By itself, so that no other line makes room for a setup.)
-    fn lacks_some(&self) -> bool
+    pub fn lacks_some(&self) -> bool
         ensures { result ≡ is_err (setup_of self.now) }
     {
         self.setup().is_err()

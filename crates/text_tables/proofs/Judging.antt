@@ -81,12 +81,6 @@ IsPlace place =
     (place fault.NoHeader ≡ false) × (place fault.BadWord ≡ false) × (place fault.BadChoice ≡ false) × (place fault.BadNumber ≡ false)
     × (place fault.BadHex ≡ false) × (place fault.BadSize ≡ false)
 
--- a place where nothing is Missing
-pub without-missing : (before stands : Bool) →
-    cond before (Some fault.Repeated) (cond stands None (Some fault.Order)) ≡ cond before (Some fault.Repeated) (cond (not stands) (Some fault.Order) None)
-without-missing before true = refl
-without-missing before false = refl
-
 -- a line after the first that isn't passed over
 module _ {K A : Type 0} (row : K → Row) (keywords : List K) (line : List ℕ) (place : LineFault → Bool) (o : IsPlace place) (passed : Bool) (n : passed ≡ false) (over value : A) where
   abbrev has : LineFault → Bool
@@ -149,11 +143,7 @@ judges answer has value is = record {
   faultless = λ none. is ∙ ap (λ first. unless first value) (none-found has faults none);
 }
 
--- line 1 is the header or not, and a line after it is passed over or not
-pub header-judged : {A : Type 0} (same : Bool) (value : A) → cond same (Ok value) (Err fault.NoHeader) ≡ unless (cond (not same) (Some fault.NoHeader) None) value
-header-judged true value = refl
-header-judged false value = refl
-
+-- a line after the first is passed over or not
 pub body-judged : {A : Type 0} (passed : Bool) (has : LineFault → Bool) (over value : A) →
     cond passed (Ok over) (unless (find has faults) value) ≡ unless (find (λ f. not passed && has f) faults) (cond passed over value)
 body-judged true has over value = refl

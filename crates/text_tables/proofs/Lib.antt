@@ -11,3 +11,5 @@ pub mod Fitting
 pub mod Judging
 -- The users that words name have visible names, and keys of their methods' sizes.
 pub mod NamedUsers
+-- A line of a text, step by step: it is the header, or passed over, or its keyword, its words and its place decide.
+pub mod Reading

@@ -2,7 +2,9 @@ pub mod Fields
 pub mod Firsts
 pub mod Fits
 pub mod Laws
+pub mod Phases
 pub mod Rows
+pub mod Texts
 pub mod UserWords
 pub mod Users
 pub mod Words

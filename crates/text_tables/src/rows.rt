@@ -4,14 +4,14 @@ ghost use Rattle.std.specs.Prelude.{◌≡◌, ◌+◌, ◌<◌, ◌^◌, length
 ghost use Rattle.text_tables.specs.Words.{words};
 ghost use Rattle.login_setup.specs.Setup.{fits_kind};
 ghost use Rattle.text_tables.specs.Fields.{octets_of};
-ghost use Rattle.text_tables.specs.Rows.{is_choice, is_kind_or_none, is_within, has_bad_count, fault_of_words};
+ghost use Rattle.text_tables.specs.Rows.{is_choice, is_kind_or_none, is_within, has_bad_count, fault_of_words, keyword_in, first_word};
 ghost use Rattle.text_tables.specs.Firsts.{earlier, first_fault, fault_at, fault_of_word};
 
 use crate::fault::LineFault;
 use crate::fields::{
     kind_of, octet_count, spells_kind, spells_number, spells_octets, spells_suite,
 };
-use crate::words::{word_count, word_in};
+use crate::words::{is_printable_line, word_count, word_in};
 use eap_base::{GPSK_KIND, MAX_NAME, PSK_KIND};
 
 /// What a word after a keyword stands for. A place is that of a word in the line, 0 for the keyword.
@@ -81,6 +81,44 @@ impl Row {
             fields,
         }
     }
+}
+
+/// A keyword of a text's table.
+pub trait TableWord: Copy {
+    ghost use Rattle.text_tables.specs.Rows.{Row};
+
+    /// The keyword's row.
+    ghost row_of: { Self → Row };
+
+    /// The keyword's row.
+    fn row(self) -> Row
+        ensures word { result.word.now ≡ (row_of self).word }
+        ensures least { result.least ≡ (row_of self).least }
+        ensures fields { result.fields.now ≡ (row_of self).fields };
+}
+
+/// The one of these keywords that a line begins with; `BadWord` where it is none, or an octet isn't printable.
+#[tactic(auto, unfolding(crate::specs::Rows::first_word))]
+pub fn read_keyword<K: TableWord>(keywords: &[K], line: &[u8]) -> Result<K, LineFault>
+    ensures { result ≡ first_word K.row_of keywords.now line.now }
+{
+    if is_printable_line(line) {
+        keyword_in(keywords, line).ok_or(LineFault::BadWord)
+    } else {
+        Err(LineFault::BadWord)
+    }
+}
+
+/// The one of these keywords that a line begins with.
+#[tactic(auto, unfolding(crate::specs::Rows::keyword_in))]
+fn keyword_in<K: TableWord>(keywords: &[K], line: &[u8]) -> Option<K>
+    ensures { result ≡ keyword_in K.row_of keywords.now (words line.now) }
+{
+    let word = word_in(line, 0);
+    keywords
+        .iter()
+        .copied()
+        .find(|keyword| word == keyword.row().word)
 }
 
 /// The first fault of the words after a line's keyword, in the order of the faults: a wrong number of words

@@ -18,7 +18,7 @@ use Rattle.scenario_text.specs.Valid.{AreValid, IsValidSetup, IsValidItem, IsVal
 use Rattle.text_tables.specs.declared.fault.LineFault.{LineFault}
 use Rattle.scenario_text.specs.Items.{Item}
 use Rattle.scenario_text.specs.Items as item
-use Rattle.scenario_text.specs.declared.scenario.Phase.TheVariants as phase
+use Rattle.text_tables.specs.declared.phase.Phase.TheVariants as phase
 use Rattle.scenario_text.proofs.ValidReading.{no_settings_valid, read_line_valid}
 use Rattle.world_commands.specs.Headline.{HonestEndsAgree}
 use Rattle.world_commands.proofs.Runs.{few_packets}

@@ -12,7 +12,7 @@ use Rattle.scenario_text.specs.Items as item
 use Rattle.scenario_text.specs.Reading.{Reading, ReadLine, no_settings, read_line, finish_of}
 use Rattle.scenario_text.specs.Whole.{Script, no_script, with_item, read_lines}
 use Rattle.text_tables.specs.declared.fault.LineFault.{LineFault}
-use Rattle.scenario_text.specs.declared.scenario.Phase.TheVariants as phase
+use Rattle.text_tables.specs.declared.phase.Phase.TheVariants as phase
 use Rattle.scenario_text.proofs.Telling.{scenarios_are_read, goes, both}
 use Rattle.world_commands.specs.Replay.{max_events}
 use Rattle.world_commands.specs.Scenario.{whole, Scenario, stops, adds, is_event, too_much_at, finish_outcome, read_after, events_after, with_line, scenario_from, scenario_of}

@@ -8,8 +8,8 @@ use Rattle.world_commands.proofs.Runs.{world_step_events}
 use Rattle.scenario_text.specs.Reading.{Reading, ReadLine, said, with_setting, begun, read_line, finish_of}
 use Rattle.text_tables.specs.declared.fault.LineFault.{LineFault}
 use Rattle.scenario_text.specs.Items as item
-use Rattle.scenario_text.specs.declared.scenario.Phase.{Phase}
-use Rattle.scenario_text.specs.declared.scenario.Phase.TheVariants as phase
+use Rattle.text_tables.specs.declared.phase.Phase.{Phase}
+use Rattle.text_tables.specs.declared.phase.Phase.TheVariants as phase
 use Rattle.scenario_text.specs.declared.settings.Settings.{Settings}
 use Rattle.scenario_text.proofs.Telling.{Starts, FromSettings, FromEvents, PassedBefore, NewSetting, AllSet, PassedBetween, NewEvent, AllRead, read_line_from_unread, read_line_from_settings, read_line_from_events, read_line_from_ended}
 use Rattle.trace_text.specs.Run.{begin_text, outcome_text, end_text}

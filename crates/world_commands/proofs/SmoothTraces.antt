@@ -16,7 +16,7 @@ use Rattle.eap_world.specs.declared.verdict.Verdict.{Verdict}
 use Rattle.eap_world.specs.declared.verdict.Verdict.TheVariants.{Agree}
 use Rattle.scenario_text.specs.Reading.{no_settings}
 use Rattle.scenario_text.specs.Valid.{IsValidSetup}
-use Rattle.scenario_text.specs.declared.scenario.Phase.TheVariants as phase
+use Rattle.text_tables.specs.declared.phase.Phase.TheVariants as phase
 use Rattle.scenario_text.proofs.ValidReading.{no_settings_valid}
 use Rattle.smooth_laws.specs.Smooth.{HasShortNames}
 use Rattle.smooth_laws.proofs.LaterLogins.{logins_succeed}

@@ -10,7 +10,7 @@ use Rattle.scenario_text.specs.Reading.{Reading, ReadLine, no_settings, read_lin
 use Rattle.text_tables.specs.declared.fault.LineFault.{LineFault}
 use Rattle.scenario_text.specs.Items.{Item}
 use Rattle.scenario_text.specs.Items as item
-use Rattle.scenario_text.specs.declared.scenario.Phase.TheVariants as phase
+use Rattle.text_tables.specs.declared.phase.Phase.TheVariants as phase
 use Rattle.answer_text.specs.Lines.{line_text}
 use Rattle.trace_text.specs.Run.{begin_text, outcome_text, end_text}
 use Rattle.command_driver.specs.Answers.{Answer, after_text, refusal}

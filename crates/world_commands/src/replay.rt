@@ -41,7 +41,7 @@ impl<P: PeerMethod, S: ServerMethod> Replay<P, S> {
     ghost use Rattle.world_commands.specs.Replay.{starts, steps, end_of};
     ghost use Rattle.command_driver.specs.Commands.{AnswersLine, AnswersEnd, ends};
     ghost use Rattle.scenario_text.specs.Reading.{no_settings};
-    ghost use Rattle.scenario_text.specs.declared.scenario.Phase.TheVariants as Phase;
+    ghost use Rattle.text_tables.specs.declared.phase.Phase.TheVariants as Phase;
     ghost use Rattle.std.specs.Prelude.{true};
 
     /// Nothing has been read yet.

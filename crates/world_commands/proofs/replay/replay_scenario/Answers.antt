@@ -1,7 +1,7 @@
 use Rattle.std.proofs.Common.{None, sym, refl, ap}
 use Rattle.octet_io.specs.Lines.{lines}
 use Rattle.scenario_text.specs.Reading.{Reading, no_settings}
-use Rattle.scenario_text.specs.declared.scenario.Phase.TheVariants.{Unread}
+use Rattle.text_tables.specs.declared.phase.Phase.TheVariants.{Unread}
 use Rattle.answer_text.specs.Writes.{Appends}
 use Rattle.command_driver.specs.Answers.{after_text}
 use Rattle.world_commands.specs.Replay.{ReplayNow}

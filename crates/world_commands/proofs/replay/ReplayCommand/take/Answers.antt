@@ -1,15 +1,14 @@
 -- Where the settings are whole, the line starts the world of the setup that the reader gives.
 use Rattle.std.proofs.Common.{◌≡◌, Result, Ok, Err, IsOk, refl, subst, sym}
 use Rattle.login_setup.specs.declared.setup.Setup.{Setup}
-use Rattle.text_tables.specs.Fields.{◌>>=◌}
 use Rattle.scenario_text.specs.Items as item
-use Rattle.scenario_text.specs.Reading.{Reading, ReadLine, setup_of, read_line}
+use Rattle.scenario_text.specs.Reading.{Reading, ReadLine, ready, setup_of, read_line}
 use Rattle.text_tables.specs.declared.fault.LineFault.{LineFault}
 use Rattle.command_driver.specs.Commands.{AnswersLine}
 use Rattle.world_commands.specs.Replay.{seen_of, replay_took, replay_lacks, took_reading, reading_lacks}
 use Rattle.world_commands.proofs.replay.ReplayCommand.take.Goals as goal
 
-from_ready : (x : Result Setup LineFault) (after : Reading) (reading : Result ReadLine LineFault) (Q : Result ReadLine LineFault → Type 0) → IsOk x → reading ≡ (x >>= λ setup. Ok (record { item = item.Ready setup; after = after })) → ((setup : Setup) → x ≡ Ok setup → Q (Ok (record { item = item.Ready setup; after = after }))) → Q reading
+from_ready : (x : Result Setup LineFault) (after : Reading) (reading : Result ReadLine LineFault) (Q : Result ReadLine LineFault → Type 0) → IsOk x → reading ≡ Ok (record { item = ready x; after = after }) → ((setup : Setup) → x ≡ Ok setup → Q (Ok (record { item = item.Ready setup; after = after }))) → Q reading
 from_ready (Ok setup) after reading Q whole is each = subst Q (sym is) (each setup refl)
 from_ready (Err fault) after reading Q whole is each = absurd cc
 
