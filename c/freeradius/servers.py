@@ -1,0 +1,172 @@
+"""What c/freeradius/check and c/freeradius/speed run: FreeRADIUS, hostapd's RADIUS server, eapol_test and load."""
+
+from __future__ import annotations
+
+import dataclasses
+import pathlib
+import re
+import signal
+import subprocess
+import sys
+import time
+from typing import List, Optional, Sequence
+
+from configuration import MODS_CONFIG, PORT, SECRET, SQL_FILE, Configuration
+
+ROOT = pathlib.Path(__file__).resolve().parent.parent.parent
+sys.path.append(f"{ROOT}/live")
+import ends  # noqa: E402
+import ways  # noqa: E402
+
+USERS = 1000
+KEYS = {
+    "GPSK": "000102030405060708090a0b0c0d0e0f101112131415161718191a1b1c1d1e1f",
+    "PSK": "00112233445566778899aabbccddeeff",
+}
+BOBS_KEY = "ffeeddccbbaa99887766554433221100"
+ERNAS_KEY = bytes(range(32, 64)).hex()
+DORAS_KEY = "a key of forty octets, as text, for dora"
+BOTH_OF_ALICE = f"Tuvaddri-GPSK-Key := 0x{KEYS['GPSK']}, Tuvaddri-PSK-Key := 0x{KEYS['PSK']}"
+PEOPLE = f"""alice	{BOTH_OF_ALICE}
+alice@far	{BOTH_OF_ALICE}
+bob	EAP-Type := PSK, Tuvaddri-PSK-Key := 0x{BOBS_KEY}
+carol	EAP-Type := GPSK, Tuvaddri-GPSK-Key := 0x0001
+dora	Cleartext-Password := "{DORAS_KEY}"
+erna	Cleartext-Password := "0x{ERNAS_KEY}"
+frank	Cleartext-Password := "0x{'00' * 65}"
+gerda	Cleartext-Password := "a password"
+"""
+
+
+def write_users(work: str) -> None:
+    """The users of all stores: those above, and those of load."""
+    pathlib.Path(work, "users").write_text(PEOPLE + keys_of(work, "freeradius"))
+    rows = [("alice", f"Tuvaddri-{method}-Key", f"0x{key}") for method, key in KEYS.items()]
+    insert = "INSERT INTO radcheck (username, attribute, op, value) VALUES ('{}','{}',':=','{}');\n"
+    pathlib.Path(work, SQL_FILE).unlink(missing_ok=True)
+    schema = pathlib.Path(f"{MODS_CONFIG}/sql/main/sqlite/schema.sql").read_text()
+    text = schema + "BEGIN;\n" + keys_of(work, "sql") + "".join(insert.format(*row) for row in rows) + "COMMIT;\n"
+    subprocess.run(["sqlite3", f"{work}/{SQL_FILE}"], input=text, text=True, check=True, stdout=subprocess.DEVNULL)
+
+
+def keys_of(work: str, form: str) -> str:
+    words = [f"{work}/load", "keys", form, str(USERS)]
+    return subprocess.run(words, stdout=subprocess.PIPE, text=True, check=True).stdout
+
+
+class Server:
+    """A program that listens, until the end of the block."""
+
+    def __init__(self, words: Sequence[str], log: str, ready: str, seconds: float = 15) -> None:
+        self.words, self.log, self.ready, self.seconds = words, pathlib.Path(log), ready, seconds
+
+    def __enter__(self) -> Server:
+        self.log.unlink(missing_ok=True)
+        with open(f"{self.log}.out", "wb") as out:
+            self.process = subprocess.Popen(self.words, stdin=subprocess.DEVNULL, stdout=out, stderr=subprocess.STDOUT)
+        until = time.monotonic() + self.seconds
+        while time.monotonic() < until and self.process.poll() is None:
+            if self.ready in self.said():
+                return self
+            time.sleep(0.05)
+        self.__exit__()
+        raise ends.Failed(f"{self.words[0]} doesn't begin: {self.said()[-1500:]}")
+
+    def __exit__(self, *_: object) -> None:
+        self.process.send_signal(signal.SIGTERM)
+        try:
+            self.process.wait(30)
+        except subprocess.TimeoutExpired:
+            self.process.kill()
+            self.process.wait()
+
+    def said(self) -> str:
+        return "".join(it.read_text(errors="replace") for it in (self.log, pathlib.Path(f"{self.log}.out")) if it.exists())
+
+    def refused(self, reason: str) -> bool:
+        """Whether FreeRADIUS has logged that a login was refused for this reason."""
+        return any("Login incorrect" in line and reason in line for line in self.said().splitlines())
+
+
+def freeradius(work: str, configuration: Configuration, before: Sequence[str] = (), seconds: float = 15) -> Server:
+    folder = configuration.write(work)
+    words = [*before, "freeradius", "-d", folder, "-f"]
+    return Server(words, f"{folder}/server.log", "Ready to process requests", seconds)
+
+
+def hostapd(work: str, method: str, before: Sequence[str] = ()) -> Server:
+    """hostapd's RADIUS server, with its own methods."""
+    pathlib.Path(work, "hostapd.users").write_text(keys_of(work, method.lower()))
+    pathlib.Path(work, "hostapd.clients").write_text(f"127.0.0.1 {SECRET}\n")
+    lines = ["driver=none", "interface=lo0", "eap_server=1", f"eap_user_file={work}/hostapd.users", "server_id=srv"]
+    lines += [f"radius_server_clients={work}/hostapd.clients", f"radius_server_auth_port={PORT}"]
+    pathlib.Path(work, "hostapd.conf").write_text("\n".join(lines) + "\n")
+    return Server([*before, "hostapd", f"{work}/hostapd.conf"], f"{work}/hostapd.log", "AP-ENABLED", 120)
+
+
+@dataclasses.dataclass
+class Station:
+    """A login of eapol_test: whether it succeeded, and with equal link keys; how many requests it took; what it said."""
+
+    is_good: bool
+    requests: int
+    said: str
+    is_same_front: bool = False  # by eapol_test's own comparison, which is about MS-MPPE-Recv-Key
+
+    def is_refused(self, requests: int) -> bool:
+        return not self.is_good and "(Access-Reject)" in self.said and self.requests == requests
+
+
+def station(
+    work: str,
+    method: str = "GPSK",
+    suite: int = 1,
+    user: str = "alice",
+    key: Optional[str] = None,
+    outer: str = "",
+    words: Sequence[str] = (),
+) -> Station:
+    lines = ["ap_scan=0", "network={", "key_mgmt=IEEE8021X", "eapol_flags=0", f"eap={method}", f'identity="{user}"']
+    lines += [f'phase1="cipher={suite}"'] if method == "GPSK" else []
+    lines += [f'anonymous_identity="{outer}"'] if outer else []
+    lines += [f"password={key or KEYS[method]}", "}", ""]
+    pathlib.Path(work, "station.conf").write_text("\n".join(lines))
+    ask = ["eapol_test", "-c", f"{work}/station.conf", "-a", "127.0.0.1", "-p", str(PORT), "-s", SECRET, "-t", "10", *words]
+    ran = subprocess.run(ask, stdout=subprocess.PIPE, stderr=subprocess.STDOUT, text=True, errors="replace", timeout=60)
+    is_same = ran.returncode == 0 and ways.EQUAL_LINK_KEYS in ran.stdout
+    requests = ran.stdout.count("Sending RADIUS message")
+    return Station(is_same and has_same_keys(ran.stdout), requests, ran.stdout, is_same)
+
+
+def has_same_keys(said: str) -> bool:
+    """Whether the link keys are the halves of the MSK; eapol_test compares the first of them by itself."""
+    link, keys = dict(ways.LINK_KEY.findall(said)), dict(ways.THEIR_KEY.findall(said))
+    return "MSK" in keys and link.get("Recv", "") + link.get("Send", "") == keys["MSK"]
+
+
+@dataclasses.dataclass
+class Load:
+    """What load wrote at its end."""
+
+    said: str
+    good: int = 0
+    mismatches: int = -1
+    rate: float = 0
+    client: float = 0
+    milliseconds: str = ""
+
+
+LOAD = re.compile(
+    r"\d+ logins: (\d+) good, \d+ bad, (\d+) mppe mismatches, \d+ sent again; "
+    r"[0-9.]+ s, (\d+) logins/s, client ([0-9.]+) s, ms ([0-9. ]+)"
+)
+
+
+def load(work: str, *words: object, before: Sequence[str] = ()) -> Load:
+    """Logins by load; the words are those behind SECRET, and `before` stands before PORT."""
+    ask: List[str] = [f"{work}/load", *before, str(PORT), SECRET, *map(str, words)]
+    ran = subprocess.run(ask, stdout=subprocess.PIPE, stderr=subprocess.STDOUT, text=True, timeout=400)
+    found = LOAD.search(ran.stdout)
+    if not found:
+        return Load(ran.stdout.strip())
+    return Load(ran.stdout.strip(), int(found[1]), int(found[2]), float(found[3]), float(found[4]), found[5])
