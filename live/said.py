@@ -42,6 +42,7 @@ REFUSED: List[Tuple[str, List[str], str]] = [
     ("radius_server", [*SERVER, "first-id 7"], "line 3: 'first-id' is no setting of a live login"),
     ("radius_server", [*SERVER, "secret 00", "peer-suites 0"], "line 4: 'peer-suites 0' is refused (BadNumber)"),
     ("radius_server", SERVER, "has no line `secret HEX`"),
+    ("radius_server", [*SERVER, "secret testing123"], "`printf %s PASS | xxd -p -c 64` writes the hex"),
     ("radius_server", [*SERVER, f"server-name {'x' * 4096}"], "is refused (TooMuch)"),
     ("wired", PEER[:2], ": missing: `peer-methods`"),
     ("wired", [*PEER, "peer-suites 1 1"], "line 5: 'peer-suites 1 1' is refused (Repeated)"),
@@ -78,6 +79,7 @@ BOUNDS = [
 FORMS = [
     ("radius_server", "x localhost 0", "'localhost' is no address"),
     ("radius_client", "x 127.0.0.256 9", "'127.0.0.256' is no address"),
+    ("login", "radius --psk --suite 2", "--suite is one of EAP-GPSK, and --psk asks for EAP-PSK"),
     ("radius_client", ASKING + " --proxy-state 0", "'0' isn't 1 to 253 octets in hex"),
     ("radius_client", ASKING + " --proxy-state " + "00" * 254, "isn't 1 to 253 octets in hex"),
 ]
@@ -93,9 +95,18 @@ def ends_badly(words: Sequence[str], wanted: str, environment: Optional[Dict[str
     return [] if is_right else [f"status {done.returncode}, and it says: {text[-300:]}"]
 
 
+def helps(script: str) -> List[str]:
+    """What is wrong with a script that is asked for help."""
+    done = subprocess.run(programs.script(script, "--help"), stdin=subprocess.DEVNULL, stdout=subprocess.PIPE, text=True)
+    return [] if done.returncode == 0 and f"live/{script} " in done.stdout else [f"status {done.returncode}: {done.stdout[-300:]}"]
+
+
 def cases() -> Iterator[Case]:
     for script in ("radius_server", "radius_client", "wired", "login"):
         yield f"{script} without words", ends_badly(programs.script(script), f"usage: live/{script} ")
+    yield "check of no way", ends_badly(programs.script("check", "nowhere"), "usage: live/check [WAY ..], where WAY is one of radius, ")
+    for script in ("radius_server", "radius_client", "wired", "login", "check"):
+        yield f"{script} --help", helps(script)
     yield from settings_cases()
     yield from number_cases()
     yield from install_cases()
@@ -142,6 +153,10 @@ def install_cases() -> Iterator[Case]:
         done = subprocess.run(install, env=environment, stderr=subprocess.PIPE, text=True)
         wanted = "there already: hostapd wpasupplicant eapoltest iproute2\n"
         yield "install, with all there", [] if done.returncode == 0 and wanted in done.stderr else [done.stderr]
+        os.remove(f"{folder}/installed-wpasupplicant")
+        done = subprocess.run([*install, "wpasupplicant"], env=environment, stderr=subprocess.PIPE, text=True)
+        is_told = done.returncode == 0 and "wpasupplicant starts a service at boot: " in done.stderr
+        yield "install, with a package that starts a service", [] if is_told else [done.stderr]
         programs.write(folder, "id", "#!/bin/sh\necho 1000\n")
         os.remove(f"{folder}/installed-hostapd")
         yield "install, without root", ends_badly(install, "apt-get wants root", environment)

@@ -8,11 +8,11 @@ import struct
 import subprocess
 import tempfile
 from pathlib import Path
-from typing import Callable, Iterator, Optional
+from typing import Iterator, Optional
 
+from cases.lib.small import Run, holds
 from lib.common import answer
 
-Run = Callable[..., tuple[int, str, str]]
 KEY = "000102030405060708090a0b0c0d0e0f101112131415161718191a1b1c1d1e1f"
 AUTHENTICATOR, STATIONS = "020000000001", ("02000000000a", "02000000000b", "02000000000c")
 GROUP = "0180c2000003"
@@ -21,10 +21,6 @@ GROUP = "0180c2000003"
 OTHERS = (STATIONS[2] + "8100000a888e0100000501", STATIONS[2] + "0806", AUTHENTICATOR + "888e010000050100000501")
 START = STATIONS[2] + "888e01010000"
 FILE = bytes.fromhex("a1b2c3d40002000400000000000000000000ffff00000001")
-
-
-def holds(is_so: bool, otherwise: str) -> Optional[str]:
-    return None if is_so else otherwise
 
 
 def packets_in(text: str) -> list[str]:

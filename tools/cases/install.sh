@@ -119,25 +119,31 @@ refuses "there is no folder $work/none" tools/install --unchecked --deb="$work/n
 
 # The stand-in's program is proved: it is installed by its own name, below DESTDIR, with the library, which another
 # program finds by pkg-config. When a source has changed it isn't proved, and is refused, with nothing put in place.
-mkdir -p "$copy/share" "$copy/docs" "$copy/c" "$copy/examples" "$copy/crates/tuvaddri_c/out"
+mkdir -p "$copy/share" "$copy/docs" "$copy/c/examples" "$copy/c/hostapd" "$copy/c/out" "$copy/examples"
 cp tools/install "$copy/tools"
 cp share/* "$copy/share"
-cp docs/TEXTS.md "$copy/docs"
-cp c/tuvaddri.h c/heap.c "$copy/c"
+cp docs/*.md "$copy/docs"
+cp c/tuvaddri.h c/README.md c/NOTICE c/spdx.json c/numbers.txt c/*.c "$copy/c"
+cp c/examples/* "$copy/c/examples"
+cp c/hostapd/README.md c/hostapd/*.c "$copy/c/hostapd"
 cp examples/keys.txt "$copy/examples"
 DESTDIR=$work/dest in_copy tools/install --prefix /opt/eap
 holds "install of a proved program" [ "$ended $(head -n 1 "$work/out")" = "0 $work/dest/opt/eap/bin/eap_login" ]
 says "tools/install: the library for C is left out: c/library proves and builds it"
 holds "install leaves the library out" [ ! -e "$work/dest/opt/eap/include" ]
-echo archive >"$copy/crates/tuvaddri_c/out/libtuvaddri_c.a"
+echo archive >"$copy/c/out/libtuvaddri.a"
+number=$(sed -n 's/^#define TUV_VERSION //p' c/tuvaddri.h)
+echo object >"$copy/c/out/libtuvaddri.so.$number"
 in_copy tools/install --prefix "$work/with"
 holds "install of the library" cmp -s c/tuvaddri.h "$work/with/include/tuvaddri.h"
-holds "install of its archive" cmp -s "$copy/crates/tuvaddri_c/out/libtuvaddri_c.a" "$work/with/lib/libtuvaddri_c.a"
+holds "install of its archive" cmp -s "$copy/c/out/libtuvaddri.a" "$work/with/lib/libtuvaddri.a"
+holds "install of its shared object" cmp -s "$copy/c/out/libtuvaddri.so.$number" "$work/with/lib/libtuvaddri.so"
+for it in EMBEDDING.md NOTICE examples/both.c hostapd/server_method.c; do
+    holds "install of $it" [ -s "$work/with/share/doc/tuvaddri/$it" ]
+done
 if command -v pkg-config >/dev/null; then
     found=$(PKG_CONFIG_PATH=$work/with/lib/pkgconfig pkg-config --cflags --libs tuvaddri | tr -s ' ' | sed 's/ $//')
-    holds "pkg-config finds '$found'" [ "$found" = "-I$work/with/include -L$work/with/lib -ltuvaddri_c" ]
-    found=$(PKG_CONFIG_PATH=$work/with/lib/pkgconfig pkg-config --variable=heap tuvaddri)
-    holds "pkg-config finds no heap at '$found'" cmp -s c/heap.c "$found"
+    holds "pkg-config finds '$found'" [ "$found" = "-I$work/with/include -L$work/with/lib -ltuvaddri" ]
 else
     echo "tools/check: pkg-config is passed over: it isn't installed" >&2
 fi

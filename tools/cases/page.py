@@ -6,11 +6,11 @@ from __future__ import annotations
 import re
 from html.parser import HTMLParser
 from pathlib import Path
-from typing import Callable, Iterator, Optional
+from typing import Iterator, Optional
 
+from cases.lib.small import Run
 from lib.common import answer
 
-Run = Callable[..., tuple[int, str, str]]
 EMPTY = {"meta", "input"}
 FETCHING = {"src", "srcset", "action", "data", "poster", "background", "onclick", "onload"}
 LIVE = {"script", "link", "img", "iframe", "object", "embed", "base", "form"}

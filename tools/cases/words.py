@@ -6,13 +6,13 @@ from __future__ import annotations
 import re
 import subprocess
 from pathlib import Path
-from typing import Callable, Iterator, Optional
+from typing import Iterator, Optional
 
+from cases.lib.small import Run
 from lib import words
 from lib.common import answer
 from lib.words import TEXTS, Field, Line
 
-Run = Callable[..., tuple[int, str, str]]
 # A setting of each keyword, for the texts in which the others stand.
 SETTINGS = {
     "mode": "mode alone", "first-id": "first-id 0", "max-retrans": "max-retrans 4", "peer-name": "peer-name alice",

@@ -6,8 +6,10 @@ import argparse
 import os
 import subprocess
 import sys
+import tempfile
+from contextlib import contextmanager
 from pathlib import Path
-from typing import Any, Callable, NoReturn, Sequence
+from typing import Any, Callable, Iterator, NoReturn, Sequence
 
 ROOT = Path(__file__).resolve().parent.parent.parent
 
@@ -113,6 +115,19 @@ def said_by(*words: str) -> str:
     except OSError:
         return ""
     return done.stdout.decode("utf-8", "replace").strip()
+
+
+@contextmanager
+def this_python() -> Iterator[None]:
+    """Here a command that is run by its name as python3 is this interpreter, and no script that looks for one."""
+    with tempfile.TemporaryDirectory(prefix="python-") as folder:
+        path = os.environ["PATH"]
+        os.symlink(sys.executable, f"{folder}/python3")
+        os.environ["PATH"] = f"{folder}:{path}"
+        try:
+            yield
+        finally:
+            os.environ["PATH"] = path
 
 
 PROOFS = {"proved": "its proofs were checked on this machine", "unchecked": "its proofs were not checked on this machine"}

@@ -18,7 +18,7 @@ MARKS = {
     "idle": "its lower layer is idle",
     "alt-accept": "its lower layer reports success",
     "alt-reject": "its lower layer reports failure",
-    "restart": "it begins anew",
+    "restart": "it begins again",
     "start": "the login begins",
     "event": "",
 }

@@ -1,17 +1,16 @@
 """The pages: their prose and blocks, their links, the files, numbers and commands that they name."""
 
+import functools
 import os
 import re
 import signal
 import subprocess
-import sys
 import tempfile
-from importlib.machinery import SourceFileLoader
-from importlib.util import module_from_spec, spec_from_loader
 from pathlib import Path
+from types import ModuleType
 from typing import Dict, Iterator, List, Optional, Set, Tuple
 
-from lib.common import ROOT
+from lib.common import ROOT, this_python
 
 COMMANDS = ROOT / "docs/claims.commands"
 TESTED = ROOT / "docs/TESTED.md"
@@ -19,7 +18,8 @@ SECONDS = 300
 
 PAGE_FILES = sorted(file for it in ("README.md", "docs/*.md", "*/README.md", "*/*/README.md") for file in ROOT.glob(it))
 TOPS = {it.name for it in ROOT.iterdir() if it.name != "out"}
-KEPT = [it.relative_to(ROOT).as_posix() for top in sorted(TOPS - {".git"}) for it in (ROOT / top, *(ROOT / top).rglob("*"))]
+# (a line for each file and folder)
+KEPT = "\n".join(it.relative_to(ROOT).as_posix() for top in sorted(TOPS - {".git"}) for it in (ROOT / top, *(ROOT / top).rglob("*")))
 ENDS = ("rt", "antt", "md", "py", "sh", "c", "h", "awk", "edit", "txt", "svg", "hex", "cases", "sums", "inner", "commands",
         "capture", "scenario", "trace", "findings", "replies", "settings", "1")
 
@@ -95,14 +95,16 @@ def check_links(check: Tally, page: Path, prose: Lines) -> None:
                 check.holds(to.suffix == ".md" and anchor in anchors_of(to), fault)
 
 
-def is_there(page: Path, name: str) -> bool:
-    """Whether a file or folder of this name stands in the repository, by the top, the page or a crate, or somewhere."""
+@functools.lru_cache(maxsize=None)
+def is_there(folder: Path, name: str) -> bool:
+    """Whether a file or folder of this name stands in the repository, by the top, the page's folder or a crate, or somewhere."""
     name = name.removeprefix("./").rstrip("/")
-    places = [ROOT, page.parent, *(ROOT / "crates").glob("*"), *(ROOT / "crates").glob("*/proofs")]
-    if "/" in name:
-        found = [*(it.glob(name) for it in places), *((ROOT / "crates").glob(f"{name}{end}") for end in ("", ".antt"))]
-        return any(next(it, None) for it in found)
-    return any(re.fullmatch(rf"(.*/)?{re.escape(name)}".replace(r"\*", "[^/]*"), it) for it in KEPT)
+    form = re.escape(name).replace(r"\*", "[^/]*")
+    if "/" not in name:
+        return re.search(rf"^(?:.*/)?{form}$", KEPT, re.M) is not None
+    front = "" if folder == ROOT else f"{folder.relative_to(ROOT).as_posix()}/"
+    places = rf"(?:{re.escape(front)}|crates/(?:[^/\n]*/(?:proofs/)?)?)?"
+    return re.search(rf"^{places}{form}(?:\.antt)?$", KEPT, re.M) is not None
 
 
 def names_file(word: str) -> bool:
@@ -118,7 +120,7 @@ def check_names(check: Tally, page: Path, prose: Lines) -> None:
     for number, line in prose:
         for word in [it.strip("(),;<>") for code in re.findall(r"`([^`]+)`", line) for it in code.split()]:
             if names_file(word):
-                check.holds(is_there(page, word), f"{page.relative_to(ROOT)}:{number}: there is no file {word}")
+                check.holds(is_there(page.parent, word), f"{page.relative_to(ROOT)}:{number}: there is no file {word}")
 
 
 # Numbers.
@@ -131,11 +133,11 @@ def lines_of(part: str, crates: List[str]) -> int:
 
 def cases() -> int:
     """How many cases cases/run runs."""
-    sys.dont_write_bytecode = True
-    loader = SourceFileLoader("run", str(ROOT / "cases/run"))
-    run = module_from_spec(spec_from_loader("run", loader))
-    loader.exec_module(run)
-    return sum(len(run.read(it)) for it in sorted((ROOT / "cases").glob("*.cases")))
+    file = ROOT / "cases/run"
+    run = ModuleType("run")
+    run.__file__ = str(file)
+    exec(compile(file.read_bytes(), file, "exec"), vars(run))
+    return sum(len(run.rows_of(it)) for it in sorted((ROOT / "cases").glob("*.cases")))
 
 
 def refused() -> List[Tuple[str, str, int, int]]:
@@ -247,10 +249,13 @@ def said_by(check: Tally, folder: str, place: str, lines: List[str], kept: Set[s
 def check_blocks(check: Tally, page: Path, blocks: List[Block], kept: Set[str]) -> None:
     """Runs the commands of a page in a folder of their own, in their order."""
     name = page.relative_to(ROOT)
+    if all(command in kept for _, kind, lines in blocks if kind == "sh" for command, _ in whole_commands(lines)):
+        return
     with tempfile.TemporaryDirectory() as folder:
         for top in TOPS:
             os.symlink(ROOT / top, Path(folder) / top)
-        for (number, kind, lines), (text_number, next_kind, text) in zip(blocks, [*blocks[1:], (0, "", [])]):
+        last: Block = (0, "", [])
+        for (number, kind, lines), (text_number, next_kind, text) in zip(blocks, [*blocks[1:], last]):
             said = said_by(check, folder, f"{name}:{number}", lines, kept) if kind == "sh" else None
             if said is not None and next_kind == "text":
                 rest = iter(said)
@@ -260,8 +265,9 @@ def check_blocks(check: Tally, page: Path, blocks: List[Block], kept: Set[str]) 
 
 def check_commands(check: Tally, blocks: Dict[Path, List[Block]]) -> None:
     kept = unrun()
-    for page, found in blocks.items():
-        check_blocks(check, page, found, kept)
+    with this_python():
+        for page, found in blocks.items():
+            check_blocks(check, page, found, kept)
     shells = [lines for found in blocks.values() for _, kind, lines in found if kind == "sh"]
     told = {command for lines in shells for command, _ in whole_commands(lines)}
     for command in sorted(kept - told):

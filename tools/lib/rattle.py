@@ -2,9 +2,11 @@
 
 import re
 from dataclasses import dataclass, field
-from typing import Iterator, List, NamedTuple, Optional, Tuple
+from typing import Iterator, List, NamedTuple, Optional, Pattern, Tuple
 
-SHAPE = re.compile(r"//[^\n]*|b?\"(?:\\.|[^\"\\])*\"|b?'(?:\\[^']+|[^'\\])'", re.S)
+# (each way begins with a sign of its own, so that a search skips the rest)
+QUOTED, SIGN = r"\"(?:\\.|[^\"\\])*\"", r"'(?:\\[^']+|[^'\\])'"
+SHAPE = re.compile(rf"//[^\n]*|{QUOTED}|b{QUOTED}|{SIGN}|b{SIGN}", re.S)
 FUNCTION = re.compile(r"^ *(pub |pub\(\w+\) )?(?:const |unsafe )*(extern +)?fn (\w+)", re.M)
 MEMBER = re.compile(r"^ +ghost (\w+)", re.M)
 BLOCK = re.compile(r"^(?:pub )?(?:unsafe )?(impl|trait)\b[^{;]*\{", re.M)
@@ -48,18 +50,18 @@ class Function:
     clauses: List[Clause] = field(default_factory=list)
 
 
-def blanked(text: str) -> str:
+def blanked(text: str, shape: Pattern[str] = SHAPE) -> str:
     """The text with spaces in place of comments, strings and characters."""
-    return SHAPE.sub(lambda found: re.sub(r"[^\n]", " ", found[0]), text)
+    return shape.sub(lambda found: "\n".join(" " * len(line) for line in found[0].split("\n")), text)
 
 
 def end_of(blank: str, at: int, pair: str = "{}") -> int:
     """The place behind the bracket that closes the one at this place."""
     depth = 0
-    for place in range(at, len(blank)):
-        depth += (blank[place] == pair[0]) - (blank[place] == pair[1])
+    for found in re.compile(f"[{re.escape(pair)}]").finditer(blank, at):
+        depth += 1 if found[0] == pair[0] else -1
         if depth == 0:
-            return place + 1
+            return found.end()
     return len(blank)
 
 
@@ -87,6 +89,12 @@ def clauses_at(blank: str, at: int) -> Tuple[List[Clause], int]:
     return found, at
 
 
+def type_in(text: str) -> str:
+    """The name of the type, without its path, with which a text begins."""
+    found = re.match(r"\s*&?(?:mut )?([\w:]+)", text)
+    return found[1].rpartition("::")[2] if found else ""
+
+
 def block_of(header: str, begin: int, end: int) -> Block:
     if trait := re.match(r"(?:pub )?(?:unsafe )?trait (\w+)", header):
         return Block(begin, end, trait[1], None, True)
@@ -98,9 +106,8 @@ def block_of(header: str, begin: int, end: int) -> Block:
             if depth == 0:
                 rest = rest[place + 1 :]
                 break
-    last = lambda it: re.split(r"::", re.match(r"&?(?:mut )?([\w:]+)", it.strip())[1])[-1]
     one, of, other = rest.partition(" for ")
-    return Block(begin, end, last(other) if of else last(one), last(one) if of else None, False)
+    return Block(begin, end, type_in(other if of else one), type_in(one) if of else None, False)
 
 
 def blocks_in(blank: str) -> List[Block]:

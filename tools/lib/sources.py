@@ -4,16 +4,20 @@ import functools
 import re
 from dataclasses import dataclass, field
 from pathlib import Path
-from typing import Dict, Iterable, Iterator, List, NamedTuple, Optional, Set, Tuple
+from typing import Callable, Dict, Iterable, Iterator, List, NamedTuple, Optional, Set, Tuple, TypeVar
 
 from lib import rattle
 from lib.common import ROOT, Refused
+from lib.crates import names_of, text_here
 
 NAME = r"[A-Za-z_][\w']*"
 # (within a module a definition is indented; so are the fields of a record, which have no other word than pub)
 HEADER = re.compile(r"(?!pub mod )(?=\S| *(?:pub )?(?:abbrev|unfoldable|opaque|record|data) ) *"
                     r"(?:(?:abbrev|unfoldable|opaque|pub|record|data)\s+)+([^\s:({]+)|module ")
 USE = re.compile(rf"^ *(?:pub )?(?:ghost )?use ([\w:.]+?)(?:(?:\.|::)\{{(.*?)\}})?(?: as ({NAME}))?;?\n", re.M | re.S)
+Node = TypeVar("Node")
+
+
 class Clause(NamedTuple):
     """A clause of a contract: `requires` or `ensures`, its name or nothing, its text, and the lines where it stands."""
 
@@ -49,6 +53,12 @@ class Item:
     @property
     def place(self) -> str:
         return f"{self.crate}::{self.name}"
+
+    @functools.cached_property
+    def key(self) -> str:
+        """Where it stands: its crate, its file, its name."""
+        path = self.file.rpartition(".")[0].split("/")[3:]
+        return "::".join([self.crate, *path, *filter(None, [self.name])])
 
     @property
     def line(self) -> int:
@@ -108,13 +118,11 @@ class Call(Item):
 class Source:
     """A file: its crate, its lines, its items, and where other names come from."""
 
-    def __init__(self, path: Path):
-        self.path = path
-        self.file = str(path.relative_to(ROOT))
-        self.crate = self.file.split("/")[1]
-        self.text = path.read_text()
-        self.lines = self.text.splitlines()
-        self.is_rust = path.suffix == ".rt"
+    def __init__(self, file: str, text: str):
+        self.file, self.text = file, text
+        self.crate = file.split("/")[1]
+        self.lines = text.splitlines()
+        self.is_rust = file.endswith(".rt")
         self.mark = "//" if self.is_rust else "--"
         self.items: List[Item] = list(self.rust_items() if self.is_rust else self.definitions())
 
@@ -157,10 +165,10 @@ class Source:
 
     def definitions(self) -> Iterator[Item]:
         """The definitions of a file of specs."""
-        heads = [(at, HEADER.match(line)) for at, line in enumerate(self.lines)]
-        heads = [(at, found[1] or "") for at, found in heads if found]
+        heads = [(at, found[1] or "") for at, line in enumerate(self.lines) for found in [HEADER.match(line)] if found]
         ends = [self.front(at) for at, _ in heads[1:]] + [len(self.lines)]
-        module, part, last = None, "", None
+        module: Optional[Item] = None
+        part, last = "", 0
         for (at, name), end in zip(heads, ends):
             inner = []
             if re.search(r"\bdata\b", self.lines[at]):
@@ -168,7 +176,7 @@ class Source:
             item = self.item(name, at, end, inner)
             item.inside = module if self.lines[at].startswith(" ") else None
             module = item.inside or (item if not name else None)
-            if last is not None:
+            if last:
                 part = self.said(self.lines[last : item.line - 1]) or part
             item.part, last = part, max(item.lines)
             yield item
@@ -186,7 +194,7 @@ class Source:
         closed = {it.owner for it in blocks if it.of_trait == "Model"}
         for name, begin, end in rattle.types_in(blank):
             yield self.declared(name, begin, end, name in closed)
-        heads = {}
+        heads: Dict[Optional[rattle.Block], Item] = {}
         for block in blocks:
             heads[block] = self.head_of(blank, block, [it for it in functions if it.block == block])
             yield heads[block]
@@ -241,36 +249,46 @@ class Source:
         return Clause(it.kind, it.name, text, range(self.line_of(it.begin), self.line_of(it.end - 1) + 1))
 
     @functools.cached_property
+    def named(self) -> List[Tuple[Item, List[str]]]:
+        """The definitions and types, each with its names."""
+        return [(it, [it.name, *it.inner]) for it in self.items if it.name and not isinstance(it, Call)]
+
+    @functools.cached_property
     def imports(self) -> Dict[str, List[Tuple[str, Optional[str]]]]:
         """Names and where they come from: the module, with the name there; None for all of a module."""
         found: Dict[str, List[Tuple[str, Optional[str]]]] = {}
-        add = lambda name, *there: found.setdefault(name, []).append(there)
         for module, names, alias in USE.findall(self.text):
             module = module.replace("::", ".")
             if alias:
-                add(alias, module, None)
+                found.setdefault(alias, []).append((module, None))
             elif names:
                 for name in filter(None, re.split(r",\s*", names.strip())):
                     there, _, here = name.split("::")[-1].partition(" as ")
-                    add(here or there, module, there)
+                    found.setdefault(here or there, []).append((module, there))
             else:
-                add(module.split(".")[-1], module.rpartition(".")[0], module.split(".")[-1])
+                front, _, last = module.rpartition(".")
+                found.setdefault(last, []).append((front, last))
         return found
+
+
+@functools.lru_cache(maxsize=None)
+def source_of(file: str, text: str) -> Source:
+    """A file with this text, which is taken apart once."""
+    return Source(file, text)
 
 
 class Repository:
     """All crates, lowest first, with what is defined in each."""
 
     def __init__(self) -> None:
-        lines = (ROOT / "crates.txt").read_text().splitlines()
-        self.crates = [line.split(":")[0].split()[0] for line in lines if line and not line.startswith("#")]
+        self.crates = list(names_of(text_here()))
         self.sources: Dict[str, Source] = {}
         self.of: Dict[Tuple[str, str], List[Item]] = {}
         for crate in self.crates:
             for part in ("specs", "src"):
                 for path in sorted((ROOT / "crates" / crate / part).rglob("*.*t*")):
                     if path.suffix in (".rt", ".antt"):
-                        self.add(Source(path))
+                        self.add(source_of(path.relative_to(ROOT).as_posix(), path.read_text()))
         self.calls: List[Call] = [it for source in self.sources.values() for it in source.items if isinstance(it, Call)]
         of_traits = {(it.owner, it.name): it for it in self.calls if it.inside and it.inside.name == it.owner and not it.of_trait}
         for it in self.calls:
@@ -352,11 +370,10 @@ class Repository:
 
     def look_at(self, item: Item) -> Tuple[List[Item], Set[Tuple[str, str]]]:
         source = self.sources[item.file]
-        names = lambda it: any(is_named(one, item.tokens) for one in (it.name, *it.inner))
-        found = [it for it in source.items if it is not item and it.name and not isinstance(it, Call) and names(it)]
+        found = [it for it, names in source.named if it is not item and any(is_named(one, item.tokens) for one in names)]
         foreign = set()
-        for name, places in source.imports.items():
-            for module, there in places if is_named(name, item.tokens) else ():
+        for name in [it for it in source.imports if is_named(it, item.tokens)]:
+            for module, there in source.imports[name]:
                 if module.startswith(("crate", "super", "self")):
                     module = source.crate
                 if there is None:
@@ -393,11 +410,15 @@ class Repository:
         return [it for it in self.at(module, None) if names & {it.name, *it.inner}]
 
     def root(self, words: str) -> List[Item]:
-        """The items that CRATE::NAME or NAME names; of a call no more than the clauses that `: CLAUSE, ..` names."""
+        """The items that CRATE::NAME or NAME names; of a call no more than the clauses that `: CLAUSE, ..` names. CRATE and
+        CRATE::FILE name all definitions of a crate, and of a file of its specs."""
         name, _, clauses = words.partition(": ")
         crate, _, rest = name.partition("::")
-        if crate in self.crates and rest:
-            found = self.of.get((crate, rest), [])
+        if crate in self.crates:
+            file = f"crates/{crate}/specs/{rest.replace('::', '/')}"
+            found = self.of.get((crate, rest), []) if rest else []
+            found = found or [it for source in self.sources.values() for it in source.items
+                              if source.file == f"{file}.antt" or not rest and source.file.startswith(file)]
         else:
             found = [it for (_, its_name), items in self.of.items() if its_name == name for it in items]
         files = sorted({it.file for it in found})
@@ -421,10 +442,11 @@ def exports_of(source: Optional[Source]) -> Set[str]:
 
 def promised(item: Item, clauses: List[str]) -> List[Item]:
     """What one reads for these clauses of a call."""
-    kept = item.contract if isinstance(item, Call) else None
-    for clause in clauses:
-        if kept is None or clause not in [it.name for it in kept.clauses]:
-            raise Refused(f"{item.name} has no clause {clause}")
+    kept = item.contract if isinstance(item, Call) else item
+    names = [it.name for it in kept.clauses] if isinstance(kept, Call) else []
+    lost = next((it for it in clauses if it not in names), None)
+    if lost is not None or not (isinstance(item, Call) and isinstance(kept, Call)):
+        raise Refused(f"{item.name} has no clause {lost or ', '.join(clauses)}")
     return [kept.with_clauses(clauses), *([item.with_clauses([])] if kept is not item else [])]
 
 
@@ -433,9 +455,11 @@ def is_named(name: str, tokens: Set[str]) -> bool:
     return name in tokens or "◌" in name and all(part in tokens for part in name.split("◌") if part)
 
 
-def behind(roots: List, others_of) -> List:
+def behind(roots: List[Node], others_of: Callable[[Node], List[Node]]) -> List[Node]:
     """All that can be reached from the roots, each behind what it needs where there is no circle."""
-    order, seen, stack = [], set(), [(it, False) for it in reversed(roots)]
+    order: List[Node] = []
+    seen: Set[Node] = set()
+    stack = [(it, False) for it in reversed(roots)]
     while stack:
         it, is_done = stack.pop()
         if is_done:

@@ -43,16 +43,19 @@ class Statement:
         return sum_of([self.page, self.crate or "", *self.words, *self.texts()])
 
 
+def code_in(text: str) -> List[str]:
+    return re.findall(r"`([^`]*)`", text)
+
+
 class Row(Statement):
     """A row of CLAIMS or ANSWERS."""
 
     def __init__(self, page: str, line: int, crate: str, cells: List[str]):
-        code = lambda text: re.findall(r"`([^`]*)`", text)
         self.cells = cells
-        self.names = code(cells[1] if page == "CLAIMS.md" else cells[-1])
-        self.calls = code(cells[0]) if page == "ANSWERS.md" else []
-        self.edits = code(cells[2]) if page == "CLAIMS.md" else []
-        self.code = set(re.findall(r"\w+", " ".join(code(" ".join(cells)))))
+        self.names = code_in(cells[1] if page == "CLAIMS.md" else cells[-1])
+        self.calls = code_in(cells[0]) if page == "ANSWERS.md" else []
+        self.edits = code_in(cells[2]) if page == "CLAIMS.md" else []
+        self.code = set(re.findall(r"\w+", " ".join(code_in(" ".join(cells)))))
         said = [section_of(*it) for it in re.findall(r"\((AGREEMENT\.md)#([\w-]+)\)", cells[0])]
         super().__init__(page, line, crate, (self.calls or self.names or [""])[0], [*cells, *said])
 
@@ -115,7 +118,7 @@ class Names:
         return found or self.repository.definition(name, crate)
 
     def in_text(self, text: str, crate: Optional[str]) -> List[Item]:
-        return [it for word in re.findall(r"`([^`]+)`", text) for it in self.meant(word, crate)]
+        return [it for word in code_in(text) for it in self.meant(word, crate)]
 
     def behind_links(self, text: str) -> List[Item]:
         """What a section of CLAIMS names, and what AGREEMENT names."""
@@ -161,18 +164,11 @@ def parts_of_header(names: Names) -> Iterator[Statement]:
 # What is below.
 
 
-def key_of(item: Item) -> str:
-    """The place of an item: its crate, its file, its name."""
-    path = Path(item.file).relative_to(Path("crates") / item.crate).with_suffix("").parts[1:]
-    return "::".join([item.crate, *path, *filter(None, [item.name])])
-
-
 class Below:
     """All that some statements rest on."""
 
     def __init__(self, repository: Repository, roots: Iterable[Item]):
         self.repository = repository
-        self.others = lambda it: repository.named_by(it)[0]
         reached: Dict[Item, None] = {}
         # (a law is read with the words above it)
         rest = [it for root in roots for it in [*self.others(root), *[root] * is_law(root)]]
@@ -183,12 +179,15 @@ class Below:
                 rest += self.others(it)
         self.by_key: Dict[str, List[Item]] = {}
         for it in sorted(reached, key=lambda it: (repository.rank(it.file), it.file, it.line)):
-            self.by_key.setdefault(key_of(it), []).append(it)
+            self.by_key.setdefault(it.key, []).append(it)
+
+    def others(self, item: Item) -> List[Item]:
+        return self.repository.named_by(item)[0]
 
     @functools.cached_property
     def labels(self) -> Dict[str, str]:
         """The places, without the crate where no other crate has the like: what moves isn't read again."""
-        keys = {key_of(it) for source in self.repository.sources.values() for it in source.items}
+        keys = {it.key for source in self.repository.sources.values() for it in source.items}
         count = Counter(key.partition("::")[2] for key in keys)
         return {key: key if count[key.partition("::")[2]] > 1 else key.partition("::")[2] for key in keys}
 
@@ -196,7 +195,7 @@ class Below:
         """A sum of the texts that stand at a place, without comments, and of the places that they name."""
         items = self.by_key[key]
         said = [it.comment for it in items if is_law(it)]
-        named = sorted({self.labels[key_of(other)] for it in items for other in self.others(it)})
+        named = sorted({self.labels[other.key] for it in items for other in self.others(it)})
         return sum_of([self.labels[key], *(it.text for it in items), *said, *named])
 
     @functools.cached_property

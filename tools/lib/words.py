@@ -125,7 +125,7 @@ EVENTS = (
     Line("alt-accept", (), "the peer's lower layer reports success (RFC 4137 section 4.1.1)"),
     Line("alt-reject", (), "the peer's lower layer reports failure (RFC 4137 section 4.1.1)"),
 )
-# What scenario 2 has besides, or says anew.
+# What scenario 2 has besides, or says again.
 LATER_SETTINGS = (
     Line("peer-nonce", (NONCE,), "{HEX} in hex; EAP-PSK uses the first 16. The first line has the nonce of the peer's "
          "first conversation, the others those of its later ones, in their order", "needed; at most 16 lines"),
@@ -136,7 +136,7 @@ LATER_SETTINGS = (
          "Requests with Type 254", "`no`"),
 )
 LATER_EVENTS = (
-    Line("restart", (choice("P", "peer", "server", "pass"),), "a party, `peer`, `server` or `pass`, begins anew in "
+    Line("restart", (choice("P", "peer", "server", "pass"),), "a party, `peer`, `server` or `pass`, begins again in "
          "whatever state it is: an end its next conversation, with its next nonce and the first Identifier again, the "
          "pass-through as at the start"),
 )
@@ -181,7 +181,6 @@ RADIUS_LINES = (
          "be `request`"),
     Line("end", (), "none: nothing stands behind it"),
 )
-USER_WORDS = (NAME, Field("KIND", "method"), KEY)
 BULK_WORDS = (number("N", 0, 999999), number("K", 1, 1000))
 
 
@@ -332,7 +331,7 @@ CAUSES = (
     Cause("NotAllowed", "at the peer: a Notification while a method is selected"),
     Cause("MethodDone", "at the peer: a Request of the method after its end"),
     Cause("OtherMethod", "at the peer: a Request of another Type than the selected method, Identity among them",
-          "the peer has selected a method, and this Request is of another Type: the server began anew, or it is forged"),
+          "the peer has selected a method, and this Request is of another Type: the server began again, or it is forged"),
     Cause("EarlySuccess", "at the peer: a Success while the method goes on and can't succeed yet",
           "a Success before the server has shown that it has the key: nothing vouches for a Success, so anybody can have "
           "sent it"),

@@ -1,0 +1,46 @@
+"""shellcheck, pyflakes and mypy find nothing, where they are installed."""
+
+from __future__ import annotations
+
+import shutil
+import subprocess
+import sys
+from pathlib import Path
+from typing import Iterator, Optional
+
+from cases.lib.small import Run
+
+FOLDERS = (".", ".ci", "bench", "c", "c/hostapd", "cases", "examples", "live", "tools", "tools/cases", "tools/cases/lib", "tools/lib")
+SHELL = ("#!/bin/sh", "# shellcheck shell=sh")
+
+
+def scripts() -> dict[str, str]:
+    """The files of these folders, each with its first line."""
+    files = [it for folder in FOLDERS for it in sorted(Path(folder).iterdir()) if it.is_file()]
+    return {str(it): it.open(encoding="latin-1").readline() for it in files}
+
+
+def finds_nothing(names: tuple[str, ...], words: list[str], folder: str = ".") -> Iterator[Optional[str]]:
+    """The first of these commands that is installed finds nothing with these words."""
+    command = next((it for it in names if shutil.which(it)), None)
+    if command is None:
+        print(f"tools/check: {names[0]} is passed over: it isn't installed", file=sys.stderr)
+        return
+    done = subprocess.run([command, *words], cwd=folder, stdin=subprocess.DEVNULL, stdout=subprocess.PIPE, stderr=subprocess.STDOUT)
+    said = done.stdout.decode("utf-8", "replace").strip()
+    yield f"{command}: {said[-2000:]}" if done.returncode else None
+
+
+def case_shell(run: Run) -> Iterator[Optional[str]]:
+    words = [it for it, line in scripts().items() if line.startswith(SHELL)]
+    yield from finds_nothing(("shellcheck",), ["-x", "-S", "warning", "-f", "gcc", *words])
+
+
+def case_python(run: Run) -> Iterator[Optional[str]]:
+    words = [it for it, line in scripts().items() if it.endswith(".py") or line.startswith("#!") and "python3" in line]
+    yield from finds_nothing(("pyflakes", "pyflakes3"), words)
+
+
+def case_types(run: Run) -> Iterator[Optional[str]]:
+    words = ["--strict", "--explicit-package-bases", "--python-version", "3.9", "--cache-dir", "../out/mypy"]
+    yield from finds_nothing(("mypy",), [*words, *(str(it.relative_to("tools")) for it in sorted(Path("tools/lib").glob("*.py")))], "tools")

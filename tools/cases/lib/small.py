@@ -1,0 +1,65 @@
+"""A small repository, over which a tool runs as if it stood there."""
+
+from __future__ import annotations
+
+import re
+from pathlib import Path
+from typing import Callable, NamedTuple, Optional
+
+Run = Callable[..., tuple[int, str, str]]
+
+
+class Said(NamedTuple):
+    """What a tool ended with, and the lines that it wrote."""
+
+    status: int
+    out: list[str]
+    errors: list[str]
+
+    @property
+    def lines(self) -> list[str]:
+        return self.out + self.errors
+
+
+def holds(is_so: object, otherwise: str) -> Optional[str]:
+    return None if is_so else otherwise
+
+
+class Small:
+    """A repository of these texts, by their places, in a folder that is there for it alone."""
+
+    def __init__(self, run: Run, folder: str, texts: dict[str, str]) -> None:
+        self.runs, self.root, self.texts = run, Path(folder), texts
+        self.changed = set(texts)
+        self.again()
+
+    def again(self) -> None:
+        """Puts back what was changed since it was whole."""
+        for name in sorted(self.changed):
+            if name in self.texts:
+                self.write(name, self.texts[name])
+            else:
+                (self.root / name).unlink()
+        self.changed = set()
+
+    def write(self, name: str, text: str) -> None:
+        file = self.root / name
+        file.parent.mkdir(parents=True, exist_ok=True)
+        file.write_text(text)
+        self.changed.add(name)
+
+    def add(self, name: str, text: str) -> None:
+        """Sets this text behind that of a file."""
+        file = self.root / name
+        self.write(name, (file.read_text() if file.exists() else "") + text)
+
+    def turn(self, name: str, old: str, new: str) -> None:
+        """Sets something else in place of the first text of this form."""
+        was = (self.root / name).read_text()
+        text = re.sub(old, new, was, count=1, flags=re.M)
+        assert text != was, f"{name} doesn't have {old}"
+        self.write(name, text)
+
+    def run(self, *words: str) -> Said:
+        status, out, errors = self.runs(words, root=self.root)
+        return Said(status, out.splitlines(), errors.splitlines())
