@@ -1,6 +1,6 @@
 #!/bin/sh
 # Counts the instructions of the ciphers and MACs, and compares them with OpenSSL's. README.md beside it says
-# what is measured.
+# what is measured, and ciphers.txt what each row is.
 set -eu
 
 for it in rt valgrind openssl cc python3; do

@@ -1,6 +1,6 @@
 #!/bin/sh
 # Counts the instructions of one login, and measures replays of a login and of 1,000 and 10,000 events.
-# README.md beside it says what is measured.
+# README.md beside it says what is measured, and logins.txt what each row is.
 set -eu
 
 for it in rt valgrind awk; do
