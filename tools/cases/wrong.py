@@ -106,6 +106,8 @@ def case_status(run: Run) -> Iterator[Optional[str]]:
         today = time.strftime("%Y-%m-%d")
         yield from tells(small, 0, "status", f"high: 1 of 1 edits refused on {today} by rattle-kit-0 logic 0, of today's sources")
         yield from tells(small, 0, "--stale", "wrong: 0 passed, 0 failed")
+        small.add("crates/low/src/lib.rt", "    // on a comment no refusal rests\n")
+        yield from tells(small, 0, "--stale", "wrong: 0 passed, 0 failed")
         small.add("crates/low/src/lib.rt", "a\n")
         yield from tells(small, 0, "status", f"high: 1 of 1 edits refused on {today} by rattle-kit-0 logic 0, of other sources",
                          "edits: 0 tried on today's sources; 1 on other sources alone, of 1 crates; 0 never, 0 crates have no row; besides 1 of the gate")
