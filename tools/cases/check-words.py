@@ -32,6 +32,10 @@ def case_small(run: Run) -> Iterator[Optional[str]]:
             said = small.run("check-words")
             yield holds(said.status == 1 and line in said.errors, f"it doesn't say '{line}' but {said.errors}")
         small.again()
+        small.add("README.md", ", ".join(["`A`"] * 41))
+        told = [it for it in small.run("check-words").errors if "sentence" in it]
+        yield holds(not told, f"it takes names for a sentence: {told}")
+        small.again()
         small.write(BOUNDS, "README.md 1000\n")
         small.run("check-words", "--lower")
         yield holds((small.root / BOUNDS).read_text() == "README.md 5\ndocs/TEXTS.md 49\n", "--lower sets other bounds")

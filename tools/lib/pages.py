@@ -23,6 +23,9 @@ KEPT = "\n".join(it.relative_to(ROOT).as_posix() for top in sorted(TOPS - {".git
 ENDS = ("rt", "antt", "md", "py", "sh", "c", "h", "awk", "edit", "txt", "svg", "hex", "cases", "sums", "inner", "commands",
         "capture", "scenario", "trace", "findings", "replies", "settings", "1")
 
+# Names in code, with commas between them.
+RUN = r"`[^`]*`(?:, `[^`]*`)*"
+
 Lines = List[Tuple[int, str]]
 Block = Tuple[int, str, List[str]]
 

@@ -9,7 +9,7 @@ from pathlib import Path
 from typing import Dict, Iterable, Iterator, List, Optional, Set, Tuple
 
 from lib.common import ROOT
-from lib.pages import anchor_of, cells_of, parts_of, section_of
+from lib.pages import RUN, anchor_of, parts_of, section_of
 from lib.sources import Call, Item, Repository
 
 ROWS = ("CLAIMS.md", "ANSWERS.md")
@@ -47,17 +47,29 @@ def code_in(text: str) -> List[str]:
     return re.findall(r"`([^`]*)`", text)
 
 
-class Row(Statement):
-    """A row of CLAIMS or ANSWERS."""
+def in_item(line: str) -> Tuple[List[str], str, List[str]]:
+    """Of an item of CLAIMS or ANSWERS the names before a colon at its begin, what it says, and the names at its end."""
+    found = re.fullmatch(rf"- (?:({RUN}): )?(.*?)({RUN})?", line)
+    begin, said, end = found.groups("") if found else ("", line, "")
+    return code_in(begin), said.strip(), code_in(end)
 
-    def __init__(self, page: str, line: int, crate: str, cells: List[str]):
-        self.cells = cells
-        self.names = code_in(cells[1] if page == "CLAIMS.md" else cells[-1])
-        self.calls = code_in(cells[0]) if page == "ANSWERS.md" else []
-        self.edits = code_in(cells[2]) if page == "CLAIMS.md" else []
-        self.code = set(re.findall(r"\w+", " ".join(code_in(" ".join(cells)))))
-        said = [section_of(*it) for it in re.findall(r"\((AGREEMENT\.md)#([\w-]+)\)", cells[0])]
-        super().__init__(page, line, crate, (self.calls or self.names or [""])[0], [*cells, *said])
+
+def of_each_call(name: str) -> List[str]:
+    """What `CALL, CALL: CLAUSE, CLAUSE` says, of each call."""
+    calls, colon, clauses = name.partition(": ")
+    return [f"{call}{colon}{clauses}" for call in calls.split(", ")]
+
+
+class Row(Statement):
+    """A row of CLAIMS or ANSWERS: an item of a list."""
+
+    def __init__(self, page: str, line: int, crate: str, text: str):
+        self.calls, self.said, names = in_item(text)
+        self.names = [it for name in names if "__" not in name for it in of_each_call(name)]
+        self.edits = [it for it in names if "__" in it]
+        self.code = set(re.findall(r"\w+", " ".join(code_in(text))))
+        linked = [section_of(*it) for it in re.findall(r"\((AGREEMENT\.md)#([\w-]+)\)", self.said)]
+        super().__init__(page, line, crate, [*self.calls, *self.names, ""][0], [text, *linked])
 
     def folders(self) -> List[Path]:
         return [ROOT / "crates" / (self.crate or "") / "must-fail", ROOT / "wrong" / (self.crate or "")]
@@ -81,15 +93,15 @@ def prose_of(page: str) -> Iterator[Tuple[int, str, str]]:
             yield number, heading, line.strip()
 
 
-def in_rows(page: str, heading: str, line: str) -> bool:
-    """Whether a line stands in a table of claims or answers."""
-    return Path(page).name in ROWS and bool(crate_of(heading)) and line.startswith("|")
+def is_row(page: str, heading: str, line: str) -> bool:
+    """Whether a line is a row of claims or answers: an item below the heading of a crate."""
+    return Path(page).name in ROWS and bool(crate_of(heading)) and line.startswith("- ")
 
 
 def rows_of(page: str) -> Iterator[Row]:
     for number, heading, line in prose_of(f"docs/{page}"):
-        if in_rows(page, heading, line) and not re.match(r"\| *(Claim|Call) *\|", line):
-            yield Row(page, number, crate_of(heading) or "", cells_of(line))
+        if is_row(page, heading, line):
+            yield Row(page, number, crate_of(heading) or "", line)
 
 
 # Sentences.
@@ -138,10 +150,10 @@ class Names:
 
 
 def sentences_of(page: str, names: Names) -> Iterator[Statement]:
-    """The lines of prose of a page, and of its tables but for the rows that name a contract."""
+    """The lines of prose of a page, and of its tables, but for the rows."""
     for number, heading, line in prose_of(page):
         wanted = SENTENCES[page]
-        if not in_rows(page, heading, line) and (not wanted or heading in wanted):
+        if not is_row(page, heading, line) and (not wanted or heading in wanted):
             crate = crate_of(heading)
             found = Statement(Path(page).name, number, crate, line[:40], [heading, line])
             found.items = names.in_text(line, crate if crate in names.repository.crates else None) + names.behind_links(line)

@@ -322,8 +322,8 @@ CAUSES = (
           "anything but a Response from the peer, or a Response from the server",
           "it goes the wrong way: a packet came back to the end that sends such packets"),
     Cause("BadExpanded", "at an end that reads Expanded Types: a Request, at the peer, or a Response, at the server, of "
-          "Type 254 with under 7 octets of Type-Data, or an Expanded Nak that is a Request, or whose list isn't one or "
-          "more entries of 8 octets that each begin with fe"),
+          "Type 254 with under 7 octets of Type-Data. So too an Expanded Nak that is a Request, or whose list isn't one "
+          "or more entries of 8 octets that each begin with fe"),
     Cause("NotWaiting", "octets came to the pass-through from the side that it doesn't wait for"),
     Cause("IdMismatch", "at the server or the pass-through: a Response whose Identifier isn't that of its last Request; at "
           "the peer: a Success or a Failure whose Identifier isn't that of the Request answered last",
@@ -396,9 +396,8 @@ FINDINGS = (
             "that goes the wrong way", "it is no packet, or no message that may go this way", "bad"),
     Finding("K good", "a Success, a Failure or another Type, 254 among them; GPSK-1, GPSK-Fail and PSK-1, which have no "
             "tag", "it is well-formed and of a kind that has no tag, so nothing authenticates it"),
-    Finding("K no-context", "GPSK-3, GPSK-4 or GPSK-Protected-Fail without a GPSK-2 with a good tag before; PSK-2 without "
-            "a PSK-1 before, or with another RAND_S than the last; PSK-3 or PSK-4 without a PSK-2 with a good tag before, "
-            "or with another RAND_S than the last such", "its tag isn't judged: the message that it rests on isn't "
+    Finding("K no-context", "GPSK-3, GPSK-4 or GPSK-Protected-Fail without a GPSK-2 with a good tag before; PSK-3 or PSK-4 "
+            "without such a PSK-2; PSK-2 without a PSK-1; by EAP-PSK also with another RAND_S than the last such", "its tag isn't judged: the message that it rests on isn't "
             "there, or has no good tag itself", "open"),
     Finding("K no-key", "GPSK-2 or PSK-2 of a name that no user of the method has", "its tag isn't judged: no key is "
             "given for this name and method", "open"),
