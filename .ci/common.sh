@@ -5,7 +5,7 @@ crate=$here/crates/eap_login
 # A program is kept as eap_login-proved, whose proofs were checked on this machine, or as eap_login-unchecked. Beside it
 # stands its record, NAME.of: the kit's line, a sum of each source, and the program's own sum.
 kept=$here/out
-work='' working='' begun=$(date +%s)
+work='' working='' begun=''
 
 # What can't be said stops nothing: standard error may be closed or full.
 [ -e /proc/self/fd/2 ] || exec 2>/dev/null
@@ -30,25 +30,19 @@ TEXT
     [ "${named##* logic }" = "${found##* logic }" ] || say "warning: the README names the toolchain $named, and this is $found"
 }
 
-# The crates that the program stands on, itself among them, by crates.txt, lowest first.
-crates_below() {
+# The lines of crates.txt for the crates that the program stands on, itself among them.
+lines_below() {
     awk '
-        { sub(/#.*/, "") }
-        /:/ { name = $1; sub(/:$/, "", name); deps[name] = $0; sub(/^[^:]*:/, "", deps[name]) }
+        { line = $0; sub(/#.*/, "") }
+        /:/ { name = $1; sub(/:$/, "", name); deps[name] = $0; sub(/^[^:]*:/, "", deps[name]); names[++all] = name; lines[all] = line }
         function take(name,    words, count, at) {
             if (!(name in deps) || name in taken) return
             taken[name] = 1
             count = split(deps[name], words, " ")
             for (at = 1; at <= count; at++) take(words[at])
-            print name
         }
-        END { take("eap_login") }
+        END { take("eap_login"); for (at = 1; at <= all; at++) if (names[at] in taken) print lines[at] }
     ' "$here/crates.txt"
-}
-
-# The lines of crates.txt for these crates.
-lines_below() {
-    crates_below | awk 'FNR == NR { wanted[$1 ":"] = 1; next } $1 in wanted' - "$here/crates.txt"
 }
 
 # A sum of each file that decides what the program is: the sources, definitions and proofs of these crates, and
@@ -57,8 +51,9 @@ sums_of_sources() {
     (
         cd "$here"
         set -f
-        lines_below
-        folders=$(for name in $(crates_below); do
+        lines=$(lines_below)
+        printf '%s\n' "$lines"
+        folders=$(printf '%s\n' "$lines" | while IFS=: read -r name _; do
             for part in src specs proofs; do
                 [ ! -d "crates/$name/$part" ] || echo "crates/$name/$part"
             done
@@ -93,8 +88,9 @@ keep() {
 
 # From here on a signal ends what was started, and in the end nothing is left in "$work".
 clean_at_end() {
+    begun=${begun:-$(date +%s)}
     work=$(mktemp -d) || return
-    trap 'rm -rf "$work" "$kept"/*.new."$$"' EXIT
+    trap 'stop; rm -rf "$work" "$kept"/*.new."$$"' EXIT
     trap 'give_up 130' INT
     trap 'give_up 143' TERM
     trap 'give_up 129' HUP
@@ -105,12 +101,17 @@ forget_end() {
     trap - EXIT INT TERM HUP
 }
 
+# Ends what was started, by the numbers in `working`.
+stop() {
+    [ -n "$working" ] || return 0
+    # shellcheck disable=SC2086
+    { kill $working || true; wait $working || true; } 2>/dev/null
+    working=
+}
+
 give_up() {
     trap '' INT TERM HUP
-    if [ -n "$working" ]; then
-        kill "$working" 2>/dev/null || true
-        wait "$working" 2>/dev/null || true
-    fi
+    stop
     say "stopped"
     exit "$1"
 }

@@ -26,7 +26,7 @@ for crate in $(sed -n 's/^\([a-z_]*\):.*/\1/p' "$work/crates.txt"); do
     done
 done
 (cd "$work" && rt new crates/login_count start_io >/dev/null 2>&1)
-echo 'login_count: login_setup eap_method eap_world gpsk_ends psk_ends scenario_text world_commands' >>"$work/crates.txt"
+echo 'login_count: eap_base login_setup eap_method psk_ends gpsk_ends eap_world scenario_text world_commands' >>"$work/crates.txt"
 crate="$work/crates/login_count"
 rm -rf "$crate/proofs" "$crate/specs" "$crate/src" "$crate/stdin" "$crate/stdout" "$crate/BUILD.bazel"
 mkdir -p "$crate/src" "$crate/proofs/login_of"
@@ -166,7 +166,10 @@ fn main(rt: HostRuntime) -> io::Result<()> {
 }
 END
 echo "login_speed: proving and building" >&2
-(cd "$crate" && rt fmt && cd "$work" && rt ci) >"$work/log" 2>&1 || { tail -n 20 "$work/log" >&2; exit 1; }
+(cd "$crate" && rt fmt && cd "$work" && rt ci) >"$work/log" 2>&1 || {
+    grep -a 'error\|not proved\|NOT PROVED\|passed' "$work/log" >&2
+    exit 1
+}
 
 # Zeroing by `rep stosb` counts as one instruction an octet, so it is turned off.
 export GLIBC_TUNABLES=glibc.cpu.x86_rep_stosb_threshold=10000000

@@ -85,7 +85,7 @@ fi
 
 # As a Debian package, unpacked elsewhere: it runs there, and asks for what the program is linked with and no more.
 if command -v dpkg-deb >/dev/null; then
-    tools/install --unchecked --deb "$work/login.deb" >"$work/said" 2>"$work/errors" ||
+    DPKG_DEB_COMPRESSOR_LEVEL=1 tools/install --unchecked --deb "$work/login.deb" >"$work/said" 2>"$work/errors" ||
         fail "install --deb ends with a failure"
     has_line "Package: $(printf %s "$name" | tr _ -)" "install --deb"
     dpkg-deb -x "$work/login.deb" "$work/unpacked"

@@ -3,6 +3,7 @@
 from __future__ import annotations
 
 import argparse
+import functools
 import os
 import subprocess
 import sys
@@ -87,7 +88,12 @@ told: list[bool] = []
 
 def answer(words: Sequence[str], octets: bytes) -> tuple[int, list[str]]:
     """The status with which the program ends at these words and octets, and what it writes, in lines."""
-    program = os.environ.get("EAP_LOGIN") or str(ROOT / "eap_login")
+    return answer_of(os.environ.get("EAP_LOGIN") or str(ROOT / "eap_login"), tuple(words), octets)
+
+
+@functools.lru_cache(maxsize=None)
+def answer_of(program: str, words: tuple[str, ...], octets: bytes) -> tuple[int, list[str]]:
+    """The same, which is asked once."""
     errors = subprocess.DEVNULL if told else None
     try:
         done = subprocess.run([program, *words], input=octets, stdout=subprocess.PIPE, stderr=errors,

@@ -13,6 +13,8 @@ from typing import Any, Iterator, Optional
 from lib.common import ROOT
 
 codes: dict[str, CodeType] = {}
+# The modules of each repository, which are loaded once: a tool by its name, and those of tools/lib.
+loaded: dict[Path, dict[str, ModuleType]] = {}
 
 
 class Elsewhere(MetaPathFinder, Loader):
@@ -43,14 +45,17 @@ class Elsewhere(MetaPathFinder, Loader):
     def tool(self, name: str) -> Iterator[ModuleType]:
         """The tool, with modules of its own for as long as it runs."""
         kept = {it: sys.modules.pop(it) for it in list(sys.modules) if it.split(".")[0] == "lib"}
-        module = ModuleType(f"{name} elsewhere")
-        sys.modules[module.__name__] = module
+        own = loaded.setdefault(self.root, {})
+        sys.modules.update(own)
         sys.meta_path.insert(0, self)
         try:
-            self.run(module, f"tools/{name}")
-            yield module
+            if name not in own:
+                own[name] = sys.modules[name] = ModuleType(name)
+                self.run(own[name], f"tools/{name}")
+            yield own[name]
         finally:
             sys.meta_path.remove(self)
-            for it in [it for it in sys.modules if it.split(".")[0] == "lib" or it == module.__name__]:
+            own.update((it, sys.modules[it]) for it in sys.modules if it.split(".")[0] == "lib")
+            for it in own:
                 del sys.modules[it]
             sys.modules.update(kept)

@@ -16,10 +16,6 @@ COMMANDS = ROOT / "docs/claims.commands"
 TESTED = ROOT / "docs/TESTED.md"
 SECONDS = 300
 
-PAGE_FILES = sorted(file for it in ("README.md", "docs/*.md", "*/README.md", "*/*/README.md") for file in ROOT.glob(it))
-TOPS = {it.name for it in ROOT.iterdir() if it.name != "out"}
-# (a line for each file and folder)
-KEPT = "\n".join(it.relative_to(ROOT).as_posix() for top in sorted(TOPS - {".git"}) for it in (ROOT / top, *(ROOT / top).rglob("*")))
 ENDS = ("rt", "antt", "md", "py", "sh", "c", "h", "awk", "edit", "txt", "svg", "hex", "cases", "sums", "inner", "commands",
         "capture", "scenario", "trace", "findings", "replies", "settings", "1")
 
@@ -41,6 +37,10 @@ class Tally:
         self.passed += bool(fact)
         self.faults += [] if fact else [fault]
         return bool(fact)
+
+
+def page_files() -> List[Path]:
+    return sorted(file for it in ("README.md", "docs/*.md", "*/README.md", "*/*/README.md") for file in ROOT.glob(it))
 
 
 def parts_of(page: Path) -> Tuple[Lines, List[Block]]:
@@ -98,32 +98,39 @@ def check_links(check: Tally, page: Path, prose: Lines) -> None:
                 check.holds(to.suffix == ".md" and anchor in anchors_of(to), fault)
 
 
-@functools.lru_cache(maxsize=None)
-def is_there(folder: Path, name: str) -> bool:
-    """Whether a file or folder of this name stands in the repository, by the top, the page's folder or a crate, or somewhere."""
-    name = name.removeprefix("./").rstrip("/")
-    form = re.escape(name).replace(r"\*", "[^/]*")
-    if "/" not in name:
-        return re.search(rf"^(?:.*/)?{form}$", KEPT, re.M) is not None
-    front = "" if folder == ROOT else f"{folder.relative_to(ROOT).as_posix()}/"
-    places = rf"(?:{re.escape(front)}|crates/(?:[^/\n]*/(?:proofs/)?)?)?"
-    return re.search(rf"^{places}{form}(?:\.antt)?$", KEPT, re.M) is not None
+class Tree:
+    """What stands in the repository: at its top, and a line for each file and folder."""
+
+    def __init__(self) -> None:
+        self.tops = {it.name for it in ROOT.iterdir() if it.name != "out"}
+        files = (it for top in sorted(self.tops - {".git"}) for it in (ROOT / top, *(ROOT / top).rglob("*")))
+        self.kept = "\n".join(it.relative_to(ROOT).as_posix() for it in files)
+
+    @functools.lru_cache(maxsize=None)
+    def has(self, folder: Path, name: str) -> bool:
+        """Whether a file or folder of this name stands there, by the top, the page's folder or a crate, or somewhere."""
+        name = name.removeprefix("./").rstrip("/")
+        form = re.escape(name).replace(r"\*", "[^/]*")
+        if "/" not in name:
+            return re.search(rf"^(?:.*/)?{form}$", self.kept, re.M) is not None
+        front = "" if folder == ROOT else f"{folder.relative_to(ROOT).as_posix()}/"
+        places = rf"(?:{re.escape(front)}|crates/(?:[^/\n]*/(?:proofs/)?)?)?"
+        return re.search(rf"^{places}{form}(?:\.antt)?$", self.kept, re.M) is not None
+
+    def is_meant(self, word: str) -> bool:
+        """Whether a word in code names a file: one with an ending of ours, or one below a folder that stands at the top."""
+        is_below = "/" in word and word.removeprefix("./").partition("/")[0] in self.tops
+        is_file = re.fullmatch(r"[\w./*-]+", word) and (is_below or re.fullmatch(rf"[\w/*-]+\.({'|'.join(ENDS)})", word))
+        # (capitals stand for a name; what is built stands in out/)
+        has_capitals = re.search(r"(^|[/_.-])[A-Z]+([/_.-]|$)", word.replace("README.md", ""))
+        return bool(is_file) and "/out/" not in word and not has_capitals or word == "README.md"
 
 
-def names_file(word: str) -> bool:
-    """Whether a word in code names a file: one with an ending of ours, or one below a folder that stands at the top."""
-    is_below = "/" in word and word.removeprefix("./").partition("/")[0] in TOPS
-    is_file = re.fullmatch(r"[\w./*-]+", word) and (is_below or re.fullmatch(rf"[\w/*-]+\.({'|'.join(ENDS)})", word))
-    # (capitals stand for a name; what is built stands in out/)
-    has_capitals = re.search(r"(^|[/_.-])[A-Z]+([/_.-]|$)", word.replace("README.md", ""))
-    return bool(is_file) and "/out/" not in word and not has_capitals or word == "README.md"
-
-
-def check_names(check: Tally, page: Path, prose: Lines) -> None:
+def check_names(check: Tally, tree: Tree, page: Path, prose: Lines) -> None:
     for number, line in prose:
         for word in [it.strip("(),;<>") for code in re.findall(r"`([^`]+)`", line) for it in code.split()]:
-            if names_file(word):
-                check.holds(is_there(page.parent, word), f"{page.relative_to(ROOT)}:{number}: there is no file {word}")
+            if tree.is_meant(word):
+                check.holds(tree.has(page.parent, word), f"{page.relative_to(ROOT)}:{number}: there is no file {word}")
 
 
 # Numbers.
@@ -249,13 +256,13 @@ def said_by(check: Tally, folder: str, place: str, lines: List[str], kept: Set[s
     return said
 
 
-def check_blocks(check: Tally, page: Path, blocks: List[Block], kept: Set[str]) -> None:
+def check_blocks(check: Tally, tree: Tree, page: Path, blocks: List[Block], kept: Set[str]) -> None:
     """Runs the commands of a page in a folder of their own, in their order."""
     name = page.relative_to(ROOT)
     if all(command in kept for _, kind, lines in blocks if kind == "sh" for command, _ in whole_commands(lines)):
         return
     with tempfile.TemporaryDirectory() as folder:
-        for top in TOPS:
+        for top in tree.tops:
             os.symlink(ROOT / top, Path(folder) / top)
         last: Block = (0, "", [])
         for (number, kind, lines), (text_number, next_kind, text) in zip(blocks, [*blocks[1:], last]):
@@ -266,11 +273,11 @@ def check_blocks(check: Tally, page: Path, blocks: List[Block], kept: Set[str]) 
                 check.holds(lost is None, f"{name}:{text_number}: the commands before don't write: {lost}")
 
 
-def check_commands(check: Tally, blocks: Dict[Path, List[Block]]) -> None:
+def check_commands(check: Tally, tree: Tree, blocks: Dict[Path, List[Block]]) -> None:
     kept = unrun()
     with this_python():
         for page, found in blocks.items():
-            check_blocks(check, page, found, kept)
+            check_blocks(check, tree, page, found, kept)
     shells = [lines for found in blocks.values() for _, kind, lines in found if kind == "sh"]
     told = {command for lines in shells for command, _ in whole_commands(lines)}
     for command in sorted(kept - told):
@@ -279,10 +286,10 @@ def check_commands(check: Tally, blocks: Dict[Path, List[Block]]) -> None:
 
 def check_pages(check: Tally, with_commands: bool) -> None:
     """Looks at the links, names and commands of all pages."""
-    blocks = {}
-    for page in PAGE_FILES:
+    blocks, tree = {}, Tree()
+    for page in page_files():
         prose, blocks[page] = parts_of(page)
         check_links(check, page, prose)
-        check_names(check, page, prose)
+        check_names(check, tree, page, prose)
     if with_commands:
-        check_commands(check, blocks)
+        check_commands(check, tree, blocks)
