@@ -4,7 +4,7 @@ use Rattle.std.specs.Prelude.{◌≡◌, ◌<◌, ℕ, zero, suc, ◌+◌, ◌*�
 use Rattle.std.specs.Int.{bit_at}
 use Rattle.std.specs.List.{range_with_len}
 
--- the octet b times x: where b has a term x^7, the product is reduced (4.2)
+-- the octet b times x: if b has a term x^7, the product is reduced (4.2)
 abbrev pub times_x : ℕ → ℕ
 times_x b = if nat_lt b 0x80 then 2 * b else bit_xor (2 * b) 0x11b
 

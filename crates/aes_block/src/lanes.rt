@@ -1,9 +1,9 @@
 // Sixteen octets at once, and the S-box of each of them by shuffles of registers.
 //
 // In a turned basis of the field of 256 elements an octet is a pair of elements of the field of 16, and
-// its inverse comes from look-ups in tables of sixteen entries, which one register holds (M. Hamburg,
-// Accelerating AES with Vector Permute Instructions, 2009). Where the processor shuffles octets, as at the
-// default level, no address in memory depends on one.
+// its inverse comes from look-ups in tables of sixteen entries, each of which fits in one register (M.
+// Hamburg, Accelerating AES with Vector Permute Instructions, 2009). If the processor shuffles octets,
+// as at the default level, no address in memory depends on one.
 
 ghost use Rattle.std.specs.Prelude.{◌≡◌, ℕ, List};
 ghost use Rattle.aes_block.specs.Turned as spec;

@@ -6,7 +6,7 @@ use Rattle.std.specs.List.{concat}
 abbrev pub line_text : List ℕ → List ℕ
 line_text line = concat (line ∷ codes "\n" ∷ [])
 
--- a text has the line: at its begin or after an LF, and an LF follows
+-- a text has the line: at its start or after an LF, and an LF follows
 pub data HasLine (line : List ℕ) : List ℕ → Type 0 where
   first : (rest : List ℕ) → HasLine line (line ++ (10 ∷ rest))
   later : (passed rest : List ℕ) → HasLine line rest → HasLine line (passed ++ (10 ∷ rest))

@@ -67,7 +67,7 @@ end_line_text number code id whole octets = concat (
     decimal number ∷ codes " " ∷ code ∷ codes " " ∷ decimal id ∷ codes " length " ∷ decimal whole ∷
     codes " padding " ∷ decimal (octets - whole) ∷ codes "\n" ∷ [])
 
--- the line of a packet, where it has so many octets and so many came
+-- the line of a packet, if it has so many octets and so many came
 abbrev pub value_text : ℕ → PacketValue → ℕ → ℕ → List ℕ
 value_text number (request id kind body) whole octets = typed_text number (codes "request") id kind body whole octets
 value_text number (response id kind body) whole octets = typed_text number (codes "response") id kind body whole octets

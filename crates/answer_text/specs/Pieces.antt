@@ -5,7 +5,7 @@ use Rattle.hex.specs.Hex.{encode_lower}
 use Rattle.answer_text.specs.declared.pieces.Piece.{Piece}
 use Rattle.answer_text.specs.declared.pieces.Piece.TheVariants.{Text, Hex, Number}
 
--- octets in hex, `-` where there are none
+-- octets in hex, `-` if there are none
 abbrev pub hex_text : List ℕ → List ℕ
 hex_text [] = codes "-"
 hex_text (b ∷ rest) = encode_lower (b ∷ rest)

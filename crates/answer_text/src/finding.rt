@@ -1,4 +1,4 @@
-//! The finding of a captured packet, in one line.
+//! Writing the finding of a captured packet, in one line.
 
 ghost use Rattle.answer_text.specs.Writes.{Appends};
 ghost use Rattle.answer_text.specs.Findings.{finding_text, findings_text};
@@ -8,8 +8,8 @@ use crate::pieces::write_pieces;
 use capture_check::Finding;
 use octet_io::{Failed, Sink};
 
-/// Writes the finding of the packet with this number, in one line. `Failed`: a write failed, and a front
-/// of the line was appended.
+/// Writes the finding of the packet with this number, in one line. `Failed`: a write failed, and a
+/// prefix of the line was appended.
 #[tactic(auto, unfolding(crate::specs::Findings::finding_text))]
 pub fn write_finding<W: Sink>(sink: &mut W, number: u32, finding: &Finding) -> Result<(), Failed>
     ensures { Appends W.written W.write_faults W.last_write_fault result sink.old sink.new (finding_text number finding.now) }
@@ -42,7 +42,7 @@ pub fn write_finding<W: Sink>(sink: &mut W, number: u32, finding: &Finding) -> R
 }
 
 /// Writes how many packets there were, and how many of them are malformed or have a bad tag. `Failed`: a
-/// write failed, and a front of the line was appended.
+/// write failed, and a prefix of the line was appended.
 #[tactic(auto, unfolding(crate::specs::Findings::findings_text))]
 pub fn write_finding_counts<W: Sink>(
     sink: &mut W,

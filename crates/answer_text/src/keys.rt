@@ -16,7 +16,7 @@ use login_keys::{GpskKeys, PskKeys, PskLong, gpsk_keys, key_name, psk_long, psk_
 use octet_io::{Failed, Sink};
 use request_text::KeyLine;
 
-/// Writes a name and octets in hex, `-` where there are none, in one line.
+/// Writes a name and octets in hex, `-` if there are none, in one line.
 #[tactic(auto, unfolding(crate::specs::Keys::hex_line))]
 fn write_hex_line<'a, W: Sink>(sink: &mut W, name: &'a str, octets: &'a [u8]) -> Result<(), Failed>
     ensures { Appends W.written W.write_faults W.last_write_fault result sink.old sink.new (hex_line name.now octets.now) }
@@ -128,8 +128,8 @@ fn write_psk<W: Sink>(sink: &mut W, psk: &[u8; 16], rand_p: &[u8; 16]) -> Result
     write_psk_session(sink, &psk_session(&long.kdk, rand_p))
 }
 
-/// Writes the answer to a request: a line for each value, its name and its octets in hex, `-` where there
-/// are none. `Failed`: a write failed, and a front of the lines was appended.
+/// Writes the answer to a request: a line for each value, its name and its octets in hex, `-` if there
+/// are none. `Failed`: a write failed, and a prefix of the lines was appended.
 #[tactic(auto, unfolding(crate::specs::Keys::key_text))]
 pub fn write_key_line<W: Sink>(sink: &mut W, asked: &KeyLine) -> Result<(), Failed>
     requires { HasSizes asked.now }

@@ -1,7 +1,6 @@
-//! The texts that the program writes of packets, keys, findings and the states that an end entered, and the
-//! lines that every command writes.
-//! Each call appends its text to a sink, a line in one write, and takes no memory. It answers `Failed`
-//! exactly where a write of the sink failed; a front of the text was then appended.
+//! The texts that the program writes of packets, keys, findings and the states that an end entered, and the lines that
+//! every command writes. Each call appends its text to a sink, a line in one write, and allocates no memory. It answers
+//! `Failed` exactly if a write of the sink failed; a prefix of the text was then appended.
 #![tactic(auto)]
 
 mod finding;

@@ -1,10 +1,10 @@
-//! A line on its way.
+//! The octets of a line that haven't been written yet.
 
 ghost use Rattle.std.specs.Prelude.{◌≡◌, ◌≤◌, ◌+◌, ◌++◌, [], length, take};
 
 use std::marker::Model;
 
-/// The octets that are held at most, so that a longer line takes more than one write.
+/// The most octets that are buffered, so that a longer line takes more than one write.
 const SIZE: usize = 1024;
 
 /// The octets of a line that haven't been written yet, at most 1,024. Contracts see their list.

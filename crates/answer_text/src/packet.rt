@@ -1,4 +1,4 @@
-//! A packet in one line.
+//! Writing what a packet is, in one line.
 
 ghost use Rattle.std.specs.Prelude.{◌≡◌, ◌≤◌, ◌-◌, None, length, [], ◌∷◌, ◌++◌, codes, decimal};
 ghost use Rattle.std.specs.List.{concat};
@@ -329,7 +329,7 @@ fn put_packet<W: Sink>(
 }
 
 /// Writes what a packet is, in one line: its number, its fields, its padding and what its Type-Data
-/// says; or why it is malformed. `Failed`: a write failed, and a front of the line was appended.
+/// says; or why it is malformed. `Failed`: a write failed, and a prefix of the line was appended.
 #[tactic(auto, using(crate::proofs::Putting::appends_sent, crate::proofs::Putting::appends_cut))]
 pub fn write_packet<W: Sink>(sink: &mut W, number: u32, octets: &[u8]) -> Result<(), Failed>
     ensures { Appends W.written W.write_faults W.last_write_fault result sink.old sink.new (packet_text number octets.now) }
@@ -340,7 +340,7 @@ pub fn write_packet<W: Sink>(sink: &mut W, number: u32, octets: &[u8]) -> Result
 }
 
 /// Writes how many packets there were, and how many of them are malformed. `Failed`: a write failed,
-/// and a front of the line was appended.
+/// and a prefix of the line was appended.
 #[tactic(auto, unfolding(crate::specs::Packets::packets_text))]
 pub fn write_packet_counts<W: Sink>(
     sink: &mut W,

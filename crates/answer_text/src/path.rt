@@ -55,8 +55,8 @@ fn put_states_line<W: Sink>(
     put_path(sink, line, path)
 }
 
-/// Writes a number and the states of a path in one line, `-` for no states. `Failed`: a write failed, and a front of the
-/// line was appended.
+/// Writes a number and the states of a path in one line, `-` for no states. `Failed`: a write failed, and a prefix of
+/// the line was appended.
 #[tactic(auto, using(crate::proofs::Putting::appends_sent, crate::proofs::Putting::appends_cut))]
 pub fn write_states<W: Sink>(sink: &mut W, number: u32, path: &[State]) -> Result<(), Failed>
     ensures { Appends W.written W.write_faults W.last_write_fault result sink.old sink.new (states_line number path.now) }
@@ -66,7 +66,7 @@ pub fn write_states<W: Sink>(sink: &mut W, number: u32, path: &[State]) -> Resul
     send(sink, &mut line)
 }
 
-/// Writes the line of a discard, if there was one. `Failed`: a write failed, and a front of the line was appended.
+/// Writes the line of a discard, if there was one. `Failed`: a write failed, and a prefix of the line was appended.
 pub fn write_cause<W: Sink>(sink: &mut W, event: u32, cause: Option<Cause>) -> Result<(), Failed>
     ensures { Appends W.written W.write_faults W.last_write_fault result sink.old sink.new (cause_text event cause) }
 {

@@ -15,7 +15,7 @@ use octet_io::{Failed, LF, Sink};
 pub enum Piece<'a> {
     /// These octets.
     Text(&'a [u8]),
-    /// These octets in hex, `-` where there are none.
+    /// These octets in hex, `-` if there are none.
     Hex(&'a [u8]),
     /// A decimal number.
     Number(u64),
@@ -36,7 +36,7 @@ fn write_whole<W: Sink>(sink: &mut W, octets: &[u8]) -> Result<(), Failed>
     Ok(())
 }
 
-/// Writes what is held of a line.
+/// Writes what is buffered of a line.
 #[tactic(auto, using(crate::proofs::Putting::puts_written, crate::proofs::Putting::puts_unwritten))]
 pub fn send<W: Sink>(sink: &mut W, line: &mut LineBuffer) -> Result<(), Failed>
     ensures puts { Puts W.written W.write_faults W.last_write_fault result sink.old sink.new line.old line.new [] }
@@ -47,7 +47,7 @@ pub fn send<W: Sink>(sink: &mut W, line: &mut LineBuffer) -> Result<(), Failed>
     Ok(())
 }
 
-/// Writes what is held of a line, and octets for which there is room.
+/// Writes what is buffered of a line, and octets for which there is room.
 #[tactic(auto, using(crate::proofs::Putting::puts_with))]
 fn send_with<W: Sink>(sink: &mut W, line: &mut LineBuffer, octets: &[u8]) -> Result<(), Failed>
     requires { length line.old + length octets.now ≤ 1024 }
@@ -72,7 +72,7 @@ fn put_octets<W: Sink>(sink: &mut W, line: &mut LineBuffer, octets: &[u8]) -> Re
     Ok(())
 }
 
-/// Appends octets to a line, and writes it where they end it.
+/// Appends octets to a line, and writes it if they end it.
 #[tactic(auto, using(crate::proofs::Putting::puts_sent, crate::proofs::Putting::puts_front))]
 fn put_text<W: Sink>(sink: &mut W, line: &mut LineBuffer, octets: &[u8]) -> Result<(), Failed>
     ensures { Puts W.written W.write_faults W.last_write_fault result sink.old sink.new line.old line.new octets.now }
@@ -85,7 +85,7 @@ fn put_text<W: Sink>(sink: &mut W, line: &mut LineBuffer, octets: &[u8]) -> Resu
     }
 }
 
-/// The hex digits of a stretch of octets. They stand in the room that is given.
+/// The hex digits of a stretch of octets. They are written into the buffer that is given.
 fn digits_of<'a>(octets: &[u8], room: &'a mut [u8; 2 * STRETCH]) -> &'a [u8]
     requires { length octets.now ≤ 32 }
     ensures { result.now ≡ encode_lower octets.now }
@@ -109,7 +109,7 @@ fn put_digits<W: Sink>(sink: &mut W, line: &mut LineBuffer, octets: &[u8]) -> Re
     Ok(())
 }
 
-/// Appends octets in hex to a line, `-` where there are none.
+/// Appends octets in hex to a line, `-` if there are none.
 fn put_hex<W: Sink>(sink: &mut W, line: &mut LineBuffer, octets: &[u8]) -> Result<(), Failed>
     ensures { Puts W.written W.write_faults W.last_write_fault result sink.old sink.new line.old line.new (hex_text octets.now) }
 {
@@ -128,7 +128,7 @@ pub fn put_number<W: Sink>(sink: &mut W, line: &mut LineBuffer, number: u64) -> 
     put_octets(sink, line, buffer.format(number).as_bytes())
 }
 
-/// Appends a piece to a line, and writes it where the piece ends it.
+/// Appends a piece to a line, and writes it if the piece ends it.
 fn put_piece<W: Sink>(sink: &mut W, line: &mut LineBuffer, piece: Piece) -> Result<(), Failed>
     ensures { Puts W.written W.write_faults W.last_write_fault result sink.old sink.new line.old line.new (spelled piece.entry) }
 {
@@ -155,7 +155,7 @@ pub fn put_pieces<W: Sink>(
 }
 
 /// Writes pieces one after the other: the text that they make joined. `Failed`: a write failed, and a
-/// front of that text was appended.
+/// prefix of that text was appended.
 pub fn write_pieces<W: Sink>(sink: &mut W, pieces: &[Piece]) -> Result<(), Failed>
     ensures { (text : List ℕ) → text ≡ joined pieces.now
         → Appends W.written W.write_faults W.last_write_fault result sink.old sink.new text }

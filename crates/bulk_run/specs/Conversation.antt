@@ -58,7 +58,7 @@ unfoldable pub deliveries : ℕ → List Event
 deliveries zero = []
 deliveries (suc n) = deliveries n ++ Deliver (suc n) ∷ []
 
--- the event that two octets choose where so many packets were sent, the last of which has a length
+-- the event that two octets choose if so many packets were sent, the last of which has a length
 abbrev pub choice : ℕ → ℕ → ℕ → ℕ → Option Event
 choice packets size v u =
     if v % 8 == 0 then Some (Timeout party.Server)

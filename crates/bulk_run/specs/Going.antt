@@ -1,4 +1,4 @@
--- What a step does to a world on its way.
+-- What a step does to a world.
 use Rattle.std.specs.Prelude.{◌≤◌, ℕ, Option, Some, None}
 use Rattle.eap_world.specs.declared.told.Counts.{Counts}
 use Rattle.eap_world.specs.declared.told.SentPacket.{SentPacket}
@@ -9,7 +9,7 @@ pub record AreFew (counts : Counts) (most : ℕ) : Type 0 where
   pub deliveries : counts.deliveries ≤ most
   pub discards : counts.discards ≤ most
 
--- how many packets were sent, where so many were before
+-- how many packets were sent, if so many were before
 abbrev pub sent_after : ℕ → Option SentPacket → ℕ
 sent_after before None = before
 sent_after before (Some packet) = packet.number

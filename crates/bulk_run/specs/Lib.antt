@@ -2,9 +2,9 @@
 pub mod Draws
 -- The settings and the events of a conversation.
 pub mod Conversation
--- What the conversations of a number come to.
+-- The summary of the conversations of a number.
 pub mod Summing
--- What a step does to a world on its way.
+-- What a step does to a world.
 pub mod Going
 -- The objects of both ends, by their methods.
 pub mod Kinds

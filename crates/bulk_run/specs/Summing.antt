@@ -1,4 +1,4 @@
--- What the conversations of a number come to.
+-- The summary of the conversations of a number.
 use Rattle.std.specs.Prelude.{◌≡◌, ◌≤◌, ℕ, zero, suc, ◌+◌, ◌*◌, ◌%◌, ◌==◌, List, Bool, true, false, if◌then◌else◌}
 use Rattle.login_setup.specs.declared.event.Event.{Event}
 use Rattle.login_setup.specs.declared.setup.Setup.{Setup}
@@ -13,11 +13,11 @@ use Rattle.eap_world.specs.declared.verdict.Verdict.TheVariants as verdict
 use Rattle.bulk_run.specs.Conversation.{setup_at, deliveries, chances}
 use Rattle.bulk_run.specs.declared.summary.Summary.{Summary}
 
--- over an odd number all goes smoothly, over an even one chance has its way
+-- over an odd number the first packets are delivered in order, over an even one drawn octets choose the events
 abbrev pub is_even : ℕ → Bool
 is_even number = number % 2 == 0
 
--- how many octets a conversation draws: two for each of its 40 turns where the number is even, and 96 before them
+-- how many octets a conversation draws: two for each of its 40 turns if the number is even, and 96 before them
 -- for its settings
 abbrev pub drawn_for_events : ℕ → ℕ
 drawn_for_events number = if is_even number then 80 else 0

@@ -1,4 +1,4 @@
-//! One conversation.
+//! One conversation, from octets that are drawn.
 
 ghost use Rattle.std.specs.Prelude.{◌≡◌, ◌+◌, ◌∷◌, ℕ, [], length, map, true, false, IfOk, None, Some};
 ghost use Rattle.eap_base.specs.Among.{gpsk_kind};
@@ -28,8 +28,8 @@ const PEER: &[u8] = b"alice";
 /// The name of the server.
 const SERVER: &[u8] = b"srv";
 
-/// The conversation that begins where the draws stand. It takes the objects, which begin again, and gives
-/// them back; `counts` is what it came to. `Memory` comes only for want of memory.
+/// The conversation that begins at the present place of the draws. It takes the objects, which begin
+/// again, and returns them; `counts` is its result. `Memory` comes only for want of memory.
 #[tactic(auto, using(crate::proofs::Kept::same_kinds))]
 pub fn converse<P: PeerMethod, S: ServerMethod>(
     alloc: Global,

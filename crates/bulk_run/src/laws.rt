@@ -2,7 +2,7 @@
 
 ghost use Rattle.bulk_run.specs.Summing.{BrokenWhereApart};
 
-/// Each conversation ends in one of three ways, and where both ends succeed and don't agree, an end has accepted
+/// Each conversation ends in one of three ways, and if both ends succeed and don't agree, an end has accepted
 /// a tag that the other hadn't made. So there are no more conversations that are apart than broken ones.
 #[tactic(auto, using(crate::proofs::Broken::broken_where_apart))]
 pub fn apart_is_broken()

@@ -13,9 +13,9 @@ use eap_method::{PeerMethod, ServerMethod};
 use eap_world::{Memory, Methods};
 use std::alloc::Global;
 
-/// Runs `count` conversations, 1 to 1,000, of `number`, and says what they came to. Each is a login by
-/// EAP-GPSK in mode alone (RFC 4137, RFC 5433), with the nonces and the key drawn from the number: where it is
-/// odd, the first seven packets are delivered in order; where it is even, octets drawn from it choose 40 times
+/// Runs `count` conversations, 1 to 1,000, of `number`, and returns their summary. Each is a login by
+/// EAP-GPSK in mode alone (RFC 4137, RFC 5433), with the nonces and the key drawn from the number: if it is
+/// odd, the first seven packets are delivered in order; if it is even, octets drawn from it choose 40 times
 /// what is delivered, altered or timed out. Each end has an object of EAP-GPSK. `Memory` comes only for want of
 /// memory.
 pub fn run_all<P: PeerMethod, S: ServerMethod>(

@@ -1,4 +1,4 @@
-//! What conversations come to.
+//! The summary of conversations.
 
 ghost use Rattle.std.specs.Prelude.{◌≡◌, ◌+◌, ℕ};
 ghost use Rattle.eap_world.specs.World.{now_of};
@@ -9,7 +9,7 @@ use eap_method::{PeerMethod, ServerMethod};
 use eap_world::{Verdict, World};
 use tag_book::TagsVerdict;
 
-/// How many conversations there were, and what they came to, added up.
+/// How many conversations there were, and their results, added up.
 #[derive(Clone, Copy, PartialEq, Eq, Debug)]
 pub struct Summary {
     pub conversations: u32,
@@ -21,7 +21,7 @@ pub struct Summary {
     pub apart: u32,
     /// Those in which an end accepted a tag that the other hadn't made.
     pub broken: u32,
-    /// The events that handed octets to a party.
+    /// The events that delivered octets to a party.
     pub deliveries: u32,
     /// The events whose octets the party discarded.
     pub discards: u32,

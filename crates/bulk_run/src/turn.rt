@@ -54,7 +54,7 @@ pub fn take<P: PeerMethod, S: ServerMethod>(
     Ok(())
 }
 
-/// How many packets were sent, where so many were before.
+/// How many packets were sent, if so many were before.
 fn sent_after(before: u32, told: &Told) -> u32
     ensures { result ≡ sent_after before told.now.sent }
 {
@@ -89,7 +89,7 @@ pub fn take_chosen<P: PeerMethod, S: ServerMethod>(
     }
 }
 
-/// The event that two octets choose in this world, where so many packets were sent.
+/// The event that two octets choose in this world, if so many packets were sent.
 #[tactic(auto, unfolding(crate::specs::Conversation::chosen))]
 fn choose<P: PeerMethod, S: ServerMethod>(
     world: &World<P, S>,
@@ -103,7 +103,7 @@ fn choose<P: PeerMethod, S: ServerMethod>(
     choice(packets, last_size(world, packets), v, u)
 }
 
-/// The length of the packet of this number; 0 where none was sent.
+/// The length of the packet of this number; 0 if none was sent.
 fn last_size<P: PeerMethod, S: ServerMethod>(world: &World<P, S>, number: u32) -> usize
     ensures { result ≡ length (octets_of (packet_numbered world.now.sent number)) }
 {
@@ -113,7 +113,7 @@ fn last_size<P: PeerMethod, S: ServerMethod>(world: &World<P, S>, number: u32) -
     }
 }
 
-/// The event that two octets choose where so many packets were sent, the last of which has this length.
+/// The event that two octets choose if so many packets were sent, the last of which has this length.
 fn choice(packets: u32, size: usize, v: u8, u: u8) -> Option<Event>
     ensures { result ≡ choice packets size v u }
 {

@@ -25,7 +25,7 @@ pub(crate) fn world(alloc: Global, setup: Setup) -> io::Result<ObjectWorld>
     Ok(world_of(alloc, setup, Methods { peer, server }))
 }
 
-/// The words of a command, which a space parts; none where the text is empty.
+/// The words of a command, which a space parts; none if the text is empty.
 pub(crate) fn words_of(alloc: Global, command: &str) -> io::Result<Vec<String>> {
     let mut words = Vec::new(alloc);
     for word in command.split(" ") {

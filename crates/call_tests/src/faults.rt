@@ -33,7 +33,7 @@ end
 ";
 
 /// Words and inputs, which an empty line parts: packets; a request and one that is refused; captured packets; RADIUS
-/// packets; what comes to one end.
+/// packets; the inputs of one end.
 const INPUTS: &str = "\
 decode
 0100000501
@@ -93,7 +93,7 @@ const FRAMES: &[u8] = b"\
 \0\0\0\0\0\0\0\0\x17\0\0\0\x17\0\0\0\x01\x80\xc2\0\0\x03\x02\0\0\0\0\x01\x88\x8e\x01\0\0\x05\x01\0\0\x05\x01\
 \0\0\0\0\0\0\0\0\x04\0\0\0\x04\0\0\0abcd";
 
-/// True where these cuttings of reads and writes of a login give the same.
+/// True if these cuttings of reads and writes of a login give the same.
 fn is_the_same(alloc: Global, read: usize, write: usize) -> io::Result<bool>
     requires reads { 0 < read }
     requires writes { 0 < write }
@@ -114,7 +114,7 @@ fn the_trace_is_the_same_in_every_cutting(rt: HostRuntime) -> Result<(), Fail> {
     Ok(())
 }
 
-/// What a run comes to where nothing fails, and what one may leave where its read or write of a number fails.
+/// What a run comes to if nothing fails, and what one may leave if its read or write of a number fails.
 #[derive(Drop)]
 struct Whole<'a> {
     status: Status,
@@ -122,7 +122,7 @@ struct Whole<'a> {
 }
 
 impl Whole<'_> {
-    /// True where a run that met the fault, if it did, ended so and wrote a front of the text, or the whole.
+    /// True if a run that met the fault, if it did, ended so and wrote a prefix of the text, or the whole.
     fn ends_well(&self, status: Status, fault: Status, wrote: &[u8]) -> bool {
         let wanted = if wrote.len() == self.text.len() {
             self.status
@@ -133,8 +133,8 @@ impl Whole<'_> {
     }
 }
 
-/// True where a run that takes 7 octets a read, and whose read of this number fails, ends well. No line is written of
-/// the end of RADIUS packets, so that all of their text is there where the read that meets the end fails.
+/// True if a run that takes 7 octets a read, and whose read of this number fails, ends well. No line is written of
+/// the end of RADIUS packets, so that all of their text is there if the read that meets the end fails.
 fn read_fails_well(
     alloc: Global,
     command: &str,
@@ -156,7 +156,7 @@ fn read_fails_well(
     Ok(is_well && (is_header || call != 1))
 }
 
-/// True where a run whose sink takes 7 octets a write, and fails at the write of this number, ends well.
+/// True if a run whose sink takes 7 octets a write, and fails at the write of this number, ends well.
 fn write_fails_well(
     alloc: Global,
     command: &str,
@@ -174,7 +174,7 @@ fn write_fails_well(
     )
 }
 
-/// True where a run ends well whichever read or write of it fails. No input and no text here has 200 pieces of 7
+/// True if a run ends well whichever read or write of it fails. No input and no text here has 200 pieces of 7
 /// octets.
 fn faults_end_well(alloc: Global, command: &str, input: &[u8]) -> io::Result<bool> {
     let (status, sink) = answered_to(alloc, command, input)?;
@@ -205,7 +205,7 @@ fn each_read_and_write_may_fail(rt: HostRuntime) -> Result<(), Fail> {
     Ok(())
 }
 
-/// The front of the text that ends with its LF of this number.
+/// The prefix of the text that ends with its LF of this number.
 fn first_lines(text: &[u8], count: u32) -> &[u8] {
     let mut lines: u32 = 0;
     for place in 0..text.len() {
@@ -219,7 +219,7 @@ fn first_lines(text: &[u8], count: u32) -> &[u8] {
     text
 }
 
-/// True where a run whose sink takes 2,000 octets a write, and fails at the write of this number, wrote exactly
+/// True if a run whose sink takes 2,000 octets a write, and fails at the write of this number, wrote exactly
 /// the lines before it.
 fn holds_the_lines_before(alloc: Global, call: u32, text: &[u8]) -> io::Result<bool>
     requires { 0 < call }
@@ -230,7 +230,7 @@ fn holds_the_lines_before(alloc: Global, call: u32, text: &[u8]) -> io::Result<b
     Ok(status == Status::WriteFault && sink.written() == first_lines(text, call - 1))
 }
 
-/// True where each line of a login's trace, which has 25 lines, is one write, and nothing is held past it.
+/// True if each line of a login's trace, which has 25 lines, is one write, and nothing is buffered past it.
 fn lines_are_writes(alloc: Global) -> io::Result<bool> {
     let (_, whole) = answered_to(alloc, "replay", LOGIN.as_bytes())?;
     let mut are_writes = whole.written().ends_with(b"result agree\nend\n");
@@ -246,7 +246,7 @@ fn each_line_is_one_write(rt: HostRuntime) -> Result<(), Fail> {
     Ok(())
 }
 
-/// True where conversations, over a source that would fail at its first read and a sink that fails at its first
+/// True if conversations, over a source that would fail at its first read and a sink that fails at its first
 /// write, end with the status of a failed write.
 fn fails_to_write(alloc: Global) -> io::Result<bool> {
     let source = MemSource::new(alloc, b"", 100, &[1])?;

@@ -57,7 +57,7 @@ fn status_of(alloc: Global, command: &str, octets: &[u8], more: u32) -> io::Resu
     Ok(status.number())
 }
 
-/// True where the run of a row ends with its status.
+/// True if the run of a row ends with its status.
 fn ends_so(alloc: Global, row: &str) -> io::Result<bool> {
     let (words, input) = row.split_once("|").unwrap_or((row, ""));
     let octets = octets_of(alloc, input)?;
@@ -82,7 +82,7 @@ const BAD_MAGIC: &[u8] = b"\xa1\xb2\x3c\x4d\0\x02\0\x04\0\0\0\0\0\0\0\0\0\0\xff\
 const BAD_RECORD: &[u8] =
     b"\xa1\xb2\xc3\xd4\0\x02\0\x04\0\0\0\0\0\0\0\0\0\0\xff\xff\0\0\0\x01\0\0\0\0\0\0\0\0\0\x04\0\x01";
 
-/// True where a file that one read gives whole, and whose second read fails, is refused with this line.
+/// True if a file that one read gives whole, and whose second read fails, is refused with this line.
 fn is_refused(alloc: Global, file: &[u8], line: &[u8]) -> io::Result<bool> {
     let source = MemSource::new(alloc, file, 100, &[2])?;
     let sink = MemSink::new(alloc, 100, 100, &[])?;
@@ -115,7 +115,7 @@ packet 0100000501
 /// What alice answers to the first packet.
 const ANSWER: &[u8] = b"1 RECEIVED IDENTITY SEND_RESPONSE IDLE\n1 send 0200000a01616c696365\n";
 
-/// True where a source of one octet a read, whose read behind the first packet's line fails, leaves both lines of the
+/// True if a source of one octet a read, whose read behind the first packet's line fails, leaves both lines of the
 /// answer written.
 fn is_answered_first(alloc: Global) -> io::Result<bool> {
     let failing = u32::try_from(PEER.len()).unwrap_or(0).wrapping_add(1);

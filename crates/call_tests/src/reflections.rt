@@ -26,10 +26,10 @@ user alice 51 000102030405060708090a0b0c0d0e0f101112131415161718191a1b1c1d1e1f b
 user alice 47 000102030405060708090a0b0c0d0e0f allowed
 ";
 
-/// Runs, which an empty line parts. Before each stand the event of the first accepted tag that the other end didn't make
-/// earlier, and of the first that neither end did; 0 for none. The server's GPSK-Protected-Fail is handed back to it as a
-/// Response: it takes its own tag for that of the peer. A PSK-3 has the peer's own MAC_P for its MAC_S: the peer discards
-/// it. A GPSK-2 is one that alice made with the nonce of 32 octets 33: neither end of this run made its tag.
+/// Runs, which an empty line parts. Before each are the event of the first accepted tag that the other end didn't make
+/// earlier, and of the first that neither end did; 0 for none. The server's GPSK-Protected-Fail is delivered back to it
+/// as a Response: it takes its own tag for that of the peer. A PSK-3 has the peer's own MAC_P for its MAC_S: the peer
+/// discards it. A GPSK-2 is one that alice made with the nonce of 32 octets 33: neither end of this run made its tag.
 const REFLECTIONS: &str = "\
 5 0
 server-methods 51
@@ -82,14 +82,14 @@ fn run(rt: &impl Abort, world: &mut ObjectWorld, scenario: &str) -> Result<(), F
     Ok(())
 }
 
-/// True where these are the two numbers.
+/// True if these are the two numbers.
 fn are_numbers(text: &str, one: u32, two: u32) -> bool {
     text.split_once(" ").is_some_and(|(first, second)| {
         first.parse::<u32>().ok() == Some(one) && second.parse::<u32>().ok() == Some(two)
     })
 }
 
-/// True where the run of a block has its verdicts.
+/// True if the run of a block has its verdicts.
 fn is_judged(rt: &impl Abort, alloc: Global, block: &str) -> Result<bool, Fail> {
     let (wanted, lines) = block.split_once("\n").unwrap_or((block, ""));
     let mut scenario = String::from_str(alloc, SETTINGS)?;

@@ -6,7 +6,7 @@ use std::alloc::Global;
 use std::io;
 use std::test::Fail;
 
-/// True where a run whose arguments couldn't be taken for this cause gives the number. It reads and writes
+/// True if a run whose arguments couldn't be read for this cause gives the number. It reads and writes
 /// nothing: both would fail.
 fn has_no_words(alloc: Global, kind: io::ErrorKind, number: u8) -> io::Result<bool> {
     let mut source = MemSource::new(alloc, b"", 100, &[1])?;

@@ -34,7 +34,7 @@ pub(crate) fn begun(rt: &impl Abort, alloc: Global, scenario: &str) -> Result<Ob
     Ok(world)
 }
 
-/// What came of the next event.
+/// The result of the next event.
 pub(crate) fn step(rt: &impl Abort, world: &mut ObjectWorld, event: &Event) -> Result<Told, Fail> {
     assert!(rt; world.started() && world.counts().events < MAX_EVENTS && world.has_objects());
     Ok(world.step(event)?)
@@ -54,7 +54,7 @@ server-nonce 2222222222222222222222222222222222222222222222222222222222222222
 events
 ";
 
-/// True where the peer's timer, which it hasn't, is skipped for this reason.
+/// True if the peer's timer, which it hasn't, is skipped for this reason.
 fn skips_timer(rt: &impl Abort, world: &mut ObjectWorld, wanted: Skip) -> Result<bool, Fail> {
     let told = step(rt, world, &Event::Timeout { party: Party::Peer })?;
     Ok(told.skip == Some(wanted) && told.path.as_slice().is_empty())

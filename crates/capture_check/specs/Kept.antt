@@ -12,7 +12,7 @@ use Rattle.capture_check.specs.declared.kept.Kept.{Kept}
 use Rattle.capture_check.specs.declared.kept.Psk1.{Psk1}
 use Rattle.capture_check.specs.declared.kept.PskLogin.{PskLogin}
 
--- what the last packet of a list shows of those that show something, where the packets `before` came first; what a
+-- what the last packet of a list shows of those that show something, if the packets `before` came first; what a
 -- packet shows may depend on all packets before it
 unfoldable pub last_shown : {A : Type 0} → (List Captured → Captured → Option A) → List Captured → List Captured → Option A
 last_shown shown before [] = None
@@ -29,7 +29,7 @@ gpsk2_of users (gpsk_message.gpsk2 id_p id_s rand_p rand_s list suite pd mac) =
     result_ok (gpsk_begins users id_p id_s rand_p rand_s suite (gpsk_message.gpsk2 id_p id_s rand_p rand_s list suite pd mac))
 gpsk2_of users message = None
 
--- the login that a PSK-2 with a good tag begins, where this is the last PSK-1 before it
+-- the login that a PSK-2 with a good tag begins, if this is the last PSK-1 before it
 abbrev pub psk2_of : List User → Option Psk1 → psk_message.Message → Option PskLogin
 psk2_of users psk1 (psk_message.psk2 rand_s rand_p mac id_p) = result_ok (psk_begins users psk1 rand_s rand_p mac id_p)
 psk2_of users psk1 message = None

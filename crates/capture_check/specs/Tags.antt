@@ -21,11 +21,11 @@ use Rattle.capture_check.specs.declared.kept.PskLogin.{PskLogin}
 abbrev pub tag_finding : List ℕ → Bool → Finding
 tag_finding name right = if right then TagGood name else TagBad
 
--- a login, where the tag that begins it is right
+-- a login, if the tag that begins it is right
 abbrev pub if_right : {L : Type 0} → Bool → L → Result L Finding
 if_right right login = if right then Ok login else Err TagBad
 
--- GPSK-2 stands for itself: its fields name the user and give the keys (RFC 5433 sections 4 and 9)
+-- GPSK-2 needs no packet before it: its fields name the user and give the keys (RFC 5433 sections 4 and 9)
 
 -- the login of this user with the fields of GPSK-2
 unfoldable pub gpsk_login_of : User → List ℕ → List ℕ → List ℕ → List ℕ → Suite → GpskLogin

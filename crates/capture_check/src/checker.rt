@@ -1,4 +1,4 @@
-//! Packets judged in their order.
+//! A checker, which judges the packets of a capture in their order.
 
 ghost use Rattle.std.specs.Prelude.{◌≡◌, ◌≤◌, ℕ, None, List, [], ◌∷◌, ◌++◌, length, All, IsTrue};
 ghost use Rattle.login_setup.specs.Setup.{fits_kind};
@@ -63,8 +63,8 @@ impl Checker {
     pub fn packet(&mut self, users: &Users, to_peer: bool, octets: &[u8]) -> Finding
         requires { All (λ user. IsTrue (fits_kind user.kind user.psk)) users.now }
 
-        // Where it stands for a list of packets, the answer is the finding of the packet after these, and
-        // then it stands for the list with the packet.
+        // If it has seen a list of packets, the answer is the finding of the packet after these, and then
+        // it has seen the list with the packet.
         ensures finding { (packets : List Captured) → StandsFor self.old users.now packets
             → result ≡ finding_of users.now packets to_peer octets.now }
         ensures stands { (packets : List Captured) → StandsFor self.old users.now packets

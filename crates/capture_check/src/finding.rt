@@ -1,9 +1,9 @@
-//! What is found of a captured packet.
+//! The finding of a captured packet.
 
 use eap_base::Identity;
 use eap_packet::Cause;
 
-/// What is found of a captured packet.
+/// The finding of a captured packet.
 #[derive(Drop)]
 pub enum Finding {
     /// There is no tag to judge, or none that a shared key makes: the packet is well formed.

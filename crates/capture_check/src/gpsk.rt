@@ -35,8 +35,8 @@ pub fn is_astray(to_peer: bool, view: &GpskView) -> bool
     }
 }
 
-/// Whether the message, which the Type-Data spells, has the MAC of its covered octets under the SK of the
-/// login. All octets of the MAC are compared.
+/// Whether the message, which the Type-Data encodes, has the MAC of its covered octets under the SK of
+/// the login. All octets of the MAC are compared.
 fn is_tagged(login: &GpskLogin, view: &GpskView, body: &[u8]) -> bool
     requires key { length login.now.sk ≡ ks_of login.now.suite }
     requires spelled { body.now ≡ spelled (message_of view.now) }
@@ -70,7 +70,7 @@ fn login_of(
     }
 }
 
-/// The login of the user whom GPSK-2 names, or None where there is no such user.
+/// The login of the user whom GPSK-2 names, or None if there is no such user.
 #[tactic(auto, unfolding(crate::specs::Tags::gpsk_login_in), using(crate::proofs::UserKeys::key_is_long))]
 fn login_in(
     users: &Users,
@@ -92,7 +92,7 @@ fn login_in(
     }
 }
 
-/// The finding of a GPSK-2 of this login, which is kept where the MAC is right.
+/// The finding of a GPSK-2 of this login, which is kept if the MAC is right.
 fn begin(kept: &mut Option<GpskLogin>, login: GpskLogin, view: &GpskView, body: &[u8]) -> Finding
     requires key { length login.sk ≡ ks_of login.suite }
     requires kept_key { HasKey kept.old }
@@ -109,7 +109,7 @@ fn begin(kept: &mut Option<GpskLogin>, login: GpskLogin, view: &GpskView, body: 
     Finding::TagGood(name)
 }
 
-/// The finding of a message that belongs to the last login: `NoContext` where there is none.
+/// The finding of a message that belongs to the last login: `NoContext` if there is none.
 #[tactic(auto, unfolding(crate::specs::Tags::gpsk_follows))]
 fn follow(login: &Option<GpskLogin>, view: &GpskView, body: &[u8]) -> Finding
     requires key { HasKey login.now }
@@ -128,7 +128,7 @@ fn follow(login: &Option<GpskLogin>, view: &GpskView, body: &[u8]) -> Finding
     }
 }
 
-/// The finding of a message, which the Type-Data spells. A login that it begins is kept.
+/// The finding of a message, which the Type-Data encodes. A login that it begins is kept.
 #[tactic(auto, unfolding(crate::specs::Tags::gpsk_begins))]
 pub fn judge(login: &mut Option<GpskLogin>, users: &Users, view: &GpskView, body: &[u8]) -> Finding
     requires keys { All (λ user. IsTrue (fits_kind user.kind user.psk)) users.now }

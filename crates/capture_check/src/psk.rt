@@ -72,8 +72,8 @@ fn begin_user(
     }
 }
 
-/// The login that a PSK-2 with the right MAC_P begins, else its finding: `NoContext` where there was no
-/// PSK-1 or its RAND_S is another, `NoKey` where there is no user of its ID_P, `TagBad` where MAC_P is
+/// The login that a PSK-2 with the right MAC_P begins, else its finding: `NoContext` if there was no
+/// PSK-1 or its RAND_S is another, `NoKey` if there is no user of its ID_P, `TagBad` if MAC_P is
 /// wrong.
 #[tactic(auto, unfolding(crate::specs::Tags::psk_begins), using(crate::proofs::UserKeys::key_is_short))]
 fn begin(

@@ -59,7 +59,7 @@ abbrev pub line_took : CheckNow → Result CaptureLine LineFault → Took CheckN
 line_took c (Err fault) = record { text = []; ruling = refuses (fault_word fault) status.Refused; after = c }
 line_took c (Ok line) = item_took c line.after line.item
 
--- what a line brings
+-- the result of a line
 unfoldable pub check_took : CheckNow → List ℕ → Took CheckNow
 check_took c line = line_took c (read_line c.reader line)
 

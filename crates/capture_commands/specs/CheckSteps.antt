@@ -46,7 +46,7 @@ abbrev pub line_step : Check → Result CaptureLine LineFault → Took Check
 line_step c (Err fault) = record { text = []; ruling = refuses (fault_word fault) status.Refused; after = c }
 line_step c (Ok line) = item_step c line.after line.item
 
--- what a line brings
+-- the result of a line
 unfoldable pub step_took : Check → List ℕ → Took Check
 step_took c line = line_step c (read_line c.reader line)
 
@@ -54,7 +54,7 @@ step_took c line = line_step c (read_line c.reader line)
 unfoldable pub step_closing : Check → Closing
 step_closing c = check_end c.packets c.findings (finish_of c.reader)
 
--- no line finds memory wanting
+-- no line fails for want of memory
 abbrev pub step_lacks : Check → List ℕ → Bool
 step_lacks c line = false
 

@@ -17,7 +17,7 @@ use Rattle.capture_commands.specs.Check.{with_finding, check_status}
 use Rattle.command_driver.specs.declared.status.Status.{Status}
 use Rattle.command_driver.specs.declared.status.Status.TheVariants as status
 
--- the users that the words name, where they are `pcap` and users
+-- the users that the words name, if they are `pcap` and users
 abbrev pub pcap_users : List (List ℕ) → Option (List User)
 pcap_users [] = None
 pcap_users (word ∷ rest) = if bytes_eq word (codes "pcap") then users_named (Some []) rest else None
@@ -60,7 +60,7 @@ file_status a = status.Refused
 abbrev pub file_refusal : ℕ → NextRecord → Answer
 file_refusal number a = record { text = refused_record_text number (file_word a); status = file_status a }
 
--- the answer to a file's end, where the last record begun has this number; no file ends with Record or Read
+-- the answer to a file's end, if the last record begun has this number; no file ends with Record or Read
 abbrev pub file_end : ℕ → ℕ → ℕ → NextRecord → Answer
 file_end number packets findings answer.End = record { text = records_text number packets findings; status = check_status findings }
 file_end number packets findings a = file_refusal number a
@@ -71,7 +71,7 @@ pub record PcapNow : Type 0 where
   pub before : List Captured
   pub findings : ℕ
 
--- what a record brings
+-- the result of a record
 pub record RecordTold : Type 0 where
   pub text : List ℕ
   pub after : PcapNow

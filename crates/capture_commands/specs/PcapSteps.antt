@@ -12,7 +12,7 @@ use Rattle.capture_commands.specs.Check.{with_finding}
 use Rattle.capture_commands.specs.Pcap.{PcapNow, is_to_peer, cut_text, file_end}
 use Rattle.capture_commands.specs.declared.pcap.Found.{Found}
 
--- what a record with this number brings
+-- the result of a record with this number
 pub record RecordStep : Type 0 where
   pub text : List ℕ
   pub after : Found

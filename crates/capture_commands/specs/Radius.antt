@@ -74,7 +74,7 @@ unfoldable pub kept_after : List ℕ → Option KeptRequest → RadiusPacket →
 kept_after secret asked packet =
     if is_good_request secret packet then Some (record { id = packet.id; authenticator = packet.authenticator }) else asked
 
--- ---- what a line brings
+-- ---- the result of a line
 
 abbrev pub wrote : List ℕ → Radius → Took Radius
 wrote text c = record { text = text; ruling = goes; after = c }
@@ -118,7 +118,7 @@ radius_end (Ok done) = record { text = []; closed = ends status.Done }
 unfoldable pub radius_closing : Radius → Closing
 radius_closing c = radius_end (finish_of c.reader)
 
--- no line finds memory wanting
+-- no line fails for want of memory
 abbrev pub radius_lacks : Radius → List ℕ → Bool
 radius_lacks c line = false
 

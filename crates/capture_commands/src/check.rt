@@ -10,7 +10,7 @@ use command_driver::{Close, Command, Next, Status, Trouble, drive};
 use octet_io::{Failed, Sink, Source};
 use request_text::{CaptureItem, CaptureReader};
 
-/// A capture on its way: what has been read of it, what counts of its packets, how many there were, and
+/// A capture that is being read: what has been read of it, what counts of its packets, how many there were, and
 /// how many of them are malformed or have a bad tag.
 #[derive(Drop)]
 pub struct Check {
@@ -131,8 +131,8 @@ impl Command for Check {
     }
 }
 
-/// Reads a capture and writes the finding of each packet. The status is `Findings` where the capture was read to its
-/// end and a packet is malformed or has a bad tag. It takes no memory.
+/// Reads a capture and writes the finding of each packet. The status is `Findings` if the capture was read to its
+/// end and a packet is malformed or has a bad tag. It allocates no memory.
 pub fn check_capture<S: Source, W: Sink>(source: &mut S, sink: &mut W) -> Status
     ensures { Responds S.left S.read_faults S.last_read_fault W.written W.write_faults W.last_write_fault
         (reading check_answer never) result source.old source.new sink.old sink.new }

@@ -1,5 +1,5 @@
 //! The commands over captured packets: `check` of a capture as text, `pcap` of a file of frames, `radius` for EAP over
-//! RADIUS. None takes memory.
+//! RADIUS. None allocates memory.
 #![tactic(auto)]
 
 mod check;

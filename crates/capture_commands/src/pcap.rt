@@ -24,7 +24,7 @@ use text_tables::read_users;
 /// The code of a Response (RFC 3748 section 4).
 const RESPONSE: u8 = 2;
 
-/// Adds the users that the words name, where they are `pcap` and users. False for all other words; some
+/// Adds the users that the words name, if they are `pcap` and users. False for all other words; some
 /// users may have been added then.
 pub fn read_pcap(words: &Vec<String>, users: &mut Users) -> bool
     requires { users.old ≡ [] }
@@ -123,7 +123,7 @@ impl Found {
         write_finding(sink, number, &finding)
     }
 
-    /// Meets the end of the file, where the record last begun has this number.
+    /// Handles the end of the file, if the record last begun has this number.
     fn close<W: Sink>(&self, sink: &mut W, number: u32, answer: NextRecord) -> Status
         ensures finishes { Finishes W.written W.write_faults W.last_write_fault result sink.old sink.new
             (file_end number self.now.packets self.now.findings answer) }
@@ -243,7 +243,7 @@ fn write_refused_record<W: Sink>(sink: &mut W, number: u32, word: &str) -> Resul
 }
 
 /// Reads a file of captured frames and writes the finding of each EAP packet in them, judged by the users.
-/// The status is `Findings` where the file was read to its end and a packet is malformed, has a bad tag or is
+/// The status is `Findings` if the file was read to its end and a packet is malformed, has a bad tag or is
 /// cut.
 pub fn judge_file<S: Source, W: Sink>(users: &Users, source: &mut S, sink: &mut W) -> Status
     requires { All (λ user. IsTrue (fits_kind user.kind user.psk)) users.now }

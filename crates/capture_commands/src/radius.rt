@@ -33,12 +33,12 @@ pub struct KeptRequest {
 pub enum Judgement {
     Good,
     TagBad,
-    /// A reply, where no request of its Identifier is kept.
+    /// A reply, if no request of its Identifier is kept.
     NoRequest,
 }
 
-/// A text of RADIUS packets on its way: what has been read of it, the secret, and the last request that was
-/// written or read as good.
+/// A text of RADIUS packets that is being read: what has been read of it, the secret, and the last request
+/// that was written or read as good.
 #[derive(Drop)]
 pub struct Radius {
     reader: RadiusReader,
@@ -353,7 +353,7 @@ impl Command for Radius {
     }
 }
 
-/// Reads a text of RADIUS packets, writes requests and replies, and says what packets are. It takes no memory.
+/// Reads a text of RADIUS packets, writes requests and replies, and says what packets are. It allocates no memory.
 #[tactic(auto, using(command_driver::proofs::Responding::never_lacks))]
 pub fn answer_radius<S: Source, W: Sink>(source: &mut S, sink: &mut W) -> Status
     ensures { Responds S.left S.read_faults S.last_read_fault W.written W.write_faults W.last_write_fault

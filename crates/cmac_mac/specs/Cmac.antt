@@ -21,7 +21,7 @@ xor_blocks a b = block_of (λ i. bit_xor (slice_index a i) (slice_index b i))
 abbrev pub shifted : ℕ → ℕ
 shifted n = n * 2 % 2 ^ 128
 
--- this number times x in the field of 2^128 elements: 0x87 is added where the bit that went out was 1
+-- this number times x in the field of 2^128 elements: 0x87 is added if the bit that went out was 1
 abbrev pub doubled_number : ℕ → ℕ
 doubled_number n = if nat_lt n (2 ^ 127) then shifted n else bit_xor (shifted n) 0x87
 
@@ -43,7 +43,7 @@ last_block key end = if length end == 16
     then xor_blocks end (first_subkey key)
     else xor_blocks (end ++ 0x80 ∷ replicate (15 - length end) 0) (second_subkey key)
 
--- how many blocks of a text stand before the last one
+-- how many blocks of a text precede the last one
 abbrev pub inner_count : List ℕ → ℕ
 inner_count text = (length text - 1) / 16
 

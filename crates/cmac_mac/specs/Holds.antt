@@ -1,4 +1,4 @@
--- For which key and text a `Cmac` stands.
+-- Which key and text a `Cmac` represents.
 use Rattle.std.specs.Prelude.{◌≡◌, ℕ, List}
 use Rattle.cmac_mac.specs.Cmac.{inner_count}
 use Rattle.cmac_mac.specs.Chained.{IsTakenIn}
@@ -9,6 +9,6 @@ use Rattle.cmac_mac.specs.declared.Cmac.{Cmac}
 unfoldable pub HasTaken : Taken → List ℕ → List ℕ → Type 0
 HasTaken taken key text = IsTakenIn taken.chain taken.held taken.count key text (inner_count text)
 
--- the value stands for this text under this key
+-- the value represents this text under this key
 unfoldable pub Holds : Cmac → List ℕ → List ℕ → Type 0
 Holds mac key text = (mac.key ≡ key) × HasTaken mac.taken key text

@@ -15,7 +15,7 @@ mod taken;
 /// [`update`](Cmac::update) for each piece, and [`finish`](Cmac::finish). It stores no text, only the
 /// chain and the last octets.
 ///
-/// A contract says by `Holds mac key text` for which key and which text a value stands.
+/// A contract says by `Holds mac key text` which key and which text a value represents.
 #[derive(Drop)]
 pub struct Cmac {
     key: CmacKey,

@@ -1,4 +1,4 @@
-//! What is taken in of a text.
+//! The chain over a text so far, and the octets that are held back.
 
 ghost use Rattle.std.specs.Prelude.{◌≡◌, List, ℕ, ◌+◌, ◌≤◌, ◌++◌, [], length};
 ghost use Rattle.std.specs.List.{concat};
@@ -61,7 +61,7 @@ impl Taken {
         self.count = end;
     }
 
-    // Appends octets where the block is full, so that it isn't the last one.
+    // Appends octets when the block is full, so that it isn't the last one.
     fn take_in(&mut self, cipher: &Aes128, octets: &[u8])
         requires full { self.old.count ≡ 16 }
         requires more { 1 ≤ length octets.now }

@@ -29,7 +29,7 @@ pub data IsCutShort (s : Status) : Type 0 where
   by_memory : s ≡ status.Memory → IsCutShort s
 
 -- how a run ends: the whole text of the answer was written, and the status is the answer's; or the run was cut short,
--- and a front of the text was written
+-- and a prefix of the text was written
 pub data Ends (s : Status) (before now : Option (List ℕ)) (a : Answer) : Type 0 where
   entire : append_known before a.text ≡ now → a.status ≡ s → Ends s before now a
   cut_short : IsCutShort s → WritesFront before now a.text → Ends s before now a
@@ -53,20 +53,20 @@ IsRefusal status.Refused = Unit {0}
 IsRefusal status.TooMuch = Unit {0}
 IsRefusal _ = ⊥
 
--- but where a read failed, the count of failed reads is as it was
+-- unless a read failed, the count of failed reads is as it was
 abbrev pub KeepsReads : Status → ℕ → ℕ → Type 0
 KeepsReads s before now = s ≢ status.ReadFault → now ≡ before
 
--- but where a write failed, the count of failed writes is as it was
+-- unless a write failed, the count of failed writes is as it was
 abbrev pub KeepsWrites : Status → ℕ → ℕ → Type 0
 KeepsWrites s before now = s ≢ status.WriteFault → now ≡ before
 
--- a count of faults rose, or stands at its last value
+-- a count of faults rose, or is at its last value
 abbrev pub HasRisen : Option ℕ → ℕ → ℕ → Type 0
 HasRisen last before now = now ≤ before → last ≡ Some now
 
--- how a run ends that only writes an answer: a write failed only where the count of faults rose, or stands at its
--- last value, and wherever it rose; that count never falls
+-- how a run ends that only writes an answer: a write failed only if the count of faults rose, or is at its last
+-- value, and wherever it rose; that count never falls
 pub record Finishes {S : Type 0} (written : S → Option (List ℕ)) (faults : S → ℕ) (last : Option ℕ)
     (result : Status) (before now : S) (a : Answer) : Type 0 where
   pub ends : Ends result (written before) (written now) a
@@ -75,7 +75,7 @@ pub record Finishes {S : Type 0} (written : S → Option (List ℕ)) (faults : S
   pub uncounted : KeepsWrites result (faults before) (faults now)
   pub never_falls : faults before ≤ faults now
 
--- where the input was read to its end, nothing is left
+-- if the input was read to its end, nothing is left
 abbrev pub Drains : Status → Option (List ℕ) → Type 0
 Drains status.Done left = left ≡ nothing_known left
 Drains status.Findings left = left ≡ nothing_known left

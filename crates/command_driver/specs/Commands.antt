@@ -1,4 +1,4 @@
--- A command that reads lines: what each line brings, and what the end of the input brings.
+-- A command that reads lines: the result of each line, and of the end of the input.
 use Rattle.std.specs.Prelude.{◌≡◌, ℕ, ◌+◌, List, [], Bool, true, false, ◌||◌, ◌≤◌, Option, Some, Result, Ok, Err, OnOk, OnErr}
 use Rattle.octet_io.specs.Known.{append_known}
 use Rattle.octet_io.specs.Lines.{Lines, max_input, ended, too_long, too_much, line}
@@ -19,7 +19,7 @@ pub data Ruling : Type 0 where
   goes : Ruling
   refuses : List ℕ → Status → Ruling
 
--- what a line brings: a text, a ruling, and the command after it
+-- the result of a line: a text, a ruling, and the command after it
 pub record Took (C : Type 0) : Type 0 where
   pub text : List ℕ
   pub ruling : Ruling
@@ -39,7 +39,7 @@ abbrev pub after_ruling : ℕ → Ruling → Answer → Answer
 after_ruling number goes a = a
 after_ruling number (refuses word s) a = refusal number word s
 
--- what the end of the input brings, where the next line would have the number
+-- the result of the end of the input, if the next line would have the number
 abbrev pub closing_answer : ℕ → Closed → Answer
 closing_answer number (ends s) = record { text = []; status = s }
 closing_answer number (misses word) = refusal number word status.Refused
@@ -49,7 +49,7 @@ lacking_after goes b = b
 lacking_after (refuses word s) b = false
 
 module _ {C : Type 0} (took : C → List ℕ → Took C) (closing : C → Closing) where
-  -- the answer of a command to lines, where this many came before
+  -- the answer of a command to lines, if this many came before
   unfoldable pub answer : ℕ → C → Lines → Answer
   answer n c ended = after_text (closing c).text (closing_answer (n + 1) (closing c).closed)
   answer n c too_long = overlong (n + 1)
@@ -57,7 +57,7 @@ module _ {C : Type 0} (took : C → List ℕ → Took C) (closing : C → Closin
   answer n c (line l rest) =
       after_text (took c l).text (after_ruling (n + 1) (took c l).ruling (answer (n + 1) (took c l).after rest))
 
--- whether some line that the command comes to may find memory wanting
+-- whether some line that the command comes to may fail for want of memory
 module _ {C : Type 0} (took : C → List ℕ → Took C) (lacks : C → List ℕ → Bool) where
   unfoldable pub lacking : C → Lines → Bool
   lacking c ended = false
@@ -100,20 +100,20 @@ Closes (Ok (close.Ends s)) t before now = EndsWith t before now s
 Closes (Ok (close.Misses word)) t before now = MissesWith t before now word.now
 Closes (Err fault) t before now = WritesFront before now t.text
 
--- a write failed only where the count of faults rose, or stands at its last value; memory was wanting
--- only where that may be
+-- a write failed only if the count of faults rose, or is at its last value; memory was wanting only
+-- if that may be
 abbrev pub Troubles : Result Next Trouble → Option ℕ → ℕ → ℕ → Bool → Type 0
 Troubles (Ok next) last before now lacks = Unit {0}
 Troubles (Err trouble.Write) last before now lacks = now ≤ before → last ≡ Some now
 Troubles (Err trouble.Memory) last before now lacks = lacks ≡ true
 
--- but where a write failed, the count of faults is as it was
+-- unless a write failed, the count of faults is as it was
 abbrev pub KeepsFaults : Result Next Trouble → ℕ → ℕ → Type 0
 KeepsFaults (Ok next) before now = now ≡ before
 KeepsFaults (Err trouble.Write) before now = Unit {0}
 KeepsFaults (Err trouble.Memory) before now = now ≡ before
 
--- what a command does to a sink at one line, by what the sink tells of itself
+-- what a command does to a sink at one line, by what the sink shows of itself
 pub record AnswersLine {C S : Type 0} (written : S → Option (List ℕ)) (faults : S → ℕ) (last : Option ℕ)
     (result : Result Next Trouble) (before now : S) (t : Took C) (lacks : Bool) (after : C) : Type 0 where
   pub takes : Takes result t (written before) (written now) after
@@ -135,7 +135,7 @@ pub record AfterLines {C : Type 0} (holds : C → ℕ → Type 0) (c : C) : Type
   pub few : lines ≤ max_input
   pub fact : holds c lines
 
--- some line finds memory wanting at some command
+-- some line of some command may fail for want of memory
 pub record SomeLacks {C : Type 0} (lacks : C → List ℕ → Bool) : Type 0 where
   pub command : C
   pub text : List ℕ

@@ -1,4 +1,4 @@
--- What a call does that answers: an input that it reads, or, where it reads nothing, the words alone.
+-- What a call does that answers: an input that it reads, or, if it reads nothing, the words alone.
 use Rattle.std.specs.Prelude.{◌≡◌, ◌≢◌, ℕ, List, Bool, true, Option, Some}
 use Rattle.command_driver.specs.Answers.{Answer, Ends, Drains, HasRisen, KeepsReads, KeepsWrites}
 use Rattle.command_driver.specs.declared.status.Status.{Status}
@@ -20,7 +20,7 @@ pub data Asked : Type 0 where
   reading : (List ℕ → Answer) → Lacking → Asked
   unread : Answer → Lacking → Asked
 
--- the answer, where the input's octets are these
+-- the answer, if the input's octets are these
 abbrev pub answer_to : Asked → List ℕ → Answer
 answer_to (reading answer lacking) octets = answer octets
 answer_to (unread a lacking) octets = a
@@ -29,7 +29,7 @@ abbrev pub lacking_of : Asked → Lacking
 lacking_of (reading answer lacking) = lacking
 lacking_of (unread a lacking) = lacking
 
--- by what a sink tells of itself: an answer was given that asks nothing of a source
+-- by what a sink shows of itself: an answer was given that reads nothing from a source
 pub record Says {W : Type 0} (written : W → Option (List ℕ)) (write_faults : W → ℕ) (last_write_fault : Option ℕ)
     (a : Answer) (lacking : Lacking) (result : Status) (old new : W) : Type 0 where
   pub ends : Ends result (written old) (written new) a
@@ -38,18 +38,18 @@ pub record Says {W : Type 0} (written : W → Option (List ℕ)) (write_faults :
   pub writes : KeepsWrites result (write_faults old) (write_faults new)
   pub memory : result ≡ status.Memory → (left : Option (List ℕ)) → MayLack lacking left
 
--- by what a source and a sink tell of themselves: what is left and what was written, the counts of faults, and
+-- by what a source and a sink show of themselves: what is left and what was written, the counts of faults, and
 -- the last values of those counts
 module _ {S W : Type 0} (left : S → Option (List ℕ)) (read_faults : S → ℕ) (last_read_fault : Option ℕ)
     (written : W → Option (List ℕ)) (write_faults : W → ℕ) (last_write_fault : Option ℕ) where
   -- an input was read and answered
   pub record Reads (answer : List ℕ → Answer) (lacking : Lacking) (result : Status) (before now : S) (old new : W) : Type 0 where
     -- with status 0, 1, 2, 6 or 7 the whole text was written and the status is that of the answer; with 3, 4 or 5
-    -- a front of the text was
+    -- a prefix of the text was
     pub ends : (octets : List ℕ) → left before ≡ Some octets → Ends result (written old) (written new) (answer octets)
     -- with status 0 or 7 nothing is left to read
     pub drains : Drains result (left now)
-    -- a fault is answered only where its count rose, or stands at its last value, and wherever it rose
+    -- a fault is answered only if its count rose, or is at its last value, and wherever it rose
     pub read_fault : result ≡ status.ReadFault → HasRisen last_read_fault (read_faults before) (read_faults now)
     pub write_fault : result ≡ status.WriteFault → HasRisen last_write_fault (write_faults old) (write_faults new)
     pub reads : KeepsReads result (read_faults before) (read_faults now)

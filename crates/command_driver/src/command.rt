@@ -15,7 +15,7 @@ pub enum Next {
     Refuses(&'static str, Status),
 }
 
-/// What the end of the input brings.
+/// The result of the end of the input.
 #[derive(Clone, Copy)]
 pub enum Close {
     /// The run ends with this status.
@@ -38,19 +38,19 @@ pub trait Command {
     ghost use Rattle.std.specs.Prelude.{ℕ, List, Bool};
     ghost use Rattle.command_driver.specs.Commands.{Took, Closing};
 
-    /// What of the command decides what its lines bring.
+    /// The type of what decides the results of a command's lines.
     ghost Seen: { Type 0 };
 
-    /// What of a command decides what its lines bring.
+    /// What of a command decides the results of its lines.
     ghost seen: { Self → Seen };
 
-    /// What a line brings.
+    /// The result of a line.
     ghost took: { Seen → List ℕ → Took Seen };
 
-    /// What the end of the input brings.
+    /// The result of the end of the input.
     ghost closing: { Seen → Closing };
 
-    /// Whether a line may find memory wanting.
+    /// Whether a line may fail for want of memory.
     ghost lacks: { Seen → List ℕ → Bool };
 
     /// What holds of the command after so many lines.
@@ -63,7 +63,7 @@ pub trait Command {
         ensures answers { AnswersLine W.written W.write_faults W.last_write_fault result sink.old sink.new
             (took (seen self.old) line.now) (lacks (seen self.old) line.now) (seen self.new) };
 
-    /// Meets the end of the input and writes its answer.
+    /// Handles the end of the input and writes its answer.
     fn close<W: Sink>(&self, sink: &mut W) -> Result<Close, Failed>
         ensures { AnswersEnd W.written W.write_faults W.last_write_fault result sink.old sink.new (closing (seen self.now)) };
 }

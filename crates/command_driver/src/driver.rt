@@ -1,4 +1,4 @@
-//! The lines of an input, one after the other, to a command.
+//! Passing the lines of an input, one after the other, to a command.
 
 ghost use Rattle.std.specs.Prelude.{◌≡◌, ◌≤◌, ◌+◌, ℕ, List, Option};
 ghost use Rattle.command_driver.specs.Answers.{Finishes, IsRefusal, Drains, refusal, after_text};
@@ -24,7 +24,7 @@ fn refuse<W: Sink>(sink: &mut W, line: u32, word: &str, status: Status) -> Statu
     }
 }
 
-/// Meets the end of the input, where the next line would have the number `line`.
+/// Handles the end of the input, if the next line would have the number `line`.
 fn close<C: Command, W: Sink>(command: &C, sink: &mut W, line: u32) -> Status
     ensures { Finishes W.written W.write_faults W.last_write_fault result sink.old sink.new
         (after_text (C.closing (C.seen command.now)).text (closing_answer line (C.closing (C.seen command.now)).closed)) }
@@ -36,8 +36,8 @@ fn close<C: Command, W: Sink>(command: &C, sink: &mut W, line: u32) -> Status
     }
 }
 
-/// Reads the lines of the source one after the other, gives each to the command, and ends at the end
-/// of the input, at a refused line, at a limit or at a fault. No failed read or write that is counted is passed over.
+/// Reads the lines of the source one after the other, passes each to the command, and ends at the end of the input,
+/// at a refused line, at a limit or at a fault. No failed read or write that is counted is ignored.
 pub fn drive<C: Command, S: Source, W: Sink>(
     command: &mut C,
     source: &mut S,

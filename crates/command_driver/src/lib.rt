@@ -1,4 +1,4 @@
-//! A command that reads lines, and the driver that gives it one after the other: how each call that answers ends.
+//! A command that reads lines, the driver that passes them to it, and how each call that answers ends.
 #![tactic(auto)]
 
 mod command;

@@ -1,4 +1,4 @@
-//! How the program ends.
+//! The statuses with which a run of the program ends.
 
 ghost use Rattle.std.specs.Prelude.{◌≡◌};
 ghost use Rattle.command_driver.specs.Statuses.{number_of};
@@ -8,7 +8,7 @@ ghost use Rattle.command_driver.specs.Statuses.{number_of};
 pub enum Status {
     /// 0: every line was written, and the input was read to its end.
     Done,
-    /// 1: the words are none that the program knows.
+    /// 1: the words are none of the program's forms.
     Usage,
     /// 2: a line is refused, or the input ended too early.
     Refused,

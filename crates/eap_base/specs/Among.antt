@@ -37,7 +37,7 @@ is_kind kind = (kind == psk_kind) || (kind == gpsk_kind)
 abbrev pub is_among : List ℕ → ℕ → Bool
 is_among numbers number = list_any (λ other. other == number) numbers
 
--- whether no number stands twice
+-- whether no number occurs twice
 abbrev pub are_distinct : List ℕ → Bool
 are_distinct [] = true
 are_distinct (number ∷ rest) = not (is_among rest number) && are_distinct rest

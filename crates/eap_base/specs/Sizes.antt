@@ -6,6 +6,6 @@ use Rattle.std.specs.Prelude.{ℕ}
 abbrev pub max_name : ℕ
 max_name = 253
 
--- the octets of a packet: the EAP MTU here, of which RFC 3748 section 3.1 wants 1,020 at least
+-- the octets of a packet: the EAP MTU here, of which RFC 3748 section 3.1 requires 1,020 at least
 abbrev pub max_packet : ℕ
 max_packet = 1500

@@ -1,4 +1,4 @@
-//! Octets: lists of a fixed room, and their comparison.
+//! Octets: lists of a fixed capacity, and their comparison.
 #![tactic(auto)]
 
 mod comparison;

@@ -8,7 +8,7 @@ use std::marker::Model;
 /// The most octets of the name of a peer or a server (RFC 7542 section 2.3).
 pub const MAX_NAME: usize = 253;
 
-/// The most octets of an EAP packet: the EAP MTU here, of which RFC 3748 section 3.1 wants 1,020 at least.
+/// The most octets of an EAP packet: the EAP MTU here, of which RFC 3748 section 3.1 requires 1,020 at least.
 pub const MAX_PACKET: usize = 1500;
 
 /// The name of a peer or a server: at most 253 octets.
@@ -53,7 +53,7 @@ impl<const N: usize> Octets<N> {
         }
     }
 
-    /// The list of these octets, or None where there are more than `N`.
+    /// The list of these octets, or None if there are more than `N`.
     pub fn from_slice(octets: &[u8]) -> Option<Octets<N>>
         ensures fits { IsSome result ↔ (length octets.now ≤ N) }
         ensures same { IfSome result (λ list. list ≡ octets.now) }
@@ -76,7 +76,7 @@ impl<const N: usize> Octets<N> {
         list
     }
 
-    /// Appends one octet and answers true. Where the list is full it answers false and changes nothing.
+    /// Appends one octet and answers true. If the list is full it answers false and changes nothing.
     pub fn push(&mut self, octet: u8) -> bool
         ensures room { IsTrue result ↔ (length self.old < N) }
         ensures pushed { length self.old < N → self.new ≡ self.old ++ octet ∷ [] }
@@ -85,7 +85,7 @@ impl<const N: usize> Octets<N> {
         self.items.try_push(octet).is_ok()
     }
 
-    /// Appends all these octets and answers true. Where they don't fit it answers false and changes nothing.
+    /// Appends all these octets and answers true. If they don't fit it answers false and changes nothing.
     pub fn append(&mut self, octets: &[u8]) -> bool
         ensures room { IsTrue result ↔ (length self.old + length octets.now ≤ N) }
         ensures appended { length self.old + length octets.now ≤ N → self.new ≡ self.old ++ octets.now }
@@ -102,7 +102,7 @@ impl<const N: usize> Octets<N> {
         self.append(octets);
     }
 
-    /// Holds these octets, which fit, in place of its own.
+    /// Replaces the octets by these, which fit.
     pub fn set(&mut self, octets: &[u8])
         requires { length octets.now ≤ N }
         ensures { self.new ≡ octets.now }
@@ -111,14 +111,14 @@ impl<const N: usize> Octets<N> {
         self.append(octets);
     }
 
-    /// Holds no octets.
+    /// Removes all octets.
     pub fn clear(&mut self)
         ensures { self.new ≡ [] }
     {
         self.items.clear();
     }
 
-    /// Keeps the first `keep` octets, or all where there are fewer.
+    /// Keeps the first `keep` octets, or all if there are fewer.
     pub fn truncate(&mut self, keep: usize)
         ensures { self.new ≡ take keep self.old }
     {
@@ -141,7 +141,7 @@ impl<const N: usize> Octets<N> {
         self.items.len()
     }
 
-    /// True where there is no octet.
+    /// True if there is no octet.
     pub fn is_empty(&self) -> bool
         ensures { IsTrue result ↔ (self.now ≡ []) }
     {

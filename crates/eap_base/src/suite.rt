@@ -36,7 +36,7 @@ impl Suite {
         }
     }
 
-    /// The suite of this number, or None where it is neither 1 nor 2.
+    /// The suite of this number, or None if it is neither 1 nor 2.
     pub fn numbered(number: u8) -> Option<Suite>
         ensures { result ≡ suite_numbered number }
     {
@@ -47,7 +47,7 @@ impl Suite {
         }
     }
 
-    /// The suite as CSuite_Sel spells it: four octets of vendor 0, then two of specifier 1 or 2.
+    /// The suite as CSuite_Sel encodes it: four octets of vendor 0, then two of specifier 1 or 2.
     pub fn octets(&self) -> [u8; SUITE_SIZE]
         ensures { result ≡ suite_octets self.now }
     {

@@ -6,8 +6,8 @@ use octet_io::{StdSink, StdSource};
 use std::env;
 use std::process::ExitCode;
 
-/// Answers to its words over standard input and output, neither of which is buffered: the source is asked for
-/// up to 4,096 octets at a time, and a line goes out before the next is asked for.
+/// Answers to its words over standard input and output, neither of which is buffered: the source is read up
+/// to 4,096 octets at a time, and a line is written before the next is read.
 fn main(rt: HostRuntime) -> ExitCode {
     let mut source = StdSource::new(rt.stdin());
     let mut sink = StdSink::new(rt.stdout());

@@ -1,4 +1,4 @@
--- The peer of EAP-GPSK (RFC 5433 section 3): where it stands, and its turn for each Request.
+-- The peer of EAP-GPSK (RFC 5433 section 3): its state, and its turn for each Request.
 use Rattle.std.specs.Prelude.{ℕ, List, [], ◌∷◌, Bool, true, false, ◌&&◌, not, if◌then◌else◌, Option, Some, None, Result, Ok, Err}
 use Rattle.std.specs.Str.{bytes_eq}
 use Rattle.eap_base.specs.declared.suite.Suite.{Suite}
@@ -27,7 +27,7 @@ pub record Login : Type 0 where
   pub rand_s : List ℕ
   pub suite : Suite
 
--- where a peer stands: not begun; begun; after GPSK-2; over, with success or not
+-- the state of a peer: not begun; begun; after GPSK-2; over, with success or not
 pub data View : Type 0 where
   unset : View
   fresh : Credential → List ℕ → View
@@ -121,7 +121,7 @@ abbrev pub wait_reads : Login → ℕ → Result Message Cause → PeerOutcome V
 wait_reads login id (Err cause) = discarded (wait login) cause
 wait_reads login id (Ok message) = wait_hears login id message
 
--- a peer whose login is over takes nothing
+-- a peer whose login is over accepts nothing
 abbrev pub over_reads : Login → Bool → Result Message Cause → PeerOutcome View
 over_reads login good (Err cause) = discarded (over login good) cause
 over_reads login good (Ok message) = discarded (over login good) WrongOp
@@ -144,7 +144,7 @@ report_of login = record {
   emsk = (keys_of login).emsk;
 }
 
--- the report that a view holds
+-- the report of a view
 abbrev pub report : View → Option Report
 report unset = None
 report (fresh cred nonce) = None

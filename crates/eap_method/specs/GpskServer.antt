@@ -1,4 +1,4 @@
--- The server of EAP-GPSK (RFC 5433 section 3): where it stands, and its turn for each Response.
+-- The server of EAP-GPSK (RFC 5433 section 3): its state, and its turn for each Response.
 use Rattle.std.specs.Prelude.{ℕ, List, [], ◌∷◌, Bool, true, false, ◌==◌, ◌&&◌, not, if◌then◌else◌, Option, Some, None, Result, Ok, Err}
 use Rattle.std.specs.Str.{bytes_eq}
 use Rattle.eap_base.specs.declared.suite.Suite.{Suite}
@@ -27,7 +27,7 @@ pub record Login : Type 0 where
   pub rand_p : List ℕ
   pub suite : Suite
 
--- where a server stands: not begun; begun; after GPSK-1; after GPSK-Fail; after
+-- the state of a server: not begun; begun; after GPSK-1; after GPSK-Fail; after
 -- GPSK-Protected-Fail; after GPSK-3; over without a user; over, with success or not
 pub data View : Type 0 where
   unset : View
@@ -59,7 +59,7 @@ abbrev pub is_begun : View → Bool
 is_begun (begun own nonce) = true
 is_begun view = false
 
--- the first Request and the view after it; none where the server hasn't begun or has made one
+-- the first Request and the view after it; none if the server hasn't begun or has made one
 unfoldable pub first_step : View → ℕ → FirstOutcome View
 first_step (begun own nonce) id = record { packet = first own nonce id; after = asked own nonce }
 first_step view id = record { packet = []; after = view }
@@ -79,11 +79,11 @@ gpsk3_of login = tagged login.suite (keys_of login).sk (gpsk3 login.rand_p login
 abbrev pub bars_with : Login → Message
 bars_with login = tagged login.suite (keys_of login).sk (protected_fail authorization_failure [])
 
--- an unknown user is told so without a MAC
+-- an unknown user is answered by GPSK-Fail, without a MAC
 unfoldable pub refuses : ServerSide → List ℕ → ℕ → ServerOutcome View
 refuses own nonce next_id = requested (refusing own nonce) (gpsk_request next_id (fail psk_not_found)) [] []
 
--- a barred user is told so under a MAC, any other gets GPSK-3
+-- a barred user is answered by GPSK-Protected-Fail, under a MAC, any other by GPSK-3
 unfoldable pub answers : Login → Bool → ℕ → Message → ServerOutcome View
 answers login barred next_id message =
     if barred
@@ -187,7 +187,7 @@ report_of login = record {
   emsk = (keys_of login).emsk;
 }
 
--- the report that a view holds
+-- the report of a view
 abbrev pub report : View → Option Report
 report (over login good) = if good then Some (report_of login) else None
 report view = None

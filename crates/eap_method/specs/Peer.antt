@@ -1,4 +1,4 @@
--- The peer's methods by kind: what an object is and where it stands, and its calls.
+-- The peer's methods by kind: what an object is, its state, and its calls.
 use Rattle.std.specs.Prelude.{◌≡◌, ℕ, List, [], ◌∷◌, Bool, ◌==◌, if◌then◌else◌, Option, Some, None, map}
 use Rattle.std.specs.List.{list_all}
 use Rattle.login_setup.specs.declared.setup.PeerSetup.{PeerSetup}
@@ -11,7 +11,7 @@ use Rattle.eap_method.specs.PskPeer as psk_peer
 use Rattle.eap_method.specs.GpskPeer as gpsk_peer
 use Rattle.eap_method.specs.Turns.{PeerOutcome, discarded}
 
--- an object: its method, and where it stands
+-- an object: its method, and its state
 pub data PeerShown : Type 0 where
   psk : psk_peer.View → PeerShown
   gpsk : gpsk_peer.View → PeerShown
@@ -44,7 +44,7 @@ unfoldable pub peer_step : PeerShown → List ℕ → PeerOutcome PeerShown
 peer_step (psk view) octets = psk_turns (psk_peer.step view octets)
 peer_step (gpsk view) octets = gpsk_turns (gpsk_peer.step view octets)
 
--- the report that the object holds
+-- the report of the object
 unfoldable pub peer_report : PeerShown → Option Report
 peer_report (psk view) = psk_peer.report view
 peer_report (gpsk view) = gpsk_peer.report view

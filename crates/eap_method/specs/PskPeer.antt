@@ -1,4 +1,4 @@
--- The peer of EAP-PSK (RFC 4764 section 4): where it stands, and its turn for each Request.
+-- The peer of EAP-PSK (RFC 4764 section 4): its state, and its turn for each Request.
 use Rattle.std.specs.Prelude.{ℕ, List, [], ◌∷◌, Bool, true, false, ◌==◌, ◌&&◌, not, if◌then◌else◌, Option, Some, None, slice_index, Result, Ok, Err}
 use Rattle.std.specs.Str.{bytes_eq}
 use Rattle.eap_base.specs.Among.{psk_kind}
@@ -19,14 +19,14 @@ use Rattle.eap_method.specs.declared.values.Decision.TheVariants.{Fail, UncondSu
 use Rattle.eap_method.specs.PskTags.{psk_response, mac_p_octets, mac_s_octets, ak_record, tek_record, header_of, sealed_result, is_sealed, opened, result_fault, result_of, done_success, done_failure, blank_tag, rand_of}
 use Rattle.eap_method.specs.Turns.{PeerOutcome, id_of, body_of, fault_if, discarded, replied}
 
--- what a peer keeps of a login: its credential and the nonce of which RAND_P is the front, ID_S, RAND_S
+-- what a peer keeps of a login: its credential and the nonce whose prefix is RAND_P, ID_S, RAND_S
 pub record Login : Type 0 where
   pub cred : Credential
   pub nonce : List ℕ
   pub id_s : List ℕ
   pub rand_s : List ℕ
 
--- where a peer stands: not begun; begun; after PSK-2; over, with success or not
+-- the state of a peer: not begun; begun; after PSK-2; over, with success or not
 pub data View : Type 0 where
   unset : View
   fresh : Credential → List ℕ → View
@@ -136,7 +136,7 @@ abbrev pub wait_reads : Login → ℕ → List ℕ → Result Message Cause → 
 wait_reads login id header (Err cause) = discarded (wait login) cause
 wait_reads login id header (Ok message) = wait_hears login id header message
 
--- a peer whose login is over takes nothing
+-- a peer whose login is over accepts nothing
 abbrev pub over_reads : Login → Bool → Result Message Cause → PeerOutcome View
 over_reads login good (Err cause) = discarded (over login good) cause
 over_reads login good (Ok message) = discarded (over login good) WrongOp
@@ -159,7 +159,7 @@ report_of login = record {
   emsk = (keys_of login).emsk;
 }
 
--- the report that a view holds
+-- the report of a view
 abbrev pub report : View → Option Report
 report (over login good) = if good then Some (report_of login) else None
 report view = None

@@ -1,4 +1,4 @@
--- The server of EAP-PSK (RFC 4764 section 4): where it stands, and its turn for each Response.
+-- The server of EAP-PSK (RFC 4764 section 4): its state, and its turn for each Response.
 use Rattle.std.specs.Prelude.{ℕ, List, [], ◌∷◌, Bool, true, false, ◌==◌, ◌&&◌, not, if◌then◌else◌, Option, Some, None, slice_index, Result, Ok, Err}
 use Rattle.std.specs.Str.{bytes_eq}
 use Rattle.login_setup.specs.declared.users.User.{User}
@@ -18,7 +18,7 @@ use Rattle.eap_method.specs.declared.values.Report.{Report}
 use Rattle.eap_method.specs.PskTags.{psk_request, mac_p_octets, mac_s_octets, ak_record, tek_record, header_of, sealed_result, is_sealed, opened, result_fault, result_of, done_success, done_failure, blank_tag, rand_of}
 use Rattle.eap_method.specs.Turns.{ServerOutcome, FirstOutcome, body_of, fault_if, dropped, requested, done}
 
--- what a server keeps of a login: its own side and the nonce of which RAND_S is the front, ID_P and
+-- what a server keeps of a login: its own side and the nonce whose prefix is RAND_S, ID_P and
 -- the user's key, RAND_P, and the R that it sent
 pub record Login : Type 0 where
   pub own : ServerSide
@@ -28,7 +28,7 @@ pub record Login : Type 0 where
   pub rand_p : List ℕ
   pub r : ℕ
 
--- where a server stands: not begun; begun; after PSK-1; after PSK-3; over without a user; over, with
+-- the state of a server: not begun; begun; after PSK-1; after PSK-3; over without a user; over, with
 -- success or not
 pub data View : Type 0 where
   unset : View
@@ -47,7 +47,7 @@ abbrev pub is_begun : View → Bool
 is_begun (begun own nonce) = true
 is_begun view = false
 
--- the first Request and the view after it; none where the server hasn't begun or has made one
+-- the first Request and the view after it; none if the server hasn't begun or has made one
 unfoldable pub first_step : View → ℕ → FirstOutcome View
 first_step (begun own nonce) id = record { packet = first own nonce id; after = asked own nonce }
 first_step view id = record { packet = []; after = view }
@@ -138,7 +138,7 @@ psk4_fault login header rand_s nonce tag sealed =
     (fault_if (not (is_sealed (keys_of login).tek 1 header sealed tag)) BadTag
     (result_fault (opened (keys_of login).tek 1 sealed))))
 
--- success exactly where both sides sent DONE_SUCCESS
+-- success exactly if both sides sent DONE_SUCCESS
 abbrev pub both_succeed : Login → ℕ → Bool
 both_succeed login r = (login.r == done_success) && (r == done_success)
 
@@ -183,7 +183,7 @@ report_of login = record {
   emsk = (keys_of login).emsk;
 }
 
--- the report that a view holds
+-- the report of a view
 abbrev pub report : View → Option Report
 report (over login good) = if good then Some (report_of login) else None
 report view = None

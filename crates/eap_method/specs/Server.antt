@@ -1,4 +1,4 @@
--- The server's methods by kind: what an object is and where it stands, and its calls.
+-- The server's methods by kind: what an object is, its state, and its calls.
 use Rattle.std.specs.Prelude.{◌≡◌, ℕ, List, [], ◌∷◌, Bool, ◌==◌, if◌then◌else◌, Option, Some, None, map}
 use Rattle.login_setup.specs.declared.setup.ServerSetup.{ServerSetup}
 use Rattle.login_setup.specs.declared.users.User.{User}
@@ -11,7 +11,7 @@ use Rattle.eap_method.specs.PskServer as psk_server
 use Rattle.eap_method.specs.GpskServer as gpsk_server
 use Rattle.eap_method.specs.Turns.{ServerOutcome, FirstOutcome, dropped}
 
--- an object: its method, and where it stands
+-- an object: its method, and its state
 pub data ServerShown : Type 0 where
   psk : psk_server.View → ServerShown
   gpsk : gpsk_server.View → ServerShown
@@ -54,7 +54,7 @@ unfoldable pub server_step : List User → ℕ → ServerShown → List ℕ → 
 server_step users next_id (psk view) octets = psk_turns (psk_server.step users next_id view octets)
 server_step users next_id (gpsk view) octets = gpsk_turns (gpsk_server.step users next_id view octets)
 
--- the report that the object holds
+-- the report of the object
 unfoldable pub server_report : ServerShown → Option Report
 server_report (psk view) = psk_server.report view
 server_report (gpsk view) = gpsk_server.report view

@@ -1,4 +1,4 @@
--- What a method's object makes of a packet: a turn, and where it stands after it.
+-- What a method's object makes of a packet: a turn, and the object's state after it.
 use Rattle.std.specs.Prelude.{ℕ, List, [], Bool, if◌then◌else◌, Option, Some, slice_index, drop}
 use Rattle.eap_packet.specs.declared.cause.Cause.{Cause}
 use Rattle.eap_method.specs.declared.tags.TagRecord.{TagRecord}

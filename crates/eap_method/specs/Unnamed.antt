@@ -1,11 +1,11 @@
--- What no call of an end changes at its objects: their Types, and where one stands whose method the end doesn't name.
+-- What no call of an end changes at its objects: their Types, and the state of one whose method the end doesn't name.
 use Rattle.std.specs.Prelude.{◌≡◌, ℕ, List, not}
 use Rattle.std.specs.List.{filter}
 use Rattle.eap_base.specs.Among.{is_among}
 use Rattle.eap_method.specs.Peer.{PeerShown, peer_kind, peer_kinds}
 use Rattle.eap_method.specs.Server.{ServerShown, server_kind, server_kinds}
 
--- the objects of the methods that aren't named, as they stand, in their order
+-- the objects of the methods that aren't named, as they are, in their order
 unfoldable pub peers_unnamed : List ℕ → List PeerShown → List PeerShown
 peers_unnamed named shown = filter (λ s. not (is_among named (peer_kind s))) shown
 
@@ -13,7 +13,7 @@ unfoldable pub servers_unnamed : List ℕ → List ServerShown → List ServerSh
 servers_unnamed named shown = filter (λ s. not (is_among named (server_kind s))) shown
 
 -- before and after, the objects of an end that names these methods are of the same Types in the same order, and
--- those of methods that it doesn't name stand as they stood
+-- those of methods that it doesn't name are as they were
 pub record KeepsPeers (named : List ℕ) (before after : List PeerShown) : Type 0 where
   pub kinds : peer_kinds after ≡ peer_kinds before
   pub unnamed : peers_unnamed named after ≡ peers_unnamed named before

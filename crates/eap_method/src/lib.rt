@@ -1,5 +1,5 @@
 //! The methods behind two traits: what an object of EAP-PSK (RFC 4764) or EAP-GPSK (RFC 5433) brings
-//! into a login and takes out of it, its turn for each packet, and the records of its tags.
+//! into a login and gets from it, its turn for each packet, and the records of its tags.
 #![tactic(auto)]
 
 mod peer;

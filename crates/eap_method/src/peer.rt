@@ -11,27 +11,27 @@ use crate::turn::PeerTurn;
 use crate::values::{Credential, Report};
 use eap_base::{Nonce, Packet};
 
-/// A method at a peer. Its ghost member says which method it is and where it stands.
+/// A method at a peer. Its ghost member says which method it is and its state.
 pub trait PeerMethod: Drop {
     ghost use Rattle.eap_method.specs.Peer.{PeerShown};
 
-    /// The method, and where it stands.
+    /// The method, and its state.
     ghost peer_shown: { Self → PeerShown };
 
     /// The Type of the method, 47 or 51, the same for the object's whole life.
     fn kind(&self) -> u8
         ensures { result ≡ peer_kind (peer_shown self.now) };
 
-    /// Begins anew, wherever the object stood before. The key has 16 octets for EAP-PSK, 32 to 64 for
-    /// EAP-GPSK.
+    /// Begins again, whatever the object's state before. The key has 16 octets for EAP-PSK, 32 to 64
+    /// for EAP-GPSK.
     fn begin(&mut self, cred: &Credential, nonce: &Nonce)
         requires { IsTrue (fits_kind (peer_kind (peer_shown self.old)) cred.now.psk) }
         ensures { peer_shown self.new ≡ peer_begun cred.now nonce.now (peer_shown self.old) };
 
     /// The turn for a Request of this Type with nothing past its Length. The Response is written into
     /// `packet` in place of what was there, the records of its tags into `tags`. It leaves room for an
-    /// Expanded Type: it has at most 1,493 octets. A discard leaves no record, and nothing that counts
-    /// in `packet`.
+    /// Expanded Type: it has at most 1,493 octets. A discard leaves no record, and `packet` is then
+    /// unspecified.
     fn handle(&mut self, request: &[u8], packet: &mut Packet, tags: &mut Tags) -> PeerTurn
         requires { IsRequest (peer_kind (peer_shown self.old)) request.now }
         ensures turn { peer_step (peer_shown self.old) request.now
@@ -39,7 +39,7 @@ pub trait PeerMethod: Drop {
         ensures tags { tags.new ≡ peer_tags (peer_turn_with result packet.new tags.new) }
         ensures room { replies result ≡ true → HasRoom packet.new };
 
-    /// What the peer holds after a login that succeeded; None before and after any other.
+    /// What the peer has after a login that succeeded; None before and after any other.
     fn report(&self) -> Option<Report>
         ensures { result ≡ peer_report (peer_shown self.now) };
 }

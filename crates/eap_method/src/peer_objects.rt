@@ -18,8 +18,8 @@ use eap_packet::Cause;
 use login_policy::peer_allows;
 use login_setup::PeerSetup;
 
-/// Begins each object whose method the settings allow, with the key for it, wherever it stood before; the
-/// others stay.
+/// Begins each object whose method the settings allow, with the key for it, whatever its state before;
+/// the others stay as they are.
 pub fn begin_peers<M: PeerMethod>(methods: &mut [M], setup: &PeerSetup)
     requires sound { IsSoundPeer setup.now }
     requires keys { HasKeys setup.now }
@@ -33,8 +33,8 @@ pub fn begin_peers<M: PeerMethod>(methods: &mut [M], setup: &PeerSetup)
 
 /// The turn of the object of this Type, which is allowed, for a Request of this Type with nothing past
 /// its Length: its Response is written into `packet`, with room for an Expanded Type, the records of its
-/// tags into `tags`. Where there is no such object, the Request is discarded as one that no method
-/// awaits. The objects of other methods stay.
+/// tags into `tags`. If there is no such object, the Request is discarded as one that no method
+/// awaits. The objects of other methods stay as they are.
 pub fn hand_to_peer<M: PeerMethod>(
     methods: &mut [M],
     kind: u8,
@@ -66,8 +66,8 @@ pub fn hand_to_peer<M: PeerMethod>(
     }
 }
 
-/// What the object of this Type, which is allowed, holds after a login that succeeded; None after any
-/// other, and where there is no such object.
+/// What the object of this Type, which is allowed, has after a login that succeeded; None after any
+/// other, and if there is no such object.
 pub fn peer_report<M: PeerMethod>(methods: &[M], kind: u8) -> Option<Report>
     ensures { (allowed : List ℕ) → is_among allowed kind ≡ true → result ≡ peer_report_of kind (peer_views allowed (map M.peer_shown methods.now)) }
 {
@@ -117,7 +117,7 @@ fn credential_for(setup: &PeerSetup, kind: u8) -> Credential
     }
 }
 
-/// The key for the method of this Type; no octets where there is none.
+/// The key for the method of this Type; no octets if there is none.
 fn key_for(setup: &PeerSetup, kind: u8) -> Secret
     ensures { result ≡ key_for setup.now kind }
 {

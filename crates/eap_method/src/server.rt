@@ -12,18 +12,18 @@ use crate::values::{Report, ServerSide};
 use eap_base::{Nonce, Packet};
 use login_setup::Users;
 
-/// A method at a server. Its ghost member says which method it is and where it stands.
+/// A method at a server. Its ghost member says which method it is and its state.
 pub trait ServerMethod: Drop {
     ghost use Rattle.eap_method.specs.Server.{ServerShown};
 
-    /// The method, and where it stands.
+    /// The method, and its state.
     ghost server_shown: { Self → ServerShown };
 
     /// The Type of the method, 47 or 51, the same for the object's whole life.
     fn kind(&self) -> u8
         ensures { result ≡ server_kind (server_shown self.now) };
 
-    /// Begins anew, wherever the object stood before. The suites are one or two of 1 and 2.
+    /// Begins again, whatever the object's state before. The suites are one or two of 1 and 2.
     fn begin(&mut self, own: &ServerSide, nonce: &Nonce)
         requires { IsTrue (are_suites own.now.suites) }
         ensures { server_shown self.new ≡ server_begun own.now nonce.now (server_shown self.old) };
@@ -38,7 +38,7 @@ pub trait ServerMethod: Drop {
     /// The turn for a Response of this Type with nothing past its Length. A Request that follows has
     /// the Identifier `next_id` and is written into `packet` in place of what was there, the records of
     /// the turn's tags into `tags`. It leaves room for an Expanded Type: it has at most 1,493 octets. A
-    /// discard leaves no record; without a Request nothing counts in `packet`. The users' keys have 16
+    /// discard leaves no record; without a Request `packet` is unspecified. The users' keys have 16
     /// octets for EAP-PSK, 32 to 64 for EAP-GPSK.
     fn handle(
         &mut self,
@@ -55,7 +55,7 @@ pub trait ServerMethod: Drop {
         ensures tags { tags.new ≡ server_tags (server_turn_with result packet.new tags.new) }
         ensures room { requests result ≡ true → HasRoom packet.new };
 
-    /// What the server holds after a login that succeeded; None before and after any other.
+    /// What the server has after a login that succeeded; None before and after any other.
     fn report(&self) -> Option<Report>
         ensures { result ≡ server_report (server_shown self.now) };
 }

@@ -18,7 +18,7 @@ use eap_base::{Nonce, Packet, is_among};
 use eap_packet::Cause;
 use login_setup::{ServerSetup, Users};
 
-/// Begins each object whose method the settings propose, wherever it stood before; the others stay.
+/// Begins each object whose method the settings propose, whatever its state before; the others stay as they are.
 pub fn begin_servers<M: ServerMethod>(methods: &mut [M], setup: &ServerSetup)
     requires { IsTrue (are_suites setup.now.suites) }
     ensures views { have_each (server_kinds (map M.server_shown methods.old)) setup.now.methods ≡ true
@@ -30,8 +30,8 @@ pub fn begin_servers<M: ServerMethod>(methods: &mut [M], setup: &ServerSetup)
 }
 
 /// Writes the first Request, with this Identifier, of the object of this Type, which is proposed, into
-/// `packet`: the object begins and makes it. False, and nothing changes, where there is no such object. The
-/// objects of other methods stay.
+/// `packet`: the object begins and makes it. False, and nothing changes, if there is no such object. The
+/// objects of other methods stay as they are.
 pub fn offer_method<M: ServerMethod>(
     methods: &mut [M],
     kind: u8,
@@ -65,8 +65,8 @@ pub fn offer_method<M: ServerMethod>(
 
 /// The turn of the object of this Type, which is proposed, for a Response of this Type with nothing
 /// past its Length: a Request that follows has the Identifier `next_id` and is written into `packet`,
-/// the records of the turn's tags into `tags`. Where there is no such object, the Response is discarded
-/// as one that no method awaits. The objects of other methods stay.
+/// the records of the turn's tags into `tags`. If there is no such object, the Response is discarded
+/// as one that no method awaits. The objects of other methods stay as they are.
 pub fn hand_to_server<M: ServerMethod>(
     methods: &mut [M],
     kind: u8,
@@ -102,8 +102,8 @@ pub fn hand_to_server<M: ServerMethod>(
     }
 }
 
-/// What the object of this Type, which is proposed, holds after a login that succeeded; None after any
-/// other, and where there is no such object.
+/// What the object of this Type, which is proposed, has after a login that succeeded; None after any other,
+/// and if there is no such object.
 pub fn server_report<M: ServerMethod>(methods: &[M], kind: u8) -> Option<Report>
     ensures { (order : List ℕ) → is_among order kind ≡ true → result ≡ server_report_of kind (server_views order (map M.server_shown methods.now)) }
 {

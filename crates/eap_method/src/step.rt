@@ -1,5 +1,5 @@
 //! What one call of a machine of RFC 4137 does. The packet that it sends and the records of its tags
-//! stand where they were lent.
+//! are in the buffers passed to the call.
 
 ghost use Rattle.std.specs.Prelude.{◌≡◌, ◌≤◌, length, None, Some, true, false};
 ghost use Rattle.eap_method.specs.Steps.{is_end};
@@ -9,9 +9,9 @@ use eap_packet::{Cause, Path, State};
 /// What one call of a machine does, seen from outside.
 #[derive(Drop)]
 pub struct Step {
-    /// The states that it enters, in order; none where the party had ended.
+    /// The states that it enters, in order; none if the party had ended.
     pub path: Path,
-    /// Why it discards what came, None where it doesn't.
+    /// Why it discards what came, None if it doesn't.
     pub cause: Option<Cause>,
     /// Whether it sends a packet.
     pub sends: bool,

@@ -48,7 +48,7 @@ impl TagRecord {
         }
     }
 
-    /// This record takes the place of what was there.
+    /// Writes this record in place of what was there.
     fn write(&mut self, method: u8, label: Label, psk: &Secret, covered: &[&[u8]], tag: &[u8])
         requires covered { length (concat (map (λ p. p.now) covered.now)) ≤ max_packet }
         requires tag { length tag.now ≤ 32 }
@@ -111,7 +111,7 @@ impl TagList {
         self.count = 0;
     }
 
-    /// Appends a record and answers true. Where 2 records are there it answers false and changes
+    /// Appends a record and answers true. If 2 records are there it answers false and changes
     /// nothing. The octets that the tag covers are given in pieces, together at most 1,500; the tag has
     /// at most 32.
     pub fn add(

@@ -1,5 +1,5 @@
 //! What a method's object answers to a packet. The packet that it sends and the records of its tags
-//! stand where they were lent.
+//! are in the buffers passed to the call.
 
 use crate::values::{Decision, MethodState};
 use eap_packet::Cause;

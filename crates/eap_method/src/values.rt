@@ -1,4 +1,4 @@
-//! What an end brings into a method, and what it has when the method is over.
+//! What an end brings into a method, and what it has after the method.
 
 ghost use Rattle.std.specs.Prelude.{◌≡◌};
 
@@ -71,7 +71,7 @@ impl ServerSide {
     }
 }
 
-/// What an end holds after a method that succeeded.
+/// What an end has after a method that succeeded.
 #[derive(Drop)]
 pub struct Report {
     /// The method: 47 (EAP-PSK) or 51 (EAP-GPSK).

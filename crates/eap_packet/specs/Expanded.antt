@@ -20,7 +20,7 @@ pub record ExpandedValue : Type 0 where
   pub vendor_type : ℕ
   pub rest : List ℕ
 
--- those of the Type-Data of Type 254, where the Vendor-Id and the Vendor-Type are whole
+-- those of the Type-Data of Type 254, if the Vendor-Id and the Vendor-Type are whole
 abbrev pub expanded_of : List ℕ → Option ExpandedValue
 expanded_of body =
     if nat_lt (length body) 7 then None
@@ -97,12 +97,12 @@ are_expanded octets = false
 abbrev pub are_entries : List ℕ → Bool
 are_entries list = is_filled list && are_expanded list
 
--- Type-Data of Type 254 that no party takes: it is too short, or an Expanded Nak that is asked, or
+-- Type-Data of Type 254 that no party accepts: it is too short, or an Expanded Nak that is asked, or
 -- one whose list has another form
 abbrev pub is_bad_body : Bool → List ℕ → Bool
 is_bad_body is_asked body = nat_lt (length body) 7 || (is_nak_body body && (is_asked || not (are_entries (inner_body body))))
 
--- whether a packet of Type 254 is one that no party takes; a Request asks
+-- whether a packet of Type 254 is one that no party accepts; a Request asks
 abbrev pub is_bad_expanded : PacketValue → Bool
 is_bad_expanded (request id kind body) = (kind == expanded_kind) && is_bad_body true body
 is_bad_expanded (response id kind body) = (kind == expanded_kind) && is_bad_body false body

@@ -5,28 +5,28 @@ use Rattle.eap_packet.specs.Packet.{PacketValue, request, response, success, fai
 use Rattle.eap_packet.specs.Fault.{fault, packet_of}
 use Rattle.eap_packet.specs.Expanded.{vendor_of, vendor_type_of, is_ietf, is_nak_body, inner_kind, has_plain, has_plain_form, plain, wrap, wrapped}
 
--- the octets are the packet's spelling with some octets behind it
+-- the octets are the packet's encoding with some octets behind it
 pub record BeginsWith (octets : List ℕ) (packet : PacketValue) : Type 0 where
   pub is_packet : IsPacket packet
   pub rest : List ℕ
   pub joined : octets ≡ spelled packet ++ rest
 
--- a spelling with any octets behind it is read as its packet
+-- an encoding with any octets behind it is read as its packet
 abbrev pub SpellingsAreRead : Type 0
 SpellingsAreRead = (packet : PacketValue) (rest : List ℕ) → IsPacket packet → packet_of (spelled packet ++ rest) ≡ Ok packet
 
--- no two packets have spellings that begin one list
+-- no two packets have encodings that begin one list
 abbrev pub SpellingsAreApart : Type 0
 SpellingsAreApart =
     (one other : PacketValue) (rest others : List ℕ) → IsPacket one → IsPacket other →
     spelled one ++ rest ≡ spelled other ++ others → one ≡ other
 
--- what is read is the packet with whose spelling the octets begin
+-- what is read is the packet with whose encoding the octets begin
 abbrev pub ReadsTheSpelling : Type 0
 ReadsTheSpelling =
     (octets : List ℕ) (packet : PacketValue) → IsOctets octets → (packet_of octets ≡ Ok packet) ↔ BeginsWith octets packet
 
--- no cause applies exactly where the octets begin with the spelling of some packet
+-- no cause applies exactly if the octets begin with the encoding of some packet
 abbrev pub FaultlessIsSpelled : Type 0
 FaultlessIsSpelled =
     (octets : List ℕ) → IsOctets octets → (fault octets ≡ None) ↔ ((packet : PacketValue) × BeginsWith octets packet)
@@ -47,7 +47,7 @@ IetfIsVendorZero = (body : List ℕ) → IsOctets body → (is_ietf body ≡ tru
 abbrev pub NakIsVendorZero : Type 0
 NakIsVendorZero = (body : List ℕ) → 7 ≤ length body → is_nak_body body ≡ ((vendor_of body == 0) && (vendor_type_of body == nak_kind))
 
--- a packet whose Type, where it has one, has a plain form
+-- a packet whose Type, if it has one, has a plain form
 abbrev pub HasPlain : PacketValue → Type 0
 HasPlain (request id kind body) = has_plain kind ≡ true
 HasPlain (response id kind body) = has_plain kind ≡ true
@@ -58,7 +58,7 @@ HasPlain (failure id) = Unit {0}
 abbrev pub PlainOfWrap : Type 0
 PlainOfWrap = (packet : PacketValue) → HasPlain packet → plain (wrap packet) ≡ packet
 
--- a packet is its plain form exactly where it has no other
+-- a packet is its plain form exactly if it has no other
 abbrev pub OnlyWrappedDiffer : Type 0
 OnlyWrappedDiffer = (packet : PacketValue) → (has_plain_form packet ≡ false) ↔ (plain packet ≡ packet)
 
@@ -69,7 +69,7 @@ IsTyped (response id kind body) = Unit {0}
 IsTyped (success id) = ⊥
 IsTyped (failure id) = ⊥
 
--- a packet's spelling, with any octets behind it, is wrapped as the packet is
+-- a packet's encoding, with any octets behind it, is wrapped as the packet is
 abbrev pub WrapsTheSpelling : Type 0
 WrapsTheSpelling =
     (packet : PacketValue) (rest : List ℕ) → IsTyped packet → wrapped (spelled packet ++ rest) ≡ spelled (wrap packet)
@@ -78,6 +78,6 @@ WrapsTheSpelling =
 abbrev pub PlainIsPacket : Type 0
 PlainIsPacket = (packet : PacketValue) → IsPacket packet → IsPacket (plain packet)
 
--- so is a wrapped packet, where the seven octets more fit
+-- so is a wrapped packet, if the seven octets more fit
 abbrev pub WrapIsPacket : Type 0
 WrapIsPacket = (packet : PacketValue) → IsPacket packet → length (spelled packet) ≤ 1493 → IsPacket (wrap packet)

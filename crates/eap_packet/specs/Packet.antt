@@ -1,4 +1,4 @@
--- EAP packets (RFC 3748 section 4): packet values and their one spelling.
+-- EAP packets (RFC 3748 section 4): packet values and their one encoding.
 use Rattle.std.specs.Prelude.{◌≡◌, ◌≢◌, ℕ, ◌+◌, ◌/◌, ◌%◌, ◌<◌, ◌≤◌, List, [], ◌∷◌, ◌++◌, length, All, Bool, true, false, Result, Ok, Err}
 use Rattle.eap_base.specs.Among.{nak_kind}
 use Rattle.eap_packet.specs.declared.packet.PacketView.{PacketView}

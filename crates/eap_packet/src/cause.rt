@@ -20,9 +20,9 @@ pub enum Cause {
     NakRequest,
     /// A Response of Type 3 with no Type-Data.
     BadNak,
-    /// The Code is one that this party doesn't take.
+    /// The Code is one that this party doesn't accept.
     WrongRole,
-    /// A packet of Type 254, Expanded Types (RFC 3748 section 5.7), that this party doesn't take.
+    /// A packet of Type 254, Expanded Types (RFC 3748 section 5.7), that this party doesn't accept.
     BadExpanded,
     /// A Notification while a method is selected.
     NotAllowed,

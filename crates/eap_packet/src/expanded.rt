@@ -1,5 +1,5 @@
 //! Expanded Types (RFC 3748 section 5.7): Type 254, in which a vendor's Types and those of the IETF
-//! are spelled.
+//! are encoded.
 
 ghost use Rattle.std.specs.Prelude.{◌≡◌, ◌≤◌, ◌∷◌, ◌++◌, length, IsTrue};
 ghost use Rattle.eap_base.specs.Sizes.{max_packet};
@@ -22,7 +22,7 @@ pub struct Expanded<'a> {
     pub rest: &'a [u8],
 }
 
-/// The fields of a packet of Type 254; None exactly where its Type-Data has under 7 octets (RFC 3748
+/// The fields of a packet of Type 254; None exactly if its Type-Data has under 7 octets (RFC 3748
 /// section 5.7).
 pub fn read_expanded<'a>(view: &PacketView<'a>) -> Option<Expanded<'a>>
     requires { view.now.kind ≡ expanded_kind }
@@ -75,9 +75,9 @@ fn are_expanded(list: &[u8]) -> bool
     true
 }
 
-/// Whether Type-Data of Type 254 is one that no party takes: it has under 7 octets, or is an Expanded
-/// Nak that is asked, or one whose list isn't one or more entries of eight octets that each begin
-/// with 254 (RFC 3748 section 5.3.2).
+/// Whether Type-Data of Type 254 is one that no party accepts: it has under 7 octets, or is an
+/// Expanded Nak that is asked, or one whose list isn't one or more entries of eight octets that each
+/// begin with 254 (RFC 3748 section 5.3.2).
 fn is_bad_body(is_asked: bool, body: &[u8]) -> bool
     ensures { result ≡ is_bad_body is_asked body.now }
 {
@@ -92,7 +92,7 @@ fn has_entries(list: &[u8]) -> bool
     !list.is_empty() && are_expanded(list)
 }
 
-/// Whether a packet of Type 254 is one that no party takes: its Type-Data has under 7 octets; or it
+/// Whether a packet of Type 254 is one that no party accepts: its Type-Data has under 7 octets; or it
 /// is an Expanded Nak, and is a Request, or its list isn't one or more entries of eight octets that
 /// each begin with 254 (RFC 3748 sections 5.3.2 and 5.7). Of every other Type it is false.
 pub fn is_bad_expanded(view: &PacketView) -> bool
@@ -118,10 +118,10 @@ fn has_plain_form(view: &PacketView) -> bool
     }
 }
 
-/// Writes the plain form of a packet, in place of what `packet` held, and answers true: of Type 254
+/// Writes the plain form of a packet, in place of what `packet` had, and answers true: of Type 254
 /// with Vendor-Id 0 and a Vendor-Type of 1 to 255 other than 3 and 254, the packet of that Type (RFC
 /// 3748 section 5.7). Of any other packet the plain form is itself; the answer is then false, and
-/// what `packet` holds doesn't count.
+/// what `packet` then has is unspecified.
 pub fn write_plain(view: &PacketView, packet: &mut Packet) -> bool
     requires { length view.now.body.now ≤ max_type_data }
     ensures differs { result ≡ has_plain_form (value_of view.now) }

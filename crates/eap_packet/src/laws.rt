@@ -3,38 +3,38 @@
 
 ghost use Rattle.eap_packet.specs.Laws.{SpellingsAreRead, SpellingsAreApart, ReadsTheSpelling, FaultlessIsSpelled, IetfIsVendorZero, NakIsVendorZero, PlainOfWrap, OnlyWrappedDiffer, WrapsTheSpelling, PlainIsPacket, WrapIsPacket};
 
-/// A packet's spelling, with any octets behind it, is read as that packet.
+/// A packet's encoding, with any octets behind it, is read as that packet.
 #[tactic(auto, using(crate::proofs::Grammar::spellings_are_read))]
 pub fn spellings_are_read()
     ensures { SpellingsAreRead }
 {}
 
-/// No two packets have spellings that begin one list of octets.
+/// No two packets have encodings that begin one list of octets.
 #[tactic(auto, using(crate::proofs::Grammar::spellings_are_apart))]
 pub fn spellings_are_apart()
     ensures { SpellingsAreApart }
 {}
 
-/// What is read is the packet with whose spelling the octets begin, and that one alone.
+/// What is read is the packet with whose encoding the octets begin, and that one alone.
 #[tactic(auto, using(crate::proofs::Grammar::reads_the_spelling))]
 pub fn reads_the_spelling()
     ensures { ReadsTheSpelling }
 {}
 
-/// No cause applies exactly where the octets begin with the spelling of some packet.
+/// No cause applies exactly if the octets begin with the encoding of some packet.
 #[tactic(auto, using(crate::proofs::Grammar::faultless_is_spelled))]
 pub fn faultless_is_spelled()
     ensures { FaultlessIsSpelled }
 {}
 
-/// Type-Data is that of a Type of the IETF exactly where its Vendor-Id is 0 and its Vendor-Type is
+/// Type-Data is that of a Type of the IETF exactly if its Vendor-Id is 0 and its Vendor-Type is
 /// under 256 (RFC 3748 section 5.7).
 #[tactic(auto, using(crate::proofs::Vendors::ietf_is_vendor_zero))]
 pub fn ietf_is_vendor_zero()
     ensures { IetfIsVendorZero }
 {}
 
-/// Whole Type-Data is that of an Expanded Nak exactly where its Vendor-Id is 0 and its Vendor-Type is
+/// Whole Type-Data is that of an Expanded Nak exactly if its Vendor-Id is 0 and its Vendor-Type is
 /// 3 (RFC 3748 section 5.3.2).
 #[tactic(auto, using(crate::proofs::Vendors::nak_is_vendor_zero))]
 pub fn nak_is_vendor_zero()
@@ -48,20 +48,20 @@ pub fn plain_of_wrap()
     ensures { PlainOfWrap }
 {}
 
-/// A packet is its plain form exactly where `write_plain` answers false of it.
+/// A packet is its plain form exactly if `write_plain` answers false of it.
 #[tactic(auto, using(crate::proofs::Wrapping::only_wrapped_differ))]
 pub fn only_wrapped_differ()
     ensures { OnlyWrappedDiffer }
 {}
 
-/// A packet's spelling, with any octets behind it, is wrapped as the packet is: what `wrap` writes is
-/// the spelling of the wrapped packet.
+/// A packet's encoding, with any octets behind it, is wrapped as the packet is: what `wrap` writes is
+/// the encoding of the wrapped packet.
 #[tactic(auto, using(crate::proofs::Wrapping::wraps_the_spelling))]
 pub fn wraps_the_spelling()
     ensures { WrapsTheSpelling }
 {}
 
-/// The plain form of a packet is a packet: its spelling is read as it.
+/// The plain form of a packet is a packet: its encoding is read as it.
 #[tactic(auto, using(crate::proofs::Forms::plain_is_packet))]
 pub fn plain_is_packet()
     ensures { PlainIsPacket }

@@ -158,7 +158,7 @@ fn header(code: Code, id: u8, length: usize) -> [u8; 4]
 }
 
 /// Writes the fields before the Type-Data of a Request or a Response of this Type (RFC 3748 section
-/// 4.1), in place of what the packet held. Its Length counts `size` octets of Type-Data, which are yet
+/// 4.1), in place of what the packet had. Its Length counts `size` octets of Type-Data, which are yet
 /// to be appended.
 pub fn begin_into(packet: &mut Packet, code: Code, id: u8, kind: u8, size: usize)
     requires typed { IsTrue (has_type code) }
@@ -173,7 +173,7 @@ pub fn begin_into(packet: &mut Packet, code: Code, id: u8, kind: u8, size: usize
 }
 
 /// Writes a Request or a Response of this Type and Type-Data (RFC 3748 section 4.1), in place of what
-/// the packet held.
+/// the packet had.
 pub fn encode_into(packet: &mut Packet, code: Code, id: u8, kind: u8, body: &[u8])
     requires typed { IsTrue (has_type code) }
     requires fits { length body.now ≤ max_type_data }
@@ -198,7 +198,7 @@ pub fn encode(code: Code, id: u8, kind: u8, body: &[u8]) -> Packet
     packet
 }
 
-/// Writes a Success or a Failure (RFC 3748 section 4.2), in place of what the packet held.
+/// Writes a Success or a Failure (RFC 3748 section 4.2), in place of what the packet had.
 #[tactic(auto, unfolding(crate::specs::Packet::spelled))]
 pub fn encode_end_into(packet: &mut Packet, code: Code, id: u8)
     requires { IsTrue (not (has_type code)) }

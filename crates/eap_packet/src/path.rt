@@ -31,7 +31,7 @@ impl Path {
         }
     }
 
-    /// Appends a state and answers true. Where 8 states are there it answers false and changes nothing.
+    /// Appends a state and answers true. If 8 states are there it answers false and changes nothing.
     pub fn push(&mut self, state: State) -> bool
         ensures room { IsTrue result ↔ (length self.old < 8) }
         ensures pushed { length self.old < 8 → self.new ≡ self.old ++ state ∷ [] }

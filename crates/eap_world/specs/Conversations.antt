@@ -15,7 +15,7 @@ use Rattle.eap_world.specs.declared.conversations.Waiting.{Waiting}
 abbrev pub front : List ℕ → List ℕ
 front nonce = take 16 nonce
 
--- whether octets stand in others, one after the other
+-- whether octets occur in others, one after the other
 unfoldable pub stands_in : List ℕ → List ℕ → Bool
 stands_in part [] = bytes_eq [] part
 stands_in part (x ∷ rest) = bytes_eq (take (length part) (x ∷ rest)) part || stands_in part rest
@@ -28,7 +28,7 @@ pub record Conversations : Type 0 where
   pub begun : List Begun
   pub fresh : Bool
 
--- a nonce that is still to be used, and has stood in no delivery
+-- a nonce that is still to be used, and has occurred in no delivery
 abbrev pub waiting : List ℕ → Waiting
 waiting nonce = record { nonce = nonce; heard = false }
 
@@ -36,14 +36,14 @@ waiting nonce = record { nonce = nonce; heard = false }
 abbrev pub begun : ℕ → End → List ℕ → Begun
 begun event end nonce = record { event = event; end = end; nonce = nonce }
 
--- octets come to some party: a nonce whose front stands in them isn't fresh any more
+-- octets are delivered to some party: a nonce whose prefix occurs in them isn't fresh any more
 abbrev pub hears : List ℕ → Waiting → Waiting
 hears octets one = record { nonce = one.nonce; heard = one.heard || stands_in (front one.nonce) octets }
 
 abbrev pub heard_by : List ℕ → Conversations → Conversations
 heard_by octets all = record all { peer_left = map (hears octets) all.peer_left; server_left = map (hears octets) all.server_left }
 
--- whether a conversation has begun with a nonce of this front
+-- whether a conversation has begun with a nonce of this prefix
 abbrev pub is_used : List Begun → List ℕ → Bool
 is_used all nonce = list_any (λ (b : Begun). bytes_eq (front b.nonce) (front nonce)) all
 
@@ -55,7 +55,7 @@ abbrev pub begins : ℕ → End → Waiting → Conversations → Conversations
 begins event end one all =
     record all { begun = all.begun ++ begun event end one.nonce ∷ []; fresh = all.fresh && is_new all.begun one }
 
--- with the next of its nonces, where it has one
+-- with the next of its nonces, if it has one
 abbrev pub peer_begins : ℕ → Conversations → List Waiting → Conversations
 peer_begins event all [] = all
 peer_begins event all (one ∷ left) = begins event end.Peer one (record all { peer_left = left })

@@ -1,4 +1,4 @@
--- What an event makes of the conversations, by what the event is.
+-- What an event does to the conversations, by what the event is.
 use Rattle.std.specs.Prelude.{ℕ, ◌∷◌, [], List, Bool, false, length, take, nat_le, nat_lt, Option, Some}
 use Rattle.login_setup.specs.declared.setup.Mode.{Mode}
 use Rattle.login_setup.specs.declared.setup.Party.{Party}
@@ -8,7 +8,7 @@ use Rattle.eap_world.specs.Sent.{Sent}
 use Rattle.eap_world.specs.World.{Parties, altered, call_at, call_with, conversed_unless, first_skip, is_absent, octets_of, packet_skips, restart_call, restart_skips}
 use Rattle.eap_world.specs.declared.told.Skip.TheVariants.{NoParty}
 
--- a packet's octets, as they are, altered or cut, and others, come to a port; in event number so-and-so
+-- a packet's octets, as they are, altered or cut, and others, arrive at a port; in the event of this number
 abbrev pub heard_handed : ℕ → Mode → Conversations → Option Sent → Bool → List ℕ → Conversations
 heard_handed event mode conversations packet is_misplaced octets =
     conversed_unless event conversations (first_skip (packet_skips mode packet is_misplaced)) (call_with packet octets)

@@ -1,4 +1,4 @@
--- How octets that come are heard, place by place.
+-- How nonces are searched for in a delivery, place by place.
 use Rattle.std.specs.Prelude.{◌≡◌, ℕ, List, length, take, get_or, slice_index, Bool, true, false, ◌||◌}
 use Rattle.std.specs.Str.{bytes_eq}
 use Rattle.eap_world.specs.Conversations.{front}
@@ -8,7 +8,7 @@ use Rattle.eap_world.specs.declared.conversations.Waiting.{Waiting}
 abbrev pub starts_with : List ℕ → List ℕ → Bool
 starts_with part octets = bytes_eq (take (length part) octets) part
 
--- the front of a nonce stands where these octets begin
+-- these octets begin with the prefix of a nonce
 abbrev pub hears_at : List ℕ → Waiting → Waiting
 hears_at octets one = record { nonce = one.nonce; heard = one.heard || starts_with (front one.nonce) octets }
 

@@ -55,7 +55,7 @@ judged peer server None reported = false
 abbrev pub is_success : State → Bool
 is_success s = elim s [ state.Success ↦ true | _ ↦ false ]
 
--- unfinished until both ends stand in SUCCESS
+-- unfinished until both ends are in SUCCESS
 unfoldable pub verdict_of : WorldNow → Verdict
 verdict_of w =
     if is_success w.parties.peer.vars.state && is_success w.parties.server.vars.state

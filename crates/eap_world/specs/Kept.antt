@@ -1,4 +1,4 @@
--- How the conversations are kept.
+-- How the conversations are stored.
 use Rattle.std.specs.Prelude.{ℕ, List, [], ◌∷◌, Bool, true, not, All}
 use Rattle.std.specs.Str.{bytes_eq}
 use Rattle.eap_world.specs.Conversations.{front, waiting}
@@ -6,7 +6,7 @@ use Rattle.eap_world.specs.Hearing.{IsMarked}
 use Rattle.eap_world.specs.declared.conversations.Begun.{Begun}
 use Rattle.eap_world.specs.declared.conversations.Waiting.{Waiting}
 
--- nonces, and beside each whether it has been heard
+-- nonces, and beside each whether it has been seen in a delivery
 abbrev pub waits : List (List ℕ) → List Bool → List Waiting
 waits [] marks = []
 waits (nonce ∷ nonces) [] = []
@@ -16,7 +16,7 @@ waits (nonce ∷ nonces) (heard ∷ marks) = record { nonce = nonce; heard = hea
 abbrev pub AreMarked : List Bool → List (List ℕ) → Type 0
 AreMarked firsts nonces = All (λ (nonce : List ℕ). IsMarked firsts (waiting nonce)) nonces
 
--- whether the first two conversations have begun with nonces of different fronts
+-- whether the first two conversations have begun with nonces of different prefixes
 abbrev pub fronts_differ : List Begun → Bool
 fronts_differ [] = true
 fronts_differ (one ∷ []) = true

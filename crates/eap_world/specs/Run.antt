@@ -10,7 +10,7 @@ use Rattle.eap_world.specs.World.{WorldNow, WorldValue, now_of, world_made, worl
 abbrev pub run_of : Setup → List Event → WorldNow
 run_of setup events = run_after (world_start (world_made setup)).after events
 
--- what a start, or an event, makes of a world of a run: it goes on with the run
+-- what a start, or an event, does to a world of a run: it goes on with the run
 module _ {P S : Type 0} (peer_shown : P → PeerShown) (server_shown : S → ServerShown) where
   abbrev pub BeginsRun : WorldValue P S → WorldValue P S → Type 0
   BeginsRun before after = (setup : Setup) → now_of peer_shown server_shown before ≡ world_made setup → now_of peer_shown server_shown after ≡ run_of setup []

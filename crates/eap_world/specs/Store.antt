@@ -1,4 +1,4 @@
--- The store of the packets that were sent: their octets joined, and where each packet's stand.
+-- The store of the packets that were sent: their octets joined, and the place of each packet's.
 use Rattle.std.specs.Prelude.{◌≤◌, ◌+◌, ℕ, List, [], ◌∷◌, Bool, if◌then◌else◌, take, drop, map, Option, Some, None, option_map}
 use Rattle.std.specs.List.{All}
 use Rattle.eap_base.specs.Sizes.{max_packet}
@@ -15,14 +15,14 @@ pub record StoreValue : Type 0 where
   pub octets_room : ℕ
   pub packets_room : ℕ
 
--- the packet whose octets stand at a slot
+-- the packet whose octets are at a slot
 abbrev pub packet_at : List ℕ → Slot → Sent
 packet_at octets slot = record { port = slot.port; octets = take slot.length (drop slot.place octets) }
 
 abbrev pub packets_at : List ℕ → List Slot → List Sent
 packets_at octets slots = map (packet_at octets) slots
 
--- a packet as the store lends it
+-- a packet as the store shows it
 abbrev pub stored : Stored → Sent
 stored packet = record { port = packet.port; octets = packet.octets.now }
 

@@ -54,8 +54,8 @@ use Rattle.eap_world.specs.declared.told.Skip.TheVariants.{NoParty, Unsent, Plac
 use Rattle.eap_world.specs.declared.world.Held.{Held}
 
 -- a world as its fields show it: its mode, its machines, the packets sent so far in order and how many octets
--- are stored for them, the book of tags, the counts, which ends have held a report in their present conversations,
--- the conversations, the version of the scenario's text, and whether the world has started
+-- are stored for them, the book of tags, the counts, which ends have had a report in their present conversations, the
+-- conversations, the version of the scenario's text, and whether the world has started
 pub record WorldValue (P S : Type 0) : Type 0 where
   pub mode : Mode
   pub peer : PeerValue P
@@ -70,7 +70,7 @@ pub record WorldValue (P S : Type 0) : Type 0 where
   pub version : ℕ
   pub started : Bool
 
--- in which mode the parties run, and what they are, where the objects show their methods and views; in mode
+-- in which mode the parties run, and what they are, if the objects show their methods and views; in mode
 -- alone nothing comes to the pass-through
 pub record Parties : Type 0 where
   pub mode : Mode
@@ -93,7 +93,7 @@ abbrev pub parties_of : {P S : Type 0} → (P → PeerShown) → (S → ServerSh
 parties_of peer_shown server_shown m =
     record { mode = m.mode; peer = peers.now_of peer_shown m.peer; server = servers.now_of server_shown m.server; pass = m.pass }
 
--- what a world is, where the objects show their methods and views
+-- what a world is, if the objects show their methods and views
 abbrev pub now_of : {P S : Type 0} → (P → PeerShown) → (S → ServerShown) → WorldValue P S → WorldNow
 now_of peer_shown server_shown w = record {
   parties = parties_of peer_shown server_shown (record { mode = w.mode; peer = w.peer; server = w.server; pass = w.pass });
@@ -107,7 +107,7 @@ now_of peer_shown server_shown w = record {
 }
 
 -- the objects of both ends, which name these methods, are of the same methods before and after, and those of methods
--- that aren't named stand as they stood
+-- that aren't named are as they were
 pub record KeepObjects {P S : Type 0} (peer_shown : P → PeerShown) (server_shown : S → ServerShown) (peer_named server_named : List ℕ)
     (peer : List P) (server : List S) (peer_after : List P) (server_after : List S) : Type 0 where
   pub peer_kept : KeepsPeers peer_named (map peer_shown peer) (map peer_shown peer_after)
@@ -162,7 +162,7 @@ world_made setup = record {
   started = false;
 }
 
--- where a party stands, and what it reports; the pass-through is there in its mode alone, and reports nothing
+-- the state of a party, and what it reports; the pass-through is there in its mode alone, and reports nothing
 abbrev pub pass_state : Mode → PassVariables → Option State
 pass_state mode.Alone pass = None
 pass_state mode.Through pass = Some pass.state
@@ -177,7 +177,7 @@ report_of parties party.Peer = peer_reports parties.peer
 report_of parties party.Pass = None
 report_of parties party.Server = server_reports parties.server
 
--- where a party's packets go: from end to end alone, through the pass-through else. What the pass-through
+-- the port to which a party's packets go: from end to end alone, through the pass-through else. What the pass-through
 -- sends of its own goes to the peer
 abbrev pub goes_to : Party → Mode → Port
 goes_to party.Peer mode.Alone = port.Server
@@ -186,7 +186,7 @@ goes_to party.Server mode.Alone = port.Peer
 goes_to party.Server mode.Through = port.PassServer
 goes_to party.Pass mode = port.Peer
 
--- nobody stands at a port: the pass-through's two are there in its mode alone
+-- nobody is at a port: the pass-through's two are there in its mode alone
 abbrev pub is_absent : Mode → Port → Bool
 is_absent mode.Through port = false
 is_absent mode.Alone port.Peer = false
@@ -217,7 +217,7 @@ octets_of (Some packet) = packet.octets
 abbrev pub altered : List ℕ → ℕ → ℕ → List ℕ
 altered octets place mask = take place octets ++ bit_xor (slice_index octets place) mask ∷ drop (place + 1) octets
 
--- nobody stands at the port of a packet
+-- nobody is at the port of a packet
 abbrev pub goes_nowhere : Mode → Option Sent → Bool
 goes_nowhere mode None = false
 goes_nowhere mode (Some packet) = is_absent mode packet.port
@@ -230,7 +230,7 @@ abbrev pub is_alone : Mode → Bool
 is_alone mode.Alone = true
 is_alone mode.Through = false
 
--- an input of the pass-through, which stands so, that has a place where a test holds
+-- an input of the pass-through in this state, which has a place if a test holds
 abbrev pub pass_skips : Mode → State → Bool → List (Bool × Skip)
 pass_skips runs state is_placed = (is_alone runs, NoParty) ∷ (is_over state, Ended) ∷ (not is_placed, NoTimer) ∷ []
 
@@ -243,7 +243,7 @@ timer_skips parties party.Server = (is_end parties.server.vars.state, Ended) ∷
 abbrev pub aaa_skips : Parties → List (Bool × Skip)
 aaa_skips parties = pass_skips parties.mode parties.pass.state (is_aaa_idle parties.pass.state)
 
--- an end begins a new conversation where it has a nonce left, the pass-through where it is there
+-- an end begins a new conversation if it has a nonce left, the pass-through if it is there
 abbrev pub has_none : List Waiting → Bool
 has_none [] = true
 has_none (one ∷ left) = false
@@ -271,7 +271,7 @@ abbrev pub first_skip : List (Bool × Skip) → Option Skip
 first_skip [] = None
 first_skip ((test, skip) ∷ rest) = if test then Some skip else first_skip rest
 
--- the call that an event is where none of them holds; None where nobody is to be called
+-- the call that an event is if none of them holds; None if nobody is to be called
 abbrev pub call_at : Port → List ℕ → Call
 call_at port.Peer octets = to_peer (peer_inputs.octets octets)
 call_at port.Server octets = to_server (server_inputs.octets octets)
@@ -313,15 +313,15 @@ call_of conversations sent event.AaaNoReq = Some (to_pass pass_inputs.aaa_noreq)
 call_of conversations sent (event.Restart party) = restart_call conversations party
 call_of conversations sent e = reported e
 
--- what a call of a party did, with what it wrote: the party, whether octets were handed to it, where what it
--- sends goes, and its step
+-- what a call of a party did, with what it wrote: the party, whether octets were delivered to it, the port to which
+-- what it sends goes, and its step
 pub record Did : Type 0 where
   pub party : Party
   pub is_delivery : Bool
   pub port : Port
   pub step : Step
 
--- what came of an event: it was skipped, or a party was called
+-- the result of an event: it was skipped, or a party was called
 pub data Action : Type 0 where
   Skipped : Skip → Action
   Called : Did → Action
@@ -335,7 +335,7 @@ abbrev pub action_with : brief_action.Action → List ℕ → Tags → Action
 action_with (brief.Skipped skip) packet tags = Skipped skip
 action_with (brief.Called did) packet tags = Called (did_with did packet tags)
 
--- what a start or an event makes of the parties: what was done, and the parties after it
+-- what a start or an event does to the parties: what was done, and the parties after it
 pub record Acted : Type 0 where
   pub action : Action
   pub after : Parties
@@ -382,8 +382,8 @@ called_unless parties (Some skip) call = skipped parties skip
 called_unless parties None None = skipped parties NoParty
 called_unless parties None (Some call) = called parties call
 
--- the same by what the event is: a packet's octets, as they are, altered or cut, and others, that come to a
--- port; the end of a timer; a report of the lower layer
+-- the same by what the event is: a packet's octets, as they are, altered or cut, and others, that arrive at a port;
+-- the end of a timer; a report of the lower layer
 abbrev pub handed : Parties → Option Sent → Bool → List ℕ → Acted
 handed parties packet is_misplaced octets = called_unless parties (first_skip (packet_skips parties.mode packet is_misplaced)) (call_with packet octets)
 
@@ -415,19 +415,19 @@ abbrev pub restarted : Parties → Conversations → Party → Acted
 restarted parties conversations party =
     called_unless parties (first_skip (restart_skips parties conversations party)) (restart_call conversations party)
 
--- what an event makes of the parties, where these conversations have begun and these packets were sent before it
+-- what an event does to the parties, if these conversations have begun and these packets were sent before it
 unfoldable pub act : Parties → Conversations → List Sent → Event → Acted
 act parties conversations sent e =
     called_unless parties (first_skip (skip_table parties conversations sent e)) (call_of conversations sent e)
 
--- ---- what a call makes of the conversations: octets that are handed over are heard, and an end that begins a new one
--- takes the next of its nonces; in event number so-and-so
+-- ---- what a call does to the conversations: nonces are searched for in octets that are delivered, and an end that
+-- begins a new one takes the next of its nonces; in the event of this number
 
 abbrev pub heard_in : Conversations → Option (List ℕ) → Conversations
 heard_in conversations None = conversations
 heard_in conversations (Some octets) = heard_by octets conversations
 
--- the octets that a call hands to its party
+-- the octets that a call delivers to its party
 abbrev pub peer_octets : PeerInput → Option (List ℕ)
 peer_octets (peer_inputs.octets octets) = Some octets
 peer_octets _ = None
@@ -498,7 +498,7 @@ counted c (Called did) = record {
   discards = c.discards + one_if (is_some did.step.cause);
 }
 
--- the report that the end which acted is the first time seen to hold, and which ends have then held one
+-- the report that the end which acted has for the first time, and which ends have then had one
 abbrev pub named_as : Party → Report → Named
 named_as party report = record { party = party; report = report }
 
@@ -523,7 +523,7 @@ abbrev pub held_after : Held → Option Named → Held
 held_after held None = held
 held_after held (Some named) = held_by held named.party
 
--- an end that begins a new conversation holds no report in it yet
+-- an end that begins a new conversation has no report in it yet
 abbrev pub held_anew : Held → Call → Held
 held_anew held (to_peer (peer_inputs.restart nonce)) = record held { peer = false }
 held_anew held (to_server (server_inputs.restart nonce)) = record held { server = false }
@@ -534,12 +534,12 @@ held_unless held (Some skip) call = held
 held_unless held None None = held
 held_unless held None (Some call) = held_anew held call
 
--- before an event is told
+-- just before an event
 unfoldable pub held_before : Held → Parties → Conversations → List Sent → Event → Held
 held_before held parties conversations sent e =
     held_unless held (first_skip (skip_table parties conversations sent e)) (call_of conversations sent e)
 
--- what is told of it: the number of its event, that of the packet it sends, and a first report
+-- its result: the number of its event, that of the packet it sends, and a first report
 abbrev pub numbered : ℕ → Port → Option (List ℕ) → Option SentPacket
 numbered number port None = None
 numbered number port (Some octets) = Some (record { number = number; port = port })
@@ -557,7 +557,7 @@ told_of event number named (Called did) = record {
   named = named;
 }
 
--- what is told of an action that left the machines so, and which ends have then held a report
+-- the result of an action that left the machines so, and which ends have then had a report
 abbrev pub told_with : {P S : Type 0} → (P → PeerShown) → (S → ServerShown) → Held → Machines P S → ℕ → ℕ → Action → Told
 told_with peer_shown server_shown held after event number action =
     told_of event number (named_by held (parties_of peer_shown server_shown after) action) action
@@ -565,7 +565,7 @@ told_with peer_shown server_shown held after event number action =
 abbrev pub held_with : {P S : Type 0} → (P → PeerShown) → (S → ServerShown) → Held → Machines P S → Action → Held
 held_with peer_shown server_shown held after action = held_after held (named_by held (parties_of peer_shown server_shown after) action)
 
--- what came of a start or an event, and the world after it
+-- the result of a start or an event, and the world after it
 pub record WorldOutcome : Type 0 where
   pub told : Told
   pub after : WorldNow
@@ -573,11 +573,11 @@ pub record WorldOutcome : Type 0 where
 abbrev pub world_outcome : Told → WorldNow → WorldOutcome
 world_outcome told after = record { told = told; after = after }
 
--- it was told, and the world is after it
+-- the call returns this result, and leaves the world after it
 abbrev pub Tells : {P S : Type 0} → (P → PeerShown) → (S → ServerShown) → WorldOutcome → Told → WorldValue P S → Type 0
 Tells peer_shown server_shown out told after = out ≡ world_outcome told (now_of peer_shown server_shown after)
 
--- the world after the parties have acted as event number so-and-so, with these counts, where these ends had held a
+-- the world after the parties have acted as the event of this number, with these counts, if these ends had had a
 -- report and the conversations are these; it has started
 abbrev pub world_acted : WorldNow → ℕ → Counts → Held → Conversations → Acted → WorldOutcome
 world_acted w event counts held conversations out =
@@ -615,7 +615,7 @@ unfoldable pub run_after : WorldNow → List Event → WorldNow
 run_after w [] = w
 run_after w (e ∷ rest) = run_after (world_step w e).after rest
 
--- what came of each of the events
+-- the result of each of the events
 unfoldable pub outcomes_after : WorldNow → List Event → List WorldOutcome
 outcomes_after w [] = []
 outcomes_after w (e ∷ rest) = world_step w e ∷ outcomes_after (world_step w e).after rest
@@ -624,7 +624,7 @@ outcomes_after w (e ∷ rest) = world_step w e ∷ outcomes_after (world_step w 
 abbrev pub octets_numbered : List Sent → ℕ → Option (List ℕ)
 octets_numbered sent n = option_map (λ (packet : Sent). packet.octets) (packet_numbered sent n)
 
--- the octets of the packet of which is told, among those sent so far; none where it tells of none
+-- the octets of the packet that is reported, among those sent so far; none if none is
 abbrev pub octets_of_sent : List Sent → Option SentPacket → List ℕ
 octets_of_sent sent None = []
 octets_of_sent sent (Some packet) = octets_of (packet_numbered sent packet.number)

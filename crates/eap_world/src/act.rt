@@ -1,5 +1,5 @@
-//! What an event makes of the parties: it is skipped, or is a call of one of them. What a call sends and
-//! the records of its tags are written where the caller lends the room.
+//! What an event does to the parties: it is skipped, or is a call of one of them. What a call sends and the records of
+//! its tags are written into buffers of the caller's.
 
 ghost use Rattle.std.specs.Prelude.{◌≡◌, ◌≤◌, ◌<◌, ℕ, List, IfSome, if◌then◌else◌, length, false};
 ghost use Rattle.eap_base.specs.Sizes.{max_packet};
@@ -30,19 +30,18 @@ use pass_through::PassThrough;
 use peer_machine::PeerMachine;
 use server_machine::ServerMachine;
 
-/// What a call of a party did. The packet that it sends and the records of its tags stand where they
-/// were lent.
+/// What a call of a party did. The packet that it sends and the records of its tags are in the buffers passed to it.
 #[derive(Drop)]
 pub struct Did {
     pub party: Party,
-    /// Whether octets were handed to it.
+    /// Whether octets were delivered to it.
     pub is_delivery: bool,
-    /// Where what it sends goes.
+    /// The port to which what it sends goes.
     pub port: Port,
     pub step: Step,
 }
 
-/// What came of an event.
+/// The result of an event.
 #[derive(Drop)]
 pub enum Action {
     Skipped(Skip),
@@ -60,10 +59,10 @@ pub struct Machines<P, S> {
     pub pass: PassThrough,
 }
 
-/// An event of this number comes to the machines, where these packets were sent before it. What is sent is written into
-/// `packet`, the records of tags into `tags`, in place of what was there. The conversations hear what is handed to a party,
-/// and an end that begins a new conversation does so with the next of its nonces. A skipped event changes no variable and
-/// no conversation. Each method of an end's settings has an object.
+/// Carries out the event of this number, before which these packets were sent. What is sent is written into
+/// `packet`, the records of tags into `tags`, in place of what was there. The conversations record what is delivered to
+/// a party, and an end that begins a new conversation does so with the next of its nonces. A skipped event changes no
+/// variable and no conversation. Each method of an end's settings has an object.
 #[tactic(auto, unfolding(crate::specs::World::act, crate::specs::World::conversed_by))]
 pub fn act<P: PeerMethod, S: ServerMethod>(
     machines: &mut Machines<P, S>,
@@ -174,7 +173,7 @@ pub fn start<P: PeerMethod, S: ServerMethod>(
     }
 }
 
-/// Where a party's packets go; the pass-through's own go to the peer.
+/// The port to which a party's packets go; the pass-through's own go to the peer.
 fn goes_to(party: Party, mode: Mode) -> Port
     ensures { result ≡ goes_to party mode }
 {
@@ -191,7 +190,7 @@ fn goes_to(party: Party, mode: Mode) -> Port
     }
 }
 
-/// Whether nobody stands at a port: the pass-through authenticator (RFC 4137 section 7) is there in its
+/// Whether nobody is at a port: the pass-through authenticator (RFC 4137 section 7) is there in its
 /// mode alone.
 fn is_absent(mode: Mode, port: Port) -> bool
     ensures { result ≡ is_absent mode port }
@@ -207,7 +206,7 @@ fn is_absent(mode: Mode, port: Port) -> bool
     }
 }
 
-/// Octets come to a port.
+/// Octets arrive at a port.
 fn hand<P: PeerMethod, S: ServerMethod>(
     machines: &mut Machines<P, S>,
     conversations: &mut Conversations,
@@ -239,7 +238,7 @@ fn hand<P: PeerMethod, S: ServerMethod>(
     }
 }
 
-/// Octets come from the peer to the pass-through, which sends on to the server.
+/// Octets arrive from the peer at the pass-through, which sends on to the server.
 fn hand_from_peer<P: PeerMethod, S: ServerMethod>(
     machines: &mut Machines<P, S>,
     conversations: &mut Conversations,
@@ -263,7 +262,7 @@ fn hand_from_peer<P: PeerMethod, S: ServerMethod>(
     }
 }
 
-/// Octets come from the server to the pass-through, which sends on to the peer.
+/// Octets arrive from the server at the pass-through, which sends on to the peer.
 fn hand_from_server<P: PeerMethod, S: ServerMethod>(
     machines: &mut Machines<P, S>,
     conversations: &mut Conversations,
@@ -287,7 +286,7 @@ fn hand_from_server<P: PeerMethod, S: ServerMethod>(
     }
 }
 
-/// A packet comes to its port.
+/// A packet arrives at its port.
 fn deliver<P: PeerMethod, S: ServerMethod>(
     machines: &mut Machines<P, S>,
     conversations: &mut Conversations,
@@ -314,7 +313,7 @@ fn deliver<P: PeerMethod, S: ServerMethod>(
     }
 }
 
-/// A packet comes to its port with its octet at `place` combined with `mask` by exclusive or.
+/// A packet arrives at its port with its octet at `place` combined with `mask` by exclusive or.
 fn alter<P: PeerMethod, S: ServerMethod>(
     machines: &mut Machines<P, S>,
     conversations: &mut Conversations,
@@ -344,7 +343,7 @@ fn alter<P: PeerMethod, S: ServerMethod>(
     }
 }
 
-/// A packet comes to its port with its octet at `place`, which it has, combined with `mask`.
+/// A packet arrives at its port with its octet at `place`, which it has, combined with `mask`.
 fn hand_altered<P: PeerMethod, S: ServerMethod>(
     machines: &mut Machines<P, S>,
     conversations: &mut Conversations,
@@ -386,7 +385,7 @@ fn altered_copy(octets: &[u8], place: usize, mask: u8) -> Packet
     copy
 }
 
-/// The first `keep` octets of a packet come to its port.
+/// The first `keep` octets of a packet arrive at its port.
 fn cut<P: PeerMethod, S: ServerMethod>(
     machines: &mut Machines<P, S>,
     conversations: &mut Conversations,
@@ -542,7 +541,7 @@ fn ask_nothing<P: PeerMethod, S: ServerMethod>(
     }
 }
 
-/// Why an event of the pass-through is skipped, where `is_placed` says that its state has a place for it.
+/// Why an event of the pass-through is skipped, if `is_placed` says that its state has a place for it.
 fn pass_skip<P, S>(machines: &Machines<P, S>, is_placed: bool) -> Option<Skip>
     ensures { result ≡ first_skip (pass_skips machines.now.mode machines.now.pass.state is_placed) }
 {
@@ -585,8 +584,8 @@ fn report<P: PeerMethod, S: ServerMethod>(
     }
 }
 
-/// A party begins a new conversation, an end with the next of its nonces. It does so wherever it stands, also once it has ended.
-/// No octets come to a party by it.
+/// A party begins a new conversation, an end with the next of its nonces. It does so in any state, also once it has
+/// ended. It delivers no octets to a party.
 fn restart<P: PeerMethod, S: ServerMethod>(
     machines: &mut Machines<P, S>,
     conversations: &mut Conversations,
@@ -659,7 +658,7 @@ fn restart_server<P: PeerMethod, S: ServerMethod>(
     }
 }
 
-/// The pass-through begins anew and asks for the identity again (RFC 4137 section 7); no conversation of an end begins by it.
+/// The pass-through restarts and asks for the identity again (RFC 4137 section 7); no end begins a conversation.
 fn restart_pass<P: PeerMethod, S: ServerMethod>(
     machines: &mut Machines<P, S>,
     conversations: &Conversations,

@@ -17,14 +17,14 @@ use tag_book::End;
 /// The most conversations of both ends.
 const MAX_CONVERSATIONS: usize = 32;
 
-/// The octets of a nonce's front.
+/// The octets of a nonce's prefix that are compared.
 pub const FRONT: usize = 16;
 
 /// A nonce with which an end may still begin a conversation.
 #[derive(Clone, Copy)]
 pub struct Waiting {
     pub nonce: Nonce,
-    /// Whether its first 16 octets have stood, one after the other, in octets that came to some party.
+    /// Whether its first 16 octets have occurred, one after the other, in octets that were delivered to some party.
     pub heard: bool,
 }
 
@@ -38,16 +38,16 @@ pub struct Begun {
 }
 
 /// The conversations of both ends: the nonces that each end still has, in their order, which conversations have begun, and
-/// whether each of these began with a fresh nonce. A nonce is fresh where no conversation of either end has begun with one of the
-/// same first 16 octets, and these have not stood, one after the other, in octets that came to some party. Each end has at most
-/// 16 conversations, and no memory is taken.
+/// whether each of these began with a fresh nonce. A nonce is fresh if no conversation of either end has begun with one
+/// of the same first 16 octets, and these have not occurred, one after the other, in octets that were delivered to some
+/// party. Each end has at most 16 conversations, and no memory is allocated.
 #[derive(Drop)]
 pub struct Conversations {
     peer_left: NoncesLeft,
     server_left: NoncesLeft,
     begun: ArrayVec<Begun, MAX_CONVERSATIONS>,
-    /// Whether each conversation after the first of each end began with a fresh nonce. The first two nonces are compared
-    /// where that is asked for, so that a world is made without a branch: with one it would be moved once more.
+    /// Whether each conversation after the first of each end began with a fresh nonce. The first two nonces are
+    /// compared when that is asked for, so that a world is made without a branch: with one it would be moved once more.
     later_fresh: bool,
 }
 
@@ -98,7 +98,7 @@ impl Conversations {
         }
     }
 
-    /// Octets come to some party: of each nonce that is left it is kept whether its first 16 octets stand in them.
+    /// Octets are delivered to some party: it is recorded of each nonce left whether its first 16 octets occur in them.
     pub fn hear(&mut self, octets: &[u8])
         ensures { self.new ≡ heard_by octets.now self.old }
     {
@@ -106,8 +106,8 @@ impl Conversations {
         self.server_left.hear(octets);
     }
 
-    /// The peer begins a conversation in this event, with the next of its nonces, which is answered. None exactly where it has
-    /// none left; nothing changes then.
+    /// The peer begins a conversation in this event, with the next of its nonces, which is returned. None exactly if it
+    /// has none left; nothing changes then.
     pub fn begin_peer(&mut self, event: u32) -> Option<Nonce>
         ensures next { result ≡ next_nonce self.old.peer_left }
         ensures begun { self.new ≡ peer_begins event self.old self.old.peer_left }

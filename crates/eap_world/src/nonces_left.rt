@@ -1,4 +1,4 @@
-//! The nonces with which an end may still begin a conversation, and which of them have been heard.
+//! The nonces with which an end may still begin a conversation, and which of them have been seen in a delivery.
 
 ghost use Rattle.std.specs.Prelude.{◌≡◌, ◌<◌, ℕ, map, length, slice_index, true};
 ghost use Rattle.eap_world.specs.Conversations.{front, hears};
@@ -13,15 +13,15 @@ use std::marker::Model;
 /// The most conversations that an end begins after its first.
 const MAX_LATER: usize = 15;
 
-/// The nonces that an end has left, in their order, and of each whether its first 16 octets have been heard. They stay in
-/// the list that the setup has, which is moved here whole.
+/// The nonces that an end has left, in their order, and of each whether its first 16 octets have been seen in a
+/// delivery. They stay in the list that the setup has, which is moved here whole.
 #[derive(Drop)]
 pub struct NoncesLeft {
     /// The nonces of all later conversations.
     nonces: Nonces,
     /// How many of them have been taken.
     taken: usize,
-    /// Of each whether it has been heard.
+    /// Of each whether it has been seen in a delivery.
     heard: [bool; MAX_LATER],
 }
 
@@ -42,7 +42,7 @@ impl NoncesLeft {
     ghost use Rattle.eap_world.specs.Conversations.{waiting};
     ghost use Rattle.eap_world.specs.World.{has_none};
 
-    /// These nonces, none of which has been heard.
+    /// These nonces, none of which has been seen in a delivery.
     pub fn new(nonces: Nonces) -> NoncesLeft
         ensures all { result ≡ map waiting nonces }
         ensures few { length result ≤ 15 }
@@ -64,7 +64,7 @@ impl NoncesLeft {
         self.nonces.as_slice().len() <= self.taken
     }
 
-    /// Takes the first of the nonces; None exactly where there is none.
+    /// Takes the first of the nonces; None exactly if there is none.
     #[tactic(auto, using(crate::proofs::Kept::first_left, crate::proofs::Kept::none_after))]
     pub fn take_next(&mut self) -> Option<Waiting>
         ensures { MatchOption result ((self.old ≡ []) × (self.new ≡ [])) (λ one. self.old ≡ one ∷ self.new) }
@@ -82,7 +82,7 @@ impl NoncesLeft {
         }
     }
 
-    /// Keeps of each nonce whether its first 16 octets stand in these octets.
+    /// Records of each nonce whether its first 16 octets occur in these octets.
     #[tactic(auto, using(crate::proofs::Kept::still_left))]
     pub fn hear(&mut self, octets: &[u8])
         ensures { self.new ≡ map (hears octets.now) self.old }
@@ -93,8 +93,8 @@ impl NoncesLeft {
     }
 }
 
-/// Keeps of each nonce whether its first 16 octets stand in these octets, which are read once, from their end. Most octets
-/// are the first of none of the nonces.
+/// Records of each nonce whether its first 16 octets occur in these octets, which are read once, from their end. Most
+/// octets are the first of none of the nonces.
 fn hear(nonces: &[Nonce], heard: &mut [bool], octets: &[u8])
     ensures { waits nonces.now heard.new ≡ map (hears octets.now) (waits nonces.now heard.old) }
 {
@@ -125,7 +125,7 @@ fn mark_first(firsts: &mut [bool; 256], nonce: &Nonce)
     firsts[usize::from(nonce[0])] = true;
 }
 
-/// Octets that begin at one place of what came: keeps of each nonce whether they begin with its first 16.
+/// Octets that begin at one place of a delivery: records of each nonce whether they begin with its first 16.
 #[tactic(auto, using(crate::proofs::HeardByPlaces::none_here))]
 fn hear_from(nonces: &[Nonce], heard: &mut [bool], firsts: &[bool; 256], octets: &[u8])
     requires some { 0 < length octets.now }

@@ -10,7 +10,7 @@ use login_setup::Port;
 use std::alloc::Global;
 use std::marker::Model;
 
-/// Where a packet's octets stand, and where it goes.
+/// The place of a packet's octets, and the port to which it goes.
 #[derive(Clone, Copy, PartialEq, Eq, Debug)]
 pub struct Slot {
     pub port: Port,
@@ -20,7 +20,7 @@ pub struct Slot {
     pub length: usize,
 }
 
-/// A packet that was sent, as the store lends it.
+/// A packet that was sent, as the store shows it.
 #[derive(Clone, Copy)]
 pub struct Stored<'a> {
     pub port: Port,
@@ -28,7 +28,7 @@ pub struct Stored<'a> {
 }
 
 /// The packets that were sent, in their order. One whose octets are those of the last packet to the same
-/// port stands where that one does. Contracts see the packets, and how much more there is room for.
+/// port shares the octets of that one. Contracts see the packets, and how much more there is room for.
 #[derive(Drop)]
 pub struct Store {
     octets: Vec<u8>,
@@ -52,7 +52,7 @@ impl Model for Store {
 }
 
 impl Store {
-    /// No packets. It takes no memory.
+    /// No packets. It allocates no memory.
     pub fn new(alloc: Global) -> Store
         ensures packets { result.packets ≡ [] }
         ensures stored { result.stored ≡ 0 }
@@ -72,15 +72,15 @@ impl Store {
         self.slots.len()
     }
 
-    /// How many octets are stored: those of a packet that stands where an earlier one does are stored once.
+    /// How many octets are stored: those that a packet shares with an earlier one are stored once.
     pub fn stored(&self) -> usize
         ensures { result ≡ self.now.stored }
     {
         self.octets.len()
     }
 
-    /// Makes room for one more packet of at most 1,500 octets. False for want of memory, which comes only
-    /// where that room lacked. The packets stay, and no room is lost.
+    /// Makes room for one more packet of at most 1,500 octets. False for want of memory, which comes only if
+    /// that room lacked. The packets stay, and no room is lost.
     pub fn make_room(&mut self) -> bool
         ensures packets { self.new.packets ≡ self.old.packets }
         ensures stored { self.new.stored ≡ self.old.stored }
@@ -93,8 +93,8 @@ impl Store {
         self.octets.reserve(MAX_PACKET).is_ok() && self.slots.reserve(1).is_ok()
     }
 
-    /// Keeps a packet of at most 1,500 octets, for which there is room. One whose octets are those of the last
-    /// packet to the same port takes no more octets.
+    /// Stores a packet of at most 1,500 octets, for which there is room. One whose octets are those of the
+    /// last packet to the same port takes no more octets.
     #[tactic(auto, using(crate::proofs::Storing::one_more, crate::proofs::Storing::stored_behind, crate::proofs::Storing::are_there))]
     pub fn keep(&mut self, port: Port, octets: &[u8])
         requires fits { length octets.now ≤ max_packet }
@@ -125,7 +125,7 @@ impl Store {
         }
     }
 
-    /// The packet of this number, counted from 1; None where none was sent with it.
+    /// The packet of this number, counted from 1; None if none was sent with it.
     pub fn get(&self, number: u32) -> Option<Stored>
         ensures packet { lent result ≡ packet_numbered self.now.packets number }
         ensures fits { IfSome result (λ packet. length packet.octets.now ≤ max_packet) }
@@ -143,7 +143,7 @@ impl Store {
     }
 }
 
-/// The place of a packet's octets where they are those of the last packet to its port.
+/// The place of a packet's octets if they are those of the last packet to its port.
 #[tactic(auto, using(crate::proofs::Storing::last_is, crate::proofs::Storing::none_last))]
 fn place_of(octets: &[u8], slots: &[Slot], port: Port, packet: &[u8]) -> Option<usize>
     requires { AreThere (length octets.now) slots.now }
@@ -157,7 +157,7 @@ fn place_of(octets: &[u8], slots: &[Slot], port: Port, packet: &[u8]) -> Option<
     }
 }
 
-/// The place of a slot where a packet's octets are those at it.
+/// The place of a slot if a packet's octets are those at it.
 fn place_at(octets: &[u8], slot: &Slot, packet: &[u8]) -> Option<usize>
     requires { IsThere (length octets.now) slot.now }
     ensures there { IfSome result (λ place. place + length packet.now ≤ length octets.now) }
@@ -171,7 +171,7 @@ fn place_at(octets: &[u8], slot: &Slot, packet: &[u8]) -> Option<usize>
     }
 }
 
-/// The last slot to a port, looked for from the end.
+/// The last slot to a port, searched from the end.
 #[tactic(auto, using(crate::proofs::Storing::passes_over, crate::proofs::Storing::stops_at, crate::proofs::Storing::none_left))]
 fn last_to(slots: &[Slot], port: Port) -> Option<Slot>
     ensures { result ≡ last_slot port slots.now }

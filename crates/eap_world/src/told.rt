@@ -1,10 +1,10 @@
-//! What came of an event.
+//! The result of an event.
 
 use eap_method::Report;
 use eap_packet::{Cause, Path};
 use login_setup::{Party, Port};
 
-/// Why an event did nothing. Where several apply, the first in this order is told.
+/// Why an event did nothing. If several apply, the first in this order is reported.
 #[derive(Clone, Copy, PartialEq, Eq, Debug)]
 pub enum Skip {
     /// The event's port or party isn't there.
@@ -21,7 +21,7 @@ pub enum Skip {
     NoNonce,
 }
 
-/// A packet that was sent. The world lends its octets.
+/// A packet that was sent. The world shows its octets.
 #[derive(Clone, Copy, PartialEq, Eq, Debug)]
 pub struct SentPacket {
     /// Its number, counted from 1 in the order of sending; a packet that is sent again gets another.
@@ -30,7 +30,7 @@ pub struct SentPacket {
     pub port: Port,
 }
 
-/// A report that an end is the first time seen to hold.
+/// A report that an end has for the first time.
 #[derive(Drop)]
 pub struct Named {
     /// The peer or the server.
@@ -38,22 +38,22 @@ pub struct Named {
     pub report: Report,
 }
 
-/// What came of the start or of an event.
+/// The result of the start or of an event.
 #[derive(Drop)]
 pub struct Told {
     /// The event's number, from 1; 0 is the start.
     pub event: u32,
-    /// The party that acted, None where the event was skipped.
+    /// The party that acted, None if the event was skipped.
     pub party: Option<Party>,
-    /// The states of RFC 4137 that it entered; none where the event was skipped or the party had ended.
+    /// The states of RFC 4137 that it entered; none if the event was skipped or the party had ended.
     pub path: Path,
-    /// Why it discarded what came, None where it didn't.
+    /// Why it discarded what came, None if it didn't.
     pub cause: Option<Cause>,
-    /// Why the event was skipped, None where it wasn't.
+    /// Why the event was skipped, None if it wasn't.
     pub skip: Option<Skip>,
-    /// What it sent, None where it sent nothing.
+    /// What it sent, None if it sent nothing.
     pub sent: Option<SentPacket>,
-    /// The report that the party first holds after it, None where it holds none or held it before.
+    /// The report that the party first has after it, None if it has none or had it before.
     pub named: Option<Named>,
 }
 
@@ -62,7 +62,7 @@ pub struct Told {
 pub struct Counts {
     /// All events, the skipped ones too: at most 1,000,000.
     pub events: u32,
-    /// Those that handed octets to a party.
+    /// Those that delivered octets to a party.
     pub deliveries: u32,
     /// Those whose octets the party discarded.
     pub discards: u32,

@@ -8,13 +8,13 @@ use eap_base::{GPSK_KIND, is_among};
 use eap_method::Report;
 use login_setup::{PeerSetup, ServerSetup};
 
-/// What came of a login.
+/// The verdict on a login.
 #[derive(Clone, Copy, PartialEq, Eq, Debug)]
 pub enum Verdict {
     /// Both ends report success, with the same method, identities, suite and keys, which both policies
     /// allow.
     Agree,
-    /// Both ends report success, but not the same, or what a policy doesn't allow.
+    /// Both ends report success, but not the same, or something that a policy doesn't allow.
     Apart,
     /// Not both ends report success.
     Unfinished,

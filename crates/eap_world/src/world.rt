@@ -1,4 +1,4 @@
-//! Both ends over events.
+//! Both ends of a login over events.
 
 ghost use Rattle.std.specs.Prelude.{◌≡◌, ◌↔◌, ◌≤◌, ◌<◌, ◌+◌, ◌-◌, ◌^◌, ◌++◌, ℕ, List, true, false, map, length, IsTrue};
 ghost use Rattle.std.specs.Prelude.{Bool, MatchResult, IfOk, None, option_copied, vec_len, vec_capacity};
@@ -46,7 +46,7 @@ pub struct Methods<P, S> {
     pub server: Vec<S>,
 }
 
-/// Which ends have held a report in their present conversations.
+/// Which ends have had a report in their present conversations.
 #[derive(Clone, Copy, PartialEq, Eq, Debug)]
 pub struct Held {
     pub peer: bool,
@@ -69,9 +69,9 @@ pub struct World<P, S> {
     /// The version of the scenario's text.
     version: u8,
     started: bool,
-    /// Where a machine writes the packet that it sends, before it is stored.
+    /// The packet that a machine sends, before it is stored.
     packet: Packet,
-    /// Where a machine writes the records of its tags, before they are booked.
+    /// The records of a machine's tags, before they are booked.
     tags: Tags,
 }
 
@@ -108,8 +108,8 @@ impl<P: PeerMethod, S: ServerMethod> World<P, S> {
     ghost use Rattle.eap_world.specs.World.{octets_numbered, octets_of_sent, pass_state, state_of};
 
     /// The world of a setup, in which the peer has begun and the server, or the pass-through, hasn't started.
-    /// Each method that an end allows or proposes has an object, which begins; the others stay as they came. It
-    /// takes no memory.
+    /// Each method that an end allows or proposes has an object, which begins; the others stay as they were. It
+    /// allocates no memory.
     #[tactic(auto, using(crate::proofs::StillThere::peer_made_with, crate::proofs::StillThere::server_made_with))]
     pub fn new(alloc: Global, setup: Setup, methods: Methods<P, S>) -> World<P, S>
         requires few { setup.max_retrans ≤ 10 }
@@ -161,8 +161,8 @@ impl<P: PeerMethod, S: ServerMethod> World<P, S> {
     /// Request. `Memory` comes only for
     /// want of memory for what it sends; the world then is as it was. The world has not started, and each method of an end's
     /// settings has an object, as [`World::new`] leaves it and each call keeps it. A world
-    /// that has just been made then is that of the run without events. The crate `world_laws` says how few tags the book of a run
-    /// holds (`few_tags`).
+    /// that has just been made then is that of the run without events. The crate `world_laws` says how few tags the
+    /// book of a run has (`few_tags`).
     #[tactic(auto, using(crate::proofs::StillThere::still_there))]
     pub fn start(&mut self) -> Result<Told, Memory>
         requires unstarted { self.old.started ≡ false }
@@ -178,14 +178,15 @@ impl<P: PeerMethod, S: ServerMethod> World<P, S> {
         self.start_by_table()
     }
 
-    /// The next event, numbered from 1. A delivery hands octets to the peer (RFC 4137 section 4), the server
+    /// The next event, numbered from 1. A delivery passes octets to the peer (RFC 4137 section 4), the server
     /// (sections 5 and 6) or the pass-through (section 7); a restart lets a party begin a new conversation, an end with the next of
-    /// its nonces; an event that has nobody or nothing to act on is skipped and only counted.
+    /// its nonces; an event that can't be carried out is skipped and only counted.
     /// `Memory` comes only for want of memory for one more packet and its tags; the world then is as it
     /// was, and the event isn't counted. The world has started, has had fewer events than [`MAX_EVENTS`], and each method of an
     /// end's settings has an object ([`World::has_objects`]). A world that was that of the run over some events then is that
-    /// of the run over these and this one, whose book holds at most four tags for each conversation that has begun (`few_tags` of
-    /// the crate `world_laws`), each of whose steps is lawful (`steps_are_lawful`). So many events have sent at most one packet more.
+    /// of the run over these and this one, whose book has at most four tags for each conversation that has begun
+    /// (`few_tags` of the crate `world_laws`), each of whose steps is lawful (`steps_are_lawful`). So many events have
+    /// sent at most one packet more.
     #[tactic(auto, using(crate::proofs::StillThere::still_there))]
     pub fn step(&mut self, event: &Event) -> Result<Told, Memory>
         requires started { self.old.started ≡ true }
@@ -293,7 +294,7 @@ impl<P: PeerMethod, S: ServerMethod> World<P, S> {
     }
 
     /// The octets of the packet of this number, counted from 1 in the order of sending (RFC 3748 section
-    /// 4); None where none was sent with it.
+    /// 4); None if none was sent with it.
     pub fn packet(&self, number: u32) -> Option<&[u8]>
         ensures { option_copied result ≡ octets_numbered self.now.sent number }
     {
@@ -303,7 +304,7 @@ impl<P: PeerMethod, S: ServerMethod> World<P, S> {
         }
     }
 
-    /// The octets of the packet of which was told; no octets where none was sent, or not in this world.
+    /// The octets of the packet that was reported; no octets if none was sent, or not in this world.
     pub fn octets_of(&self, told: &Told) -> &[u8]
         ensures { result.now ≡ octets_of_sent self.now.sent told.now.sent }
     {
@@ -368,14 +369,15 @@ impl<P: PeerMethod, S: ServerMethod> World<P, S> {
     }
 
     /// Whether each conversation that has begun did so with a fresh nonce: no conversation of either end had begun before with a nonce
-    /// of the same first 16 octets, and these had not stood, one after the other, in octets that came to some party.
+    /// of the same first 16 octets, and these had not occurred, one after the other, in octets that were delivered to
+    /// some party.
     pub fn fresh(&self) -> bool
         ensures { result ≡ self.now.conversations.fresh }
     {
         self.conversations.fresh()
     }
 
-    /// The version of the scenario's text, as the setup tells it.
+    /// The version of the scenario's text, as the setup gives it.
     pub fn version(&self) -> u8
         ensures { result ≡ self.now.version }
     {
@@ -392,7 +394,7 @@ impl<P: PeerMethod, S: ServerMethod> World<P, S> {
 
     /// Whether each accepted tag was made earlier by either end, with the same method, label, key, octets
     /// and tag: also by the end that accepted it, to which it came back. Else the first event in which an
-    /// end accepted one that wasn't. It is Honest wherever [`World::tags`] is.
+    /// end accepted one that wasn't. It is Honest whenever [`World::tags`] is.
     pub fn tags_either(&self) -> TagsVerdict
         ensures { result ≡ tags_verdict_either self.now.book }
     {
@@ -400,13 +402,13 @@ impl<P: PeerMethod, S: ServerMethod> World<P, S> {
     }
 
     /// Whether both ends agree in their present conversations. The crate `world_laws` says what this is in every run of a setup
-    /// whose ends are sound, with a key of the peer for each of its methods and nonces of 32 octets: never Apart where
-    /// [`World::tags`] is Honest and no end has begun a second conversation or [`World::fresh`] is true, nor, where no end has
-    /// begun a second one, where [`World::tags_either`] is Honest (`honest_ends_agree`, which says too that each then holds the
-    /// nonce of the other's present conversation where tags are Honest and nonces fresh). Where both ends agree under these
-    /// premises, what they report is their own: the names of their setups, a user of the server with the peer's key, by EAP-GPSK
-    /// the first suite of the server's that the peer allows (`honest_names_are_theirs`). Whatever it is, the conversations of the
-    /// run, past and present, match as `conversations_match` says.
+    /// whose ends are sound, with a key of the peer for each of its methods and nonces of 32 octets: never Apart if
+    /// [`World::tags`] is Honest and no end has begun a second conversation or [`World::fresh`] is true, nor, if no end
+    /// has begun a second one, if [`World::tags_either`] is Honest (`honest_ends_agree`, which says too that each then
+    /// has the nonce of the other's present conversation if tags are Honest and nonces fresh). If both ends agree under
+    /// these premises, what they report is their own: the names of their setups, a user of the server with the peer's
+    /// key, by EAP-GPSK the first suite of the server's that the peer allows (`honest_names_are_theirs`). Whatever it
+    /// is, the conversations of the run, past and present, match as `conversations_match` says.
     #[tactic(auto, unfolding(crate::specs::Judgement::verdict_of))]
     pub fn result(&self) -> Verdict
         ensures value { result ≡ verdict_of (now_of P.peer_shown S.server_shown self.now) }
@@ -453,8 +455,8 @@ fn role_in(mode: Mode) -> Role
     }
 }
 
-/// Which ends have held a report in their present conversations, when this event is about to come: an end that begins a new one
-/// holds none in it yet.
+/// Which ends have had a report in their present conversations, just before this event: an end that begins a new one
+/// has none in it yet.
 #[tactic(auto, using(crate::proofs::InConversation::still_told))]
 fn held_before(held: Held, conversations: &Conversations, event: &Event) -> Held
     ensures { (parties : Parties) (sent : List Sent) → result ≡ held_before held parties conversations.now sent event.now }
@@ -465,7 +467,7 @@ fn held_before(held: Held, conversations: &Conversations, event: &Event) -> Held
     }
 }
 
-/// The same where a party is about to begin a new conversation. An end does so only where it has a nonce left.
+/// The same if a party is about to begin a new conversation. An end does so only if it has a nonce left.
 #[tactic(auto, using(crate::proofs::InConversation::peer_anew, crate::proofs::InConversation::pass_anew, crate::proofs::InConversation::server_anew))]
 fn held_anew(held: Held, conversations: &Conversations, party: Party) -> Held
     ensures { (parties : Parties) (sent : List Sent) → result ≡ held_before held parties conversations.now sent (Restart party) }
@@ -495,7 +497,7 @@ fn held_anew(held: Held, conversations: &Conversations, party: Party) -> Held
     }
 }
 
-/// Makes room for one packet and four tags; false for want of memory, which comes only where room lacked.
+/// Makes room for one packet and four tags; false for want of memory, which comes only if room lacked.
 fn make_room(sent: &mut Store, book: &mut Vec<Entry>) -> bool
     ensures sent { sent.new.packets ≡ sent.old.packets }
     ensures stored { sent.new.stored ≡ sent.old.stored }
@@ -509,7 +511,7 @@ fn make_room(sent: &mut Store, book: &mut Vec<Entry>) -> bool
     sent.make_room() && book.reserve(MAX_TAGS).is_ok()
 }
 
-/// Keeps what an action sends and what it writes into the book, for which there is room, and tells of it.
+/// Stores what an action sends and what it writes into the book, for which there is room, and returns its result.
 fn keep<P: PeerMethod, S: ServerMethod>(
     machines: &Machines<P, S>,
     sent: &mut Store,
@@ -551,7 +553,7 @@ fn keep<P: PeerMethod, S: ServerMethod>(
     }
 }
 
-/// Tells of the report that a party which acted is the first time seen to hold, and keeps that it was told.
+/// Returns the report that a party which acted has for the first time, and records that it was reported.
 fn tell_report<P: PeerMethod, S: ServerMethod>(
     machines: &Machines<P, S>,
     party: Party,
@@ -585,7 +587,7 @@ fn report_of<P: PeerMethod, S: ServerMethod>(
     }
 }
 
-/// Whether a party has held a report.
+/// Whether a party has had a report.
 fn has_held(held: Held, party: Party) -> bool
     ensures { result ≡ has_held held party }
 {
@@ -596,7 +598,7 @@ fn has_held(held: Held, party: Party) -> bool
     }
 }
 
-/// Which ends have held a report, this one among them.
+/// Which ends have had a report, this one among them.
 fn with_party(held: Held, party: Party) -> Held
     ensures { result ≡ held_by held party }
 {
@@ -642,7 +644,7 @@ fn next_number(sent: usize) -> u32
     sent as u32 + 1
 }
 
-/// Keeps what an action sends, for which there is room.
+/// Stores what an action sends, for which there is room.
 fn keep_sent(sent: &mut Store, action: &Action, packet: &Packet)
     requires room { (max_packet ≤ sent.old.octets_room) × (1 ≤ sent.old.packets_room) }
     ensures kept { (tags : Tags) → sent.new.packets ≡ sent.old.packets ++ sent_by (action_with action.now packet.now tags) }
@@ -678,7 +680,7 @@ fn count(counts: Counts, action: &Action) -> Counts
     }
 }
 
-/// What is told of an event that was skipped.
+/// The result of an event that was skipped.
 fn tell_skip(event: u32, skip: Skip) -> Told
     ensures { result ≡ told_of event 0 None (Skipped skip) }
 {
@@ -693,7 +695,7 @@ fn tell_skip(event: u32, skip: Skip) -> Told
     }
 }
 
-/// What is told of a call, but for a report: the number of its event, and that of the packet that it sends.
+/// The result of a call, but for a report: the number of its event, and that of the packet that it sends.
 fn tell(event: u32, number: u32, party: Party, port: Port, step: Step) -> Told
     ensures told { (is_delivery : Bool) (packet : List ℕ) (tags : Tags)
         → result ≡ told_of event number None

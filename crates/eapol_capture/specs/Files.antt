@@ -31,7 +31,7 @@ abbrev pub short_number : OctetOrder → List ℕ → ℕ
 short_number Big octets = from_be_bytes w16 octets
 short_number Little octets = from_le_bytes w16 octets
 
--- the magic number a1b2c3d4, of files whose times have microseconds, tells the octet order
+-- the magic number a1b2c3d4, of files whose times have microseconds, gives the octet order
 abbrev pub magic_number : ℕ
 magic_number = 2712847316
 
@@ -45,7 +45,7 @@ order_of magic =
 abbrev pub is_version : OctetOrder → List ℕ → Bool
 is_version order version = (short_number order (take 2 version) == 2) && (short_number order (drop 2 version) == 4)
 
--- the octet order that a header tells, or its first fault: magic (4 octets), version (4), 12 octets unread,
+-- the octet order that a header gives, or its first fault: magic (4 octets), version (4), 12 octets unread,
 -- and the link type (4), which is 1 for Ethernet
 abbrev pub faults_in : Option OctetOrder → List ℕ → Result OctetOrder NextRecord
 faults_in None header = Err BadMagic
@@ -57,7 +57,7 @@ faults_in (Some order) header =
 abbrev pub order_or_fault : List ℕ → Result OctetOrder NextRecord
 order_or_fault header = faults_in (order_of (take 4 header)) header
 
--- why `count` octets can't be read, of the octets that are left, where `room` more may be read: the octet
+-- why `count` octets can't be read, of the octets that are left, if `room` more may be read: the octet
 -- past the limit comes before they are all read, or the file ends before
 abbrev pub missing : ℕ → ℕ → List ℕ → Option NextRecord
 missing count room octets =
@@ -65,13 +65,13 @@ missing count room octets =
     else if nat_lt room (length octets) then Some TooMuch
     else Some CutFile
 
--- the contents, where nothing is missing
+-- the contents, if nothing is missing
 abbrev pub unless : ℕ → Option NextRecord → Contents → Contents
 unless begun None contents = contents
 unless begun (Some answer) contents = ends begun answer
 
 -- the records that octets are, of which `room` may be read: 8 octets of time, the length of the frame (4), its
--- length before it was cut (4), and the frame. At most `most` are read, which is no limit where it is at least
+-- length before it was cut (4), and the frame. At most `most` are read, which is no limit if it is at least
 -- the number of octets
 unfoldable pub records : OctetOrder → ℕ → List ℕ → ℕ → Contents
 records order room [] most = ends 0 End
@@ -88,7 +88,7 @@ records order room (x ∷ rest) (suc most) =
 abbrev pub all_records : OctetOrder → ℕ → List ℕ → Contents
 all_records order room octets = records order room octets (length octets)
 
--- what follows a header that tells an octet order or has a fault
+-- what follows a header that gives an octet order or has a fault
 abbrev pub behind : Result OctetOrder NextRecord → ℕ → List ℕ → Contents
 behind (Err answer) room octets = ends 0 answer
 behind (Ok order) room octets = all_records order room octets

@@ -1,4 +1,4 @@
--- Files by their spelling, and that they are read as what they spell.
+-- Files by their encoding, and that they are read as what they encode.
 use Rattle.std.specs.Prelude.{◌≡◌, ℕ, ◌≤◌, List, [], ◌∷◌, ◌++◌, length, take, All}
 use Rattle.std.specs.Int.{w16, w32, to_be_bytes, to_le_bytes}
 use Rattle.eapol_capture.specs.declared.order.OctetOrder.{OctetOrder}
@@ -8,7 +8,7 @@ use Rattle.octet_io.specs.Lines.{max_input}
 use Rattle.eapol_capture.specs.Files.{Contents, ends, record_of, contents, magic_number, max_frame, max_kept}
 use Rattle.eapol_capture.specs.Frames.{eap, eapol_type, carried}
 
--- a captured frame, with its time and its length before it was cut, as they stand in a file
+-- a captured frame, with its time and its length before it was cut, as they are in a file
 pub record Captured : Type 0 where
   pub time : List ℕ
   pub first_length : List ℕ
@@ -49,7 +49,7 @@ abbrev pub listed : List Captured → Contents
 listed [] = ends 0 End
 listed (c ∷ rest) = record_of (take max_kept c.frame) (listed rest)
 
--- in either octet order a file is read as the records that it spells, and then its end
+-- in either octet order a file is read as the records that it encodes, and then its end
 abbrev pub SpelledFilesAreRead : Type 0
 SpelledFilesAreRead =
     (order : OctetOrder) (unread : List ℕ) (captured : List Captured) → length unread ≡ 12 → All IsCaptured captured →

@@ -8,12 +8,12 @@ use Rattle.octet_io.specs.Lines.{max_input}
 use Rattle.eapol_capture.specs.Files.{Contents, ends, order_or_fault, max_kept}
 use Rattle.eapol_capture.specs.Reading.{Reading, octets_left, Waits}
 
--- the answer that a step leads to, where it goes on to a record or stops
+-- the answer that a step leads to, if it goes on to a record or stops
 abbrev pub answer_of : {A : Type 0} → Result A NextRecord → NextRecord
 answer_of (Ok value) = Record
 answer_of (Err answer) = answer
 
--- the octet order that a header tells
+-- the octet order that a header gives
 abbrev pub told : Result OctetOrder NextRecord → Option OctetOrder
 told (Ok order) = Some order
 told (Err answer) = None
@@ -24,13 +24,13 @@ pub record Keeps (before after : Reading) : Type 0 where
   pub number : after.number ≡ before.number
   pub over : after.over ≡ before.over
 
--- these octets were handed out
+-- these octets were consumed
 pub record Hands (part : List ℕ) (before after : Reading) (was left : Option (List ℕ)) : Type 0 where
   pub octets : octets_left before was ≡ prepend_known part (octets_left after left)
   pub taken : after.taken ≡ before.taken + length part
   pub spent : length before.held ≤ length part + length after.held
 
--- so many octets were handed out, and a front of them was kept
+-- so many octets were consumed, and a prefix of them was stored
 pub record HandsAll (count : ℕ) (before after : Reading) (was left : Option (List ℕ)) : Type 0 where
   pub part : List ℕ
   pub all : length part ≡ count
@@ -53,7 +53,7 @@ pub record IsPast (count : ℕ) (before after : Reading) (was left : Option (Lis
   pub more : 0 < length after.held
   pub full : max_input ≤ after.taken
 
--- a read failed before, when no octet was held
+-- a read failed before, when no octet was buffered
 pub record IsStuck (count : ℕ) (before after : Reading) (was : Option (List ℕ)) : Type 0 where
   pub part : List ℕ
   pub few : length part < count
@@ -69,7 +69,7 @@ Stops TooMuch count before after was left = IsPast count before after was left
 Stops Read count before after was left = IsStuck count before after was
 Stops answer count before after was left = ⊥
 
--- what comes of reading so many octets
+-- the result of reading so many octets
 abbrev pub Parts : {A : Type 0} → Result A NextRecord → ℕ → Reading → Reading → Option (List ℕ) → Option (List ℕ) → Type 0
 Parts (Ok value) count before after was left = HandsAll count before after was left
 Parts (Err answer) count before after was left = Stops answer count before after was left
@@ -83,7 +83,7 @@ pub record HasFrame (size : ℕ) (before after : Reading) (was left : Option (Li
   pub hands : Hands (first_length ++ frame) before after was left
   pub kept : after.frame ≡ take max_kept frame
 
--- what comes of reading such a frame
+-- the result of reading such a frame
 abbrev pub Frames : {A : Type 0} → Result A NextRecord → ℕ → Reading → Reading → Option (List ℕ) → Option (List ℕ) → Type 0
 Frames (Ok value) size before after was left = HasFrame size before after was left
 Frames (Err answer) size before after was left = Stops answer (4 + size) before after was left
@@ -101,7 +101,7 @@ abbrev pub Opens : Result OctetOrder NextRecord → Option Contents → Option C
 Opens (Ok order) before after = before ≡ after
 Opens (Err answer) before after = Fails answer before after
 
--- a header that tells this octet order
+-- a header that gives this octet order
 pub record HasHeader (order : OctetOrder) (before after : Reading) (was left : Option (List ℕ)) : Type 0 where
   pub head : List ℕ
   pub all : length head ≡ 24
@@ -109,7 +109,7 @@ pub record HasHeader (order : OctetOrder) (before after : Reading) (was left : O
   pub judged : order_or_fault head ≡ Ok order
   pub told : after.order ≡ Some order
 
--- what comes of reading a header
+-- the result of reading a header
 abbrev pub Heads : Result OctetOrder NextRecord → Reading → Reading → Option (List ℕ) → Option (List ℕ) → Type 0
 Heads (Ok order) before after was left = HasHeader order before after was left
 Heads (Err answer) before after was left = Waits answer before after was

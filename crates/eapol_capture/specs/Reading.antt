@@ -7,7 +7,7 @@ use Rattle.eapol_capture.specs.declared.reader.NextRecord.TheVariants.{Record, E
 use Rattle.octet_io.specs.Lines.{max_input}
 use Rattle.eapol_capture.specs.Files.{Contents, ends, record_of, from_header, all_records}
 
--- a reader: how many octets it has handed out, the octets that it has read ahead, the file's octet order
+-- a reader: how many octets it has consumed, the octets that it has read ahead, the file's octet order
 -- once it has read the header, what it has kept of the frame that it read last, the number of the record last
 -- begun, and whether it is over
 pub record Reading : Type 0 where
@@ -23,7 +23,7 @@ abbrev pub contents_from : Option OctetOrder → ℕ → List ℕ → Contents
 contents_from None room octets = from_header room octets
 contents_from (Some order) room octets = all_records order room octets
 
--- the octets that are left, where the source tells what it has left
+-- the octets that are left, if the source shows what it has left
 abbrev pub octets_left : Reading → Option (List ℕ) → Option (List ℕ)
 octets_left reader left = prepend_known reader.held left
 
@@ -31,21 +31,21 @@ octets_left reader left = prepend_known reader.held left
 abbrev pub contents_left : Reading → Option (List ℕ) → Option Contents
 contents_left reader left = option_map (contents_from reader.order (max_input - reader.taken)) (octets_left reader left)
 
--- how one answer divides what was to be answered: into a record and what follows it, or it is the end, where so
--- many records are begun
+-- how one answer divides what was to be answered: into a record and what follows it, or it is the end, with so
+-- many records begun
 abbrev pub Divides : NextRecord → ℕ → List ℕ → Option Contents → Option Contents → Type 0
 Divides Record begun frame before after = before ≡ option_map (record_of frame) after
 Divides Read begun frame before after = Unit {0}
 Divides answer begun frame before after = before ≡ option_map (λ _. ends begun answer) after
 
--- whether octets, as the front of a file, leave open what the file is: a file of them alone is whole, or cut
+-- whether octets, as the prefix of a file, leave open what the file is: a file of them alone is whole, or cut
 abbrev pub is_open : Contents → Bool
 is_open (ends begun End) = true
 is_open (ends begun CutFile) = true
 is_open contents = false
 
--- a call that ends at a failed read: it has handed out a part of the octets that were left, all that were held among
--- them, and this part leaves open what the file is
+-- a call that ends at a failed read: it has consumed a part of the octets that were left, all that were buffered
+-- among them, and this part leaves open what the file is
 pub record Undecided (before after : Reading) (was : Option (List ℕ)) : Type 0 where
   pub part : List ℕ
   pub behind : Option (List ℕ)
@@ -54,7 +54,7 @@ pub record Undecided (before after : Reading) (was : Option (List ℕ)) : Type 0
   pub spent : length before.held ≤ length part
   pub undecided : is_open (contents_from before.order (max_input - before.taken) part) ≡ true
 
--- the answer Read comes only where the octets that were handed out don't tell another
+-- the answer Read comes only if the octets that were consumed don't give another
 abbrev pub Waits : NextRecord → Reading → Reading → Option (List ℕ) → Type 0
 Waits Read before after was = Undecided before after was
 Waits answer before after was = Unit {0}
@@ -85,8 +85,8 @@ header_left (Some order) = 0
 abbrev pub records_begin : Reading → ℕ
 records_begin reader = reader.taken + header_left reader.order
 
--- the records that an answer begins, where the next one begins at `start`: where a read fails, one of which an
--- octet was handed out
+-- the records that an answer begins, the next one beginning at `start`: if a read fails, one of which an
+-- octet was consumed
 abbrev pub begun : NextRecord → ℕ → Reading → ℕ
 begun Read start after = min 1 (after.taken - start)
 begun answer start after = begun_in answer after.order
@@ -101,7 +101,7 @@ abbrev pub Exhausts : NextRecord → Option (List ℕ) → Type 0
 Exhausts End left = left ≡ nothing_known left
 Exhausts answer left = Unit {0}
 
--- the answer Read comes only where the count of faults rose, or stands at its last value; after any other
+-- the answer Read comes only if the count of faults rose, or is at its last value; after any other
 -- answer it is as it was
 abbrev pub Faults : NextRecord → Option ℕ → ℕ → ℕ → Type 0
 Faults Read last before after = after ≤ before → last ≡ Some after

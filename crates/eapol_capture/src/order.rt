@@ -5,7 +5,7 @@ ghost use Rattle.eapol_capture.specs.Files.{number, short_number};
 
 use eap_base::array_of;
 
-/// The order of the octets of all numbers in a file, which its magic number tells (the pcap file format,
+/// The order of the octets of all numbers in a file, which its magic number gives (the pcap file format,
 /// draft-ietf-opsawg-pcap section 4).
 #[derive(Clone, Copy)]
 pub enum OctetOrder {

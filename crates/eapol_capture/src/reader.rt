@@ -1,4 +1,4 @@
-//! A source read as a pcap file.
+//! Reading a source as a pcap file.
 
 ghost use Rattle.std.specs.Prelude.{◌≡◌, ◌≤◌, ◌<◌, ◌+◌, ◌-◌, ◌++◌, min, take, drop, true, false, length, [], Some, Ok, IfOk, IfErr, OnErr, OnOk};
 ghost use Rattle.octet_io.specs.Known.{nothing_known};
@@ -34,7 +34,7 @@ pub enum NextRecord {
 
 /// Reads a source as a pcap file of Ethernet frames (draft-ietf-opsawg-pcap): a header, and then records of
 /// a frame each. A frame has at most 262,144 octets, of which the first 4,096 are kept, and the source at most
-/// 16,777,216. Up to 4,096 octets are read at a time; the limit counts those that were handed out.
+/// 16,777,216. Up to 4,096 octets are read at a time; the limit counts those that were consumed.
 #[derive(Drop)]
 pub struct PcapReader {
     taken: u32,
@@ -92,13 +92,13 @@ impl PcapReader {
         }
     }
 
-    /// Reads the next record of `source`, whose frame `frame()` gives where the answer is `Record`. After
+    /// Reads the next record of `source`, whose frame `frame()` gives if the answer is `Record`. After
     /// every other answer the reader is over.
     pub fn next_record<S: Source>(&mut self, source: &mut S) -> NextRecord
         requires { self.old.over ≡ false }
 
-        // The answers are those of the octets that the reader holds and the source has left, however they
-        // are cut into reads. Where these decide, no further read is asked for.
+        // The answers are those of the octets that the reader has buffered and the source has left, however
+        // they are cut into reads. If these decide, no further read is asked for.
         ensures contents { Answers result self.old self.new (S.left source.old) (S.left source.new) }
         ensures number { self.new.number ≡ self.old.number + begun result (records_begin self.old) self.new }
         ensures over { self.new.over ≡ is_last result }
@@ -116,7 +116,7 @@ impl PcapReader {
         answer
     }
 
-    /// Where the next record begins, in octets.
+    /// The offset of the next record, in octets.
     fn start(&self) -> u32
         requires { self.now.over ≡ false }
         ensures place { result ≡ records_begin self.now }
@@ -146,7 +146,7 @@ impl PcapReader {
         self.number += u32::from(has_begun);
     }
 
-    /// Reads the header, where that wasn't done, and a record.
+    /// Reads the header, if that wasn't done, and a record.
     fn read_next<S: Source>(&mut self, source: &mut S) -> NextRecord
         requires bounded { self.old.taken ≤ max_input }
         ensures contents { Answers result self.old self.new (S.left source.old) (S.left source.new) }
@@ -186,7 +186,7 @@ impl PcapReader {
         self.judge()
     }
 
-    /// Judges the header that was read, and keeps the octet order that it tells.
+    /// Judges the header that was read, and stores the octet order that it gives.
     fn judge(&mut self) -> Result<OctetOrder, NextRecord>
         requires { length self.old.frame ≡ 24 }
         ensures judged { result ≡ order_or_fault self.old.frame }
@@ -274,7 +274,7 @@ impl PcapReader {
         self.read_part(source, size)
     }
 
-    /// Hands out so many octets, of which the frame keeps the first 4,096. `CutFile`: the source ends before.
+    /// Consumes so many octets, of which the frame stores the first 4,096. `CutFile`: the source ends before.
     /// `TooMuch`: the octet past the limit comes before.
     fn read_part<S: Source>(&mut self, source: &mut S, count: u32) -> Result<(), NextRecord>
         requires bounded { self.old.taken ≤ max_input }
@@ -308,7 +308,7 @@ impl PcapReader {
         self.frame.clear();
     }
 
-    /// Whether an octet is left. Reads where none is held.
+    /// Whether an octet is left. Reads if none is buffered.
     fn has_more<S: Source>(&mut self, source: &mut S) -> Result<bool, NextRecord>
         ensures keeps { Keeps self.old self.new }
         ensures taken { self.new.taken ≡ self.old.taken }
@@ -332,7 +332,7 @@ impl PcapReader {
         }
     }
 
-    /// Hands out octets that it holds, at most so many and as many as pass no limit, and answers how many.
+    /// Consumes octets that it has buffered, at most so many and as many as pass no limit, and answers how many.
     fn take_held(&mut self, most: u32) -> u32
         ensures fits { result ≤ most }
         ensures there { result ≤ length self.old.held }
@@ -353,7 +353,7 @@ impl PcapReader {
         count as u32
     }
 
-    /// Where the last answer was `Record`, what was kept of its frame: the first octets, at most 4,096.
+    /// If the last answer was `Record`, what was stored of its frame: the first octets, at most 4,096.
     pub fn frame(&self) -> &[u8]
         ensures same { result.now ≡ self.now.frame }
         ensures fits { length result.now ≤ max_kept }

@@ -1,5 +1,5 @@
 //! EAX with AES-128 (Bellare, Rogaway and Wagner; RFC 4764, section 3.3): a text is sealed and
-//! unsealed in place, a block at a time, and no call takes memory.
+//! unsealed in place, a block at a time, and no call allocates memory.
 #![tactic(auto)]
 
 ghost use Rattle.std.specs.Prelude.{◌≡◌, ◌≤◌, ◌↔◌, IsTrue, length};
@@ -66,8 +66,8 @@ fn tag_over(
 }
 
 /// Seals `text` in place under a nonce and with a header, all of any length: it becomes the
-/// ciphertext, and the tag of sixteen octets is returned. Under one key no nonce may serve twice,
-/// or the two ciphertexts tell how their texts differ.
+/// ciphertext, and the tag of sixteen octets is returned. Under one key no nonce may be used twice,
+/// or the two ciphertexts reveal how their texts differ.
 #[tactic(auto, using(crate::proofs::Stream::counter_mode_twice), unfolding(crate::specs::Eax::eax_ciphertext, crate::specs::Eax::eax_plaintext, crate::specs::Eax::eax_tag))]
 pub fn eax_seal_with(key: &CmacKey, nonce: &[u8], header: &[u8], text: &mut [u8]) -> [u8; 16]
     ensures ciphertext { text.new ≡ (eax_sealed key.now nonce.now header.now text.old).ciphertext }
@@ -79,7 +79,7 @@ pub fn eax_seal_with(key: &CmacKey, nonce: &[u8], header: &[u8], text: &mut [u8]
     tag_over(key, &nonce_mac, header, text)
 }
 
-/// The same under a key that serves once.
+/// The same under a key that is used once.
 pub fn eax_seal(key: &[u8; 16], nonce: &[u8], header: &[u8], text: &mut [u8]) -> [u8; 16]
     ensures ciphertext { text.new ≡ (eax_sealed key.now nonce.now header.now text.old).ciphertext }
     ensures tag { result ≡ (eax_sealed key.now nonce.now header.now text.old).tag }
@@ -88,7 +88,7 @@ pub fn eax_seal(key: &[u8; 16], nonce: &[u8], header: &[u8], text: &mut [u8]) ->
     eax_seal_with(&CmacKey::new(key), nonce, header, text)
 }
 
-/// Unseals the ciphertext `text` in place. Where `tag` is the tag over nonce, header and ciphertext,
+/// Unseals the ciphertext `text` in place. If `tag` is the tag over nonce, header and ciphertext,
 /// the answer is true and `text` becomes the plaintext; else it is false and `text` stays as it was.
 #[tactic(auto, unfolding(crate::specs::Eax::eax_accepts, crate::specs::Eax::eax_plaintext, crate::specs::Eax::eax_tag))]
 pub fn eax_unseal_with(
@@ -117,7 +117,7 @@ pub fn eax_unseal_with(
     true
 }
 
-/// The same under a key that serves once.
+/// The same under a key that is used once.
 pub fn eax_unseal(
     key: &[u8; 16],
     nonce: &[u8],

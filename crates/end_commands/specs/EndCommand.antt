@@ -68,7 +68,7 @@ module _ {N : Type 0} (table : MachineTable N) where
   took_reading c (Err fault) = is_refused c (fault_word fault)
   took_reading c (Ok r) = took_item (record c { reader = r.after }) r.item
 
-  -- what a line brings
+  -- the result of a line
   unfoldable pub end_took : CommandNow N → List ℕ → Took (CommandNow N)
   end_took c l = took_reading c (read_line c.reader l)
 
@@ -88,7 +88,7 @@ module _ {N : Type 0} (table : MachineTable N) where
 abbrev pub nothing_taken : {N : Type 0} → Role → CommandNow N
 nothing_taken role = record { reader = unread role; pipe = None; taken = 0 }
 
--- no line finds memory wanting
+-- no line fails for want of memory
 abbrev pub end_lacks : {N : Type 0} → CommandNow N → List ℕ → Bool
 end_lacks c line = false
 

@@ -23,7 +23,7 @@ pub data Ending : Type 0 where
   whole : Ending
   refused : ℕ → List ℕ → Status → Ending
 
--- the settings, where they were whole; the inputs, up to a refused line; and the ending
+-- the settings, if they were whole; the inputs, up to a refused line; and the ending
 pub record Script : Type 0 where
   pub settings : Option Settings
   pub inputs : List EndInput
@@ -67,7 +67,7 @@ with_line number taken (Err fault) s = stops (refused number (fault_word fault) 
 with_line number taken (Ok x) s =
     if is_input x.item && nat_le max_inputs taken then stops (too_much_at number) else adds x.item x.after.settings s
 
--- the script that the lines make, where n lines and so many inputs have come before them
+-- the script that the lines make, if n lines and so many inputs have come before them
 unfoldable pub script_from : ℕ → ℕ → EndReading → Lines → Script
 script_from n taken r ended = stops (finish_ending (n + 1) (finish_of r))
 script_from n taken r too_long = stops (too_much_at (n + 1))
@@ -79,7 +79,7 @@ script_from n taken r (line l rest) =
 abbrev pub script_of : Role → List ℕ → Script
 script_of role octets = script_from 0 0 (unread role) (lines octets)
 
--- without an end nothing is told
+-- without an end nothing is written of inputs
 abbrev pub unset_answer : Ending → Answer
 unset_answer whole = record { text = []; status = status.Done }
 unset_answer (refused number word s) = refusal number word s
@@ -91,7 +91,7 @@ module _ {N : Type 0} (table : MachineTable N) where
   ending_answer e whole = record { text = last_text (table.state e.now); status = status.Done }
   ending_answer e (refused number word s) = refusal number word s
 
-  -- the answer from an end on that has taken so many inputs: what is told of the inputs to come, and the ending
+  -- the answer from an end on that has taken so many inputs: the results of the inputs to come, and the ending
   abbrev pub run_answer : ℕ → EndNow N → List EndInput → Ending → Answer
   run_answer taken e inputs ending = after_text (tolds_text taken (told_of (end_step table) e inputs)) (ending_answer (end_after (end_step table) e inputs) ending)
 

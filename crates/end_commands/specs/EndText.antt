@@ -1,4 +1,4 @@
--- The text that tells what one end does: the lines of its start and of each input, and its last lines.
+-- The text that says what one end does: the lines of its start and of each input, and its last lines.
 use Rattle.std.specs.Prelude.{ℕ, ◌+◌, List, [], ◌∷◌, ◌++◌, Bool, true, false, Option, Some, None, codes, decimal}
 use Rattle.std.specs.List.{concat}
 use Rattle.eap_method.specs.declared.values.Report.{Report}
@@ -14,7 +14,7 @@ abbrev pub send_text : ℕ → Option (List ℕ) → List ℕ
 send_text number None = []
 send_text number (Some octets) = concat (decimal number ∷ codes " send " ∷ hex_text octets ∷ codes "\n" ∷ [])
 
--- the names of the keys of a report that the end first holds
+-- the names of the keys of a report that the end first has
 abbrev pub keys_line : ℕ → List ℕ → List ℕ → List ℕ
 keys_line number msk emsk =
     concat (decimal number ∷ codes " keys msk " ∷ hex_text msk ∷ codes " emsk " ∷ hex_text emsk ∷ codes "\n" ∷ [])
@@ -40,12 +40,12 @@ told_by number told false = acted_text number told
 unfoldable pub told_text : ℕ → EndTold → List ℕ
 told_text number told = told_by number told told.skipped
 
--- those of a start, where an end has one
+-- those of a start, if an end has one
 abbrev pub start_text : Option EndTold → List ℕ
 start_text None = []
 start_text (Some told) = told_text 0 told
 
--- the lines of inputs, where this many came before
+-- the lines of inputs, if this many came before
 unfoldable pub tolds_text : ℕ → List EndTold → List ℕ
 tolds_text taken [] = []
 tolds_text taken (told ∷ rest) = told_text (taken + 1) told ++ tolds_text (taken + 1) rest

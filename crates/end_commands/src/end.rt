@@ -1,5 +1,5 @@
-//! A command over one end: its settings are read and then what comes to it, and each input is answered before the next
-//! line is asked for. Above their machines the commands `peer` and `server` are one.
+//! A command over one end: its settings are read and then its inputs, and each input is answered before the next line
+//! is read. But for their machines the commands `peer` and `server` are the same.
 
 ghost use Rattle.std.specs.Prelude.{◌≡◌, false, IfOk};
 ghost use Rattle.answer_text.specs.Writes.{Appends};
@@ -17,7 +17,7 @@ use octet_io::{Failed, Sink};
 /// The most inputs of an end.
 const MAX_INPUTS: u32 = 10_000;
 
-/// A text of an end on its way: what has been read of it, and the end from the line `events` on.
+/// A text of an end that is being read: what has been read of it, and the end from the line `events` on.
 #[derive(Drop)]
 pub struct End<M, E> {
     pub(crate) reader: EndReader,
@@ -26,9 +26,9 @@ pub struct End<M, E> {
     pub(crate) pipe: Option<EndPipe<E>>,
     /// How many inputs were taken.
     taken: u32,
-    /// Where the end writes the packet that it sends.
+    /// The packet that the end sends.
     pub(crate) packet: Packet,
-    /// Where it writes the records of its tags.
+    /// The records of its tags.
     pub(crate) tags: Tags,
 }
 
@@ -144,7 +144,7 @@ impl<M, E: Begins<M>> End<M, E> {
     }
 }
 
-/// An input comes to the end, and the lines of what it does are written, with this number.
+/// Passes an input to the end, and writes the lines of what it does, with this number.
 fn tell<E: Machine, W: Sink>(
     pipe: &mut EndPipe<E>,
     sink: &mut W,

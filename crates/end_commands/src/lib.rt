@@ -1,5 +1,5 @@
-//! The commands over one end alone: `peer` and `server`, which take what comes to the end line by line and answer each
-//! line before they ask for the next.
+//! The commands over one end alone: `peer` and `server`, which read the end's inputs line by line and answer each line
+//! before they read the next.
 #![tactic(auto)]
 
 mod end;

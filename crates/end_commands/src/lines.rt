@@ -1,5 +1,5 @@
-//! The lines that tell what an end does. Each call answers `Failed` exactly where a write of the sink failed; a front of the
-//! lines was then appended.
+//! The lines that say what an end does. Each call answers `Failed` exactly if a write of the sink failed; a prefix of
+//! the lines was then appended.
 
 ghost use Rattle.std.specs.Prelude.{Some, None, if◌then◌else◌};
 ghost use Rattle.eap_method.specs.declared.tags.Tags.{Tags};
@@ -34,7 +34,7 @@ pub fn write_step<W: Sink>(
     }
 }
 
-/// Writes the last lines: where the end stands, and `end`.
+/// Writes the last lines: the end's state, and `end`.
 #[tactic(auto, unfolding(crate::specs::EndText::last_text))]
 pub fn write_last<W: Sink>(sink: &mut W, state: State) -> Result<(), Failed>
     ensures { Appends W.written W.write_faults W.last_write_fault result sink.old sink.new (last_text state) }
@@ -100,7 +100,7 @@ fn write_packet<W: Sink>(sink: &mut W, number: u32, octets: &[u8]) -> Result<(),
     )
 }
 
-/// Writes the names of the keys of a report that the end first holds, if there is one.
+/// Writes the names of the keys of a report that the end first has, if there is one.
 fn write_keys<W: Sink>(sink: &mut W, number: u32, named: &Option<Report>) -> Result<(), Failed>
     ensures { Appends W.written W.write_faults W.last_write_fault result sink.old sink.new (keys_text number named.now) }
 {

@@ -1,4 +1,4 @@
-//! The command `peer`: the peer alone, over the lines that come to it.
+//! The command `peer`: the peer alone, over the lines of its text.
 
 ghost use Rattle.std.specs.Prelude.{◌≡◌};
 ghost use Rattle.scenario_text.specs.Valid.{IsValidPeer};
@@ -14,7 +14,7 @@ use login_setup::PeerSetup;
 use octet_io::{Sink, Source};
 use peer_machine::PeerMachine;
 
-/// The peer of settings that a text gives, to which nothing has come. It has an object of both methods.
+/// The peer of settings that a text gives, which has had no input. It has an object of both methods.
 pub fn peer_of<M: PeerMethod>(setup: PeerSetup, methods: Vec<M>) -> PeerPipe<M>
     requires valid { IsValidPeer setup }
     requires both { HasBothPeers M.peer_shown methods.items }
@@ -45,8 +45,8 @@ impl<M: PeerMethod> Begins<M> for PeerMachine<M> {
     }
 }
 
-/// Reads the settings of a peer and then what comes to it, and writes what it does at each input, before the next line is
-/// asked for. The objects are one of each method. It takes no memory.
+/// Reads the settings of a peer and then its inputs, and writes what it does at each input, before the next line is
+/// read. The objects are one of each method. It allocates no memory.
 pub fn answer_peer<M: PeerMethod, S: Source, W: Sink>(
     source: &mut S,
     sink: &mut W,

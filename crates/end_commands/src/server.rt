@@ -1,4 +1,4 @@
-//! The command `server`: the stand-alone server alone, over the lines that come to it.
+//! The command `server`: the stand-alone server alone, over the lines of its text.
 
 ghost use Rattle.std.specs.Prelude.{◌≡◌, ◌≤◌};
 ghost use Rattle.scenario_text.specs.Valid.{IsValidServer};
@@ -55,8 +55,8 @@ impl<M: ServerMethod> Begins<M> for StandAloneServer<M> {
     }
 }
 
-/// Reads the settings of a server and then what comes to it, and writes what it does at each input, before the next line is
-/// asked for. The objects are one of each method. It takes no memory.
+/// Reads the settings of a server and then its inputs, and writes what it does at each input, before the next line is
+/// read. The objects are one of each method. It allocates no memory.
 pub fn answer_server<M: ServerMethod, S: Source, W: Sink>(
     source: &mut S,
     sink: &mut W,

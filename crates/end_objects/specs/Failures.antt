@@ -1,4 +1,4 @@
--- Where a login has failed within its method.
+-- Whether a login has failed within its method.
 use Rattle.std.specs.Prelude.{Bool}
 use Rattle.eap_method.specs.Peer.{PeerShown}
 use Rattle.eap_method.specs.Peer as peers

@@ -1,4 +1,4 @@
--- Where a login has failed within its method.
+-- Whether a login has failed within its method.
 pub mod Failures
 -- The nonces of a login that has succeeded, by either method.
 pub mod Nonces

@@ -25,7 +25,7 @@ abbrev pub if_gpsk : Option gpsk_declared.Nonces → Option Nonces
 if_gpsk None = None
 if_gpsk (Some nonces) = Some (of_gpsk nonces)
 
--- those that an object holds
+-- those of an object
 unfoldable pub peer_nonces : PeerShown → Option Nonces
 peer_nonces (peers.psk view) = if_psk (psk.peer_nonces view)
 peer_nonces (peers.gpsk view) = if_gpsk (gpsk.peer_nonces view)

@@ -13,7 +13,7 @@ use Rattle.end_objects.specs.declared.refusals.Refusal.TheVariants as refusal
 abbrev pub settings_size : ℕ
 settings_size = 80
 
--- a reason where it applies, else those that follow
+-- a reason if it applies, else those that follow
 abbrev pub refuse_if : Bool → Refusal → Option Refusal → Option Refusal
 refuse_if applies reason others = if applies then Some reason else others
 
@@ -21,20 +21,20 @@ refuse_if applies reason others = if applies then Some reason else others
 abbrev pub has_other_size : SettingsValue → Bool
 has_other_size told = not (told.size == settings_size)
 
--- whether a 0 stands before another number
+-- whether a 0 precedes another number
 abbrev pub has_gap : List ℕ → Bool
 has_gap [] = false
 has_gap (number ∷ rest) = if number == 0 then list_any is_set rest else has_gap rest
 
--- whether the methods are others than the two, or one stands twice
+-- whether the methods are others than the two, or one occurs twice
 unfoldable pub has_bad_methods : SettingsValue → Bool
 has_bad_methods told = has_gap told.methods || not (are_kinds (kinds_of told))
 
--- whether the suites are others than 1 and 2, or one stands twice
+-- whether the suites are others than 1 and 2, or one occurs twice
 unfoldable pub has_bad_suites : SettingsValue → Bool
 has_bad_suites told = has_gap told.suites || not (are_suites (suites_of told))
 
--- whether a name has octets, and no more than a field of it takes
+-- whether a name has octets, and no more than a field of it has room for
 abbrev pub is_name : List ℕ → Bool
 is_name [] = false
 is_name (octet ∷ rest) = nat_le (length (octet ∷ rest)) max_name
@@ -48,11 +48,11 @@ unfoldable pub has_keys : List ℕ → SettingsValue → Bool
 has_keys wanted told =
     serves wanted psk_kind (key_of told.psk_key) && serves wanted gpsk_kind (key_of told.gpsk_key)
 
--- whether there is a key exactly where there is a user
+-- whether there is a key exactly if there is a user
 unfoldable pub has_key_of_user : SettingsValue → Bool
 has_key_of_user told = if is_filled told.other then is_filled (keyed_kinds told) else not (is_filled (keyed_kinds told))
 
--- the first reason to refuse a peer's settings; no name stands for any server
+-- the first reason to refuse a peer's settings; no name means any server
 unfoldable pub peer_refusal : SettingsValue → Option Refusal
 peer_refusal told =
     refuse_if (has_other_size told) refusal.OtherSize (
@@ -62,7 +62,7 @@ peer_refusal told =
     refuse_if (has_long_other told) refusal.BadOther (
     refuse_if (not (has_keys (kinds_of told) told)) refusal.BadKey None)))))
 
--- the first reason to refuse a server's settings; no name stands for no user
+-- the first reason to refuse a server's settings; no name means no user
 unfoldable pub server_refusal : SettingsValue → Option Refusal
 server_refusal told =
     refuse_if (has_other_size told) refusal.OtherSize (

@@ -10,7 +10,7 @@ use Rattle.eap_method.specs.declared.values.Credential.{Credential}
 use Rattle.eap_method.specs.declared.values.ServerSide.{ServerSide}
 use Rattle.end_objects.specs.declared.settings.Settings.{Settings}
 
--- what an end is told
+-- the configuration of an end
 pub record SettingsValue : Type 0 where
   pub size : ℕ
   pub name : List ℕ
@@ -35,7 +35,7 @@ settings_of told = record {
   barred = told.barred;
 }
 
--- these numbers or, where there are none, others
+-- these numbers or, if there are none, others
 abbrev pub or_else : List ℕ → List ℕ → List ℕ
 or_else [] others = others
 or_else (number ∷ rest) others = number ∷ rest
@@ -45,7 +45,7 @@ abbrev pub listed : List ℕ → List ℕ
 listed [] = []
 listed (number ∷ rest) = if number == 0 then [] else number ∷ listed rest
 
--- a method, where there is a key for it
+-- a method, if there is a key for it
 abbrev pub kind_if : List ℕ → ℕ → List ℕ
 kind_if [] kind = []
 kind_if (octet ∷ rest) kind = kind ∷ []
@@ -54,11 +54,11 @@ kind_if (octet ∷ rest) kind = kind ∷ []
 unfoldable pub keyed_kinds : SettingsValue → List ℕ
 keyed_kinds told = kind_if told.gpsk_key gpsk_kind ++ kind_if told.psk_key psk_kind
 
--- the methods of the field or, where it has none, those for which there is a key
+-- the methods of the field or, if it has none, those for which there is a key
 unfoldable pub named_kinds : SettingsValue → List ℕ
 named_kinds told = or_else (listed told.methods) (keyed_kinds told)
 
--- the methods of an end: where none is named, both
+-- the methods of an end: if none is named, both
 unfoldable pub kinds_of : SettingsValue → List ℕ
 kinds_of told = or_else (named_kinds told) (gpsk_kind ∷ psk_kind ∷ [])
 
@@ -74,7 +74,7 @@ suites_of told = or_else (listed told.suites) (1 ∷ 2 ∷ [])
 abbrev pub key_for : SettingsValue → ℕ → List ℕ
 key_for told kind = if kind == psk_kind then told.psk_key else told.gpsk_key
 
--- a key, where there are octets of it
+-- a key, if there are octets of it
 abbrev pub key_of : List ℕ → Option (List ℕ)
 key_of [] = None
 key_of (octet ∷ rest) = Some (octet ∷ rest)
@@ -83,7 +83,7 @@ key_of (octet ∷ rest) = Some (octet ∷ rest)
 abbrev pub is_set : ℕ → Bool
 is_set field = not (field == 0)
 
--- a server of this name alone, or any where it is empty
+-- a server of this name alone, or any if it is empty
 abbrev pub accepted : List ℕ → Accepts
 accepted [] = Any
 accepted (octet ∷ rest) = One (octet ∷ rest)

@@ -1,4 +1,4 @@
-//! The objects of methods, as a machine takes them.
+//! Making the objects of methods, as a machine takes them.
 
 ghost use Rattle.std.specs.Prelude.{◌≡◌, ◌++◌, true, map, IfOk, OnOk, IsTrue};
 ghost use Rattle.std.specs.List.{list_all};

@@ -15,16 +15,15 @@ use eap_base::{GPSK_KIND, MAX_NAME, PSK_KIND, is_among};
 pub enum Refusal {
     /// The struct has another size than [`SETTINGS_SIZE`].
     OtherSize,
-    /// A method is neither 47 nor 51, one stands twice, or a 0 stands before one; or a peer has neither a key nor a
-    /// method.
+    /// A method is neither 47 nor 51, one occurs twice, or a 0 precedes one; or a peer has neither a key nor a method.
     NoMethod,
-    /// A suite is neither 1 nor 2, one stands twice, or a 0 stands before one.
+    /// A suite is neither 1 nor 2, one occurs twice, or a 0 precedes one.
     NoSuite,
     /// The end's own name has no octet, or over 253.
     BadName,
     /// The other end's name has over 253 octets; or a user has none.
     BadOther,
-    /// A key has another size than its method takes; a peer has none for one of its methods; a user has none at all,
+    /// A key has another size than its method requires; a peer has none for one of its methods; a user has none at all,
     /// or a server has one without a user.
     BadKey,
     /// A Request would be sent again over 10 times.
@@ -38,7 +37,7 @@ fn has_other_size(settings: &Settings) -> bool
     settings.size != SETTINGS_SIZE
 }
 
-/// Whether a 0 stands before another number.
+/// Whether a 0 precedes another number.
 fn has_gap(field: &[u8; 2]) -> bool
     ensures { result ≡ has_gap field.now }
 {
@@ -46,7 +45,7 @@ fn has_gap(field: &[u8; 2]) -> bool
     first == 0 && second != 0
 }
 
-/// Whether the methods are others than the two, one stands twice, or a 0 stands before one.
+/// Whether the methods are others than the two, one occurs twice, or a 0 precedes one.
 #[tactic(auto, unfolding(crate::specs::Refusals::has_bad_methods))]
 fn has_bad_methods(settings: &Settings) -> bool
     ensures { result ≡ has_bad_methods (settings_of settings.now) }
@@ -54,7 +53,7 @@ fn has_bad_methods(settings: &Settings) -> bool
     has_gap(&settings.methods) || !are_kinds(kinds_of(settings).as_slice())
 }
 
-/// Whether the suites are others than 1 and 2, one stands twice, or a 0 stands before one.
+/// Whether the suites are others than 1 and 2, one occurs twice, or a 0 precedes one.
 #[tactic(auto, unfolding(crate::specs::Refusals::has_bad_suites))]
 fn has_bad_suites(settings: &Settings) -> bool
     ensures { result ≡ has_bad_suites (settings_of settings.now) }
@@ -72,7 +71,7 @@ fn is_name(name: &[u8]) -> bool
     }
 }
 
-/// Whether the key fits the method or, where there is no octet of it, the method isn't wanted.
+/// Whether the key fits the method or, if there is no octet of it, the method isn't wanted.
 fn serves(wanted: &[u8], kind: u8, key: &[u8]) -> bool
     ensures { result ≡ serves wanted.now kind (key_of key.now) }
 {
@@ -90,7 +89,7 @@ fn has_keys(wanted: &[u8], settings: &Settings) -> bool
     serves(wanted, PSK_KIND, settings.psk_key) && serves(wanted, GPSK_KIND, settings.gpsk_key)
 }
 
-/// Whether there is a key exactly where there is a user.
+/// Whether there is a key exactly if there is a user.
 #[tactic(auto, unfolding(crate::specs::Refusals::has_key_of_user))]
 fn has_key_of_user(settings: &Settings) -> bool
     ensures { result ≡ has_key_of_user (settings_of settings.now) }

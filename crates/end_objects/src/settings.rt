@@ -15,30 +15,30 @@ use login_setup::{Accepts, PeerSetup, ServerSetup, User, Users};
 /// The octets of [`Settings`] on 64 bits.
 pub const SETTINGS_SIZE: usize = 80;
 
-/// What an end is told: its own name, and of the other end the name and the keys that both share. A field that is
-/// 0, or has no octets, has its default. Of a slice without octets nothing is read.
+/// The configuration of an end: its own name, and of the other end the name and the keys that both share. A field
+/// that is 0, or has no octets, has its default. Nothing is read from a slice without octets.
 #[repr(C)]
 pub struct Settings<'a> {
     /// [`SETTINGS_SIZE`]. A caller that knows another struct has another number here.
     pub size: usize,
     /// The end's own name, of 1 to 253 octets.
     pub name: &'a [u8],
-    /// The other end's name, of at most 253 octets. At a peer the one server that it accepts, and any where there
-    /// are none; at a server its one user, and no user where there are none.
+    /// The other end's name, of at most 253 octets. At a peer the one server that it accepts, and any if there are
+    /// none; at a server its one user, and no user if there are none.
     pub other: &'a [u8],
     /// The key for EAP-PSK, of 16 octets, or none.
     pub psk_key: &'a [u8],
     /// The key for EAP-GPSK, of 32 to 64 octets, or none.
     pub gpsk_key: &'a [u8],
-    /// The methods in their order, 47 (EAP-PSK) or 51 (EAP-GPSK), each at most once, with zeros behind them. Where
-    /// there are none: those for which there is a key, EAP-GPSK first, or both where there is no key.
+    /// The methods in their order, 47 (EAP-PSK) or 51 (EAP-GPSK), each at most once, with zeros behind them. If
+    /// there are none: those for which there is a key, EAP-GPSK first, or both if there is no key.
     pub methods: [u8; 2],
-    /// The suites of EAP-GPSK in their order, 1 or 2, each at most once, with zeros behind them. Where there are
-    /// none: 1, then 2.
+    /// The suites of EAP-GPSK in their order, 1 or 2, each at most once, with zeros behind them. If there are none:
+    /// 1, then 2.
     pub suites: [u8; 2],
-    /// 1 where the end reads Expanded Types (RFC 3748 section 5.7); any number but 0 is taken as 1.
+    /// 1 if the end reads Expanded Types (RFC 3748 section 5.7); any number but 0 is taken as 1.
     pub expanded: u8,
-    /// 1 where a server refuses its user by a protected failure; any number but 0 is taken as 1.
+    /// 1 if a server refuses its user by a protected failure; any number but 0 is taken as 1.
     pub barred: u8,
 }
 
@@ -56,7 +56,7 @@ fn listed(field: &[u8; 2]) -> Octets<2>
     }
 }
 
-/// These numbers or, where there are none, others.
+/// These numbers or, if there are none, others.
 fn or_else(numbers: Octets<2>, others: &[u8]) -> Octets<2>
     requires { length others.now ≤ 2 }
     ensures { result ≡ or_else numbers others.now }
@@ -81,7 +81,7 @@ pub fn keyed_kinds(settings: &Settings) -> Kinds
     }
 }
 
-/// The methods that the settings name or, where they name none, those for which there is a key.
+/// The methods that the settings name or, if they name none, those for which there is a key.
 #[tactic(auto, unfolding(crate::specs::Settings::named_kinds))]
 pub(crate) fn named_kinds(settings: &Settings) -> Kinds
     ensures { result ≡ named_kinds (settings_of settings.now) }
@@ -129,7 +129,7 @@ pub fn key_for<'a>(settings: &Settings<'a>, kind: u8) -> &'a [u8]
     }
 }
 
-/// The key, where there are octets of it.
+/// The key, if there are octets of it.
 fn key_of(octets: &[u8]) -> Option<Secret>
     requires { length octets.now ≤ 64 }
     ensures { result ≡ key_of octets.now }
@@ -140,7 +140,7 @@ fn key_of(octets: &[u8]) -> Option<Secret>
     }
 }
 
-/// A server of this name alone, or any where it is empty.
+/// A server of this name alone, or any if it is empty.
 fn accepts(server: &[u8]) -> Accepts
     requires { length server.now ≤ max_name }
     ensures { result ≡ accepted server.now }
@@ -197,7 +197,7 @@ fn add_user(users: &mut Users, settings: &Settings, kind: u8)
     });
 }
 
-/// Adds the other end as a user of each method for which there is a key, where there are no users.
+/// Adds the other end as a user of each method for which there is a key, if there are no users.
 #[tactic(auto, unfolding(crate::specs::Settings::keyed_kinds))]
 fn add_keyed(users: &mut Users, settings: &Settings)
     requires none { users.old ≡ [] }
@@ -215,7 +215,7 @@ fn add_keyed(users: &mut Users, settings: &Settings)
     }
 }
 
-/// Adds the users that the settings give, where there are none.
+/// Adds the users that the settings give, if there are none.
 #[tactic(auto, unfolding(crate::specs::Settings::users_of))]
 fn add_users(users: &mut Users, settings: &Settings)
     requires none { users.old ≡ [] }
@@ -229,7 +229,7 @@ fn add_users(users: &mut Users, settings: &Settings)
 }
 
 /// The users of a server: the other end, once for each method for which there is a key, that of EAP-GPSK first; none
-/// where the settings name no other end.
+/// if the settings name no other end.
 #[tactic(auto, using(crate::proofs::Taken::users_have_kinds, crate::proofs::Taken::users_have_keys))]
 pub fn users_of(settings: &Settings) -> Users
     requires other { IsSoundOther (settings_of settings.now) }

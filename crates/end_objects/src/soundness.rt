@@ -10,10 +10,10 @@ ghost use Rattle.end_objects.specs.Soundness.{is_suite, serves, is_sound_user};
 use eap_base::{GPSK_KIND, PSK_KIND, Secret, is_among};
 use login_setup::{PeerSetup, ServerSetup, User};
 
-/// Whether a peer's machine and world take these settings, as `PeerMachine::new` and `World::new` ask. Its methods are
-/// of 47 (EAP-PSK) and 51 (EAP-GPSK), each at most once; its suites of 1 and 2, at least one and each at most once;
-/// a key for 47 has 16 octets, one for 51 has 32 to 64, also where the method isn't allowed; and it has a key for each
-/// method that it allows.
+/// Whether a peer's machine and world accept these settings, as `PeerMachine::new` and `World::new` ask. Its methods
+/// are of 47 (EAP-PSK) and 51 (EAP-GPSK), each at most once; its suites of 1 and 2, at least one and each at most
+/// once; a key for 47 has 16 octets, one for 51 has 32 to 64, also if the method isn't allowed; and it has a key
+/// for each method that it allows.
 pub fn is_sound_peer(setup: &PeerSetup) -> bool
     ensures { IsTrue result ↔ (IsSoundPeer setup.now × HasKeys setup.now) }
 {
@@ -24,7 +24,7 @@ pub fn is_sound_peer(setup: &PeerSetup) -> bool
         && serves(allowed, GPSK_KIND, &setup.psk51)
 }
 
-/// Whether a server's machine and world take these settings, as `ServerMachine::new`, `ServerMachine::in_role`,
+/// Whether a server's machine and world accept these settings, as `ServerMachine::new`, `ServerMachine::in_role`,
 /// `Backend::new` and `World::new` ask. Its methods are of 47 (EAP-PSK) and 51 (EAP-GPSK), each at most once; its
 /// suites of 1 and 2, at least one and each at most once; and each user is of one of these two methods, which the
 /// server needn't propose, and has a key of 16 octets for 47, or of 32 to 64 for 51.
@@ -44,7 +44,7 @@ fn is_kind(kind: u8) -> bool
     kind == PSK_KIND || kind == GPSK_KIND
 }
 
-/// Whether the key has the size that the method of this Type takes; false for any other Type.
+/// Whether the key has the size that the method of this Type requires; false for any other Type.
 pub(crate) fn fits(kind: u8, psk: &[u8]) -> bool
     ensures { result ≡ fits_kind kind psk.now }
 {
@@ -81,7 +81,7 @@ fn all_suites(suites: &[u8]) -> bool
     suites.iter().all(|suite| *suite == 1 || *suite == 2)
 }
 
-/// Whether no number stands twice.
+/// Whether no number occurs twice.
 fn are_distinct(numbers: &[u8]) -> bool
     ensures { result ≡ are_distinct numbers.now }
 {
@@ -91,7 +91,7 @@ fn are_distinct(numbers: &[u8]) -> bool
     }
 }
 
-/// Whether the key fits the method or, where there is none, the method isn't allowed.
+/// Whether the key fits the method or, if there is none, the method isn't allowed.
 fn serves(allowed: &[u8], kind: u8, key: &Option<Secret>) -> bool
     ensures { result ≡ serves allowed.now kind key.now }
 {

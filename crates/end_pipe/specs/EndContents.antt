@@ -1,4 +1,4 @@
--- The lines of an end's text: what each says, where no fault keeps it from that.
+-- The lines of an end's text: what each says, if no fault keeps it from that.
 use Rattle.std.specs.Prelude.{ℕ, List}
 use Rattle.text_tables.specs.Fields.{word_in, octets_of}
 use Rattle.scenario_text.specs.Contents as scenario
@@ -17,7 +17,7 @@ pub data Entry : Type 0 where
   Comes : EndInput → Entry
   End : Entry
 
--- a setting says what it says in a scenario; no other line of a scenario stands in the tables of both ends
+-- a setting says what it says in a scenario; no other line of a scenario is in the tables of both ends
 abbrev pub setting_entry : scenario.Entry → Entry
 setting_entry (scenario.Set v) = Set v
 setting_entry other = End
@@ -33,7 +33,7 @@ entry_of word.AltAccept ws = Comes inputs.AltAccept
 entry_of word.AltReject ws = Comes inputs.AltReject
 entry_of word.End ws = End
 
--- what is told of a line, with the input that was written where it tells of one
+-- what a line contains, with the input that was written if it has one
 abbrev pub entry_with : told.EndEntry → EndInput → Entry
 entry_with (told.TheVariants.Set v) input = Set v
 entry_with told.TheVariants.Events input = Events

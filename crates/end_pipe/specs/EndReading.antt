@@ -47,7 +47,7 @@ ReadLine = texts.ReadLine Item EndReading
 abbrev pub said : Item → Role → Phase → Settings → ReadLine
 said item role p s = texts.said item (record { role = role; phase = p; settings = s })
 
--- the answer of a reader, with the input that was written where it tells of one
+-- the answer of a reader, with the input that was written if it has one
 abbrev pub item_with : answer.EndItem → EndReading → EndInput → Item
 item_with answer.TheVariants.Nothing after input = Nothing
 item_with answer.TheVariants.Ready after input = Ready
@@ -64,7 +64,7 @@ abbrev pub AreWhole : Role → Settings → Type 0
 AreWhole Server s = IsOk (server_setup_of s)
 AreWhole Peer s = IsOk (peer_setup_of s)
 
--- where the answer says so
+-- if the answer says so
 abbrev pub HasSetup : answer.EndItem → EndReading → Type 0
 HasSetup answer.TheVariants.Ready after = AreWhole after.role after.settings
 HasSetup other after = Unit {0}
@@ -73,7 +73,7 @@ HasSetup other after = Unit {0}
 abbrev pub begun : Role → List ℕ → Option EndReading
 begun role line = if bytes_eq line (codes "eap-end 1") then Some (record { role = role; phase = phase.Settings; settings = no_settings }) else None
 
--- settings stand before the line `events`, inputs and the line `end` after it
+-- settings come before the line `events`, inputs and the line `end` after it
 abbrev pub part_of : Entry → Part
 part_of (entry.Set v) = part.Setting
 part_of entry.Events = part.Opening
@@ -125,7 +125,7 @@ read_line r line = texts.read_line row_of end r line
 abbrev pub finish_of : EndReading → Result (Unit {0}) LineFault
 finish_of r = phases.finish_of r.phase
 
--- what is told of a line is within its limits
+-- what a line contains is within its limits
 abbrev pub IsValidTold : told.EndEntry → Type 0
 IsValidTold (told.TheVariants.Set v) = IsValidSetting v
 IsValidTold other = Unit {0}

@@ -1,4 +1,4 @@
--- One end over its inputs: what it does at each of them, and where it then stands.
+-- One end over its inputs: what it does at each of them, and its state then.
 use Rattle.std.specs.Prelude.{◌≡◌, ℕ, List, [], ◌∷◌, ◌++◌, Bool, true, false, ◌||◌, if◌then◌else◌, Option, Some, None, is_some, unwrap_or, Result, Ok}
 use Rattle.login_setup.specs.declared.setup.PeerSetup.{PeerSetup}
 use Rattle.login_setup.specs.declared.setup.ServerSetup.{ServerSetup}
@@ -25,24 +25,24 @@ use Rattle.end_pipe.specs.Inputs.{peer_input, server_input, is_skipped}
 use Rattle.end_pipe.specs.declared.input.EndInput.{EndInput}
 use Rattle.end_pipe.specs.declared.told.EndStep as brief
 
--- what an end does at its start or at an input: its machine's step, whether the input was skipped, and a report that the end
--- first holds
+-- what an end does at its start or at an input: its machine's step, whether the input was skipped, and a report that
+-- the end first has
 pub record EndTold : Type 0 where
   pub step : Step
   pub skipped : Bool
   pub named : Option Report
 
--- what a call tells, with the packet and the records that it wrote
+-- the result of a call, with the packet and the records that it wrote
 abbrev pub told_with : brief.EndStep → List ℕ → Tags → EndTold
 told_with told packet tags =
     record { step = step_with told.step packet tags; skipped = told.skipped; named = told.named }
 
--- an end: what its machine is, and whether it has held a report
+-- an end: what its machine is, and whether it has had a report
 pub record EndNow (N : Type 0) : Type 0 where
   pub now : N
   pub held : Bool
 
--- what is told of an input, and the end after it
+-- the result of an input, and the end after it
 pub record EndOutcome (N : Type 0) : Type 0 where
   pub told : EndTold
   pub after : EndNow N
@@ -50,11 +50,11 @@ pub record EndOutcome (N : Type 0) : Type 0 where
 abbrev pub outcome : {N : Type 0} → EndTold → EndNow N → EndOutcome N
 outcome told after = record { told = told; after = after }
 
--- a skipped input changes nothing, and nothing else is told of it
+-- a skipped input changes nothing, and its result says nothing else
 abbrev pub skips : {N : Type 0} → EndNow N → EndOutcome N
 skips e = outcome (record { step = enters [] no_tags; skipped = true; named = None }) e
 
--- a report is named where the end first holds one
+-- a report is named if the end first has one
 abbrev pub first_report : Bool → Option Report → Option Report
 first_report held report = if held then None else report
 
@@ -66,19 +66,19 @@ pub record Moved (N : Type 0) : Type 0 where
 abbrev pub moved : {N : Type 0} → Step → N → Moved N
 moved step after = record { step = step; after = after }
 
--- what settings begin: an end, and what is told of its start, where it has one
+-- what settings begin: an end, and the result of its start, if it has one
 pub record Begun (N : Type 0) : Type 0 where
   pub told : Option EndTold
   pub after : EndNow N
 
--- a machine: what settings begin, what it does at each input, the state in which it stands, and what it reports
+-- a machine: what settings begin, what it does at each input, its state, and what it reports
 pub record MachineTable (N : Type 0) : Type 0 where
   pub begins : Settings → Result (Begun N) LineFault
   pub moves : N → EndInput → Moved N
   pub state : N → State
   pub reports : N → Option Report
 
--- what the machine did is told, and a report is named where the end first holds one
+-- the result says what the machine did, and a report is named if the end first has one
 abbrev pub goes : {N : Type 0} → (N → Option Report) → Bool → Moved N → EndOutcome N
 goes reports held out =
     let report = reports out.after in
@@ -148,7 +148,7 @@ server_step = end_step server_table
 
 -- an end that does this at an input
 module _ {N : Type 0} (step : EndNow N → EndInput → EndOutcome N) where
-  -- where it stands after inputs, one after the other, and what it tells of each
+  -- its state after inputs, one after the other, and the result of each
   unfoldable pub end_after : EndNow N → List EndInput → EndNow N
   end_after e [] = e
   end_after e (input ∷ rest) = end_after (step e input).after rest
@@ -157,11 +157,11 @@ module _ {N : Type 0} (step : EndNow N → EndInput → EndOutcome N) where
   told_of e [] = []
   told_of e (input ∷ rest) = (step e input).told ∷ told_of (step e input).after rest
 
-  -- an end that has begun so stands for inputs where it is as these have left it
+  -- an end that has begun so has had these inputs if it is as they have left it
   abbrev pub StandsFor : EndNow N → List EndInput → EndNow N → Type 0
   StandsFor begun inputs e = e ≡ end_after begun inputs
 
-  -- one more input, and what is told of it: that is the next of what is told of the inputs, and the end then stands for them all
+  -- one more input, and its result: that is the next of the results of the inputs, and the end has then had them all
   pub record GoesOn (begun : EndNow N) (inputs : List EndInput) (input : EndInput) (told : EndTold) (after : EndNow N) : Type 0 where
     pub next : told_of begun (inputs ++ input ∷ []) ≡ told_of begun inputs ++ told ∷ []
     pub stands : StandsFor begun (inputs ++ input ∷ []) after
@@ -173,7 +173,7 @@ PeerStandsFor setup = StandsFor peer_step (peer_begun setup)
 abbrev pub ServerStandsFor : ServerSetup → ℕ → ℕ → List EndInput → EndNow ServerNow → Type 0
 ServerStandsFor setup first_id max_retrans = StandsFor server_step (server_begun setup first_id max_retrans)
 
--- a pipe as its fields show it, and what it is, where that of its machine is shown
+-- a pipe as its fields show it, and what it is, if that of its machine is shown
 pub record PipeValue (E : Type 0) : Type 0 where
   pub machine : E
   pub held : Bool

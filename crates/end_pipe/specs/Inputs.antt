@@ -1,4 +1,4 @@
--- What comes to an end, and which input of its machine that is.
+-- The inputs of an end, and which input of its machine each is.
 use Rattle.std.specs.Prelude.{Bool, true, false, ◌&&◌, not, Option, Some, None}
 use Rattle.eap_packet.specs.declared.state.State.{State}
 use Rattle.eap_method.specs.Steps.{is_end}

@@ -15,7 +15,7 @@ use login_setup::Event;
 use scenario_text::{Entry, Keyword, Setting, item_of};
 use text_tables::{octets, word_in};
 
-/// What a line of an end's text holds after its header.
+/// What a line of an end's text contains after its header.
 #[derive(Drop)]
 pub enum EndEntry {
     Set(Setting),

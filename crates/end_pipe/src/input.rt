@@ -1,15 +1,15 @@
-//! What comes to an end.
+//! The inputs of an end.
 
 ghost use Rattle.std.specs.Prelude.{◌≡◌};
 ghost use Rattle.end_pipe.specs.Inputs.{is_octets};
 
 use eap_base::Octets;
 
-/// What comes to an end. Octets come to both, the end of the retransmission timer to the server (RFC 4137 section
+/// The inputs of an end. Octets come to both, the end of the retransmission timer to the server (RFC 4137 section
 /// 5.5), and reports of the lower layer to the peer (section 4.1.1).
 #[derive(Drop)]
 pub enum EndInput {
-    /// Octets come from the other end.
+    /// Octets arrive from the other end.
     Octets(Octets<2000>),
     /// The server's retransmission timer ends.
     Timeout,

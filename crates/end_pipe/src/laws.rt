@@ -2,8 +2,8 @@
 
 ghost use Rattle.end_pipe.specs.EndLaws.{EndLinesAreJudged};
 
-/// A line of an end's text is refused with exactly the first fault that it has where it stands, and taken exactly where
-/// it has none; then it says what its keyword says with its words.
+/// A line of an end's text is refused with exactly the first fault that it has at its place, and accepted exactly if it
+/// has none; then it says what its keyword says with its words.
 pub fn end_lines_are_judged()
     ensures { EndLinesAreJudged }
 {}

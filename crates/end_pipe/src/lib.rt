@@ -1,4 +1,4 @@
-//! One end of a login alone, over inputs: the text that tells its settings and its inputs, read line by line, and the
+//! One end of a login alone, over inputs: the text that gives its settings and its inputs, read line by line, and the
 //! peer and the stand-alone server that take them one after the other.
 #![tactic(auto)]
 

@@ -1,4 +1,4 @@
-//! The peer alone.
+//! The peer of RFC 4137 section 4, alone.
 
 ghost use Rattle.std.specs.Prelude.{◌≡◌, [], map, true};
 ghost use Rattle.login_setup.specs.Setup.{IsSoundPeer, HasKeys};
@@ -17,7 +17,7 @@ use peer_machine::PeerMachine;
 pub type PeerPipe<M> = EndPipe<PeerMachine<M>>;
 
 impl<M: PeerMethod> PeerPipe<M> {
-    /// The peer of these settings, to which nothing has come. Each method that they allow has an object.
+    /// The peer of these settings, which has had no input. Each method that they allow has an object.
     #[tactic(auto, unfolding(crate::specs::EndRun::end_after))]
     pub fn new(setup: PeerSetup, methods: Vec<M>) -> PeerPipe<M>
         requires sound { IsSoundPeer setup }

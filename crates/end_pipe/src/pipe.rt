@@ -1,4 +1,4 @@
-//! One end of a login alone, over what comes to it. Above their machines the peer and the server are one thing.
+//! One end of a login alone, over its inputs: but for its machine the same for the peer and the server.
 
 ghost use Rattle.std.specs.Prelude.{◌≡◌, ◌||◌, List, false, is_some};
 ghost use Rattle.eap_method.specs.Steps.{step_with};
@@ -13,7 +13,7 @@ use eap_method::{Report, Step, Tags, has_ended};
 use eap_packet::State;
 use std::marker::Model;
 
-/// A machine of RFC 4137, as its end has to do with it: the peer's of section 4, or the stand-alone server's of section 5.
+/// A machine of RFC 4137, as its end uses it: the peer's of section 4, or the stand-alone server's of section 5.
 pub trait Machine: Drop {
     ghost use Rattle.end_pipe.specs.EndRun.{MachineTable};
 
@@ -23,7 +23,7 @@ pub trait Machine: Drop {
     /// What this machine is.
     ghost shown: { Self → Now };
 
-    /// What settings begin with such a machine, what it does at each input, where it stands, and what it reports.
+    /// What settings begin with such a machine, what it does at each input, its state, and what it reports.
     ghost table: { MachineTable Now };
 
     /// Whether inputs may come: to the server once it has started, to the peer always.
@@ -38,7 +38,7 @@ pub trait Machine: Drop {
             ≡ moved (step_with result packet.new tags.new) (shown self.new) }
         ensures going { is_going self.new };
 
-    /// The state in which the machine stands.
+    /// The machine's state.
     fn state(&self) -> State
         ensures { result ≡ table.state (shown self.now) };
 
@@ -47,7 +47,7 @@ pub trait Machine: Drop {
         ensures { result ≡ table.reports (shown self.now) };
 }
 
-/// An end alone. Contracts see its machine, and whether it has held a report.
+/// An end alone. Contracts see its machine, and whether it has had a report.
 #[derive(Drop)]
 pub struct EndPipe<E> {
     pub(crate) machine: E,
@@ -64,9 +64,9 @@ impl<E> Model for EndPipe<E> {
 
 impl<E: Machine> EndPipe<E> {
     /// What comes next to the end, a server's once it has started. The packet that is sent is written into `packet`, the
-    /// records of the tags into `tags`, in place of what was there; without a packet that is sent, nothing counts in
-    /// `packet`. The end of a timer and a report of the lower layer are skipped after the end. The end of a timer is none
-    /// of the peer's inputs, a report of the lower layer none of the server's: it does nothing.
+    /// records of the tags into `tags`, in place of what was there; without a packet that is sent, `packet` is
+    /// unspecified. The end of a timer and a report of the lower layer are skipped after the end. The end of a timer is
+    /// none of the peer's inputs, a report of the lower layer none of the server's: it does nothing.
     pub fn step(&mut self, input: &EndInput, packet: &mut Packet, tags: &mut Tags) -> EndStep
         requires { E.is_going self.old.machine }
         ensures step { end_step E.table (end_now E.shown self.old) input.now
@@ -80,7 +80,7 @@ impl<E: Machine> EndPipe<E> {
         self.step_by_table(input, packet, tags)
     }
 
-    /// The state in which the end stands: IDLE, SUCCESS or FAILURE; a server also in INITIALIZE, before its start, or in
+    /// The end's state: IDLE, SUCCESS or FAILURE; a server also in INITIALIZE, before its start, or in
     /// TIMEOUT_FAILURE.
     pub fn state(&self) -> State
         ensures { result ≡ E.table.state (E.shown self.now.machine) }
@@ -111,7 +111,7 @@ impl<E: Machine> EndPipe<E> {
     }
 }
 
-/// What the machine reports, where its end first holds a report.
+/// What the machine reports, if its end first has a report.
 pub(crate) fn first_report<E: Machine>(held: &mut bool, machine: &E) -> Option<Report>
     ensures named { result ≡ first_report held.old (E.table.reports (E.shown machine.now)) }
     ensures held { held.new ≡ (held.old || is_some (E.table.reports (E.shown machine.now))) }

@@ -1,5 +1,5 @@
 //! Reading an end's text, line by line: its header, its settings, the line `events`, its inputs, the line `end`. After
-//! the header an empty line and one that begins with `#` are passed over.
+//! the header an empty line and one that begins with `#` are ignored.
 
 ghost use Rattle.std.specs.Prelude.{◌≡◌, ◌≤◌, unwrap_or, IfOk, OnErr};
 ghost use Rattle.text_tables.specs.Texts.{answered};
@@ -19,11 +19,11 @@ use text_tables::{LineFault, Part, Phase, Text, read_line};
 /// What a line of an end's text says.
 #[derive(Clone, Copy)]
 pub enum EndItem {
-    /// Nothing that happens: the header, a setting, or a line that is passed over.
+    /// Nothing that happens: the header, a setting, or a line that is ignored.
     Nothing,
     /// The line `events`: the settings are whole, and the reader gives them.
     Ready,
-    /// What comes to the end next: the input that was written.
+    /// The next input of the end, which was written.
     Input,
     /// The line `end`.
     End,
@@ -60,8 +60,8 @@ impl EndReader {
         }
     }
 
-    /// Reads the next line, without its end, and writes its input, if it has one, to `input`. The first fault that the
-    /// line meets refuses it, and then the reader is as it was.
+    /// Reads the next line, without its end, and writes its input, if it has one, to `input`. The line is refused with
+    /// its first fault, and then the reader is as it was.
     #[tactic(auto, unfolding(crate::specs::EndReading::read_line))]
     pub fn line(&mut self, line: &[u8], input: &mut EndInput) -> Result<EndItem, LineFault>
         ensures read { reading.read_line self.old line.now ≡ answered item_with result self.new input.new }
@@ -71,7 +71,7 @@ impl EndReader {
         read_line(self, line, input)
     }
 
-    /// The peer's settings, each within its limits, or `Missing` where a needed one has not come.
+    /// The peer's settings, each within its limits, or `Missing` if a needed one has not come.
     pub fn peer_setup(&self) -> Result<PeerSetup, LineFault>
         ensures value { result ≡ peer_setup_of self.now.settings }
         ensures valid { IfOk result IsValidPeer }
@@ -79,7 +79,7 @@ impl EndReader {
         self.settings.peer()
     }
 
-    /// The server's settings, each within its limits, or `Missing` where a needed one has not come.
+    /// The server's settings, each within its limits, or `Missing` if a needed one has not come.
     pub fn server_setup(&self) -> Result<ServerSetup, LineFault>
         ensures value { result ≡ server_setup_of self.now.settings }
         ensures valid { IfOk result IsValidServer }
@@ -103,14 +103,14 @@ impl EndReader {
         self.settings.max_retrans.unwrap_or(4)
     }
 
-    /// What the end of the input means: `NoHeader` where no line was read, else `Missing` where the line `end` was not.
+    /// What the end of the input means: `NoHeader` if no line was read, else `Missing` if the line `end` was not.
     pub fn finish(&self) -> Result<(), LineFault>
         ensures { result ≡ finish_of self.now }
     {
         self.phase.finish()
     }
 
-    /// True where a setting that the end needs has not come. (By itself, so that no other line makes room for a setup.)
+    /// True if a setting that the end needs has not come. (By itself, so that no other line makes room for a setup.)
     fn lacks_some(&self) -> bool
         ensures { result ≡ lacks_some self.now.role self.now.settings }
     {

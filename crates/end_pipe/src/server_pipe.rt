@@ -1,4 +1,4 @@
-//! The stand-alone server alone.
+//! The stand-alone server of RFC 4137 section 5, alone.
 
 ghost use Rattle.std.specs.Prelude.{◌≡◌, ◌≤◌, [], ℕ, map, true, false};
 ghost use Rattle.login_setup.specs.Setup.{IsSoundServer};

@@ -1,4 +1,4 @@
--- Where a login has failed within the method.
+-- Whether a login has failed within the method.
 use Rattle.std.specs.Prelude.{Bool, true, false, not}
 use Rattle.eap_method.specs.GpskPeer as peer
 use Rattle.eap_method.specs.GpskServer as server

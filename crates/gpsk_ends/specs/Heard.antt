@@ -1,9 +1,9 @@
--- Messages received.
+-- A message in the Type-Data of a packet that is received.
 use Rattle.std.specs.Prelude.{◌≡◌, ℕ, ◌≤◌, List, length}
 use Rattle.eap_packet.specs.Packet.{max_type_data}
 use Rattle.gpsk_messages.specs.Message.{Message, spelled, mac_of, list_of, AreFields}
 
--- the Type-Data of a packet spells the message, whose fields have their sizes
+-- the Type-Data of a packet encodes the message, whose fields have their sizes
 pub record IsHeard (message : Message) (octets : List ℕ) : Type 0 where
   pub spelling : octets ≡ spelled message
   pub fields : AreFields message

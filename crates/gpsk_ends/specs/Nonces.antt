@@ -4,7 +4,7 @@ use Rattle.eap_method.specs.GpskPeer as peer
 use Rattle.eap_method.specs.GpskServer as server
 use Rattle.gpsk_ends.specs.declared.nonces.Nonces.{Nonces}
 
--- RAND_Peer and RAND_Server of a peer's login, and those that a view holds
+-- RAND_Peer and RAND_Server of a peer's login, and those of a view
 abbrev pub peer_nonces_of : peer.Login → Nonces
 peer_nonces_of login = record { rand_p = login.nonce; rand_s = login.rand_s }
 

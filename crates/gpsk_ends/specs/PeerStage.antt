@@ -1,4 +1,4 @@
--- Where a peer of EAP-GPSK stands, and what a call makes of it, as its definition says it.
+-- The state of a peer of EAP-GPSK, and its state after a call, as its definition says it.
 use Rattle.std.specs.Prelude.{ℕ, List, Result, Ok, Err}
 use Rattle.eap_packet.specs.declared.cause.Cause.{Cause}
 use Rattle.eap_method.specs.declared.tags.Tags.{Tags}
@@ -13,18 +13,18 @@ use Rattle.gpsk_ends.specs.declared.peer.stage.Stage.{Stage}
 use Rattle.gpsk_ends.specs.declared.peer.stage.Stage.TheVariants as stage
 use Rattle.gpsk_ends.specs.declared.peer.offer.Offer.{Offer}
 
--- where the peer stands in a login
+-- the peer's state in a login
 abbrev pub view_in : Login → Phase → View
 view_in login phase.Wait = wait login
 view_in login (phase.Over good) = over login good
 
--- where the peer stands
+-- the peer's state
 abbrev pub view_of : Stage → View
 view_of stage.Unset = unset
 view_of (stage.Fresh own) = fresh own.cred own.nonce
 view_of (stage.Login login phase) = view_in login phase
 
--- a turn with what it wrote, and where the peer stands after it
+-- a turn with what it wrote, and the peer's state after it
 abbrev pub outcome_with : brief.PeerTurn → List ℕ → Tags → View → PeerOutcome View
 outcome_with turn packet tags after = record { turn = peer_turn_with turn packet tags; after = after }
 
@@ -32,7 +32,7 @@ outcome_with turn packet tags after = record { turn = peer_turn_with turn packet
 abbrev pub login_with : Credential → List ℕ → Offer → Login
 login_with cred nonce offer = record { cred = cred; nonce = nonce; id_s = offer.id_s.now; rand_s = offer.rand_s; suite = offer.suite }
 
--- what a peer that has begun makes of the offer that it takes, or of the cause why it takes none
+-- what a peer that has begun makes of the offer that it accepts, or of the cause why it accepts none
 abbrev pub offered : Credential → List ℕ → ℕ → Result Offer Cause → PeerOutcome View
 offered cred nonce id (Err cause) = discarded (fresh cred nonce) cause
 offered cred nonce id (Ok offer) = answers (login_with cred nonce offer) id offer.list.now

@@ -1,4 +1,4 @@
--- Where a server of EAP-GPSK stands, and what a call makes of it, as its definition says it.
+-- The state of a server of EAP-GPSK, and its state after a call, as its definition says it.
 use Rattle.std.specs.Prelude.{ℕ, List, Bool, true, false, Result}
 use Rattle.eap_packet.specs.declared.cause.Cause.{Cause}
 use Rattle.gpsk_messages.specs.Message.{Message}
@@ -18,26 +18,26 @@ use Rattle.gpsk_ends.specs.declared.server.stage.Stage.TheVariants as stage
 use Rattle.gpsk_ends.specs.declared.server.stage.Answered.{Answered}
 use Rattle.gpsk_ends.specs.declared.server.stage.Answered.TheVariants as answered
 
--- where the server stands without a login
+-- the server's state without a login
 abbrev pub view_alone : ServerSide → List ℕ → Alone → View
 view_alone own nonce alone.Begun = begun own nonce
 view_alone own nonce alone.Asked = asked own nonce
 view_alone own nonce alone.Refusing = refusing own nonce
 view_alone own nonce alone.Refused = refused own nonce
 
--- where the server stands in a login
+-- the server's state in a login
 abbrev pub view_in : Login → Phase → View
 view_in login phase.Barring = barring login
 view_in login phase.Checked = checked login
 view_in login (phase.Over good) = over login good
 
--- where the server stands
+-- the server's state
 abbrev pub view_of : Stage → View
 view_of stage.Unset = unset
 view_of (stage.Alone own phase) = view_alone own.side own.nonce phase
 view_of (stage.Login login phase) = view_in login phase
 
--- a turn with what it wrote, and where the server stands after it
+-- a turn with what it wrote, and the server's state after it
 abbrev pub outcome_with : brief.ServerTurn → List ℕ → Tags → View → ServerOutcome View
 outcome_with turn packet tags after = record { turn = server_turn_with turn packet tags; after = after }
 

@@ -1,4 +1,4 @@
-//! Messages received.
+//! The message in the Type-Data that is received.
 
 ghost use Rattle.std.specs.Prelude.{◌≡◌, ◌≤◌, length, option_map, IfOk};
 ghost use Rattle.eap_base.specs.Suite.{ks_of};
@@ -11,7 +11,7 @@ use eap_base::Suite;
 use eap_packet::Cause;
 use gpsk_messages::{GpskView, read_gpsk};
 
-/// The message that the Type-Data spells, where `suite` is the login's once that is chosen.
+/// The message that the Type-Data encodes; `suite` is the login's once that is chosen.
 #[tactic(auto, using(crate::proofs::Pieces::ks_small))]
 pub(crate) fn hear<'a>(body: &'a [u8], suite: Option<Suite>) -> Result<GpskView<'a>, Cause>
     requires { length body.now ≤ max_type_data }

@@ -82,7 +82,7 @@ impl Keys {
         self.keys.emsk
     }
 
-    /// Whether the message, which the Type-Data spells, has the MAC of its covered octets under SK (RFC
+    /// Whether the message, which the Type-Data encodes, has the MAC of its covered octets under SK (RFC
     /// 5433, sections 8.1.2 and 8.2.2). All octets of the MAC are compared. MACs are compared here alone.
     pub(crate) fn is_tagged(&self, view: &GpskView, body: &[u8]) -> bool
         requires { body.now ≡ spelled (message_of view.now) }

@@ -1,4 +1,4 @@
-//! The nonces of a login.
+//! The nonces of an EAP-GPSK login.
 
 use eap_base::Nonce;
 

@@ -17,7 +17,7 @@ use eap_base::{GPSK_KIND, Nonce, Packet};
 use eap_method::{Credential, PeerMethod, PeerTurn, Report, Tags};
 use std::marker::Model;
 
-/// A peer of EAP-GPSK. Contracts see where it stands. It derives its keys once a login, and takes no
+/// A peer of EAP-GPSK. Contracts see its state. It derives its keys once a login, and allocates no
 /// memory.
 #[derive(Drop)]
 pub struct GpskPeer {
@@ -38,7 +38,7 @@ impl GpskPeer {
     ghost use Rattle.gpsk_ends.specs.Failures.{peer_has_failed};
     ghost use Rattle.gpsk_ends.specs.Nonces.{peer_nonces};
 
-    /// A peer that has not begun: it answers no Request, and holds no report.
+    /// A peer that has not begun: it answers no Request, and has no report.
     pub fn new() -> GpskPeer
         ensures { result ≡ unset }
     {

@@ -22,7 +22,7 @@ pub(crate) fn set_alone(list: &mut TagList, psk: &Secret, covered: &[u8], mac: &
     list.add(GPSK_KIND, Label::Sk, psk, &[covered], mac);
 }
 
-/// Leaves the record of the message's MAC, where the Type-Data spells the message, alone in the list.
+/// Leaves the record of the MAC of a message, which the Type-Data encodes, alone in the list.
 pub(crate) fn record(list: &mut TagList, view: &GpskView, body: &[u8], psk: &Secret)
     requires { IsHeard (message_of view.now) body.now }
     ensures { list.new ≡ sk_record psk.now (message_of view.now) ∷ [] }

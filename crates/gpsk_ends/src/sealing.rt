@@ -1,4 +1,4 @@
-//! Messages sent: a packet up to its MAC.
+//! Writing the packet of a message that is sent, up to its MAC.
 
 ghost use Rattle.std.specs.Prelude.{◌≡◌, ◌≤◌, ◌+◌, ◌++◌, ℕ, List, length, IsTrue, drop};
 ghost use Rattle.eap_base.specs.Suite.{ks_of};

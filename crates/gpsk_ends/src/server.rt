@@ -17,8 +17,8 @@ use eap_method::{Report, ServerMethod, ServerSide, ServerTurn, Tags};
 use login_setup::Users;
 use std::marker::Model;
 
-/// A server of EAP-GPSK. Contracts see where it stands. It derives its keys once for each GPSK-2 of a
-/// known user, and takes no memory.
+/// A server of EAP-GPSK. Contracts see its state. It derives its keys once for each GPSK-2 of a
+/// known user, and allocates no memory.
 #[derive(Drop)]
 pub struct GpskServer {
     stage: Stage,
@@ -38,7 +38,7 @@ impl GpskServer {
     ghost use Rattle.gpsk_ends.specs.Failures.{is_unknown, server_has_failed};
     ghost use Rattle.gpsk_ends.specs.Nonces.{server_nonces};
 
-    /// A server that has not begun: it answers no Response, and holds no report.
+    /// A server that has not begun: it answers no Response, and has no report.
     pub fn new() -> GpskServer
         ensures { result ≡ unset }
     {

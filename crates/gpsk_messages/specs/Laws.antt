@@ -6,26 +6,26 @@ use Rattle.eap_packet.specs.Packet.{IsOctets}
 use Rattle.gpsk_messages.specs.Message.{Message, op_code, covered_of, mac_of, without_mac, spelled, size_of, AreFields, IsGpsk, IsGpskLoose}
 use Rattle.gpsk_messages.specs.Reading.{read_of}
 
--- what is spelled so is read
+-- what is encoded so is read
 abbrev pub SpellingsAreRead : Type 0
 SpellingsAreRead = (ks : Option ℕ) (octets : List ℕ) (message : Message) → IsGpsk ks message octets → read_of ks octets ≡ Ok message
 
--- what is read is the message that the octets spell
+-- what is read is the message that the octets encode
 abbrev pub ReadsTheSpelling : Type 0
 ReadsTheSpelling =
     (ks : Option ℕ) (octets : List ℕ) (message : Message) → IsOctets octets → (read_of ks octets ≡ Ok message) ↔ IsGpsk ks message octets
 
--- no two messages have one spelling, whatever the number of suites
+-- no two messages have one encoding, whatever the number of suites
 abbrev pub SpellingsAreApart : Type 0
 SpellingsAreApart =
     (ks : Option ℕ) (octets : List ℕ) (one other : Message) → IsGpskLoose ks one octets → IsGpskLoose ks other octets → one ≡ other
 
--- GpskShape comes exactly where the octets spell no message, whatever the number of suites
+-- GpskShape comes exactly if the octets encode no message, whatever the number of suites
 abbrev pub ShapelessSpellsNothing : Type 0
 ShapelessSpellsNothing =
     (ks : Option ℕ) (octets : List ℕ) → IsOctets octets → (read_of ks octets ≡ Err GpskShape) ↔ ((message : Message) → ¬ IsGpskLoose ks message octets)
 
--- the octets spell a message, but none whose list has at most 20 suites
+-- the octets encode a message, but none whose list has at most 20 suites
 pub record SpellsALongList (ks : Option ℕ) (octets : List ℕ) : Type 0 where
   pub message : Message
   pub spells : IsGpskLoose ks message octets
@@ -36,12 +36,12 @@ abbrev pub Refuses : Option ℕ → List ℕ → Cause → Type 0
 Refuses ks octets cause =
     ((cause ≡ GpskShape) × ((message : Message) → ¬ IsGpskLoose ks message octets)) ⊎ ((cause ≡ ListTooLong) × SpellsALongList ks octets)
 
--- ListTooLong comes exactly where the octets spell a message, but none whose list has at most 20 suites
+-- ListTooLong comes exactly if the octets encode a message, but none whose list has at most 20 suites
 abbrev pub LongListsAreTold : Type 0
 LongListsAreTold =
     (ks : Option ℕ) (octets : List ℕ) → IsOctets octets → (read_of ks octets ≡ Err ListTooLong) ↔ SpellsALongList ks octets
 
--- the octets of a spelling
+-- the octets of an encoding
 abbrev pub SpellingsAreSized : Type 0
 SpellingsAreSized = (message : Message) → length (spelled message) ≡ size_of message
 

@@ -1,4 +1,4 @@
--- EAP-GPSK messages (RFC 5433 section 9): message values, their spelling, their limits.
+-- EAP-GPSK messages (RFC 5433 section 9): message values, their encoding, their limits.
 use Rattle.std.specs.Prelude.{◌≡◌, ℕ, ◌+◌, ◌*◌, ◌^◌, ◌%◌, ◌<◌, ◌≤◌, ◌⊎◌, List, [], ◌∷◌, ◌++◌, length, Option, Some, None, Result, Ok, Err}
 use Rattle.std.specs.Int.{w32, to_be_bytes}
 use Rattle.eap_base.specs.declared.suite.Suite.{Suite}
@@ -41,7 +41,7 @@ mac_of (gpsk4 pd mac) = mac
 mac_of (fail code) = []
 mac_of (protected_fail code mac) = mac
 
--- CSuite_List, where there is one
+-- CSuite_List, if there is one
 abbrev pub list_of : Message → List ℕ
 list_of (gpsk1 id_s rand_s list) = list
 list_of (gpsk2 id_p id_s rand_p rand_s list suite pd mac) = list
@@ -104,7 +104,7 @@ AreFields (gpsk4 pd mac) = IsBlock pd
 AreFields (fail code) = code < 2 ^ 32
 AreFields (protected_fail code mac) = code < 2 ^ 32
 
--- the size of a MAC whose suite the message doesn't tell: KS where it is known, else 16 or 32
+-- the size of a MAC whose suite the message doesn't give: KS if it is known, else 16 or 32
 abbrev pub IsMacSize : Option ℕ → ℕ → Type 0
 IsMacSize (Some ks) size = size ≡ ks
 IsMacSize None size = (size ≡ 16) ⊎ (size ≡ 32)
@@ -118,13 +118,13 @@ HasMac ks (gpsk4 pd mac) = IsMacSize ks (length mac)
 HasMac ks (fail code) = Unit {0}
 HasMac ks (protected_fail code mac) = IsMacSize ks (length mac)
 
--- the octets are the message's spelling, where a list may have any number of suites
+-- the octets are the message's encoding, with any number of suites in a list
 pub record IsGpskLoose (ks : Option ℕ) (message : Message) (octets : List ℕ) : Type 0 where
   pub fields : AreFields message
   pub mac : HasMac ks message
   pub spelling : octets ≡ spelled message
 
--- the octets are the message's spelling, and a list has at most 20 suites
+-- the octets are the message's encoding, and a list has at most 20 suites
 pub record IsGpsk (ks : Option ℕ) (message : Message) (octets : List ℕ) : Type 0 where
   pub loosely : IsGpskLoose ks message octets
   pub suites : length (list_of message) ≤ 6 * 20

@@ -8,7 +8,7 @@ use Rattle.eap_packet.specs.declared.cause.Cause.{Cause}
 use Rattle.eap_packet.specs.declared.cause.Cause.TheVariants.{GpskShape, ListTooLong}
 use Rattle.gpsk_messages.specs.Message.{Message, gpsk1, gpsk2, gpsk3, gpsk4, fail, protected_fail, list_of}
 
--- what a step gives to the next; nothing where it read nothing
+-- what a step gives to the next; nothing if it read nothing
 unfoldable pub and_then : {A B : Type 0} → Option A → (A → Option B) → Option B
 and_then None step = None
 and_then (Some x) step = step x
@@ -108,7 +108,7 @@ fields_at op octets =
     else if op == 6 then protected_fail_at octets
     else None
 
--- whether a MAC whose suite isn't told may have this size
+-- whether a MAC whose suite the message doesn't give may have this size
 abbrev pub is_mac_size : Option ℕ → ℕ → Bool
 is_mac_size (Some ks) size = size == ks
 is_mac_size None size = (size == 16) || (size == 32)
@@ -134,7 +134,7 @@ with_mac (protected_fail code none) mac = protected_fail code mac
 abbrev pub sealed : Option ℕ → Message × List ℕ → Option Message
 sealed ks fields = some_if (takes_mac ks fields.0 (length fields.1)) (with_mac fields.0 fields.1)
 
--- the message that the octets spell, where a list may have any number of suites
+-- the message that the octets encode, with any number of suites in a list
 unfoldable pub loose_of : Option ℕ → List ℕ → Option Message
 loose_of ks [] = None
 loose_of ks (op ∷ octets) = do
@@ -146,6 +146,6 @@ abbrev pub judged : Option Message → Result Message Cause
 judged None = Err GpskShape
 judged (Some message) = if nat_le (length (list_of message)) (6 * 20) then Ok message else Err ListTooLong
 
--- the message that the octets spell, or why there is none
+-- the message that the octets encode, or why there is none
 unfoldable pub read_of : Option ℕ → List ℕ → Result Message Cause
 read_of ks octets = judged (loose_of ks octets)

@@ -2,37 +2,37 @@
 
 ghost use Rattle.gpsk_messages.specs.Laws.{SpellingsAreRead, ReadsTheSpelling, SpellingsAreApart, ShapelessSpellsNothing, LongListsAreTold, SpellingsAreSized, CoveredIsTheMiddle, CoveredTellsTheFields};
 
-/// What is spelled so is read.
+/// What is encoded so is read.
 #[tactic(auto, using(crate::proofs::Grammar::spellings_are_read))]
 pub fn spellings_are_read()
     ensures { SpellingsAreRead }
 {}
 
-/// What is read is the message that the octets spell, and that one alone.
+/// What is read is the message that the octets encode, and that one alone.
 #[tactic(auto, using(crate::proofs::Grammar::reads_the_spelling))]
 pub fn reads_the_spelling()
     ensures { ReadsTheSpelling }
 {}
 
-/// No two messages have one spelling.
+/// No two messages have one encoding.
 #[tactic(auto, using(crate::proofs::Grammar::spellings_are_apart))]
 pub fn spellings_are_apart()
     ensures { SpellingsAreApart }
 {}
 
-/// `GpskShape` comes exactly where the octets spell no message, whatever the number of suites.
+/// `GpskShape` comes exactly if the octets encode no message, whatever the number of suites.
 #[tactic(auto, using(crate::proofs::Grammar::shapeless_spells_nothing))]
 pub fn shapeless_spells_nothing()
     ensures { ShapelessSpellsNothing }
 {}
 
-/// `ListTooLong` comes exactly where the octets spell a message, but none with at most 20 suites.
+/// `ListTooLong` comes exactly if the octets encode a message, but none with at most 20 suites.
 #[tactic(auto, using(crate::proofs::Grammar::long_lists_are_told))]
 pub fn long_lists_are_told()
     ensures { LongListsAreTold }
 {}
 
-/// How many octets a spelling has.
+/// How many octets an encoding has.
 #[tactic(auto, using(crate::proofs::Grammar::spellings_are_sized))]
 pub fn spellings_are_sized()
     ensures { SpellingsAreSized }

@@ -1,11 +1,11 @@
-//! Where the MAC of a message and the octets that it covers stand.
+//! The MAC of a message, and the octets that it covers.
 
 ghost use Rattle.std.specs.Prelude.{◌≡◌, ◌≤◌, length};
 ghost use Rattle.gpsk_messages.specs.Message.{message_of, spelled, mac_of, covered_of};
 
 use crate::view::GpskView;
 
-/// The MAC of a message, empty where it has none.
+/// The MAC of a message, empty if it has none.
 pub fn mac_part<'a>(view: &GpskView<'a>) -> &'a [u8]
     ensures { result.now ≡ mac_of (message_of view.now) }
 {

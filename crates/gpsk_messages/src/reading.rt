@@ -14,7 +14,7 @@ use eap_packet::Cause;
 /// The most octets of a list of suites: 20 entries.
 const MAX_LIST: usize = 120;
 
-/// Whether a MAC whose suite isn't told may have this size: KS where it is known, else 16 or 32.
+/// Whether a MAC whose suite the message doesn't give may have this size: KS if it is known, else 16 or 32.
 fn is_size_of_mac(size: usize, ks: Option<u8>) -> bool
     ensures { result ≡ is_mac_size ks size }
 {
@@ -130,7 +130,7 @@ fn read_protected_fail<'a>(octets: &'a [u8], ks: Option<u8>) -> Option<GpskView<
     }
 }
 
-/// The message that the octets spell, where a list may have any number of suites.
+/// The message that the octets encode, with any number of suites in a list.
 #[tactic(auto, unfolding(crate::specs::Reading::and_then, crate::specs::Reading::fields_at, crate::specs::Reading::loose_of))]
 fn read_loosely<'a>(body: &'a [u8], ks: Option<u8>) -> Option<GpskView<'a>>
     ensures { option_map message_of result ≡ loose_of ks body.now }
@@ -146,7 +146,7 @@ fn read_loosely<'a>(body: &'a [u8], ks: Option<u8>) -> Option<GpskView<'a>>
     }
 }
 
-/// The octets of the message's list of suites, 0 where it has none.
+/// The octets of the message's list of suites, 0 if it has none.
 fn list_size(view: &GpskView) -> usize
     ensures { result ≡ length (list_of (message_of view.now)) }
 {
@@ -156,10 +156,10 @@ fn list_size(view: &GpskView) -> usize
     }
 }
 
-/// The message that the Type-Data spells. `ks` is KS, 16 or 32, where the suite is known: it fixes the
-/// MAC's size in GPSK-4 and GPSK-Protected-Fail; with None either size is taken.
+/// The message that the Type-Data encodes. `ks` is KS, 16 or 32, if the suite is known: it fixes the
+/// MAC's size in GPSK-4 and GPSK-Protected-Fail; with None either size is accepted.
 ///
-/// `GpskShape` where the octets spell no message, `ListTooLong` where they spell one but for a list
+/// `GpskShape` if the octets encode no message, `ListTooLong` if they encode one but for a list
 /// of more than 20 suites (RFC 5433 section 9.2).
 pub fn read_gpsk<'a>(body: &'a [u8], ks: Option<u8>) -> Result<GpskView<'a>, Cause>
     ensures message { heard result ≡ read_of ks body.now }
@@ -169,7 +169,7 @@ pub fn read_gpsk<'a>(body: &'a [u8], ks: Option<u8>) -> Result<GpskView<'a>, Cau
     read_shape(body, ks)
 }
 
-/// The message that the octets spell, or why there is none.
+/// The message that the octets encode, or why there is none.
 #[tactic(auto, unfolding(crate::specs::Reading::read_of))]
 fn read_shape<'a>(body: &'a [u8], ks: Option<u8>) -> Result<GpskView<'a>, Cause>
     ensures { heard result ≡ read_of ks body.now }

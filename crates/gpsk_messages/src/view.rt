@@ -1,4 +1,4 @@
-//! A message, as its octets show it.
+//! An EAP-GPSK message, as its octets show it.
 
 use eap_base::Suite;
 

@@ -194,8 +194,8 @@ fn put_message(packet: &mut Packet, view: &GpskView)
     }
 }
 
-/// Writes the Request or the Response of Type 51 with this Identifier whose Type-Data spells the
-/// message, in place of what the packet held.
+/// Writes the Request or the Response of Type 51 with this Identifier whose Type-Data encodes the
+/// message, in place of what the packet had.
 #[tactic(auto, using(crate::proofs::Grammar::spellings_are_sized))]
 pub fn write_gpsk_into(packet: &mut Packet, view: &GpskView, code: Code, id: u8)
     requires typed { IsTrue (has_type code) }
@@ -206,7 +206,7 @@ pub fn write_gpsk_into(packet: &mut Packet, view: &GpskView, code: Code, id: u8)
     put_message(packet, view);
 }
 
-/// The Request or the Response of Type 51 with this Identifier whose Type-Data spells the message.
+/// The Request or the Response of Type 51 with this Identifier whose Type-Data encodes the message.
 pub fn write_gpsk(view: &GpskView, code: Code, id: u8) -> Packet
     requires typed { IsTrue (has_type code) }
     requires fits { size_of (message_of view.now) + 5 ≤ max_packet }

@@ -6,14 +6,14 @@ use Rattle.hmac_mac.specs.Hmac.{block_key, padded, inner_pad, outer_pad}
 use Rattle.hmac_mac.specs.declared.Hmac.{Hmac}
 use Rattle.hmac_mac.specs.declared.HmacKey.{HmacKey}
 
--- the value stands for this text under this key: the inner hash was fed the inner key and the text,
+-- the value represents this text under this key: the inner hash was fed the inner key and the text,
 -- the outer hash the outer key alone
 unfoldable pub Holds : Hmac → List ℕ → List ℕ → Type 0
 Holds mac key text =
     Holds256 mac.inner (padded (block_key key) inner_pad ++ text)
     × Holds256 mac.outer (padded (block_key key) outer_pad)
 
--- the value stands for this key: the inner hash was fed the inner key, the outer hash the outer key
+-- the value represents this key: the inner hash was fed the inner key, the outer hash the outer key
 unfoldable pub IsKeyOf : HmacKey → List ℕ → Type 0
 IsKeyOf made key =
     Holds256 made.inner (padded (block_key key) inner_pad)

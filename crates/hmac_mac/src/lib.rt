@@ -1,5 +1,5 @@
 //! HMAC with SHA-256 (RFC 2104), over the SHA-256 of the crate `sha2`. A text is fed in pieces and
-//! never stored, and no call takes memory.
+//! never stored, and no call allocates memory.
 #![tactic(auto)]
 
 ghost use Rattle.std.specs.Prelude.{◌≡◌, ℕ, ◌≤◌, List, [], ◌++◌, length};
@@ -77,7 +77,7 @@ fn copy_of(hash: &Sha256) -> Sha256
 /// A key that is made once for many texts (RFC 2104, section 4): the states of the inner and of the
 /// outer hash after the key. The key itself isn't kept.
 ///
-/// A contract says by `IsKeyOf key octets` for which octets a value stands.
+/// A contract says by `IsKeyOf key octets` which octets a value represents.
 #[derive(Drop)]
 pub struct HmacKey {
     inner: Sha256,
@@ -87,7 +87,7 @@ pub struct HmacKey {
 impl HmacKey {
     ghost use Rattle.hmac_mac.specs.Holds.{IsKeyOf};
 
-    /// The key of these octets, of any number: where they are over 64, their SHA-256 stands for them.
+    /// The key of these octets, of any number: if they are over 64, they are replaced by their SHA-256.
     #[tactic(auto, unfolding(crate::specs::Holds::IsKeyOf))]
     pub fn new(key: &[u8]) -> HmacKey
         ensures { IsKeyOf result key.now }

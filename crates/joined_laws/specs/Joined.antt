@@ -33,7 +33,7 @@ abbrev pub is_input : Comes → Bool
 is_input (to_peer input) = is_of_peer input
 is_input (to_server input) = is_of_server input
 
--- the event that it is: octets are handed in at the end's port; a timer and the lower layer have events of their own
+-- the event that it is: octets are injected at the end's port; a timer and the lower layer have events of their own
 abbrev pub event_at : Port → EndInput → Event
 event_at port (inputs.Octets octets) = event.Inject port octets
 event_at port inputs.Timeout = event.Timeout party.Server
@@ -79,12 +79,12 @@ pub record AreEnds (setup : Setup) (list : List Comes) (w : WorldNow) : Type 0 w
   pub peer : w.parties.peer ≡ peer_alone setup list
   pub server : w.parties.server ≡ server_alone setup list
 
--- every list of what comes to both ends is an interleaving of their inputs, and each of its fronts is one
+-- every list of what comes to both ends is an interleaving of their inputs, and each of its prefixes is one
 abbrev pub InterleavingsAreRuns : Type 0
 InterleavingsAreRuns =
     (setup : Setup) (list : List Comes) → setup.mode ≡ mode.Alone → list_all is_input list ≡ true → AreEnds setup list (world_of setup list)
 
--- the tags that both ends tell at their inputs, in the order of the interleaving, each with the number of the input and its end
+-- the tags of both ends at their inputs, in the order of the interleaving, each with its input's number and its end
 unfoldable pub told_book : ℕ → EndNow PeerNow → EndNow ServerNow → List Comes → List Entry
 told_book number p s [] = []
 told_book number p s (to_peer input ∷ rest) =
@@ -98,11 +98,11 @@ BookIsTold =
     (setup : Setup) (list : List Comes) → setup.mode ≡ mode.Alone → list_all is_input list ≡ true
     → (world_of setup list).book ≡ told_book 0 (peer_begun setup.peer) (server_begun setup.server setup.first_id setup.max_retrans) list
 
--- both ends stand in SUCCESS
+-- both ends are in SUCCESS
 abbrev pub HaveSucceeded : PeerNow → ServerNow → Type 0
 HaveSucceeded peer server = (is_success peer.vars.state ≡ true) × (is_success server.vars.state ≡ true)
 
--- both hold a report, and the same, which both policies allow
+-- both have a report, and the same, which both policies allow
 abbrev pub ReportTheSame : PeerNow → ServerNow → Type 0
 ReportTheSame peer server = judged peer.vars.setup server.vars.setup (peer_reports peer) (server_reports server) ≡ true
 
@@ -111,7 +111,7 @@ pub record EndsAgree (setup : Setup) (peer : PeerNow) (server : ServerNow) : Typ
   pub same : ReportTheSame peer server
   pub theirs : AreTheirs setup peer server
 
--- where each tag that one of them accepted was made earlier by either of them, two ends that have succeeded agree
+-- if each tag that one of them accepted was made earlier by either of them, two ends that have succeeded agree
 abbrev pub JoinedEndsAgree : Type 0
 JoinedEndsAgree =
     (setup : Setup) (list : List Comes) → setup.mode ≡ mode.Alone → IsWhole setup → list_all is_input list ≡ true

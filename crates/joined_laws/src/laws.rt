@@ -5,22 +5,22 @@ ghost use Rattle.joined_laws.specs.Joined.{BookIsTold, InterleavingsAreRuns, Joi
 /// Two ends that run alone, and whose packets somebody carries, are the ends of a world. Take any settings of mode alone,
 /// inputs of each end, and any interleaving of them; make each input an event, octets an injection at that end's port.
 /// Then the run of these events has, for each end, exactly the variables and views that the end has alone after its own
-/// inputs. So it is after each of the events, since each front of an interleaving is one.
+/// inputs. So it is after each of the events, since each prefix of an interleaving is one.
 pub fn interleavings_are_runs()
     ensures { InterleavingsAreRuns }
 {}
 
-/// The book of that world is told by both ends: the tags that each tells at its inputs, in the order of the interleaving.
-/// So whoever holds both ends and knows in which order their inputs came can judge whether tags are honest.
+/// The book of that world is given by both ends: the tags that each returns at its inputs, in the order of the
+/// interleaving. So whoever has both ends and knows in which order their inputs came can judge whether tags are honest.
 pub fn book_is_told()
     ensures { BookIsTold }
 {}
 
-/// Two ends that run alone agree as those of a world do: whatever was carried between them, where each tag that one of
-/// them accepted was made earlier by either, as the world over the interleaving books them, and both stand in SUCCESS,
-/// both report the same method, identities, suite, MSK and EMSK, which both policies allow. These are their own: ID_P is
-/// the peer's name and ID_S the server's, the server has a user of that name and method who isn't barred, with the peer's
-/// own PSK, and by EAP-GPSK the suite is the first of the server's list that the peer allows.
+/// Two ends that run alone agree as those of a world do: whatever was carried between them, if each tag that one of
+/// them accepted was made earlier by either, as the world over the interleaving books them, and both are in SUCCESS,
+/// both report the same method, identities, suite, MSK and EMSK, which both policies allow. These are their own: ID_P
+/// is the peer's name and ID_S the server's, the server has a user of that name and method who isn't barred, with the
+/// peer's own PSK, and by EAP-GPSK the suite is the first of the server's list that the peer allows.
 pub fn joined_ends_agree()
     ensures { JoinedEndsAgree }
 {}

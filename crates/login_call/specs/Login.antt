@@ -93,7 +93,7 @@ asked_by words =
 abbrev pub login_answer : List (List ℕ) → List ℕ → Answer
 login_answer words octets = answer_to (asked_by words) octets
 
--- what comes where neither a read nor a write failed: the answer's status; or memory was wanting, where it may be
+-- what comes if neither a read nor a write failed: the answer's status; or memory was wanting, if it may be
 pub data Completes (words : List (List ℕ)) (octets : List ℕ) : Status → Type 0 where
   answered : Completes words octets (login_answer words octets).status
   lacked : MayLack (lacking_of (asked_by words)) (Some octets) → Completes words octets status.Memory

@@ -28,21 +28,21 @@ use world_commands::{bulk_of, replay_scenario, run_bulk};
 /// ended.
 ///
 /// - `replay` reads a scenario and writes the trace of its run; `replay names` writes the octets of each
-///   packet and the names of keys besides. Both take memory.
-/// - `decode` reads packets in hex and writes what they are. It takes no memory.
-/// - `keys` reads requests for ciphers, MACs and keys and writes the answers. It takes no memory.
+///   packet and the names of keys besides. Both allocate memory.
+/// - `decode` reads packets in hex and writes what they are. It allocates no memory.
+/// - `keys` reads requests for ciphers, MACs and keys and writes the answers. It allocates no memory.
 /// - `check` reads a capture of packets with the keys of its users, and writes for each packet whether its
-///   tags are right. It takes no memory.
+///   tags are right. It allocates no memory.
 /// - `radius` reads a text of RADIUS packets that carry EAP, writes requests and replies under a secret, and
-///   says of packets what they carry and whether they are good. It takes no memory.
-/// - `peer` and `server` run one end alone: each reads the end's settings and then what comes to it, and writes
-///   what the end does at each line before the next is asked for. They take no memory.
-/// - `bulk N K` runs K conversations, 1 to 1,000, of the number N, 0 to 999,999, and writes what they came to. It
-///   takes memory; the source isn't touched.
+///   says of packets what they carry and whether they are good. It allocates no memory.
+/// - `peer` and `server` run one end alone: each reads the end's settings and then its inputs, and writes what the end
+///   does at each line before the next is read. They allocate no memory.
+/// - `bulk N K` runs K conversations, 1 to 1,000, of the number N, 0 to 999,999, and writes their summary. It allocates
+///   memory; the source stays as it was.
 /// - `pcap NAME KIND HEX ..` reads a pcap file of Ethernet frames, and writes for each EAP packet in them whether its
 ///   tags are right under the keys of these users: 0 to 16 of them, each with a name of 1 to 253 octets from 21 to
-///   7e, its method, 47 or 51, and its key in hex. It takes no memory.
-/// - All other words write the usage line; the source isn't touched.
+///   7e, its method, 47 or 51, and its key in hex. It allocates no memory.
+/// - All other words write the usage line; the source stays as it was.
 ///
 /// Each of the two lists of `methods` has an object of EAP-PSK and one of EAP-GPSK.
 pub fn eap_login<P: PeerMethod, M: ServerMethod, S: Source, W: Sink>(
@@ -55,36 +55,36 @@ pub fn eap_login<P: PeerMethod, M: ServerMethod, S: Source, W: Sink>(
     requires { HasBoth P.peer_shown M.server_shown methods }
 
     // What the words ask is answered: an input is read and its answer written, or, for `bulk N K` and for words that
-    // are none of the forms, an answer is written and the source is as it was. Where neither a read nor a write
-    // failed and memory wasn't wanting, the whole text was written and the status is the answer's, with 0 or 7
-    // nothing is left to read, but for `bulk N K`. Else a front of the text was. A fault comes only where its count rose in this call, or
-    // stands at its last value, and wherever it rose: none that is counted is passed over. Want of memory comes only
-    // for `replay` and `replay names`, where the input's settings are whole, and for `bulk N K`.
+    // are none of the forms, an answer is written and the source is as it was. If neither a read nor a write failed and
+    // memory wasn't wanting, the whole text was written and the status is the answer's, with 0 or 7
+    // nothing is left to read, but for `bulk N K`. Else a prefix of the text was. A fault comes only if its count rose
+    // in this call, or is at its last value, and whenever it rose: none that is counted is ignored. Want of memory
+    // comes only for `replay` and `replay names`, if the input's settings are whole, and for `bulk N K`.
     ensures responds { Responds S.left S.read_faults S.last_read_fault W.written W.write_faults W.last_write_fault
         (asked_by (map string_bytes words.now.items)) result source.old source.new sink.old sink.new }
 
-    // Whatever the scenario has delivered, lost, repeated, reordered, altered, reflected, injected or restarted: where
-    // each tag that an end accepted was made earlier by the other end, as it is where the trace says `tags honest`, and
-    // where nonces are fresh, as they are where it says `fresh yes`, two ends that both stand in SUCCESS at the end of
-    // its run agree in method, identities, suite, MSK and EMSK of their last conversations, which both policies allow;
+    // Whatever the scenario has delivered, lost, repeated, reordered, altered, reflected, injected or restarted: if
+    // each tag that an end accepted was made earlier by the other end, as it is if the trace says `tags honest`, and if
+    // nonces are fresh, as they are if it says `fresh yes`, two ends that are both in SUCCESS at the end of its run
+    // agree in method, identities, suite, MSK and EMSK of their last conversations, which both policies allow;
     // the identities are their own names, the server's user has the peer's key, and by EAP-GPSK the suite is the first
-    // of the server's that the peer allows. Where no end has begun a second conversation, nonces need not be fresh, and
+    // of the server's that the peer allows. If no end has begun a second conversation, nonces need not be fresh, and
     // tags may have been made by either end. The run sent at most one packet more than it has events.
     ensures honest_ends_agree { (octets : List ℕ) → HonestEndsAgree octets }
 
-    // Where the input is a scenario of two ends that fit, whose events deliver packet 1, packet 2 and on, each once
+    // If the input is a scenario of two ends that fit, whose events deliver packet 1, packet 2 and on, each once
     // and in order, at least as many as the login takes, the answer's status is 0, and its text ends with the lines
-    // `tags honest`, `result agree` and `end`. So it does where all parties then begin anew, in any order, and from the
-    // last packet on each is delivered again once and in order, as often as that is done; and where the text is of the
-    // second version the line before them is `fresh yes` exactly where each of these conversations had a new nonce.
+    // `tags honest`, `result agree` and `end`. So it does if all parties then begin again, in any order, and from the
+    // last packet on each is delivered again once and in order, as often as that is done; and if the text is of the
+    // second version the line before them is `fresh yes` exactly if each of these conversations had a new nonce.
     ensures smooth_traces_agree { SmoothTracesAgree }
 
     // On octets alone: no text written with status 0 has the lines `tags honest` and `result apart`, and either the
     // line `fresh yes` or no line that begins with `fresh`.
     ensures never_both { (octets : List ℕ) → S.left source.old ≡ Some octets → WritesNeverBoth result (W.written sink.old) (W.written sink.new) }
 
-    // Where the source tells its octets and neither a read nor a write failed, the status is the answer's, or memory
-    // was wanting where it may be.
+    // If the source shows its octets and neither a read nor a write failed, the status is the answer's, or memory was
+    // wanting if it may be.
     ensures complete { (octets : List ℕ) → S.left source.old ≡ Some octets
         → (HasRisen S.last_read_fault (S.read_faults source.old) (S.read_faults source.new) → ⊥)
         → (HasRisen W.last_write_fault (W.write_faults sink.old) (W.write_faults sink.new) → ⊥)
@@ -126,7 +126,7 @@ fn respond<P: PeerMethod, M: ServerMethod, S: Source, W: Sink>(
     }
 }
 
-/// True where the words are this one alone.
+/// True if the words are this one alone.
 fn are_alone(words: &Vec<String>, name: &str) -> bool
     ensures { result ≡ is_alone name.now (map string_bytes words.now.items) }
 {
@@ -136,7 +136,7 @@ fn are_alone(words: &Vec<String>, name: &str) -> bool
     }
 }
 
-/// True where the words are these two.
+/// True if the words are these two.
 fn are_two(words: &Vec<String>, first: &str, second: &str) -> bool
     ensures { result ≡ are_two first.now second.now (map string_bytes words.now.items) }
 {

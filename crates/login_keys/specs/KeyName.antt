@@ -1,4 +1,4 @@
--- The name of a key, by which it can be told apart without being shown.
+-- The name of a key, by which it can be compared without being shown.
 use Rattle.std.specs.Prelude.{ℕ, List, ◌∷◌, ◌++◌, take, codes}
 use Rattle.sha2.specs.Sha256.{sha256}
 

@@ -1,4 +1,4 @@
--- For which ciphersuite of EAP-GPSK and which key a `MacKey` stands.
+-- Which ciphersuite of EAP-GPSK and which key a `MacKey` represents.
 use Rattle.std.specs.Prelude.{◌≡◌, ℕ, List}
 use Rattle.eap_base.specs.declared.suite.Suite.{Suite}
 use Rattle.eap_base.specs.declared.suite.Suite.TheVariants as suite_of

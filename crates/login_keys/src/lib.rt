@@ -1,6 +1,6 @@
 //! The key schedules of EAP-GPSK (RFC 5433) and EAP-PSK (RFC 4764), the MAC of an EAP-GPSK
-//! ciphersuite, and names of keys. Every field is fed to the MAC where it stands, and no call takes
-//! memory.
+//! ciphersuite, and names of keys. Every field is fed to the MAC from where it is stored, and no
+//! call allocates memory.
 #![tactic(auto)]
 
 mod derivation;

@@ -16,7 +16,7 @@ use hmac_mac::HmacKey;
 /// A key of the MAC of suite 1 or of suite 2 (RFC 5433, sections 8.1.2 and 8.2.2), made once for many
 /// texts.
 ///
-/// A contract says by `IsMacKey made suite key` for which suite and which octets a value stands.
+/// A contract says by `IsMacKey made suite key` which suite and which octets a value represents.
 #[derive(Drop)]
 pub enum MacKey {
     Cmac(CmacKey),

@@ -28,7 +28,7 @@ pub struct PskKeys {
     pub emsk: [u8; 64],
 }
 
-// The output block for a counter, where the input block is encrypted already.
+// The output block for a counter; the input block is encrypted already.
 fn counter_block(cipher: &Aes128, mixed: &[u8; 16], counter: u8) -> [u8; 16]
     ensures { result ≡ aes128 cipher.now (combined_with mixed.now counter) }
 {

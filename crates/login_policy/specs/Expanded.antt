@@ -21,8 +21,8 @@ abbrev pub names_new : List ℕ → List ℕ → Bool
 names_new seen entry =
     bytes_eq (take 6 (drop 1 entry)) ietf && (is_kind (type_in entry) && not (is_among seen (type_in entry)))
 
--- the Types of the two methods that stand in entries of Vendor-Id 0, but for those that were seen
--- before; each once, where it stands first
+-- the Types of the two methods in entries of Vendor-Id 0, but for those that were seen
+-- before; each once, where it occurs first
 unfoldable pub kinds_in : List ℕ → List ℕ → List ℕ
 kinds_in seen (a ∷ b ∷ c ∷ d ∷ e ∷ f ∷ g ∷ kind ∷ rest) =
     if names_new seen (a ∷ b ∷ c ∷ d ∷ e ∷ f ∷ g ∷ kind ∷ []) then kind ∷ kinds_in (seen ++ kind ∷ []) rest

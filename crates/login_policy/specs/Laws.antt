@@ -1,4 +1,4 @@
--- Laws of the choices: each is the first that is allowed, and none is made where none is allowed.
+-- Laws of the choices: each is the first that is allowed, and none is made if none is allowed.
 use Rattle.std.specs.Prelude.{◌≡◌, ◌↔◌, ◌≢◌, ℕ, List, [], ◌∷◌, ◌++◌, length, true, false, Option, Some, None, All, ◌<◌}
 use Rattle.std.specs.List.{concat}
 use Rattle.eap_base.specs.Among.{is_among}
@@ -8,7 +8,7 @@ use Rattle.eap_base.specs.declared.suite.Suite.{Suite}
 use Rattle.login_policy.specs.Policy.{nak_of, picked_suite, is_desired, next_kind}
 use Rattle.login_policy.specs.Expanded.{nak_entries, expanded_kinds}
 
--- a Type that the Nak, where one has come, desires is proposed already
+-- a Type that the Nak, if one has come, desires is proposed already
 abbrev pub IsPassed : List ℕ → Option (List ℕ) → ℕ → Type 0
 IsPassed proposed nak kind = is_desired nak kind ≡ true → is_among proposed kind ≡ true
 
@@ -26,7 +26,7 @@ abbrev pub NextIsFirst : Type 0
 NextIsFirst =
     (order proposed : List ℕ) (nak : Option (List ℕ)) (kind : ℕ) → (next_kind order proposed nak ≡ Some kind) ↔ IsNext order proposed nak kind
 
--- there is no next Type exactly where each one of the order that is desired is proposed
+-- there is no next Type exactly if each one of the order that is desired is proposed
 abbrev pub NoneIsNext : Type 0
 NoneIsNext = (order proposed : List ℕ) (nak : Option (List ℕ)) → (next_kind order proposed nak ≡ None) ↔ All (IsPassed proposed nak) order
 
@@ -55,7 +55,7 @@ pub record NamesOnlyOthers (allowed list : List ℕ) : Type 0 where
 abbrev pub PickedIsFirst : Type 0
 PickedIsFirst = (allowed list : List ℕ) (suite : Suite) → (picked_suite allowed list ≡ Some suite) ↔ IsPicked allowed list suite
 
--- no suite is picked exactly where the list names none that is allowed
+-- no suite is picked exactly if the list names none that is allowed
 abbrev pub NoneIsPicked : Type 0
 NoneIsPicked = (allowed list : List ℕ) → (picked_suite allowed list ≡ None) ↔ NamesOnlyOthers allowed list
 

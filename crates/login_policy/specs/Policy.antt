@@ -28,12 +28,12 @@ picked_suite allowed (a ∷ b ∷ c ∷ d ∷ e ∷ f ∷ rest) =
     suite_or allowed (a ∷ b ∷ c ∷ d ∷ e ∷ f ∷ []) (picked_suite allowed rest)
 picked_suite allowed octets = None
 
--- whether a Nak, where one has come, desires the Type
+-- whether a Nak, if one has come, desires the Type
 abbrev pub is_desired : Option (List ℕ) → ℕ → Bool
 is_desired None kind = true
 is_desired (Some nak) kind = is_among nak kind
 
--- the first Type of the server's order that is not yet proposed and that the Nak, where one has come,
+-- the first Type of the server's order that is not yet proposed and that the Nak, if one has come,
 -- desires
 unfoldable pub next_kind : List ℕ → List ℕ → Option (List ℕ) → Option ℕ
 next_kind order proposed nak = find (λ kind. not (is_among proposed kind) && is_desired nak kind) order

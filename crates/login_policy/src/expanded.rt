@@ -11,8 +11,8 @@ use eap_base::{EXPANDED, GPSK_KIND, IETF, Kinds, NAK_ENTRY_SIZE, Octets, PSK_KIN
 use login_setup::PeerSetup;
 
 /// The list of the peer's Expanded Nak (RFC 3748 section 5.3.2): of each method that it allows, in
-/// their order, an entry of eight octets with Vendor-Id 0 and its Type; the one entry of Type 0 where
-/// it allows none.
+/// their order, an entry of eight octets with Vendor-Id 0 and its Type; the one entry of Type 0 if it
+/// allows none.
 #[tactic(auto, unfolding(crate::specs::Expanded::nak_entries))]
 pub fn expanded_nak(setup: &PeerSetup) -> Octets<16>
     ensures { result ≡ nak_entries (nak_of setup.now.methods) }
@@ -32,9 +32,9 @@ fn entry_of(kind: u8) -> [u8; NAK_ENTRY_SIZE]
     [EXPANDED, 0, 0, 0, 0, 0, 0, kind]
 }
 
-/// The Types of the two methods that stand in entries of Vendor-Id 0, each once, in the order of
+/// The Types of the two methods in entries of Vendor-Id 0, each once, in the order of
 /// their first places (RFC 3748 section 5.3.2). The list has entries of eight octets; octets behind
-/// its last whole entry are passed over.
+/// its last whole entry are ignored.
 #[tactic(auto, using(crate::proofs::Desiring::has_room, crate::proofs::Desiring::stay_kinds, crate::proofs::Desiring::kind_is_new, crate::proofs::Desiring::kind_is_not))]
 pub fn expanded_kinds(list: &[u8]) -> Kinds
     ensures { result ≡ expanded_kinds list.now }

@@ -8,7 +8,7 @@ pub fn next_is_first()
     ensures { NextIsFirst }
 {}
 
-/// There is no next Type exactly where each one of the order that is desired is proposed already.
+/// There is no next Type exactly if each one of the order that is desired is proposed already.
 #[tactic(auto, using(crate::proofs::Firsts::none_is_next))]
 pub fn none_is_next()
     ensures { NoneIsNext }
@@ -19,7 +19,7 @@ pub fn picked_is_first()
     ensures { PickedIsFirst }
 {}
 
-/// No suite is picked exactly where the list names none that is allowed.
+/// No suite is picked exactly if the list names none that is allowed.
 #[tactic(auto, using(crate::proofs::Firsts::none_is_picked))]
 pub fn none_is_picked()
     ensures { NoneIsPicked }

@@ -15,7 +15,7 @@ pub fn peer_allows(setup: &PeerSetup, kind: u8) -> bool
 }
 
 /// The Types that the peer's Nak lists (RFC 3748 section 5.3.1): the methods that it allows in their
-/// order, or 0 alone where it allows none.
+/// order, or 0 alone if it allows none.
 #[tactic(auto, unfolding(crate::specs::Policy::nak_of))]
 pub fn nak_list(setup: &PeerSetup) -> Kinds
     ensures { result ≡ nak_of setup.now.methods }
@@ -27,8 +27,8 @@ pub fn nak_list(setup: &PeerSetup) -> Kinds
     }
 }
 
-/// The first suite of a CSuite_List (RFC 5433 section 9.2) that is allowed, or None where there is none.
-/// The list has entries of six octets; octets behind its last whole entry are passed over.
+/// The first suite of a CSuite_List (RFC 5433 section 9.2) that is allowed, or None if there is none.
+/// The list has entries of six octets; octets behind its last whole entry are ignored.
 #[tactic(auto, using(crate::proofs::Entries::picked_here, crate::proofs::Entries::picked_behind, crate::proofs::Entries::picked_from_part))]
 pub fn pick_suite(allowed: &Suites, list: &[u8]) -> Option<Suite>
     ensures { result ≡ picked_suite allowed.now list.now }
@@ -41,7 +41,7 @@ pub fn pick_suite(allowed: &Suites, list: &[u8]) -> Option<Suite>
     None
 }
 
-/// The suite that an entry names, where it is allowed.
+/// The suite that an entry names, if it is allowed.
 fn allowed_suite(allowed: &Suites, entry: &[u8]) -> Option<Suite>
     ensures { result ≡ suite_or allowed.now entry.now None }
 {
@@ -61,8 +61,8 @@ fn is_allowed(allowed: &Suites, entry: &[u8], suite: Suite) -> bool
     entry == suite.octets().as_slice() && is_among(allowed.as_slice(), suite.number())
 }
 
-/// The first Type of the server's order that is not yet proposed and that the peer's Nak, where one
-/// has come, desires (RFC 3748 section 5.3.1); None where there is none.
+/// The first Type of the server's order that is not yet proposed and that the peer's Nak, if one has
+/// come, desires (RFC 3748 section 5.3.1); None if there is none.
 #[tactic(auto, unfolding(crate::specs::Policy::next_kind))]
 pub fn next_method(order: &Kinds, proposed: &Kinds, nak: Option<&[u8]>) -> Option<u8>
     ensures { result ≡ next_kind order.now proposed.now (option_copied nak.entry) }
@@ -74,14 +74,14 @@ pub fn next_method(order: &Kinds, proposed: &Kinds, nak: Option<&[u8]>) -> Optio
         .find(|kind| is_open(proposed, nak, *kind))
 }
 
-/// Whether a Type is not yet proposed, and a Nak, where one has come, desires it.
+/// Whether a Type is not yet proposed, and a Nak, if one has come, desires it.
 fn is_open(proposed: &Kinds, nak: Option<&[u8]>, kind: u8) -> bool
     ensures { result ≡ (not (is_among proposed.now kind) && is_desired (option_copied nak.entry) kind) }
 {
     !is_among(proposed.as_slice(), kind) && is_desired(nak, kind)
 }
 
-/// Whether a Nak, where one has come, desires this Type.
+/// Whether a Nak, if one has come, desires this Type.
 fn is_desired(nak: Option<&[u8]>, kind: u8) -> bool
     ensures { result ≡ is_desired (option_copied nak.entry) kind }
 {

@@ -13,7 +13,7 @@ use Rattle.command_driver.specs.declared.status.Status.TheVariants as status
 abbrev pub after_name : {A : Type 0} → List A → List A
 after_name args = drop 1 args
 
--- by what a source and a sink tell of themselves: what is left and what was written, the counts of faults, and
+-- by what a source and a sink show of themselves: what is left and what was written, the counts of faults, and
 -- the last values of those counts
 module _ {S W : Type 0} (left : S → Option (List ℕ)) (read_faults : S → ℕ) (last_read_fault : Option ℕ)
     (written : W → Option (List ℕ)) (write_faults : W → ℕ) (last_write_fault : Option ℕ) where
@@ -24,10 +24,10 @@ module _ {S W : Type 0} (left : S → Option (List ℕ)) (read_faults : S → �
     pub unwritten : new ≡ old
 
   -- words were answered with a status, or memory was wanting before that; in the run of the scenario that the input
-  -- is, over honest tags and fresh nonces two ends that both succeed agree; the trace of a smooth login tells agreement;
-  -- no text written with status 0 says that all tags are honest and that the ends are apart, where it says that nonces
-  -- are fresh or nothing of them; where neither a read nor a write failed, the status is the answer's, or memory was
-  -- wanting where it may be
+  -- is, over honest tags and fresh nonces two ends that both succeed agree; the trace of a smooth login reports
+  -- agreement; no text written with status 0 says that all tags are honest and that the ends are apart, if it says
+  -- that nonces are fresh or nothing of them; if neither a read nor a write failed, the status is the answer's, or
+  -- memory was wanting if it may be
   pub record Answers (words : List (List ℕ)) (before : S) (now : S) (old : W) (new : W) (s : Status) : Type 0 where
     pub responds : Responds left read_faults last_read_fault written write_faults last_write_fault (asked_by words) s before now old new
         ⊎ Lacked before now old new s

@@ -6,10 +6,10 @@ ghost use Rattle.login_run.specs.Exit.{exit_number_of, failure_number_of};
 use command_driver::Status;
 use std::io;
 
-/// The exit status where the words could not be taken, for another cause than want of memory.
+/// The exit status if the words could not be read, for another cause than want of memory.
 const NO_WORDS: u8 = 8;
 
-/// The exit status where the words could not be taken.
+/// The exit status if the words could not be read.
 pub fn failure_number(kind: io::ErrorKind) -> u8
     ensures { result ≡ failure_number_of kind }
 {
@@ -19,7 +19,7 @@ pub fn failure_number(kind: io::ErrorKind) -> u8
     }
 }
 
-/// The exit status where the words were taken. An error is want of memory.
+/// The exit status if the words were read. An error is want of memory.
 pub fn exit_number(answered: io::Result<Status>) -> u8
     ensures { result ≡ exit_number_of answered }
 {

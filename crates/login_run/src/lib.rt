@@ -1,4 +1,4 @@
-//! All that the program does but for its standard input and output: [`run`] takes the arguments that it was
+//! All that the program does but for its standard input and output: [`run`] reads the arguments that it was
 //! started with, makes the objects of both methods for both ends, answers, and gives the exit status.
 #![tactic(auto)]
 

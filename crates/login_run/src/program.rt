@@ -22,8 +22,8 @@ use std::io;
 use world_commands::{both_peers, both_servers};
 
 /// Answers to the arguments that the program was started with, of which the first is its name, over `source`
-/// and `sink`, and gives the exit status: the number of the status that the words are answered with, 5 where
-/// memory is wanting, or 8 where the arguments could not be taken for another cause.
+/// and `sink`, and gives the exit status: the number of the status that the words are answered with, 5 if
+/// memory is wanting, or 8 if the arguments could not be read for another cause.
 pub fn run<S: Source, W: Sink>(
     alloc: Global,
     args: io::Result<Args>,
@@ -33,7 +33,7 @@ pub fn run<S: Source, W: Sink>(
     ensures answers { IfOk args (λ args. Exits S.left S.read_faults S.last_read_fault W.written W.write_faults W.last_write_fault
         (map string_bytes (after_name (into_iter_items args))) source.old source.new sink.old sink.new result) }
 
-    // Where the arguments could not be taken, nothing is read or written.
+    // If the arguments could not be read, nothing is read or written.
     ensures no_words { IfErr args (λ error. result ≡ failure_number_of (error_kind error)) }
     ensures unread { IfErr args (λ error. source.new ≡ source.old) }
     ensures unwritten { IfErr args (λ error. sink.new ≡ sink.old) }

@@ -1,4 +1,4 @@
--- When the settings of an end are sound: its methods, its suites and the keys that it holds.
+-- When the settings of an end are sound: its methods, its suites and its keys.
 use Rattle.std.specs.Prelude.{ℕ, List, [], length, Bool, true, ◌==◌, ◌&&◌, ◌||◌, if◌then◌else◌, nat_le, IsTrue, IfSome, IsSome, All}
 use Rattle.std.specs.List.{list_all}
 use Rattle.std.specs.Str.{bytes_eq}
@@ -17,7 +17,7 @@ are_kinds kinds = list_all is_kind kinds && are_distinct kinds
 abbrev pub are_suites : List ℕ → Bool
 are_suites suites = is_filled suites && (list_all (λ suite. (suite == 1) || (suite == 2)) suites && are_distinct suites)
 
--- whether a key has the octets that the method wants: 16 for EAP-PSK, 32 to 64 for EAP-GPSK
+-- whether a key has the octets that the method requires: 16 for EAP-PSK, 32 to 64 for EAP-GPSK
 abbrev pub fits_kind : ℕ → List ℕ → Bool
 fits_kind kind key =
     if kind == psk_kind then length key == 16
@@ -46,7 +46,7 @@ pub record IsSoundServer (setup : ServerSetup) : Type 0 where
   pub kinds : All (λ user. IsTrue (is_kind user.kind)) setup.users
   pub keys : All (λ user. IsTrue (fits_kind user.kind user.psk)) setup.users
 
--- a peer holds a key for each method that it allows
+-- a peer has a key for each method that it allows
 pub record HasKeys (setup : PeerSetup) : Type 0 where
   pub psk47 : IsTrue (is_among setup.methods psk_kind) → IsSome setup.psk47
   pub psk51 : IsTrue (is_among setup.methods gpsk_kind) → IsSome setup.psk51

@@ -3,16 +3,16 @@
 use crate::setup::{Party, Port};
 use eap_base::Octets;
 
-/// What happens next: a delivery, the end of a timer, or a word of the lower layer.
+/// What happens next: a delivery, the end of a timer, or a report of the lower layer.
 #[derive(Drop)]
 pub enum Event {
-    /// Packet `number`, counted from 1 in the order of sending, comes to its port.
+    /// Packet `number`, counted from 1 in the order of sending, arrives at its port.
     Deliver { number: u32 },
     /// The same, with the octet at `place` combined with `mask` by exclusive or.
     Alter { number: u32, place: u16, mask: u8 },
     /// The same, cut to its first `keep` octets.
     Cut { number: u32, keep: u16 },
-    /// Any octets come to the port.
+    /// Any octets arrive at the port.
     Inject { port: Port, octets: Octets<2000> },
     /// The retransmission timer of the party ends.
     Timeout { party: Party },
@@ -26,6 +26,6 @@ pub enum Event {
     AltAccept,
     /// The peer's lower layer reports failure.
     AltReject,
-    /// The party begins a new conversation; the pass-through begins anew.
+    /// The party begins a new conversation; the pass-through restarts.
     Restart { party: Party },
 }

@@ -1,4 +1,4 @@
-//! What both ends are told before a run, and its events.
+//! The configuration of both ends before a run, and the events of a run.
 #![tactic(auto)]
 
 mod event;

@@ -30,7 +30,7 @@ impl Nonces {
         }
     }
 
-    /// Appends the nonce and answers true. Where 15 nonces are there it answers false and changes nothing.
+    /// Appends the nonce and answers true. If 15 nonces are there it answers false and changes nothing.
     pub fn push(&mut self, nonce: Nonce) -> bool
         ensures room { IsTrue result ↔ (length self.old < 15) }
         ensures pushed { length self.old < 15 → self.new ≡ self.old ++ nonce ∷ [] }

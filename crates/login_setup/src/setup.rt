@@ -1,4 +1,4 @@
-//! The settings of a run: what each end is told before it begins.
+//! The settings of a run: what each end is configured with before it begins.
 
 ghost use Rattle.std.specs.Prelude.{◌≡◌};
 ghost use Rattle.login_setup.specs.Setup.{accepts_name, no_later};
@@ -22,8 +22,8 @@ pub enum Party {
     Server,
 }
 
-/// Where a packet is handed in: at the peer, at the server (or backend), or at one of the two sides
-/// of the pass-through.
+/// The port at which a packet is delivered: the peer, the server (or backend), or one of the two
+/// sides of the pass-through.
 #[derive(Clone, Copy, PartialEq, Eq, Debug)]
 pub enum Port {
     Peer,
@@ -135,7 +135,7 @@ impl ServerSetup {
     }
 }
 
-/// What a scenario tells of later conversations.
+/// What a scenario says of later conversations.
 #[derive(Drop)]
 pub struct Later {
     /// The version of the scenario's text, from 1 on.

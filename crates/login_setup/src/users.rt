@@ -19,7 +19,7 @@ pub struct User {
     pub kind: u8,
     /// The key: 16 octets for 47, 32 to 64 for 51.
     pub psk: Secret,
-    /// True where the server refuses the user by a protected failure.
+    /// True if the server refuses the user by a protected failure.
     pub barred: bool,
 }
 
@@ -36,7 +36,7 @@ impl User {
         }
     }
 
-    /// True where the user has this name and kind.
+    /// True if the user has this name and kind.
     fn is_named(&self, name: &[u8], kind: u8) -> bool
         ensures { result ≡ is_named name.now kind self.now }
     {
@@ -72,7 +72,7 @@ impl Users {
         }
     }
 
-    /// The user of this name and kind, or None where there is none.
+    /// The user of this name and kind, or None if there is none.
     pub fn find(&self, name: &[u8], kind: u8) -> Option<&User>
         ensures { option_copied result ≡ user_of self.now name.now kind }
     {
@@ -82,7 +82,7 @@ impl Users {
             .find(|user| user.is_named(name, kind))
     }
 
-    /// Appends the user and answers true. Where 16 users are there, or one of them has the same name
+    /// Appends the user and answers true. If 16 users are there, or one of them has the same name
     /// and kind, it answers false and changes nothing.
     pub fn add(&mut self, user: User) -> bool
         ensures room { IsTrue result ↔ HasRoom self.old user }

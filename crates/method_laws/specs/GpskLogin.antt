@@ -29,7 +29,7 @@ pub record Ends : Type 0 where
   pub user : User
   pub suite : Suite
 
--- the ends fit: they share a key, and each takes the other
+-- the ends fit: they share a key, and each accepts the other
 pub record Fit (ends : Ends) : Type 0 where
   pub accepted : accepts_name ends.cred.accepts ends.own.id_s ≡ true
   pub picked : picked_suite ends.cred.suites (suite_list ends.own.suites) ≡ Some ends.suite
@@ -50,7 +50,7 @@ peer_login ends = peer_rows.login_from ends.cred ends.nonce ends.own.id_s ends.o
 abbrev pub server_login : Ends → server.Login
 server_login ends = server_rows.login_from ends.own ends.own_nonce ends.cred.id_p ends.user ends.nonce ends.suite
 
--- each turn takes what the other end has sent, and both ends end in success with the same keys
+-- each turn accepts what the other end has sent, and both ends end in success with the same keys
 pub record GoesThrough (ends : Ends) (id next_id last_id : ℕ) : Type 0 where
   pub begins : server.first_step (server.begun ends.own ends.own_nonce) id
       ≡ record { packet = gpsk_request id (server.gpsk1_of ends.own ends.own_nonce); after = server.asked ends.own ends.own_nonce }

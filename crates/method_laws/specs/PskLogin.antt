@@ -28,7 +28,7 @@ pub record Ends : Type 0 where
   pub users : List User
   pub user : User
 
--- the ends fit: they share a key, and each takes the other
+-- the ends fit: they share a key, and each accepts the other
 pub record Fit (ends : Ends) : Type 0 where
   pub accepted : accepts_name ends.cred.accepts ends.own.id_s ≡ true
   pub known : user_of ends.users ends.cred.id_p psk_kind ≡ Some ends.user
@@ -54,7 +54,7 @@ psk1_of ends = psk1 (rand_of ends.own_nonce) ends.own.id_s
 abbrev pub psk2_records : Ends → List TagRecord
 psk2_records ends = ak_record ends.cred.psk (peer.mac_p_covers (peer_login ends)) (peer.mac_p_of (peer_login ends)) ∷ []
 
--- each turn takes what the other end has sent and accepts the very tags that it made, and both ends
+-- each turn reads what the other end has sent and accepts the very tags that it made, and both ends
 -- end in success with the same keys
 pub record GoesThrough (ends : Ends) (id next_id last_id : ℕ) : Type 0 where
   pub begins : server.first_step (server.begun ends.own ends.own_nonce) id

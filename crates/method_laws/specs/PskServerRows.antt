@@ -44,7 +44,7 @@ pub data PskServerRow (users : List User) (next_id : ℕ) (view : View) (octets 
       (psk_request next_id (psk3_of (login_from own nonce id_p user rand_p) next_id))
       (ak_record user.psk (mac_p_covers (login_from own nonce id_p user rand_p)) mac ∷ [])
       (psk3_records (login_from own nonce id_p user rand_p) next_id))
-  -- PSK-4 with DONE_SUCCESS, where PSK-3 had it too
+  -- PSK-4 with DONE_SUCCESS, if PSK-3 had it too
   ends_success : (login : Login) (rand_s : List ℕ) (nonce : ℕ) (tag : List ℕ) (sealed : ℕ)
       (in_view : view ≡ checked login)
       (is_read : read_of (body_of octets) ≡ Ok (psk4 rand_s nonce tag sealed))
@@ -58,7 +58,7 @@ pub data PskServerRow (users : List User) (next_id : ℕ) (view : View) (octets 
       (their_success : result_of (opened_by login sealed) ≡ done_success)
       → PskServerRow users next_id view octets
       (done (over login true) true (tek_record login.psk 1 (header_of octets) sealed tag ∷ []))
-  -- PSK-4, where it or PSK-3 has DONE_FAILURE
+  -- PSK-4, if it or PSK-3 has DONE_FAILURE
   ends_failure : (login : Login) (rand_s : List ℕ) (nonce : ℕ) (tag : List ℕ) (sealed : ℕ)
       (in_view : view ≡ checked login)
       (is_read : read_of (body_of octets) ≡ Ok (psk4 rand_s nonce tag sealed))

@@ -18,7 +18,7 @@ whole_lines [] then_these = then_these
 whole_lines (piece ∷ []) then_these = then_these
 whole_lines (piece ∷ next ∷ rest) then_these = line (without_cr piece) (whole_lines (next ∷ rest) then_these)
 
--- the last piece is a line as it stands, but for an empty one
+-- the last piece is a line as it is, but for an empty one
 abbrev pub last_line : List ℕ → Lines
 last_line [] = ended
 last_line (octet ∷ rest) = line (octet ∷ rest) ended

@@ -1,4 +1,4 @@
--- What a source has left and what a sink was given: the octets where they are told, else None.
+-- What a source has left and what a sink was given: the octets if they are shown, else None.
 use Rattle.std.specs.Prelude.{ℕ, List, [], ◌++◌, Option, Some, None}
 
 -- the known octets with others before them
@@ -11,7 +11,7 @@ abbrev pub append_known : Option (List ℕ) → List ℕ → Option (List ℕ)
 append_known None back = None
 append_known (Some octets) back = Some (octets ++ back)
 
--- no octets, where they are told
+-- no octets, if they are shown
 abbrev pub nothing_known : Option (List ℕ) → Option (List ℕ)
 nothing_known None = None
 nothing_known (Some octets) = Some []

@@ -1,4 +1,4 @@
--- What the octets that a reader holds do to a line that is begun.
+-- What the octets that a reader has buffered do to a line that is begun.
 use Rattle.std.specs.Prelude.{◌≡◌, ◌≢◌, ℕ, ◌+◌, ◌<◌, ◌≤◌, List, [], ◌∷◌, ◌++◌, length, min, Option, option_map}
 use Rattle.octet_io.specs.Lines.{Lines, LineReading, lines_from, lines_left, max_line, max_input, Divides}
 use Rattle.octet_io.specs.declared.lines.NextLine.TheVariants.{Line, End, TooLong, TooMuch, Read}
@@ -6,11 +6,11 @@ use Rattle.octet_io.specs.declared.lines.NextLine.{NextLine}
 use Rattle.octet_io.specs.declared.lines.Step.{Step}
 use Rattle.octet_io.specs.declared.lines.Step.TheVariants.{GoesOn, EndsLine, PassesLine, PassesInput}
 
--- the lines that are still to come in mid-line, where the source tells what it has left
+-- the lines that are still to come in mid-line, if the source shows what it has left
 abbrev pub lines_within : LineReading → Option (List ℕ) → Option Lines
 lines_within reader left = option_map (λ octets. lines_from reader.taken reader.line (reader.held ++ octets)) left
 
--- what the lines that were to come are after a step, where the source has these octets left
+-- what the lines that were to come are after a step, if the source has these octets left
 abbrev pub Advances : Step → LineReading → Option Lines → Option (List ℕ) → Type 0
 Advances GoesOn now before left = (now.held ≡ []) × (before ≡ lines_within now left)
 Advances EndsLine now before left = Divides Line now.line before (lines_left now left)
@@ -24,7 +24,7 @@ TakesOctets EndsLine before after = before.taken < after.taken
 TakesOctets PassesLine before after = before.taken ≤ after.taken
 TakesOctets PassesInput before after = before.taken ≤ after.taken
 
--- the next octet that is held, where there is one, ends the line or passes a limit
+-- the next octet that is buffered, if there is one, ends the line or passes a limit
 abbrev pub StopsAt : List ℕ → List ℕ → ℕ → Type 0
 StopsAt [] line taken = Unit {0}
 StopsAt (octet ∷ rest) line taken = octet ≢ 10 → length line < max_line → max_input ≤ taken

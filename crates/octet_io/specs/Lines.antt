@@ -27,7 +27,7 @@ without_cr [] = []
 without_cr (x ∷ []) = if x == 13 then [] else x ∷ []
 without_cr (x ∷ y ∷ rest) = x ∷ without_cr (y ∷ rest)
 
--- the lines of the octets that are left, where `taken` octets came before them, the last of which
+-- the lines of the octets that are left, if `taken` octets came before them, the last of which
 -- begin the line as `begun`
 unfoldable pub lines_from : ℕ → List ℕ → List ℕ → Lines
 lines_from taken [] [] = ended
@@ -42,7 +42,7 @@ lines_from taken begun (x ∷ rest) =
 abbrev pub lines : List ℕ → Lines
 lines octets = lines_from 0 [] octets
 
--- a reader of lines: how many octets it has handed out, the octets that it has read ahead, the line
+-- a reader of lines: how many octets it has returned, the octets that it has read ahead, the line
 -- that it read last, that line's number, and whether it is over
 pub record LineReading : Type 0 where
   pub taken : ℕ
@@ -51,7 +51,7 @@ pub record LineReading : Type 0 where
   pub number : ℕ
   pub over : Bool
 
--- the lines that are still to come, where the source tells what it has left
+-- the lines that are still to come, if the source shows what it has left
 abbrev pub lines_left : LineReading → Option (List ℕ) → Option Lines
 lines_left reader left = option_map (λ octets. lines_from reader.taken [] (reader.held ++ octets)) left
 
@@ -72,7 +72,7 @@ Numbers TooLong before after = after ≡ before + 1
 Numbers TooMuch before after = after ≡ before + 1
 Numbers Read before after = Unit {0}
 
--- where a read fails, the line last begun is that of the octets taken in the call, if there are some
+-- if a read fails, the line last begun is that of the octets taken in the call, if there are some
 abbrev pub Begins : NextLine → LineReading → LineReading → Type 0
 Begins Read before after = after.number ≡ before.number + min 1 (after.taken - before.taken)
 Begins Line before after = Unit {0}
@@ -96,7 +96,7 @@ Exhausts TooLong left = Unit {0}
 Exhausts TooMuch left = Unit {0}
 Exhausts Read left = Unit {0}
 
--- the answer Read comes only where the count of faults rose, or stands at its last value; after any other
+-- the answer Read comes only if the count of faults rose, or is at its last value; after any other
 -- answer it is as it was
 abbrev pub Faults : NextLine → Option ℕ → ℕ → ℕ → Type 0
 Faults Read last before after = after ≤ before → last ≡ Some after

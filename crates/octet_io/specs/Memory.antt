@@ -6,7 +6,7 @@ use Rattle.eap_base.specs.Among.{is_among}
 abbrev pub last_call : ℕ
 last_call = 4294967295
 
--- whether the next call is listed, where so many came before; calls are numbered from 1
+-- whether the next call is listed, if so many came before; calls are numbered from 1
 abbrev pub is_listed : List ℕ → ℕ → Bool
 is_listed failing calls = nat_lt calls last_call && is_among failing (calls + 1)
 

@@ -1,4 +1,4 @@
-//! Octets that were read ahead of their use.
+//! Octets of a source that were read and not used yet.
 
 ghost use Rattle.std.specs.Prelude.{◌≡◌, ◌≤◌, [], length, drop, Some, IfOk, OnErr, OnOk};
 ghost use Rattle.octet_io.specs.Known.{prepend_known, nothing_known};
@@ -38,7 +38,7 @@ impl Ahead {
         }
     }
 
-    /// Reads once, where no octet is left, and answers how many octets came: none where the source has
+    /// Reads once, if no octet is left, and answers how many octets came: none if the source has
     /// none left.
     pub fn fill<S: Source>(&mut self, source: &mut S) -> Result<usize, Failed>
         ensures count { IfOk result (λ n. n ≡ length self.new) }

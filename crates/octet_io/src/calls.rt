@@ -1,4 +1,4 @@
-//! The calls of an object that is to fail at some of them.
+//! A count of calls, some of which are to fail.
 
 ghost use Rattle.std.specs.Prelude.{◌≡◌, ◌+◌, IfOk};
 ghost use Rattle.std.specs.Bool.{OnTrue};
@@ -15,7 +15,7 @@ pub struct Calls {
 }
 
 impl Calls {
-    /// No call came yet. Takes memory for a copy of the numbers.
+    /// No call came yet. Allocates memory for a copy of the numbers.
     pub fn new(alloc: Global, failing: &[u32]) -> Result<Calls, AllocError>
         ensures failing { IfOk result (λ calls. calls.failing.items ≡ failing.now) }
         ensures none { IfOk result (λ calls. calls.came ≡ 0) }

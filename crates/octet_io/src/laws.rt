@@ -3,14 +3,14 @@
 ghost use Rattle.octet_io.specs.Cutting.{LinesAreThePieces, LinesEndAtALimit, SomeOctetIsPast};
 
 /// Within the limits the lines are the pieces of the input between its LFs, each without the CR directly
-/// before its LF, and the last as it stands, if it isn't empty.
+/// before its LF, and the last as it is, if it isn't empty.
 #[tactic(auto, using(crate::proofs::Cut::lines_are_the_pieces))]
 pub fn lines_are_the_pieces()
     ensures { LinesAreThePieces }
 {}
 
-/// Else they end at the first octet past a limit: as too long where it is a line's octet 4,097, as too
-/// much where it is octet 16,777,217 of the input alone.
+/// Else they end at the first octet past a limit: as too long if it is a line's octet 4,097, as too
+/// much if it is octet 16,777,217 of the input alone.
 #[tactic(auto, using(crate::proofs::Cut::lines_end_at_a_limit))]
 pub fn lines_end_at_a_limit()
     ensures { LinesEndAtALimit }

@@ -1,4 +1,4 @@
-//! A source cut into lines.
+//! Reading a source line by line.
 
 ghost use Rattle.std.specs.Prelude.{◌≡◌, ◌≤◌, ◌<◌, ◌+◌, false, length, drop, ℕ, List, Option, [], ◌∷◌, ◌==◌};
 ghost use Rattle.std.specs.List.{position, position_or_len};
@@ -15,7 +15,7 @@ use std::marker::Model;
 pub enum NextLine {
     /// A line, which `line()` now gives.
     Line,
-    /// The end of the source, at the begin of a line.
+    /// The end of the source, at the start of a line.
     End,
     /// A line's octet 4,097.
     TooLong,
@@ -28,7 +28,7 @@ pub enum NextLine {
 /// Cuts a source into lines: each ends with LF, and one CR directly before the LF is dropped. The last
 /// line may lack its LF, and then keeps a CR. A line has at most 4,096 octets without its LF, and the
 /// source at most 16,777,216. Up to 4,096 octets are read at a time; the limits count those of the lines
-/// that were handed out.
+/// that were returned.
 #[derive(Drop)]
 pub struct LineReader {
     taken: u32,
@@ -38,7 +38,7 @@ pub struct LineReader {
     ahead: Ahead,
 }
 
-/// What the octets that are held do to the line that is begun.
+/// What the buffered octets do to the line that is begun.
 enum Step {
     GoesOn,
     EndsLine,
@@ -85,13 +85,13 @@ impl LineReader {
         }
     }
 
-    /// Reads the next line of `source`, which `line()` gives where the answer is `Line`. After every
+    /// Reads the next line of `source`, which `line()` gives if the answer is `Line`. After every
     /// other answer the reader is over.
     pub fn next_line<S: Source>(&mut self, source: &mut S) -> NextLine
         requires { self.old.over ≡ false }
 
-        // The lines are those of the octets that the reader holds and the source has left, however
-        // they are cut into reads.
+        // The lines are those of the octets that the reader has buffered and the source has left,
+        // however they are cut into reads.
         ensures lines { Divides result self.new.line (lines_left self.old (S.left source.old)) (lines_left self.new (S.left source.new)) }
         ensures number { Numbers result self.old.number self.new.number }
         ensures begun { Begins result self.old self.new }
@@ -152,7 +152,7 @@ impl LineReader {
         }
     }
 
-    /// Takes the octets that it holds, up to the end of the line or to a limit.
+    /// Consumes the octets that it has buffered, up to the end of the line or to a limit.
     fn take(&mut self) -> Step
         requires some { 0 < length self.old.held }
         ensures lines { (left : Option (List ℕ)) → Advances result self.new (lines_within self.old left) left }
@@ -171,7 +171,7 @@ impl LineReader {
         }
     }
 
-    /// Takes the octets that it holds before the first LF, as many as pass no limit.
+    /// Consumes the octets that it has buffered before the first LF, as many as pass no limit.
     fn take_stretch(&mut self)
         ensures lines { (left : Option (List ℕ)) → lines_within self.old left ≡ lines_within self.new left }
         ensures taken { self.new.taken + length self.old.line ≡ self.old.taken + length self.new.line }
@@ -191,7 +191,7 @@ impl LineReader {
         self.taken += count as u32;
     }
 
-    /// Meets the next octet that it holds, which ends the line or passes a limit.
+    /// Consumes the next octet that it has buffered, which ends the line or passes a limit.
     fn meet(&mut self, octet: u8) -> Step
         requires next { self.old.held ≡ octet ∷ drop 1 self.old.held }
         requires stops { Stops self.old }
@@ -213,7 +213,7 @@ impl LineReader {
         Step::EndsLine
     }
 
-    /// The answer where nothing is held and the source has nothing left: a line that is begun ends here.
+    /// The answer if nothing is buffered and the source has nothing left: a line that is begun ends here.
     fn last_answer(&self) -> NextLine
         requires { self.now.held ≡ [] }
         ensures lines { (left : Option (List ℕ)) → left ≡ nothing_known left
@@ -266,7 +266,7 @@ impl LineReader {
     }
 }
 
-/// The number of octets before the first LF, or of all where there is none.
+/// The number of octets before the first LF, or of all if there is none.
 fn octets_before_lf(octets: &[u8]) -> usize
     ensures count { result ≡ position_or_len (λ b. b == 10) octets.now }
     ensures fits { result ≤ length octets.now }

@@ -1,4 +1,4 @@
-//! A source and a sink in memory, which tell their octets and fail at the calls that they are told.
+//! A source and a sink in memory, which show their octets and fail at the calls that a list names.
 
 ghost use Rattle.std.specs.Prelude.{◌≡◌, ◌≤◌, ◌<◌, ◌++◌, ◌↔◌, [], length, take, drop, Some, IfOk, IsErr, OnOk, OnErr, IsTrue};
 ghost use Rattle.octet_io.specs.Known.{prepend_known, append_known, nothing_known};
@@ -11,7 +11,7 @@ use crate::unread::Unread;
 use std::alloc::{AllocError, Global};
 use std::marker::Model;
 
-/// A source of octets in memory, which fails at exactly the calls that it is told.
+/// A source of octets in memory, which fails at exactly the listed calls.
 #[derive(Drop)]
 pub struct MemSource {
     unread: Unread,
@@ -69,7 +69,7 @@ impl Source for MemSource {
         ensures uncounted { OnOk result (self.new.faults ≡ self.old.faults) }
         ensures never_falls { self.old.faults ≤ self.new.faults }
 
-        // It fails exactly where the call is listed, and then takes nothing.
+        // It fails exactly if the call is listed, and then takes nothing.
         ensures listed { IsErr result ↔ IsTrue (is_listed self.old.failing self.old.calls) }
         ensures failed { OnErr result (self.new ≡ after_read_fault self.old) }
         ensures untouched { OnErr result (buf.new ≡ buf.old) }
@@ -87,7 +87,7 @@ impl Source for MemSource {
     }
 }
 
-/// A sink of octets in memory. It fails at the calls that it is told, and where it has no room left.
+/// A sink of octets in memory. It fails at the listed calls, and if it has no room left.
 #[derive(Drop)]
 pub struct MemSink {
     octets: Vec<u8>,
@@ -117,8 +117,8 @@ impl Model for MemSink {
 
 impl MemSink {
     /// An empty sink with room for `room` octets in all, of which one call takes at most `piece`. The
-    /// calls whose numbers `failing` lists, from 1, fail and take nothing. All memory is taken here:
-    /// answers `AllocError` for want of it.
+    /// calls whose numbers `failing` lists, from 1, fail and take nothing. All memory is allocated
+    /// here: answers `AllocError` for want of it.
     pub fn new(
         alloc: Global,
         room: usize,
@@ -165,11 +165,11 @@ impl Sink for MemSink {
         ensures never_falls { self.old.faults ≤ self.new.faults }
         ensures never_passes { self.new.faults ≤ last_fault }
 
-        // It fails exactly where the call is listed, or there is something to write and no room.
+        // It fails exactly if the call is listed, or there is something to write and no room.
         ensures fails { IsErr result ↔ IsTrue (write_fails self.old piece.now) }
         ensures failed { OnErr result (self.new ≡ after_write_fault self.old) }
 
-        // Otherwise it takes as much as the piece that it was given, its own and its room allow.
+        // Otherwise it takes as much as the piece passed to it, its own and its room allow.
         ensures count { IfOk result (λ n. n ≡ write_count self.old (length piece.now)) }
         ensures wrote { IfOk result (λ n. self.new ≡ after_write self.old piece.now n) }
     {

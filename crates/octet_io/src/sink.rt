@@ -1,4 +1,4 @@
-//! Where octets go.
+//! The trait of a sink of octets.
 
 ghost use Rattle.std.specs.Prelude.{◌≡◌, ◌≤◌, ◌<◌, length, take, Some, IfOk, IfSome, OnOk, OnErr};
 ghost use Rattle.octet_io.specs.Known.{append_known};
@@ -9,17 +9,17 @@ use crate::source::Failed;
 pub trait Sink {
     ghost use Rattle.std.specs.Prelude.{ℕ, List, Option};
 
-    /// The octets that were written so far, where the sink tells them.
+    /// The octets that were written so far, if the sink shows them.
     ghost written: { Self → Option (List ℕ) };
 
     /// How many writes have failed so far.
     ghost write_faults: { Self → ℕ };
 
-    /// The greatest number that the count of faults can reach, where there is one.
+    /// The greatest number that the count of faults can reach, if there is one.
     ghost last_write_fault: { Option ℕ };
 
-    /// Writes the first octets of `piece`, at least one where there is one, and answers how many.
-    /// `Failed` comes only where the count of faults rose, or stands at its last value, which it never
+    /// Writes the first octets of `piece`, at least one if there is one, and answers how many.
+    /// `Failed` comes only if the count of faults rose, or is at its last value, which it never
     /// passes; then nothing was written. Without `Failed` the count is as it was.
     fn write(&mut self, piece: &[u8]) -> Result<usize, Failed>
         ensures moves { IfOk result (λ n. 0 < length piece.now → 0 < n) }

@@ -1,4 +1,4 @@
-//! Where octets come from.
+//! The trait of a source of octets, and the error of a failed read or write.
 
 ghost use Rattle.std.specs.Prelude.{◌≡◌, ◌≤◌, ◌<◌, length, take, Some, IfOk, IfSome, OnOk, OnErr};
 ghost use Rattle.octet_io.specs.Known.{prepend_known, nothing_known};
@@ -14,18 +14,18 @@ pub struct Failed;
 pub trait Source {
     ghost use Rattle.std.specs.Prelude.{ℕ, List, Option};
 
-    /// The octets that are left to be read, where the source tells them.
+    /// The octets that are left to be read, if the source shows them.
     ghost left: { Self → Option (List ℕ) };
 
     /// How many reads have failed so far.
     ghost read_faults: { Self → ℕ };
 
-    /// The greatest number that the count of faults can reach, where there is one.
+    /// The greatest number that the count of faults can reach, if there is one.
     ghost last_read_fault: { Option ℕ };
 
-    /// Reads up to `buf.len()` octets into the front of `buf` and answers how many. 0 octets in a `buf`
-    /// that isn't empty say that nothing is left. `Failed` comes only where the count of faults rose,
-    /// or stands at its last value, which it never passes; without `Failed` it is as it was.
+    /// Reads up to `buf.len()` octets into `buf` from its start and answers how many. 0 octets in a
+    /// `buf` that isn't empty say that nothing is left. `Failed` comes only if the count of faults
+    /// rose, or is at its last value, which it never passes; without `Failed` it is as it was.
     fn read(&mut self, buf: &mut [u8]) -> Result<usize, Failed>
         ensures fits { IfOk result (λ n. n ≤ length buf.old) }
         ensures taken { IfOk result (λ n. left self.old ≡ prepend_known (take n buf.new) (left self.new)) }

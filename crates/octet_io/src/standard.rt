@@ -9,7 +9,7 @@ use crate::source::{Failed, Source};
 use std::io::{Read, Write};
 use std::marker::Model;
 
-/// A reader as a source, which doesn't tell what it has left. Contracts see the reader and the count of
+/// A reader as a source, which doesn't show what it has left. Contracts see the reader and the count of
 /// its faults.
 #[derive(Drop)]
 pub struct StdSource<R: Read + Drop> {
@@ -58,7 +58,7 @@ impl<R: Read + Drop> Source for StdSource<R> {
         ensures read { OnOk result (self.new.faults ≡ self.old.faults) }
         ensures failed { OnErr result (self.new.faults ≡ next_fault self.old.faults) }
 
-        // The octets are those that the reader gives, where it says what it has left.
+        // The octets are those that the reader gives, if it says what it has left.
         ensures octets { ReadConsumes (R.remaining self.old.inner) (R.remaining self.new.inner) result buf.new }
     {
         match self.reader.read(buf) {
@@ -71,7 +71,7 @@ impl<R: Read + Drop> Source for StdSource<R> {
     }
 }
 
-/// A writer as a sink, which doesn't tell what was written. Contracts see the writer and the count of its
+/// A writer as a sink, which doesn't show what was written. Contracts see the writer and the count of its
 /// faults.
 #[derive(Drop)]
 pub struct StdSink<W: Write + Drop> {
@@ -121,7 +121,7 @@ impl<W: Write + Drop> Sink for StdSink<W> {
         ensures wrote { OnOk result (self.new.faults ≡ self.old.faults) }
         ensures failed { OnErr result (self.new.faults ≡ next_fault self.old.faults) }
 
-        // The octets are those that the writer holds then, where it says what it holds.
+        // The octets are those that the writer has then, if it says what it has.
         ensures octets { IfOk result (λ n. Appends (W.contents self.old.inner) (W.contents self.new.inner) (take n piece.now)) }
     {
         match self.writer.write(piece) {

@@ -57,7 +57,7 @@ impl Source for SureSource {
     }
 }
 
-/// A sink that takes every piece whole, keeps nothing and never fails.
+/// A sink that takes every piece whole, stores nothing and never fails.
 #[derive(Drop, Default)]
 pub struct SureSink;
 

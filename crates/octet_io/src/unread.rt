@@ -1,4 +1,4 @@
-//! Octets in memory, read from their begin on.
+//! Octets in memory, read from their start on.
 
 ghost use Rattle.std.specs.Prelude.{◌≡◌, ◌≤◌, ◌++◌, length, take, drop, min, IfOk};
 
@@ -23,7 +23,7 @@ impl Model for Unread {
 }
 
 impl Unread {
-    /// These octets, of which none has been read. Takes memory for a copy of them.
+    /// These octets, of which none has been read. Allocates memory for a copy of them.
     pub fn new(alloc: Global, octets: &[u8]) -> Result<Unread, AllocError>
         ensures { IfOk result (λ unread. unread ≡ octets.now) }
     {
@@ -33,7 +33,7 @@ impl Unread {
         })
     }
 
-    /// Reads up to `most` octets into the front of `buf`, as many as it has and as are left, and
+    /// Reads up to `most` octets into `buf` from its start, as many as it has and as are left, and
     /// answers how many.
     pub fn read(&mut self, most: usize, buf: &mut [u8]) -> usize
         ensures count { result ≡ min (min most (length buf.old)) (length self.old) }

@@ -24,7 +24,7 @@ took_packet c (Err fault) = record { text = []; ruling = refuses (fault_word fau
 took_packet c (Ok None) = record { text = []; ruling = goes; after = c }
 took_packet c (Ok (Some octets)) = record { text = packet_text (c.packets + 1) octets; ruling = goes; after = with_packet c octets }
 
--- what a line brings
+-- the result of a line
 unfoldable pub decode_took : Decode → List ℕ → Took Decode
 decode_took c line = took_packet c (packet_line line)
 
@@ -32,7 +32,7 @@ decode_took c line = took_packet c (packet_line line)
 unfoldable pub decode_closing : Decode → Closing
 decode_closing c = record { text = packets_text c.packets c.malformed; closed = ends status.Done }
 
--- no line finds memory wanting
+-- no line fails for want of memory
 abbrev pub decode_lacks : Decode → List ℕ → Bool
 decode_lacks c line = false
 

@@ -10,7 +10,7 @@ use Rattle.command_driver.specs.Answers.{Answer}
 use Rattle.command_driver.specs.Commands.{Took, Closing, goes, refuses, ends, answer}
 use Rattle.command_driver.specs.declared.status.Status.TheVariants as status
 
--- each request is answered by itself: nothing of the command decides what a line brings
+-- each request is answered by itself: nothing of the command decides the result of a line
 pub record Asking : Type 0 where
 
 abbrev pub took_request : Asking → Result (Option KeyLine) LineFault → Took Asking
@@ -18,7 +18,7 @@ took_request c (Err fault) = record { text = []; ruling = refuses (fault_word fa
 took_request c (Ok None) = record { text = []; ruling = goes; after = c }
 took_request c (Ok (Some asked)) = record { text = key_text asked; ruling = goes; after = c }
 
--- what a line brings
+-- the result of a line
 unfoldable pub keys_took : Asking → List ℕ → Took Asking
 keys_took c line = took_request c (key_line line)
 
@@ -26,7 +26,7 @@ keys_took c line = took_request c (key_line line)
 unfoldable pub keys_closing : Asking → Closing
 keys_closing c = record { text = []; closed = ends status.Done }
 
--- no line finds memory wanting
+-- no line fails for want of memory
 abbrev pub keys_lacks : Asking → List ℕ → Bool
 keys_lacks c line = false
 

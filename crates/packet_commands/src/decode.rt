@@ -17,7 +17,7 @@ pub struct Decode {
     malformed: u32,
 }
 
-/// True where the octets begin with no packet.
+/// True if the octets begin with no packet.
 #[tactic(auto, unfolding(crate::specs::Decode::is_malformed))]
 fn begins_with_none(octets: &[u8]) -> bool
     ensures { result ≡ is_malformed octets.now }
@@ -95,7 +95,7 @@ impl Command for Decode {
     }
 }
 
-/// Reads packets in hex and writes what they are. It takes no memory.
+/// Reads packets in hex and writes what they are. It allocates no memory.
 #[tactic(auto, using(command_driver::proofs::Responding::never_lacks))]
 pub fn decode_packets<S: Source, W: Sink>(source: &mut S, sink: &mut W) -> Status
     ensures { Responds S.left S.read_faults S.last_read_fault W.written W.write_faults W.last_write_fault

@@ -1,5 +1,5 @@
 //! The commands over single packets and keys: `decode` says what packets are, `keys` answers requests for ciphers,
-//! MACs and key schedules. Neither takes memory.
+//! MACs and key schedules. Neither allocates memory.
 #![tactic(auto)]
 
 mod decode;

@@ -101,7 +101,7 @@ fn end_of_front(keep: usize) -> (NextRecord, u32) {
     }
 }
 
-/// Whether each front of the small file ends as it must.
+/// Whether each prefix of the small file ends as it must.
 fn fronts_end(alloc: Global, piece: usize) -> Result<bool, AllocError> {
     let file = Row::new(SMALL).octets();
     let mut is_same = true;
@@ -125,9 +125,9 @@ fn a_file_may_end_anywhere(rt: HostRuntime) -> Result<(), Fail> {
     Ok(())
 }
 
-// A file, the small one where a dash stands; how many octets a read gives, the read that fails in hex, the frames
-// before it, the answer, and the number of the record then. Where the octets that are there decide, they aren't
-// read on: a wrong magic number, and a length of 262,145 octets.
+// A file, the small one for a dash; how many octets a read gives, the read that fails in hex, the frames
+// before it, the answer, and the number of the record then. If the octets that are there decide, no more are
+// read: a wrong magic number, and a length of 262,145 octets.
 const FAILING: &str = "\
 - 24 01 - Read 00
 - 24 02 - Read 00
@@ -139,7 +139,7 @@ const FAILING: &str = "\
 a1b23c4d0002000400000000000000000000ffff00000001 24 02 - BadMagic 00
 a1b2c3d40002000400000000000000000000ffff00000001000000000000000000040001 36 02 - BadRecord 01";
 
-/// Whether the reading of the row's file ends as the row says, where a read fails.
+/// Whether the reading of the row's file ends as the row says, if a read fails.
 fn fails(alloc: Global, row: &str) -> Result<bool, AllocError> {
     let mut row = Row::new(row);
     let mut file = row.octets();

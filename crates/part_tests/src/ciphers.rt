@@ -9,7 +9,7 @@ use aes_block::{Aes128, TableAes128};
 const CHAIN: &str = "\
 000102030405060708090a0b0c0d0e0f 00112233445566778899aabbccddeeff b7449c8da15defeb78dbc57ea81db8ee";
 
-/// The block after it was encrypted 1,000 times, where both bodies of the cipher give each block alike.
+/// The block after it was encrypted 1,000 times, if both bodies of the cipher give each block alike.
 fn end_of_chain(key: &[u8; 16], block: &[u8; 16]) -> Option<[u8; 16]> {
     let (shuffles, tables) = (Aes128::new(key), TableAes128::new(key));
     let mut block = *block;

@@ -1,5 +1,5 @@
-//! Tests of what stands below the machines, by public calls: streams, lines and lists, copies of settings, the block cipher,
-//! captured frames and long RADIUS packets. Whole logins are in cases/.
+//! Tests of what is below the machines, by public calls: streams, lines and lists, copies of settings, the block
+//! cipher, captured frames and long RADIUS packets. Whole logins are in cases/.
 #![tactic(auto)]
 
 #[cfg(test)]

@@ -103,7 +103,7 @@ fn end_of(octets: u32) -> (NextLine, u32) {
 }
 
 // The input has 16,777,216 octets at most: 262,144 lines of 64 octets. One octet more is too much, also
-// where it is an LF.
+// if it is an LF.
 #[test]
 fn the_input_has_a_limit(rt: HostRuntime) {
     let ends = [end_of(16_777_216), end_of(16_777_217)];

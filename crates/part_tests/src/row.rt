@@ -73,7 +73,7 @@ impl<'a> Row<'a> {
         number
     }
 
-    /// True where each word was what was asked for, and none is left.
+    /// True if each word was what was asked for, and none is left.
     pub(crate) fn is_read(&mut self) -> bool {
         self.is_sound && self.words.next().is_none()
     }

@@ -7,7 +7,7 @@ use std::io;
 use std::io::{ErrorKind, Read, Write};
 use std::test::Fail;
 
-/// Stands for a fault among the answers to reads and writes.
+/// Marks a fault among the answers to reads and writes.
 const FAULT: usize = 99;
 
 /// Whether the reads into the buffer answer these numbers.

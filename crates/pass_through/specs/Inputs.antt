@@ -1,4 +1,4 @@
--- What comes to the pass-through, and what it makes of it (RFC 4137 section 7).
+-- The pass-through's inputs, and what it does at each (RFC 4137 section 7).
 use Rattle.std.specs.Prelude.{ℕ, List, [], if◌then◌else◌}
 use Rattle.pass_through.specs.PassTable.{PassAnswer, answer, rests, is_started, has_timer, is_aaa_idle, pass_start, pass_restart, pass_timeout, pass_aaa_timeout, pass_aaa_noreq, pass_from_peer, pass_from_backend}
 use Rattle.pass_through.specs.declared.variables.PassVariables.{PassVariables}
@@ -12,7 +12,7 @@ pub data PassInput : Type 0 where
   aaa_noreq : PassInput
   from_peer : List ℕ → PassInput
   from_backend : List ℕ → PassInput
-  -- the pass-through begins anew
+  -- the pass-through restarts
   restart : PassInput
 
 abbrev pub pass_rests : PassVariables → PassAnswer

@@ -14,7 +14,7 @@ abbrev pub DiscardsKeep : Type 0
 DiscardsKeep =
     (vars : PassVariables) (input : PassInput) → IsSome (pass_takes vars input).step.cause → KeepsThePassThrough vars (pass_takes vars input)
 
--- where what is sent to a side comes from: the pass-through's own Identity Request; the Request that it
+-- the origin of what is sent to a side: the pass-through's own Identity Request; the Request that it
 -- sent last, again; or the delivery that it answers, without its padding, on its way to the other side
 pub data IsSentOn (vars : PassVariables) : PassInput → Side → Option (List ℕ) → Type 0 where
   nothing : (input : PassInput) (to : Side) → IsSentOn vars input to None
@@ -24,8 +24,8 @@ pub data IsSentOn (vars : PassVariables) : PassInput → Side → Option (List �
   onwards : (octets : List ℕ) → IsSentOn vars (from_peer octets) Server (Some (unpadded octets))
   back : (octets : List ℕ) → IsSentOn vars (from_backend octets) Peer (Some (unpadded octets))
 
--- what is kept for the timer is what was sent to the peer last, but for a Success or a Failure, after which
--- nothing is sent
+-- what is stored for the timer is what was sent to the peer last, but for a Success or a Failure, after
+-- which nothing is sent
 pub data KeepsTheLast (before after : PassVariables) : Side → Option (List ℕ) → Type 0 where
   unsent : (to : Side) (same : after.last_request ≡ before.last_request) → KeepsTheLast before after to None
   unkept : (octets : List ℕ) (same : after.last_request ≡ before.last_request) → KeepsTheLast before after Server (Some octets)

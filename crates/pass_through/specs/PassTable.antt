@@ -10,7 +10,7 @@ use Rattle.eap_packet.specs.declared.state.State.TheVariants as state
 use Rattle.eap_method.specs.declared.step.Step as brief
 use Rattle.pass_through.specs.declared.variables.PassVariables.{PassVariables}
 
--- the two sides between which it stands
+-- its two sides
 pub data Side : Type 0 where
   Peer : Side
   Server : Side
@@ -63,7 +63,7 @@ pass_made first_id max_retrans = record {
 abbrev pub identity_request : ℕ → List ℕ
 identity_request id = spelled (request id identity_kind [])
 
--- a delivery without what stands past its Length
+-- a delivery without what follows its Length
 abbrev pub unpadded : List ℕ → List ℕ
 unpadded octets = take (length_of octets) octets
 
@@ -75,7 +75,7 @@ pass_start vars =
     (asks (state.Initialize ∷ state.SelectAction ∷ state.ProposeMethod ∷ state.MethodRequest ∷ state.SendRequest ∷ state.Idle ∷ []) octets)
     (record vars { state = state.Idle; current_id = Some vars.first_id; retrans_count = 0; last_request = octets })
 
--- a new one, which starts
+-- a restart: a new one, which starts
 unfoldable pub pass_restart : PassVariables → PassAnswer
 pass_restart vars = pass_start (pass_made vars.first_id vars.max_retrans)
 
@@ -187,6 +187,6 @@ is_started s = elim s [ state.Initialize ↦ false | _ ↦ true ]
 
 -- what holds of the variables at every moment
 pub record AreInOrder (vars : PassVariables) : Type 0 where
-  -- where it has not ended, the Request was sent again at most MaxRetrans times
+  -- if it has not ended, the Request was sent again at most MaxRetrans times
   pub in_time : is_over vars.state ≡ false → vars.retrans_count ≤ vars.max_retrans
   pub few : vars.max_retrans ≤ 10

@@ -1,4 +1,4 @@
--- The rows of the pass-through's table (RFC 4137 section 7), each with all that is then known.
+-- The transitions of the pass-through's table (RFC 4137 section 7), each with all that is then known.
 use Rattle.std.specs.Prelude.{◌≡◌, ℕ, ◌+◌, List, [], ◌∷◌, true, false, ◌==◌, nat_le, Some, Ok, Err}
 use Rattle.eap_base.specs.Among.{identity_kind}
 use Rattle.eap_packet.specs.Fault.{packet_of}
@@ -47,7 +47,7 @@ pub data TimerRuns (s : State) : State → State → State → Type 0 where
   of_idle : (stands : s ≡ state.Idle) → TimerRuns s state.Retransmit state.Idle state.TimeoutFailure
   of_idle2 : (stands : s ≡ state.Idle2) → TimerRuns s state.Retransmit2 state.Idle2 state.TimeoutFailure2
 
--- what the pass-through makes of an input
+-- what the pass-through does at an input
 pub data PassRow (vars : PassVariables) : PassInput → PassAnswer → Type 0 where
   -- what has no place does nothing
   stays : (input : PassInput) (why : IsOutOfPlace vars.state input) → PassRow vars input (pass_rests vars)
@@ -63,7 +63,7 @@ pub data PassRow (vars : PassVariables) : PassInput → PassAnswer → Type 0 wh
       (asks (state.Initialize ∷ state.SelectAction ∷ state.ProposeMethod ∷ state.MethodRequest ∷ state.SendRequest ∷ state.Idle ∷ [])
       (identity_request vars.first_id))
       (record vars { state = state.Idle; current_id = Some vars.first_id; retrans_count = 0; last_request = identity_request vars.first_id }))
-  -- it begins anew, wherever it stood
+  -- it restarts, whatever its state was
   begins : PassRow vars restart (pass_restart vars)
   -- RETRANSMIT and RETRANSMIT2, at most MaxRetrans times, then TIMEOUT_FAILURE or TIMEOUT_FAILURE2
   resends : (entered back over : State) (place : TimerRuns vars.state entered back over) (in_time : nat_le (vars.retrans_count + 1) vars.max_retrans ≡ true)
@@ -89,7 +89,7 @@ pub data PassRow (vars : PassVariables) : PassInput → PassAnswer → Type 0 wh
       (is_packet : packet_of octets ≡ Ok (response id kind body)) (is_id : vars.current_id ≡ Some id)
       → PassRow vars (from_peer octets)
       (answer (passes_on (state.Received2 ∷ state.AaaRequest ∷ state.AaaIdle ∷ []) (unpadded octets)) (record vars { state = state.AaaIdle }))
-  -- a Request goes to the peer, and is kept for the timer; a Success or a Failure goes to it too, and ends the conversation
+  -- a Request goes to the peer, and is kept for the timer; a Success or a Failure goes too, and ends the conversation
   hands_request : (octets : List ℕ) (id kind : ℕ) (body : List ℕ) (stands : vars.state ≡ state.AaaIdle)
       (is_packet : packet_of octets ≡ Ok (request id kind body))
       → PassRow vars (from_backend octets)
@@ -100,6 +100,6 @@ pub data PassRow (vars : PassVariables) : PassInput → PassAnswer → Type 0 wh
   hands_failure : (octets : List ℕ) (id : ℕ) (stands : vars.state ≡ state.AaaIdle) (is_packet : packet_of octets ≡ Ok (failure id))
       → PassRow vars (from_backend octets) (answer (asks (state.Failure2 ∷ []) (unpadded octets)) (record vars { state = state.Failure2 }))
 
--- what comes of every input is one of the rows
+-- what comes of every input is one of these transitions
 abbrev pub PassAnswersAreRows : Type 0
 PassAnswersAreRows = (vars : PassVariables) (input : PassInput) → PassRow vars input (pass_takes vars input)

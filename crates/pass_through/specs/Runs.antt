@@ -1,4 +1,4 @@
--- The pass-through alone over all that comes to it: where it then stands, and what it has sent.
+-- The pass-through alone over all that comes to it: its state then, and what it has sent.
 use Rattle.std.specs.Prelude.{ℕ, List, [], ◌∷◌, ◌++◌, All, Option, Some, None}
 use Rattle.pass_through.specs.Inputs.{PassInput, from_peer, from_backend, pass_takes}
 use Rattle.pass_through.specs.PassTable.{Side, Peer, Server, identity_request, pass_made, unpadded}
@@ -29,7 +29,7 @@ pub data HasCome (input : PassInput) : List PassInput → Type 0 where
   behind : (other : PassInput) (rest : List PassInput) → HasCome input rest → HasCome input (other ∷ rest)
 
 -- its own Identity Request, to the peer; octets that came from the peer, on to the server; octets that came from the server, back to
--- the peer: both without what stood past their Length
+-- the peer: both without what followed their Length
 pub data IsCarried (first_id : ℕ) (came : List PassInput) : SentOn → Type 0 where
   own : IsCarried first_id came (record { to = Peer; octets = identity_request first_id })
   onwards : (octets : List ℕ) (has : HasCome (from_peer octets) came) → IsCarried first_id came (record { to = Server; octets = unpadded octets })

@@ -24,7 +24,7 @@ pub fn carries_what_came()
     ensures { CarriesWhatCame }
 {}
 
-/// What the pass-through makes of every input is one row of its table, with all that is then known.
+/// What the pass-through does at every input is one transition of its table, with all that is then known.
 #[tactic(auto, using(crate::proofs::PassRows::pass_answers_are_rows))]
 pub fn answers_are_rows()
     ensures { PassAnswersAreRows }

@@ -1,5 +1,5 @@
 //! The pass-through authenticator of EAP (RFC 4137 section 7): it carries packets between a peer and a
-//! login server. It reads no method and holds no key.
+//! login server. It reads no method and has no key.
 #![tactic(auto)]
 
 mod laws;

@@ -60,7 +60,7 @@ impl PassThrough {
         self.begin(packet)
     }
 
-    /// Begins anew, wherever the pass-through stands: its variables are as INITIALIZE sets them, and it asks for the identity
+    /// Restarts, in any state: its variables are as INITIALIZE sets them, and it asks for the identity
     /// again, with the first Identifier. The Request is written into `packet`; it goes to the peer.
     #[tactic(auto, unfolding(crate::specs::PassTable::pass_restart, crate::specs::PassTable::pass_start))]
     pub fn restart(&mut self, packet: &mut Packet) -> Step
@@ -92,9 +92,9 @@ impl PassThrough {
         Step::sending(&states)
     }
 
-    /// Octets come from the peer. A Response that is awaited goes to the server, from `packet`, without
-    /// what stands past its Length. All else is discarded and changes nothing: in AAA_IDLE, where the
-    /// server is waited for, and after the end with an empty path.
+    /// Octets arrive from the peer. A Response that is awaited goes to the server, from `packet`,
+    /// without what follows its Length. All else is silently discarded and changes nothing: in AAA_IDLE,
+    /// where the server is waited for, and after the end with an empty path.
     #[tactic(auto, unfolding(crate::specs::PassTable::pass_from_peer))]
     pub fn from_peer(&mut self, octets: &[u8], packet: &mut Packet) -> Step
         ensures step { pass_from_peer self.old octets.now ≡ answer (step_to Server result packet.new) self.new }
@@ -112,9 +112,9 @@ impl PassThrough {
         }
     }
 
-    /// Octets come from the server. In AAA_IDLE a Request, a Success or a Failure goes to the peer, from
-    /// `packet`, without what stands past its Length. All else is discarded and changes nothing, with an
-    /// empty path.
+    /// Octets arrive from the server. In AAA_IDLE a Request, a Success or a Failure goes to the peer,
+    /// from `packet`, without what follows its Length. All else is silently discarded and changes
+    /// nothing, with an empty path.
     #[tactic(auto, unfolding(crate::specs::PassTable::pass_from_backend))]
     pub fn from_backend(&mut self, octets: &[u8], packet: &mut Packet) -> Step
         ensures step { pass_from_backend self.old octets.now ≡ answer (step_to Peer result packet.new) self.new }
@@ -179,7 +179,7 @@ impl PassThrough {
         Step::entering(&[State::Discard2, State::Idle2])
     }
 
-    /// The state in which the pass-through stands.
+    /// The pass-through's state.
     pub fn state(&self) -> State
         ensures { result ≡ self.now.state }
     {

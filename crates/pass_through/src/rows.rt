@@ -1,4 +1,4 @@
-//! The rows of the pass-through's table (RFC 4137 section 7.2).
+//! The transitions of the pass-through (RFC 4137 section 7.2).
 
 ghost use Rattle.std.specs.Prelude.{◌≡◌, ◌≤◌, ◌∷◌, [], true, false, Some};
 ghost use Rattle.eap_packet.specs.Fault.{packet_of};
@@ -51,7 +51,7 @@ pub fn take_idle(vars: &mut PassVariables, octets: &[u8], packet: &mut Packet) -
     }
 }
 
-/// DISCARD, after which it stands in IDLE as before.
+/// DISCARD, after which it is in IDLE as before.
 fn discard(cause: Cause) -> Step
     ensures { result ≡ record { path = Received ∷ Discard ∷ Idle ∷ []; cause = Some cause; sends = false } }
 {
@@ -81,7 +81,7 @@ pub fn take_idle2(vars: &mut PassVariables, octets: &[u8], packet: &mut Packet) 
     }
 }
 
-/// DISCARD2, after which it stands in IDLE2 as before.
+/// DISCARD2, after which it is in IDLE2 as before.
 fn discard2(cause: Cause) -> Step
     ensures { result ≡ record { path = Received2 ∷ Discard2 ∷ Idle2 ∷ []; cause = Some cause; sends = false } }
 {
@@ -123,7 +123,7 @@ pub fn take_aaa_idle(vars: &mut PassVariables, octets: &[u8], packet: &mut Packe
 }
 
 /// RETRANSMIT or RETRANSMIT2, the state `entered`: the last Request goes to the peer again, and the
-/// pass-through stands in `back`; past MaxRetrans it ends in `over`.
+/// pass-through is then in `back`; past MaxRetrans it ends in `over`.
 pub fn resend(
     vars: &mut PassVariables,
     entered: State,

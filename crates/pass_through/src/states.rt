@@ -1,4 +1,4 @@
-//! The states in which the pass-through stands between two calls.
+//! The pass-through's states between two calls.
 
 ghost use Rattle.std.specs.Prelude.{◌≡◌};
 ghost use Rattle.pass_through.specs.PassTable.{is_over, is_idle, is_idle2, is_aaa_idle};

@@ -10,7 +10,7 @@ pub struct PassVariables {
     pub first_id: u8,
     /// MaxRetrans: how often a packet is sent to the peer again, at most 10.
     pub max_retrans: u8,
-    /// The state in which it stands between two calls: INITIALIZE before the start, then IDLE, AAA_IDLE,
+    /// Its state between two calls: INITIALIZE before the start, then IDLE, AAA_IDLE,
     /// IDLE2, SUCCESS2, FAILURE2, TIMEOUT_FAILURE or TIMEOUT_FAILURE2.
     pub state: State,
     /// currentId: the Identifier of the Request that was sent to the peer last, None before the first.

@@ -1,5 +1,5 @@
--- A peer that reads Expanded Types (RFC 3748 section 5.7): the rows of its table are those of the plain form of a Request, and
--- what it sends of that is expressed again. No row of the table knows of them.
+-- A peer that reads Expanded Types (RFC 3748 section 5.7): the transitions of its table are those of the plain form of
+-- a Request, and what it sends of that is expressed again. No transition of the table knows of them.
 use Rattle.std.specs.Prelude.{ℕ, List, ◌∷◌, ◌++◌, Bool, true, false, ◌==◌, ◌&&◌, not, if◌then◌else◌, Option, Some, None, Result, Ok, slice_index}
 use Rattle.eap_base.specs.Among.{expanded_kind, ietf, nak_kind}
 use Rattle.eap_packet.specs.Packet.{PacketValue, request, response, spelled}
@@ -22,7 +22,7 @@ abbrev pub express : List ℕ → List ℕ → List ℕ
 express methods octets =
     if type_of octets == nak_kind then expanded_nak_response (slice_index octets 1) methods else wrapped octets
 
--- a Response is sent, and kept for RETRANSMIT, as it is expressed
+-- a Response is sent, and stored for RETRANSMIT, as it is expressed
 abbrev pub keeps_sent : PeerAnswer → List ℕ → PeerAnswer
 keeps_sent out octets =
     answer (record out.step { sent = Some octets }) (with_vars out.after (record out.after.vars { last_response = octets }))
@@ -36,8 +36,8 @@ abbrev pub expressed_unless : Bool → PeerAnswer → PeerAnswer
 expressed_unless true out = out
 expressed_unless false out = expressed out out.step.sent
 
--- a Request to a peer that has not ended: refused where no party takes it; of Type 254, the row of its plain form,
--- expressed; else its row
+-- a Request to a peer that has not ended: refused if no party accepts it; of Type 254, the transition of its plain
+-- form, expressed; else its transition
 abbrev pub reads_request : PeerNow → List ℕ → ℕ → ℕ → List ℕ → PeerAnswer
 reads_request now octets id kind body =
     if is_bad_expanded (request id kind body) then peer_discard now cause.BadExpanded
@@ -49,7 +49,7 @@ abbrev pub peer_reads : PeerNow → List ℕ → Result PacketValue Cause → Pe
 peer_reads now octets (Ok (request id kind body)) = reads_request now octets id kind body
 peer_reads now octets packet = peer_deliver now octets
 
--- a delivery, read so where the settings say so
+-- a delivery, read so if the settings say so
 unfoldable pub peer_hears : PeerNow → List ℕ → PeerAnswer
 peer_hears now octets =
     if now.vars.setup.expanded && not (is_end now.vars.state) then peer_reads now octets (packet_of octets)

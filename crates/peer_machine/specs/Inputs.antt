@@ -1,4 +1,4 @@
--- What comes to the peer, and what it makes of it (RFC 4137 section 4).
+-- The peer's inputs, and what it does at each (RFC 4137 section 4).
 use Rattle.std.specs.Prelude.{ℕ, List, [], if◌then◌else◌}
 use Rattle.eap_method.specs.Steps.{enters, is_end}
 use Rattle.eap_method.specs.Tags.{no_tags}
@@ -26,7 +26,7 @@ peer_answers now alt_accept = unless_ended now (peer_alt_accept now)
 peer_answers now alt_reject = unless_ended now (peer_alt_reject now)
 peer_answers now (restart nonce) = peer_restart now nonce
 
--- by the table, with Expanded Types where the settings say so
+-- by the table, with Expanded Types if the settings say so
 abbrev pub peer_takes : PeerNow → PeerInput → PeerAnswer
 peer_takes now (octets bytes) = peer_hears now bytes
 peer_takes now input = peer_answers now input

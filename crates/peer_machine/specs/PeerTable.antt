@@ -33,7 +33,7 @@ pub record PeerNow : Type 0 where
   pub vars : PeerVariables
   pub views : PeerViews
 
--- what a machine is, where an object shows its method and view
+-- what a machine is, if an object shows its method and view
 abbrev pub now_of : {M : Type 0} → (M → PeerShown) → PeerValue M → PeerNow
 now_of shown value = record { vars = value.vars; views = peer_views value.vars.setup.methods (map shown value.methods) }
 
@@ -114,7 +114,7 @@ abbrev pub peer_retransmit : PeerNow → PeerAnswer
 peer_retransmit now =
     answer (sends (state.Received ∷ state.Retransmit ∷ state.SendResponse ∷ state.Idle ∷ []) now.vars.last_response no_tags) now
 
--- the states before METHOD: GET_METHOD, where it has just selected the method
+-- the states before METHOD: GET_METHOD, if it has just selected the method
 abbrev pub before_method : Bool → List State
 before_method true = state.Received ∷ state.GetMethod ∷ []
 before_method false = state.Received ∷ []
@@ -197,7 +197,7 @@ peer_deliver now octets =
 unfoldable pub peer_idle : PeerNow → PeerAnswer
 peer_idle now = peer_ends now [] (if is_uncond now.vars.decision then state.Success else state.Failure)
 
--- the lower layer reports success: SUCCESS after a decision other than FAIL, else FAILURE where
+-- the lower layer reports success: SUCCESS after a decision other than FAIL, else FAILURE if
 -- methodState isn't CONT, else nothing
 unfoldable pub peer_alt_accept : PeerNow → PeerAnswer
 peer_alt_accept now =

@@ -1,4 +1,4 @@
--- The rows of the peer's table (RFC 4137 section 4), each with all that is then known.
+-- The transitions of the peer's table (RFC 4137 section 4), each with all that is then known.
 use Rattle.std.specs.Prelude.{◌≡◌, ℕ, List, [], ◌∷◌, ◌++◌, Bool, true, false, ◌==◌, ◌&&◌, Some, None, Ok, Err}
 use Rattle.eap_base.specs.Among.{is_among, identity_kind, notification_kind}
 use Rattle.eap_packet.specs.Fault.{packet_of}
@@ -74,13 +74,13 @@ pub data EndsBadly (now : PeerNow) : PeerInput → List State → Type 0 where
   late_accept : (fails : is_fail now.vars.decision ≡ true) (over : is_cont now.vars.method_state ≡ false) → EndsBadly now alt_accept []
   by_reject : EndsBadly now alt_reject []
 
--- what the peer makes of an input
+-- what the peer does at an input
 pub data PeerRow (now : PeerNow) : PeerInput → PeerAnswer → Type 0 where
   -- after the end octets are discarded, and a report does nothing
   ended : (bytes : List ℕ) (over : is_end now.vars.state ≡ true) → PeerRow now (octets bytes) (answer (discards [] cause.Ended) now)
   rests : (report : PeerInput) (no_octets : (bytes : List ℕ) → report ≡ octets bytes → ⊥) (no_restart : (nonce : List ℕ) → report ≡ restart nonce → ⊥) (over : is_end now.vars.state ≡ true)
       → PeerRow now report (answer (enters [] no_tags) now)
-  -- a new conversation, wherever the peer stood
+  -- a new conversation, whatever the peer's state was
   begins : (nonce : List ℕ) → PeerRow now (restart nonce) (peer_restart now nonce)
   -- octets that are no packet or out of place, and what the method discards
   drops : (bytes : List ℕ) (path : List State) (c : Cause) (going : is_end now.vars.state ≡ false) (why : Drops now bytes c path)
@@ -123,6 +123,6 @@ pub data PeerRow (now : PeerNow) : PeerInput → PeerAnswer → Type 0 where
       (answer (enters (before_method selects ++ state.Method ∷ state.Failure ∷ []) tags)
       (record { vars = record now.vars { state = state.Failure; selected = Some kind; method_state = m; decision = d }; views = views }))
 
--- what comes of every input by the table is one of the rows
+-- what comes of every input by the table is one of these transitions
 abbrev pub PeerAnswersAreRows : Type 0
 PeerAnswersAreRows = (now : PeerNow) (input : PeerInput) → PeerRow now input (peer_answers now input)

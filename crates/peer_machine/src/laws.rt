@@ -10,7 +10,7 @@ pub fn discards_keep()
     ensures { DiscardsKeep }
 {}
 
-/// What the peer makes of every input is one row of its table, with all that is then known.
+/// What the peer does at every input is one transition of its table, with all that is then known.
 #[tactic(auto, using(crate::proofs::PeerRows::peer_answers_are_rows))]
 pub fn answers_are_rows()
     ensures { PeerAnswersAreRows }

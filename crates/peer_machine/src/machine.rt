@@ -33,9 +33,9 @@ use std::marker::Model;
 
 /// The peer of RFC 4137 section 4: its variables, and the objects of its methods. Contracts see both;
 /// what an object shows is its ghost member `peer_shown`. No call changes the settings but [`restart`](PeerMachine::restart)
-/// their nonce, nor the view of an object whose method they don't name. Where the settings say `expanded`, the peer
-/// reads Expanded Types (RFC 3748 section 5.7), as [`deliver`](PeerMachine::deliver) says; else Type 254 is to it a Type
-/// like any other.
+/// their nonce, nor the view of an object whose method they don't name. If the settings say `expanded`, the peer
+/// reads Expanded Types (RFC 3748 section 5.7), as [`deliver`](PeerMachine::deliver) says; else it handles Type 254
+/// like any other Type.
 #[derive(Drop)]
 pub struct PeerMachine<M> {
     vars: PeerVariables,
@@ -57,8 +57,8 @@ impl<M: PeerMethod> PeerMachine<M> {
     ghost use Rattle.peer_machine.specs.PeerTable.{now_of, own_nonce, peer_made, peer_restart, peer_deliver, peer_idle, peer_alt_accept, peer_alt_reject, peer_reports, peer_row, peer_success, peer_failure, new_request, peer_method, is_last_id};
     ghost use Rattle.peer_machine.specs.Expanded.{peer_hears, reads_request, expressed_unless};
 
-    /// INITIALIZE (RFC 4137 section 4.5): begins the objects of the methods that the setup allows; the
-    /// peer then stands in IDLE. Each of these methods has an object.
+    /// INITIALIZE (RFC 4137 section 4.5): begins the objects of the methods that the setup allows; the peer is then in
+    /// IDLE. Each of these methods has an object.
     pub fn new(setup: PeerSetup, methods: Vec<M>) -> PeerMachine<M>
         requires sound { IsSoundPeer setup }
         requires keys { HasKeys setup }
@@ -82,7 +82,7 @@ impl<M: PeerMethod> PeerMachine<M> {
         }
     }
 
-    /// Begins a new conversation with this nonce, wherever the peer stands: its variables and the objects of its methods are
+    /// Begins a new conversation with this nonce, in any state: its variables and the objects of its methods are
     /// as INITIALIZE sets them (RFC 4137 section 4.5), and of the settings the nonce alone changes. Nothing is sent, and no
     /// tag is accepted or made. Each of its methods has an object.
     #[tactic(auto, unfolding(crate::specs::PeerTable::peer_restart), using(crate::proofs::Restarting::still_sound, crate::proofs::Restarting::still_keyed))]
@@ -103,20 +103,19 @@ impl<M: PeerMethod> PeerMachine<M> {
         Step::entering(&[State::Initialize, State::Idle])
     }
 
-    /// Octets come from the server. The packet that they begin with is taken through RECEIVED (RFC 4137
-    /// section 4.5). Octets that begin with no packet are discarded, and so are all once the peer has
-    /// ended. The packet that is sent is written into `packet`, the records of the turn's tags into `tags`,
-    /// in place of what was there. A discard changes neither a variable nor a method's view, and leaves
-    /// no record; a selection that GET_METHOD had just made is undone. Without a packet that is sent,
-    /// nothing counts in `packet`.
+    /// Octets arrive from the server. The packet that they begin with is handled from RECEIVED on (RFC 4137 section
+    /// 4.5). Octets that begin with no packet are silently discarded, and so are all once the peer has ended. The
+    /// packet that is sent is written into `packet`, the records of the turn's tags into `tags`, in place of what was
+    /// there. A discard changes neither a variable nor a method's view, and leaves no record; a selection that
+    /// GET_METHOD had just made is undone. Without a packet that is sent, `packet` is unspecified.
     ///
-    /// Where the settings say `expanded`, a Request of Type 254 is taken in its plain form, and what is
-    /// sent of that is expressed in Type 254, and kept so for RETRANSMIT (RFC 3748 section 5.7): a Nak as
+    /// If the settings say `expanded`, a Request of Type 254 is handled in its plain form, and what is
+    /// sent of that is expressed in Type 254, and stored so for RETRANSMIT (RFC 3748 section 5.7): a Nak as
     /// the Expanded Nak of 12 octets and 8 for each method that the peer allows, at least 20 (section
     /// 5.3.2); any other Response, of at most 1,493 octets, wrapped, which adds 7. A repeated Request is
-    /// answered in either form by what was sent last, unchanged. A Request of Type 254 that no party
-    /// takes is discarded for BadExpanded, unless the peer has ended: one with under 7 octets of
-    /// Type-Data, or an Expanded Nak. What isn't a Request of Type 254 is taken as without `expanded`.
+    /// answered in either form by what was sent last, unchanged. A Request of Type 254 that no party accepts is
+    /// silently discarded for BadExpanded, unless the peer has ended: one with under 7 octets of
+    /// Type-Data, or an Expanded Nak. What isn't a Request of Type 254 is handled as without `expanded`.
     #[tactic(auto, unfolding(crate::specs::Expanded::peer_hears))]
     pub fn deliver(&mut self, octets: &[u8], packet: &mut Packet, tags: &mut Tags) -> Step
         ensures step { peer_hears (now_of M.peer_shown self.old) octets.now ≡ answer (step_with result packet.new tags.new) (now_of M.peer_shown self.new) }
@@ -131,7 +130,7 @@ impl<M: PeerMethod> PeerMachine<M> {
         }
     }
 
-    /// The lower layer is idle (RFC 4137 section 4.1.1): SUCCESS where the decision is UNCOND_SUCC, else
+    /// The lower layer is idle (RFC 4137 section 4.1.1): SUCCESS if the decision is UNCOND_SUCC, else
     /// FAILURE. The peer has not ended.
     #[tactic(auto, unfolding(crate::specs::PeerTable::peer_idle))]
     pub fn idle(&mut self) -> Step
@@ -147,8 +146,8 @@ impl<M: PeerMethod> PeerMachine<M> {
         }
     }
 
-    /// The lower layer reports success (RFC 4137 section 4.1.1): SUCCESS where the decision isn't FAIL;
-    /// else FAILURE where methodState isn't CONT; else nothing. The peer has not ended.
+    /// The lower layer reports success (RFC 4137 section 4.1.1): SUCCESS if the decision isn't FAIL; else FAILURE if
+    /// methodState isn't CONT; else nothing. The peer has not ended.
     #[tactic(auto, unfolding(crate::specs::PeerTable::peer_alt_accept))]
     pub fn alt_accept(&mut self) -> Step
         requires { is_end self.old.vars.state ≡ false }
@@ -183,7 +182,7 @@ impl<M: PeerMethod> PeerMachine<M> {
         &self.vars.setup
     }
 
-    /// The state in which the peer stands: IDLE, SUCCESS or FAILURE.
+    /// The peer's state: IDLE, SUCCESS or FAILURE.
     pub fn state(&self) -> State
         ensures { result ≡ self.now.vars.state }
     {
@@ -197,7 +196,7 @@ impl<M: PeerMethod> PeerMachine<M> {
         has_ended(self.vars.state)
     }
 
-    /// What the selected method reports; None where none is selected or it holds no report.
+    /// What the selected method reports; None if none is selected or it has no report.
     pub fn report(&self) -> Option<Report>
         ensures { result ≡ peer_reports (now_of M.peer_shown self.now) }
     {
@@ -207,7 +206,7 @@ impl<M: PeerMethod> PeerMachine<M> {
         }
     }
 
-    /// The object of the selected method, the first of its Type, which shows the method's view. None where no method is
+    /// The object of the selected method, the first of its Type, which shows the method's view. None if no method is
     /// selected, or there is no object of it.
     pub fn selected(&self) -> Option<&M>
         ensures shown { option_map (λ o. M.peer_shown o.now) result ≡ selected_shown self.now.vars.selected (map M.peer_shown self.now.methods) }
@@ -227,7 +226,7 @@ impl<M: PeerMethod> PeerMachine<M> {
         has_each(self.methods.as_slice(), self.vars.setup.methods.as_slice())
     }
 
-    /// The objects, in the order in which they were handed in, with the views that they have.
+    /// The objects, in the order in which they were given, with the views that they have.
     pub fn into_methods(self) -> Vec<M>
         ensures { result.items ≡ self.methods }
     {
@@ -280,7 +279,7 @@ impl<M: PeerMethod> PeerMachine<M> {
         }
     }
 
-    /// A Request of Type 254 is taken in its plain form, and what is sent of that is expressed in Type 254,
+    /// A Request of Type 254 is handled in its plain form, and what is sent of that is expressed in Type 254,
     /// but for what RETRANSMIT sends. `tags` has no record yet.
     fn take_expanded(
         &mut self,
@@ -307,7 +306,7 @@ impl<M: PeerMethod> PeerMachine<M> {
         step
     }
 
-    /// The packet that the octets begin with is taken in its plain form, by the table; `tags` has no
+    /// The packet that the octets begin with is handled in its plain form, by the table; `tags` has no
     /// record yet.
     #[tactic(auto, using(crate::proofs::Identifiers::second_is_id, crate::proofs::Identifiers::plain_second_is_id))]
     fn take_plain(
@@ -334,7 +333,7 @@ impl<M: PeerMethod> PeerMachine<M> {
         }
     }
 
-    /// A delivery, by the table alone, to which Type 254 is a Type like any other. What it sends has room
+    /// A delivery, by the table alone, which handles Type 254 like any other Type. What it sends has room
     /// for an Expanded Type, but for what RETRANSMIT sends. `tags` has no record yet.
     #[tactic(auto, unfolding(crate::specs::PeerTable::peer_deliver), using(crate::proofs::Identifiers::second_is_id))]
     fn take_octets(&mut self, octets: &[u8], packet: &mut Packet, tags: &mut Tags) -> Step
@@ -666,7 +665,7 @@ fn settle(
     }
 }
 
-/// METHOD and DISCARD, after GET_METHOD where it has just selected the method.
+/// METHOD and DISCARD, after GET_METHOD if it has just selected the method.
 fn method_discards(selects: bool, cause: Cause) -> Step
     ensures { result ≡ record { path = before_method selects ++ Method ∷ Discard ∷ Idle ∷ []; cause = Some cause; sends = false } }
 {
@@ -685,7 +684,7 @@ fn method_discards(selects: bool, cause: Cause) -> Step
     }
 }
 
-/// METHOD and FAILURE, after GET_METHOD where it has just selected the method.
+/// METHOD and FAILURE, after GET_METHOD if it has just selected the method.
 fn method_fails(selects: bool) -> Step
     ensures { result ≡ record { path = before_method selects ++ Method ∷ Failure ∷ []; cause = None; sends = false } }
 {
@@ -703,7 +702,7 @@ fn method_fails(selects: bool) -> Step
     }
 }
 
-/// METHOD and SEND_RESPONSE, after GET_METHOD where it has just selected the method.
+/// METHOD and SEND_RESPONSE, after GET_METHOD if it has just selected the method.
 fn method_replies(selects: bool) -> Step
     ensures { result ≡ record { path = before_method selects ++ Method ∷ SendResponse ∷ Idle ∷ []; cause = None; sends = true } }
 {

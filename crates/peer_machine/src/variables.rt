@@ -11,7 +11,7 @@ use login_setup::PeerSetup;
 pub struct PeerVariables {
     /// The peer's settings, its policy among them.
     pub setup: PeerSetup,
-    /// The state in which it stands between two calls: IDLE, SUCCESS or FAILURE.
+    /// Its state between two calls: IDLE, SUCCESS or FAILURE.
     pub state: State,
     /// selectedMethod: the Type, None before a method is selected.
     pub selected: Option<u8>,

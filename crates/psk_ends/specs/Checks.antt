@@ -2,7 +2,7 @@
 use Rattle.std.specs.Prelude.{ℕ, Option, Some, None, Result, Ok, Err}
 use Rattle.eap_packet.specs.declared.cause.Cause.{Cause}
 
--- the value where there is no fault
+-- the value if there is no fault
 abbrev pub checked : Option Cause → ℕ → Result ℕ Cause
 checked None value = Ok value
 checked (Some cause) value = Err cause

@@ -1,4 +1,4 @@
--- Where a login has failed within the method.
+-- Whether a login has failed within the method.
 use Rattle.std.specs.Prelude.{Bool, true, false, not}
 use Rattle.eap_method.specs.PskPeer as peer
 use Rattle.eap_method.specs.PskServer as server

@@ -4,7 +4,7 @@ use Rattle.eap_method.specs.PskPeer as peer
 use Rattle.eap_method.specs.PskServer as server
 use Rattle.psk_ends.specs.declared.nonces.Nonces.{Nonces}
 
--- RAND_P and RAND_S of a peer's login, and those that a view holds
+-- RAND_P and RAND_S of a peer's login, and those of a view
 abbrev pub peer_nonces_of : peer.Login → Nonces
 peer_nonces_of login = record { rand_p = peer.rand_p_of login; rand_s = login.rand_s }
 

@@ -1,4 +1,4 @@
--- Where a peer of EAP-PSK stands, as its definition says it, and what a call leaves.
+-- The state of a peer of EAP-PSK, as its definition says it, and what a call leaves.
 use Rattle.std.specs.Prelude.{ℕ, List, Bool, true, false, Result, Ok, Err}
 use Rattle.eap_packet.specs.declared.cause.Cause.{Cause}
 use Rattle.eap_method.specs.declared.tags.Tags.{Tags}
@@ -14,18 +14,18 @@ use Rattle.psk_ends.specs.declared.peer.stage.Phase.TheVariants as phase
 use Rattle.psk_ends.specs.declared.peer.stage.Stage.{Stage}
 use Rattle.psk_ends.specs.declared.peer.stage.Stage.TheVariants as stage
 
--- where a peer with a login stands
+-- the state of a peer with a login
 abbrev pub in_phase : Phase → Login → View
 in_phase phase.Wait login = wait login
 in_phase (phase.Over good) login = over login good
 
--- where the peer stands
+-- the peer's state
 abbrev pub view_of : Stage → View
 view_of stage.Unset = unset
 view_of (stage.Fresh own) = fresh own.cred own.nonce
 view_of (stage.Known login phase) = in_phase phase login
 
--- what a call leaves: the turn, where the peer stands after it, and the records
+-- what a call leaves: the turn, the peer's state after it, and the records
 pub record Left : Type 0 where
   pub turn : PeerTurn
   pub after : View

@@ -1,4 +1,4 @@
--- Where a server of EAP-PSK stands, as its definition says it, and what a call leaves.
+-- The state of a server of EAP-PSK, as its definition says it, and what a call leaves.
 use Rattle.std.specs.Prelude.{ℕ, List, Bool, false, Option, Some, None, Result, Ok, Err}
 use Rattle.eap_packet.specs.declared.cause.Cause.{Cause}
 use Rattle.eap_method.specs.declared.tags.Tags.{Tags}
@@ -14,24 +14,24 @@ use Rattle.psk_ends.specs.declared.server.stage.KnownPhase.TheVariants as known
 use Rattle.psk_ends.specs.declared.server.stage.Stage.{Stage}
 use Rattle.psk_ends.specs.declared.server.stage.Stage.TheVariants as stage
 
--- where a server without a login stands
+-- the state of a server without a login
 abbrev pub in_early : EarlyPhase → Begun → View
 in_early early.Begun own = begun own.side own.nonce
 in_early early.Asked own = asked own.side own.nonce
 in_early early.Refused own = refused own.side own.nonce
 
--- where a server with a login stands
+-- the state of a server with a login
 abbrev pub in_known : KnownPhase → Login → View
 in_known known.Checked login = checked login
 in_known (known.Over success) login = over login success
 
--- where the server stands
+-- the server's state
 abbrev pub view_of : Stage → View
 view_of stage.Unset = unset
 view_of (stage.Early own phase) = in_early phase own
 view_of (stage.Known login phase) = in_known phase login
 
--- what a call leaves: the turn, where the server stands after it, and the records
+-- what a call leaves: the turn, the server's state after it, and the records
 pub record Left : Type 0 where
   pub turn : ServerTurn
   pub after : View

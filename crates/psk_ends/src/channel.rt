@@ -64,7 +64,7 @@ fn put_last(packet: &mut Packet, channel: &Sealed)
     packet.push(channel.octet);
 }
 
-/// Seals R, without E, into the packet, whose PCHANNEL stands at its end and is still blank, and adds
+/// Seals R, without E, into the packet, whose PCHANNEL is at its end and is still blank, and adds
 /// the record of its tag.
 pub fn seal_in(
     packet: &mut Packet,
@@ -91,7 +91,7 @@ pub fn seal_in(
     put_last(packet, &channel);
 }
 
-/// The octet that was sealed under this Nonce and header, or None where the tag is wrong.
+/// The octet that was sealed under this Nonce and header, or None if the tag is wrong.
 pub fn open(tek: &CmacKey, number: u32, header: &[u8], sealed: u8, tag: &[u8; 16]) -> Option<u8>
     ensures { result ≡ (if is_sealed tek.now number header.now sealed tag.now then Some (opened tek.now number sealed) else None) }
 {
@@ -103,7 +103,7 @@ pub fn open(tek: &CmacKey, number: u32, header: &[u8], sealed: u8, tag: &[u8; 16
     }
 }
 
-/// The octet, where it has a result and no extension. `BadResult`: R is 0. `Extended`: E is set, or R
+/// The octet, if it has a result and no extension. `BadResult`: R is 0. `Extended`: E is set, or R
 /// is 1.
 pub fn check_result(octet: u8) -> Result<u8, Cause>
     ensures { result ≡ checked (result_fault octet) octet }

@@ -1,5 +1,5 @@
 //! The two ends of EAP-PSK (RFC 4764): a peer and a server, each behind the trait of its side. No call
-//! takes memory.
+//! allocates memory.
 #![tactic(auto)]
 
 mod channel;

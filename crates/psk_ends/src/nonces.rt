@@ -1,4 +1,4 @@
-//! The nonces of a login.
+//! The nonces of an EAP-PSK login.
 
 /// The two nonces of a login (RFC 4764 sections 5.1 and 5.2).
 #[derive(Clone, Copy)]

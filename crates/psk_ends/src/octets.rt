@@ -1,4 +1,4 @@
-//! Octets in the types that fields and calls want.
+//! RAND_S or RAND_P of a nonce, the header of a packet and its message.
 
 ghost use Rattle.std.specs.Prelude.{◌≡◌, ◌≤◌, length, IfOk};
 ghost use Rattle.psk_messages.specs.Message.{AreFields, heard, message_of};

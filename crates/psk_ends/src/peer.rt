@@ -16,7 +16,7 @@ use eap_base::{Nonce, PSK_KIND, Packet};
 use eap_method::{Credential, PeerMethod, PeerTurn, Report, Tags};
 use std::marker::Model;
 
-/// A peer of EAP-PSK. Contracts see where it stands.
+/// A peer of EAP-PSK. Contracts see its state.
 #[derive(Drop)]
 pub struct PskPeer {
     stage: Stage,

@@ -18,7 +18,7 @@ use eap_method::{Report, ServerMethod, ServerSide, ServerTurn, Tags};
 use login_setup::Users;
 use std::marker::Model;
 
-/// A server of EAP-PSK. Contracts see where it stands.
+/// A server of EAP-PSK. Contracts see its state.
 #[derive(Drop)]
 pub struct PskServer {
     stage: Stage,

@@ -5,15 +5,15 @@ use Rattle.eap_packet.specs.Packet.{IsOctets}
 use Rattle.psk_messages.specs.Message.{Message, AreFields, IsPsk, spelled, size_of}
 use Rattle.psk_messages.specs.Reading.{read_of}
 
--- what is read is the message that the octets spell
+-- what is read is the message that the octets encode
 abbrev pub ReadsTheSpelling : Type 0
 ReadsTheSpelling = (octets : List ℕ) (message : Message) → IsOctets octets → (read_of octets ≡ Ok message) ↔ IsPsk message octets
 
--- no list of octets spells two messages
+-- no list of octets encodes two messages
 abbrev pub SpellingsAreApart : Type 0
 SpellingsAreApart = (octets : List ℕ) (one other : Message) → IsPsk one octets → IsPsk other octets → one ≡ other
 
--- octets are refused exactly where they spell no message
+-- octets are refused exactly if they encode no message
 abbrev pub RefusesTheRest : Type 0
 RefusesTheRest =
     (octets : List ℕ) → IsOctets octets → (read_of octets ≡ Err PskShape) ↔ (¬ ((message : Message) × IsPsk message octets))

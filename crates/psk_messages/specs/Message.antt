@@ -36,7 +36,7 @@ fields_of (psk2 rand_s rand_p mac id_p) = rand_s ++ (rand_p ++ (mac ++ id_p))
 fields_of (psk3 rand_s mac nonce tag sealed) = rand_s ++ (mac ++ channel nonce tag sealed)
 fields_of (psk4 rand_s nonce tag sealed) = rand_s ++ channel nonce tag sealed
 
--- the identity, where there is one
+-- the identity, if there is one
 abbrev pub identity_of : Message → List ℕ
 identity_of (psk1 rand_s id_s) = id_s
 identity_of (psk2 rand_s rand_p mac id_p) = id_p
@@ -65,7 +65,7 @@ pub record IsPsk (message : Message) (octets : List ℕ) : Type 0 where
   pub spelling : octets ≡ flags ∷ fields_of message
   pub fit : IsOctets octets
 
--- the octets spell no message
+-- the octets encode no message
 abbrev pub SpellsNone : List ℕ → Type 0
 SpellsNone octets = (message : Message) → ¬ IsPsk message octets
 

@@ -59,7 +59,7 @@ message_at t octets =
     else if t == 2 then psk3_at octets
     else psk4_at octets
 
--- the message that the octets spell, if they spell one
+-- the message that the octets encode, if they encode one
 unfoldable pub read_of : List ℕ → Result Message Cause
 read_of [] = Err PskShape
 read_of (flags ∷ octets) =

@@ -2,17 +2,17 @@
 
 ghost use Rattle.psk_messages.specs.Laws.{ReadsTheSpelling, SpellingsAreApart, RefusesTheRest, SentIsRead, SpellingsAreSized};
 
-/// What is read is the message that the octets spell, and that one alone.
+/// What is read is the message that the octets encode, and that one alone.
 pub fn reads_the_spelling()
     ensures { ReadsTheSpelling }
 {}
 
-/// No list of octets spells two messages.
+/// No list of octets encodes two messages.
 pub fn spellings_are_apart()
     ensures { SpellingsAreApart }
 {}
 
-/// Octets are refused exactly where they spell no message.
+/// Octets are refused exactly if they encode no message.
 #[tactic(auto, using(crate::proofs::Grammar::refuses_the_rest))]
 pub fn refuses_the_rest()
     ensures { RefusesTheRest }

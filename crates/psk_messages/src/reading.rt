@@ -147,7 +147,7 @@ fn read_fields<'a>(t: u8, octets: &'a [u8]) -> PskView<'a>
 }
 
 /// The message that the Type-Data is: T is the two high bits of Flags, and the six low bits are
-/// ignored. `PskShape`: it is none, also where PCHANNEL has more than 21 octets (RFC 4764 section 5).
+/// ignored. `PskShape`: it is none, also if PCHANNEL has more than 21 octets (RFC 4764 section 5).
 pub fn read_psk<'a>(body: &'a [u8]) -> Result<PskView<'a>, Cause>
     ensures message { heard result ≡ read_of body.now }
     ensures spelled { IfOk result (λ view. IsPsk (message_of view) body.now) }

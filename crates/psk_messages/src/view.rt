@@ -1,4 +1,4 @@
-//! A message, as its octets show it.
+//! An EAP-PSK message, as its octets show it.
 
 /// The octets of the header that PCHANNEL's tag covers (RFC 4764 section 3.3).
 pub const HEADER: usize = 22;

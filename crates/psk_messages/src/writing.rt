@@ -113,7 +113,7 @@ fn size_of(view: &PskView) -> usize
 }
 
 /// Writes the Request or the Response of Type 47 with this Identifier whose Type-Data is the message,
-/// in place of what the packet held; the six low bits of Flags are 0.
+/// in place of what the packet had; the six low bits of Flags are 0.
 #[tactic(auto, unfolding(crate::specs::Message::spelled), using(crate::proofs::Grammar::spellings_are_sized))]
 pub fn write_psk_into(packet: &mut Packet, view: &PskView, code: Code, id: u8)
     requires typed { IsTrue (has_type code) }

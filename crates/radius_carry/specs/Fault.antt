@@ -8,7 +8,7 @@ use Rattle.radius_carry.specs.declared.cause.RadiusCause.TheVariants.{RadiusShor
 use Rattle.radius_carry.specs.declared.cause.RadiusCause.TheVariants.{EapTooLong, NoAuthenticator}
 use Rattle.radius_carry.specs.declared.view.RadiusView.{RadiusView}
 
--- ---- the attributes that octets hold (RFC 2865 section 5)
+-- ---- the attributes of octets (RFC 2865 section 5)
 
 -- whether octets begin with an attribute: its Length is at least 2 and isn't past the end
 abbrev pub begins : List ℕ → Bool
@@ -32,7 +32,7 @@ unfoldable pub left_in : ℕ → List ℕ → List ℕ
 left_in zero octets = octets
 left_in (suc most) octets = if begins octets then left_in most (behind octets) else octets
 
--- the attributes that the octets hold, as far as they go
+-- the attributes of the octets, as far as they go
 unfoldable pub attributes_of : List ℕ → List Attribute
 attributes_of octets = attributes_in (length octets) octets
 
@@ -113,7 +113,7 @@ packet_of octets = packet_unless (fault octets) octets
 
 -- ---- views
 
--- the packet for which a view stands
+-- the packet that a view represents
 unfoldable pub value_of : RadiusView → RadiusPacket
 value_of view = record {
   code = number_of view.kind;

@@ -7,29 +7,29 @@ use Rattle.radius_carry.specs.Fault.{fault, packet_of}
 use Rattle.radius_carry.specs.Tags.{IsGoodRequest, IsGoodReply}
 use Rattle.radius_carry.specs.Written.{request_of, reply_of}
 
--- the octets are the packet's spelling with some octets behind it
+-- the octets are the packet's encoding with some octets behind it
 pub record BeginsWith (octets : List ℕ) (packet : RadiusPacket) : Type 0 where
   pub is_radius : IsRadius packet (spelled packet)
   pub rest : List ℕ
   pub joined : octets ≡ spelled packet ++ rest
 
--- a spelling with any octets behind it is read as its packet
+-- an encoding with any octets behind it is read as its packet
 abbrev pub SpellingsAreRead : Type 0
 SpellingsAreRead =
     (packet : RadiusPacket) (rest : List ℕ) → IsRadius packet (spelled packet) → packet_of (spelled packet ++ rest) ≡ Ok packet
 
--- no two packets have spellings that begin one list
+-- no two packets have encodings that begin one list
 abbrev pub SpellingsAreApart : Type 0
 SpellingsAreApart =
     (one other : RadiusPacket) (rest others : List ℕ) → IsRadius one (spelled one) → IsRadius other (spelled other) →
     spelled one ++ rest ≡ spelled other ++ others → one ≡ other
 
--- what is read is the packet with whose spelling the octets begin
+-- what is read is the packet with whose encoding the octets begin
 abbrev pub ReadsTheSpelling : Type 0
 ReadsTheSpelling =
     (octets : List ℕ) (packet : RadiusPacket) → IsOctets octets → (packet_of octets ≡ Ok packet) ↔ BeginsWith octets packet
 
--- no cause applies exactly where the octets begin with the spelling of some packet
+-- no cause applies exactly if the octets begin with the encoding of some packet
 abbrev pub FaultlessIsSpelled : Type 0
 FaultlessIsSpelled =
     (octets : List ℕ) → IsOctets octets → (fault octets ≡ None) ↔ ((packet : RadiusPacket) × BeginsWith octets packet)
@@ -47,7 +47,7 @@ pub record AreFields (authenticator user state eap : List ℕ) : Type 0 where
   pub some_eap : 1 ≤ length eap
   pub eap_fits : length eap ≤ max_packet
 
--- a packet is read from its spelling, with any octets behind it, and carries this EAP packet
+-- a packet is read from its encoding, with any octets behind it, and carries this EAP packet
 pub record ReadsBack (packet : RadiusPacket) (eap rest : List ℕ) : Type 0 where
   pub read : packet_of (spelled packet ++ rest) ≡ Ok packet
   pub carries : eap_of packet.attributes ≡ eap

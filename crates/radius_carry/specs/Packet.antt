@@ -1,4 +1,4 @@
--- RADIUS packets (RFC 2865 sections 3 and 5): packet values, their one spelling, and which of them
+-- RADIUS packets (RFC 2865 sections 3 and 5): packet values, their one encoding, and which of them
 -- carry EAP (RFC 3579 sections 3.1 and 3.2).
 use Rattle.std.specs.Prelude.{◌≡◌, ℕ, ◌+◌, ◌≤◌, List, [], ◌∷◌, ◌++◌, length, Bool, ◌==◌, ◌||◌, if◌then◌else◌, IsTrue}
 use Rattle.eap_base.specs.Sizes.{max_packet}

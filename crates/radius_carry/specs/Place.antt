@@ -1,4 +1,4 @@
--- Where the tag of a packet stands among its attributes, and the pieces that its authenticators are fed.
+-- The place of a packet's tag among its attributes, and the pieces that its authenticators are fed.
 use Rattle.std.specs.Prelude.{ℕ, ◌+◌, List, [], ◌∷◌, ◌++◌, length, replicate, ◌==◌, if◌then◌else◌}
 use Rattle.radius_carry.specs.Packet.{Attribute}
 

@@ -3,7 +3,7 @@ use Rattle.std.specs.Prelude.{ℕ, zero, suc, List, [], ◌∷◌, ◌++◌, len
 use Rattle.radius_carry.specs.Packet.{Attribute, RadiusPacket, spelled, max_value}
 use Rattle.radius_carry.specs.Tags.{hmac_md5, response_authenticator}
 
--- a name or a state has no attribute where it is empty
+-- a name or a state has no attribute if it is empty
 abbrev pub field : ℕ → List ℕ → List Attribute
 field kind [] = []
 field kind (octet ∷ rest) = (kind, octet ∷ rest) ∷ []
@@ -27,11 +27,11 @@ unfoldable pub tagged : ℕ → ℕ → List ℕ → List Attribute → List ℕ
 tagged code id authenticator attributes tag =
     record { code = code; id = id; authenticator = authenticator; attributes = attributes ++ (80, tag) ∷ [] }
 
--- the same with zeros where the tag will stand
+-- the same with zeros where the tag will be
 abbrev pub blank_of : ℕ → ℕ → List ℕ → List Attribute → RadiusPacket
 blank_of code id authenticator attributes = tagged code id authenticator attributes (replicate 16 0)
 
--- a packet with its tag over itself, of zeros where the tag will stand
+-- a packet with its tag over itself, of zeros where the tag will be
 unfoldable pub sealed : List ℕ → ℕ → ℕ → List ℕ → List Attribute → RadiusPacket
 sealed secret code id authenticator attributes =
     tagged code id authenticator attributes (hmac_md5 secret (spelled (blank_of code id authenticator attributes)))

@@ -28,7 +28,7 @@ struct Attribute<'a> {
     rest: &'a [u8],
 }
 
-/// The first attribute, or None where the octets begin with none: there are fewer than two, or its
+/// The first attribute, or None if the octets begin with none: there are fewer than two, or its
 /// length is under 2 or past their end.
 #[tactic(auto, using(crate::proofs::Held::first_steps))]
 fn first_attribute<'a>(octets: &'a [u8]) -> Option<Attribute<'a>>
@@ -101,7 +101,7 @@ pub fn join_values(values: &mut Packet, kind: u8, octets: &[u8])
     }
 }
 
-/// The octets before the value of the first attribute Message-Authenticator; all octets where there is none.
+/// The octets before the value of the first attribute Message-Authenticator; all octets if there is none.
 #[tactic(auto, unfolding(crate::specs::Place::tag_place))]
 pub fn place_of_tag(octets: &[u8]) -> usize
     ensures { result ≡ tag_place (attributes_of octets.now) }

@@ -3,7 +3,7 @@
 ghost use Rattle.std.specs.Prelude.{◌≡◌};
 ghost use Rattle.radius_carry.specs.Words.{cause_word};
 
-/// Why octets begin with no RADIUS packet that carries EAP. Where several apply, the first in this order.
+/// Why octets begin with no RADIUS packet that carries EAP. If several apply, the first in this order.
 #[derive(Clone, Copy, PartialEq, Eq, Debug)]
 pub enum RadiusCause {
     /// Fewer than 20 octets.

@@ -3,25 +3,25 @@
 ghost use Rattle.radius_carry.specs.Laws.{SpellingsAreRead, SpellingsAreApart, ReadsTheSpelling, FaultlessIsSpelled, RequestsAreReadBack};
 ghost use Rattle.radius_carry.specs.Laws.{RequestsAreGood, RepliesAreReadBack, RepliesAreGood};
 
-/// A packet's spelling, with any octets behind it, is read as that packet (RFC 2865 section 3).
+/// A packet's encoding, with any octets behind it, is read as that packet (RFC 2865 section 3).
 #[tactic(auto, using(crate::proofs::Grammar::spellings_are_read))]
 pub fn spellings_are_read()
     ensures { SpellingsAreRead }
 {}
 
-/// No two packets have spellings that begin one list of octets.
+/// No two packets have encodings that begin one list of octets.
 #[tactic(auto, using(crate::proofs::Grammar::spellings_are_apart))]
 pub fn spellings_are_apart()
     ensures { SpellingsAreApart }
 {}
 
-/// What is read is the packet with whose spelling the octets begin, and that one alone.
+/// What is read is the packet with whose encoding the octets begin, and that one alone.
 #[tactic(auto, using(crate::proofs::Grammar::reads_the_spelling))]
 pub fn reads_the_spelling()
     ensures { ReadsTheSpelling }
 {}
 
-/// No cause applies exactly where the octets begin with the spelling of some packet.
+/// No cause applies exactly if the octets begin with the encoding of some packet.
 #[tactic(auto, using(crate::proofs::Grammar::faultless_is_spelled))]
 pub fn faultless_is_spelled()
     ensures { FaultlessIsSpelled }

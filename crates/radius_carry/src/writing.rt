@@ -33,7 +33,7 @@ fn put_attribute(packet: &mut Octets<2000>, kind: u8, value: &[u8])
     packet.put(value);
 }
 
-/// Appends a name or a state: no attribute where it is empty.
+/// Appends a name or a state: no attribute if it is empty.
 #[tactic(auto, unfolding(crate::specs::Packet::octets_of))]
 fn put_field(packet: &mut Octets<2000>, kind: u8, value: &[u8])
     requires value { length value.now ≤ max_value }
@@ -151,8 +151,8 @@ fn tag_over(
 }
 
 /// An Access-Request that carries an EAP packet, with its Message-Authenticator under the secret (RFC
-/// 3579 section 3.2). The EAP packet stands in attributes of 253 octets, the last with what is left; an
-/// empty name or state has no attribute.
+/// 3579 section 3.2). The EAP packet is carried in attributes of 253 octets, the last with what is left;
+/// an empty name or state has no attribute.
 #[tactic(auto, unfolding(crate::specs::Written::sealed))]
 pub fn write_request(
     secret: &[u8],

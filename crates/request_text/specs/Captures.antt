@@ -42,7 +42,7 @@ entry_of word.ToPeer ws = entry.Packet true (octets_of (word_in ws 1))
 entry_of word.FromPeer ws = entry.Packet false (octets_of (word_in ws 1))
 entry_of word.End ws = entry.End
 
--- users stand before the line `packets`, packets and the line `end` after it
+-- users come before the line `packets`, packets and the line `end` after it
 abbrev pub part_of : CaptureEntry → Part
 part_of (entry.User user) = part.Setting
 part_of entry.Packets = part.Opening

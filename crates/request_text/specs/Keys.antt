@@ -49,16 +49,16 @@ asked_of request.Name ws = key.Name (octets_in ws 1)
 abbrev pub has_fault : List ℕ → LineFault → Bool
 has_fault line e = line_has row_of requests line e
 
--- what a line that isn't passed over asks for, or its first fault
+-- what a line that isn't ignored asks for, or its first fault
 unfoldable pub asked_by : List ℕ → Result KeyLine LineFault
 asked_by line =
     unless (find (has_fault line) faults) (asked_of (unwrap_or (keyword_in row_of requests (words line)) request.Name) (words line))
 
--- a line is one request; an empty line and one that begins with # are passed over
+-- a line is one request; an empty line and one that begins with # are ignored
 unfoldable pub key_line : List ℕ → Result (Option KeyLine) LineFault
 key_line line = if is_passed_over line then Ok None else asked_by line >>= λ asked. Ok (Some asked)
 
--- what a line asks for, where the request is read into a place, and what comes of the line is told apart
+-- what a line asks for, if the request is read into a place, and the result of the line is returned separately
 abbrev pub asked_into : Result (Unit {0}) LineFault → KeyLine → Result KeyLine LineFault
 asked_into (Ok done) asked = Ok asked
 asked_into (Err fault) asked = Err fault

@@ -9,7 +9,7 @@ abbrev pub some_octets : Result (List ℕ) LineFault → Result (Option (List �
 some_octets (Ok octets) = Ok (Some octets)
 some_octets (Err fault) = Err fault
 
--- a line is one hex word; an empty line and one that begins with # are passed over
+-- a line is one hex word; an empty line and one that begins with # are ignored
 unfoldable pub packet_line : List ℕ → Result (Option (List ℕ)) LineFault
 packet_line line =
     if is_passed_over line then Ok None

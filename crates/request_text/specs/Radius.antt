@@ -48,7 +48,7 @@ item_of word.Reply ws = item.Reply (reply_of (word_in ws 1)) (octets_of (word_in
 item_of word.Read ws = item.Read (octets_of (word_in ws 1))
 item_of word.End ws = item.End
 
--- the secret stands before requests, replies and packets, and the line `end` after it
+-- the secret comes before requests, replies and packets, and the line `end` after it
 abbrev pub part_of : RadiusItem → Part
 part_of (item.Secret octets) = part.Opening
 part_of item.End = part.End

@@ -1,5 +1,5 @@
 //! Reading a capture, line by line: its header, its users, the line `packets`, its packets, the line
-//! `end`. After the header an empty line and one that begins with `#` are passed over.
+//! `end`. After the header an empty line and one that begins with `#` are ignored.
 
 ghost use Rattle.std.specs.Prelude.{◌≡◌, [], All, IsTrue, OnErr};
 ghost use Rattle.login_setup.specs.Setup.{fits_kind};
@@ -17,7 +17,7 @@ use text_tables::{LineFault, Part, Phase, Text, add_user, read_line};
 /// What a line of a capture says.
 #[derive(Drop)]
 pub enum CaptureItem {
-    /// The header, a user, or a line that is passed over.
+    /// The header, a user, or a line that is ignored.
     Nothing,
     /// The line `packets`: `CaptureReader::users` gives the users.
     Ready,
@@ -57,7 +57,7 @@ impl CaptureReader {
         }
     }
 
-    /// Reads the next line, without its end. The first fault that the line meets refuses it, and then the
+    /// Reads the next line, without its end. The line is refused with its first fault, and then the
     /// reader is as it was.
     #[tactic(auto, unfolding(crate::specs::Captures::read_line))]
     pub fn line(&mut self, line: &[u8]) -> Result<CaptureItem, LineFault>
@@ -76,8 +76,7 @@ impl CaptureReader {
         &self.users
     }
 
-    /// What the end of the input means: `NoHeader` where no line was read, else `Missing` where the line
-    /// `end` was not.
+    /// What the end of the input means: `NoHeader` if no line was read, else `Missing` if the line `end` was not.
     pub fn finish(&self) -> Result<(), LineFault>
         ensures { result ≡ finish_of self.now }
     {

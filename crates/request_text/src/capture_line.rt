@@ -30,7 +30,7 @@ pub const CAPTURE_WORDS: [CaptureWord; 5] = [
 
 const PACKET: Field = Field::Hex { low: 0, high: 2000 };
 
-/// What a line of a capture holds after its header.
+/// What a line of a capture contains after its header.
 #[derive(Drop)]
 pub enum CaptureEntry {
     User(User),

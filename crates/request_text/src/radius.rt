@@ -1,5 +1,5 @@
 //! Reading a text of RADIUS packets, line by line: its header, the secret, requests, replies and packets,
-//! the line `end`. After the header an empty line and one that begins with `#` are passed over.
+//! the line `end`. After the header an empty line and one that begins with `#` are ignored.
 
 ghost use Rattle.std.specs.Prelude.{◌≡◌, OnErr};
 ghost use Rattle.text_tables.specs.Texts.{answered};
@@ -26,7 +26,7 @@ impl RadiusReader {
         }
     }
 
-    /// Reads the next line, without its end. The first fault that the line meets refuses it, and then the
+    /// Reads the next line, without its end. The line is refused with its first fault, and then the
     /// reader is as it was.
     #[tactic(auto, unfolding(crate::specs::Radius::read_line))]
     pub fn line(&mut self, line: &[u8]) -> Result<RadiusItem, LineFault>
@@ -36,8 +36,7 @@ impl RadiusReader {
         read_line(self, line, &mut ())
     }
 
-    /// What the end of the input means: `NoHeader` where no line was read, else `Missing` where the line
-    /// `end` was not.
+    /// What the end of the input means: `NoHeader` if no line was read, else `Missing` if the line `end` was not.
     pub fn finish(&self) -> Result<(), LineFault>
         ensures { result ≡ finish_of self.now }
     {

@@ -48,7 +48,7 @@ pub enum ReplyKind {
 /// What a line of a text of RADIUS packets says.
 #[derive(Drop)]
 pub enum RadiusItem {
-    /// The header, or a line that is passed over.
+    /// The header, or a line that is ignored.
     Nothing,
     /// The secret that both ends share, 1 to 64 octets.
     Secret(Octets<64>),

@@ -1,4 +1,4 @@
--- What a line of a scenario holds after its header.
+-- What a line of a scenario contains after its header.
 use Rattle.login_setup.specs.declared.event.Event.{Event}
 use Rattle.scenario_text.specs.declared.entry.Setting.{Setting}
 use Rattle.scenario_text.specs.declared.entry.Entry as told
@@ -10,7 +10,7 @@ pub data Entry : Type 0 where
   Happens : Event → Entry
   End : Entry
 
--- what is told of a line, with the event that was written where it tells of one
+-- what a line contains, with the event that was written if it has one
 abbrev pub entry_with : told.Entry → Event → Entry
 entry_with (told.TheVariants.Set v) event = Set v
 entry_with told.TheVariants.Events event = Events

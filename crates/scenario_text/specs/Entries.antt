@@ -1,4 +1,4 @@
--- The lines of a scenario: what each says, where no fault keeps it from that.
+-- The lines of a scenario: what each says, if no fault keeps it from that.
 use Rattle.std.specs.Prelude.{ℕ, List, [], ◌∷◌, length, Bool, ◌==◌, nat_le, if◌then◌else◌, codes, unwrap_or}
 use Rattle.std.specs.Str.{bytes_eq}
 use Rattle.eap_base.specs.Among.{psk_kind}

@@ -122,12 +122,12 @@ needed slot = ok_or slot fault.Missing
 abbrev pub both_suites : List ℕ
 both_suites = 1 ∷ 2 ∷ []
 
--- the peer's key for a method, which is needed where the method is among these
+-- the peer's key for a method, which is needed if the method is among these
 abbrev pub key_for : List ℕ → ℕ → Option (List ℕ) → Result (Option (List ℕ)) LineFault
 key_for methods kind (Some key) = Ok (Some key)
 key_for methods kind None = if is_among methods kind then Err fault.Missing else Ok None
 
--- the settings of the peer, of the server, of the run, where none that is needed is missing
+-- the settings of the peer, of the server, of the run, if none that is needed is missing
 unfoldable pub peer_setup_of : Settings → Result PeerSetup LineFault
 peer_setup_of s = do
   name ← needed s.peer_name
@@ -195,19 +195,19 @@ ReadLine = texts.ReadLine Item Reading
 abbrev pub said : Item → Phase → Settings → ReadLine
 said item phase settings = texts.said item (record { phase = phase; settings = settings })
 
--- the line `events`, where the settings are whole
+-- the line `events`, if the settings are whole
 abbrev pub ready : Result Setup LineFault → Item
 ready (Ok setup) = item.Ready setup
 ready (Err f) = item.Nothing
 
--- the answer of a reader, with what it holds after and the event that it wrote, as what a line says
+-- the answer of a reader, with what it has after and the event that it wrote, as what a line says
 abbrev pub item_with : answer.Item → Reading → Event → Item
 item_with answer.TheVariants.Nothing after event = item.Nothing
 item_with answer.TheVariants.Ready after event = ready (setup_of after.settings)
 item_with answer.TheVariants.Event after event = item.Event event
 item_with answer.TheVariants.End after event = item.End
 
--- the settings are whole where the answer says so
+-- the settings are whole if the answer says so
 abbrev pub HasSetup : answer.Item → Reading → Type 0
 HasSetup answer.TheVariants.Ready after = IsOk (setup_of after.settings)
 HasSetup other after = Unit {0}
@@ -217,7 +217,7 @@ abbrev pub begun_with : Option Version → Option Reading
 begun_with None = None
 begun_with (Some v) = Some (record { phase = phase.Settings; settings = begun v })
 
--- settings stand before the line `events`, events and the line `end` after it
+-- settings come before the line `events`, events and the line `end` after it
 abbrev pub part_of : Entry → Part
 part_of (entry.Set v) = part.Setting
 part_of entry.Events = part.Opening

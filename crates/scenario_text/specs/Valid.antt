@@ -61,7 +61,7 @@ abbrev pub IsValidEntry : Entry → Type 0
 IsValidEntry (entry.Set v) = IsValidSetting v
 IsValidEntry other = Unit {0}
 
--- the same of what is told of a line
+-- the same of what a line contains
 abbrev pub IsValidTold : told.Entry → Type 0
 IsValidTold (told.TheVariants.Set v) = IsValidSetting v
 IsValidTold other = Unit {0}

@@ -145,7 +145,7 @@ pub record MakesSetup (version : Version) (v : Values) (setup : Setup) : Type 0 
   pub server : MakesServer version v setup.later.server setup.server
   pub number : setup.later.version ≡ version_number version
 
--- the lines that aren't passed over
+-- the lines that aren't ignored
 abbrev pub told : List (List ℕ) → List (List ℕ)
 told lines = filter (λ line. not (is_passed_over line)) lines
 
@@ -153,7 +153,7 @@ told lines = filter (λ line. not (is_passed_over line)) lines
 abbrev pub IsFaultless : Version → List ℕ → Type 0
 IsFaultless version line = (f : LineFault) → has_fault version line f ≡ false
 
--- a scenario: the header of a version, and then, but for lines that are passed over, settings, the line `events`,
+-- a scenario: the header of a version, and then, but for lines that are ignored, settings, the line `events`,
 -- events and the line `end`
 pub record IsScenario (lines : List (List ℕ)) (setup : Setup) (events : List Event) : Type 0 where
   pub version : Version
@@ -164,7 +164,7 @@ pub record IsScenario (lines : List (List ℕ)) (setup : Setup) (events : List E
   pub order : map (said_by version) (told body) ≡ map Set settings ++ Events ∷ (map Happens events ++ End ∷ [])
   pub made : MakesSetup version (values_of settings) setup
 
--- what reading lines makes: the setup, where the line `events` came, and the events
+-- what reading lines makes: the setup, if the line `events` came, and the events
 pub record Script : Type 0 where
   pub setup : Option Setup
   pub events : List Event
@@ -192,7 +192,7 @@ pub record IsScript (lines : List (List ℕ)) (script : Script) : Type 0 where
   pub whole : script.setup ≡ Some setup
   pub scenario : IsScenario lines setup script.events
 
--- lines are read without a fault exactly where they are a scenario, and then give its setup and its events
+-- lines are read without a fault exactly if they are a scenario, and then give its setup and its events
 pub record ScenariosAreRead : Type 0 where
   pub taken : (lines : List (List ℕ)) (setup : Setup) (events : List Event) → IsScenario lines setup events →
       read_all lines ≡ Ok (record { setup = Some setup; events = events })

@@ -35,7 +35,7 @@ pub enum Setting {
     ServerExpanded(bool),
 }
 
-/// What a line of a scenario holds after its header.
+/// What a line of a scenario contains after its header.
 #[derive(Drop)]
 pub enum Entry {
     Set(Setting),
@@ -189,7 +189,7 @@ fn key_setting(kind: u8, key: Secret) -> Setting
     }
 }
 
-/// A port at which a packet can be handed in.
+/// A port at which a packet can be delivered.
 fn port_of(word: &[u8]) -> Port
     ensures { result ≡ port_of word.now }
 {

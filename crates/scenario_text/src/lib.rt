@@ -1,4 +1,4 @@
-//! Scenarios, read line by line.
+//! Reading scenarios line by line.
 #![tactic(auto)]
 
 mod entry;

@@ -1,5 +1,5 @@
 //! Reading a scenario, line by line: the header of its version, its settings, the line `events`, its events,
-//! the line `end`. After the header an empty line and one that begins with `#` are passed over.
+//! the line `end`. After the header an empty line and one that begins with `#` are ignored.
 
 ghost use Rattle.std.specs.Prelude.{◌≡◌, IfOk, OnErr};
 ghost use Rattle.text_tables.specs.Texts.{answered};
@@ -18,7 +18,7 @@ use text_tables::{LineFault, Part, Phase, Text, read_line};
 /// What a line of a scenario says.
 #[derive(Clone, Copy)]
 pub enum Item {
-    /// Nothing that happens: the header, a setting, or a line that is passed over.
+    /// Nothing that happens: the header, a setting, or a line that is ignored.
     Nothing,
     /// The line `events`: the settings are whole, and `ScenarioReader::setup` gives them.
     Ready,
@@ -57,8 +57,8 @@ impl ScenarioReader {
         }
     }
 
-    /// Reads the next line, without its end, and writes its event, if it has one, to `event`. The first
-    /// fault that the line meets refuses it, and then the reader is as it was.
+    /// Reads the next line, without its end, and writes its event, if it has one, to `event`. The line is
+    /// refused with its first fault, and then the reader is as it was.
     #[tactic(auto, unfolding(crate::specs::Reading::read_line))]
     pub fn line(&mut self, line: &[u8], event: &mut Event) -> Result<Item, LineFault>
         ensures read { reading.read_line self.old line.now ≡ answered item_with result self.new event.new }
@@ -68,7 +68,7 @@ impl ScenarioReader {
         read_line(self, line, event)
     }
 
-    /// The settings of the run, each within its limits, or `Missing` where a needed one has not come.
+    /// The settings of the run, each within its limits, or `Missing` if a needed one has not come.
     pub fn setup(&self) -> Result<Setup, LineFault>
         ensures value { result ≡ setup_of self.now.settings }
         ensures valid { IfOk result IsValidSetup }
@@ -76,8 +76,8 @@ impl ScenarioReader {
         self.settings.setup()
     }
 
-    /// What the end of the input means: `NoHeader` where no line was read, else `Missing` where the
-    /// line `end` was not.
+    /// What the end of the input means: `NoHeader` if no line was read, else `Missing` if the line `end` was
+    /// not.
     pub fn finish(&self) -> Result<(), LineFault>
         ensures { result ≡ finish_of self.now }
     {

@@ -71,7 +71,7 @@ impl Settings {
         }
     }
 
-    /// True where the line gives a user and 16 are there, or in the second version a nonce of an end that has 16.
+    /// True if the line gives a user and 16 are there, or in the second version a nonce of an end that has 16.
     pub fn is_crowded(&self, keyword: Keyword) -> bool
         ensures { result ≡ is_crowded self.now keyword }
     {
@@ -83,14 +83,14 @@ impl Settings {
         }
     }
 
-    /// True where a needed setting has not come. (By itself, so that no other line makes room for a setup.)
+    /// True if a needed setting has not come. (By itself, so that no other line makes room for a setup.)
     pub fn lacks_some(&self) -> bool
         ensures { result ≡ is_err (setup_of self.now) }
     {
         self.setup().is_err()
     }
 
-    /// True where the setting has come before.
+    /// True if the setting has come before.
     pub fn has(&self, setting: &Setting) -> bool
         ensures { result ≡ has_setting self.now setting.now }
     {
@@ -115,7 +115,7 @@ impl Settings {
         }
     }
 
-    /// Takes one more setting.
+    /// Adds one more setting.
     pub fn set(&mut self, setting: Setting)
         ensures { self.new ≡ with_setting self.old setting }
     {
@@ -140,7 +140,7 @@ impl Settings {
         }
     }
 
-    /// The settings of the run, or `Missing` where a needed one has not come.
+    /// The settings of the run, or `Missing` if a needed one has not come.
     #[tactic(auto, unfolding(crate::specs::Reading::setup_of))]
     pub fn setup(&self) -> Result<Setup, LineFault>
         ensures { result ≡ setup_of self.now }
@@ -158,7 +158,7 @@ impl Settings {
         })
     }
 
-    /// What is told of later conversations.
+    /// What is said of later conversations.
     fn later(&self) -> Later
         ensures { result ≡ later_of self.now }
     {
@@ -169,7 +169,7 @@ impl Settings {
         }
     }
 
-    /// The settings of the peer, or `Missing` where one that it needs has not come.
+    /// The settings of the peer, or `Missing` if one that it needs has not come.
     #[tactic(auto, unfolding(crate::specs::Reading::peer_setup_of))]
     pub fn peer(&self) -> Result<PeerSetup, LineFault>
         ensures { result ≡ peer_setup_of self.now }
@@ -192,7 +192,7 @@ impl Settings {
         })
     }
 
-    /// The settings of the server, or `Missing` where one that it needs has not come.
+    /// The settings of the server, or `Missing` if one that it needs has not come.
     #[tactic(auto, unfolding(crate::specs::Reading::server_setup_of))]
     pub fn server(&self) -> Result<ServerSetup, LineFault>
         ensures { result ≡ server_setup_of self.now }
@@ -211,7 +211,7 @@ impl Settings {
     }
 }
 
-/// True where 16 nonces have come.
+/// True if 16 nonces have come.
 fn is_full(slot: &Option<GivenNonces>) -> bool
     ensures { result ≡ is_full slot.now }
 {
@@ -262,7 +262,7 @@ fn later_nonces(slot: &Option<GivenNonces>) -> Nonces
     }
 }
 
-/// The peer's key for a method, or `Missing` where there is none and the method is among these.
+/// The peer's key for a method, or `Missing` if there is none and the method is among these.
 fn key_for(methods: &Kinds, kind: u8, slot: &Option<Secret>) -> Result<Option<Secret>, LineFault>
     ensures { result ≡ key_for methods.now kind slot.now }
 {

@@ -8,12 +8,12 @@ ghost use Rattle.scenario_text.specs.Versions.{version_of, version_number, has_l
 pub enum Version {
     /// `eap-scenario 1`: each end has one conversation.
     First,
-    /// `eap-scenario 2`: an end may begin anew, each time with its next nonce.
+    /// `eap-scenario 2`: an end may begin a new conversation, each time with its next nonce.
     Second,
 }
 
 impl Version {
-    /// The version whose header the line is, or None where it is neither.
+    /// The version whose header the line is, or None if it is neither.
     pub fn of_header(line: &[u8]) -> Option<Version>
         ensures { result ≡ version_of line.now }
     {
@@ -36,7 +36,7 @@ impl Version {
         }
     }
 
-    /// True where an end may have nonces for later conversations.
+    /// True if an end may have nonces for later conversations.
     pub fn has_later(self) -> bool
         ensures { result ≡ has_later self }
     {

@@ -1,5 +1,5 @@
--- A server that reads Expanded Types (RFC 3748 section 5.7): the rows of its table are those of the plain form of a Response,
--- and each Request of a method is wrapped. No row of the table knows of them.
+-- A server that reads Expanded Types (RFC 3748 section 5.7): the transitions of its table are those of the plain form
+-- of a Response, and each Request of a method is wrapped. No transition of the table knows of them.
 use Rattle.std.specs.Prelude.{◌≡◌, ℕ, List, Bool, true, ◌==◌, ◌&&◌, ◌||◌, not, if◌then◌else◌, Option, Some, None, Result, Ok}
 use Rattle.eap_base.specs.Among.{expanded_kind, nak_kind}
 use Rattle.eap_packet.specs.Packet.{PacketValue, response, spelled}
@@ -15,8 +15,8 @@ use Rattle.eap_method.specs.Steps.{is_end}
 use Rattle.server_machine.specs.ServerTable.{ServerNow, ServerAnswer, answer, awaits_first, first_discard, server_discard, server_deliver}
 use Rattle.server_machine.specs.declared.variables.ServerVariables.{ServerVariables}
 
--- an Expanded Nak is taken as a backend's first Response, and where the Request that was sent last is of Type 254; the
--- table asks for the rest: that it has currentId, and that the method is proposed
+-- an Expanded Nak is accepted as a backend's first Response, and if the Request that was sent last is of Type 254; the
+-- table requires the rest: that it has currentId, and that the method is proposed
 abbrev pub takes_nak : ServerVariables → Bool
 takes_nak vars = awaits_first vars || (type_of vars.last_request == expanded_kind)
 
@@ -24,13 +24,13 @@ takes_nak vars = awaits_first vars || (type_of vars.last_request == expanded_kin
 abbrev pub nak_octets : ℕ → List ℕ → List ℕ
 nak_octets id body = spelled (response id nak_kind (nak_of (expanded_kinds (inner_body body))))
 
--- what the table takes of a Response
+-- what the table reads in place of a Response
 abbrev pub response_octets : ServerVariables → List ℕ → ℕ → ℕ → List ℕ → List ℕ
 response_octets vars octets id kind body =
     if (kind == expanded_kind) && (is_nak_body body && takes_nak vars) then nak_octets id body
     else plain_octets octets (response id kind body)
 
--- a Request is sent, and kept for the timer, as it is wrapped
+-- a Request is sent, and stored for the timer, as it is wrapped
 abbrev pub keeps_sent : ServerAnswer → List ℕ → ServerAnswer
 keeps_sent out octets =
     answer (record out.step { sent = Some octets })
@@ -47,7 +47,7 @@ wraps out = wraps_sent out out.step.sent
 abbrev pub MayWrap : Bool → List ℕ → Type 0
 MayWrap sends packet = sends ≡ true → code_of packet ≡ 1 → HasRoom packet
 
--- a Response that no party takes; to a backend that awaits its first, with an empty path
+-- a Response that no party accepts; to a backend that awaits its first, with an empty path
 abbrev pub discards_bad : ServerNow → ServerAnswer
 discards_bad now = if awaits_first now.vars then first_discard now cause.BadExpanded else server_discard now cause.BadExpanded
 
@@ -61,7 +61,7 @@ abbrev pub server_reads : ServerNow → List ℕ → Result PacketValue Cause �
 server_reads now octets (Ok (response id kind body)) = reads_response now octets id kind body
 server_reads now octets packet = server_deliver now octets
 
--- a delivery, read so where the settings say so
+-- a delivery, read so if the settings say so
 unfoldable pub server_hears : ServerNow → List ℕ → ServerAnswer
 server_hears now octets =
     if now.vars.setup.expanded && not (is_end now.vars.state) then server_reads now octets (packet_of octets)

@@ -1,4 +1,4 @@
--- What comes to the server, and what it makes of it (RFC 4137 sections 5 and 6). A backend gets octets
+-- The server's inputs, and what it does at each (RFC 4137 sections 5 and 6). A backend gets octets
 -- alone: its pass-through starts, and has the timer.
 use Rattle.std.specs.Prelude.{ℕ, List, [], if◌then◌else◌}
 use Rattle.eap_method.specs.Steps.{enters, is_end}
@@ -24,7 +24,7 @@ server_answers now timeout = if is_end now.vars.state then server_rests now else
 server_answers now (octets bytes) = server_deliver now bytes
 server_answers now (restart nonce) = server_restart now nonce
 
--- by the table, with Expanded Types where the settings say so
+-- by the table, with Expanded Types if the settings say so
 abbrev pub server_takes : ServerNow → ServerInput → ServerAnswer
 server_takes now (octets bytes) = server_hears now bytes
 server_takes now input = server_answers now input

@@ -1,4 +1,4 @@
--- The rows of the server's table (RFC 4137 sections 5 and 6), each with all that is then known.
+-- The transitions of the server's table (RFC 4137 sections 5 and 6), each with all that is then known.
 use Rattle.std.specs.Prelude.{◌≡◌, ℕ, ◌+◌, List, [], ◌∷◌, ◌++◌, true, false, ◌==◌, ◌&&◌, nat_le, Option, Some, None, Ok, Err}
 use Rattle.eap_base.specs.Among.{identity_kind, nak_kind}
 use Rattle.eap_packet.specs.Fault.{packet_of}
@@ -80,7 +80,7 @@ pub data Drops (now : ServerNow) (bytes : List ℕ) : Cause → List State → T
   by_method : (id kind : ℕ) (body : List ℕ) (c : Cause) (views : ServerViews) (heard : Hears now bytes id kind body)
       (turned : Turns now id kind body (turn.Discard c) views) → Drops now bytes c unanswered
 
--- what the server makes of an input
+-- what the server does at an input
 pub data ServerRow (now : ServerNow) : ServerInput → ServerAnswer → Type 0 where
   -- after the end octets are discarded, and the timer does nothing; a second start does nothing
   ended : (bytes : List ℕ) (over : is_end now.vars.state ≡ true) → ServerRow now (octets bytes) (answer (discards [] cause.Ended) now)
@@ -107,7 +107,7 @@ pub data ServerRow (now : ServerNow) : ServerInput → ServerAnswer → Type 0 w
         };
         views = now.views;
       }))
-  -- a new conversation, wherever the server stood
+  -- a new conversation, whatever the server's state was
   begins : (nonce : List ℕ) → ServerRow now (restart nonce) (server_restart now nonce)
   -- RETRANSMIT, at most MaxRetrans times, and TIMEOUT_FAILURE
   resends : (going : is_end now.vars.state ≡ false) (in_time : nat_le (now.vars.retrans_count + 1) now.vars.max_retrans ≡ true)
@@ -149,7 +149,7 @@ pub data ServerRow (now : ServerNow) : ServerInput → ServerAnswer → Type 0 w
       → ServerRow now (octets bytes)
       (answer (sends (entered ++ state.Failure ∷ []) (failure_packet id) no_tags)
       (record { vars = record vars { state = state.Failure }; views = now.views }))
-  -- METHOD_REQUEST after the method's turn; SUCCESS and FAILURE where it is over
+  -- METHOD_REQUEST after the method's turn; SUCCESS and FAILURE if it is over
   requests : (bytes : List ℕ) (id kind : ℕ) (body packet : List ℕ) (tags : Tags) (views : ServerViews)
       (heard : Hears now bytes id kind body) (turned : Turns now id kind body (turn.Request packet tags) views)
       → ServerRow now (octets bytes)
@@ -170,6 +170,6 @@ pub data ServerRow (now : ServerNow) : ServerInput → ServerAnswer → Type 0 w
       (answer (sends (before_proposal way.AfterResponse ++ state.Failure ∷ []) (failure_packet id) tags)
       (record { vars = record now.vars { progress = progress.End; state = state.Failure }; views = views }))
 
--- what comes of every input is one of the rows
+-- what comes of every input is one of these transitions
 abbrev pub ServerAnswersAreRows : Type 0
 ServerAnswersAreRows = (now : ServerNow) (input : ServerInput) → ServerRow now input (server_answers now input)

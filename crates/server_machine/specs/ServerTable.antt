@@ -1,5 +1,5 @@
 -- The stand-alone server of RFC 4137 section 5 and the backend of section 6, over the views of their
--- methods: each call as a function. The backend is the same table behind another door: its first Response.
+-- methods: each call as a function. The backend is the same table, entered by its first Response.
 use Rattle.std.specs.Prelude.{◌≡◌, ◌≤◌, ℕ, ◌+◌, ◌%◌, List, [], ◌∷◌, ◌++◌, Bool, true, false, ◌==◌, ◌&&◌, ◌||◌, not, nat_le, if◌then◌else◌, Option, Some, None, Result, Ok, Err, map, find, option_map}
 use Rattle.login_setup.specs.declared.setup.ServerSetup.{ServerSetup}
 use Rattle.login_setup.specs.declared.users.User.{User}
@@ -38,7 +38,7 @@ pub record ServerNow : Type 0 where
   pub vars : ServerVariables
   pub views : ServerViews
 
--- what a machine is, where an object shows its method and view
+-- what a machine is, if an object shows its method and view
 abbrev pub now_of : {M : Type 0} → (M → ServerShown) → ServerValue M → ServerNow
 now_of shown value = record { vars = value.vars; views = server_views value.vars.setup.methods (map shown value.methods) }
 
@@ -138,8 +138,8 @@ offers entered vars views id kind (Some octets) =
       views = views;
     })
 
--- SELECT_ACTION where a method is to be proposed: the first of the order that isn't yet proposed and
--- that the Nak, where one has come, desires; where there is none, FAILURE
+-- SELECT_ACTION if a method is to be proposed: the first of the order that isn't yet proposed and that the
+-- Nak, if one has come, desires; if there is none, FAILURE
 abbrev pub proposes : List State → ServerVariables → ServerViews → ℕ → Option ℕ → ServerAnswer
 proposes entered vars views id None = ends_badly entered vars views id no_tags
 proposes entered vars views id (Some kind) =
@@ -196,7 +196,7 @@ is_awaited (Some awaited) number = awaited == number
 abbrev pub is_proposed : Progress → Bool
 is_proposed p = elim p [ progress.Proposed ↦ true | _ ↦ false ]
 
--- a Response with currentId; a Nak is taken only while the method is proposed
+-- a Response with currentId; a Nak is accepted only while the method is proposed
 abbrev pub current_response : ServerNow → ℕ → ℕ → List ℕ → ServerAnswer
 current_response now id kind body =
     if (kind == nak_kind) && is_proposed now.vars.progress

@@ -20,8 +20,8 @@ use login_setup::{ServerSetup, Users};
 use std::marker::Model;
 
 /// The backend authenticator of RFC 4137 section 6: a login server behind a pass-through, which asks for
-/// the identity and sends again in its place. It begins with the first Response; from then on its rows are
-/// those of the stand-alone server. Where its settings say `expanded`, it reads Expanded Types (RFC 3748 section
+/// the identity and sends again in its place. It begins with the first Response; from then on its transitions are those
+/// of the stand-alone server. If its settings say `expanded`, it reads Expanded Types (RFC 3748 section
 /// 5.7) and asks in them. Contracts see it as that machine.
 #[derive(Drop)]
 pub struct Backend<M> {
@@ -54,13 +54,13 @@ impl<M: ServerMethod> Backend<M> {
         }
     }
 
-    /// Octets come from the pass-through. The first Response goes to PICK_UP_METHOD or NAK (RFC 4137 section
-    /// 6.5), and before it all else is discarded with an empty path; afterwards, and after the end, the rows are
-    /// those of [`ServerMachine::deliver`]. The packet that is sent is written into `packet`, the records of the
-    /// turn's tags into `tags`, in place of what was there. A discard changes neither a variable nor a method's
-    /// view, and leaves no record.
+    /// Octets arrive from the pass-through. The first Response goes to PICK_UP_METHOD or NAK (RFC 4137 section
+    /// 6.5), and before it all else is silently discarded with an empty path; afterwards, and after the end, the
+    /// transitions are those of [`ServerMachine::deliver`]. The packet that is sent is written into `packet`, the
+    /// records of the turn's tags into `tags`, in place of what was there. A discard changes neither a variable nor a
+    /// method's view, and leaves no record.
     ///
-    /// Where the settings say `expanded`, Expanded Types (RFC 3748 section 5.7) are read and sent as that call does;
+    /// If the settings say `expanded`, Expanded Types (RFC 3748 section 5.7) are read and sent as that call does;
     /// before the first Response a BadExpanded too has an empty path, and an Expanded Nak may be the first.
     #[tactic(auto, using(crate::proofs::Starting::backend_is_ready))]
     pub fn deliver(&mut self, octets: &[u8], packet: &mut Packet, tags: &mut Tags) -> Step
@@ -72,7 +72,7 @@ impl<M: ServerMethod> Backend<M> {
         self.machine.deliver(octets, packet, tags)
     }
 
-    /// Begins a new conversation with this nonce, wherever the backend stands: its variables and the objects of its methods
+    /// Begins a new conversation with this nonce, in any state: its variables and the objects of its methods
     /// are as INITIALIZE sets them, no tag is accepted or made, and of the settings the nonce alone changes. It waits for its
     /// first Response and sends nothing (RFC 4137 section 6.5). Each of its methods has an object.
     #[tactic(auto, unfolding(crate::specs::ServerTable::server_restart))]
@@ -94,7 +94,7 @@ impl<M: ServerMethod> Backend<M> {
         self.machine.setup()
     }
 
-    /// The state in which the backend stands: INITIALIZE before the first Response, then IDLE, SUCCESS or
+    /// The backend's state: INITIALIZE before the first Response, then IDLE, SUCCESS or
     /// FAILURE.
     pub fn state(&self) -> State
         ensures { result ≡ self.now.vars.state }
@@ -109,22 +109,22 @@ impl<M: ServerMethod> Backend<M> {
         self.machine.ended()
     }
 
-    /// What the current method reports; None where none is current or it holds no report.
+    /// What the current method reports; None if none is current or it has no report.
     pub fn report(&self) -> Option<Report>
         ensures { result ≡ server_reports (now_of M.server_shown self.now) }
     {
         self.machine.report()
     }
 
-    /// The object of the current method, which shows its view; None before the first, and where there is no object of it.
+    /// The object of the current method, which shows its view; None before the first, and if there is no object of it.
     pub fn current(&self) -> Option<&M>
         ensures { option_map (λ o. M.server_shown o.now) result ≡ current_view (now_of M.server_shown self.now) }
     {
         self.machine.current()
     }
 
-    /// The users that the backend knows are these from now on, wherever it stands; nothing else changes. Each has a key
-    /// for one of the two methods, of the size that the method takes.
+    /// The users that the backend knows are these from now on, in any state; nothing else changes. Each has a key
+    /// for one of the two methods, of the size that the method requires.
     pub fn set_users(&mut self, users: Users)
         requires kinds { All (λ user. IsTrue (is_kind user.kind)) users }
         requires keys { All (λ user. IsTrue (fits_kind user.kind user.psk)) users }
@@ -140,7 +140,7 @@ impl<M: ServerMethod> Backend<M> {
         self.machine.has_objects()
     }
 
-    /// The objects, in the order in which they were handed in, with the views that they have.
+    /// The objects, in the order in which they were given, with the views that they have.
     pub fn into_methods(self) -> Vec<M>
         ensures { result.items ≡ self.methods }
     {

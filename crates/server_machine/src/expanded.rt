@@ -1,4 +1,4 @@
-//! How a server that reads Expanded Types (RFC 3748 section 5.7) takes a Response and sends a Request.
+//! How a server that reads Expanded Types (RFC 3748 section 5.7) handles a Response and sends a Request.
 
 ghost use Rattle.std.specs.Prelude.{◌≡◌, ◌≤◌, ℕ, List, ◌==◌, false, if◌then◌else◌, length, slice_index};
 ghost use Rattle.eap_base.specs.Among.{nak_kind};
@@ -25,9 +25,9 @@ pub fn awaits_first(vars: &ServerVariables) -> bool
     matches!(vars.role, Role::Backend) && matches!(vars.state, State::Initialize)
 }
 
-/// Writes what a Response is taken as, in place of what `packet` held, and answers true: an Expanded Nak that
-/// is taken as the Nak that it says, any other of Vendor-Id 0 in its plain form. Of any other Response it is
-/// the octets that came; the answer is then false, and what `packet` holds doesn't count.
+/// Writes what a Response is handled as, in place of what `packet` had, and answers true: an Expanded Nak that
+/// is accepted as the Nak that it says, any other of Vendor-Id 0 in its plain form. Of any other Response it is
+/// the octets that came; the answer is then false, and what `packet` then has is unspecified.
 pub fn write_taken(vars: &ServerVariables, view: &PacketView, packet: &mut Packet) -> bool
     requires response { view.now.code ≡ Code.Response }
     requires fits { length view.now.body.now ≤ max_type_data }
@@ -49,7 +49,7 @@ fn is_nak_body(body: &[u8]) -> bool
     body.len() >= VENDOR_SIZE && body[..6] == IETF[..] && body[6] == NAK
 }
 
-/// Whether an Expanded Nak is taken: as a backend's first Response, and where the Request that was sent last
+/// Whether an Expanded Nak is accepted: as a backend's first Response, and if the Request that was sent last
 /// is of Type 254.
 fn takes_nak(vars: &ServerVariables) -> bool
     ensures { result ≡ takes_nak vars.now }
@@ -57,7 +57,7 @@ fn takes_nak(vars: &ServerVariables) -> bool
     awaits_first(vars) || octet_is(vars.last_request.as_slice(), 4, EXPANDED)
 }
 
-/// Whether this octet, which isn't 0, stands in this place.
+/// Whether this octet, which isn't 0, is at this place.
 fn octet_is(octets: &[u8], place: usize, octet: u8) -> bool
     requires { (octet == 0) ≡ false }
     ensures { result ≡ (slice_index octets.now place == octet) }
@@ -65,8 +65,8 @@ fn octet_is(octets: &[u8], place: usize, octet: u8) -> bool
     place < octets.len() && octets[place] == octet
 }
 
-/// Writes the Nak that an Expanded Nak with this list says: the Types of the two methods that it names, or 0
-/// where it names neither.
+/// Writes the Nak that an Expanded Nak with this list says: the Types of the two methods that it names, or 0 if
+/// it names neither.
 #[tactic(auto, unfolding(login_policy::specs::Policy::nak_of))]
 fn write_nak(packet: &mut Packet, id: u8, list: &[u8])
     ensures { packet.new ≡ spelled (response id nak_kind (nak_of (expanded_kinds list.now))) }
@@ -79,8 +79,8 @@ fn write_nak(packet: &mut Packet, id: u8, list: &[u8])
     }
 }
 
-/// Wraps a Request that is sent, in place, and keeps it so for the timer. A Success and a Failure stay. It isn't
-/// inlined, so that the copy of the packet isn't on the stack in a method's turn.
+/// Wraps a Request that is sent, in place, and stores it so for the timer. A Success and a Failure stay as they
+/// are. It isn't inlined, so that the copy of the packet isn't on the stack in a method's turn.
 #[inline(never)]
 pub fn wrap_sent(vars: &mut ServerVariables, sends: bool, packet: &mut Packet)
     requires room { MayWrap sends packet.old }

@@ -10,14 +10,14 @@ pub fn discards_keep()
     ensures { DiscardsKeep }
 {}
 
-/// What the server makes of every input is one row of its table, with all that is then known.
+/// What the server does at every input is one transition of its table, with all that is then known.
 #[tactic(auto, using(crate::proofs::ServerRows::server_answers_are_rows))]
 pub fn answers_are_rows()
     ensures { ServerAnswersAreRows }
 {}
 
-/// Nothing that comes to the server changes its role, and a server to which octets may come, which has started or is a
-/// backend, stays one: also where it begins a new conversation.
+/// No input changes the server's role, and a server to which octets may come, which has started or is a backend, stays
+/// one: also if it begins a new conversation.
 #[tactic(auto, using(crate::proofs::Starting::stays_as_it_is))]
 pub fn stays_as_it_is()
     ensures { StaysAsItIs }

@@ -34,7 +34,7 @@ use std::marker::Model;
 /// The server of RFC 4137, stand-alone (section 5) or, for a world with a pass-through, in the role of the
 /// backend (section 6): its variables, and the objects of its methods. Contracts see both; what an object
 /// shows is its ghost member `server_shown`. No call changes the settings but [`restart`](ServerMachine::restart) their nonce
-/// and [`set_users`](ServerMachine::set_users) their users, nor the view of an object whose method they don't name. Where
+/// and [`set_users`](ServerMachine::set_users) their users, nor the view of an object whose method they don't name. If
 /// the settings say `expanded`, it reads Expanded Types (RFC 3748 section 5.7) and asks in them.
 /// [`Backend`](crate::Backend) is the backend by itself.
 #[derive(Drop)]
@@ -141,7 +141,7 @@ impl<M: ServerMethod> ServerMachine<M> {
         Step::sending(&states)
     }
 
-    /// Begins a new conversation with this nonce, wherever the server stands: its variables and the objects of its
+    /// Begins a new conversation with this nonce, in any state: its variables and the objects of its
     /// methods are as INITIALIZE sets them, no tag is accepted or made, and of the settings the nonce alone changes. A
     /// stand-alone server then asks for the identity again, with the first Identifier, in `packet` (RFC 4137 section 5.5); a
     /// backend waits for its first Response and sends nothing (section 6.5). Each of its methods has an object.
@@ -179,20 +179,20 @@ impl<M: ServerMethod> ServerMachine<M> {
         self.vars.proposed.clear();
     }
 
-    /// Octets come from the peer, to a server that is [ready](ServerMachine::ready). The packet that they
-    /// begin with is taken through RECEIVED (RFC 4137 section 5.5); the first Response to a backend goes to
-    /// PICK_UP_METHOD or NAK (section 6.5). Octets that begin with no packet are discarded, and so are all
+    /// Octets arrive from the peer, at a server that is [ready](ServerMachine::ready). The packet that they begin with
+    /// is handled from RECEIVED on (RFC 4137 section 5.5); the first Response to a backend goes to
+    /// PICK_UP_METHOD or NAK (section 6.5). Octets that begin with no packet are silently discarded, and so are all
     /// once the server has ended. The packet that is sent is written into `packet`, the records of the turn's
     /// tags into `tags`, in place of what was there. A discard changes neither a variable nor a method's view,
-    /// and leaves no record. Without a packet that is sent, nothing counts in `packet`.
+    /// and leaves no record. Without a packet that is sent, `packet` is unspecified.
     ///
-    /// Where the settings say `expanded`, a Response may have an Expanded Type (RFC 3748 section 5.7). One of Type
+    /// If the settings say `expanded`, a Response may have an Expanded Type (RFC 3748 section 5.7). One of Type
     /// 254 with under 7 octets of Type-Data, and an Expanded Nak whose list isn't one or more entries of 8 octets
-    /// that each begin with 254 (section 5.3.2), is discarded as BadExpanded; by a backend that awaits its first
-    /// Response with an empty path. Any other is taken in its plain form, and an Expanded Nak as a Nak where it is
+    /// that each begin with 254 (section 5.3.2), is silently discarded as BadExpanded; by a backend that awaits its
+    /// first Response with an empty path. Any other is handled in its plain form, and an Expanded Nak as a Nak if it is
     /// a backend's first Response or answers a Request of Type 254. Each Request of a method is sent with Type 254,
-    /// 7 octets longer, at most 1,500 in all, and again so by the timer; the Identity Request, a Success and a
-    /// Failure are sent as they are.
+    /// 7 octets longer, at most 1,500 in all, and again so by the timer; the Identity Request, a Success and a Failure
+    /// are sent as they are.
     #[tactic(auto, unfolding(crate::specs::Expanded::server_hears))]
     pub fn deliver(&mut self, octets: &[u8], packet: &mut Packet, tags: &mut Tags) -> Step
         requires ready { is_ready self.old.vars ≡ true }
@@ -208,7 +208,7 @@ impl<M: ServerMethod> ServerMachine<M> {
         }
     }
 
-    /// Octets come to a server that reads Expanded Types and has not ended. It isn't inlined, so that no other
+    /// Octets arrive at a server that reads Expanded Types and has not ended. It isn't inlined, so that no other
     /// server has the octets of a plain form on its stack.
     #[inline(never)]
     fn read(&mut self, octets: &[u8], packet: &mut Packet, tags: &mut Tags) -> Step
@@ -229,7 +229,7 @@ impl<M: ServerMethod> ServerMachine<M> {
         }
     }
 
-    /// These octets begin with a Response, which is taken in its plain form; a Request that is sent is wrapped.
+    /// These octets begin with a Response, which is handled in its plain form; a Request that is sent is wrapped.
     fn read_response(
         &mut self,
         octets: &[u8],
@@ -262,8 +262,8 @@ impl<M: ServerMethod> ServerMachine<M> {
         }
     }
 
-    /// Octets come, and are taken by the rows of RFC 4137 alone, which know of no Expanded Type. A Request that is
-    /// sent has room for one.
+    /// Octets arrive, and are handled by the transitions of RFC 4137 alone, which know of no Expanded Type. A Request
+    /// that is sent has room for one.
     #[tactic(auto, unfolding(crate::specs::ServerTable::server_deliver))]
     fn deliver_plain(&mut self, octets: &[u8], packet: &mut Packet, tags: &mut Tags) -> Step
         requires ready { is_ready self.old.vars ≡ true }
@@ -323,7 +323,7 @@ impl<M: ServerMethod> ServerMachine<M> {
         &self.vars.setup
     }
 
-    /// The state in which the server stands: INITIALIZE before the start, then IDLE, SUCCESS, FAILURE or
+    /// The server's state: INITIALIZE before the start, then IDLE, SUCCESS, FAILURE or
     /// TIMEOUT_FAILURE.
     pub fn state(&self) -> State
         ensures { result ≡ self.now.vars.state }
@@ -345,14 +345,14 @@ impl<M: ServerMethod> ServerMachine<M> {
         matches!(self.vars.role, Role::Backend)
     }
 
-    /// True where octets may come: at a backend from the first, else once the server has started.
+    /// True if octets may come: at a backend from the first, else once the server has started.
     pub fn ready(&self) -> bool
         ensures { result ≡ is_ready self.now.vars }
     {
         self.is_backend() || self.started()
     }
 
-    /// True where the retransmission timer may end: at a stand-alone server that has started and has not
+    /// True if the retransmission timer may end: at a stand-alone server that has started and has not
     /// ended.
     pub fn has_timer(&self) -> bool
         ensures { result ≡ has_timer self.now.vars }
@@ -367,7 +367,7 @@ impl<M: ServerMethod> ServerMachine<M> {
         has_ended(self.vars.state)
     }
 
-    /// What the current method reports; None where none is current or it holds no report.
+    /// What the current method reports; None if none is current or it has no report.
     #[tactic(auto, using(crate::proofs::Settling::identity_reports))]
     pub fn report(&self) -> Option<Report>
         ensures { result ≡ server_reports (now_of M.server_shown self.now) }
@@ -384,7 +384,7 @@ impl<M: ServerMethod> ServerMachine<M> {
         }
     }
 
-    /// The object of the current method, which shows its view; None before the first, in the Identity round, and where
+    /// The object of the current method, which shows its view; None before the first, in the Identity round, and if
     /// there is no object of it.
     #[tactic(auto, using(crate::proofs::Current::found_is_view))]
     pub fn current(&self) -> Option<&M>
@@ -396,8 +396,8 @@ impl<M: ServerMethod> ServerMachine<M> {
         }
     }
 
-    /// The users that the server knows are these from now on, wherever it stands; nothing else changes. Each has a key for
-    /// one of the two methods, of the size that the method takes.
+    /// The users that the server knows are these from now on, in any state; nothing else changes. Each has a key for
+    /// one of the two methods, of the size that the method requires.
     #[tactic(auto, using(crate::proofs::Restarting::sound_with_users))]
     pub fn set_users(&mut self, users: Users)
         requires kinds { All (λ user. IsTrue (is_kind user.kind)) users }
@@ -414,14 +414,14 @@ impl<M: ServerMethod> ServerMachine<M> {
         has_each(self.methods.as_slice(), self.vars.setup.methods.as_slice())
     }
 
-    /// The objects, in the order in which they were handed in, with the views that they have.
+    /// The objects, in the order in which they were given, with the views that they have.
     pub fn into_methods(self) -> Vec<M>
         ensures { result.items ≡ self.methods }
     {
         self.methods
     }
 
-    /// A packet comes to a backend that waits for the first Response; all else is discarded with an empty
+    /// A packet arrives at a backend that waits for the first Response; all else is discarded with an empty
     /// path.
     fn pick_up(&mut self, view: &PacketView, packet: &mut Packet) -> Step
         requires going { is_end self.old.vars.state ≡ false }
@@ -508,8 +508,8 @@ impl<M: ServerMethod> ServerMachine<M> {
         }
     }
 
-    /// SELECT_ACTION where a method is to be proposed: the first of the order that isn't yet proposed and
-    /// that the Nak, where one has come, desires; where there is none, or no object of it, FAILURE.
+    /// SELECT_ACTION if a method is to be proposed: the first of the order that isn't yet proposed and that the Nak, if
+    /// one has come, desires; if there is none, or no object of it, FAILURE.
     #[tactic(auto, using(login_policy::proofs::Choices::next_is_ordered, login_policy::proofs::Choices::next_is_unproposed), unfolding(crate::specs::ServerTable::select_action))]
     fn propose(&mut self, way: Way, id: u8, desired: Option<&[u8]>, packet: &mut Packet) -> Step
         ensures step { let now = now_of M.server_shown self.old in select_action (before_proposal way) now.vars now.views id (option_copied desired.entry)

@@ -1,4 +1,4 @@
-//! What a proposal, and a method's turn, come to (RFC 4137 section 5.4): the variables, the packet and the step.
+//! What follows a proposal, and a method's turn (RFC 4137 section 5.4): the variables, the packet and the step.
 
 ghost use Rattle.std.specs.Prelude.{◌≡◌, ◌≢◌, [], ◌∷◌, ◌++◌, false, true, not, Some, None, IsTrue, if◌then◌else◌};
 ghost use Rattle.eap_base.specs.Among.{is_among};
@@ -59,7 +59,7 @@ pub fn next_id(vars: &ServerVariables) -> u8
     }
 }
 
-/// FAILURE, where a method was to be proposed: a Failure with currentId.
+/// FAILURE, if a method was to be proposed: a Failure with currentId.
 pub fn end_badly(vars: &mut ServerVariables, way: Way, id: u8, packet: &mut Packet) -> Step
     ensures step { (views : ServerViews) → ends_badly (before_proposal way) vars.old views id no_tags
         ≡ answer (step_with result packet.new no_tags) (record { vars = vars.new; views = views }) }
@@ -72,7 +72,7 @@ pub fn end_badly(vars: &mut ServerVariables, way: Way, id: u8, packet: &mut Pack
     failing(way)
 }
 
-/// The step of a proposal that nothing is left for.
+/// The step of FAILURE, if no method is left to propose.
 fn failing(way: Way) -> Step
     ensures { result ≡ record { path = before_proposal way ++ Failure ∷ []; cause = None; sends = true } }
 {

@@ -49,7 +49,7 @@ pub struct ServerVariables {
     pub first_id: u8,
     /// MaxRetrans: how often a stand-alone server sends a Request again, at most 10.
     pub max_retrans: u8,
-    /// The state in which it stands between two calls: INITIALIZE before the start, or a backend's first
+    /// Its state between two calls: INITIALIZE before the start, or a backend's first
     /// Response, then IDLE, SUCCESS, FAILURE or TIMEOUT_FAILURE.
     pub state: State,
     /// currentId: the Identifier of the Request that was sent last, or of a backend's first Response; None

@@ -1,5 +1,5 @@
--- Smooth logins after restarts: where both ends, and through the pass-through all three parties, have just begun anew,
--- a smooth login succeeds as the first one does, whatever was sent, booked and counted before.
+-- Smooth logins after restarts: if both ends, and through the pass-through all three parties, have just begun again, a
+-- smooth login succeeds as the first one does, whatever was sent, booked and counted before.
 use Rattle.std.specs.Prelude.{◌≡◌, ◌-◌, ◌≤◌, List, [], ◌++◌, length, take, true, false}
 use Rattle.login_setup.specs.declared.event.Event.{Event}
 use Rattle.login_setup.specs.declared.setup.Setup.{Setup}
@@ -12,14 +12,14 @@ use Rattle.eap_world.specs.Sent.{Sent}
 use Rattle.eap_world.specs.World.{WorldNow, run_after}
 use Rattle.smooth_laws.specs.Smooth.{EndsFit, HasShortNames, bound, deliveries}
 
--- the parties stand as after the start of a run of these settings, whose nonces are those of the present
--- conversations, and what was sent last asks for the identity; whatever else the world holds
+-- the parties are as after the start of a run of these settings, whose nonces are those of the present
+-- conversations, and what was sent last asks for the identity; whatever else the world has
 pub record HasJustBegun (setup : Setup) (w : WorldNow) : Type 0 where
   pub parties : w.parties ≡ (run_of setup []).parties
   pub before : List Sent
   pub sent : w.sent ≡ before ++ (run_of setup []).sent
 
--- both ends have succeeded in the conversations in which they stood at a moment before: since then no delivery was
+-- both ends have succeeded in the conversations in which they were at a moment before: since then no delivery was
 -- discarded and no conversation has begun, the tags are as honest as they were, and the ends agree
 pub record IsLoggedInSince (since w : WorldNow) : Type 0 where
   pub peer : is_success w.parties.peer.vars.state ≡ true

@@ -1,5 +1,5 @@
--- A run behind others: from a world whose parties have just begun anew, events in which no party begins again do what
--- they do in a run of its own.
+-- A run behind others: from a world whose parties have just begun again, events in which no party begins again do
+-- what they do in a run of its own.
 use Rattle.std.specs.Prelude.{◌≡◌, ℕ, ◌+◌, List, ◌++◌, length, map, Bool, true, false, ◌==◌, if◌then◌else◌, All}
 use Rattle.login_setup.specs.declared.event.Event.{Event}
 use Rattle.login_setup.specs.declared.event.Event.TheVariants as event

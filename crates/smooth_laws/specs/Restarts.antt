@@ -1,4 +1,4 @@
--- Logins after restarts: in any run in which both ends have a nonce left, and each party then begins anew, a smooth
+-- Logins after restarts: in any run in which both ends have a nonce left, and each party then begins again, a smooth
 -- login succeeds as the first does.
 use Rattle.std.specs.Prelude.{◌≡◌, ◌≤◌, ℕ, List, [], ◌∷◌, ◌++◌, length, Bool, ◌&&◌, not}
 use Rattle.std.specs.Str.{bytes_eq}
@@ -23,7 +23,7 @@ use Rattle.smooth_laws.specs.Smooth.{AreInOrder, EndsFit, HasShortNames, IsLogge
 abbrev pub with_nonces : Setup → List ℕ → List ℕ → Setup
 with_nonces setup peer server = record setup { peer = peers.own_nonce setup.peer peer; server = servers.own_nonce setup.server server }
 
--- each party begins anew once, in any order
+-- each party begins again once, in any order
 pub data BeginAnew : Mode → List Event → Type 0 where
   peer_server : BeginAnew Alone (Restart Peer ∷ Restart Server ∷ [])
   server_peer : BeginAnew Alone (Restart Server ∷ Restart Peer ∷ [])
@@ -47,8 +47,8 @@ pub record HaveNext (setup : Setup) (events : List Event) : Type 0 where
 abbrev pub are_new : List Begun → Waiting → Waiting → Bool
 are_new begun peer server = is_new begun peer && (is_new begun server && not (bytes_eq (front peer.nonce) (front server.nonce)))
 
--- the parties have just begun, with the nonces, and nothing was booked or discarded since; nonces are fresh where they were and where
--- both of these are
+-- the parties have just begun, with the nonces, and nothing was booked or discarded since; nonces are fresh if they
+-- were and both of these are
 pub record HasBegunAnew (setup : Setup) (peer server : Waiting) (before w : WorldNow) : Type 0 where
   pub begun : HasJustBegun (with_nonces setup peer.nonce server.nonce) w
   pub book : w.book ≡ before.book
@@ -79,8 +79,8 @@ pub data AreLogins (setup : Setup) : Bool → List Event → Type 0 where
       (enough : bound setup ≤ length smooth)
       → AreLogins setup (fresh && are_new (run_of setup events).conversations.begun next.peer next.server) (events ++ (restarts ++ smooth))
 
--- both ends stand in SUCCESS in their present conversations and agree; no delivery was ever discarded, all tags are honest, and it is
--- told whether nonces are fresh
+-- both ends are in SUCCESS in their present conversations and agree; no delivery was ever discarded, all tags are
+-- honest, and `fresh` says whether nonces are fresh
 pub record AreLoggedIn (fresh : Bool) (w : WorldNow) : Type 0 where
   pub last : IsLoggedIn w
   pub told : w.conversations.fresh ≡ fresh

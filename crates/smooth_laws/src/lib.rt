@@ -9,8 +9,8 @@ ghost use Rattle.smooth_laws.specs.Restarts.{RestartsBeginAnew, LoginsAfterResta
 ghost use Rattle.smooth_laws.specs.Smooth.{SmoothLoginsSucceed};
 
 /// A login between two ends that fit, each of whose packets is delivered once and in order, succeeds: after 7
-/// deliveries, or 9 where the peer answers the server's first method by a Nak (RFC 3748 section 5.3.1); through
-/// the pass-through after 13, or 17. Both ends then stand in SUCCESS, no delivery was discarded, each accepted
+/// deliveries, or 9 if the peer answers the server's first method by a Nak (RFC 3748 section 5.3.1); through
+/// the pass-through after 13, or 17. Both ends are then in SUCCESS, no delivery was discarded, each accepted
 /// tag was made earlier by the other end, and the ends agree; no further delivery changes that, and one delivery
 /// earlier the peer has not succeeded. So it is by EAP-GPSK and by EAP-PSK, in either mode, with Expanded Types
 /// (section 5.7) or without, for each first Identifier, each name, key and order of methods and suites, and whatever
@@ -19,23 +19,23 @@ pub fn smooth_logins_succeed()
     ensures { SmoothLoginsSucceed }
 {}
 
-/// From any world whose parties have just begun anew, events in which no party begins again do what they do in a
+/// From any world whose parties have just begun again, events in which no party begins again do what they do in a
 /// run of its own with the present nonces: the parties come to the same, and the packets, tags and counts of that run
 /// follow those that the world had.
 pub fn runs_go_on_as_their_own()
     ensures { RunsGoOnAsTheirOwn }
 {}
 
-/// So a login succeeds there as the first one does: from any world whose parties have just begun anew, two ends that
+/// So a login succeeds there as the first one does: from any world whose parties have just begun again, two ends that
 /// fit succeed after as many deliveries of the packets sent from then on. No delivery was discarded since, the tags
 /// are as honest as they were, and the ends agree in their present conversations, whatever went before.
 pub fn smooth_logins_succeed_again()
     ensures { SmoothLoginsSucceedAgain }
 {}
 
-/// Where each end has a nonce left, the restart of every party, in any order, leads to such a world, wherever the
-/// parties stood and whatever was delivered, altered or injected before. Nothing is booked or discarded by it; and
-/// nonces are fresh afterwards exactly where they were, each of the two is new, and their first 16 octets differ.
+/// If each end has a nonce left, the restart of every party, in any order, leads to such a world, whatever the states
+/// of the parties and whatever was delivered, altered or injected before. Nothing is booked or discarded by it; and
+/// nonces are fresh afterwards exactly if they were, each of the two is new, and their first 16 octets differ.
 pub fn restarts_begin_anew()
     ensures { RestartsBeginAnew }
 {}
@@ -47,9 +47,9 @@ pub fn logins_after_restarts_succeed()
 {}
 
 /// So any number of logins one after the other succeed, each a smooth one behind the restarts of all parties: after
-/// each of them both ends stand in SUCCESS in their present conversations and agree, no delivery was ever discarded,
-/// and each accepted tag of the run was made earlier by the other end. Nonces are fresh exactly where the first two
-/// differ in their first 16 octets, and each of those with which the ends began anew was new.
+/// each of them both ends are in SUCCESS in their present conversations and agree, no delivery was ever discarded,
+/// and each accepted tag of the run was made earlier by the other end. Nonces are fresh exactly if the first two
+/// differ in their first 16 octets, and each of those with which the ends began again was new.
 pub fn logins_succeed()
     ensures { LoginsSucceed }
 {}

@@ -17,7 +17,7 @@ pub enum End {
 /// What an end did with a tag.
 #[derive(Clone, Copy, PartialEq, Eq, Debug)]
 pub enum Use {
-    /// It found the tag right in a packet that it took.
+    /// It found the tag right in a packet that it accepted.
     Accepted,
     /// It made the tag for a packet that it sent.
     Made,

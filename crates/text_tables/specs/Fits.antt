@@ -43,7 +43,7 @@ FieldFits field.Name place ws = IsName (word_in ws place)
 FieldFits (field.Hex low high) place ws = IsHex low high (word_in ws place)
 FieldFits (field.Key p) place ws = IsKey (kind_of (word_in ws p)) (word_in ws place)
 
--- a word that may be left out fits where it is there
+-- a word that may be left out fits if it is there
 abbrev pub Where : Bool → Type 0 → Type 0 → Type 0
 Where true there Fits = Fits
 Where false there Fits = there → Fits

@@ -1,4 +1,4 @@
--- How far a text has come, and which line may stand there.
+-- How far a text has come, and which lines may come next.
 use Rattle.std.specs.Prelude.{Bool, true, false, Result, Ok, Err}
 use Rattle.text_tables.specs.declared.fault.LineFault.{LineFault}
 use Rattle.text_tables.specs.declared.fault.LineFault.TheVariants as fault
@@ -7,7 +7,7 @@ use Rattle.text_tables.specs.declared.phase.Part.TheVariants as part
 use Rattle.text_tables.specs.declared.phase.Phase.{Phase}
 use Rattle.text_tables.specs.declared.phase.Phase.TheVariants as phase
 
--- settings stand before the line that opens the events, events and the line `end` after it
+-- settings come before the line that opens the events, events and the line `end` after it
 abbrev pub may_stand : Phase → Part → Bool
 may_stand phase.Settings part.Setting = true
 may_stand phase.Settings part.Opening = true

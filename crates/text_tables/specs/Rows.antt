@@ -67,7 +67,7 @@ has_bad_hex (field.Hex low high) place ws = not (spells_octets (word_in ws place
 has_bad_hex (field.Key p) place ws = not (spells_octets (word_in ws place))
 has_bad_hex other place ws = false
 
--- BadSize: a name or octets of another length; a key of another than its method wants
+-- BadSize: a name or octets of another length; a key of another than its method requires
 abbrev pub has_bad_size : Field → ℕ → List (List ℕ) → Bool
 has_bad_size field.Name place ws = not (is_within (length (word_in ws place)) 1 max_name)
 has_bad_size (field.Hex low high) place ws = not (is_within (length (octets_of (word_in ws place))) low high)
@@ -129,7 +129,7 @@ module _ {K : Type 0} (row : K → Row) (keywords : List K) where
   unfoldable pub keyword_in : List (List ℕ) → Option K
   keyword_in ws = find (λ k. bytes_eq (word_in ws 0) (row k).word) keywords
 
-  -- or BadWord, also where an octet isn't printable
+  -- or BadWord, also if an octet isn't printable
   unfoldable pub first_word : List ℕ → Result K LineFault
   first_word line = if is_printable line then ok_or (keyword_in (words line)) fault.BadWord else Err fault.BadWord
 

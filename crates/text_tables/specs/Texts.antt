@@ -1,4 +1,4 @@
--- A text, line by line: its table, what its lines say, which faults they have where they stand, and what they add.
+-- A text, line by line: its table, what its lines say, which faults they have at their places, and what they add.
 use Rattle.std.specs.Prelude.{ℕ, List, not, ◌&&◌, ◌||◌, Bool, false, if◌then◌else◌, Option, Some, None, is_some, find, unwrap_or, Result, Ok, Err}
 use Rattle.text_tables.specs.Fields.{◌>>=◌}
 use Rattle.text_tables.specs.Laws.{Judges}
@@ -31,7 +31,7 @@ pub record Table (K E S I : Type 0) : Type 0 where
   pub phase : S → Phase
   -- what is kept after line 1, if it is a header
   pub begun : S → List ℕ → Option S
-  -- what the header says, and a line that is passed over
+  -- what the header says, and a line that is ignored
   pub nothing : I
   -- BadCount: one line too many of its kind
   pub is_crowded : S → K → Bool
@@ -50,7 +50,7 @@ module _ {K E S I : Type 0} (row : K → Row) (t : Table K E S I) where
   abbrev pub entry_in : S → List ℕ → E
   entry_in s line = t.entry (word_of s line) (words line)
 
-  -- the faults of a line where it stands; Order: what may not stand there
+  -- the faults of a line at its place; Order: what may not come there
   abbrev pub place_has : S → K → E → LineFault → Bool
   place_has s k e fault.BadCount = t.is_crowded s k
   place_has s k e fault.Repeated = t.came_before s e
@@ -58,7 +58,7 @@ module _ {K E S I : Type 0} (row : K → Row) (t : Table K E S I) where
   place_has s k e fault.Order = not (may_stand (t.phase s) (t.part e))
   place_has s k e other = false
 
-  -- a line after the first that isn't passed over has the fault, by its words or by its place
+  -- a line after the first that isn't ignored has the fault, by its words or by its place
   unfoldable pub body_has : S → List ℕ → LineFault → Bool
   body_has s line f = line_has row (t.keywords s) line f || place_has s (word_of s line) (entry_in s line) f
 
@@ -97,7 +97,7 @@ module _ {K E S I : Type 0} (row : K → Row) (t : Table K E S I) where
   unfoldable pub read_line : S → List ℕ → Result (ReadLine I S) LineFault
   read_line s line = read_at (t.phase s) s line
 
-  -- the line has the fault, and what it says and adds where it has none
+  -- the line has the fault, and what it says and adds if it has none
   abbrev pub header_has : Option S → LineFault → Bool
   header_has begun fault.NoHeader = not (is_some begun)
   header_has begun f = false

@@ -12,7 +12,7 @@ words line = slice_split (λ b. b == 32) line
 abbrev pub is_printable : List ℕ → Bool
 is_printable line = list_all (λ b. nat_le 32 b && nat_le b 126) line
 
--- a line that is passed over: an empty one, or one that begins with #
+-- a line that is ignored: an empty one, or one that begins with #
 abbrev pub is_passed_over : List ℕ → Bool
 is_passed_over [] = true
 is_passed_over (b ∷ rest) = b == 35

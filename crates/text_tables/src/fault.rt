@@ -4,7 +4,7 @@ ghost use Rattle.std.specs.Prelude.{◌≡◌};
 ghost use Rattle.text_tables.specs.Words.{fault_word};
 ghost use Rattle.text_tables.specs.Firsts.{rank_of};
 
-/// Why a line is refused. Where a line meets several faults, the first in this order is answered.
+/// Why a line is refused. If a line has several faults, the first in this order is answered.
 #[derive(Clone, Copy, PartialEq, Eq)]
 pub enum LineFault {
     /// Line 1 is not the header.
@@ -25,7 +25,7 @@ pub enum LineFault {
     Repeated,
     /// A needed setting, or the line `end`, that is not there.
     Missing,
-    /// A line where it may not stand.
+    /// A line at a place where it may not be.
     Order,
 }
 

@@ -1,4 +1,4 @@
-//! What a word spells.
+//! What a word spells: a number, octets in hex, a method, a ciphersuite, a name.
 
 ghost use Rattle.std.specs.Prelude.{◌≡◌, ◌≤◌, ◌<◌, ◌+◌, ◌*◌, ◌/◌, ◌^◌, length, min, IsTrue, IfOk};
 ghost use Rattle.std.specs.List.{list_all};
@@ -9,8 +9,8 @@ ghost use Rattle.text_tables.specs.Fields.{is_hex_digit, is_hex, octets_of, spel
 use crate::fault::LineFault;
 use eap_base::{GPSK_KIND, Identity, Octets, PSK_KIND};
 
-/// The number that the word spells in decimal digits without a leading zero. `BadNumber` comes where
-/// it spells none, or one outside `low` to `high`.
+/// The number that the word spells in decimal digits without a leading zero. `BadNumber` comes if it
+/// spells none, or one outside `low` to `high`.
 #[tactic(auto, unfolding(crate::specs::Fields::number_of, crate::specs::Fields::spells_number))]
 pub fn read_number(word: &[u8], low: u32, high: u32) -> Result<u32, LineFault>
     ensures value { result ≡ number_of word.now low high }
@@ -23,7 +23,7 @@ pub fn read_number(word: &[u8], low: u32, high: u32) -> Result<u32, LineFault>
     }
 }
 
-/// True where the word spells a number from `low` to `high` in decimal digits without a leading zero.
+/// True if the word spells a number from `low` to `high` in decimal digits without a leading zero.
 #[tactic(auto, unfolding(crate::specs::Fields::spells_number))]
 pub(crate) fn spells_number(word: &[u8], low: u32, high: u32) -> bool
     ensures { result ≡ spells_number word.now low high }
@@ -43,7 +43,7 @@ pub fn number(digits: &[u8]) -> u32
     number_up_to(digits, u32::MAX) as u32
 }
 
-/// True where the word is decimal digits without a leading zero; 0 itself is one zero.
+/// True if the word is decimal digits without a leading zero; 0 itself is one zero.
 fn is_decimal_word(word: &[u8]) -> bool
     ensures { result ≡ is_decimal word.now }
 {
@@ -60,7 +60,7 @@ fn all_digits(word: &[u8]) -> bool
     word.iter().all(|b| b'0' <= *b && *b <= b'9')
 }
 
-/// The number that the digits spell, or `high` + 1 where it is over `high`.
+/// The number that the digits spell, or `high` + 1 if it is over `high`.
 fn number_up_to(digits: &[u8], high: u32) -> u64
     ensures { result ≡ min (number_after 0 digits.now) (high + 1) }
 {
@@ -74,7 +74,7 @@ fn number_up_to(digits: &[u8], high: u32) -> u64
 }
 
 /// The octets that the word spells in hex, in either case; `-` alone stands for none. `BadHex` comes
-/// where the word is empty or isn't an even number of hex digits, else `BadSize` where it spells over
+/// if the word is empty or isn't an even number of hex digits, else `BadSize` if it spells over
 /// 2,000 octets.
 #[tactic(auto, unfolding(crate::specs::Fields::hex_of))]
 pub fn read_hex(word: &[u8]) -> Result<Octets<2000>, LineFault>
@@ -89,7 +89,7 @@ pub fn read_hex(word: &[u8]) -> Result<Octets<2000>, LineFault>
     Ok(octets(word))
 }
 
-/// True where the word is `-`, or an even number of hex digits, at least two.
+/// True if the word is `-`, or an even number of hex digits, at least two.
 #[tactic(auto, unfolding(crate::specs::Fields::spells_octets))]
 pub(crate) fn spells_octets(word: &[u8]) -> bool
     ensures { result ≡ spells_octets word.now }
@@ -172,7 +172,7 @@ fn hex_digit(digit: u8) -> u8
     }
 }
 
-/// True where the word is the Type of a method: 47 (EAP-PSK) or 51 (EAP-GPSK).
+/// True if the word is the Type of a method: 47 (EAP-PSK) or 51 (EAP-GPSK).
 pub(crate) fn spells_kind(word: &[u8]) -> bool
     ensures { result ≡ spells_kind word.now }
 {
@@ -190,7 +190,7 @@ pub fn kind_of(word: &[u8]) -> u8
     }
 }
 
-/// True where the word is the specifier of a ciphersuite of EAP-GPSK, 1 or 2.
+/// True if the word is the specifier of a ciphersuite of EAP-GPSK, 1 or 2.
 pub(crate) fn spells_suite(word: &[u8]) -> bool
     ensures { result ≡ spells_suite word.now }
 {
@@ -204,7 +204,7 @@ pub fn suite_of(word: &[u8]) -> u8
     if word == b"1".as_slice() { 1 } else { 2 }
 }
 
-/// The name that the word is: its octets as they stand, at most 253.
+/// The name that the word is: its octets as they are, at most 253.
 pub fn name(word: &[u8]) -> Identity
     requires { length word.now ≤ max_name }
     ensures { result ≡ word.now }

@@ -1,4 +1,4 @@
-//! What texts are read by, line by line: the words of a line, what each spells, rows of a table, and the first fault
+//! Reading texts line by line: the words of a line, what each spells, rows of a table, and the first fault
 //! of a line by its row.
 #![tactic(auto)]
 

@@ -1,4 +1,4 @@
-//! How far a text has come, and what a line is to it.
+//! The phases of a text, and the kinds of its lines.
 
 ghost use Rattle.std.specs.Prelude.{◌≡◌};
 ghost use Rattle.text_tables.specs.Phases.{finish_of, may_stand};
@@ -32,7 +32,7 @@ pub enum Part {
 }
 
 impl Phase {
-    /// What the end of the input means: `NoHeader` where no line was read, else `Missing` where the line `end` was not.
+    /// What the end of the input means: `NoHeader` if no line was read, else `Missing` if the line `end` was not.
     pub fn finish(self) -> Result<(), LineFault>
         ensures { result ≡ finish_of self }
     {
@@ -43,7 +43,7 @@ impl Phase {
         }
     }
 
-    /// Whether a line may stand here.
+    /// Whether a line may come here.
     pub(crate) fn may_have(self, part: Part) -> bool
         ensures { result ≡ may_stand self part }
     {

@@ -23,7 +23,7 @@ pub enum Field {
     Number { low: u32, high: u32 },
     /// A method, 47 or 51.
     Kind,
-    /// A method, or `-` for none where no word follows.
+    /// A method, or `-` for none if no word follows.
     KindOrNone,
     /// A method other than the one at a place.
     OtherKind { place: usize },
@@ -97,7 +97,7 @@ pub trait TableWord: Copy {
         ensures fields { result.fields.now ≡ (row_of self).fields };
 }
 
-/// The one of these keywords that a line begins with; `BadWord` where it is none, or an octet isn't printable.
+/// The one of these keywords that a line begins with; `BadWord` if it is none, or an octet isn't printable.
 #[tactic(auto, unfolding(crate::specs::Rows::first_word))]
 pub fn read_keyword<K: TableWord>(keywords: &[K], line: &[u8]) -> Result<K, LineFault>
     ensures { result ≡ first_word K.row_of keywords.now line.now }
@@ -123,7 +123,7 @@ fn keyword_in<K: TableWord>(keywords: &[K], line: &[u8]) -> Option<K>
 
 /// The first fault of the words after a line's keyword, in the order of the faults: a wrong number of words
 /// (`BadCount`), a word that is no choice (`BadChoice`), no number in its range, method or suite (`BadNumber`),
-/// no hex (`BadHex`), of a wrong length (`BadSize`), or the same again (`Repeated`). None where they have none.
+/// no hex (`BadHex`), of a wrong length (`BadSize`), or the same again (`Repeated`). None if they have none.
 pub fn fault_of_words(least: usize, fields: &[Field], line: &[u8]) -> Option<LineFault>
     ensures { result ≡ fault_of_words least fields.now (words line.now) }
 {
@@ -134,7 +134,7 @@ pub fn fault_of_words(least: usize, fields: &[Field], line: &[u8]) -> Option<Lin
     first_fault(fields, 1, line, count)
 }
 
-/// True where there are no more words than `least`, the keyword among them, or more than `most` after it.
+/// True if there are no more words than `least`, the keyword among them, or more than `most` after it.
 fn has_bad_count(least: usize, most: usize, count: usize) -> bool
     ensures { result ≡ has_bad_count least most count }
 {

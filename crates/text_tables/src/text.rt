@@ -1,5 +1,5 @@
 //! A text, read line by line: its header, its settings, the line that opens its events, its events, the line `end`. After
-//! the header an empty line and one that begins with `#` are passed over.
+//! the header an empty line and one that begins with `#` are ignored.
 
 ghost use Rattle.std.specs.Prelude.{◌≡◌, IfOk, OnErr};
 ghost use Rattle.text_tables.specs.Words.{words};
@@ -21,16 +21,16 @@ pub trait Text: Drop {
     /// The first word of a line.
     type Word: TableWord;
 
-    /// What a line holds, but for an event, which is written.
+    /// What a line contains, but for an event, which is written.
     type Entry: Drop;
 
-    /// Where an event is written.
+    /// The type of what an event is written to.
     type Event;
 
     /// What a line says, but for an event.
     type Item;
 
-    /// What a line holds.
+    /// What a line contains.
     ghost Whole: { Type 0 };
 
     /// What a line says.
@@ -39,10 +39,10 @@ pub trait Text: Drop {
     /// The text's table.
     ghost table: { Table Self.Word Whole Self Said };
 
-    /// What a line holds, with the event that was written where it tells of one.
+    /// What a line contains, with the event that was written if it has one.
     ghost whole: { Self.Entry → Self.Event → Whole };
 
-    /// What a line says, with what is kept after it and the event that was written where it tells of one.
+    /// What a line says, with what is kept after it and the event that was written if it has one.
     ghost says: { Self.Item → Self → Self.Event → Said };
 
     /// What holds of each entry.
@@ -55,7 +55,7 @@ pub trait Text: Drop {
     fn phase(&self) -> Phase
         ensures { result ≡ table.phase self.now };
 
-    /// Begins where the line is a header of the text, and answers whether it is.
+    /// Begins if the line is a header of the text, and answers whether it is.
     fn begin(&mut self, line: &[u8]) -> bool
         ensures begun { table.begun self.old line.now ≡ begun_by result self.new }
         ensures unchanged { result ≡ false → self.new ≡ self.old };
@@ -64,7 +64,7 @@ pub trait Text: Drop {
     fn keywords(&self) -> &[Self::Word]
         ensures { result.now ≡ table.keywords self.now };
 
-    /// True where the line is one too many of its kind.
+    /// True if the line is one too many of its kind.
     fn is_crowded(&self, word: Self::Word) -> bool
         ensures { result ≡ table.is_crowded self.now word };
 
@@ -82,25 +82,25 @@ pub trait Text: Drop {
     fn came_before(&self, entry: &Self::Entry) -> bool
         ensures { (event : Self.Event) → result ≡ table.came_before self.now (whole entry.now event) };
 
-    /// True where something that the entry needs has not come.
+    /// True if something that the entry needs has not come.
     fn is_missing(&self, entry: &Self::Entry) -> bool
         ensures { (event : Self.Event) → result ≡ table.is_missing self.now (whole entry.now event) };
 
-    /// Adds what a line holds.
+    /// Adds what a line contains.
     fn add(&mut self, entry: Self::Entry) -> Self::Item
         requires valid { is_valid entry }
         requires none_missing { (event : Self.Event) → table.is_missing self.old (whole entry event) ≡ false }
         ensures taken { (event : Self.Event) → table.taken self.old (whole entry event) ≡ said (says result self.new event) self.new }
         ensures so { is_so result self.new };
 
-    /// What the header says, and a line that is passed over.
+    /// What the header says, and a line that is ignored.
     fn nothing() -> Self::Item
         ensures item { (after : Self) (event : Self.Event) → says result after event ≡ table.nothing }
         ensures so { (after : Self) → is_so result after };
 }
 
-/// Reads the next line of a text, without its end, and writes its event, if it has one, to `event`. The first fault that
-/// the line meets refuses it, and then the text is as it was.
+/// Reads the next line of a text, without its end, and writes its event, if it has one, to `event`. The line is refused
+/// with its first fault, and then the text is as it was.
 #[tactic(auto, unfolding(crate::specs::Texts::read_line))]
 pub fn read_line<T: Text>(
     text: &mut T,
@@ -170,7 +170,7 @@ fn read_words<T: Text>(
     }
 }
 
-/// Takes what a line holds, unless it may not stand where it does.
+/// Adds what a line contains, unless it may not come here.
 #[tactic(auto, unfolding(crate::specs::Texts::take))]
 fn take<T: Text>(text: &mut T, entry: T::Entry) -> Result<T::Item, LineFault>
     requires { T.is_valid entry }
@@ -185,7 +185,7 @@ fn take<T: Text>(text: &mut T, entry: T::Entry) -> Result<T::Item, LineFault>
     }
 }
 
-/// The fault of what a line holds where it stands: what came before is `Repeated`, also where it may not stand.
+/// The fault of what a line contains at its place: what came before is `Repeated`, also if it may not come here.
 fn fault_of<T: Text>(text: &T, entry: &T::Entry) -> Option<LineFault>
     ensures { (event : T.Event) → result ≡ place_fault T.Word.row_of T.table text.now (T.whole entry.now event) }
 {

@@ -10,8 +10,8 @@ use eap_base::MAX_NAME;
 use login_setup::{User, Users};
 
 /// Adds the users that the words name, three words each: a name of 1 to 253 octets from 21 to 7e, a
-/// method, 47 or 51, and its key in hex, of 16 octets for 47 and 32 to 64 for 51. False where the words are none
-/// such, where a pair of a name and a method comes twice, and where there would be over 16 users; the users that
+/// method, 47 or 51, and its key in hex, of 16 octets for 47 and 32 to 64 for 51. False if the words are none
+/// such, if a pair of a name and a method comes twice, or if there would be over 16 users; the users that
 /// the words before name were added then.
 #[tactic(auto, unfolding(crate::specs::UserWords::users_named, crate::specs::UserWords::users_until))]
 pub fn read_users(words: &[String], users: &mut Users) -> bool
@@ -47,7 +47,7 @@ fn add_named(name: &[u8], kind: &[u8], key: &[u8], users: &mut Users) -> bool
     }
 }
 
-/// Adds a user, where there is room.
+/// Adds a user, if there is room.
 fn add(users: &mut Users, user: User) -> bool
     ensures named { read_as result users.new ≡ with_named users.old (Some user) }
     ensures unchanged { result ≡ false → users.new ≡ users.old }
@@ -90,7 +90,7 @@ fn is_key(kind: u8, word: &[u8]) -> bool
     spells_octets(word) && fits_kind(kind, word)
 }
 
-/// True where every octet is a printable character other than a space.
+/// True if every octet is a printable character other than a space.
 fn is_visible(word: &[u8]) -> bool
     ensures { result ≡ is_visible word.now }
 {

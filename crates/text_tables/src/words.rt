@@ -1,4 +1,4 @@
-//! The words of a line, and the lines that are passed over.
+//! The words of a line, and the lines that are ignored.
 
 ghost use Rattle.std.specs.Prelude.{◌≡◌, length, slice_get, option_copied};
 ghost use Rattle.text_tables.specs.Words.{words, is_printable, is_passed_over};
@@ -12,14 +12,14 @@ pub fn word_count(line: &[u8]) -> usize
     line.split(|b| *b == b' ').count()
 }
 
-/// The word at a place, counted from 0, or None where the line has no more words than `place`.
+/// The word at a place, counted from 0, or None if the line has no more words than `place`.
 pub fn word_at<'a>(line: &'a [u8], place: usize) -> Option<&'a [u8]>
     ensures { option_copied result ≡ slice_get (words line.now) place }
 {
     line.split(|b| *b == b' ').nth(place)
 }
 
-/// The word at a place, counted from 0, or no octets where the line has no such word.
+/// The word at a place, counted from 0, or no octets if the line has no such word.
 pub fn word_in<'a>(line: &'a [u8], place: usize) -> &'a [u8]
     ensures { result.now ≡ word_in (words line.now) place }
 {
@@ -29,7 +29,7 @@ pub fn word_in<'a>(line: &'a [u8], place: usize) -> &'a [u8]
     }
 }
 
-/// True where every octet is a printable character, 20 to 7e.
+/// True if every octet is a printable character, 20 to 7e.
 pub fn is_printable_line(line: &[u8]) -> bool
     ensures { result ≡ is_printable line.now }
 {

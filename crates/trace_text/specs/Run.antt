@@ -53,7 +53,7 @@ code_word code =
     else if code == 3 then codes "success"
     else codes "failure"
 
--- the Type of a packet, where it has one
+-- the Type of a packet, if it has one
 abbrev pub type_text : List ℕ → List ℕ
 type_text octets = if nat_le (slice_index octets 0) 2 then concat (codes " type " ∷ decimal (slice_index octets 4) ∷ []) else []
 
@@ -70,7 +70,7 @@ sent_text event octets (Some sent) = concat (
     code_word (slice_index octets 0) ∷ codes " " ∷ decimal (slice_index octets 1) ∷ type_text octets ∷
     codes " length " ∷ decimal (length octets) ∷ codes "\n" ∷ [])
 
--- the octets of a packet that was sent, which stand only in a trace with names
+-- the octets of a packet that was sent, which are only in a trace with names
 abbrev pub octets_line : ℕ → List ℕ → List ℕ
 octets_line event octets = concat (decimal event ∷ codes " octets " ∷ hex_text octets ∷ codes "\n" ∷ [])
 
@@ -78,7 +78,7 @@ abbrev pub octets_text : Bool → ℕ → List ℕ → Option SentPacket → Lis
 octets_text names event octets None = []
 octets_text names event octets (Some sent) = if names then octets_line event octets else []
 
--- the names of the keys that a party first reports, which stand only in a trace with names
+-- the names of the keys that a party first reports, which are only in a trace with names
 abbrev pub keys_line : ℕ → Named → List ℕ
 keys_line event named = concat (
     decimal event ∷ codes " keys " ∷ party_word named.party ∷ codes " msk " ∷ hex_text (key_name_of named.report.msk) ∷
@@ -93,7 +93,7 @@ abbrev pub shown_text : Bool → List ℕ → Told → List ℕ
 shown_text names octets told = sent_text told.event octets told.sent
     ++ (octets_text names told.event octets told.sent ++ keys_text names told.event told.named)
 
--- the lines of what was told: a skipped event has one alone
+-- the lines of a result: a skipped event has one alone
 abbrev pub acted_text : Bool → List ℕ → Told → List ℕ
 acted_text names octets told = party_text told.event told.party told.path ++ (cause_text told.event told.cause ++ shown_text names octets told)
 
@@ -106,7 +106,7 @@ told_by names octets told None = acted_text names octets told
 unfoldable pub told_text : Bool → List ℕ → Told → List ℕ
 told_text names octets told = told_by names octets told told.skip
 
--- the lines of what came of an event
+-- the lines of the result of an event
 abbrev pub outcome_text : Bool → WorldOutcome → List ℕ
 outcome_text names out = told_text names (told_octets out) out.told
 
@@ -125,7 +125,7 @@ start_text m names octets told = peer_start_text ++ (told_text names octets told
 abbrev pub begin_text : Bool → WorldOutcome → List ℕ
 begin_text names out = start_text out.after.parties.mode names (told_octets out) out.told
 
--- where each party stands
+-- the state of each party
 abbrev pub state_line : List ℕ → State → List ℕ
 state_line of state = concat (of ∷ state_word state ∷ codes "\n" ∷ [])
 
@@ -135,7 +135,7 @@ peer_state_line state = state_line (codes "state peer ") state
 unfoldable pub server_state_line : State → List ℕ
 server_state_line state = state_line (codes "state server ") state
 
--- the pass-through where there is one
+-- the pass-through if there is one
 unfoldable pub pass_state_line : Option State → List ℕ
 pass_state_line None = []
 pass_state_line (Some state) = state_line (codes "state pass ") state
@@ -149,7 +149,7 @@ counts_text counts = concat (
     codes "events " ∷ decimal counts.events ∷ codes "\ndeliveries " ∷ decimal counts.deliveries ∷
     codes "\ndiscards " ∷ decimal counts.discards ∷ codes "\n" ∷ [])
 
--- whether each conversation began with a fresh nonce; a scenario of version 1 has one conversation an end, and isn't told
+-- whether each conversation began with a fresh nonce; version 1 has one conversation an end, and doesn't say it
 abbrev pub fresh_told : WorldNow → Option Bool
 fresh_told w = if w.version == 2 then Some w.conversations.fresh else None
 
@@ -168,7 +168,7 @@ verdict_word verdict.Agree = codes "agree"
 verdict_word verdict.Apart = codes "apart"
 verdict_word verdict.Unfinished = codes "open"
 
--- what came of the login, and the last line
+-- the verdict on the login, and the last line
 unfoldable pub result_text : Verdict → List ℕ
 result_text v = concat (codes "result " ∷ verdict_word v ∷ codes "\nend\n" ∷ [])
 

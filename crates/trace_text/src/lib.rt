@@ -1,6 +1,6 @@
 //! The trace of a run, whose states and variables are those of RFC 4137. Each call appends its text to a
-//! sink, a line in one write, and takes no memory. It answers `Failed` exactly where a write of the sink
-//! failed; a front of the text was then appended.
+//! sink, a line in one write, and allocates no memory. It answers `Failed` exactly if a write of the
+//! sink failed; a prefix of the text was then appended.
 #![tactic(auto)]
 
 mod run;

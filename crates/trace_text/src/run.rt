@@ -301,8 +301,8 @@ fn write_keys<W: Sink>(
 }
 
 /// Writes the lines of an event: of the party that acted, of a discard, and of the packet that was sent,
-/// which has these octets. Where names are asked for, they follow in hex, and the names of the keys that the
-/// party first reports. A skipped event has one line alone. `Failed`: a write failed, and a front of the
+/// which has these octets. If names are asked for, they follow in hex, and the names of the keys that the
+/// party first reports. A skipped event has one line alone. `Failed`: a write failed, and a prefix of the
 /// lines was appended.
 #[tactic(auto, unfolding(crate::specs::Run::told_text))]
 pub fn write_told<W: Sink>(
@@ -355,7 +355,7 @@ fn write_peer_start<W: Sink>(sink: &mut W) -> Result<(), Failed>
     write_pieces(sink, &[Text(b"0 peer INITIALIZE IDLE\n")])
 }
 
-/// Writes the line of a server behind a pass-through, which stands in INITIALIZE (RFC 4137 section 6); none
+/// Writes the line of a server behind a pass-through, which is in INITIALIZE (RFC 4137 section 6); none
 /// of one that answers by itself.
 #[tactic(auto, using(answer_text::proofs::Fronts::appends_none), unfolding(crate::specs::Run::server_start_text))]
 fn write_server_start<W: Sink>(sink: &mut W, mode: Mode) -> Result<(), Failed>
@@ -367,9 +367,9 @@ fn write_server_start<W: Sink>(sink: &mut W, mode: Mode) -> Result<(), Failed>
     }
 }
 
-/// Writes the lines of the start, event 0, in this mode: the peer begins, then what is told of who asks for
-/// the identity, with the octets of the packet where names are asked for; through a pass-through the server
-/// waits. `Failed`: a write failed, and a front of the lines was appended.
+/// Writes the lines of the start, event 0, in this mode: the peer begins, then the result of the start of
+/// whoever asks for the identity, with the octets of the packet if names are asked for; through a pass-through
+/// the server waits. `Failed`: a write failed, and a prefix of the lines was appended.
 #[tactic(auto, using(answer_text::proofs::Fronts::appends_both, answer_text::proofs::Fronts::appends_front))]
 pub fn write_start<W: Sink>(
     sink: &mut W,
@@ -385,8 +385,8 @@ pub fn write_start<W: Sink>(
     write_server_start(sink, mode)
 }
 
-/// Writes the lines of the end: where each party stands, the counts, and the verdicts. `Failed`: a write
-/// failed, and a front of the lines was appended.
+/// Writes the lines of the end: the state of each party, the counts, and the verdicts. `Failed`: a write
+/// failed, and a prefix of the lines was appended.
 #[tactic(auto, unfolding(crate::specs::Run::end_text_of), using(answer_text::proofs::Fronts::appends_both, answer_text::proofs::Fronts::appends_front))]
 pub fn write_end_of<W: Sink>(
     sink: &mut W,
@@ -437,7 +437,7 @@ fn write_peer_state<W: Sink>(sink: &mut W, peer: State) -> Result<(), Failed>
     )
 }
 
-/// Writes the state of the pass-through, where there is one.
+/// Writes the state of the pass-through, if there is one.
 #[tactic(auto, using(answer_text::proofs::Fronts::appends_none), unfolding(crate::specs::Run::pass_state_line))]
 fn write_pass_state<W: Sink>(sink: &mut W, pass: Option<State>) -> Result<(), Failed>
     ensures { Appends W.written W.write_faults W.last_write_fault result sink.old sink.new (pass_state_line pass) }
@@ -491,7 +491,7 @@ fn write_counts<W: Sink>(sink: &mut W, counts: Counts) -> Result<(), Failed>
     )
 }
 
-/// Writes whether each conversation began with a fresh nonce, where that is told.
+/// Writes whether each conversation began with a fresh nonce; nothing for None.
 #[tactic(auto, unfolding(crate::specs::Run::fresh_text))]
 fn write_fresh<W: Sink>(sink: &mut W, fresh: Option<bool>) -> Result<(), Failed>
     ensures { Appends W.written W.write_faults W.last_write_fault result sink.old sink.new (fresh_text fresh) }
@@ -503,7 +503,7 @@ fn write_fresh<W: Sink>(sink: &mut W, fresh: Option<bool>) -> Result<(), Failed>
     }
 }
 
-/// Whether each conversation began with a fresh nonce; None for a scenario of version 1, which doesn't tell it.
+/// Whether each conversation began with a fresh nonce; None for a scenario of version 1, whose trace doesn't say it.
 fn fresh_told<P: PeerMethod, S: ServerMethod>(world: &World<P, S>) -> Option<bool>
     ensures { result ≡ fresh_told (now_of P.peer_shown S.server_shown world.now) }
 {
@@ -529,7 +529,7 @@ fn write_tags<W: Sink>(sink: &mut W, tags: TagsVerdict) -> Result<(), Failed>
     }
 }
 
-/// Writes what came of the login, and the last line.
+/// Writes the verdict on the login, and the last line.
 #[tactic(auto, unfolding(crate::specs::Run::result_text))]
 fn write_result<W: Sink>(sink: &mut W, verdict: Verdict) -> Result<(), Failed>
     ensures { Appends W.written W.write_faults W.last_write_fault result sink.old sink.new (result_text verdict) }
@@ -545,9 +545,9 @@ fn write_result<W: Sink>(sink: &mut W, verdict: Verdict) -> Result<(), Failed>
     )
 }
 
-/// Writes the lines of the end: where each party stands, the counts, whether nonces
+/// Writes the lines of the end: the state of each party, the counts, whether nonces
 /// were fresh, and the two verdicts. `Failed`: a write
-/// failed, and a front of the lines was appended.
+/// failed, and a prefix of the lines was appended.
 pub fn write_end<W: Sink, P: PeerMethod, S: ServerMethod>(
     sink: &mut W,
     world: &World<P, S>,

@@ -3,7 +3,7 @@ use Rattle.std.specs.Prelude.{ℕ}
 use Rattle.end_objects.specs.declared.refusals.Refusal.{Refusal}
 use Rattle.end_objects.specs.declared.refusals.Refusal.TheVariants as refusal
 
--- the end has begun, or has taken the user
+-- the end has begun, or has accepted the user
 abbrev pub begun : ℕ
 begun = 0
 

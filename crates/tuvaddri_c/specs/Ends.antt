@@ -1,4 +1,4 @@
--- Which end a session is, which calls it takes, and what it holds.
+-- Which end a session is, which calls it takes, and what it has.
 use Rattle.std.specs.Prelude.{ℕ, List, Bool, true, false, ◌&&◌, not, ⊤, Option, None, Some, map}
 use Rattle.eap_base.specs.Among.{gpsk_kind}
 use Rattle.login_setup.specs.Users.{user_of}
@@ -21,7 +21,7 @@ use Rattle.end_objects.specs.declared.objects.ServerObject.{ServerObject}
 use Rattle.tuvaddri_c.specs.declared.session.End.{End}
 use Rattle.tuvaddri_c.specs.declared.session.End.TheVariants as ends
 
--- where the end is a peer, this holds of it
+-- if the end is a peer, this holds of it
 abbrev pub IfPeer : End → (PeerValue PeerObject → Type 0) → Type 0
 IfPeer e P = elim e [ ends.Peer m ↦ P m | _ ↦ ⊤ ]
 
@@ -29,7 +29,7 @@ IfPeer e P = elim e [ ends.Peer m ↦ P m | _ ↦ ⊤ ]
 abbrev pub AsPeer : End → (PeerValue PeerObject → Type 0) → Type 0
 AsPeer e P = elim e [ ends.Peer m ↦ P m | _ ↦ ⊥ ]
 
--- where the end is a stand-alone server, this holds of it
+-- if the end is a stand-alone server, this holds of it
 abbrev pub IfServer : End → (ServerValue ServerObject → Type 0) → Type 0
 IfServer e P = elim e [ ends.Server m ↦ P m | _ ↦ ⊤ ]
 
@@ -37,7 +37,7 @@ IfServer e P = elim e [ ends.Server m ↦ P m | _ ↦ ⊤ ]
 abbrev pub AsServer : End → (ServerValue ServerObject → Type 0) → Type 0
 AsServer e P = elim e [ ends.Server m ↦ P m | _ ↦ ⊥ ]
 
--- where the end is a backend, this holds of it
+-- if the end is a backend, this holds of it
 abbrev pub IfBackend : End → (ServerValue ServerObject → Type 0) → Type 0
 IfBackend e P = elim e [ ends.Backend m ↦ P m | _ ↦ ⊤ ]
 
@@ -45,7 +45,7 @@ IfBackend e P = elim e [ ends.Backend m ↦ P m | _ ↦ ⊤ ]
 abbrev pub AsBackend : End → (ServerValue ServerObject → Type 0) → Type 0
 AsBackend e P = elim e [ ends.Backend m ↦ P m | _ ↦ ⊥ ]
 
--- where the end is a pass-through, this holds of it
+-- if the end is a pass-through, this holds of it
 abbrev pub IfPass : End → (PassVariables → Type 0) → Type 0
 IfPass e P = elim e [ ends.Pass m ↦ P m | _ ↦ ⊤ ]
 
@@ -57,7 +57,7 @@ AsPass e P = elim e [ ends.Pass m ↦ P m | _ ↦ ⊥ ]
 abbrev pub takes_octets : End → Bool
 takes_octets e = elim e [ ends.Peer m ↦ true | ends.Server m ↦ is_ready m.vars | ends.Backend m ↦ true | _ ↦ false ]
 
--- whether the lower layer may tell the peer something: it has not ended
+-- whether the lower layer may report to the peer: it has not ended
 abbrev pub is_going_peer : End → Bool
 is_going_peer e = elim e [ ends.Peer m ↦ not (is_end m.vars.state) | _ ↦ false ]
 

@@ -67,7 +67,7 @@ abbrev pub peer_failure : Option PeerShown → List ℕ → TuvFailure → TuvFa
 peer_failure None sent other = other
 peer_failure (Some shown) sent other = if peer_has_failed shown then refused (sent_code sent) else other
 
--- a peer that stands in FAILURE, without a method or with one
+-- a peer in FAILURE, without a method or with one
 abbrev pub with_method : Option PeerShown → TuvFailure
 with_method None = no_method
 with_method (Some shown) = ended

@@ -1,4 +1,4 @@
--- What a handle lends.
+-- The session that a handle lends to a call.
 use Rattle.std.specs.Borrow.{Lends, MutBor, Fml}
 use Rattle.tuvaddri_c.specs.declared.handle.TuvEnd.{TuvEnd}
 use Rattle.tuvaddri_c.specs.declared.session.Session.{Session}

@@ -1,4 +1,4 @@
--- The methods alone: which one a session holds, and what a call of it came to, as numbers.
+-- The methods alone: which one a session has, and the result of a call of it, as numbers.
 use Rattle.std.specs.Prelude.{◌≡◌, ℕ, List, Bool, true, false, ⊤, ◌==◌, if◌then◌else◌, Option, Some, None, Result, Ok, Err}
 use Rattle.eap_packet.specs.Packet.{PacketValue, request, response, success, failure, spelled}
 use Rattle.eap_packet.specs.declared.cause.Cause.{Cause}
@@ -39,19 +39,19 @@ use Rattle.tuvaddri_c.specs.declared.session.Session.{Session}
 use Rattle.tuvaddri_c.specs.Sent.{after_turn, untouched}
 use Rattle.tuvaddri_c.specs.declared.session.End.TheVariants as ends
 
--- where the session holds a peer's method, this holds of it and its key
+-- if the session has a peer's method, this holds of it and its key
 abbrev pub IfPeerMethod : End → (PeerObject → List ℕ → Type 0) → Type 0
 IfPeerMethod e P = elim e [ ends.PeerMethod o key ↦ P o key | _ ↦ ⊤ ]
 
--- the session holds a peer's method, and this holds of it and its key
+-- the session has a peer's method, and this holds of it and its key
 abbrev pub AsPeerMethod : End → (PeerObject → List ℕ → Type 0) → Type 0
 AsPeerMethod e P = elim e [ ends.PeerMethod o key ↦ P o key | _ ↦ ⊥ ]
 
--- where the session holds a server's method, this holds of it and its users
+-- if the session has a server's method, this holds of it and its users
 abbrev pub IfServerMethod : End → (ServerObject → Known → Type 0) → Type 0
 IfServerMethod e P = elim e [ ends.ServerMethod o users ↦ P o users | _ ↦ ⊤ ]
 
--- the session holds a server's method, and this holds of it and its users
+-- the session has a server's method, and this holds of it and its users
 abbrev pub AsServerMethod : End → (ServerObject → Known → Type 0) → Type 0
 AsServerMethod e P = elim e [ ends.ServerMethod o users ↦ P o users | _ ↦ ⊥ ]
 
@@ -94,17 +94,17 @@ pub record IsDiscarded (c : Cause) (before : Session) (turn : TuvMethodTurn) (af
   pub turn_is : turn ≡ discarding c
   pub same : after ≡ untouched before
 
--- what a peer's turn comes to
+-- the result of a peer's turn
 abbrev pub peer_told : PeerTurn → TuvMethodTurn
 peer_told (peer_turn.Discard c) = discarding c
 peer_told (peer_turn.Reply packet m d tags) = replying (method_number m) (decision_number d)
 
--- the packet of the turn, where it has one
+-- the packet of the turn, if it has one
 abbrev pub reply_of : PeerTurn → Option (List ℕ)
 reply_of (peer_turn.Discard c) = None
 reply_of (peer_turn.Reply packet m d tags) = Some packet
 
--- what a server's turn comes to: methodState CONT (2) or DONE (4), and decision FAIL (0) or UNCOND_SUCC (2)
+-- the result of a server's turn: methodState CONT (2) or DONE (4), and decision FAIL (0) or UNCOND_SUCC (2)
 abbrev pub server_told : ServerTurn → TuvMethodTurn
 server_told (server_turn.Discard c) = discarding c
 server_told (server_turn.Request packet tags) = replying 2 0
@@ -116,7 +116,7 @@ request_of (server_turn.Discard c) = None
 request_of (server_turn.Request packet tags) = Some packet
 request_of (server_turn.Done well tags) = None
 
--- what a turn comes to, as the method says it
+-- the result of a turn, as the method says it
 abbrev pub peer_brief : peer_briefs.PeerTurn → TuvMethodTurn
 peer_brief (peer_answer.Discard c) = discarding c
 peer_brief (peer_answer.Reply m d) = replying (method_number m) (decision_number d)
@@ -154,7 +154,7 @@ responded kind (Ok (response id other body)) = if other == kind then Ok (spelled
 responded kind (Ok (success id)) = Err cause.WrongRole
 responded kind (Ok (failure id)) = Err cause.WrongRole
 
--- whether the session holds a peer's method; a server's method
+-- whether the session has a peer's method; a server's method
 abbrev pub is_peer_method : End → Bool
 is_peer_method e = elim e [ ends.PeerMethod o key ↦ true | _ ↦ false ]
 

@@ -24,7 +24,7 @@ abbrev pub gpsk_name : Result gpsk.Message Cause → Option (List ℕ)
 gpsk_name (Ok (gpsk.gpsk2 id_p id_s rand_p rand_s list suite pd mac)) = Some id_p
 gpsk_name read = None
 
--- the name that a packet of the peer tells
+-- the name that a packet of the peer gives
 abbrev pub name_in : Result PacketValue Cause → Option (List ℕ)
 name_in (Ok (response id kind body)) =
     if kind == psk_kind then psk_name (psk_reading.read_of body)

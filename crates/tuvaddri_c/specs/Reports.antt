@@ -1,4 +1,4 @@
--- What is told of a method that succeeded, and the Session-Id of its login (RFC 5247 section 1.4).
+-- What is reported of a method that succeeded, and the Session-Id of its login (RFC 5247 section 1.4).
 use Rattle.std.specs.Prelude.{◌≡◌, ◌++◌, ◌==◌, ℕ, List, ◌∷◌, length, drop, take, replicate, codes, nat_lt, nat_le, if◌then◌else◌, Option, Some, None}
 use Rattle.eap_base.specs.Among.{psk_kind, gpsk_kind}
 use Rattle.eap_base.specs.Suite.{ks_of, suite_octets, suite_numbered}
@@ -15,7 +15,7 @@ use Rattle.tuvaddri_c.specs.declared.session.End.{End}
 abbrev pub report_size : ℕ
 report_size = 712
 
--- what an end holds: the report of the method that succeeded, with its nonces
+-- what an end has: the report of the method that succeeded, with its nonces
 pub record Held : Type 0 where
   pub report : Report
   pub nonces : Nonces
@@ -28,7 +28,7 @@ both (Some report) (Some rands) = Some (record { report = report; nonces = rands
 abbrev pub end_held : End → Option Held
 end_held e = both (end_reports e) (end_nonces e)
 
--- what is told of it; behind a name and behind a nonce stands what stood there before
+-- what is reported of it; behind a name and behind a nonce is what was there before
 pub record IsReport (held : Held) (before : TuvReport) (told : TuvReport) : Type 0 where
   pub size : told.size ≡ before.size
   pub method : told.method ≡ held.report.method
@@ -56,16 +56,16 @@ method_id suite key held = gkdf suite 16 key
 abbrev pub gpsk_session_id : Suite → List ℕ → Held → List ℕ
 gpsk_session_id suite key held = gpsk_kind ∷ method_id suite key held
 
--- the key that the standard takes: KS octets of zero
+-- the key that the standard uses: KS octets of zero
 abbrev pub zeros : Suite → Option (List ℕ)
 zeros suite = Some (replicate (ks_of suite) 0)
 
--- the key that wpa_supplicant and hostapd 2.10 take: the first KS octets of the shared key
+-- the key that wpa_supplicant and hostapd 2.10 use: the first KS octets of the shared key
 abbrev pub front_of : Option (List ℕ) → Suite → Option (List ℕ)
 front_of None suite = None
 front_of (Some psk) suite = if nat_lt (length psk) (ks_of suite) then None else Some (take (ks_of suite) psk)
 
--- EAP-GPSK's, where there are a suite and a key
+-- EAP-GPSK's, if there are a suite and a key
 abbrev pub keyed_id : Suite → Held → Option (List ℕ) → Option (List ℕ)
 keyed_id suite held None = None
 keyed_id suite held (Some key) = Some (gpsk_session_id suite key held)
@@ -78,7 +78,7 @@ suited_id key held (Some suite) = keyed_id suite held (key suite)
 abbrev pub fitting : List ℕ → Option (List ℕ)
 fitting id = if nat_le (length id) 33 then Some id else None
 
--- the Session-Id of either method, where EAP-GPSK takes this key
+-- the Session-Id of either method, if EAP-GPSK uses this key
 abbrev pub held_id : (Suite → Option (List ℕ)) → Held → Option (List ℕ)
 held_id key held =
     if held.report.method == psk_kind then fitting (psk_session_id held.nonces)

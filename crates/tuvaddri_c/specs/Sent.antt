@@ -17,7 +17,7 @@ abbrev pub after_turn : Option (List ℕ) → Sent → Sent
 after_turn None before = rested before
 after_turn (Some octets) before = record { packet = octets; fresh = true }
 
--- the packet of the last turn; no octets where it sent none
+-- the packet of the last turn; no octets if it sent none
 abbrev pub turn_packet : Sent → List ℕ
 turn_packet sent = if sent.fresh then sent.packet else []
 

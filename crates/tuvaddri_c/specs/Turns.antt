@@ -1,4 +1,4 @@
--- What a call came to, as numbers.
+-- The result of a call, as numbers.
 use Rattle.std.specs.Prelude.{◌≡◌, ℕ, Bool, true, false, Option, Some, None}
 use Rattle.eap_packet.specs.declared.cause.Cause.{Cause}
 use Rattle.eap_packet.specs.declared.cause.Cause.TheVariants as cause
@@ -108,12 +108,12 @@ pub record IsMisplaced (before : Session) (turn : TuvTurn) (after : Session) : T
   pub turn_is : turn ≡ no_turn
   pub same : after ≡ untouched before
 
--- what a step came to, as the machine says it
+-- the result of a step, as the machine says it
 abbrev pub turn_of : brief.Step → State → TuvTurn
 turn_of step s =
     record { sends = step.sends; discards = is_some step.cause; misplaced = false; cause = number_of_cause step.cause; state = state_number s }
 
--- what a step of a table comes to
+-- the result of a step of a table
 abbrev pub told : Step → State → TuvTurn
 told step s =
     record { sends = is_some step.sent; discards = is_some step.cause; misplaced = false; cause = number_of_cause step.cause; state = state_number s }
@@ -130,7 +130,7 @@ pub record ServerDoes (row : ServerAnswer) (before : Sent) (turn : TuvTurn) (sen
   pub sent_is : sent ≡ after_turn row.step.sent before
   pub machine : row.after ≡ server.now_of server_object_shown after
 
--- what a step of the pass-through comes to, whichever side it sends to
+-- the result of a step of the pass-through, whichever side it sends to
 abbrev pub pass_told : PassStep → State → TuvTurn
 pass_told step s = told (record { path = step.path; cause = step.cause; sent = step.sent; tags = no_tags }) s
 

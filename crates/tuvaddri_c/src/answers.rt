@@ -5,10 +5,10 @@ ghost use Rattle.tuvaddri_c.specs.Answers.{begun, no_memory, no_place, refusal_n
 
 use end_objects::Refusal;
 
-/// The end has begun, or has taken the user.
+/// The end has begun, or has accepted the user.
 pub const BEGUN: u8 = 0;
 
-/// A key has another size than its method takes, or there is none for it.
+/// A key has another size than its method requires, or there is none for it.
 pub const BAD_KEY: u8 = 6;
 
 /// There is no memory for the end.

@@ -1,4 +1,4 @@
-//! Octets come to a peer, a stand-alone server or a backend.
+//! Octets arrive at a peer, a stand-alone server or a backend.
 
 ghost use Rattle.std.specs.Prelude.{◌≡◌, true, false};
 ghost use Rattle.peer_machine.specs.Expanded.{peer_hears};
@@ -88,7 +88,7 @@ fn deliver(session: &mut Session, octets: &[u8]) -> TuvTurn
     }
 }
 
-/// Octets come: to a peer, to a stand-alone server that has started, or to a backend.
+/// Octets arrive at a peer, a stand-alone server that has started, or a backend.
 #[unsafe(no_mangle)]
 pub extern "C" fn tuv_end_deliver(end: &mut TuvEnd, octets: &[u8]) -> TuvTurn
     ensures peer { IfPeer end.old.value.end (λ m. AsPeer end.new.value.end (λ n.

@@ -20,7 +20,7 @@ use gpsk_messages::{GpskView, read_gpsk};
 pub struct TuvFailure {
     /// 0: it has not failed. 1: the server has no such user. 2: its user is barred or, by EAP-PSK, the peer has answered
     /// that it fails. 3: a peer was refused within the method. 4: there is no method in common, or none has begun. 5: a
-    /// Request was never answered. 6: a Failure came, or the lower layer's word.
+    /// Request was never answered. 6: a Failure came, or a report of the lower layer.
     pub reason: u8,
     /// The Failure-Code (RFC 5433 section 9.3) that EAP-GPSK sent, at a server, or that came, at a peer: 1, 2 or 3; else 0.
     pub code: u8,
@@ -107,7 +107,7 @@ fn peer_failure(object: Option<&PeerObject>, sent: &[u8], other: TuvFailure) -> 
     }
 }
 
-/// A peer that stands in this state, with this object of its method.
+/// A peer in this state, with this object of its method.
 fn peer_ended(state: State, object: Option<&PeerObject>) -> TuvFailure
     ensures { result ≡ peer_ended state (option_map (λ o. peer_object_shown o.now) object.entry) }
 {
@@ -153,7 +153,7 @@ fn server_failure(object: Option<&ServerObject>, other: TuvFailure) -> TuvFailur
     }
 }
 
-/// A server that stands in this state.
+/// A server in this state.
 fn server_ended(state: State) -> TuvFailure
     ensures { result ≡ server_ended state }
 {
@@ -164,7 +164,7 @@ fn server_ended(state: State) -> TuvFailure
     }
 }
 
-/// A pass-through that stands in this state.
+/// A pass-through in this state.
 fn pass_ended(state: State) -> TuvFailure
     ensures { result ≡ pass_ended state }
 {

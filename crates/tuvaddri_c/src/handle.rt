@@ -1,4 +1,4 @@
-//! The handle that a program in C holds.
+//! The handle that a program in C keeps.
 
 ghost use Rattle.std.specs.Prelude.{◌≡◌, IsTrue};
 ghost use Rattle.tuvaddri_c.specs.declared.session.Session.{Session};
@@ -10,7 +10,7 @@ use std::alloc::Global;
 use std::marker::Model;
 use std::mem::size_of;
 
-/// A session on the heap. The program holds it by value, and lends it to each call.
+/// A session on the heap. The program stores it by value, and passes it to each call.
 #[repr(C)]
 pub struct TuvEnd {
     at: *mut u8,
@@ -52,7 +52,7 @@ pub extern "C" fn tuv_version() -> u32
     2
 }
 
-/// Makes a session without an end, and answers true; false for want of memory. The program gives its block back by
+/// Makes a session without an end, and answers true; false for want of memory. The program releases its block by
 /// `free`, after `tuv_end_close`.
 #[unsafe(no_mangle)]
 pub extern "C" fn tuv_end_new(alloc: Global, at: &mut *mut u8) -> bool
@@ -67,13 +67,13 @@ pub extern "C" fn tuv_end_new(alloc: Global, at: &mut *mut u8) -> bool
     }
 }
 
-/// The octets of the block: the program clears so many before it gives the block back.
+/// The octets of the block: the program clears so many before it releases the block.
 #[unsafe(no_mangle)]
 pub extern "C" fn tuv_end_size() -> usize {
     size_of::<Session>()
 }
 
-/// Drops the end and what it holds, and its last packet. A handle that is closed stays so.
+/// Drops the end and what it has, and its last packet. A handle that is closed stays so.
 #[unsafe(no_mangle)]
 pub extern "C" fn tuv_end_close(end: &mut TuvEnd)
     ensures { end.new.value ≡ closed }
@@ -84,7 +84,7 @@ pub extern "C" fn tuv_end_close(end: &mut TuvEnd)
 }
 
 /// Answers the length of the packet of the end's last turn, or of `tuv_server_method_begin`: 0 if that turn sent none.
-/// Copies the packet to the front of `room` if it fits; else it copies nothing, and the packet is still there.
+/// Copies the packet to the start of `room` if it fits; else it copies nothing, and the packet is still there.
 #[unsafe(no_mangle)]
 pub extern "C" fn tuv_end_packet(end: &mut TuvEnd, room: &mut [u8]) -> usize
     ensures same { end.new.value ≡ end.old.value }
@@ -112,7 +112,7 @@ pub extern "C" fn tuv_end_again(end: &mut TuvEnd, room: &mut [u8]) -> usize
     copy(end.session().sent.packet.as_slice(), room)
 }
 
-/// Copies octets to the front of a room if they fit, and answers their number.
+/// Copies octets to the start of a buffer if they fit, and answers their number.
 fn copy(octets: &[u8], room: &mut [u8]) -> usize
     ensures { IsCopied octets.now room.old result room.new }
 {

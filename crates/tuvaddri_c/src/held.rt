@@ -1,4 +1,4 @@
-//! What an end holds after a method that succeeded.
+//! What an end has after a method that succeeded.
 
 ghost use Rattle.std.specs.Prelude.{◌≡◌, option_map};
 ghost use Rattle.end_objects.specs.Objects.{peer_object_shown, server_object_shown};

@@ -1,5 +1,5 @@
 //! The ends of EAP for programs in C: the machines of RFC 4137 and the methods alone, each behind a handle that
-//! the program holds.
+//! the program keeps.
 #![tactic(auto)]
 
 mod answers;

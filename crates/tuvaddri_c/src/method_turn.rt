@@ -1,4 +1,4 @@
-//! What a call of a method alone came to, as numbers.
+//! The result of a call of a method alone, as numbers.
 
 ghost use Rattle.std.specs.Prelude.{◌≡◌};
 ghost use Rattle.tuvaddri_c.specs.Sent.{rested};
@@ -21,7 +21,7 @@ pub struct TuvMethodTurn {
     pub misplaced: bool,
     /// The number of the cause of a discard, in the order of `Cause`; else 0.
     pub cause: u8,
-    /// methodState (RFC 4137 section 4.2) by its number, 4 where the method is over; 0 at a discard.
+    /// methodState (RFC 4137 section 4.2) by its number, 4 if the method is over; 0 at a discard.
     pub state: u8,
     /// decision (RFC 4137 section 4.2) by its number; of a server that is done, 2 for success. 0 at a discard.
     pub decision: u8,
@@ -67,7 +67,7 @@ impl TuvMethodTurn {
         }
     }
 
-    /// What a peer's turn comes to.
+    /// The result of a peer's turn.
     pub fn of_peer(turn: PeerTurn) -> TuvMethodTurn
         ensures { result ≡ peer_brief turn }
     {
@@ -84,7 +84,7 @@ impl TuvMethodTurn {
         }
     }
 
-    /// What a server's turn comes to.
+    /// The result of a server's turn.
     pub fn of_server(turn: ServerTurn) -> TuvMethodTurn
         ensures { result ≡ server_brief turn }
     {

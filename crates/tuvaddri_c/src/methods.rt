@@ -50,7 +50,7 @@ fn hold_peer(end: &mut End, object: PeerObject, key: Secret)
 }
 
 /// Makes the end the first of the peer's methods, alone, which has begun, and answers 0. Else it answers the number of
-/// the refusal, and the end stays as it was. It takes no memory.
+/// the refusal, and the end stays as it was. It allocates no memory.
 #[unsafe(no_mangle)]
 pub extern "C" fn tuv_peer_method_begin(end: &mut TuvEnd, settings: &Settings, nonce: &Nonce) -> u8
     ensures refused { IfSome (peer_refusal (settings_of settings.now)) (λ reason. result ≡ refusal_number reason) }
@@ -120,7 +120,8 @@ fn handle_peer(session: &mut Session, octets: &[u8]) -> TuvMethodTurn
     }
 }
 
-/// Octets come to a peer's method. Octets that begin with no Request of its Type are discarded, and change nothing.
+/// Octets arrive at a peer's method. Octets that begin with no Request of its Type are silently discarded, and change
+/// nothing.
 #[unsafe(no_mangle)]
 pub extern "C" fn tuv_peer_method_handle(end: &mut TuvEnd, octets: &[u8]) -> TuvMethodTurn
     ensures turn { IfPeerMethod end.old.value.end (λ o key. IfOk (requested (peer_kind (peer_object_shown o)) (packet_of octets.now)) (λ whole.
@@ -245,8 +246,8 @@ fn handle_server(session: &mut Session, octets: &[u8], next_id: u8) -> TuvMethod
     }
 }
 
-/// Octets come to a server's method; a Request that follows has the Identifier `next_id`. Octets that begin with
-/// no Response of its Type are discarded, and change nothing.
+/// Octets arrive at a server's method; a Request that follows has the Identifier `next_id`. Octets that begin with
+/// no Response of its Type are silently discarded, and change nothing.
 #[unsafe(no_mangle)]
 pub extern "C" fn tuv_server_method_handle(
     end: &mut TuvEnd,

@@ -81,7 +81,7 @@ fn write_name_in(octets: &[u8], room: &mut [u8; MAX_NAME]) -> usize
     }
 }
 
-/// Writes the peer's name to the front of `room`, and answers its length: ID_P of PSK-2 or ID_Peer of GPSK-2, of a
+/// Writes the peer's name to the start of `room`, and answers its length: ID_P of PSK-2 or ID_Peer of GPSK-2, of a
 /// Response with which the octets begin, also of one of Type 254. Of any other octets it answers 0 and writes nothing.
 #[unsafe(no_mangle)]
 pub extern "C" fn tuv_response_name(octets: &[u8], room: &mut [u8; MAX_NAME]) -> usize

@@ -111,7 +111,7 @@ fn aaa_noreq(machine: &mut PassThrough, sent: &mut Sent) -> TuvTurn
     TuvTurn::of(&step, machine.state())
 }
 
-/// It starts, where it has not: its Request goes to the peer.
+/// It starts, if it has not: its Request goes to the peer.
 #[unsafe(no_mangle)]
 pub extern "C" fn tuv_pass_start(end: &mut TuvEnd) -> TuvTurn
     ensures pass { IfPass end.old.value.end (λ m. is_started m.state ≡ false → AsPass end.new.value.end (λ n.
@@ -131,7 +131,7 @@ pub extern "C" fn tuv_pass_start(end: &mut TuvEnd) -> TuvTurn
     }
 }
 
-/// It begins anew, wherever it stands, also before its start: its Request, with the first Identifier, goes to the
+/// It restarts, in any state, also before its start: its Request, with the first Identifier, goes to the
 /// peer.
 #[unsafe(no_mangle)]
 pub extern "C" fn tuv_pass_restart(end: &mut TuvEnd) -> TuvTurn
@@ -146,7 +146,7 @@ pub extern "C" fn tuv_pass_restart(end: &mut TuvEnd) -> TuvTurn
     }
 }
 
-/// Octets come from the peer: what is sent goes to the backend.
+/// Octets arrive from the peer: what is sent goes to the backend.
 #[unsafe(no_mangle)]
 pub extern "C" fn tuv_pass_from_peer(end: &mut TuvEnd, octets: &[u8]) -> TuvTurn
     ensures pass { IfPass end.old.value.end (λ m. AsPass end.new.value.end (λ n.
@@ -160,7 +160,7 @@ pub extern "C" fn tuv_pass_from_peer(end: &mut TuvEnd, octets: &[u8]) -> TuvTurn
     }
 }
 
-/// Octets come from the backend: what is sent goes to the peer.
+/// Octets arrive from the backend: what is sent goes to the peer.
 #[unsafe(no_mangle)]
 pub extern "C" fn tuv_pass_from_backend(end: &mut TuvEnd, octets: &[u8]) -> TuvTurn
     ensures pass { IfPass end.old.value.end (λ m. AsPass end.new.value.end (λ n.
@@ -174,7 +174,7 @@ pub extern "C" fn tuv_pass_from_backend(end: &mut TuvEnd, octets: &[u8]) -> TuvT
     }
 }
 
-/// The retransmission timer ends, where it runs: what is sent goes to the peer.
+/// The retransmission timer ends, if it runs: what is sent goes to the peer.
 #[unsafe(no_mangle)]
 pub extern "C" fn tuv_pass_timeout(end: &mut TuvEnd) -> TuvTurn
     ensures pass { IfPass end.old.value.end (λ m. has_timer m.state ≡ true → AsPass end.new.value.end (λ n.
@@ -194,7 +194,7 @@ pub extern "C" fn tuv_pass_timeout(end: &mut TuvEnd) -> TuvTurn
     }
 }
 
-/// No answer of the backend comes any more (aaaTimeout), where it is waited for.
+/// No answer of the backend comes any more (aaaTimeout), if it is waited for.
 #[unsafe(no_mangle)]
 pub extern "C" fn tuv_pass_aaa_timeout(end: &mut TuvEnd) -> TuvTurn
     ensures pass { IfPass end.old.value.end (λ m. is_aaa_idle m.state ≡ true → AsPass end.new.value.end (λ n.
@@ -214,7 +214,7 @@ pub extern "C" fn tuv_pass_aaa_timeout(end: &mut TuvEnd) -> TuvTurn
     }
 }
 
-/// The backend has nothing to ask (aaaEapNoReq), where it is waited for.
+/// The backend has nothing to ask (aaaEapNoReq), if it is waited for.
 #[unsafe(no_mangle)]
 pub extern "C" fn tuv_pass_aaa_noreq(end: &mut TuvEnd) -> TuvTurn
     ensures pass { IfPass end.old.value.end (λ m. is_aaa_idle m.state ≡ true → AsPass end.new.value.end (λ n.

@@ -1,4 +1,4 @@
-//! What is told of a method that succeeded.
+//! What is reported of a method that succeeded.
 
 ghost use Rattle.std.specs.Prelude.{◌≡◌, ◌≤◌, ◌++◌, length, drop, IsTrue, None, IfSome};
 ghost use Rattle.eap_base.specs.Sizes.{max_name};
@@ -14,7 +14,7 @@ use end_objects::Nonces;
 /// The octets of [`TuvReport`] on 64 bits.
 pub const REPORT_SIZE: usize = 712;
 
-/// What an end holds after a method that succeeded.
+/// What an end has after a method that succeeded.
 #[repr(C)]
 #[derive(Drop)]
 pub struct TuvReport {
@@ -24,9 +24,9 @@ pub struct TuvReport {
     pub method: u8,
     /// The suite of EAP-GPSK, 1 or 2; 0 for EAP-PSK.
     pub suite: u8,
-    /// The octets of the peer's name, which stand at the front of `peer`.
+    /// The octets of the peer's name, which are at the start of `peer`.
     pub peer_length: u8,
-    /// The octets of the server's name, which stand at the front of `server`.
+    /// The octets of the server's name, which are at the start of `server`.
     pub server_length: u8,
     pub peer: [u8; MAX_NAME],
     pub server: [u8; MAX_NAME],
@@ -34,14 +34,14 @@ pub struct TuvReport {
     pub msk: [u8; 64],
     /// The Extended Master Session Key (RFC 3748 section 7.10).
     pub emsk: [u8; 64],
-    /// The octets of each nonce, 16 of EAP-PSK or 32 of EAP-GPSK, which stand at the front of `peer_rand` and of
+    /// The octets of each nonce, 16 of EAP-PSK or 32 of EAP-GPSK, which are at the start of `peer_rand` and of
     /// `server_rand`.
     pub rand_length: u8,
     pub peer_rand: [u8; 32],
     pub server_rand: [u8; 32],
 }
 
-/// Writes what the end holds, and answers true. If it holds nothing, or the struct has another size, it answers false
+/// Writes what the end has, and answers true. If it has nothing, or the struct has another size, it answers false
 /// and writes nothing.
 #[unsafe(no_mangle)]
 pub extern "C" fn tuv_end_report(end: &mut TuvEnd, report: &mut TuvReport) -> bool
@@ -96,7 +96,7 @@ fn write(held: &Report, nonces: &Nonces, report: &mut TuvReport)
     write_nonce(nonces.server.as_slice(), &mut report.server_rand);
 }
 
-/// Writes a name to the front of the room, and answers its length.
+/// Writes a name to the start of the buffer, and answers its length.
 fn write_name(name: &[u8], room: &mut [u8; MAX_NAME]) -> u8
     requires { length name.now ≤ max_name }
     ensures size { result ≡ length name.now }
@@ -106,7 +106,7 @@ fn write_name(name: &[u8], room: &mut [u8; MAX_NAME]) -> u8
     name.len() as u8
 }
 
-/// Writes a nonce to the front of the room, and answers its length.
+/// Writes a nonce to the start of the buffer, and answers its length.
 fn write_nonce(nonce: &[u8], room: &mut [u8; 32]) -> u8
     requires { length nonce.now ≤ 32 }
     ensures size { result ≡ length nonce.now }

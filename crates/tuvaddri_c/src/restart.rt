@@ -94,7 +94,7 @@ fn restart(session: &mut Session, nonce: &Nonce) -> TuvTurn
     }
 }
 
-/// A new conversation begins, with this nonce and the settings that the end has, wherever it stands, also before a
+/// A new conversation begins, with this nonce and the settings that the end has, in any state, also before a
 /// server's start: of a peer, a stand-alone server or a backend, each of whose methods has an object, as its begin
 /// leaves it and each call keeps it. A stand-alone server asks for the identity, by its first Identifier; a peer and
 /// a backend send nothing. No packet from before is there any more.

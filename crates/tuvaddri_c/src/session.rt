@@ -1,4 +1,4 @@
-//! What a handle holds: an end, and what it has sent.
+//! The session of a handle: an end, and what it has sent.
 
 ghost use Rattle.std.specs.Prelude.{All, IsTrue};
 ghost use Rattle.login_setup.specs.Setup.{fits_kind};

@@ -103,7 +103,7 @@ fn front_id(suite: Suite, psk: &[u8], held: &Report, nonces: &Nonces) -> Option<
     }
 }
 
-/// The Session-Id of what an end holds.
+/// The Session-Id of what an end has.
 fn id_of(held: &Option<Report>, nonces: &Option<Nonces>) -> Option<SessionId>
     ensures { result ≡ if_held (both held.now nonces.now) (held_id zeros) }
 {
@@ -129,7 +129,7 @@ fn id_of_wpa(end: &End, held: &Option<Report>, nonces: &Option<Nonces>) -> Optio
     }
 }
 
-/// Writes a Session-Id to the front of the room, if there is one, and answers its length.
+/// Writes a Session-Id to the start of the buffer, if there is one, and answers its length.
 fn write(id: &Option<SessionId>, room: &mut [u8; MAX_ID]) -> usize
     ensures { IsWritten (octets_of id.now) room.old result room.new }
 {
@@ -142,7 +142,7 @@ fn write(id: &Option<SessionId>, room: &mut [u8; MAX_ID]) -> usize
     }
 }
 
-/// Writes the Session-Id of a method that succeeded to the front of `room`, and answers its length. If the end holds
+/// Writes the Session-Id of a method that succeeded to the start of `room`, and answers its length. If the end has
 /// nothing it answers 0 and writes nothing.
 #[unsafe(no_mangle)]
 pub extern "C" fn tuv_end_session_id(end: &mut TuvEnd, room: &mut [u8; MAX_ID]) -> usize
@@ -153,7 +153,7 @@ pub extern "C" fn tuv_end_session_id(end: &mut TuvEnd, room: &mut [u8; MAX_ID]) 
     write(&id_of(&report_of(end), &nonces_of(end)), room)
 }
 
-/// The same, as wpa_supplicant and hostapd 2.10 derive it: for EAP-GPSK they take the front of the shared key, not
+/// The same, as wpa_supplicant and hostapd 2.10 derive it: for EAP-GPSK they use a prefix of the shared key, not
 /// octets of zero.
 #[unsafe(no_mangle)]
 pub extern "C" fn tuv_end_session_id_wpa(end: &mut TuvEnd, room: &mut [u8; MAX_ID]) -> usize

@@ -1,4 +1,4 @@
-//! What a call came to, as numbers.
+//! The result of a call, as numbers.
 
 ghost use Rattle.std.specs.Prelude.{◌≡◌};
 ghost use Rattle.tuvaddri_c.specs.Sent.{rested};
@@ -8,7 +8,7 @@ use crate::session::Sent;
 use eap_method::Step;
 use eap_packet::{Cause, State};
 
-/// What a call came to.
+/// The result of a call.
 #[repr(C)]
 #[derive(Clone, Copy, PartialEq, Eq, Debug)]
 pub struct TuvTurn {
@@ -20,7 +20,7 @@ pub struct TuvTurn {
     pub misplaced: bool,
     /// The number of the cause of a discard, in the order of `Cause`; else 0.
     pub cause: u8,
-    /// Where the end stands, by the number of its state, in the order of `State`.
+    /// The end's state, by its number, in the order of `State`.
     pub state: u8,
 }
 
@@ -40,7 +40,7 @@ impl TuvTurn {
         }
     }
 
-    /// What a step came to.
+    /// The result of a step.
     pub fn of(step: &Step, state: State) -> TuvTurn
         ensures { result ≡ turn_of step.now state }
     {

@@ -42,7 +42,7 @@ fn give(session: &mut Session, settings: &Settings) -> u8
 }
 
 /// Gives a stand-alone server or a backend its one user, the other end of the settings with its keys, in place of the
-/// users that it had, wherever it stands, and answers 0. Else it answers the number of the refusal, or 9 at another end,
+/// users that it had, in any state, and answers 0. Else it answers the number of the refusal, or 9 at another end,
 /// and nothing is changed.
 #[unsafe(no_mangle)]
 pub extern "C" fn tuv_server_user(end: &mut TuvEnd, settings: &Settings) -> u8

@@ -1,6 +1,6 @@
 -- What holds of the run of every scenario: whatever is delivered, lost, repeated, reordered, altered, injected or restarted,
--- two ends that both succeed agree, where each accepted tag was made earlier by the other end and no end has begun again or
--- nonces are fresh. The trace tells both.
+-- two ends that both succeed agree, if each accepted tag was made earlier by the other end and no end has begun again
+-- or nonces are fresh. The trace says both.
 use Rattle.std.specs.Prelude.{◌≡◌, ◌≤◌, ◌⊎◌, ℕ, ◌+◌, List, ◌++◌, length, Option, Some, codes}
 use Rattle.login_setup.specs.declared.event.Event.{Event}
 use Rattle.login_setup.specs.declared.setup.Mode.TheVariants.{Through}
@@ -20,11 +20,11 @@ use Rattle.world_commands.specs.Scenario.{scenario_of}
 use Rattle.command_driver.specs.declared.status.Status.{Status}
 use Rattle.command_driver.specs.declared.status.Status.TheVariants.{Done}
 
--- after the events: two ends that both succeed agree, and what they report is their own, over tags and nonces as the laws
--- ask; so do they over tags that came back to their maker, where the peer has succeeded by EAP-PSK; what one end's success
--- tells by itself; the conversations of both ends match, past and present, and they are all; what the pass-through sends is
--- made of what came to it alone, and came to it; a book whose tags are honest is honest of either end, and it is small; and at
--- most one packet more was sent than there were events
+-- after the events: two ends that both succeed agree, and what they report is their own, over tags and nonces as the
+-- laws require; so do they over tags that came back to their maker, if the peer has succeeded by EAP-PSK; what one
+-- end's success implies by itself; the conversations of both ends match, past and present, and they are all; what the
+-- pass-through sends is determined by what came to it alone, and came to it; a book whose tags are honest is honest of
+-- either end, and it is small; and at most one packet more was sent than there were events
 pub record KeepsAgreement (setup : Setup) (events : List Event) (w : WorldNow) : Type 0 where
   pub of_either : tags_verdict w.book ≡ Honest → tags_verdict_either w.book ≡ Honest
   pub agrees : AgreesWhereHonest w
@@ -44,14 +44,14 @@ HonestEndsAgree octets =
     (setup : Setup) → (scenario_of octets).setup ≡ Some setup
     → (let events = (scenario_of octets).events in KeepsAgreement setup events (run_of setup events))
 
--- the text says that nonces are fresh, or nothing of them, as where no end can begin again
+-- the text says that nonces are fresh, or nothing of them, as when no end can begin again
 abbrev pub SaysFresh : List ℕ → Type 0
 SaysFresh text = HasLine (codes "fresh yes") text ⊎ ((word : List ℕ) → HasLine (codes "fresh " ++ word) text → ⊥)
 
--- the text doesn't say both that all tags are honest and that the ends are apart, where it says so
+-- the text doesn't say both that all tags are honest and that the ends are apart, if it says so
 abbrev pub NeverBoth : List ℕ → Type 0
 NeverBoth text = HasLine (codes "tags honest") text → HasLine (codes "result apart") text → SaysFresh text → ⊥
 
--- so it is with what was written, where the status is 0
+-- so it is with what was written, if the status is 0
 pub record WritesNeverBoth (s : Status) (before now : Option (List ℕ)) : Type 0 where
   pub holds : s ≡ Done → (old text : List ℕ) → before ≡ Some old → now ≡ Some (old ++ text) → NeverBoth text

@@ -87,7 +87,7 @@ abbrev pub took_reading : ReplayNow → Result ReadLine LineFault → Took Repla
 took_reading c (Err fault) = is_refused c (fault_word fault)
 took_reading c (Ok r) = took_item (record c { reader = r.after }) r.item
 
--- what a line brings
+-- the result of a line
 unfoldable pub replay_took : ReplayNow → List ℕ → Took ReplayNow
 replay_took c l = took_reading c (read_line c.reader l)
 

@@ -24,7 +24,7 @@ pub data Outcome : Type 0 where
   whole : Outcome
   refused : ℕ → List ℕ → Status → Outcome
 
--- the setup, where the settings were whole; the events, up to a refused line; and the outcome
+-- the setup, if the settings were whole; the events, up to a refused line; and the outcome
 pub record Scenario : Type 0 where
   pub setup : Option Setup
   pub events : List Event
@@ -69,7 +69,7 @@ abbrev pub with_line : ℕ → ℕ → Result ReadLine LineFault → Scenario �
 with_line number k (Err fault) s = stops (refused number (fault_word fault) status.Refused)
 with_line number k (Ok x) s = if is_event x.item && nat_le max_events k then stops (too_much_at number) else adds x.item s
 
--- the scenario that the lines make, where n lines and k events have come before them
+-- the scenario that the lines make, if n lines and k events have come before them
 unfoldable pub scenario_from : ℕ → ℕ → Reading → Lines → Scenario
 scenario_from n k r ended = stops (finish_outcome (n + 1) (finish_of r))
 scenario_from n k r too_long = stops (too_much_at (n + 1))
@@ -81,7 +81,7 @@ scenario_from n k r (line l rest) =
 abbrev pub scenario_of : List ℕ → Scenario
 scenario_of octets = scenario_from 0 0 (record { phase = phase.Unread; settings = no_settings }) (lines octets)
 
--- the lines of what was told of events; with names also the octets of packets and the names of keys
+-- the lines of the results of events; with names also the octets of packets and the names of keys
 abbrev pub events_text : Bool → WorldNow → List Event → List ℕ
 events_text names w events = flat_map (outcome_text names) (outcomes_after w events)
 

@@ -11,17 +11,17 @@ use Rattle.world_commands.specs.Scenario.{replay_answer}
 use Rattle.world_commands.specs.Whole.{IsInputOf}
 use Rattle.command_driver.specs.declared.status.Status.TheVariants.{Done}
 
--- whether nonces are fresh, where the text is of the second version
+-- whether nonces are fresh, if the text is of the second version
 abbrev pub told_of : ℕ → Bool → Option Bool
 told_of version fresh = if version == 2 then Some fresh else None
 
--- the status is 0, and the last lines say whether nonces are fresh, where that is told, that all tags are honest, and that the ends agree
+-- status 0, and the last lines say whether nonces are fresh (if known), that all tags are honest and the ends agree
 pub record TellsAgreement (fresh : Option Bool) (a : Answer) : Type 0 where
   pub status : a.status ≡ Done
   pub before : List ℕ
   pub text : a.text ≡ before ++ (codes "\n" ++ (fresh_text fresh ++ codes "tags honest\nresult agree\nend\n"))
 
--- so it is where an input is a scenario of smooth logins, one after the other
+-- so it is if an input is a scenario of smooth logins, one after the other
 abbrev pub SmoothTracesAgree : Type 0
 SmoothTracesAgree =
     (octets : List ℕ) (setup : Setup) (fresh : Bool) (events : List Event) (names : Bool) → IsInputOf octets setup events →

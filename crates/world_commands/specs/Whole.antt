@@ -8,7 +8,7 @@ use Rattle.scenario_text.specs.Whole.{IsScenario}
 use Rattle.world_commands.specs.Replay.{max_events}
 use Rattle.world_commands.specs.Scenario.{whole, scenario_of}
 
--- a line for each piece that an LF ends, without the CR directly before the LF; the last piece as it stands, if it
+-- a line for each piece that an LF ends, without the CR directly before the LF; the last piece as it is, if it
 -- isn't empty
 abbrev pub listed : List (List ℕ) → List (List ℕ)
 listed [] = []
@@ -28,7 +28,7 @@ pub record IsReadWhole (octets : List ℕ) : Type 0 where
   pub set : (scenario_of octets).setup ≡ Some setup
   pub input : IsInputOf octets setup (scenario_of octets).events
 
--- an input is read as whole exactly where it is a scenario, and then with its setup and its events
+-- an input is read as whole exactly if it is a scenario, and then with its setup and its events
 pub record InputsAreScenarios : Type 0 where
   pub taken : (octets : List ℕ) (setup : Setup) (events : List Event) → IsInputOf octets setup events →
       scenario_of octets ≡ record { setup = Some setup; events = events; outcome = whole }

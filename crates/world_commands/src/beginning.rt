@@ -10,8 +10,8 @@ use eap_world::{Methods, World};
 use login_setup::Setup;
 use std::alloc::Global;
 
-/// The world of a setup that a scenario gives, where each end has an object of both methods, and so one of each that its
-/// settings name. It hasn't started, and takes no memory yet.
+/// The world of a setup that a scenario gives, in which each end has an object of both methods, and so one of each that
+/// its settings name. It hasn't started, and has allocated no memory yet.
 pub fn world_of<P: PeerMethod, S: ServerMethod>(
     alloc: Global,
     setup: Setup,

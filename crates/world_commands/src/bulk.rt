@@ -31,7 +31,7 @@ pub struct Bulk {
     pub count: u32,
 }
 
-/// What the words ask for, where they are `bulk N K`. N and K are spelled as the numbers of a scenario, in
+/// What the words ask for, if they are `bulk N K`. N and K are spelled as the numbers of a scenario, in
 /// decimal digits without a leading zero.
 pub fn bulk_of(words: &Vec<String>) -> Option<Bulk>
     ensures value { result ≡ bulk_of (map string_bytes words.now.items) }
@@ -62,7 +62,7 @@ fn read_bulk(number: &[u8], count: &[u8]) -> Option<Bulk>
     }
 }
 
-/// Runs the conversations and writes what they came to. It answers `Memory` for want of memory alone, and has
+/// Runs the conversations and writes their summary. It answers `Memory` for want of memory alone, and has
 /// then written nothing.
 #[tactic(auto, unfolding(answer_text::specs::Writes::Appends, crate::specs::Bulk::bulk_answer))]
 pub fn run_bulk<P: PeerMethod, M: ServerMethod, W: Sink>(

@@ -25,7 +25,7 @@ use trace_text::{write_end, write_start, write_told};
 /// The most events of a scenario.
 const MAX_EVENTS: u32 = 10_000;
 
-/// A scenario on its way: what has been read of it, and its world from the line `events` on.
+/// A scenario that is being read: what has been read of it, and its world from the line `events` on.
 #[derive(Drop)]
 pub struct Replay<P, S> {
     alloc: Global,
@@ -178,7 +178,7 @@ impl<P: PeerMethod, S: ServerMethod> Command for Replay<P, S> {
     }
 }
 
-/// Writes the lines of what came of the last event of this world.
+/// Writes the lines of the result of the last event of this world.
 fn write_outcome<W: Sink, P: PeerMethod, S: ServerMethod>(
     sink: &mut W,
     world: &World<P, S>,

@@ -1,4 +1,4 @@
--- Agreement over an altering network, where each end may begin new conversations.
+-- Agreement over an altering network, if each end may begin new conversations.
 use Rattle.std.specs.Prelude.{◌≡◌, ◌≤◌, ◌⊎◌, ◌+◌, ◌*◌, List, [], length, true, false, Some, All}
 use Rattle.login_setup.specs.declared.event.Event.{Event}
 use Rattle.login_setup.specs.declared.setup.Setup.{Setup}
@@ -46,30 +46,30 @@ HonestOfEither = (book : List Entry) → tags_verdict book ≡ Honest → tags_v
 abbrev pub AreApart : Conversations → Type 0
 AreApart all = (length all.begun ≡ 2) ⊎ (all.fresh ≡ true)
 
--- each end holds the nonce of the other's present conversation, of which its front tells; by EAP-GPSK all its 32 octets. EAP-PSK has no
--- more than these 16 of it (RFC 4764 section 3.2)
+-- each end has the nonce of the other's present conversation, by its prefix; by EAP-GPSK all its 32 octets. EAP-PSK has
+-- no more than these 16 of it (RFC 4764 section 3.2)
 pub record HoldEachOther (w : WorldNow) : Type 0 where
   pub rand_s : peer_foreign w.parties.peer.vars.selected w.parties.peer.views ≡ Some (front w.parties.server.vars.setup.nonce)
   pub rand_p : server_foreign w.parties.server.vars.current w.parties.server.views ≡ Some (front w.parties.peer.vars.setup.nonce)
   pub whole : w.parties.peer.vars.selected ≡ Some gpsk_kind
       → HoldWhole w.parties.peer.views w.parties.peer.vars.setup.nonce w.parties.server.views w.parties.server.vars.setup.nonce
 
--- two ends that both stand in SUCCESS in their present conversations agree, and the verdict is never that they don't
+-- two ends that are both in SUCCESS in their present conversations agree, and the verdict is never that they don't
 pub record AgreesWhereHonest (w : WorldNow) : Type 0 where
-  -- where each accepted tag was made by the other end
+  -- if each accepted tag was made by the other end
   pub agrees : tags_verdict w.book ≡ Honest → AreApart w.conversations
       → is_success w.parties.peer.vars.state ≡ true → is_success w.parties.server.vars.state ≡ true → verdict_of w ≡ Agree
   pub never_apart : tags_verdict w.book ≡ Honest → AreApart w.conversations → verdict_of w ≡ Apart → ⊥
-  -- where it was made by either end, and no end has begun a second conversation
+  -- if it was made by either end, and no end has begun a second conversation
   pub reflected_agrees : tags_verdict_either w.book ≡ Honest → length w.conversations.begun ≡ 2
       → is_success w.parties.peer.vars.state ≡ true → is_success w.parties.server.vars.state ≡ true → verdict_of w ≡ Agree
   pub reflected_never_apart : tags_verdict_either w.book ≡ Honest → length w.conversations.begun ≡ 2 → verdict_of w ≡ Apart → ⊥
-  -- where nonces are fresh, each holds the other's nonce
+  -- if nonces are fresh, each has the other's nonce
   pub hold : tags_verdict w.book ≡ Honest → w.conversations.fresh ≡ true
       → is_success w.parties.peer.vars.state ≡ true → is_success w.parties.server.vars.state ≡ true → HoldEachOther w
 
--- whatever is delivered, lost, repeated, reordered, altered, injected or restarted: where each accepted tag was made
--- earlier by the other end, and no end has begun again or nonces are fresh, two ends that both stand in SUCCESS agree
+-- whatever is delivered, lost, repeated, reordered, altered, injected or restarted: if each accepted tag was made
+-- earlier by the other end, and no end has begun again or nonces are fresh, two ends that are both in SUCCESS agree
 abbrev pub HonestEndsAgree : Type 0
 HonestEndsAgree =
     (setup : Setup) (events : List Event) → IsWhole setup → AgreesWhereHonest (run_of setup events)
@@ -85,7 +85,7 @@ pub record TakesFirstSuite (setup : Setup) (report : Report) : Type 0 where
   pub picked : picked_suite setup.peer.suites (suite_list setup.server.suites) ≡ Some suite
   pub is_suite : report.suite ≡ suite_number suite
 
--- both ends hold one report, whose names are those of both setups; the server knows the peer by its name, with
+-- both ends have one report, whose names are those of both setups; the server knows the peer by its name, with
 -- the peer's own key, and lets it in; by EAP-GPSK the suite is the one picked of the server's own list
 pub record AreTheirs (setup : Setup) (peer : PeerNow) (server : ServerNow) : Type 0 where
   pub report : Report
@@ -99,7 +99,7 @@ pub record AreTheirs (setup : Setup) (peer : PeerNow) (server : ServerNow) : Typ
   pub welcome : user.barred ≡ false
   pub first_suite : report.method ≡ gpsk_kind → TakesFirstSuite setup report
 
--- what two ends that both stand in SUCCESS report in their present conversations is their own
+-- what two ends that are both in SUCCESS report in their present conversations is their own
 pub record TheirsWhereHonest (setup : Setup) (w : WorldNow) : Type 0 where
   pub theirs : tags_verdict w.book ≡ Honest → AreApart w.conversations
       → is_success w.parties.peer.vars.state ≡ true → is_success w.parties.server.vars.state ≡ true → AreTheirs setup w.parties.peer w.parties.server

@@ -1,4 +1,4 @@
--- What one end's success tells by itself of the other end.
+-- What one end's success implies by itself of the other end.
 use Rattle.std.specs.Prelude.{◌≡◌, ℕ, List, ◌++◌, length, true, Option, Some}
 use Rattle.login_setup.specs.declared.event.Event.{Event}
 use Rattle.login_setup.specs.declared.setup.Setup.{Setup}
@@ -24,8 +24,8 @@ use Rattle.tag_book.specs.declared.book.End.TheVariants as end
 use Rattle.tag_book.specs.declared.book.TagsVerdict.TheVariants.{Honest}
 use Rattle.tag_book.specs.declared.book.Use.TheVariants.{Accepted, Made}
 
--- a conversation of the server, present or past: the nonce with which it began, the peer's nonce that it holds, and the tags that
--- it has accepted and made, all of them in the book
+-- a conversation of the server, present or past: the nonce with which it began, the peer's nonce that it has, and the
+-- tags that it has accepted and made, all of them in the book
 pub record ServersConversation (setup : Setup) (w : WorldNow) : Type 0 where
   pub nonce : List ℕ
   pub began : has_begun end.Server nonce w.conversations.begun ≡ true
@@ -64,8 +64,8 @@ pub record HasPeersKey (setup : Setup) (report : Report) : Type 0 where
   pub known : user_of setup.server.users report.id_p report.method ≡ Some user
   pub key : user.psk ≡ key_for setup.peer report.method
 
--- a conversation of the server and the peer's present one hold each other's nonces, by EAP-GPSK all 32 octets of them; and the server's
--- has accepted a tag that the peer has made, and that only a conversation of the peer with these nonces can have made
+-- a conversation of the server and the peer's present one have each other's nonces, by EAP-GPSK all 32 octets; and the
+-- server's has accepted a tag that the peer made, and that only one of the peer's with these nonces can have made
 pub record PeerIsHeard (setup : Setup) (w : WorldNow) : Type 0 where
   pub by : ServersConversation setup w
   pub rand_s : peer_foreign w.parties.peer.vars.selected w.parties.peer.views ≡ Some (front by.nonce)
@@ -82,8 +82,8 @@ pub record PeerIsHeard (setup : Setup) (w : WorldNow) : Type 0 where
   pub keyed : HasPeersKey setup report
   pub id_p : report.id_p ≡ setup.peer.name
 
--- a conversation of the peer and the server's present one hold each other's nonces, by EAP-GPSK all 32 octets of them; and the server
--- has accepted a tag that the peer's has made, and that only a conversation of the peer with these nonces can have made
+-- a conversation of the peer and the server's present one have each other's nonces, by EAP-GPSK all 32 octets; and the
+-- server has accepted a tag that the peer's made, and that only one of the peer's with these nonces can have made
 pub record ServerHears (setup : Setup) (w : WorldNow) : Type 0 where
   pub of : PeersConversation setup w
   pub rand_p : server_foreign w.parties.server.vars.current w.parties.server.views ≡ Some (front of.nonce)
@@ -110,15 +110,15 @@ pub record PeerKnows (setup : Setup) (w : WorldNow) : Type 0 where
   pub keyed : HasPeersKey setup report
   pub id_p : report.id_p ≡ setup.peer.name
 
--- what one end's success tells
+-- what one end's success implies
 pub record TellsAlone (setup : Setup) (w : WorldNow) : Type 0 where
-  -- the peer's, where each accepted tag was made by the other end, and nonces are fresh; by EAP-PSK it may also be one of its own
+  -- the peer's, if the other end made each accepted tag and nonces are fresh; by EAP-PSK it may also be one of its own
   pub by_peer : tags_verdict w.book ≡ Honest → w.conversations.fresh ≡ true → is_success w.parties.peer.vars.state ≡ true → PeerIsHeard setup w
   pub by_psk_peer : tags_verdict_either w.book ≡ Honest → w.conversations.fresh ≡ true → is_success w.parties.peer.vars.state ≡ true
       → w.parties.peer.vars.selected ≡ Some psk_kind → PeerIsHeard setup w
-  -- the server's, where each accepted tag was made by either end
+  -- the server's, if each accepted tag was made by either end
   pub by_server : tags_verdict_either w.book ≡ Honest → is_success w.parties.server.vars.state ≡ true → ServerHears setup w
-  -- and as long as no end has begun a second conversation, where each was made by the other end
+  -- and as long as no end has begun a second conversation, if each was made by the other end
   pub by_server_once : tags_verdict w.book ≡ Honest → length w.conversations.begun ≡ 2 → is_success w.parties.server.vars.state ≡ true → PeerKnows setup w
 
 -- whatever the other end does, and whichever of its conversations it was

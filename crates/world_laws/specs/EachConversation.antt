@@ -15,7 +15,7 @@ use Rattle.tag_book.specs.declared.book.End.TheVariants as end
 use Rattle.tag_book.specs.declared.book.Use.TheVariants.{Accepted, Made}
 use Rattle.eap_world.specs.declared.conversations.Begun.{Begun}
 
--- a conversation of an end: where the end stands in it, or stood when it began the next one, and the tags that it accepted and
+-- a conversation of an end: the end's state in it, or when it began the next one, and the tags that it accepted and
 -- made in it, in their order
 pub record Conversation (N : Type 0) : Type 0 where
   pub now : N
@@ -37,7 +37,7 @@ abbrev pub present_one : {N : Type 0} → (WorldNow → N) → End → WorldNow 
 present_one at of w from =
     let entries = drop from w.book in record { now = at w; accepted = tags_by of Accepted entries; made = tags_by of Made entries }
 
--- its conversations from the present one on, where the world comes to these moments
+-- its conversations from the present one on, if the world comes to these moments
 unfoldable pub conversations_along : {N : Type 0} → (WorldNow → N) → End → WorldNow → ℕ → List WorldNow → List (Conversation N)
 conversations_along at of w from [] = present_one at of w from ∷ []
 conversations_along at of w from (next ∷ rest) =
@@ -55,7 +55,7 @@ peer_at w = w.parties.peer
 abbrev pub server_at : WorldNow → ServerNow
 server_at w = w.parties.server
 
--- all conversations of the peer, and of the server, from the begin of both on
+-- all conversations of the peer, and of the server, from the start of both on
 abbrev pub peer_along : WorldNow → List WorldNow → List OfPeer
 peer_along w later = conversations_along peer_at end.Peer w 0 later
 
@@ -69,7 +69,7 @@ peer_conversations setup events = let begun = (world_start (world_made setup)).a
 abbrev pub server_conversations : Setup → List Event → List OfServer
 server_conversations setup events = let begun = (world_start (world_made setup)).after in server_along begun (moments begun events)
 
--- the nonce of a conversation, and the first octets of the other end's that it holds
+-- the nonce of a conversation, and the first octets of the other end's that it has
 abbrev pub peer_nonce : OfPeer → List ℕ
 peer_nonce p = p.now.vars.setup.nonce
 
@@ -102,7 +102,7 @@ unfoldable pub all_made : {N : Type 0} → List (Conversation N) → List TagRec
 all_made [] = []
 all_made (k ∷ rest) = k.made ++ all_made rest
 
--- where the end stands in the last one
+-- the end's state in the last one
 unfoldable pub last_now : {N : Type 0} → Option N → List (Conversation N) → Option N
 last_now o [] = o
 last_now o (k ∷ rest) = last_now (Some k.now) rest

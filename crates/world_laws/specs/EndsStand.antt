@@ -1,5 +1,5 @@
--- What stands of both ends in every run: their views tell the tags that they have accepted and made in their present
--- conversations.
+-- What holds of both ends in every run: their views determine the tags that they have accepted and made in their
+-- present conversations.
 use Rattle.std.specs.Prelude.{List}
 use Rattle.login_setup.specs.declared.event.Event.{Event}
 use Rattle.login_setup.specs.declared.setup.Setup.{Setup}
@@ -21,7 +21,7 @@ use Rattle.tag_book.specs.declared.book.Use.TheVariants.{Accepted, Made}
 abbrev pub present_tags : End → Use → WorldNow → List TagRecord
 present_tags end how w = tags_by end how (since (since_of end w.conversations.begun) w.book)
 
--- both ends stand as their views tell, each with the nonce of its present conversation and with the tags of it
+-- this holds of both ends, each with the nonce of its present conversation and with the tags of it
 pub record BothStand (setup : Setup) (w : WorldNow) : Type 0 where
   pub peer_stands : PeerStands (peers.own_nonce setup.peer w.parties.peer.vars.setup.nonce) w.parties.peer
       (present_tags end.Peer Accepted w) (present_tags end.Peer Made w)

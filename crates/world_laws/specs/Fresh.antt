@@ -11,12 +11,12 @@ use Rattle.eap_world.specs.Conversations.{front, stands_in}
 use Rattle.eap_world.specs.World.{Call, WorldNow, call_octets, call_of, first_skip, skip_table, to_peer, to_server, world_made, world_start, world_step}
 use Rattle.eap_world.specs.declared.told.Skip.{Skip}
 
--- octets came to some party; an end began a conversation with a nonce
+-- octets were delivered to some party; an end began a conversation with a nonce
 pub data Happening : Type 0 where
   came : List ℕ → Happening
   began : List ℕ → Happening
 
--- what came has the front of a nonce in it, or that conversation has a nonce of the same front
+-- what was delivered has the prefix of a nonce in it, or that conversation has a nonce of the same prefix
 abbrev pub clashes : List ℕ → Happening → Bool
 clashes nonce (came octets) = stands_in (front nonce) octets
 clashes nonce (began other) = bytes_eq (front other) (front nonce)
@@ -52,6 +52,6 @@ history_after w (e ∷ rest) = happens_in w e ++ history_after (world_step w e).
 abbrev pub history_of : Setup → List Event → List Happening
 history_of setup events = began setup.peer.nonce ∷ began setup.server.nonce ∷ history_after (world_start (world_made setup)).after events
 
--- the world tells it
+-- the world says so
 abbrev pub FreshIsTold : Type 0
 FreshIsTold = (setup : Setup) (events : List Event) → ((run_of setup events).conversations.fresh ≡ true) ↔ IsFresh (history_of setup events)

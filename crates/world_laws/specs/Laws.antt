@@ -6,12 +6,12 @@ use Rattle.login_setup.specs.declared.setup.Setup.{Setup}
 use Rattle.eap_world.specs.declared.world.Held.{Held}
 use Rattle.eap_world.specs.World.{WorldNow, WorldOutcome, Parties, has_held, report_of, world_made, world_start, world_step, run_after}
 
--- a report that an end holds was told of
+-- a report that an end has was reported
 pub record HasToldReports (held : Held) (parties : Parties) : Type 0 where
   pub each : (party : Party) → IsSome (report_of parties party) → has_held held party ≡ true
 
 -- no variable and no view of a method changed at either end, nothing was sent, and nothing was written
--- into the book; where each report that an end holds was told of, none is told of now
+-- into the book; if each report that an end has was reported, none is reported now
 pub record KeepsBothEnds (before after : WorldNow) : Type 0 where
   pub parties : after.parties ≡ before.parties
   pub sent : after.sent ≡ before.sent
@@ -22,8 +22,8 @@ pub record KeepsBothEnds (before after : WorldNow) : Type 0 where
 abbrev pub DiscardsKeep : Type 0
 DiscardsKeep = (w : WorldNow) (e : Event) → IsSome (world_step w e).told.cause → KeepsBothEnds w (world_step w e).after
 
--- nothing but the number of events changed: no party, nothing sent, nothing in the book, no report seen, no
--- other count, no conversation; and it is told that no party acted, entered a state, sent a packet or showed a report
+-- nothing but the number of events changed: no party, nothing sent, nothing in the book, no report seen, no other
+-- count, no conversation; and the result says that no party acted, entered a state, sent a packet or showed a report
 pub record CountsAlone (before : WorldNow) (out : WorldOutcome) : Type 0 where
   pub parties : out.after.parties ≡ before.parties
   pub sent : out.after.sent ≡ before.sent
@@ -42,7 +42,7 @@ pub record CountsAlone (before : WorldNow) (out : WorldOutcome) : Type 0 where
 abbrev pub SkipsKeep : Type 0
 SkipsKeep = (w : WorldNow) (e : Event) → IsSome (world_step w e).told.skip → CountsAlone w (world_step w e)
 
--- in every run each report that an end holds was told of
+-- in every run each report that an end has was reported
 abbrev pub RunsTellReports : Type 0
 RunsTellReports =
     (setup : Setup) (events : List Event) → (let last = run_after (world_start (world_made setup)).after events in HasToldReports last.held last.parties)

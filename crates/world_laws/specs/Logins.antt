@@ -1,4 +1,4 @@
--- The report that the login in a view leads to, from the moment at which its end holds the other's nonce, whether it is over or not.
+-- The report that the login in a view leads to, from when its end has the other's nonce, over or not.
 use Rattle.std.specs.Prelude.{ℕ, Bool, true, false, ◌==◌, Option, Some, None}
 use Rattle.eap_base.specs.Among.{psk_kind, gpsk_kind}
 use Rattle.eap_method.specs.declared.values.Report.{Report}
@@ -22,7 +22,7 @@ gpsk_peer_login (gpsk_peer.fresh cred nonce) = None
 gpsk_peer_login (gpsk_peer.wait login) = Some (gpsk_peer.report_of login)
 gpsk_peer_login (gpsk_peer.over login good) = Some (gpsk_peer.report_of login)
 
--- by the method, where the Type is that of one
+-- by the method, if the Type is that of one
 abbrev pub login_by_kind : Bool → Bool → Option Report → Option Report → Option Report
 login_by_kind true is_gpsk psk gpsk = psk
 login_by_kind false true psk gpsk = gpsk

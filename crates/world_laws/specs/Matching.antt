@@ -35,12 +35,12 @@ pub record RestsOn (accepted made : List TagRecord) : Type 0 where
   pub first : accepted ≡ tag ∷ more
   pub is_made : IsIn tag made
 
--- a conversation of the peer and one of the server are of one method; by EAP-GPSK they hold all 32 octets of each other's nonces
+-- a peer's and a server's conversation have one method; by EAP-GPSK they have all 32 octets of each other's nonces
 pub record AreOfOne (p : OfPeer) (s : OfServer) : Type 0 where
   pub method : p.now.vars.selected ≡ s.now.vars.current
   pub whole : p.now.vars.selected ≡ Some gpsk_kind → HoldWhole p.now.views (peer_nonce p) s.now.views (server_nonce s)
 
--- they hold each other's nonces, whose fronts are all that EAP-PSK has of them (RFC 4764 section 3.2)
+-- they have each other's nonces, whose prefixes are all that EAP-PSK has of them (RFC 4764 section 3.2)
 pub record HoldNonces (p : OfPeer) (s : OfServer) : Type 0 where
   pub rand_s : peer_holds p ≡ Some (front (server_nonce s))
   pub rand_p : server_holds s ≡ Some (front (peer_nonce p))
@@ -58,8 +58,8 @@ pub record HasSameKeys (p : OfPeer) (s : OfServer) : Type 0 where
   pub leads : peer_login p.now.vars.selected p.now.views ≡ Some theirs
   pub same : SameKeys report theirs
 
--- no two conversations of an end have nonces of the same front, no two in SUCCESS rest on the same one of the other end, and one of
--- the server in SUCCESS rests on no two of the peer
+-- no two conversations of an end have nonces of the same prefix, no two in SUCCESS rest on the same one of the other
+-- end, and one of the server in SUCCESS rests on no two of the peer
 pub record NoTwoAlike (peers : List OfPeer) (servers : List OfServer) : Type 0 where
   pub peer_nonces : (p q : OfPeer) → AreTwoOf p q peers → front (peer_nonce p) ≡ front (peer_nonce q) → ⊥
   pub server_nonces : (s t : OfServer) → AreTwoOf s t servers → front (server_nonce s) ≡ front (server_nonce t) → ⊥
@@ -70,14 +70,14 @@ pub record NoTwoAlike (peers : List OfPeer) (servers : List OfServer) : Type 0 w
   pub server_on_one : (s : OfServer) → IsOneOf s servers → is_success s.now.vars.state ≡ true
       → (p q : OfPeer) → AreTwoOf p q peers → RestsOn s.accepted p.made → RestsOn s.accepted q.made → ⊥
 
--- a conversation of the server rests on one of the peer, and they hold each other's nonces
+-- a conversation of the server rests on one of the peer, and they have each other's nonces
 pub record ServerRests (peers : List OfPeer) (s : OfServer) : Type 0 where
   pub on : OfPeer
   pub is_one : IsOneOf on peers
   pub rests : RestsOn s.accepted on.made
   pub hold : HoldNonces on s
 
--- a conversation of the peer rests on one of the server, which holds its nonce; by EAP-GPSK they hold each other's
+-- a conversation of the peer rests on one of the server, which has its nonce; by EAP-GPSK they have each other's
 pub record PeerRests (servers : List OfServer) (p : OfPeer) : Type 0 where
   pub on : OfServer
   pub is_one : IsOneOf on servers
@@ -85,8 +85,8 @@ pub record PeerRests (servers : List OfServer) (p : OfPeer) : Type 0 where
   pub rand_p : server_holds on ≡ Some (front (peer_nonce p))
   pub one : AreOfOne p on
 
--- a conversation of the server rests on one of the peer and on no other, no other one in SUCCESS rests on that, and they hold each
--- other's nonces
+-- a conversation of the server rests on one of the peer and on no other, no other one in SUCCESS rests on that, and
+-- they have each other's nonces
 pub record ServerMatches (peers : List OfPeer) (servers : List OfServer) (s : OfServer) : Type 0 where
   pub on : OfPeer
   pub is_one : IsOneOf on peers
@@ -96,7 +96,7 @@ pub record ServerMatches (peers : List OfPeer) (servers : List OfServer) (s : Of
   pub by_no_other : (t : OfServer) → IsOneOf t servers → is_success t.now.vars.state ≡ true → RestsOn t.accepted on.made → t ≡ s
 
 -- a conversation of the peer rests on one of the server and on no other, and that rests on it; no other one in SUCCESS of either end
--- rests on either of them, and they hold each other's nonces. Where that is in SUCCESS too, what both report agrees
+-- rests on either of them, and they have each other's nonces. If that is in SUCCESS too, what both report agrees
 pub record PeerMatches (peers : List OfPeer) (servers : List OfServer) (p : OfPeer) : Type 0 where
   pub on : OfServer
   pub is_one : IsOneOf on servers
@@ -110,19 +110,19 @@ pub record PeerMatches (peers : List OfPeer) (servers : List OfServer) (p : OfPe
 
 -- what holds of all conversations, past and present, at each moment of a run
 pub record Match (w : WorldNow) (peers : List OfPeer) (servers : List OfServer) : Type 0 where
-  -- where nonces are fresh
+  -- if nonces are fresh
   pub apart : w.conversations.fresh ≡ true → NoTwoAlike peers servers
-  -- where each accepted tag was made earlier by either end, in whichever conversation
+  -- if each accepted tag was made earlier by either end, in whichever conversation
   pub servers_rest : tags_verdict_either w.book ≡ Honest → (s : OfServer) → IsOneOf s servers → is_success s.now.vars.state ≡ true → ServerRests peers s
   -- and nonces are fresh besides
   pub servers_match : tags_verdict_either w.book ≡ Honest → w.conversations.fresh ≡ true
       → (s : OfServer) → IsOneOf s servers → is_success s.now.vars.state ≡ true → ServerMatches peers servers s
-  -- where each accepted tag was made earlier by the other end
+  -- if each accepted tag was made earlier by the other end
   pub peers_rest : tags_verdict w.book ≡ Honest → (p : OfPeer) → IsOneOf p peers → is_success p.now.vars.state ≡ true → PeerRests servers p
   -- and nonces are fresh besides
   pub peers_match : tags_verdict w.book ≡ Honest → w.conversations.fresh ≡ true
       → (p : OfPeer) → IsOneOf p peers → is_success p.now.vars.state ≡ true → PeerMatches peers servers p
-  -- by EAP-PSK also where each was made by either end
+  -- by EAP-PSK also if each was made by either end
   pub psk_peers_match : tags_verdict_either w.book ≡ Honest → w.conversations.fresh ≡ true
       → (p : OfPeer) → IsOneOf p peers → is_success p.now.vars.state ≡ true → p.now.vars.selected ≡ Some psk_kind → PeerMatches peers servers p
   -- by EAP-PSK the one of the peer on which one of the server in SUCCESS rests has accepted in its turn, and rests on that
@@ -140,7 +140,7 @@ pub record Match (w : WorldNow) (peers : List OfPeer) (servers : List OfServer) 
   -- and that of one of the peer on which one of the server in SUCCESS rests has the keys which that reports
   pub same_keys : (s : OfServer) → IsOneOf s servers → is_success s.now.vars.state ≡ true → (p : OfPeer) → IsOneOf p peers
       → RestsOn s.accepted p.made → HasSameKeys p s
-  -- where one of the server rests on one of the peer, and both are in SUCCESS: that rests on this one too, and what both report agrees
+  -- if one of the server rests on one of the peer, both in SUCCESS: that rests on this too, and what both report agrees
   pub both_agree : tags_verdict w.book ≡ Honest → w.conversations.fresh ≡ true
       → (p : OfPeer) → IsOneOf p peers → is_success p.now.vars.state ≡ true
       → (s : OfServer) → IsOneOf s servers → is_success s.now.vars.state ≡ true
@@ -153,8 +153,8 @@ ConversationsMatch =
 
 -- ---- the conversations are all
 
--- one for each that has begun, in order and with its nonce, and each end stands in the last of its own; their tags joined are those
--- of the book, and where each end stands or stood in one tells exactly the tags that it accepted and made in it, at most two of each
+-- one for each that has begun, in order and with its nonce, and each end is in the last of its own; their tags joined
+-- are the book's, and the end's state in one determines exactly the tags accepted and made in it, at most two each
 pub record AreAll (setup : Setup) (w : WorldNow) (peers : List OfPeer) (servers : List OfServer) : Type 0 where
   pub peer_nonces : nonces_of end.Peer w.conversations.begun ≡ map peer_nonce peers
   pub server_nonces : nonces_of end.Server w.conversations.begun ≡ map server_nonce servers

@@ -1,5 +1,5 @@
--- What comes to the pass-through in a run, and what it sends: it learns nothing but what it is handed, and its inputs decide what it
--- sends.
+-- What comes to the pass-through in a run, and what it sends: it learns nothing but what is delivered to it, and its
+-- inputs determine what it sends.
 use Rattle.std.specs.Prelude.{◌≡◌, ℕ, List, [], ◌∷◌, ◌++◌, All, map, take, Option, Some, None}
 use Rattle.login_setup.specs.declared.event.Event.{Event}
 use Rattle.login_setup.specs.declared.event.Event.TheVariants as event
@@ -38,8 +38,8 @@ unfoldable pub came_after : WorldNow → List Event → List PassInput
 came_after w [] = []
 came_after w (e ∷ rest) = came_in w e ++ came_after (world_step w e).after rest
 
--- in the run of these events: its start, octets from either side, the ends of its timer, that the server is lost or has nothing to
--- ask, and that it begins anew
+-- in the run of these events: its start, octets from either side, the ends of its timer, that the server is lost or has
+-- nothing to ask, and its restarts
 abbrev pub came_to_pass : Setup → List Event → List PassInput
 came_to_pass setup events = came_by (start_call setup.mode) ++ came_after (world_start (world_made setup)).after events
 
@@ -81,8 +81,8 @@ to_ends (packet ∷ rest) = if_to_end packet.port packet (to_ends rest)
 abbrev pub at_port : SentOn → Sent
 at_port packet = record { port = pass_port packet.to; octets = packet.octets }
 
--- where it stands after a run, and what it sent, which is all that is sent to an end, are made of what came to it alone, from its
--- first Identifier and MaxRetrans
+-- its state after a run, and what it sent, which is all that is sent to an end, are determined by what came to it
+-- alone, from its first Identifier and MaxRetrans
 pub record IsAlone (setup : Setup) (events : List Event) : Type 0 where
   pub vars : (run_of setup events).parties.pass ≡ pass_after (pass_made setup.first_id setup.max_retrans) (came_to_pass setup events)
   pub sent : sent_by_pass setup events ≡ map at_port (pass_sends (pass_made setup.first_id setup.max_retrans) (came_to_pass setup events))
@@ -93,7 +93,7 @@ PassIsAlone = (setup : Setup) (events : List Event) → setup.mode ≡ mode.Thro
 
 -- ---- it learns nothing
 
--- two runs that the pass-through can't tell apart: it stands the same after both, and has sent the same
+-- two runs that the pass-through can't distinguish: it has the same state after both, and has sent the same
 pub record AreAlike (one other : Setup) (events others : List Event) : Type 0 where
   pub vars : (run_of one events).parties.pass ≡ (run_of other others).parties.pass
   pub sent : sent_by_pass one events ≡ sent_by_pass other others
@@ -106,7 +106,7 @@ PassLearnsNothing =
     → one.first_id ≡ other.first_id → one.max_retrans ≡ other.max_retrans
     → came_to_pass one events ≡ came_to_pass other others → AreAlike one other events others
 
--- ---- whence its packets come
+-- ---- the origin of its packets
 
 -- a packet of the pass-through that came to it so, at the port to which it goes
 pub data IsPassedOn (first_id : ℕ) (came : List PassInput) : Sent → Type 0 where
@@ -119,8 +119,8 @@ Carries setup events = All (IsPassedOn setup.first_id (came_to_pass setup events
 abbrev pub PassCarries : Type 0
 PassCarries = (setup : Setup) (events : List Event) → setup.mode ≡ mode.Through → Carries setup events
 
--- octets that an event brings to a port, where these packets were sent before it: those of a packet that was sent to it, as they are,
--- altered or cut; or those that are injected
+-- octets that an event delivers at a port, if these packets were sent before it: those of a packet that was sent to it,
+-- as they are, altered or cut; or those that are injected
 pub data IsHanded (sent : List Sent) : Event → Port → List ℕ → Type 0 where
   delivered : (n : ℕ) (packet : Sent) (is : packet_numbered sent n ≡ Some packet) → IsHanded sent (event.Deliver n) packet.port packet.octets
   delivered_altered : (n place mask : ℕ) (packet : Sent) (is : packet_numbered sent n ≡ Some packet)

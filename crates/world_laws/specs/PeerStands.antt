@@ -1,5 +1,5 @@
 -- What holds of the peer at every moment of a run, with the tags that it has accepted and made: the view of
--- its method tells them exactly, also where the login has failed.
+-- its method determines them exactly, also if the login has failed.
 use Rattle.std.specs.Prelude.{◌≡◌, ℕ, List, [], ◌∷◌, length, Bool, true, false, if◌then◌else◌, Option, None, Some}
 use Rattle.login_setup.specs.declared.setup.PeerSetup.{PeerSetup}
 use Rattle.eap_base.specs.Among.{psk_kind, gpsk_kind, is_among}
@@ -38,7 +38,7 @@ psk3_taken login header sealed =
 abbrev pub result_for : Bool → ℕ
 result_for good = if good then done_success else done_failure
 
--- which tags a view of EAP-PSK tells
+-- which tags a view of EAP-PSK determines
 pub data PskPeerTags (setup : PeerSetup) : psk.View → List TagRecord → List TagRecord → Type 0 where
   psk_unset : PskPeerTags setup psk.unset [] []
   psk_fresh : (allowed : is_among setup.methods psk_kind ≡ true)
@@ -68,7 +68,7 @@ gpsk2_record login list = sk_record login.cred.psk (gpsk.gpsk2_of login list)
 abbrev pub gpsk3_taken : gpsk.Login → List ℕ → Message
 gpsk3_taken login pd = tagged login.suite (gpsk.keys_of login).sk (gpsk3 login.nonce login.rand_s login.id_s login.suite pd [])
 
--- which tags a view of EAP-GPSK tells; a login that has failed had a GPSK-Fail or a GPSK-Protected-Fail
+-- which tags a view of EAP-GPSK determines; a login that has failed had a GPSK-Fail or a GPSK-Protected-Fail
 pub data GpskPeerTags (setup : PeerSetup) : gpsk.View → List TagRecord → List TagRecord → Type 0 where
   gpsk_unset : GpskPeerTags setup gpsk.unset [] []
   gpsk_fresh : (allowed : is_among setup.methods gpsk_kind ≡ true)
@@ -108,6 +108,6 @@ pub data HasSucceeded (selected : Option ℕ) (views : PeerViews) : Type 0 where
 pub record PeerStands (setup : PeerSetup) (now : PeerNow) (accepted made : List TagRecord) : Type 0 where
   pub own : now.vars.setup ≡ setup
   pub tags : PeerTags setup now.vars.selected now.views accepted made
-  -- a decision other than FAIL comes of a success, and SUCCESS of such a decision
+  -- a decision other than FAIL comes from a success, and SUCCESS from such a decision
   pub decided : is_fail now.vars.decision ≡ false → HasSucceeded now.vars.selected now.views
   pub sure : is_success now.vars.state ≡ true → is_fail now.vars.decision ≡ false

@@ -1,4 +1,4 @@
--- The tags of each end, taken out of the book in their order.
+-- The tags of each end, selected from the book in their order.
 use Rattle.std.specs.Prelude.{◌≤◌, ◌⊎◌, ℕ, List, [], ◌∷◌, length, filter, Bool, true, false, ◌&&◌, nat_lt, if◌then◌else◌}
 use Rattle.eap_method.specs.declared.tags.TagRecord.{TagRecord}
 use Rattle.tag_book.specs.Book.{same_end}

@@ -1,5 +1,5 @@
 -- What holds of the server at every moment of a run, with the tags that it has accepted and made: the view
--- of its current method tells them exactly, also where the login has failed.
+-- of its current method determines them exactly, also if the login has failed.
 use Rattle.std.specs.Prelude.{◌≡◌, ℕ, List, [], ◌∷◌, length, drop, Bool, true, false, Option, None, Some}
 use Rattle.login_setup.specs.declared.setup.ServerSetup.{ServerSetup}
 use Rattle.login_setup.specs.declared.users.User.{User}
@@ -37,7 +37,7 @@ psk2_record login = ak_record login.psk (psk.mac_p_covers login) (psk.mac_p_of l
 abbrev pub psk4_taken : psk.Login → List ℕ → ℕ → TagRecord
 psk4_taken login header sealed = tek_record login.psk 1 header sealed (eax_tag (psk.keys_of login).tek (channel_nonce 1) header (sealed ∷ []))
 
--- which tags a view of EAP-PSK tells
+-- which tags a view of EAP-PSK determines
 pub data PskServerTags (setup : ServerSetup) : psk.View → List TagRecord → List TagRecord → Type 0 where
   psk_asked : (ordered : is_among setup.methods psk_kind ≡ true) → PskServerTags setup (psk.asked (side_of setup) setup.nonce) [] []
   -- PSK-2 is accepted, and answered by PSK-3
@@ -72,7 +72,7 @@ pub record GpskChecked (setup : ServerSetup) (login : gpsk.Login) (barred : Bool
   pub offered : is_among setup.suites (suite_number login.suite) ≡ true
   pub size : length login.rand_p ≡ 32
 
--- which tags a view of EAP-GPSK tells
+-- which tags a view of EAP-GPSK determines
 pub data GpskServerTags (setup : ServerSetup) : gpsk.View → List TagRecord → List TagRecord → Type 0 where
   gpsk_asked : (ordered : is_among setup.methods gpsk_kind ≡ true) → GpskServerTags setup (gpsk.asked (side_of setup) setup.nonce) [] []
   -- the user is unknown: GPSK-Fail, both ways, has no tag
@@ -123,5 +123,5 @@ pub record ServerStands (setup : ServerSetup) (now : ServerNow) (accepted made :
   pub unstarted : is_started now.vars ≡ false → IsUntouched now.vars
   -- a method that is only proposed has none
   pub proposed : is_proposed now.vars.progress ≡ true → AreNone accepted made
-  -- SUCCESS comes of a success
+  -- SUCCESS comes from a success
   pub sure : is_success now.vars.state ≡ true → HasSucceeded now.vars.current now.views

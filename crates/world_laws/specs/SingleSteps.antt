@@ -1,5 +1,5 @@
--- Laws on single steps of a run. They speak of octets, of packets sent, of the book, of paths and of states alone,
--- and of no other variable, so that they check the tables of RFC 4137 from outside.
+-- Laws on single steps of a run. They are about octets, packets sent, the book, paths and states alone, and
+-- no other variable, so that they check the tables of RFC 4137 from outside.
 use Rattle.std.specs.Prelude.{◌≡◌, ◌≤◌, ℕ, ◌+◌, ◌%◌, List, [], ◌∷◌, ◌++◌, length, take, Bool, true, false, Some, slice_index}
 use Rattle.std.specs.List.{list_any}
 use Rattle.login_setup.specs.declared.event.Event.{Event}
@@ -27,7 +27,7 @@ use Rattle.eap_world.specs.World.{Parties, WorldNow, WorldOutcome, altered, octe
 abbrev pub identifier_of : List ℕ → ℕ
 identifier_of octets = slice_index octets 1
 
--- the octets that an event hands to its party
+-- the octets that an event delivers to its party
 abbrev pub handed_in : List Sent → Event → List ℕ
 handed_in sent (event.Deliver n) = octets_of (packet_numbered sent n)
 handed_in sent (event.Alter n place mask) = altered (octets_of (packet_numbered sent n)) place mask
@@ -35,7 +35,7 @@ handed_in sent (event.Cut n keep) = take keep (octets_of (packet_numbered sent n
 handed_in sent (event.Inject port octets) = octets
 handed_in sent _ = []
 
--- octets come to a party
+-- octets are delivered to a party
 abbrev pub is_delivery_of : Event → Bool
 is_delivery_of (event.Deliver n) = true
 is_delivery_of (event.Alter n place mask) = true
@@ -68,20 +68,20 @@ pub record CountsOn (sent : List Sent) (octets : List ℕ) : Type 0 where
   pub is_last : last_to port.Peer sent ≡ Some last
   pub next : identifier_of octets ≡ (identifier_of last + 1) % 256
 
--- whether a party that stands so has ended
+-- whether a party in this state has ended
 abbrev pub has_ended : Party → State → Bool
 has_ended party.Peer s = is_end s
 has_ended party.Pass s = is_over s
 has_ended party.Server s = is_end s
 
--- where the two ends stand
+-- the states of the two ends
 abbrev pub end_state : Parties → End → State
 end_state parties end.Peer = parties.peer.vars.state
 end_state parties end.Server = parties.server.vars.state
 
--- what holds of each step from a world of a run to what comes of an event
+-- what holds of each step from a world of a run to the result of an event
 pub record IsLawful (w : WorldNow) (e : Event) (out : WorldOutcome) : Type 0 where
-  -- what the peer sends is a Response with the Identifier of what was handed to it
+  -- what the peer sends is a Response with the Identifier of what was delivered to it
   pub answers : (packet : Sent) → Sends w out party.Peer packet → AnswersIt (handed_in w.sent e) packet.octets
   -- what is sent again is the last packet to the same port
   pub repeats : (of : Party) (packet : Sent) → Sends w out of packet → list_any is_again out.told.path ≡ true
@@ -89,9 +89,9 @@ pub record IsLawful (w : WorldNow) (e : Event) (out : WorldOutcome) : Type 0 whe
   -- in mode alone a Request that the server sends in a delivery has the next Identifier
   pub counts : w.parties.mode ≡ mode.Alone → is_delivery_of e ≡ true → (packet : Sent) → Sends w out party.Server packet
       → code_of packet.octets ≡ 1 → CountsOn w.sent packet.octets
-  -- a party that has ended sends nothing, unless it begins anew
+  -- a party that has ended sends nothing, unless it begins again
   pub silent : is_restart e ≡ false → (of : Party) (s : State) → state_of w.parties of ≡ Some s → has_ended of s ≡ true → (packet : Sent) → Sends w out of packet → ⊥
-  -- an end that stands in SUCCESS has accepted a tag in its present conversation
+  -- an end in SUCCESS has accepted a tag in its present conversation
   pub accepted : (of : End) → is_success (end_state out.after.parties of) ≡ true
       → 1 ≤ length (present_tags of Accepted out.after)
 

@@ -1,4 +1,4 @@
--- What a conversation's view tells of its nonces and tags, and which conversations can have made a tag.
+-- What a conversation's view says of its nonces and tags, and which conversations can have made a tag.
 use Rattle.std.specs.Prelude.{◌≡◌, ℕ, List, length, Option, Some}
 use Rattle.login_setup.specs.declared.setup.PeerSetup.{PeerSetup}
 use Rattle.login_setup.specs.declared.setup.ServerSetup.{ServerSetup}
@@ -13,26 +13,26 @@ use Rattle.world_laws.specs.PeerStands.{PeerTags}
 use Rattle.world_laws.specs.Records.{IsIn}
 use Rattle.world_laws.specs.ServerStands.{ServerTags}
 
--- a conversation of the peer with this nonce, which holds that nonce of the server, has accepted and made these tags
+-- a conversation of the peer with this nonce, which has that nonce of the server, has accepted and made these tags
 pub record PeerTold (setup : PeerSetup) (nonce : List ℕ) (held : Option (List ℕ)) (accepted made : List TagRecord) : Type 0 where
   pub selected : Option ℕ
   pub views : PeerViews
   pub tags : PeerTags (peers.own_nonce setup nonce) selected views accepted made
   pub held_is : peer_foreign selected views ≡ held
 
--- only a conversation with the one nonce, which holds the other, can have made the tag
+-- only a conversation with the one nonce, which has the other, can have made the tag
 pub record MadeByPeer (t : TagRecord) (own foreign : List ℕ) : Type 0 where
   pub tells : (setup : PeerSetup) (nonce : List ℕ) (held : Option (List ℕ)) (accepted made : List TagRecord) → length nonce ≡ 32
       → PeerTold setup nonce held accepted made → IsIn t made → (front nonce ≡ own) × (held ≡ Some foreign)
 
--- a conversation of the server with this nonce, which holds that nonce of the peer, has accepted and made these tags
+-- a conversation of the server with this nonce, which has that nonce of the peer, has accepted and made these tags
 pub record ServerTold (setup : ServerSetup) (nonce : List ℕ) (held : Option (List ℕ)) (accepted made : List TagRecord) : Type 0 where
   pub current : Option ℕ
   pub views : ServerViews
   pub tags : ServerTags (servers.own_nonce setup nonce) current views accepted made
   pub held_is : server_foreign current views ≡ held
 
--- only a conversation that holds the nonce can have made the tag
+-- only a conversation that has the nonce can have made the tag
 pub record MadeByServer (t : TagRecord) (foreign : List ℕ) : Type 0 where
   pub tells : (setup : ServerSetup) (nonce : List ℕ) (held : Option (List ℕ)) (accepted made : List TagRecord)
       → ServerTold setup nonce held accepted made → IsIn t made → held ≡ Some foreign

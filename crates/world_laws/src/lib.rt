@@ -1,4 +1,4 @@
-//! The laws of both ends over runs: what honest tags and fresh nonces bring, what one end alone knows, what a
+//! The laws of both ends over runs: what honest tags and fresh nonces imply, what one end alone knows, what a
 //! pass-through learns.
 #![tactic(auto)]
 

@@ -18,7 +18,7 @@ use eap_packet::Cause;
 use gpsk_messages::GpskView;
 use login_policy::pick_suite;
 
-/// GPSK-1 of a server that the peer accepts: the first suite of the list that it allows is taken.
+/// GPSK-1 of a server that the peer accepts: the first suite of the list that it allows is picked.
 /// `NoSuite`: there is none.
 fn pick<'a>(own: &Begun, id_s: &'a [u8], rand_s: &Nonce, list: &'a [u8]) -> Result<Offer<'a>, Cause>
     requires name { length id_s.now ≤ max_name }

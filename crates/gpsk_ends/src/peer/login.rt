@@ -105,7 +105,7 @@ impl Login {
             && suite.number() == self.keys.suite().number()
     }
 
-    /// Whether a message, which the Type-Data spells, has the MAC of the login.
+    /// Whether a message, which the Type-Data encodes, has the MAC of the login.
     pub fn is_tagged(&self, view: &GpskView, body: &[u8]) -> bool
         requires { IsHeard (message_of view.now) body.now }
         ensures { result ≡ is_tagged_by self.now (message_of view.now) }
@@ -113,7 +113,7 @@ impl Login {
         self.keys.is_tagged(view, body)
     }
 
-    /// Leaves the record of the MAC of a message, which the Type-Data spells, alone in `accepted`.
+    /// Leaves the record of the MAC of a message, which the Type-Data encodes, alone in `accepted`.
     pub fn accept(&self, view: &GpskView, body: &[u8], accepted: &mut TagList)
         requires { IsHeard (message_of view.now) body.now }
         ensures { accepted.new ≡ sk_record self.now.cred.psk (message_of view.now) ∷ [] }
@@ -191,7 +191,7 @@ impl Login {
         }
     }
 
-    /// What the peer holds where the login succeeded.
+    /// What the peer has if the login succeeded.
     #[tactic(auto, unfolding(eap_method::specs::GpskPeer::report_of))]
     pub fn report(&self) -> Report
         ensures { result ≡ report_of self.now }

@@ -1,4 +1,4 @@
-//! What a peer takes out of GPSK-1.
+//! What a peer takes from GPSK-1.
 
 ghost use Rattle.std.specs.Prelude.{◌≤◌, length};
 ghost use Rattle.eap_base.specs.Sizes.{max_name};

@@ -1,4 +1,4 @@
-//! Where a peer stands.
+//! The state of a peer of EAP-GPSK.
 
 ghost use Rattle.std.specs.Prelude.{◌≡◌};
 
@@ -6,23 +6,23 @@ use crate::nonces::Nonces;
 use crate::peer::login::{Begun, Login};
 use eap_method::Report;
 
-/// Where a peer stands in a login.
+/// The state of a peer in a login.
 #[derive(Drop)]
 pub enum Phase {
     /// It has sent GPSK-2, and awaits GPSK-3.
     Wait,
-    /// Its login is over, with success where `good`.
+    /// Its login is over, with success if `good`.
     Over { good: bool },
 }
 
-/// Where a peer stands (RFC 5433 section 3).
+/// The state of a peer (RFC 5433 section 3).
 #[derive(Drop)]
 pub enum Stage {
     /// It has not begun.
     Unset,
     /// It has begun, and awaits GPSK-1.
     Fresh { own: Begun },
-    /// It has taken GPSK-1.
+    /// It has accepted GPSK-1.
     Login { login: Login, phase: Phase },
 }
 
@@ -32,7 +32,7 @@ impl Stage {
     ghost use Rattle.gpsk_ends.specs.Failures.{peer_has_failed};
     ghost use Rattle.gpsk_ends.specs.Nonces.{peer_nonces};
 
-    /// What the peer holds where the login succeeded.
+    /// What the peer has if the login succeeded.
     pub fn report(&self) -> Option<Report>
         ensures { result ≡ report (view_of self.now) }
     {
@@ -45,7 +45,7 @@ impl Stage {
         }
     }
 
-    /// The nonces where the login succeeded.
+    /// The nonces if the login succeeded.
     pub fn nonces(&self) -> Option<Nonces>
         ensures { result ≡ peer_nonces (view_of self.now) }
     {

@@ -184,7 +184,7 @@ fn wait_reads(
     }
 }
 
-/// Why a peer whose login is over discards the Type-Data: it takes nothing.
+/// Why a peer whose login is over discards the Type-Data: it accepts nothing.
 fn over_cause(login: &Login, good: bool, body: &[u8]) -> Cause
     requires { length body.now ≤ max_type_data }
     ensures { discarded (over login.now good) result ≡ over_reads login.now good (read_of (Some (ks_of login.now.suite)) body.now) }
@@ -195,8 +195,7 @@ fn over_cause(login: &Login, good: bool, body: &[u8]) -> Cause
     }
 }
 
-/// The turn for the octets of a Request of Type 51. A discard leaves nothing that counts in `packet` and
-/// `tags`.
+/// The turn for the octets of a Request of Type 51. After a discard `packet` and `tags` are unspecified.
 #[tactic(auto, unfolding(eap_method::specs::GpskPeer::step))]
 pub fn take(stage: &mut Stage, request: &[u8], packet: &mut Packet, tags: &mut Tags) -> PeerTurn
     requires header { 5 ≤ length request.now }

@@ -1,4 +1,4 @@
-//! GPSK-2 is checked, and answered (RFC 5433 section 10).
+//! Checking and answering GPSK-2 (RFC 5433 section 10).
 
 ghost use Rattle.std.specs.Prelude.{◌≡◌, ◌≤◌, length, true, All, IsTrue, IfSome, None, option_copied};
 ghost use Rattle.eap_base.specs.Among.{gpsk_kind};

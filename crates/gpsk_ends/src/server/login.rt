@@ -148,7 +148,7 @@ impl Login {
         self.keys.suite()
     }
 
-    /// Whether a message, which the Type-Data spells, has the MAC of the login.
+    /// Whether a message, which the Type-Data encodes, has the MAC of the login.
     pub fn is_tagged(&self, view: &GpskView, body: &[u8]) -> bool
         requires { IsHeard (message_of view.now) body.now }
         ensures { result ≡ is_tagged_by self.now (message_of view.now) }
@@ -156,7 +156,7 @@ impl Login {
         self.keys.is_tagged(view, body)
     }
 
-    /// Leaves the record of the MAC of a message, which the Type-Data spells, alone in `accepted`.
+    /// Leaves the record of the MAC of a message, which the Type-Data encodes, alone in `accepted`.
     pub fn accept(&self, view: &GpskView, body: &[u8], accepted: &mut TagList)
         requires { IsHeard (message_of view.now) body.now }
         ensures { accepted.new ≡ sk_record self.now.psk (message_of view.now) ∷ [] }
@@ -217,7 +217,7 @@ impl Login {
         }
     }
 
-    /// What the server holds where the login succeeded.
+    /// What the server has if the login succeeded.
     #[tactic(auto, unfolding(eap_method::specs::GpskServer::report_of))]
     pub fn report(&self) -> Report
         ensures { result ≡ report_of self.now }

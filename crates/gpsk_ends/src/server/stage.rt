@@ -1,4 +1,4 @@
-//! Where a server stands.
+//! The state of a server of EAP-GPSK.
 
 ghost use Rattle.std.specs.Prelude.{◌≡◌};
 
@@ -7,7 +7,7 @@ use crate::server::login::{Begun, Login};
 use eap_method::Report;
 use eap_packet::Cause;
 
-/// Where a server stands that has no login.
+/// The state of a server that has no login.
 #[derive(Drop)]
 pub enum Alone {
     /// It has begun, and made no Request.
@@ -20,25 +20,25 @@ pub enum Alone {
     Refused,
 }
 
-/// Where a server stands in a login.
+/// The state of a server in a login.
 #[derive(Drop)]
 pub enum Phase {
     /// It has sent GPSK-Protected-Fail to a barred user, and awaits it back.
     Barring,
     /// It has sent GPSK-3, and awaits GPSK-4.
     Checked,
-    /// Its login is over, with success where `good`.
+    /// Its login is over, with success if `good`.
     Over { good: bool },
 }
 
-/// Where a server stands (RFC 5433 section 3).
+/// The state of a server (RFC 5433 section 3).
 #[derive(Drop)]
 pub enum Stage {
     /// It has not begun.
     Unset,
     /// It has begun.
     Alone { own: Begun, phase: Alone },
-    /// It has taken GPSK-2.
+    /// It has accepted GPSK-2.
     Login { login: Login, phase: Phase },
 }
 
@@ -48,7 +48,7 @@ impl Stage {
     ghost use Rattle.gpsk_ends.specs.Failures.{is_unknown, server_has_failed};
     ghost use Rattle.gpsk_ends.specs.Nonces.{server_nonces};
 
-    /// What the server holds where the login succeeded.
+    /// What the server has if the login succeeded.
     pub fn report(&self) -> Option<Report>
         ensures { result ≡ report (view_of self.now) }
     {
@@ -61,7 +61,7 @@ impl Stage {
         }
     }
 
-    /// The nonces where the login succeeded.
+    /// The nonces if the login succeeded.
     pub fn nonces(&self) -> Option<Nonces>
         ensures { result ≡ server_nonces (view_of self.now) }
     {
@@ -101,8 +101,8 @@ impl Stage {
     }
 }
 
-/// What comes of the Type-Data at a server that has sent GPSK-1. Where it isn't dropped, the next Request
-/// is written.
+/// The result of reading the Type-Data at a server that has sent GPSK-1. If it isn't discarded, the next
+/// Request is written.
 #[derive(Drop)]
 pub enum Answered {
     /// It is discarded.

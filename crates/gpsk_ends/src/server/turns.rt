@@ -28,8 +28,7 @@ use eap_packet::Cause;
 use gpsk_messages::GpskView;
 use login_setup::Users;
 
-/// The first Request of a server that has begun. Any other makes an empty packet, and stays where it
-/// stands.
+/// The first Request of a server that has begun. Any other makes an empty packet, and stays as it is.
 #[tactic(auto, unfolding(eap_method::specs::GpskServer::first_step))]
 pub fn ask(stage: &mut Stage, id: u8, packet: &mut Packet)
     ensures first { first_step (view_of stage.old) id ≡ record { packet = packet.new; after = view_of stage.new } }
@@ -206,8 +205,7 @@ fn login_reads(login: &Login, phase: &mut Phase, body: &[u8], tags: &mut Tags) -
     }
 }
 
-/// The turn for the octets of a Response of Type 51. A discard leaves nothing that counts in `packet` and
-/// `tags`.
+/// The turn for the octets of a Response of Type 51. After a discard `packet` and `tags` are unspecified.
 #[tactic(auto, unfolding(eap_method::specs::GpskServer::step))]
 pub fn take(
     stage: &mut Stage,

@@ -70,7 +70,7 @@ impl Login {
     ghost use Rattle.eap_method.specs.PskPeer.{rand_p_of, ak_of, keys_of, mac_p_covers, mac_p_of, mac_s_covers, mac_s_of, report_of};
     ghost use Rattle.psk_ends.specs.Nonces.{peer_nonces_of};
 
-    /// The login of a peer that has taken PSK-1.
+    /// The login of a peer that has accepted PSK-1.
     pub fn new(own: &Begun, id_s: &[u8], rand_s: &[u8; 16]) -> Login
         requires { length id_s.now ≤ max_name }
         ensures { result ≡ record { cred = own.now.cred; nonce = own.now.nonce; id_s = id_s.now; rand_s = rand_s.now } }
@@ -185,7 +185,7 @@ impl Login {
         }
     }
 
-    /// What the peer holds where the login succeeded.
+    /// What the peer has if the login succeeded.
     #[tactic(auto, unfolding(eap_method::specs::PskPeer::report_of, eap_method::specs::PskPeer::keys_of))]
     pub fn report(&self) -> Report
         ensures { result ≡ report_of self.now }

@@ -1,4 +1,4 @@
-//! PSK-3 is checked, and answered by PSK-4 (RFC 4764 sections 5.3 and 5.4).
+//! Checking PSK-3, and answering it by PSK-4 (RFC 4764 sections 5.3 and 5.4).
 
 ghost use Rattle.std.specs.Prelude.{◌≡◌, ◌≤◌, ◌<◌, [], length, not, None, Ok, IfOk};
 ghost use Rattle.eap_packet.specs.declared.cause.Cause.TheVariants.{BadTag};
@@ -72,7 +72,7 @@ fn confirm(login: &Login, id: u8, octet: u8, packet: &mut Packet, tags: &mut Tag
     }
 }
 
-/// The octet in PCHANNEL, where both tags are right and it has no fault. `BadTag`: one of them is not.
+/// The octet in PCHANNEL, if both tags are right and it has no fault. `BadTag`: one of them is not.
 fn check_tags(login: &Login, header: &[u8], psk3: &Psk3) -> Result<u8, Cause>
     ensures { result ≡ checked
         (fault_if (not (are_right login.now header.now psk3.now.mac psk3.now.tag psk3.now.sealed)) BadTag
@@ -88,7 +88,7 @@ fn check_tags(login: &Login, header: &[u8], psk3: &Psk3) -> Result<u8, Cause>
     }
 }
 
-/// The octet in PCHANNEL, where PSK-3 has no fault; else the first one, in the order of the causes.
+/// The octet in PCHANNEL, if PSK-3 has no fault; else the first one, in the order of the causes.
 fn check_psk3(login: &Login, header: &[u8], psk3: &Psk3) -> Result<u8, Cause>
     ensures { result ≡ checked
         (psk3_fault login.now header.now psk3.now.rand_s psk3.now.mac psk3.now.nonce psk3.now.tag psk3.now.sealed)
@@ -117,7 +117,7 @@ fn add_psk3(login: &Login, header: &[u8], psk3: &Psk3, accepted: &mut TagList)
     add_channel(accepted, login.psk(), 0, header, &channel);
 }
 
-/// PSK-3, with this Identifier and this header: whether the login succeeded, where it has no fault.
+/// PSK-3, with this Identifier and this header: whether the login succeeded, if it has no fault.
 #[tactic(auto, using(crate::proofs::PeerChecks::left_faultless))]
 pub fn hears_psk3(
     login: &Login,

@@ -1,4 +1,4 @@
-//! Where a peer stands.
+//! The state of a peer of EAP-PSK.
 
 ghost use Rattle.std.specs.Prelude.{◌≡◌};
 
@@ -11,18 +11,18 @@ use eap_method::Report;
 pub enum Phase {
     /// It has sent PSK-2, and awaits PSK-3.
     Wait,
-    /// It has sent PSK-4, and takes nothing more.
+    /// It has sent PSK-4, and accepts nothing more.
     Over { good: bool },
 }
 
-/// Where a peer stands.
+/// The state of a peer of EAP-PSK.
 #[derive(Drop)]
 pub enum Stage {
     /// It hasn't begun.
     Unset,
     /// It has begun, and awaits PSK-1.
     Fresh { own: Begun },
-    /// It has taken PSK-1.
+    /// It has accepted PSK-1.
     Known { login: Login, phase: Phase },
 }
 
@@ -32,7 +32,7 @@ impl Stage {
     ghost use Rattle.psk_ends.specs.Failures.{peer_has_failed};
     ghost use Rattle.psk_ends.specs.Nonces.{peer_nonces};
 
-    /// What the peer holds where the login succeeded.
+    /// What the peer has if the login succeeded.
     pub fn report(&self) -> Option<Report>
         ensures { result ≡ report (view_of self.now) }
     {
@@ -45,7 +45,7 @@ impl Stage {
         }
     }
 
-    /// The nonces where the login succeeded.
+    /// The nonces if the login succeeded.
     pub fn nonces(&self) -> Option<Nonces>
         ensures { result ≡ peer_nonces (view_of self.now) }
     {

@@ -182,7 +182,7 @@ fn over_reads(request: &[u8]) -> Cause
     }
 }
 
-/// The Response to PSK-3, where the login succeeded or not.
+/// The Response to PSK-3, by whether the login succeeded.
 fn confirmed(good: bool) -> PeerTurn
     ensures { (login : Login) (octets : List ℕ) (tags : Tags)
         → left_with result octets tags (over login good) ≡ wait_left login octets tags (Ok good) }

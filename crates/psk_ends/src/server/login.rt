@@ -201,7 +201,7 @@ impl Login {
         }
     }
 
-    /// What the server holds where the login succeeded.
+    /// What the server has if the login succeeded.
     #[tactic(auto, unfolding(eap_method::specs::PskServer::report_of, eap_method::specs::PskServer::keys_of))]
     pub fn report(&self) -> Report
         ensures { result ≡ report_of self.now }

@@ -1,4 +1,4 @@
-//! PSK-2 is checked, and answered by PSK-3 (RFC 4764 sections 5.2 and 5.3).
+//! Checking PSK-2, and answering it by PSK-3 (RFC 4764 sections 5.2 and 5.3).
 
 ghost use Rattle.std.specs.Prelude.{◌≡◌, ◌≤◌, [], length, All, IsTrue, Some, IfSome, IfOk};
 ghost use Rattle.eap_base.specs.Among.{psk_kind};
@@ -90,7 +90,7 @@ fn check(
     Ok(Some(login))
 }
 
-/// A PSK-2 that answers PSK-1, of the user of this name; None where there is none.
+/// A PSK-2 that answers PSK-1, of the user of this name; None if there is none.
 fn find(
     own: &Begun,
     next_id: u8,

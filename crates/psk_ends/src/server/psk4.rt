@@ -1,4 +1,4 @@
-//! PSK-4 is checked, and ends the login (RFC 4764 section 5.4).
+//! Checking PSK-4, which ends the login (RFC 4764 section 5.4).
 
 ghost use Rattle.std.specs.Prelude.{◌≡◌, ◌≤◌, ◌∷◌, [], length, not, None, Ok};
 ghost use Rattle.eap_packet.specs.declared.cause.Cause.TheVariants.{BadTag};
@@ -25,7 +25,7 @@ pub struct Psk4 {
     pub sealed: u8,
 }
 
-/// The octet in PCHANNEL, where the tag is right and it has no fault. `BadTag`: the tag is wrong.
+/// The octet in PCHANNEL, if the tag is right and it has no fault. `BadTag`: the tag is wrong.
 fn check_tag(login: &Login, header: &[u8], psk4: &Psk4) -> Result<u8, Cause>
     ensures { result ≡ checked
         (fault_if (not (is_sealed (keys_of login.now).tek 1 header.now psk4.now.sealed psk4.now.tag)) BadTag
@@ -38,7 +38,7 @@ fn check_tag(login: &Login, header: &[u8], psk4: &Psk4) -> Result<u8, Cause>
     }
 }
 
-/// The octet in PCHANNEL, where PSK-4 has no fault; else the first one, in the order of the causes.
+/// The octet in PCHANNEL, if PSK-4 has no fault; else the first one, in the order of the causes.
 fn check_psk4(login: &Login, header: &[u8], psk4: &Psk4) -> Result<u8, Cause>
     ensures { result ≡ checked
         (psk4_fault login.now header.now psk4.now.rand_s psk4.now.nonce psk4.now.tag psk4.now.sealed)
@@ -74,7 +74,7 @@ fn add_psk4(login: &Login, header: &[u8], psk4: &Psk4, accepted: &mut TagList)
     add_channel(accepted, login.psk(), 1, header, &channel);
 }
 
-/// PSK-4, with this header: whether the login succeeded, where it has no fault.
+/// PSK-4, with this header: whether the login succeeded, if it has no fault.
 #[tactic(auto, using(crate::proofs::ServerChecks::left_faultless))]
 pub fn hears_psk4(login: &Login, header: &[u8], psk4: &Psk4, tags: &mut Tags) -> Result<bool, Cause>
     requires header { length header.now ≤ 22 }

@@ -1,4 +1,4 @@
-//! Where a server stands.
+//! The state of a server of EAP-PSK.
 
 ghost use Rattle.std.specs.Prelude.{◌≡◌};
 
@@ -13,7 +13,7 @@ pub enum EarlyPhase {
     Begun,
     /// It has sent PSK-1, and awaits PSK-2.
     Asked,
-    /// It doesn't know the user, and takes nothing more.
+    /// It doesn't know the user, and accepts nothing more.
     Refused,
 }
 
@@ -22,18 +22,18 @@ pub enum EarlyPhase {
 pub enum KnownPhase {
     /// It has sent PSK-3, and awaits PSK-4.
     Checked,
-    /// It has taken PSK-4, and takes nothing more.
+    /// It has accepted PSK-4, and accepts nothing more.
     Over { success: bool },
 }
 
-/// Where a server stands.
+/// The state of a server of EAP-PSK.
 #[derive(Drop)]
 pub enum Stage {
     /// It hasn't begun.
     Unset,
-    /// It has begun, and has taken no PSK-2.
+    /// It has begun, and has accepted no PSK-2.
     Early { own: Begun, phase: EarlyPhase },
-    /// It has taken PSK-2.
+    /// It has accepted PSK-2.
     Known { login: Login, phase: KnownPhase },
 }
 
@@ -43,7 +43,7 @@ impl Stage {
     ghost use Rattle.psk_ends.specs.Failures.{is_unknown, server_has_failed};
     ghost use Rattle.psk_ends.specs.Nonces.{server_nonces};
 
-    /// What the server holds where the login succeeded.
+    /// What the server has if the login succeeded.
     pub fn report(&self) -> Option<Report>
         ensures { result ≡ report (view_of self.now) }
     {
@@ -56,7 +56,7 @@ impl Stage {
         }
     }
 
-    /// The nonces where the login succeeded.
+    /// The nonces if the login succeeded.
     pub fn nonces(&self) -> Option<Nonces>
         ensures { result ≡ server_nonces (view_of self.now) }
     {

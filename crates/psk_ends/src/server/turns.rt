@@ -51,8 +51,8 @@ fn ask_early(own: &Begun, phase: &mut EarlyPhase, id: u8, packet: &mut Packet)
     }
 }
 
-/// The first Request of a server that has begun. Any other makes an empty packet, and stays where it
-/// stands.
+/// The first Request of a server that has begun. Any other makes an empty packet, and stays as it
+/// is.
 #[tactic(auto, unfolding(eap_method::specs::PskServer::first_step))]
 pub fn ask(stage: &mut Stage, id: u8, packet: &mut Packet)
     ensures first { record { packet = packet.new; after = view_of stage.new } ≡ first_step (view_of stage.old) id }
