@@ -1,11 +1,12 @@
 -- Writing a line part by part, of which the last octets are held.
-use Rattle.std.proofs.Common.{◌≡◌, ℕ, ◌+◌, ◌-◌, ◌<◌, List, [], ◌∷◌, ◌++◌, length, take, drop, get_or, Option}
+use Rattle.std.proofs.Common.{◌≡◌, ℕ, ◌+◌, ◌-◌, ◌<◌, List, [], ◌∷◌, ◌++◌, length, take, drop, get_or}
 use Rattle.std.specs.Prelude.{Result, Ok, Err, IsErr, OnOk}
 use Rattle.std.proofs.Common.{refl, sym, ◌∙◌, ap, subst, arith, append_assoc, append-nil, take-append-drop, add-one, drop-cons}
 use Rattle.std.proofs.lemmas.Grind.{common_steps}
 use Rattle.hex.specs.Hex.{encode_with, encode_lower}
 use Rattle.octet_io.specs.Known.{append_known}
 use Rattle.octet_io.specs.declared.source.Failed.{Failed}
+use Rattle.octet_io.specs.Shown.{Shown}
 use Rattle.answer_text.specs.Pieces.{spelled, joined}
 use Rattle.answer_text.specs.Writes.{Appends, Puts}
 use Rattle.answer_text.specs.declared.pieces.Piece.{Piece}
@@ -36,7 +37,7 @@ range rest n =
     let all : take (length rest - n) (drop n rest) ≡ drop n rest = grind (arith, common_steps) in
     rw all (sym (take-append-drop n rest))
 
-module _ {S : Type 0} (written : S → Option (List ℕ)) (faults : S → ℕ) (last : Option ℕ) where
+module _ {S : Type 0} (shown : Shown S) where
   split_both : (held first second front rest between : List ℕ) → held ++ first ≡ front ++ rest → between ≡ rest
       → (front_2 rest_2 : List ℕ) → between ++ second ≡ front_2 ++ rest_2 → held ++ (first ++ second) ≡ (front ++ front_2) ++ rest_2
   split_both held first second front rest between a is front_2 rest_2 b =
@@ -45,14 +46,14 @@ module _ {S : Type 0} (written : S → Option (List ℕ)) (faults : S → ℕ) (
 
   -- a text in two parts: the first was put, and then the second
   pub puts_both : (result : Result (Unit {0}) Failed) (done : Unit {0}) (before mid after : S) (held between now first second : List ℕ)
-      → Puts written faults last (Ok done) before mid held between first → Puts written faults last result mid after between now second
-      → Puts written faults last result before after held now (first ++ second)
+      → Puts shown (Ok done) before mid held between first → Puts shown result mid after between now second
+      → Puts shown result before after held now (first ++ second)
   unfolding Puts
   puts_both (Ok all) done before mid after held between now first second a b = record {
     front = a.front ++ b.front;
     rest = b.rest;
     split = split_both held first second a.front a.rest between a.split a.holds b.front b.rest b.split;
-    appended = append_known_append (written before) a.front b.front ∙ ap (λ k. append_known k b.front) a.appended ∙ b.appended;
+    appended = append_known_append (shown.octets before) a.front b.front ∙ ap (λ k. append_known k b.front) a.appended ∙ b.appended;
     holds = b.holds;
     counted = tt;
     uncounted = b.uncounted ∙ a.uncounted;
@@ -62,7 +63,7 @@ module _ {S : Type 0} (written : S → Option (List ℕ)) (faults : S → ℕ) (
     front = a.front ++ b.front;
     rest = b.rest;
     split = split_both held first second a.front a.rest between a.split a.holds b.front b.rest b.split;
-    appended = append_known_append (written before) a.front b.front ∙ ap (λ k. append_known k b.front) a.appended ∙ b.appended;
+    appended = append_known_append (shown.octets before) a.front b.front ∙ ap (λ k. append_known k b.front) a.appended ∙ b.appended;
     holds = tt;
     counted = λ h. b.counted (omega arith);
     uncounted = tt;
@@ -71,7 +72,7 @@ module _ {S : Type 0} (written : S → Option (List ℕ)) (faults : S → ℕ) (
 
   -- the first part was not put whole
   pub puts_front : (result first_result : Result (Unit {0}) Failed) (before after : S) (held now other first second : List ℕ) → IsErr result → IsErr first_result
-      → Puts written faults last first_result before after held other first → Puts written faults last result before after held now (first ++ second)
+      → Puts shown first_result before after held other first → Puts shown result before after held now (first ++ second)
   unfolding Puts
   puts_front (Ok done) first_result before after held now other first second e f a = absurd cc
   puts_front (Err fault) (Ok done) before after held now other first second e f a = absurd cc
@@ -87,24 +88,24 @@ module _ {S : Type 0} (written : S → Option (List ℕ)) (faults : S → ℕ) (
   }
 
   puts_text : (result : Result (Unit {0}) Failed) (before after : S) (held now text other : List ℕ) → text ≡ other
-      → Puts written faults last result before after held now other → Puts written faults last result before after held now text
-  puts_text result before after held now text other e p = subst (λ t. Puts written faults last result before after held now t) (sym e) p
+      → Puts shown result before after held now other → Puts shown result before after held now text
+  puts_text result before after held now text other e p = subst (λ t. Puts shown result before after held now t) (sym e) p
 
   -- a text was put, and what is held was written
   pub puts_sent : (result : Result (Unit {0}) Failed) (done : Unit {0}) (before mid after : S) (held between now text : List ℕ)
-      → Puts written faults last (Ok done) before mid held between text → Puts written faults last result mid after between now []
-      → Puts written faults last result before after held now text
+      → Puts shown (Ok done) before mid held between text → Puts shown result mid after between now []
+      → Puts shown result before after held now text
   puts_sent result done before mid after held between now text a b =
       puts_text result before after held now text (text ++ []) (sym (append-nil text)) (puts_both result done before mid after held between now text [] a b)
 
   -- a text is held
-  pub puts_held : (done : Unit {0}) (before : S) (held now text : List ℕ) → now ≡ held ++ text → Puts written faults last (Ok done) before before held now text
+  pub puts_held : (done : Unit {0}) (before : S) (held now text : List ℕ) → now ≡ held ++ text → Puts shown (Ok done) before before held now text
   unfolding Puts
   puts_held done before held now text e = record {
     front = [];
     rest = held ++ text;
     split = refl;
-    appended = append_known_nil (written before);
+    appended = append_known_nil (shown.octets before);
     holds = e;
     counted = tt;
     uncounted = refl;
@@ -113,13 +114,13 @@ module _ {S : Type 0} (written : S → Option (List ℕ)) (faults : S → ℕ) (
 
   -- a text is held, and all that is held was written
   pub puts_with : (result : Result (Unit {0}) Failed) (before after : S) (held between now text : List ℕ) → between ≡ held ++ text
-      → Puts written faults last result before after between now [] → Puts written faults last result before after held now text
+      → Puts shown result before after between now [] → Puts shown result before after held now text
   puts_with result before after held between now text e p =
       puts_sent result tt before before after held between now text (puts_held tt before held between text e) p
 
   -- what is held was written
-  pub puts_written : (done all : Unit {0}) (before after : S) (held now : List ℕ) → now ≡ [] → Appends written faults last (Ok all) before after held
-      → Puts written faults last (Ok done) before after held now []
+  pub puts_written : (done all : Unit {0}) (before after : S) (held now : List ℕ) → now ≡ [] → Appends shown (Ok all) before after held
+      → Puts shown (Ok done) before after held now []
   unfolding Appends Puts
   puts_written done all before after held now e a = record {
     front = held;
@@ -133,7 +134,7 @@ module _ {S : Type 0} (written : S → Option (List ℕ)) (faults : S → ℕ) (
   }
 
   pub puts_unwritten : (result first_result : Result (Unit {0}) Failed) (before after : S) (held now : List ℕ) → IsErr result → IsErr first_result
-      → Appends written faults last first_result before after held → Puts written faults last result before after held now []
+      → Appends shown first_result before after held → Puts shown result before after held now []
   unfolding Appends Puts
   puts_unwritten (Ok done) first_result before after held now e f a = absurd cc
   puts_unwritten (Err fault) (Ok done) before after held now e f a = absurd cc
@@ -150,14 +151,14 @@ module _ {S : Type 0} (written : S → Option (List ℕ)) (faults : S → ℕ) (
 
   -- a line that was begun with nothing held is written whole
   pub appends_sent : (result : Result (Unit {0}) Failed) (done : Unit {0}) (before mid after : S) (held between now text : List ℕ) → held ≡ []
-      → Puts written faults last (Ok done) before mid held between text → Puts written faults last result mid after between now []
-      → OnOk result (now ≡ []) → Appends written faults last result before after text
+      → Puts shown (Ok done) before mid held between text → Puts shown result mid after between now []
+      → OnOk result (now ≡ []) → Appends shown result before after text
   unfolding Appends Puts
   appends_sent (Ok all) done before mid after held between now text none a b sent =
       let p = puts_sent (Ok all) done before mid after held between now text a b in
       let is : text ≡ p.front = ap (λ t. t ++ text) (sym none) ∙ p.split ∙ ap (λ t. p.front ++ t) (sym p.holds ∙ sent) ∙ append-nil p.front in
       record {
-        writes = ap (λ t. append_known (written before) t) is ∙ p.appended;
+        writes = ap (λ t. append_known (shown.octets before) t) is ∙ p.appended;
         counted = tt;
         uncounted = p.uncounted;
         never_falls = p.never_falls;
@@ -173,7 +174,7 @@ module _ {S : Type 0} (written : S → Option (List ℕ)) (faults : S → ℕ) (
 
   -- it was not put whole
   pub appends_cut : (result first_result : Result (Unit {0}) Failed) (before after : S) (held now text : List ℕ) → IsErr result → IsErr first_result → held ≡ []
-      → Puts written faults last first_result before after held now text → Appends written faults last result before after text
+      → Puts shown first_result before after held now text → Appends shown result before after text
   unfolding Appends Puts
   appends_cut (Ok done) first_result before after held now text e f none p = absurd cc
   appends_cut (Err fault) (Ok done) before after held now text e f none p = absurd cc
@@ -188,14 +189,14 @@ module _ {S : Type 0} (written : S → Option (List ℕ)) (faults : S → ℕ) (
   pub record Putting (before now : S) (held holds text rest : List ℕ) : Type 0 where
     pub front : List ℕ
     pub split : text ≡ front ++ rest
-    pub puts : Puts written faults last (Ok tt) before now held holds front
+    pub puts : Puts shown (Ok tt) before now held holds front
 
   pub putting_begins : (now : S) (held text : List ℕ) → Putting now now held held text text
   putting_begins now held text = record { front = []; split = refl; puts = puts_held tt now held held [] (sym (append-nil held)) }
 
   -- one more piece was put
   pub putting_next : (before now after : S) (held holds next text rest piece more : List ℕ) → rest ≡ piece ++ more → Putting before now held holds text rest
-      → Puts written faults last (Ok tt) now after holds next piece → Putting before after held next text more
+      → Puts shown (Ok tt) now after holds next piece → Putting before after held next text more
   putting_next before now after held holds next text rest piece more e a p = record {
     front = a.front ++ piece;
     split = a.split ∙ ap (λ t. a.front ++ t) e ∙ sym (append_assoc a.front piece more);
@@ -204,20 +205,20 @@ module _ {S : Type 0} (written : S → Option (List ℕ)) (faults : S → ℕ) (
 
   -- the rest was put, or a front of it
   pub putting_ends : (result : Result (Unit {0}) Failed) (before now after : S) (held holds next text rest : List ℕ) → Putting before now held holds text rest
-      → Puts written faults last result now after holds next rest → Puts written faults last result before after held next text
+      → Puts shown result now after holds next rest → Puts shown result before after held next text
   putting_ends result before now after held holds next text rest a r =
       puts_text result before after held next text (a.front ++ rest) a.split (puts_both result tt before now after held holds next a.front rest a.puts r)
 
   -- one more piece was not put whole
   pub putting_cut : (result first_result : Result (Unit {0}) Failed) (before now after : S) (held holds next other text rest piece more : List ℕ)
       → IsErr result → IsErr first_result → rest ≡ piece ++ more → Putting before now held holds text rest
-      → Puts written faults last first_result now after holds other piece → Puts written faults last result before after held next text
+      → Puts shown first_result now after holds other piece → Puts shown result before after held next text
   putting_cut result first_result before now after held holds next other text rest piece more is fails e a p =
       putting_ends result before now after held holds next text rest a
       (puts_text result now after holds next rest (piece ++ more) e (puts_front result first_result now after holds next other piece more is fails p))
 
   -- nothing is left
   pub putting_over : (before now : S) (held holds text rest : List ℕ) → Putting before now held holds text rest → rest ≡ []
-      → Puts written faults last (Ok tt) before now held holds text
+      → Puts shown (Ok tt) before now held holds text
   putting_over before now held holds text rest a e =
       putting_ends (Ok tt) before now now held holds holds text rest a (puts_text (Ok tt) now now holds holds rest [] e (puts_held tt now holds holds [] (sym (append-nil holds))))

@@ -1,7 +1,8 @@
 -- What a write of a text does to a sink: all of it was written, or a fault came and a prefix of it was.
-use Rattle.std.specs.Prelude.{◌≡◌, ◌≤◌, ℕ, List, ◌++◌, Option, Some, Result, Ok, Err, OnOk, OnErr}
+use Rattle.std.specs.Prelude.{◌≡◌, ◌≤◌, ℕ, List, ◌++◌, Option, Result, Ok, Err, OnOk, OnErr}
 use Rattle.octet_io.specs.Known.{append_known}
 use Rattle.octet_io.specs.declared.source.Failed.{Failed}
+use Rattle.octet_io.specs.Shown.{Shown, HasRisen}
 
 -- a prefix of the text was written
 pub record WritesFront (before after : Option (List ℕ)) (text : List ℕ) : Type 0 where
@@ -16,14 +17,14 @@ Writes (Ok done) before after text = append_known before text ≡ after
 Writes (Err fault) before after text = WritesFront before after text
 
 -- by what a sink shows of itself: its octets, its count of faults, and the last value of that count
-module _ {S : Type 0} (written : S → Option (List ℕ)) (faults : S → ℕ) (last : Option ℕ) where
+module _ {S : Type 0} (shown : Shown S) where
   -- what a writer does to a sink: the text was written, or a prefix of it; a write failed only if the count
   -- of faults rose, or is at its last value, and wherever it rose; that count never falls
   pub record Appended (result : Result (Unit {0}) Failed) (before after : S) (text : List ℕ) : Type 0 where
-    pub writes : Writes result (written before) (written after) text
-    pub counted : OnErr result (faults after ≤ faults before → last ≡ Some (faults after))
-    pub uncounted : OnOk result (faults after ≡ faults before)
-    pub never_falls : faults before ≤ faults after
+    pub writes : Writes result (shown.octets before) (shown.octets after) text
+    pub counted : OnErr result (HasRisen shown before after)
+    pub uncounted : OnOk result (shown.faults after ≡ shown.faults before)
+    pub never_falls : shown.faults before ≤ shown.faults after
 
   -- the same in a word that a search takes whole
   unfoldable pub Appends : Result (Unit {0}) Failed → S → S → List ℕ → Type 0
@@ -35,11 +36,11 @@ module _ {S : Type 0} (written : S → Option (List ℕ)) (faults : S → ℕ) (
     pub front : List ℕ
     pub rest : List ℕ
     pub split : held ++ text ≡ front ++ rest
-    pub appended : append_known (written before) front ≡ written after
+    pub appended : append_known (shown.octets before) front ≡ shown.octets after
     pub holds : OnOk result (now ≡ rest)
-    pub counted : OnErr result (faults after ≤ faults before → last ≡ Some (faults after))
-    pub uncounted : OnOk result (faults after ≡ faults before)
-    pub never_falls : faults before ≤ faults after
+    pub counted : OnErr result (HasRisen shown before after)
+    pub uncounted : OnOk result (shown.faults after ≡ shown.faults before)
+    pub never_falls : shown.faults before ≤ shown.faults after
 
   unfoldable pub Puts : Result (Unit {0}) Failed → S → S → List ℕ → List ℕ → List ℕ → Type 0
   Puts result before after held now text = Put result before after held now text

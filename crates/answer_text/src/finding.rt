@@ -12,7 +12,7 @@ use octet_io::{Failed, Sink};
 /// prefix of the line was appended.
 #[tactic(auto, unfolding(crate::specs::Findings::finding_text))]
 pub fn write_finding<W: Sink>(sink: &mut W, number: u32, finding: &Finding) -> Result<(), Failed>
-    ensures { Appends W.written W.write_faults W.last_write_fault result sink.old sink.new (finding_text number finding.now) }
+    ensures { Appends W.shown result sink.old sink.new (finding_text number finding.now) }
 {
     let number = u64::from(number);
     match finding {
@@ -49,7 +49,7 @@ pub fn write_finding_counts<W: Sink>(
     packets: u32,
     findings: u32,
 ) -> Result<(), Failed>
-    ensures { Appends W.written W.write_faults W.last_write_fault result sink.old sink.new (findings_text packets findings) }
+    ensures { Appends W.shown result sink.old sink.new (findings_text packets findings) }
 {
     write_pieces(
         sink,

@@ -19,7 +19,7 @@ use request_text::KeyLine;
 /// Writes a name and octets in hex, `-` if there are none, in one line.
 #[tactic(auto, unfolding(crate::specs::Keys::hex_line))]
 fn write_hex_line<'a, W: Sink>(sink: &mut W, name: &'a str, octets: &'a [u8]) -> Result<(), Failed>
-    ensures { Appends W.written W.write_faults W.last_write_fault result sink.old sink.new (hex_line name.now octets.now) }
+    ensures { Appends W.shown result sink.old sink.new (hex_line name.now octets.now) }
 {
     write_pieces(
         sink,
@@ -34,7 +34,7 @@ fn write_tagged<'a, W: Sink>(
     ciphertext: &'a [u8],
     tag: &'a [u8],
 ) -> Result<(), Failed>
-    ensures { Appends W.written W.write_faults W.last_write_fault result sink.old sink.new
+    ensures { Appends W.shown result sink.old sink.new
         (sealed_text (record { ciphertext = ciphertext.now; tag = tag.now })) }
 {
     write_pieces(
@@ -57,7 +57,7 @@ fn write_sealed<W: Sink>(
     header: &[u8],
     text: &mut [u8],
 ) -> Result<(), Failed>
-    ensures { Appends W.written W.write_faults W.last_write_fault result sink.old sink.new (sealed_text (eax_sealed key.now nonce.now header.now text.old)) }
+    ensures { Appends W.shown result sink.old sink.new (sealed_text (eax_sealed key.now nonce.now header.now text.old)) }
 {
     let tag = eax_seal(key, nonce, header, text);
     write_tagged(sink, text, &tag)
@@ -72,7 +72,7 @@ fn write_eax<W: Sink>(
     text: &[u8],
 ) -> Result<(), Failed>
     requires { length text.now ≤ 2000 }
-    ensures { Appends W.written W.write_faults W.last_write_fault result sink.old sink.new (sealed_text (eax_sealed key.now nonce.now header.now text.now)) }
+    ensures { Appends W.shown result sink.old sink.new (sealed_text (eax_sealed key.now nonce.now header.now text.now)) }
 {
     let mut room = [0; 2000];
     let copy = &mut room[..text.len()];
@@ -83,7 +83,7 @@ fn write_eax<W: Sink>(
 /// Writes the keys that both methods export (RFC 3748 section 7.10).
 #[tactic(auto, using(crate::proofs::Fronts::appends_both, crate::proofs::Fronts::appends_front))]
 fn write_exported<W: Sink>(sink: &mut W, msk: &[u8; 64], emsk: &[u8; 64]) -> Result<(), Failed>
-    ensures { Appends W.written W.write_faults W.last_write_fault result sink.old sink.new (exported_text msk.now emsk.now) }
+    ensures { Appends W.shown result sink.old sink.new (exported_text msk.now emsk.now) }
 {
     write_hex_line(sink, "msk", msk)?;
     write_hex_line(sink, "emsk", emsk)
@@ -92,7 +92,7 @@ fn write_exported<W: Sink>(sink: &mut W, msk: &[u8; 64], emsk: &[u8; 64]) -> Res
 /// Writes the keys of an EAP-GPSK login.
 #[tactic(auto, using(crate::proofs::Fronts::appends_both, crate::proofs::Fronts::appends_front))]
 fn write_gpsk_keys<W: Sink>(sink: &mut W, keys: &GpskKeys) -> Result<(), Failed>
-    ensures { Appends W.written W.write_faults W.last_write_fault result sink.old sink.new (gpsk_text keys.now) }
+    ensures { Appends W.shown result sink.old sink.new (gpsk_text keys.now) }
 {
     write_hex_line(sink, "mk", keys.mk.as_slice())?;
     write_exported(sink, &keys.msk, &keys.emsk)?;
@@ -103,7 +103,7 @@ fn write_gpsk_keys<W: Sink>(sink: &mut W, keys: &GpskKeys) -> Result<(), Failed>
 /// Writes the long-lived keys of EAP-PSK (RFC 4764 section 3.1).
 #[tactic(auto, using(crate::proofs::Fronts::appends_both, crate::proofs::Fronts::appends_front))]
 fn write_psk_long<W: Sink>(sink: &mut W, long: &PskLong) -> Result<(), Failed>
-    ensures { Appends W.written W.write_faults W.last_write_fault result sink.old sink.new (long_text long.now) }
+    ensures { Appends W.shown result sink.old sink.new (long_text long.now) }
 {
     write_hex_line(sink, "ak", &long.ak)?;
     write_hex_line(sink, "kdk", &long.kdk)
@@ -112,7 +112,7 @@ fn write_psk_long<W: Sink>(sink: &mut W, long: &PskLong) -> Result<(), Failed>
 /// Writes the keys of an EAP-PSK login (RFC 4764 section 3.2).
 #[tactic(auto, using(crate::proofs::Fronts::appends_both, crate::proofs::Fronts::appends_front))]
 fn write_psk_session<W: Sink>(sink: &mut W, keys: &PskKeys) -> Result<(), Failed>
-    ensures { Appends W.written W.write_faults W.last_write_fault result sink.old sink.new (session_text keys.now) }
+    ensures { Appends W.shown result sink.old sink.new (session_text keys.now) }
 {
     write_hex_line(sink, "tek", &keys.tek)?;
     write_exported(sink, &keys.msk, &keys.emsk)
@@ -121,7 +121,7 @@ fn write_psk_session<W: Sink>(sink: &mut W, keys: &PskKeys) -> Result<(), Failed
 /// Writes the keys of EAP-PSK under a shared key and a peer's random number.
 #[tactic(auto, using(crate::proofs::Fronts::appends_both, crate::proofs::Fronts::appends_front))]
 fn write_psk<W: Sink>(sink: &mut W, psk: &[u8; 16], rand_p: &[u8; 16]) -> Result<(), Failed>
-    ensures { Appends W.written W.write_faults W.last_write_fault result sink.old sink.new (psk_text psk.now rand_p.now) }
+    ensures { Appends W.shown result sink.old sink.new (psk_text psk.now rand_p.now) }
 {
     let long = psk_long(psk);
     write_psk_long(sink, &long)?;
@@ -133,7 +133,7 @@ fn write_psk<W: Sink>(sink: &mut W, psk: &[u8; 16], rand_p: &[u8; 16]) -> Result
 #[tactic(auto, unfolding(crate::specs::Keys::key_text))]
 pub fn write_key_line<W: Sink>(sink: &mut W, asked: &KeyLine) -> Result<(), Failed>
     requires { HasSizes asked.now }
-    ensures { Appends W.written W.write_faults W.last_write_fault result sink.old sink.new (key_text asked.now) }
+    ensures { Appends W.shown result sink.old sink.new (key_text asked.now) }
 {
     match asked {
         KeyLine::Aes { key, block } => {

@@ -9,7 +9,7 @@ use octet_io::{Failed, Sink};
 
 /// Writes the octets and LF. `Failed`: a write failed, and a prefix of the line was appended.
 pub fn write_line<W: Sink>(sink: &mut W, line: &[u8]) -> Result<(), Failed>
-    ensures { Appends W.written W.write_faults W.last_write_fault result sink.old sink.new (line_text line.now) }
+    ensures { Appends W.shown result sink.old sink.new (line_text line.now) }
 {
     write_pieces(sink, &[Text(line), Text(b"\n")])
 }
@@ -17,7 +17,7 @@ pub fn write_line<W: Sink>(sink: &mut W, line: &[u8]) -> Result<(), Failed>
 /// Writes the last line of a refused input, `refused line N WORD`: the number of the refused line, from
 /// 1, and why. `Failed`: a write failed, and a prefix of the line was appended.
 pub fn write_refused<W: Sink>(sink: &mut W, line: u32, word: &str) -> Result<(), Failed>
-    ensures { Appends W.written W.write_faults W.last_write_fault result sink.old sink.new (refused_text line word.now) }
+    ensures { Appends W.shown result sink.old sink.new (refused_text line word.now) }
 {
     write_pieces(
         sink,

@@ -25,7 +25,7 @@ use psk_messages::{PskView, read_psk};
 
 /// Puts the identity of an Identity Request or Response.
 fn put_identity<W: Sink>(sink: &mut W, line: &mut LineBuffer, name: &[u8]) -> Result<(), Failed>
-    ensures { Puts W.written W.write_faults W.last_write_fault result sink.old sink.new line.old line.new
+    ensures { Puts W.shown result sink.old sink.new line.old line.new
         (concat (codes "identity " ∷ hex_text name.now ∷ [])) }
 {
     put_pieces(sink, line, &[Text(b"identity "), Hex(name)])
@@ -34,14 +34,14 @@ fn put_identity<W: Sink>(sink: &mut W, line: &mut LineBuffer, name: &[u8]) -> Re
 /// Puts an octet as a decimal number, after a space.
 #[tactic(auto, unfolding(crate::specs::PacketParts::number_text))]
 fn put_octet<W: Sink>(sink: &mut W, line: &mut LineBuffer, octet: u8) -> Result<(), Failed>
-    ensures { Puts W.written W.write_faults W.last_write_fault result sink.old sink.new line.old line.new (number_text octet) }
+    ensures { Puts W.shown result sink.old sink.new line.old line.new (number_text octet) }
 {
     put_pieces(sink, line, &[Text(b" "), Number(u64::from(octet))])
 }
 
 /// Puts octets as decimal numbers, each after a space.
 fn put_numbers<W: Sink>(sink: &mut W, line: &mut LineBuffer, octets: &[u8]) -> Result<(), Failed>
-    ensures { Puts W.written W.write_faults W.last_write_fault result sink.old sink.new line.old line.new (numbers_text octets.now) }
+    ensures { Puts W.shown result sink.old sink.new line.old line.new (numbers_text octets.now) }
 {
     for octet in octets {
         put_octet(sink, line, *octet)?;
@@ -52,7 +52,7 @@ fn put_numbers<W: Sink>(sink: &mut W, line: &mut LineBuffer, octets: &[u8]) -> R
 /// Puts the methods that a Nak desires.
 #[tactic(auto, using(crate::proofs::Putting::puts_both, crate::proofs::Putting::puts_front))]
 fn put_nak<W: Sink>(sink: &mut W, line: &mut LineBuffer, desired: &[u8]) -> Result<(), Failed>
-    ensures { Puts W.written W.write_faults W.last_write_fault result sink.old sink.new line.old line.new (nak_word ++ numbers_text desired.now) }
+    ensures { Puts W.shown result sink.old sink.new line.old line.new (nak_word ++ numbers_text desired.now) }
 {
     put_nak_word(sink, line)?;
     put_numbers(sink, line, desired)
@@ -60,7 +60,7 @@ fn put_nak<W: Sink>(sink: &mut W, line: &mut LineBuffer, desired: &[u8]) -> Resu
 
 #[tactic(auto, unfolding(crate::specs::PacketParts::nak_word))]
 fn put_nak_word<W: Sink>(sink: &mut W, line: &mut LineBuffer) -> Result<(), Failed>
-    ensures { Puts W.written W.write_faults W.last_write_fault result sink.old sink.new line.old line.new nak_word }
+    ensures { Puts W.shown result sink.old sink.new line.old line.new nak_word }
 {
     put_pieces(sink, line, &[Text(b"nak")])
 }
@@ -79,7 +79,7 @@ fn name_of_psk(body: &[u8]) -> &'static str
 }
 
 fn put_psk_note<W: Sink>(sink: &mut W, line: &mut LineBuffer, body: &[u8]) -> Result<(), Failed>
-    ensures { Puts W.written W.write_faults W.last_write_fault result sink.old sink.new line.old line.new (psk_note (psk_reading.read_of body.now)) }
+    ensures { Puts W.shown result sink.old sink.new line.old line.new (psk_note (psk_reading.read_of body.now)) }
 {
     put_pieces(sink, line, &[Text(name_of_psk(body).as_bytes())])
 }
@@ -91,7 +91,7 @@ fn put_code<W: Sink>(
     name: &str,
     code: u32,
 ) -> Result<(), Failed>
-    ensures { Puts W.written W.write_faults W.last_write_fault result sink.old sink.new line.old line.new (concat (name.now ∷ decimal code ∷ [])) }
+    ensures { Puts W.shown result sink.old sink.new line.old line.new (concat (name.now ∷ decimal code ∷ [])) }
 {
     put_pieces(
         sink,
@@ -102,7 +102,7 @@ fn put_code<W: Sink>(
 
 /// Puts the name of an EAP-GPSK message, or why it is none.
 fn put_gpsk_note<W: Sink>(sink: &mut W, line: &mut LineBuffer, body: &[u8]) -> Result<(), Failed>
-    ensures { Puts W.written W.write_faults W.last_write_fault result sink.old sink.new line.old line.new (gpsk_note (gpsk_reading.read_of None body.now)) }
+    ensures { Puts W.shown result sink.old sink.new line.old line.new (gpsk_note (gpsk_reading.read_of None body.now)) }
 {
     match read_gpsk(body, None) {
         Ok(GpskView::M1 { .. }) => put_pieces(sink, line, &[Text(b"gpsk-1")]),
@@ -127,7 +127,7 @@ fn put_expanded<W: Sink>(
     view: &PacketView,
 ) -> Result<(), Failed>
     requires { view.now.kind ≡ expanded_kind }
-    ensures { Puts W.written W.write_faults W.last_write_fault result sink.old sink.new line.old line.new (expanded_note (expanded_of view.now.body.now)) }
+    ensures { Puts W.shown result sink.old sink.new line.old line.new (expanded_note (expanded_of view.now.body.now)) }
 {
     match read_expanded(view) {
         None => put_pieces(sink, line, &[Text(Cause::BadExpanded.word().as_bytes())]),
@@ -150,7 +150,7 @@ fn put_expanded<W: Sink>(
 #[tactic(auto, unfolding(crate::specs::Packets::note_text, crate::specs::PacketParts::nak_word))]
 fn put_note<W: Sink>(sink: &mut W, line: &mut LineBuffer, view: &PacketView) -> Result<(), Failed>
     requires { length view.now.body.now ≤ max_packet }
-    ensures { Puts W.written W.write_faults W.last_write_fault result sink.old sink.new line.old line.new (note_text view.now.kind view.now.body.now) }
+    ensures { Puts W.shown result sink.old sink.new line.old line.new (note_text view.now.kind view.now.body.now) }
 {
     match view.kind {
         IDENTITY => put_identity(sink, line, view.body),
@@ -173,7 +173,7 @@ fn put_head<W: Sink>(
     octets: usize,
 ) -> Result<(), Failed>
     requires { length view.now.whole.now ≤ octets }
-    ensures { Puts W.written W.write_faults W.last_write_fault result sink.old sink.new line.old line.new
+    ensures { Puts W.shown result sink.old sink.new line.old line.new
         (head_text number code.now view.now.id view.now.kind (length view.now.whole.now) octets) }
 {
     put_pieces(
@@ -198,7 +198,7 @@ fn put_head<W: Sink>(
 
 #[tactic(auto, unfolding(crate::specs::PacketParts::line_end))]
 fn put_line_end<W: Sink>(sink: &mut W, line: &mut LineBuffer) -> Result<(), Failed>
-    ensures { Puts W.written W.write_faults W.last_write_fault result sink.old sink.new line.old line.new line_end }
+    ensures { Puts W.shown result sink.old sink.new line.old line.new line_end }
 {
     put_pieces(sink, line, &[Text(b"\n")])
 }
@@ -215,7 +215,7 @@ fn put_parts<W: Sink>(
 ) -> Result<(), Failed>
     requires whole { length view.now.whole.now ≤ octets }
     requires body { length view.now.body.now ≤ max_packet }
-    ensures { Puts W.written W.write_faults W.last_write_fault result sink.old sink.new line.old line.new
+    ensures { Puts W.shown result sink.old sink.new line.old line.new
         (head_text number code.now view.now.id view.now.kind (length view.now.whole.now) octets
         ++ (note_text view.now.kind view.now.body.now ++ line_end)) }
 {
@@ -235,7 +235,7 @@ fn put_typed<W: Sink>(
 ) -> Result<(), Failed>
     requires whole { length view.now.whole.now ≤ octets }
     requires body { length view.now.body.now ≤ max_packet }
-    ensures { Puts W.written W.write_faults W.last_write_fault result sink.old sink.new line.old line.new
+    ensures { Puts W.shown result sink.old sink.new line.old line.new
         (typed_text number code.now view.now.id view.now.kind view.now.body.now (length view.now.whole.now) octets) }
 {
     put_parts(sink, line, number, code, view, octets)
@@ -251,7 +251,7 @@ fn put_end_line<W: Sink>(
     octets: usize,
 ) -> Result<(), Failed>
     requires { length view.now.whole.now ≤ octets }
-    ensures { Puts W.written W.write_faults W.last_write_fault result sink.old sink.new line.old line.new
+    ensures { Puts W.shown result sink.old sink.new line.old line.new
         (end_line_text number code.now view.now.id (length view.now.whole.now) octets) }
 {
     put_pieces(
@@ -279,7 +279,7 @@ fn put_malformed<W: Sink>(
     number: u32,
     cause: Cause,
 ) -> Result<(), Failed>
-    ensures { Puts W.written W.write_faults W.last_write_fault result sink.old sink.new line.old line.new (malformed_text number cause) }
+    ensures { Puts W.shown result sink.old sink.new line.old line.new (malformed_text number cause) }
 {
     put_pieces(
         sink,
@@ -302,7 +302,7 @@ fn put_view<W: Sink>(
 ) -> Result<(), Failed>
     requires whole { length view.now.whole.now ≤ octets }
     requires body { length view.now.body.now ≤ max_packet }
-    ensures { Puts W.written W.write_faults W.last_write_fault result sink.old sink.new line.old line.new
+    ensures { Puts W.shown result sink.old sink.new line.old line.new
         (value_text number (value_of view.now) (length view.now.whole.now) octets) }
 {
     match view.code {
@@ -320,7 +320,7 @@ fn put_packet<W: Sink>(
     number: u32,
     octets: &[u8],
 ) -> Result<(), Failed>
-    ensures { Puts W.written W.write_faults W.last_write_fault result sink.old sink.new line.old line.new (packet_text number octets.now) }
+    ensures { Puts W.shown result sink.old sink.new line.old line.new (packet_text number octets.now) }
 {
     match decode(octets) {
         Ok(view) => put_view(sink, line, number, &view, octets.len()),
@@ -332,7 +332,7 @@ fn put_packet<W: Sink>(
 /// says; or why it is malformed. `Failed`: a write failed, and a prefix of the line was appended.
 #[tactic(auto, using(crate::proofs::Putting::appends_sent, crate::proofs::Putting::appends_cut))]
 pub fn write_packet<W: Sink>(sink: &mut W, number: u32, octets: &[u8]) -> Result<(), Failed>
-    ensures { Appends W.written W.write_faults W.last_write_fault result sink.old sink.new (packet_text number octets.now) }
+    ensures { Appends W.shown result sink.old sink.new (packet_text number octets.now) }
 {
     let mut line = LineBuffer::new();
     put_packet(sink, &mut line, number, octets)?;
@@ -347,7 +347,7 @@ pub fn write_packet_counts<W: Sink>(
     packets: u32,
     malformed: u32,
 ) -> Result<(), Failed>
-    ensures { Appends W.written W.write_faults W.last_write_fault result sink.old sink.new (packets_text packets malformed) }
+    ensures { Appends W.shown result sink.old sink.new (packets_text packets malformed) }
 {
     write_pieces(
         sink,

@@ -11,14 +11,14 @@ use octet_io::{Failed, Sink};
 
 /// Puts a state of a path, after a space.
 fn put_state<W: Sink>(sink: &mut W, line: &mut LineBuffer, state: State) -> Result<(), Failed>
-    ensures { Puts W.written W.write_faults W.last_write_fault result sink.old sink.new line.old line.new (state_text state) }
+    ensures { Puts W.shown result sink.old sink.new line.old line.new (state_text state) }
 {
     put_pieces(sink, line, &[Text(b" "), Text(state.word().as_bytes())])
 }
 
 /// Puts the states of a path, each after a space, and the end of the line.
 fn put_states<W: Sink>(sink: &mut W, line: &mut LineBuffer, states: &[State]) -> Result<(), Failed>
-    ensures { Puts W.written W.write_faults W.last_write_fault result sink.old sink.new line.old line.new (states_text states.now) }
+    ensures { Puts W.shown result sink.old sink.new line.old line.new (states_text states.now) }
 {
     for state in states {
         put_state(sink, line, *state)?;
@@ -32,7 +32,7 @@ pub fn put_path<W: Sink>(
     line: &mut LineBuffer,
     states: &[State],
 ) -> Result<(), Failed>
-    ensures { Puts W.written W.write_faults W.last_write_fault result sink.old sink.new line.old line.new (path_text states.now) }
+    ensures { Puts W.shown result sink.old sink.new line.old line.new (path_text states.now) }
 {
     if states.is_empty() {
         put_pieces(sink, line, &[Text(b" -\n")])
@@ -49,7 +49,7 @@ fn put_states_line<W: Sink>(
     number: u32,
     path: &[State],
 ) -> Result<(), Failed>
-    ensures { Puts W.written W.write_faults W.last_write_fault result sink.old sink.new line.old line.new (states_line number path.now) }
+    ensures { Puts W.shown result sink.old sink.new line.old line.new (states_line number path.now) }
 {
     put_number(sink, line, u64::from(number))?;
     put_path(sink, line, path)
@@ -59,7 +59,7 @@ fn put_states_line<W: Sink>(
 /// the line was appended.
 #[tactic(auto, using(crate::proofs::Putting::appends_sent, crate::proofs::Putting::appends_cut))]
 pub fn write_states<W: Sink>(sink: &mut W, number: u32, path: &[State]) -> Result<(), Failed>
-    ensures { Appends W.written W.write_faults W.last_write_fault result sink.old sink.new (states_line number path.now) }
+    ensures { Appends W.shown result sink.old sink.new (states_line number path.now) }
 {
     let mut line = LineBuffer::new();
     put_states_line(sink, &mut line, number, path)?;
@@ -68,7 +68,7 @@ pub fn write_states<W: Sink>(sink: &mut W, number: u32, path: &[State]) -> Resul
 
 /// Writes the line of a discard, if there was one. `Failed`: a write failed, and a prefix of the line was appended.
 pub fn write_cause<W: Sink>(sink: &mut W, event: u32, cause: Option<Cause>) -> Result<(), Failed>
-    ensures { Appends W.written W.write_faults W.last_write_fault result sink.old sink.new (cause_text event cause) }
+    ensures { Appends W.shown result sink.old sink.new (cause_text event cause) }
 {
     match cause {
         None => write_nothing(sink),

@@ -26,7 +26,7 @@ const STRETCH: usize = 32;
 
 /// Writes octets whole, in as many writes as the sink asks for.
 fn write_whole<W: Sink>(sink: &mut W, octets: &[u8]) -> Result<(), Failed>
-    ensures { Appends W.written W.write_faults W.last_write_fault result sink.old sink.new octets.now }
+    ensures { Appends W.shown result sink.old sink.new octets.now }
 {
     let mut rest = octets;
     while !rest.is_empty() {
@@ -39,7 +39,7 @@ fn write_whole<W: Sink>(sink: &mut W, octets: &[u8]) -> Result<(), Failed>
 /// Writes what is buffered of a line.
 #[tactic(auto, using(crate::proofs::Putting::puts_written, crate::proofs::Putting::puts_unwritten))]
 pub fn send<W: Sink>(sink: &mut W, line: &mut LineBuffer) -> Result<(), Failed>
-    ensures puts { Puts W.written W.write_faults W.last_write_fault result sink.old sink.new line.old line.new [] }
+    ensures puts { Puts W.shown result sink.old sink.new line.old line.new [] }
     ensures sent { OnOk result (line.new ≡ []) }
 {
     write_whole(sink, line.as_slice())?;
@@ -51,7 +51,7 @@ pub fn send<W: Sink>(sink: &mut W, line: &mut LineBuffer) -> Result<(), Failed>
 #[tactic(auto, using(crate::proofs::Putting::puts_with))]
 fn send_with<W: Sink>(sink: &mut W, line: &mut LineBuffer, octets: &[u8]) -> Result<(), Failed>
     requires { length line.old + length octets.now ≤ 1024 }
-    ensures puts { Puts W.written W.write_faults W.last_write_fault result sink.old sink.new line.old line.new octets.now }
+    ensures puts { Puts W.shown result sink.old sink.new line.old line.new octets.now }
     ensures sent { OnOk result (line.new ≡ []) }
 {
     line.append(octets);
@@ -60,7 +60,7 @@ fn send_with<W: Sink>(sink: &mut W, line: &mut LineBuffer, octets: &[u8]) -> Res
 
 /// Appends octets to a line, and writes it whenever it is full.
 fn put_octets<W: Sink>(sink: &mut W, line: &mut LineBuffer, octets: &[u8]) -> Result<(), Failed>
-    ensures { Puts W.written W.write_faults W.last_write_fault result sink.old sink.new line.old line.new octets.now }
+    ensures { Puts W.shown result sink.old sink.new line.old line.new octets.now }
 {
     let mut rest = octets;
     while rest.len() > line.room() {
@@ -75,7 +75,7 @@ fn put_octets<W: Sink>(sink: &mut W, line: &mut LineBuffer, octets: &[u8]) -> Re
 /// Appends octets to a line, and writes it if they end it.
 #[tactic(auto, using(crate::proofs::Putting::puts_sent, crate::proofs::Putting::puts_front))]
 fn put_text<W: Sink>(sink: &mut W, line: &mut LineBuffer, octets: &[u8]) -> Result<(), Failed>
-    ensures { Puts W.written W.write_faults W.last_write_fault result sink.old sink.new line.old line.new octets.now }
+    ensures { Puts W.shown result sink.old sink.new line.old line.new octets.now }
 {
     put_octets(sink, line, octets)?;
     if octets.ends_with(&[LF]) {
@@ -97,7 +97,7 @@ fn digits_of<'a>(octets: &[u8], room: &'a mut [u8; 2 * STRETCH]) -> &'a [u8]
 
 /// Appends octets in hex to a line.
 fn put_digits<W: Sink>(sink: &mut W, line: &mut LineBuffer, octets: &[u8]) -> Result<(), Failed>
-    ensures { Puts W.written W.write_faults W.last_write_fault result sink.old sink.new line.old line.new (encode_lower octets.now) }
+    ensures { Puts W.shown result sink.old sink.new line.old line.new (encode_lower octets.now) }
 {
     let mut room = [0; 2 * STRETCH];
     let mut rest = octets;
@@ -111,7 +111,7 @@ fn put_digits<W: Sink>(sink: &mut W, line: &mut LineBuffer, octets: &[u8]) -> Re
 
 /// Appends octets in hex to a line, `-` if there are none.
 fn put_hex<W: Sink>(sink: &mut W, line: &mut LineBuffer, octets: &[u8]) -> Result<(), Failed>
-    ensures { Puts W.written W.write_faults W.last_write_fault result sink.old sink.new line.old line.new (hex_text octets.now) }
+    ensures { Puts W.shown result sink.old sink.new line.old line.new (hex_text octets.now) }
 {
     if octets.is_empty() {
         put_octets(sink, line, b"-")
@@ -122,7 +122,7 @@ fn put_hex<W: Sink>(sink: &mut W, line: &mut LineBuffer, octets: &[u8]) -> Resul
 
 /// Appends a decimal number to a line.
 pub fn put_number<W: Sink>(sink: &mut W, line: &mut LineBuffer, number: u64) -> Result<(), Failed>
-    ensures { Puts W.written W.write_faults W.last_write_fault result sink.old sink.new line.old line.new (decimal number) }
+    ensures { Puts W.shown result sink.old sink.new line.old line.new (decimal number) }
 {
     let mut buffer = Buffer::new();
     put_octets(sink, line, buffer.format(number).as_bytes())
@@ -130,7 +130,7 @@ pub fn put_number<W: Sink>(sink: &mut W, line: &mut LineBuffer, number: u64) -> 
 
 /// Appends a piece to a line, and writes it if the piece ends it.
 fn put_piece<W: Sink>(sink: &mut W, line: &mut LineBuffer, piece: Piece) -> Result<(), Failed>
-    ensures { Puts W.written W.write_faults W.last_write_fault result sink.old sink.new line.old line.new (spelled piece.entry) }
+    ensures { Puts W.shown result sink.old sink.new line.old line.new (spelled piece.entry) }
 {
     match piece {
         Piece::Text(octets) => put_text(sink, line, octets),
@@ -146,7 +146,7 @@ pub fn put_pieces<W: Sink>(
     pieces: &[Piece],
 ) -> Result<(), Failed>
     ensures { (text : List ℕ) → text ≡ joined pieces.now
-        → Puts W.written W.write_faults W.last_write_fault result sink.old sink.new line.old line.new text }
+        → Puts W.shown result sink.old sink.new line.old line.new text }
 {
     for piece in pieces {
         put_piece(sink, line, *piece)?;
@@ -158,7 +158,7 @@ pub fn put_pieces<W: Sink>(
 /// prefix of that text was appended.
 pub fn write_pieces<W: Sink>(sink: &mut W, pieces: &[Piece]) -> Result<(), Failed>
     ensures { (text : List ℕ) → text ≡ joined pieces.now
-        → Appends W.written W.write_faults W.last_write_fault result sink.old sink.new text }
+        → Appends W.shown result sink.old sink.new text }
 {
     let mut line = LineBuffer::new();
     put_pieces(sink, &mut line, pieces)?;
@@ -168,7 +168,7 @@ pub fn write_pieces<W: Sink>(sink: &mut W, pieces: &[Piece]) -> Result<(), Faile
 /// Writes nothing.
 #[tactic(auto, using(crate::proofs::Fronts::appends_none))]
 pub fn write_nothing<W: Sink>(sink: &mut W) -> Result<(), Failed>
-    ensures { Appends W.written W.write_faults W.last_write_fault result sink.old sink.new [] }
+    ensures { Appends W.shown result sink.old sink.new [] }
 {
     Ok(())
 }

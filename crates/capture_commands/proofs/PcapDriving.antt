@@ -2,6 +2,7 @@
 use Rattle.std.proofs.Common.{◌≡◌, ◌≢◌, ℕ, ◌+◌, ◌≤◌, List, [], ◌++◌, Bool, true, false, if◌then◌else◌, Option, Some, refl, sym, ◌∙◌, ap, subst, append_assoc, arith}
 use Rattle.std.specs.Prelude.{option_map}
 use Rattle.octet_io.specs.Known.{append_known}
+use Rattle.octet_io.specs.Shown.{Shown}
 use Rattle.login_setup.specs.declared.users.User.{User}
 use Rattle.eapol_capture.specs.Files.{Contents, ends, record_of}
 use Rattle.eapol_capture.specs.Frames.{Carried, other, cut, eap, carried}
@@ -28,9 +29,10 @@ divides_last answer.Read begun frame before after r f d = absurd (f refl)
 divides_last a begun frame before after r f d = d
 
 -- and leaves the count of failed reads as it was
-pub faults_last : (a : NextRecord) (last : Option ℕ) (before after : ℕ) → a ≢ answer.Read → Faults a last before after → after ≡ before
-faults_last answer.Read last before after f h = absurd (f refl)
-faults_last a last before after f h = h
+pub faults_last : {S : Type 0} (shown : Shown S) (a : NextRecord) (before after : S) → a ≢ answer.Read
+    → Faults shown a before after → shown.faults after ≡ shown.faults before
+faults_last shown answer.Read before after f h = absurd (f refl)
+faults_last shown a before after f h = h
 
 -- and begins as many records as it says
 pub begun_last : (a : NextRecord) (start : ℕ) (after : Reading) → a ≢ answer.Read → begun a start after ≡ begun_in a after.order

@@ -59,7 +59,7 @@ impl Check {
     ) -> Result<Next, Trouble>
         requires packets { self.old.packets < 2 ^ 31 }
         requires findings { self.old.findings < 2 ^ 31 }
-        ensures answers { AnswersLine W.written W.write_faults W.last_write_fault result sink.old sink.new
+        ensures answers { AnswersLine W.shown result sink.old sink.new
             (packet_step self.old self.old.reader to_peer octets.now) false self.new }
         ensures after { self.new ≡ (packet_step self.old self.old.reader to_peer octets.now).after }
     {
@@ -75,8 +75,7 @@ impl Check {
     /// The end of the input, after the line `end`.
     #[tactic(auto, unfolding(answer_text::specs::Writes::Appends))]
     fn end<W: Sink>(&self, sink: &mut W) -> Result<Close, Failed>
-        ensures { AnswersEnd W.written W.write_faults W.last_write_fault result sink.old sink.new
-            (check_end self.now.packets self.now.findings (Ok tt)) }
+        ensures { AnswersEnd W.shown result sink.old sink.new (check_end self.now.packets self.now.findings (Ok tt)) }
     {
         match write_finding_counts(sink, self.packets, self.findings) {
             Ok(()) => {
@@ -134,8 +133,7 @@ impl Command for Check {
 /// Reads a capture and writes the finding of each packet. The status is `Findings` if the capture was read to its
 /// end and a packet is malformed or has a bad tag. It allocates no memory.
 pub fn check_capture<S: Source, W: Sink>(source: &mut S, sink: &mut W) -> Status
-    ensures { Responds S.left S.read_faults S.last_read_fault W.written W.write_faults W.last_write_fault
-        (reading check_answer never) result source.old source.new sink.old sink.new }
+    ensures { Responds S.shown W.shown (reading check_answer never) result source.old source.new sink.old sink.new }
 {
     drive(&mut Check::new(), source, sink)
 }

@@ -87,7 +87,7 @@ impl Found {
         requires keys { All (λ user. IsTrue (fits_kind user.kind user.psk)) users.now }
         requires packets { self.old.packets < 2 ^ 31 }
         requires findings { self.old.findings < 2 ^ 31 }
-        ensures appends { Appends W.written W.write_faults W.last_write_fault result sink.old sink.new
+        ensures appends { Appends W.shown result sink.old sink.new
             (record_step users.now self.old number (carried frame.now)).text }
         ensures after { self.new ≡ (record_step users.now self.old number (carried frame.now)).after }
     {
@@ -113,7 +113,7 @@ impl Found {
         requires keys { All (λ user. IsTrue (fits_kind user.kind user.psk)) users.now }
         requires packets { self.old.packets < 2 ^ 31 }
         requires findings { self.old.findings < 2 ^ 31 }
-        ensures appends { Appends W.written W.write_faults W.last_write_fault result sink.old sink.new
+        ensures appends { Appends W.shown result sink.old sink.new
             (record_step users.now self.old number (eap octets.now)).text }
         ensures after { self.new ≡ (record_step users.now self.old number (eap octets.now)).after }
     {
@@ -125,7 +125,7 @@ impl Found {
 
     /// Handles the end of the file, if the record last begun has this number.
     fn close<W: Sink>(&self, sink: &mut W, number: u32, answer: NextRecord) -> Status
-        ensures finishes { Finishes W.written W.write_faults W.last_write_fault result sink.old sink.new
+        ensures finishes { Finishes W.shown result sink.old sink.new
             (file_end number self.now.packets self.now.findings answer) }
         ensures drains { (left : Option (List ℕ)) → Exhausts answer left → Drains result left }
     {
@@ -138,7 +138,7 @@ impl Found {
     /// Writes how many records there were, and what was found in them.
     #[tactic(auto, unfolding(answer_text::specs::Writes::Appends))]
     fn end<W: Sink>(&self, sink: &mut W, number: u32) -> Status
-        ensures finishes { Finishes W.written W.write_faults W.last_write_fault result sink.old sink.new
+        ensures finishes { Finishes W.shown result sink.old sink.new
             (file_end number self.now.packets self.now.findings NextRecord.End) }
     {
         match write_records(sink, number, self.packets, self.findings) {
@@ -157,7 +157,7 @@ impl Found {
 /// Writes that the packet in a record is cut.
 #[tactic(auto, unfolding(crate::specs::Pcap::cut_text))]
 fn write_cut<W: Sink>(sink: &mut W, number: u32) -> Result<(), Failed>
-    ensures { Appends W.written W.write_faults W.last_write_fault result sink.old sink.new (cut_text number) }
+    ensures { Appends W.shown result sink.old sink.new (cut_text number) }
 {
     write_pieces(sink, &[Number(u64::from(number)), Text(b" eapol-cut\n")])
 }
@@ -170,7 +170,7 @@ fn write_records<W: Sink>(
     packets: u32,
     findings: u32,
 ) -> Result<(), Failed>
-    ensures { Appends W.written W.write_faults W.last_write_fault result sink.old sink.new (records_text records packets findings) }
+    ensures { Appends W.shown result sink.old sink.new (records_text records packets findings) }
 {
     write_pieces(
         sink,
@@ -217,7 +217,7 @@ fn status_of(answer: NextRecord) -> Status
 /// Writes the last line of a refused file, and ends with its status.
 #[tactic(auto, unfolding(answer_text::specs::Writes::Appends))]
 fn refuse_file<W: Sink>(sink: &mut W, number: u32, answer: NextRecord) -> Status
-    ensures finishes { Finishes W.written W.write_faults W.last_write_fault result sink.old sink.new (file_refusal number answer) }
+    ensures finishes { Finishes W.shown result sink.old sink.new (file_refusal number answer) }
     ensures drains { (left : Option (List ℕ)) → Drains result left }
 {
     match write_refused_record(sink, number, word_of(answer)) {
@@ -228,7 +228,7 @@ fn refuse_file<W: Sink>(sink: &mut W, number: u32, answer: NextRecord) -> Status
 
 #[tactic(auto, unfolding(crate::specs::Pcap::refused_record_text))]
 fn write_refused_record<W: Sink>(sink: &mut W, number: u32, word: &str) -> Result<(), Failed>
-    ensures { Appends W.written W.write_faults W.last_write_fault result sink.old sink.new (refused_record_text number word.now) }
+    ensures { Appends W.shown result sink.old sink.new (refused_record_text number word.now) }
 {
     write_pieces(
         sink,
@@ -247,7 +247,7 @@ fn write_refused_record<W: Sink>(sink: &mut W, number: u32, word: &str) -> Resul
 /// cut.
 pub fn judge_file<S: Source, W: Sink>(users: &Users, source: &mut S, sink: &mut W) -> Status
     requires { All (λ user. IsTrue (fits_kind user.kind user.psk)) users.now }
-    ensures { Responds S.left S.read_faults S.last_read_fault W.written W.write_faults W.last_write_fault
+    ensures { Responds S.shown W.shown
         (reading (pcap_answer users.now) never) result source.old source.new sink.old sink.new }
 {
     let mut reader = PcapReader::new();

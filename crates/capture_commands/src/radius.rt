@@ -49,7 +49,7 @@ pub struct Radius {
 /// Writes a word and octets in hex, in one line.
 #[tactic(auto, unfolding(crate::specs::Radius::hex_line))]
 fn write_hex<'a, W: Sink>(sink: &mut W, word: &'a [u8], octets: &'a [u8]) -> Result<(), Failed>
-    ensures { Appends W.written W.write_faults W.last_write_fault result sink.old sink.new (hex_line word.now octets.now) }
+    ensures { Appends W.shown result sink.old sink.new (hex_line word.now octets.now) }
 {
     write_pieces(sink, &[Text(word), Text(b" "), Hex(octets), Text(b"\n")])
 }
@@ -57,7 +57,7 @@ fn write_hex<'a, W: Sink>(sink: &mut W, word: &'a [u8], octets: &'a [u8]) -> Res
 /// Writes two words in one line.
 #[tactic(auto, unfolding(crate::specs::Radius::word_line))]
 fn write_words<'a, W: Sink>(sink: &mut W, word: &'a [u8], next: &'a [u8]) -> Result<(), Failed>
-    ensures { Appends W.written W.write_faults W.last_write_fault result sink.old sink.new (word_line word.now next.now) }
+    ensures { Appends W.shown result sink.old sink.new (word_line word.now next.now) }
 {
     write_pieces(sink, &[Text(word), Text(b" "), Text(next), Text(b"\n")])
 }
@@ -93,7 +93,7 @@ fn write_read<'a, W: Sink>(
     eap: &'a [u8],
     found: &'a [u8],
 ) -> Result<(), Failed>
-    ensures { Appends W.written W.write_faults W.last_write_fault result sink.old sink.new (read_text kind.now id eap.now found.now) }
+    ensures { Appends W.shown result sink.old sink.new (read_text kind.now id eap.now found.now) }
 {
     write_pieces(
         sink,
@@ -119,7 +119,7 @@ fn write_packet<W: Sink>(
     judgement: Judgement,
 ) -> Result<(), Failed>
     requires { IsRadius (value_of view.now) view.now.whole.now }
-    ensures { Appends W.written W.write_faults W.last_write_fault result sink.old sink.new (packet_line (value_of view.now) judgement) }
+    ensures { Appends W.shown result sink.old sink.new (packet_line (value_of view.now) judgement) }
 {
     let eap = eap_of(view);
     write_read(
@@ -233,7 +233,7 @@ impl Radius {
         state: &Octets<64>,
         eap: &Packet,
     ) -> Result<Next, Trouble>
-        ensures answers { AnswersLine W.written W.write_faults W.last_write_fault result sink.old sink.new
+        ensures answers { AnswersLine W.shown result sink.old sink.new
             (item_took self.old (item.Request asked.id asked.authenticator user.now state.now eap.now)) false self.new }
     {
         let packet = write_request(
@@ -260,7 +260,7 @@ impl Radius {
         state: &Octets<64>,
         eap: &Packet,
     ) -> Result<Next, Trouble>
-        ensures answers { AnswersLine W.written W.write_faults W.last_write_fault result sink.old sink.new
+        ensures answers { AnswersLine W.shown result sink.old sink.new
             (reply_took self.now self.now.asked kind state.now eap.now) false self.now }
     {
         let written = match &self.asked {
@@ -286,7 +286,7 @@ impl Radius {
     /// Reads a packet and says what it is.
     #[tactic(auto, unfolding(answer_text::specs::Writes::Appends))]
     fn read<W: Sink>(&mut self, sink: &mut W, octets: &[u8]) -> Result<Next, Trouble>
-        ensures answers { AnswersLine W.written W.write_faults W.last_write_fault result sink.old sink.new
+        ensures answers { AnswersLine W.shown result sink.old sink.new
             (read_took self.old (packet_of octets.now)) false self.new }
     {
         let written = match read_radius(octets) {
@@ -356,8 +356,7 @@ impl Command for Radius {
 /// Reads a text of RADIUS packets, writes requests and replies, and says what packets are. It allocates no memory.
 #[tactic(auto, using(command_driver::proofs::Responding::never_lacks))]
 pub fn answer_radius<S: Source, W: Sink>(source: &mut S, sink: &mut W) -> Status
-    ensures { Responds S.left S.read_faults S.last_read_fault W.written W.write_faults W.last_write_fault
-        (reading radius_answer never) result source.old source.new sink.old sink.new }
+    ensures { Responds S.shown W.shown (reading radius_answer never) result source.old source.new sink.old sink.new }
 {
     drive(&mut Radius::new(), source, sink)
 }

@@ -31,7 +31,7 @@ module _ {C : Type 0} (took : C → List ℕ → Took C) (closing : C → Closin
   unfolding answer
   answer-line n c l rest = refl
 
-  answer-ended : (n : ℕ) (c : C) → answer took closing n c ended ≡ after_text (closing c).text (closing_answer (n + 1) (closing c).closed)
+  answer-ended : (n : ℕ) (c : C) → answer took closing n c ended ≡ closing_answer (n + 1) (closing c)
   unfolding answer
   answer-ended n c = refl
 
@@ -91,7 +91,7 @@ module _ {C : Type 0} (took : C → List ℕ → Took C) (closing : C → Closin
 
   -- the end of the input
   pub driving_ends : (before mid now : Option (List ℕ)) (begun : C) (all : Lines) (n : ℕ) (c : C) (result : Status)
-      → Driving before mid begun all n c ended → Ends result mid now (after_text (closing c).text (closing_answer (n + 1) (closing c).closed))
+      → Driving before mid begun all n c ended → Ends result mid now (closing_answer (n + 1) (closing c))
       → Ends result before now (answer took closing 0 begun all)
   driving_ends before mid now begun all n c result d w = ends_progress result before mid now _ _ d.progress (rw (answer-ended n c) w)
 
@@ -163,9 +163,9 @@ module _ {C : Type 0} (took : C → List ℕ → Took C) (closing : C → Closin
 
   pub underway_ends : (before mid now : Option (List ℕ)) (begun : C) (all : Lines) (n number : ℕ) (c : C) (result : Status) (left next : Option Lines)
       → Underway before mid begun all n c left → left ≡ option_map (λ _. ended) next → number ≡ n
-      → Ends result mid now (after_text (closing c).text (closing_answer (number + 1) (closing c).closed)) → Ends result before now (answer took closing 0 begun all)
+      → Ends result mid now (closing_answer (number + 1) (closing c)) → Ends result before now (answer took closing 0 begun all)
   underway_ends before mid now begun all n number c result left next u e count w =
-      let P : ℕ → Type 0 = λ k. Ends result mid now (after_text (closing c).text (closing_answer (k + 1) (closing c).closed)) in
+      let P : ℕ → Type 0 = λ k. Ends result mid now (closing_answer (k + 1) (closing c)) in
       driving_ends before mid now begun all n c result (at_end before mid begun all n c ended left next u e) (subst P count w)
 
   pub underway_too_long : (before mid now : Option (List ℕ)) (begun : C) (all : Lines) (n number : ℕ) (c : C) (result : Status) (left next : Option Lines)

@@ -1,6 +1,7 @@
 -- How a run ends after a part of its text has been written.
 use Rattle.std.proofs.Common.{◌≡◌, ℕ, List, [], ◌++◌, Option, refl, sym, ◌∙◌, ap, subst, append_assoc, arith}
 use Rattle.octet_io.specs.Known.{append_known}
+use Rattle.octet_io.specs.Shown.{Shown}
 use Rattle.answer_text.specs.Writes.{WritesFront}
 use Rattle.answer_text.proofs.Fronts.{append_known_append, append_known_nil}
 use Rattle.command_driver.specs.declared.status.Status.{Status}
@@ -26,15 +27,14 @@ ends_after s before mid now front a e (cut_short why w) = cut_short why (front_a
 pub keeps_writes_from : (s : Status) (before mid now : ℕ) → mid ≡ before → KeepsWrites s mid now → KeepsWrites s before now
 keeps_writes_from s before mid now e h = λ other. h other ∙ e
 
-pub finishes_after : {S : Type 0} (written : S → Option (List ℕ)) (faults : S → ℕ) (last : Option ℕ)
-    (result : Status) (before mid now : S) (front : List ℕ) (a : Answer)
-    → append_known (written before) front ≡ written mid → faults mid ≡ faults before
-    → Finishes written faults last result mid now a → Finishes written faults last result before now (after_text front a)
-finishes_after written faults last result before mid now front a e f w = record {
-  ends = ends_after result (written before) (written mid) (written now) front a e w.ends;
+pub finishes_after : {S : Type 0} (shown : Shown S) (result : Status) (before mid now : S) (front : List ℕ) (a : Answer)
+    → append_known (shown.octets before) front ≡ shown.octets mid → shown.faults mid ≡ shown.faults before
+    → Finishes shown result mid now a → Finishes shown result before now (after_text front a)
+finishes_after shown result before mid now front a e f w = record {
+  ends = ends_after result (shown.octets before) (shown.octets mid) (shown.octets now) front a e w.ends;
   written_only = w.written_only;
   counted = λ is h. w.counted is (omega arith);
-  uncounted = keeps_writes_from result (faults before) (faults mid) (faults now) f w.uncounted;
+  uncounted = keeps_writes_from result (shown.faults before) (shown.faults mid) (shown.faults now) f w.uncounted;
   never_falls = omega arith;
 }
 

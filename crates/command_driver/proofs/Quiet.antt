@@ -3,7 +3,7 @@ use Rattle.std.proofs.Common.{◌≡◌, ℕ, ◌+◌, List, [], Bool, true, ref
 use Rattle.octet_io.specs.Lines.{Lines, ended, too_long, too_much, line}
 use Rattle.answer_text.proofs.Plain.{plain, join}
 use Rattle.command_driver.specs.Answers.{Answer, after_text, IsRefusal}
-use Rattle.command_driver.specs.Commands.{Took, Closing, Ruling, goes, refuses, Closed, ends, misses, after_ruling, closing_answer, answer}
+use Rattle.command_driver.specs.Commands.{Took, Closing, Ruling, goes, refuses, Closed, ends, misses, after_ruling, closed_answer, answer}
 use Rattle.command_driver.specs.declared.status.Status.{Status}
 use Rattle.command_driver.specs.declared.status.Status.TheVariants as status
 
@@ -25,7 +25,7 @@ module _ (bad : ℕ → Bool) where
     pub refusing : Refuses t.ruling
     pub after : Holds t.after
 
-  quiet_closing : (number : ℕ) (text : List ℕ) (x : Closed) → plain bad true text ≡ true → IsQuiet (after_text text (closing_answer number x))
+  quiet_closing : (number : ℕ) (text : List ℕ) (x : Closed) → plain bad true text ≡ true → IsQuiet (after_text text (closed_answer number x))
   quiet_closing number text (ends s) h = record { holds = λ done. join bad text [] true h refl }
   quiet_closing number text (misses word) h = record { holds = λ done. absurd (never_done status.Refused tt done) }
 

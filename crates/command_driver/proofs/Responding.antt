@@ -1,22 +1,22 @@
 -- How a call that answers ends.
-use Rattle.std.proofs.Common.{◌≡◌, ℕ, List, Bool, false, Option, Some, refl, subst, arith}
+use Rattle.std.proofs.Common.{◌≡◌, ◌≤◌, ℕ, List, Bool, false, Some, refl, subst, arith}
 use Rattle.octet_io.specs.Known.{append_known}
+use Rattle.octet_io.specs.Shown.{Shown}
 use Rattle.answer_text.specs.Writes.{WritesFront}
-use Rattle.command_driver.specs.Answers.{Answer, after_text, Ends, cut_short, by_read, by_write, by_memory, Drains, HasRisen, Finishes, IsWritten}
+use Rattle.command_driver.specs.Answers.{Answer, after_text, Ends, cut_short, by_read, by_write, by_memory, Drains, Finishes, IsWritten}
 use Rattle.command_driver.specs.Commands.{SomeLacks}
 use Rattle.command_driver.specs.Responding.{Lacking, MayLack, never, Reads}
 use Rattle.command_driver.specs.declared.status.Status.{Status}
 use Rattle.command_driver.specs.declared.status.Status.TheVariants as status
 use Rattle.command_driver.proofs.Endings.{keeps_writes_from, ends_after, ends_same}
 
-module _ {S W : Type 0} {left : S → Option (List ℕ)} {read_faults : S → ℕ} {last_read_fault : Option ℕ}
-    {written : W → Option (List ℕ)} {write_faults : W → ℕ} {last_write_fault : Option ℕ} where
+module _ {S W : Type 0} {source : Shown S} {sink : Shown W} where
   -- by an answer to what was left
   pub finished : {answer : List ℕ → Answer} {lacking : Lacking} {before now : S} {old mid new : W} {result : Status} {a : Answer}
-      → Finishes written write_faults last_write_fault result mid new a
-      → ((octets : List ℕ) → left before ≡ Some octets → Ends result (written old) (written new) (answer octets))
-      → Drains result (left now) → read_faults now ≡ read_faults before → write_faults mid ≡ write_faults old
-      → Reads left read_faults last_read_fault written write_faults last_write_fault answer lacking result before now old new
+      → Finishes sink result mid new a
+      → ((octets : List ℕ) → source.octets before ≡ Some octets → Ends result (sink.octets old) (sink.octets new) (answer octets))
+      → Drains result (source.octets now) → source.faults now ≡ source.faults before → sink.faults mid ≡ sink.faults old
+      → Reads source sink answer lacking result before now old new
   finished {result = result} f ends drains same_reads same_writes = record {
     ends = ends;
     drains = drains;
@@ -29,10 +29,10 @@ module _ {S W : Type 0} {left : S → Option (List ℕ)} {read_faults : S → �
 
   -- by a write that failed
   pub cut : {answer : List ℕ → Answer} {lacking : Lacking} {before now : S} {old new : W} {mid : ℕ}
-      → ((octets : List ℕ) → left before ≡ Some octets → WritesFront (written old) (written new) (answer octets).text)
-      → read_faults now ≡ read_faults before → mid ≡ write_faults old
-      → HasRisen last_write_fault mid (write_faults new)
-      → Reads left read_faults last_read_fault written write_faults last_write_fault answer lacking status.WriteFault before now old new
+      → ((octets : List ℕ) → source.octets before ≡ Some octets → WritesFront (sink.octets old) (sink.octets new) (answer octets).text)
+      → source.faults now ≡ source.faults before → mid ≡ sink.faults old
+      → (sink.faults new ≤ mid → sink.most_faults ≡ Some (sink.faults new))
+      → Reads source sink answer lacking status.WriteFault before now old new
   cut front same_reads same_writes risen = record {
     ends = λ octets e. cut_short (by_write refl) (front octets e);
     drains = tt;
@@ -45,9 +45,9 @@ module _ {S W : Type 0} {left : S → Option (List ℕ)} {read_faults : S → �
 
   -- by a read that failed
   pub unreadable : {answer : List ℕ → Answer} {lacking : Lacking} {before now : S} {old new : W} {mid : ℕ}
-      → ((octets : List ℕ) → left before ≡ Some octets → WritesFront (written old) (written new) (answer octets).text)
-      → mid ≡ read_faults before → HasRisen last_read_fault mid (read_faults now) → write_faults new ≡ write_faults old
-      → Reads left read_faults last_read_fault written write_faults last_write_fault answer lacking status.ReadFault before now old new
+      → ((octets : List ℕ) → source.octets before ≡ Some octets → WritesFront (sink.octets old) (sink.octets new) (answer octets).text)
+      → mid ≡ source.faults before → (source.faults now ≤ mid → source.most_faults ≡ Some (source.faults now)) → sink.faults new ≡ sink.faults old
+      → Reads source sink answer lacking status.ReadFault before now old new
   unreadable front same_reads risen same_writes = record {
     ends = λ octets e. cut_short (by_read refl) (front octets e);
     drains = tt;
@@ -60,9 +60,9 @@ module _ {S W : Type 0} {left : S → Option (List ℕ)} {read_faults : S → �
 
   -- for want of memory
   pub lacked : {answer : List ℕ → Answer} {lacking : Lacking} {before now : S} {old new : W}
-      → ((octets : List ℕ) → left before ≡ Some octets → WritesFront (written old) (written new) (answer octets).text)
-      → read_faults now ≡ read_faults before → write_faults new ≡ write_faults old → MayLack lacking (left before)
-      → Reads left read_faults last_read_fault written write_faults last_write_fault answer lacking status.Memory before now old new
+      → ((octets : List ℕ) → source.octets before ≡ Some octets → WritesFront (sink.octets old) (sink.octets new) (answer octets).text)
+      → source.faults now ≡ source.faults before → sink.faults new ≡ sink.faults old → MayLack lacking (source.octets before)
+      → Reads source sink answer lacking status.Memory before now old new
   lacked front same_reads same_writes may = record {
     ends = λ octets e. cut_short (by_memory refl) (front octets e);
     drains = tt;
@@ -75,11 +75,11 @@ module _ {S W : Type 0} {left : S → Option (List ℕ)} {read_faults : S → �
 
   -- a text was written before, and the answer is another one's after it
   pub reads_after : {answer whole : List ℕ → Answer} {lacking may : Lacking} {before now : S} {old mid new : W} {result : Status} (front : List ℕ)
-      → append_known (written old) front ≡ written mid → write_faults mid ≡ write_faults old
+      → append_known (sink.octets old) front ≡ sink.octets mid → sink.faults mid ≡ sink.faults old
       → ((octets : List ℕ) → whole octets ≡ after_text front (answer octets))
-      → (MayLack lacking (left before) → MayLack may (left before))
-      → Reads left read_faults last_read_fault written write_faults last_write_fault answer lacking result before now mid new
-      → Reads left read_faults last_read_fault written write_faults last_write_fault whole may result before now old new
+      → (MayLack lacking (source.octets before) → MayLack may (source.octets before))
+      → Reads source sink answer lacking result before now mid new
+      → Reads source sink whole may result before now old new
   reads_after {result = result} front text same_writes is may r = record {
     ends = λ octets e. ends_same result _ _ _ _ (is octets) (ends_after result _ _ _ front _ text (r.ends octets e));
     drains = r.drains;
@@ -94,8 +94,8 @@ module _ {S W : Type 0} {left : S → Option (List ℕ)} {read_faults : S → �
   pub never_lacks : {C : Type 0} {lacks : C → List ℕ → Bool} {answer same : List ℕ → Answer} {lacking : Lacking} {before now : S} {old new : W} {result : Status}
       → ((c : C) (line : List ℕ) → lacks c line ≡ false) → ((octets : List ℕ) → same octets ≡ answer octets)
       → (result ≡ status.Memory → SomeLacks lacks)
-      → Reads left read_faults last_read_fault written write_faults last_write_fault answer lacking result before now old new
-      → Reads left read_faults last_read_fault written write_faults last_write_fault same never result before now old new
+      → Reads source sink answer lacking result before now old new
+      → Reads source sink same never result before now old new
   never_lacks {result = result} none is wanting r = record {
     ends = λ octets e. ends_same result _ _ _ _ (is octets) (r.ends octets e);
     drains = r.drains;

@@ -1,6 +1,7 @@
 -- What the program answers: the text that it writes, and its status.
-use Rattle.std.specs.Prelude.{◌≡◌, ◌≢◌, ◌≤◌, ℕ, List, ◌++◌, Option, Some, codes}
+use Rattle.std.specs.Prelude.{◌≡◌, ◌≢◌, ◌≤◌, ℕ, List, ◌++◌, Option, codes}
 use Rattle.octet_io.specs.Known.{append_known, nothing_known}
+use Rattle.octet_io.specs.Shown.{Shown, HasRisen}
 use Rattle.answer_text.specs.Lines.{refused_text}
 use Rattle.answer_text.specs.Writes.{WritesFront}
 use Rattle.command_driver.specs.declared.status.Status.{Status}
@@ -61,19 +62,14 @@ KeepsReads s before now = s ≢ status.ReadFault → now ≡ before
 abbrev pub KeepsWrites : Status → ℕ → ℕ → Type 0
 KeepsWrites s before now = s ≢ status.WriteFault → now ≡ before
 
--- a count of faults rose, or is at its last value
-abbrev pub HasRisen : Option ℕ → ℕ → ℕ → Type 0
-HasRisen last before now = now ≤ before → last ≡ Some now
-
--- how a run ends that only writes an answer: a write failed only if the count of faults rose, or is at its last
--- value, and wherever it rose; that count never falls
-pub record Finishes {S : Type 0} (written : S → Option (List ℕ)) (faults : S → ℕ) (last : Option ℕ)
-    (result : Status) (before now : S) (a : Answer) : Type 0 where
-  pub ends : Ends result (written before) (written now) a
+-- how a run ends that only writes an answer: a write failed only if the count of faults rose, or is at its
+-- last value, and wherever it rose; that count never falls
+pub record Finishes {S : Type 0} (shown : Shown S) (result : Status) (before now : S) (a : Answer) : Type 0 where
+  pub ends : Ends result (shown.octets before) (shown.octets now) a
   pub written_only : IsWritten result
-  pub counted : result ≡ status.WriteFault → HasRisen last (faults before) (faults now)
-  pub uncounted : KeepsWrites result (faults before) (faults now)
-  pub never_falls : faults before ≤ faults now
+  pub counted : result ≡ status.WriteFault → HasRisen shown before now
+  pub uncounted : KeepsWrites result (shown.faults before) (shown.faults now)
+  pub never_falls : shown.faults before ≤ shown.faults now
 
 -- if the input was read to its end, nothing is left
 abbrev pub Drains : Status → Option (List ℕ) → Type 0

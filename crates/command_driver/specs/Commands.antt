@@ -1,8 +1,9 @@
 -- A command that reads lines: the result of each line, and of the end of the input.
-use Rattle.std.specs.Prelude.{◌≡◌, ℕ, ◌+◌, List, [], Bool, true, false, ◌||◌, ◌≤◌, Option, Some, Result, Ok, Err, OnOk, OnErr}
+use Rattle.std.specs.Prelude.{◌≡◌, ℕ, ◌+◌, List, [], Bool, true, false, ◌||◌, ◌≤◌, Option, Result, Ok, Err, OnOk, OnErr}
 use Rattle.octet_io.specs.Known.{append_known}
 use Rattle.octet_io.specs.Lines.{Lines, max_input, ended, too_long, too_much, line}
 use Rattle.octet_io.specs.declared.source.Failed.{Failed}
+use Rattle.octet_io.specs.Shown.{Shown, HasRisen}
 use Rattle.answer_text.specs.Writes.{WritesFront}
 use Rattle.command_driver.specs.Answers.{Answer, after_text, refusal, overlong, IsWhole, IsRefusal}
 use Rattle.command_driver.specs.declared.status.Status.{Status}
@@ -40,9 +41,12 @@ after_ruling number goes a = a
 after_ruling number (refuses word s) a = refusal number word s
 
 -- the result of the end of the input, if the next line would have the number
-abbrev pub closing_answer : ℕ → Closed → Answer
-closing_answer number (ends s) = record { text = []; status = s }
-closing_answer number (misses word) = refusal number word status.Refused
+abbrev pub closed_answer : ℕ → Closed → Answer
+closed_answer number (ends s) = record { text = []; status = s }
+closed_answer number (misses word) = refusal number word status.Refused
+
+abbrev pub closing_answer : ℕ → Closing → Answer
+closing_answer number c = after_text c.text (closed_answer number c.closed)
 
 abbrev pub lacking_after : Ruling → Bool → Bool
 lacking_after goes b = b
@@ -51,7 +55,7 @@ lacking_after (refuses word s) b = false
 module _ {C : Type 0} (took : C → List ℕ → Took C) (closing : C → Closing) where
   -- the answer of a command to lines, if this many came before
   unfoldable pub answer : ℕ → C → Lines → Answer
-  answer n c ended = after_text (closing c).text (closing_answer (n + 1) (closing c).closed)
+  answer n c ended = closing_answer (n + 1) (closing c)
   answer n c too_long = overlong (n + 1)
   answer n c too_much = overlong (n + 1)
   answer n c (line l rest) =
@@ -102,32 +106,30 @@ Closes (Err fault) t before now = WritesFront before now t.text
 
 -- a write failed only if the count of faults rose, or is at its last value; memory was wanting only
 -- if that may be
-abbrev pub Troubles : Result Next Trouble → Option ℕ → ℕ → ℕ → Bool → Type 0
-Troubles (Ok next) last before now lacks = Unit {0}
-Troubles (Err trouble.Write) last before now lacks = now ≤ before → last ≡ Some now
-Troubles (Err trouble.Memory) last before now lacks = lacks ≡ true
+abbrev pub Troubles : {S : Type 0} → Shown S → Result Next Trouble → S → S → Bool → Type 0
+Troubles shown (Ok next) before now lacks = Unit {0}
+Troubles shown (Err trouble.Write) before now lacks = HasRisen shown before now
+Troubles shown (Err trouble.Memory) before now lacks = lacks ≡ true
 
 -- unless a write failed, the count of faults is as it was
-abbrev pub KeepsFaults : Result Next Trouble → ℕ → ℕ → Type 0
-KeepsFaults (Ok next) before now = now ≡ before
-KeepsFaults (Err trouble.Write) before now = Unit {0}
-KeepsFaults (Err trouble.Memory) before now = now ≡ before
+abbrev pub KeepsFaults : {S : Type 0} → Shown S → Result Next Trouble → S → S → Type 0
+KeepsFaults shown (Ok next) before now = shown.faults now ≡ shown.faults before
+KeepsFaults shown (Err trouble.Write) before now = Unit {0}
+KeepsFaults shown (Err trouble.Memory) before now = shown.faults now ≡ shown.faults before
 
 -- what a command does to a sink at one line, by what the sink shows of itself
-pub record AnswersLine {C S : Type 0} (written : S → Option (List ℕ)) (faults : S → ℕ) (last : Option ℕ)
-    (result : Result Next Trouble) (before now : S) (t : Took C) (lacks : Bool) (after : C) : Type 0 where
-  pub takes : Takes result t (written before) (written now) after
-  pub trouble : Troubles result last (faults before) (faults now) lacks
-  pub uncounted : KeepsFaults result (faults before) (faults now)
-  pub never_falls : faults before ≤ faults now
+pub record AnswersLine {C S : Type 0} (shown : Shown S) (result : Result Next Trouble) (before now : S) (t : Took C) (lacks : Bool) (after : C) : Type 0 where
+  pub takes : Takes result t (shown.octets before) (shown.octets now) after
+  pub trouble : Troubles shown result before now lacks
+  pub uncounted : KeepsFaults shown result before now
+  pub never_falls : shown.faults before ≤ shown.faults now
 
 -- what a command does to a sink at the end of the input
-pub record AnswersEnd {S : Type 0} (written : S → Option (List ℕ)) (faults : S → ℕ) (last : Option ℕ)
-    (result : Result Close Failed) (before now : S) (t : Closing) : Type 0 where
-  pub closes : Closes result t (written before) (written now)
-  pub counted : OnErr result (faults now ≤ faults before → last ≡ Some (faults now))
-  pub uncounted : OnOk result (faults now ≡ faults before)
-  pub never_falls : faults before ≤ faults now
+pub record AnswersEnd {S : Type 0} (shown : Shown S) (result : Result Close Failed) (before now : S) (t : Closing) : Type 0 where
+  pub closes : Closes result t (shown.octets before) (shown.octets now)
+  pub counted : OnErr result (HasRisen shown before now)
+  pub uncounted : OnOk result (shown.faults now ≡ shown.faults before)
+  pub never_falls : shown.faults before ≤ shown.faults now
 
 -- the command has taken so many lines, which an input can have
 pub record AfterLines {C : Type 0} (holds : C → ℕ → Type 0) (c : C) : Type 0 where

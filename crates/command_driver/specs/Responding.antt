@@ -1,6 +1,7 @@
 -- What a call does that answers: an input that it reads, or, if it reads nothing, the words alone.
 use Rattle.std.specs.Prelude.{◌≡◌, ◌≢◌, ℕ, List, Bool, true, Option, Some}
-use Rattle.command_driver.specs.Answers.{Answer, Ends, Drains, HasRisen, KeepsReads, KeepsWrites}
+use Rattle.octet_io.specs.Shown.{Shown, HasRisen}
+use Rattle.command_driver.specs.Answers.{Answer, Ends, Drains, KeepsReads, KeepsWrites}
 use Rattle.command_driver.specs.declared.status.Status.{Status}
 use Rattle.command_driver.specs.declared.status.Status.TheVariants as status
 
@@ -30,35 +31,33 @@ lacking_of (reading answer lacking) = lacking
 lacking_of (unread a lacking) = lacking
 
 -- by what a sink shows of itself: an answer was given that reads nothing from a source
-pub record Says {W : Type 0} (written : W → Option (List ℕ)) (write_faults : W → ℕ) (last_write_fault : Option ℕ)
-    (a : Answer) (lacking : Lacking) (result : Status) (old new : W) : Type 0 where
-  pub ends : Ends result (written old) (written new) a
+pub record Says {W : Type 0} (sink : Shown W) (a : Answer) (lacking : Lacking) (result : Status) (old new : W) : Type 0 where
+  pub ends : Ends result (sink.octets old) (sink.octets new) a
   pub no_read_fault : result ≢ status.ReadFault
-  pub write_fault : result ≡ status.WriteFault → HasRisen last_write_fault (write_faults old) (write_faults new)
-  pub writes : KeepsWrites result (write_faults old) (write_faults new)
+  pub write_fault : result ≡ status.WriteFault → HasRisen sink old new
+  pub writes : KeepsWrites result (sink.faults old) (sink.faults new)
   pub memory : result ≡ status.Memory → (left : Option (List ℕ)) → MayLack lacking left
 
 -- by what a source and a sink show of themselves: what is left and what was written, the counts of faults, and
 -- the last values of those counts
-module _ {S W : Type 0} (left : S → Option (List ℕ)) (read_faults : S → ℕ) (last_read_fault : Option ℕ)
-    (written : W → Option (List ℕ)) (write_faults : W → ℕ) (last_write_fault : Option ℕ) where
+module _ {S W : Type 0} (source : Shown S) (sink : Shown W) where
   -- an input was read and answered
   pub record Reads (answer : List ℕ → Answer) (lacking : Lacking) (result : Status) (before now : S) (old new : W) : Type 0 where
     -- with status 0, 1, 2, 6 or 7 the whole text was written and the status is that of the answer; with 3, 4 or 5
     -- a prefix of the text was
-    pub ends : (octets : List ℕ) → left before ≡ Some octets → Ends result (written old) (written new) (answer octets)
+    pub ends : (octets : List ℕ) → source.octets before ≡ Some octets → Ends result (sink.octets old) (sink.octets new) (answer octets)
     -- with status 0 or 7 nothing is left to read
-    pub drains : Drains result (left now)
+    pub drains : Drains result (source.octets now)
     -- a fault is answered only if its count rose, or is at its last value, and wherever it rose
-    pub read_fault : result ≡ status.ReadFault → HasRisen last_read_fault (read_faults before) (read_faults now)
-    pub write_fault : result ≡ status.WriteFault → HasRisen last_write_fault (write_faults old) (write_faults new)
-    pub reads : KeepsReads result (read_faults before) (read_faults now)
-    pub writes : KeepsWrites result (write_faults old) (write_faults new)
-    pub memory : result ≡ status.Memory → MayLack lacking (left before)
+    pub read_fault : result ≡ status.ReadFault → HasRisen source before now
+    pub write_fault : result ≡ status.WriteFault → HasRisen sink old new
+    pub reads : KeepsReads result (source.faults before) (source.faults now)
+    pub writes : KeepsWrites result (sink.faults old) (sink.faults new)
+    pub memory : result ≡ status.Memory → MayLack lacking (source.octets before)
 
   -- an answer was given, and the source is as it was
   pub record Rests (a : Answer) (lacking : Lacking) (result : Status) (before now : S) (old new : W) : Type 0 where
-    pub says : Says written write_faults last_write_fault a lacking result old new
+    pub says : Says sink a lacking result old new
     pub untouched : now ≡ before
 
   -- either

@@ -60,10 +60,10 @@ pub trait Command {
     fn take<W: Sink>(&mut self, sink: &mut W, line: &[u8]) -> Result<Next, Trouble>
         requires { AfterLines holds self.old }
         ensures holds_after { IfOk result (λ next. (lines : ℕ) → holds self.old lines → holds self.new (lines + 1)) }
-        ensures answers { AnswersLine W.written W.write_faults W.last_write_fault result sink.old sink.new
+        ensures answers { AnswersLine W.shown result sink.old sink.new
             (took (seen self.old) line.now) (lacks (seen self.old) line.now) (seen self.new) };
 
     /// Handles the end of the input and writes its answer.
     fn close<W: Sink>(&self, sink: &mut W) -> Result<Close, Failed>
-        ensures { AnswersEnd W.written W.write_faults W.last_write_fault result sink.old sink.new (closing (seen self.now)) };
+        ensures { AnswersEnd W.shown result sink.old sink.new (closing (seen self.now)) };
 }

@@ -1,7 +1,7 @@
 //! Passing the lines of an input, one after the other, to a command.
 
 ghost use Rattle.std.specs.Prelude.{◌≡◌, ◌≤◌, ◌+◌, ℕ, List, Option};
-ghost use Rattle.command_driver.specs.Answers.{Finishes, IsRefusal, Drains, refusal, after_text};
+ghost use Rattle.command_driver.specs.Answers.{Finishes, IsRefusal, Drains, refusal};
 ghost use Rattle.command_driver.specs.Commands.{closing_answer, SomeLacks};
 ghost use Rattle.command_driver.specs.Driving.{driven};
 ghost use Rattle.command_driver.specs.Responding.{Responds};
@@ -15,7 +15,7 @@ use octet_io::{LineReader, NextLine, Sink, Source};
 #[tactic(auto, unfolding(answer_text::specs::Writes::Appends))]
 fn refuse<W: Sink>(sink: &mut W, line: u32, word: &str, status: Status) -> Status
     requires { IsRefusal status }
-    ensures finishes { Finishes W.written W.write_faults W.last_write_fault result sink.old sink.new (refusal line word.now status) }
+    ensures finishes { Finishes W.shown result sink.old sink.new (refusal line word.now status) }
     ensures drains { (left : Option (List ℕ)) → Drains result left }
 {
     match write_refused(sink, line, word) {
@@ -26,8 +26,7 @@ fn refuse<W: Sink>(sink: &mut W, line: u32, word: &str, status: Status) -> Statu
 
 /// Handles the end of the input, if the next line would have the number `line`.
 fn close<C: Command, W: Sink>(command: &C, sink: &mut W, line: u32) -> Status
-    ensures { Finishes W.written W.write_faults W.last_write_fault result sink.old sink.new
-        (after_text (C.closing (C.seen command.now)).text (closing_answer line (C.closing (C.seen command.now)).closed)) }
+    ensures { Finishes W.shown result sink.old sink.new (closing_answer line (C.closing (C.seen command.now))) }
 {
     match command.close(sink) {
         Ok(Close::Ends(status)) => status,
@@ -44,11 +43,11 @@ pub fn drive<C: Command, S: Source, W: Sink>(
     sink: &mut W,
 ) -> Status
     requires { C.holds command.old 0 }
-    ensures responds { Responds S.left S.read_faults S.last_read_fault W.written W.write_faults W.last_write_fault
+    ensures responds { Responds S.shown W.shown
         (driven C.took C.closing C.lacks (C.seen command.old)) result source.old source.new sink.old sink.new }
     ensures wanting { result ≡ Status.Memory → SomeLacks C.lacks }
-    ensures read_never_falls { S.read_faults source.old ≤ S.read_faults source.new }
-    ensures write_never_falls { W.write_faults sink.old ≤ W.write_faults sink.new }
+    ensures read_never_falls { S.shown.faults source.old ≤ S.shown.faults source.new }
+    ensures write_never_falls { W.shown.faults sink.old ≤ W.shown.faults sink.new }
 {
     let mut reader = LineReader::new();
     loop {

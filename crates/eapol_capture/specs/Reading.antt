@@ -5,6 +5,7 @@ use Rattle.eapol_capture.specs.declared.order.OctetOrder.{OctetOrder}
 use Rattle.eapol_capture.specs.declared.reader.NextRecord.{NextRecord}
 use Rattle.eapol_capture.specs.declared.reader.NextRecord.TheVariants.{Record, End, CutFile, BadRecord, TooMuch, Read}
 use Rattle.octet_io.specs.Lines.{max_input}
+use Rattle.octet_io.specs.Shown.{Shown, HasRisen}
 use Rattle.eapol_capture.specs.Files.{Contents, ends, record_of, from_header, all_records}
 
 -- a reader: how many octets it has consumed, the octets that it has read ahead, the file's octet order
@@ -103,9 +104,9 @@ Exhausts answer left = Unit {0}
 
 -- the answer Read comes only if the count of faults rose, or is at its last value; after any other
 -- answer it is as it was
-abbrev pub Faults : NextRecord → Option ℕ → ℕ → ℕ → Type 0
-Faults Read last before after = after ≤ before → last ≡ Some after
-Faults answer last before after = after ≡ before
+abbrev pub Faults : {S : Type 0} → Shown S → NextRecord → S → S → Type 0
+Faults shown Read before after = HasRisen shown before after
+Faults shown answer before after = shown.faults after ≡ shown.faults before
 
 -- every answer but a record is the last one
 abbrev pub is_last : NextRecord → Bool

@@ -99,16 +99,16 @@ impl PcapReader {
 
         // The answers are those of the octets that the reader has buffered and the source has left, however
         // they are cut into reads. If these decide, no further read is asked for.
-        ensures contents { Answers result self.old self.new (S.left source.old) (S.left source.new) }
+        ensures contents { Answers result self.old self.new (S.shown.octets source.old) (S.shown.octets source.new) }
         ensures number { self.new.number ≡ self.old.number + begun result (records_begin self.old) self.new }
         ensures over { self.new.over ≡ is_last result }
         ensures takes { Takes result self.old.taken self.new.taken }
         ensures bounded { self.new.taken ≤ max_input }
-        ensures exhausted { Exhausts result (S.left source.new) }
-        ensures waits { Waits result self.old self.new (S.left source.old) }
+        ensures exhausted { Exhausts result (S.shown.octets source.new) }
+        ensures waits { Waits result self.old self.new (S.shown.octets source.old) }
 
-        ensures read { Faults result S.last_read_fault (S.read_faults source.old) (S.read_faults source.new) }
-        ensures never_falls { S.read_faults source.old ≤ S.read_faults source.new }
+        ensures read { Faults S.shown result source.old source.new }
+        ensures never_falls { S.shown.faults source.old ≤ S.shown.faults source.new }
     {
         let start = self.start();
         let answer = self.read_next(source);
@@ -149,15 +149,15 @@ impl PcapReader {
     /// Reads the header, if that wasn't done, and a record.
     fn read_next<S: Source>(&mut self, source: &mut S) -> NextRecord
         requires bounded { self.old.taken ≤ max_input }
-        ensures contents { Answers result self.old self.new (S.left source.old) (S.left source.new) }
+        ensures contents { Answers result self.old self.new (S.shown.octets source.old) (S.shown.octets source.new) }
         ensures number { self.new.number ≡ self.old.number }
         ensures over { self.new.over ≡ self.old.over }
         ensures takes { Takes result self.old.taken self.new.taken }
         ensures bounded { self.new.taken ≤ max_input }
-        ensures exhausted { Exhausts result (S.left source.new) }
-        ensures waits { Waits result self.old self.new (S.left source.old) }
-        ensures read { Faults result S.last_read_fault (S.read_faults source.old) (S.read_faults source.new) }
-        ensures never_falls { S.read_faults source.old ≤ S.read_faults source.new }
+        ensures exhausted { Exhausts result (S.shown.octets source.new) }
+        ensures waits { Waits result self.old self.new (S.shown.octets source.old) }
+        ensures read { Faults S.shown result source.old source.new }
+        ensures never_falls { S.shown.faults source.old ≤ S.shown.faults source.new }
     {
         match self.order {
             Some(order) => self.read_record(source, order),
@@ -172,15 +172,15 @@ impl PcapReader {
     fn read_header<S: Source>(&mut self, source: &mut S) -> Result<OctetOrder, NextRecord>
         requires header { self.old.order ≡ None }
         requires bounded { self.old.taken ≤ max_input }
-        ensures contents { Opens result (contents_left self.old (S.left source.old)) (contents_left self.new (S.left source.new)) }
-        ensures header { Heads result self.old self.new (S.left source.old) (S.left source.new) }
+        ensures contents { Opens result (contents_left self.old (S.shown.octets source.old)) (contents_left self.new (S.shown.octets source.new)) }
+        ensures header { Heads result self.old self.new (S.shown.octets source.old) (S.shown.octets source.new) }
         ensures order { self.new.order ≡ told result }
         ensures number { self.new.number ≡ self.old.number }
         ensures over { self.new.over ≡ self.old.over }
         ensures grows { self.old.taken ≤ self.new.taken }
         ensures bounded { self.new.taken ≤ max_input }
-        ensures read { Faults (answer_of result) S.last_read_fault (S.read_faults source.old) (S.read_faults source.new) }
-        ensures never_falls { S.read_faults source.old ≤ S.read_faults source.new }
+        ensures read { Faults S.shown (answer_of result) source.old source.new }
+        ensures never_falls { S.shown.faults source.old ≤ S.shown.faults source.new }
     {
         self.read_part(source, HEADER)?;
         self.judge()
@@ -201,15 +201,15 @@ impl PcapReader {
     fn read_record<S: Source>(&mut self, source: &mut S, order: OctetOrder) -> NextRecord
         requires order { self.old.order ≡ Some order }
         requires bounded { self.old.taken ≤ max_input }
-        ensures contents { Answers result self.old self.new (S.left source.old) (S.left source.new) }
+        ensures contents { Answers result self.old self.new (S.shown.octets source.old) (S.shown.octets source.new) }
         ensures number { self.new.number ≡ self.old.number }
         ensures over { self.new.over ≡ self.old.over }
         ensures takes { Takes result self.old.taken self.new.taken }
         ensures bounded { self.new.taken ≤ max_input }
-        ensures exhausted { Exhausts result (S.left source.new) }
-        ensures waits { Waits result self.old self.new (S.left source.old) }
-        ensures read { Faults result S.last_read_fault (S.read_faults source.old) (S.read_faults source.new) }
-        ensures never_falls { S.read_faults source.old ≤ S.read_faults source.new }
+        ensures exhausted { Exhausts result (S.shown.octets source.new) }
+        ensures waits { Waits result self.old self.new (S.shown.octets source.old) }
+        ensures read { Faults S.shown result source.old source.new }
+        ensures never_falls { S.shown.faults source.old ≤ S.shown.faults source.new }
     {
         match self.read_frame(source, order) {
             Ok(_) => NextRecord::Record,
@@ -221,15 +221,15 @@ impl PcapReader {
     fn read_frame<S: Source>(&mut self, source: &mut S, order: OctetOrder) -> Result<(), NextRecord>
         requires order { self.old.order ≡ Some order }
         requires bounded { self.old.taken ≤ max_input }
-        ensures contents { Answers (answer_of result) self.old self.new (S.left source.old) (S.left source.new) }
+        ensures contents { Answers (answer_of result) self.old self.new (S.shown.octets source.old) (S.shown.octets source.new) }
         ensures number { self.new.number ≡ self.old.number }
         ensures over { self.new.over ≡ self.old.over }
         ensures takes { Takes (answer_of result) self.old.taken self.new.taken }
         ensures bounded { self.new.taken ≤ max_input }
-        ensures exhausted { Exhausts (answer_of result) (S.left source.new) }
-        ensures waits { Waits (answer_of result) self.old self.new (S.left source.old) }
-        ensures read { Faults (answer_of result) S.last_read_fault (S.read_faults source.old) (S.read_faults source.new) }
-        ensures never_falls { S.read_faults source.old ≤ S.read_faults source.new }
+        ensures exhausted { Exhausts (answer_of result) (S.shown.octets source.new) }
+        ensures waits { Waits (answer_of result) self.old self.new (S.shown.octets source.old) }
+        ensures read { Faults S.shown (answer_of result) source.old source.new }
+        ensures never_falls { S.shown.faults source.old ≤ S.shown.faults source.new }
     {
         if !self.has_more(source)? {
             return Err(NextRecord::End);
@@ -248,13 +248,13 @@ impl PcapReader {
         order: OctetOrder,
     ) -> Result<u32, NextRecord>
         requires bounded { self.old.taken ≤ max_input }
-        ensures part { Parts result 12 self.old self.new (S.left source.old) (S.left source.new) }
+        ensures part { Parts result 12 self.old self.new (S.shown.octets source.old) (S.shown.octets source.new) }
         ensures length { IfOk result (λ size. size ≡ number order (take 4 (drop 8 self.new.frame))) }
         ensures keeps { Keeps self.old self.new }
         ensures grows { self.old.taken ≤ self.new.taken }
         ensures bounded { self.new.taken ≤ max_input }
-        ensures read { Faults (answer_of result) S.last_read_fault (S.read_faults source.old) (S.read_faults source.new) }
-        ensures never_falls { S.read_faults source.old ≤ S.read_faults source.new }
+        ensures read { Faults S.shown (answer_of result) source.old source.new }
+        ensures never_falls { S.shown.faults source.old ≤ S.shown.faults source.new }
     {
         self.read_part(source, TO_LENGTH)?;
         Ok(order.number(&self.frame.as_slice()[8..12]))
@@ -263,12 +263,12 @@ impl PcapReader {
     /// Reads the length of a frame before it was cut, and the frame, which has so many octets.
     fn read_body<S: Source>(&mut self, source: &mut S, size: u32) -> Result<(), NextRecord>
         requires bounded { self.old.taken ≤ max_input }
-        ensures part { Frames result size self.old self.new (S.left source.old) (S.left source.new) }
+        ensures part { Frames result size self.old self.new (S.shown.octets source.old) (S.shown.octets source.new) }
         ensures keeps { Keeps self.old self.new }
         ensures grows { self.old.taken ≤ self.new.taken }
         ensures bounded { self.new.taken ≤ max_input }
-        ensures read { Faults (answer_of result) S.last_read_fault (S.read_faults source.old) (S.read_faults source.new) }
-        ensures never_falls { S.read_faults source.old ≤ S.read_faults source.new }
+        ensures read { Faults S.shown (answer_of result) source.old source.new }
+        ensures never_falls { S.shown.faults source.old ≤ S.shown.faults source.new }
     {
         self.read_part(source, FIRST_LENGTH)?;
         self.read_part(source, size)
@@ -279,12 +279,12 @@ impl PcapReader {
     fn read_part<S: Source>(&mut self, source: &mut S, count: u32) -> Result<(), NextRecord>
         requires bounded { self.old.taken ≤ max_input }
         ensures size { OnOk result (length self.new.frame ≡ min count max_kept) }
-        ensures part { Parts result count self.old self.new (S.left source.old) (S.left source.new) }
+        ensures part { Parts result count self.old self.new (S.shown.octets source.old) (S.shown.octets source.new) }
         ensures keeps { Keeps self.old self.new }
         ensures grows { self.old.taken ≤ self.new.taken }
         ensures bounded { self.new.taken ≤ max_input }
-        ensures read { Faults (answer_of result) S.last_read_fault (S.read_faults source.old) (S.read_faults source.new) }
-        ensures never_falls { S.read_faults source.old ≤ S.read_faults source.new }
+        ensures read { Faults S.shown (answer_of result) source.old source.new }
+        ensures never_falls { S.shown.faults source.old ≤ S.shown.faults source.new }
     {
         self.drop_frame();
         let mut missing = count;
@@ -313,15 +313,15 @@ impl PcapReader {
         ensures keeps { Keeps self.old self.new }
         ensures taken { self.new.taken ≡ self.old.taken }
         ensures frame { self.new.frame ≡ self.old.frame }
-        ensures left { OnOk result (octets_left self.old (S.left source.old) ≡ octets_left self.new (S.left source.new)) }
+        ensures left { OnOk result (octets_left self.old (S.shown.octets source.old) ≡ octets_left self.new (S.shown.octets source.new)) }
         ensures held { OnOk result (length self.old.held ≤ length self.new.held) }
         ensures some { result ≡ Ok true → 0 < length self.new.held }
         ensures none_held { result ≡ Ok false → self.new.held ≡ [] }
-        ensures none_left { result ≡ Ok false → S.left source.new ≡ nothing_known (S.left source.new) }
+        ensures none_left { result ≡ Ok false → S.shown.octets source.new ≡ nothing_known (S.shown.octets source.new) }
         ensures failed { IfErr result (λ answer. answer ≡ Read) }
         ensures spent { OnErr result (self.old.held ≡ []) }
-        ensures read { Faults (answer_of result) S.last_read_fault (S.read_faults source.old) (S.read_faults source.new) }
-        ensures never_falls { S.read_faults source.old ≤ S.read_faults source.new }
+        ensures read { Faults S.shown (answer_of result) source.old source.new }
+        ensures never_falls { S.shown.faults source.old ≤ S.shown.faults source.new }
     {
         if !self.ahead.as_slice().is_empty() {
             return Ok(true);

@@ -60,7 +60,7 @@ module _ {N : Type 0} (role : Role) (table : MachineTable N) (begins : (s : Sett
       → answers n (running p s e taken) rest ≡ run_script taken e (script_from n taken (reading p s) rest)
 
   end_in_run : (n : ℕ) (p : Phase) (s : Settings) (e : EndNow N) (taken : ℕ) (x : Result (Unit {0}) LineFault)
-      → after_text (closing_by table (running p s e taken) x).text (closing_answer (n + 1) (closing_by table (running p s e taken) x).closed)
+      → closing_answer (n + 1) (closing_by table (running p s e taken) x)
       ≡ run_script taken e (stops (finish_ending (n + 1) x))
   unfolding end_after told_of tolds_text
   end_in_run n p s e taken (Ok done) = ap (λ (t : List ℕ). record { text = t; status = status.Done }) (append-nil _)
@@ -116,7 +116,7 @@ module _ {N : Type 0} (role : Role) (table : MachineTable N) (begins : (s : Sett
   Waits n rest = (p : Phase) (s : Settings) → BeforeRun p → answers n (waiting p s) rest ≡ whole_script (script_from n 0 (reading p s) rest)
 
   end_before : (n : ℕ) (p : Phase) (s : Settings) (x : Result (Unit {0}) LineFault)
-      → after_text (closing_by table (waiting p s) x).text (closing_answer (n + 1) (closing_by table (waiting p s) x).closed)
+      → closing_answer (n + 1) (closing_by table (waiting p s) x)
       ≡ whole_script (stops (finish_ending (n + 1) x))
   end_before n p s (Ok done) = refl
   end_before n p s (Err fault) = refl

@@ -82,7 +82,7 @@ impl<M, E: Begins<M>> End<M, E> {
     fn begin<W: Sink>(&mut self, sink: &mut W) -> Result<Next, Trouble>
         requires ready { IsReady E.is_going E.has_both self.old 0 }
         ensures ready_after { IfOk result (λ next. IsReady E.is_going E.has_both self.new 0) }
-        ensures answers { AnswersLine W.written W.write_faults W.last_write_fault
+        ensures answers { AnswersLine W.shown
             result sink.old sink.new
             (begins_at E.table (end_seen E.shown self.old)) false (end_seen E.shown self.new) }
     {
@@ -100,7 +100,7 @@ impl<M, E: Begins<M>> End<M, E> {
     fn step<W: Sink>(&mut self, sink: &mut W, input: &EndInput) -> Result<Next, Trouble>
         requires ready { IsReady E.is_going E.has_both self.old 0 }
         ensures ready_after { IfOk result (λ next. IsReady E.is_going E.has_both self.new 0) }
-        ensures answers { AnswersLine W.written W.write_faults W.last_write_fault
+        ensures answers { AnswersLine W.shown
             result sink.old sink.new
             (steps_at E.table (end_seen E.shown self.old) input.now) false (end_seen E.shown self.new) }
     {
@@ -129,7 +129,7 @@ impl<M, E: Begins<M>> End<M, E> {
     /// The end of the input, after the line `end`.
     #[tactic(auto, unfolding(answer_text::specs::Writes::Appends))]
     fn end<W: Sink>(&self, sink: &mut W) -> Result<Close, Failed>
-        ensures { AnswersEnd W.written W.write_faults W.last_write_fault result sink.old sink.new (record {
+        ensures { AnswersEnd W.shown result sink.old sink.new (record {
           text = last_of E.table (end_seen E.shown self.now).pipe;
           closed = ends Status.Done;
         }) }
@@ -155,9 +155,8 @@ fn tell<E: Machine, W: Sink>(
 ) -> Result<(), Failed>
     requires { E.is_going pipe.old.machine }
     ensures going { E.is_going pipe.new.machine }
-    ensures after { (end_step E.table (end_now E.shown pipe.old) input.now).after
-        ≡ end_now E.shown pipe.new }
-    ensures text { Appends W.written W.write_faults W.last_write_fault result sink.old sink.new
+    ensures after { (end_step E.table (end_now E.shown pipe.old) input.now).after ≡ end_now E.shown pipe.new }
+    ensures text { Appends W.shown result sink.old sink.new
         (told_text number (end_step E.table (end_now E.shown pipe.old) input.now).told) }
 {
     let step = pipe.step(input, packet, tags);

@@ -24,7 +24,7 @@ pub fn write_step<W: Sink>(
     told: &EndStep,
     octets: &[u8],
 ) -> Result<(), Failed>
-    ensures { (tags : Tags) → Appends W.written W.write_faults W.last_write_fault result sink.old sink.new
+    ensures { (tags : Tags) → Appends W.shown result sink.old sink.new
         (told_text number (told_with told.now octets.now tags)) }
 {
     if told.skipped {
@@ -37,7 +37,7 @@ pub fn write_step<W: Sink>(
 /// Writes the last lines: the end's state, and `end`.
 #[tactic(auto, unfolding(crate::specs::EndText::last_text))]
 pub fn write_last<W: Sink>(sink: &mut W, state: State) -> Result<(), Failed>
-    ensures { Appends W.written W.write_faults W.last_write_fault result sink.old sink.new (last_text state) }
+    ensures { Appends W.shown result sink.old sink.new (last_text state) }
 {
     write_pieces(
         sink,
@@ -51,7 +51,7 @@ pub fn write_last<W: Sink>(sink: &mut W, state: State) -> Result<(), Failed>
 
 /// Writes the line of an input that is skipped.
 fn write_skip<W: Sink>(sink: &mut W, number: u32) -> Result<(), Failed>
-    ensures { Appends W.written W.write_faults W.last_write_fault result sink.old sink.new (skip_line number) }
+    ensures { Appends W.shown result sink.old sink.new (skip_line number) }
 {
     write_pieces(sink, &[Number(u64::from(number)), Text(b" skip Ended\n")])
 }
@@ -64,7 +64,7 @@ fn write_acted<W: Sink>(
     told: &EndStep,
     octets: &[u8],
 ) -> Result<(), Failed>
-    ensures { (tags : Tags) → Appends W.written W.write_faults W.last_write_fault result sink.old sink.new
+    ensures { (tags : Tags) → Appends W.shown result sink.old sink.new
         (acted_text number (told_with told.now octets.now tags)) }
 {
     write_states(sink, number, told.step.path.as_slice())?;
@@ -75,8 +75,7 @@ fn write_acted<W: Sink>(
 
 /// Writes the line of the packet that is sent, if one is.
 fn write_sent<W: Sink>(sink: &mut W, number: u32, octets: &[u8], sends: bool) -> Result<(), Failed>
-    ensures { Appends W.written W.write_faults W.last_write_fault result sink.old sink.new
-        (send_text number (if sends then Some octets.now else None)) }
+    ensures { Appends W.shown result sink.old sink.new (send_text number (if sends then Some octets.now else None)) }
 {
     if sends {
         write_packet(sink, number, octets)
@@ -87,7 +86,7 @@ fn write_sent<W: Sink>(sink: &mut W, number: u32, octets: &[u8], sends: bool) ->
 
 /// Writes all octets of a packet in hex, in one line.
 fn write_packet<W: Sink>(sink: &mut W, number: u32, octets: &[u8]) -> Result<(), Failed>
-    ensures { Appends W.written W.write_faults W.last_write_fault result sink.old sink.new (send_text number (Some octets.now)) }
+    ensures { Appends W.shown result sink.old sink.new (send_text number (Some octets.now)) }
 {
     write_pieces(
         sink,
@@ -102,7 +101,7 @@ fn write_packet<W: Sink>(sink: &mut W, number: u32, octets: &[u8]) -> Result<(),
 
 /// Writes the names of the keys of a report that the end first has, if there is one.
 fn write_keys<W: Sink>(sink: &mut W, number: u32, named: &Option<Report>) -> Result<(), Failed>
-    ensures { Appends W.written W.write_faults W.last_write_fault result sink.old sink.new (keys_text number named.now) }
+    ensures { Appends W.shown result sink.old sink.new (keys_text number named.now) }
 {
     match named {
         None => write_nothing(sink),
@@ -121,7 +120,7 @@ fn write_key_names<'a, W: Sink>(
     msk: &'a [u8],
     emsk: &'a [u8],
 ) -> Result<(), Failed>
-    ensures { Appends W.written W.write_faults W.last_write_fault result sink.old sink.new (keys_line number msk.now emsk.now) }
+    ensures { Appends W.shown result sink.old sink.new (keys_line number msk.now emsk.now) }
 {
     write_pieces(
         sink,

@@ -53,8 +53,7 @@ pub fn answer_peer<M: PeerMethod, S: Source, W: Sink>(
     methods: Vec<M>,
 ) -> Status
     requires { HasBothPeers M.peer_shown methods.items }
-    ensures { Responds S.left S.read_faults S.last_read_fault W.written W.write_faults W.last_write_fault
-        (reading peer_answer never) result source.old source.new sink.old sink.new }
+    ensures { Responds S.shown W.shown (reading peer_answer never) result source.old source.new sink.old sink.new }
 {
     drive(
         &mut End::<M, PeerMachine<M>>::new(Role::Peer, methods),

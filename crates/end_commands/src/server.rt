@@ -63,8 +63,7 @@ pub fn answer_server<M: ServerMethod, S: Source, W: Sink>(
     methods: Vec<M>,
 ) -> Status
     requires { HasBothServers M.server_shown methods.items }
-    ensures { Responds S.left S.read_faults S.last_read_fault W.written W.write_faults W.last_write_fault
-        (reading server_answer never) result source.old source.new sink.old sink.new }
+    ensures { Responds S.shown W.shown (reading server_answer never) result source.old source.new sink.old sink.new }
 {
     drive(
         &mut End::<M, StandAloneServer<M>>::new(Role::Server, methods),

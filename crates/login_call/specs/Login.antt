@@ -1,6 +1,7 @@
 -- What the program answers to words and an input.
 use Rattle.std.specs.Prelude.{ℕ, List, [], ◌∷◌, Bool, true, false, ◌&&◌, if◌then◌else◌, codes, Option, Some, None}
 use Rattle.std.specs.Str.{bytes_eq}
+use Rattle.octet_io.specs.Shown.{Shown}
 use Rattle.login_setup.specs.declared.users.User.{User}
 use Rattle.answer_text.specs.Lines.{line_text}
 use Rattle.command_driver.specs.Answers.{Answer}
@@ -12,7 +13,7 @@ use Rattle.capture_commands.specs.Pcap.{pcap_users, pcap_answer}
 use Rattle.capture_commands.specs.Radius.{radius_answer}
 use Rattle.end_commands.specs.PeerCommand.{peer_answer}
 use Rattle.end_commands.specs.ServerCommand.{server_answer}
-use Rattle.command_driver.specs.Responding.{Asked, Lacking, reading, unread, never, at_any, MayLack, answer_to, lacking_of}
+use Rattle.command_driver.specs.Responding.{Asked, Lacking, reading, unread, never, at_any, MayLack, Says, answer_to, lacking_of}
 use Rattle.world_commands.specs.Scenario.{asked_replay}
 use Rattle.world_commands.specs.declared.bulk.Bulk.{Bulk}
 use Rattle.command_driver.specs.declared.status.Status.{Status}
@@ -76,6 +77,13 @@ abbrev pub asked_with : Option (List User) → Option Bulk → Asked
 asked_with None asked = unread (unread_answer asked) (unread_lacking asked)
 asked_with (Some users) asked = reading (pcap_answer users) never
 
+abbrev pub asked_with_arguments : List (List ℕ) → Asked
+asked_with_arguments words = asked_with (pcap_users words) (bulk_of words)
+
+-- words that read nothing were answered
+abbrev pub SaysUnread : {W : Type 0} → Shown W → Option Bulk → Status → W → W → Type 0
+SaysUnread sink asked result old new = Says sink (unread_answer asked) (unread_lacking asked) result old new
+
 -- what words ask
 abbrev pub asked_by : List (List ℕ) → Asked
 asked_by words =
@@ -87,7 +95,7 @@ asked_by words =
     else if is_radius words then reading radius_answer never
     else if is_peer words then reading peer_answer never
     else if is_server words then reading server_answer never
-    else asked_with (pcap_users words) (bulk_of words)
+    else asked_with_arguments words
 
 -- the answer to words and an input
 abbrev pub login_answer : List (List ℕ) → List ℕ → Answer

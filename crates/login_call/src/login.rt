@@ -1,14 +1,14 @@
 //! The program's one call.
 
 ghost use Rattle.std.specs.Prelude.{◌≡◌, ℕ, List, Some, map, string_bytes};
-ghost use Rattle.command_driver.specs.Answers.{Finishes, HasRisen};
+ghost use Rattle.octet_io.specs.Shown.{HasRisen};
+ghost use Rattle.command_driver.specs.Answers.{Finishes};
 ghost use Rattle.world_commands.specs.Bulk.{bulk_of};
-ghost use Rattle.login_call.specs.Login.{is_alone, are_two, asked_by, asked_with};
-ghost use Rattle.login_call.specs.Login.{unread_answer, unread_lacking, usage_answer, usage_text, Completes};
-ghost use Rattle.capture_commands.specs.Pcap.{pcap_users};
+ghost use Rattle.login_call.specs.Login.{is_alone, are_two, asked_by, asked_with_arguments};
+ghost use Rattle.login_call.specs.Login.{SaysUnread, usage_answer, usage_text, Completes};
 ghost use Rattle.world_commands.specs.Headline.{HonestEndsAgree, WritesNeverBoth};
 ghost use Rattle.world_commands.specs.Replay.{HasBoth};
-ghost use Rattle.command_driver.specs.Responding.{Responds, Says};
+ghost use Rattle.command_driver.specs.Responding.{Responds};
 ghost use Rattle.world_commands.specs.SmoothTraces.{SmoothTracesAgree};
 ghost use Rattle.answer_text.specs.Writes.{Appends};
 
@@ -60,7 +60,7 @@ pub fn eap_login<P: PeerMethod, M: ServerMethod, S: Source, W: Sink>(
     // nothing is left to read, but for `bulk N K`. Else a prefix of the text was. A fault comes only if its count rose
     // in this call, or is at its last value, and whenever it rose: none that is counted is ignored. Want of memory
     // comes only for `replay` and `replay names`, if the input's settings are whole, and for `bulk N K`.
-    ensures responds { Responds S.left S.read_faults S.last_read_fault W.written W.write_faults W.last_write_fault
+    ensures responds { Responds S.shown W.shown
         (asked_by (map string_bytes words.now.items)) result source.old source.new sink.old sink.new }
 
     // Whatever the scenario has delivered, lost, repeated, reordered, altered, reflected, injected or restarted: if
@@ -81,13 +81,13 @@ pub fn eap_login<P: PeerMethod, M: ServerMethod, S: Source, W: Sink>(
 
     // On octets alone: no text written with status 0 has the lines `tags honest` and `result apart`, and either the
     // line `fresh yes` or no line that begins with `fresh`.
-    ensures never_both { (octets : List ℕ) → S.left source.old ≡ Some octets → WritesNeverBoth result (W.written sink.old) (W.written sink.new) }
+    ensures never_both { (octets : List ℕ) → S.shown.octets source.old ≡ Some octets → WritesNeverBoth result (W.shown.octets sink.old) (W.shown.octets sink.new) }
 
     // If the source shows its octets and neither a read nor a write failed, the status is the answer's, or memory was
     // wanting if it may be.
-    ensures complete { (octets : List ℕ) → S.left source.old ≡ Some octets
-        → (HasRisen S.last_read_fault (S.read_faults source.old) (S.read_faults source.new) → ⊥)
-        → (HasRisen W.last_write_fault (W.write_faults sink.old) (W.write_faults sink.new) → ⊥)
+    ensures complete { (octets : List ℕ) → S.shown.octets source.old ≡ Some octets
+        → (HasRisen S.shown source.old source.new → ⊥)
+        → (HasRisen W.shown sink.old sink.new → ⊥)
         → Completes (map string_bytes words.now.items) octets result }
 {
     respond(alloc, words, source, sink, methods)
@@ -102,7 +102,7 @@ fn respond<P: PeerMethod, M: ServerMethod, S: Source, W: Sink>(
     methods: Methods<P, M>,
 ) -> Status
     requires { HasBoth P.peer_shown M.server_shown methods }
-    ensures { Responds S.left S.read_faults S.last_read_fault W.written W.write_faults W.last_write_fault
+    ensures { Responds S.shown W.shown
         (asked_by (map string_bytes words.now.items)) result source.old source.new sink.old sink.new }
 {
     if are_alone(words, "replay") {
@@ -157,9 +157,8 @@ fn answer_arguments<P: PeerMethod, M: ServerMethod, S: Source, W: Sink>(
     methods: Methods<P, M>,
 ) -> Status
     requires { HasBoth P.peer_shown M.server_shown methods }
-    ensures { Responds S.left S.read_faults S.last_read_fault W.written W.write_faults W.last_write_fault
-        (asked_with (pcap_users (map string_bytes words.now.items)) (bulk_of (map string_bytes words.now.items)))
-        result source.old source.new sink.old sink.new }
+    ensures { Responds S.shown W.shown
+        (asked_with_arguments (map string_bytes words.now.items)) result source.old source.new sink.old sink.new }
 {
     let mut users = Users::new();
     if read_pcap(words, &mut users) {
@@ -177,9 +176,7 @@ fn answer_unread<P: PeerMethod, M: ServerMethod, W: Sink>(
     methods: Methods<P, M>,
 ) -> Status
     requires { HasBoth P.peer_shown M.server_shown methods }
-    ensures { Says W.written W.write_faults W.last_write_fault
-        (unread_answer (bulk_of (map string_bytes words.now.items))) (unread_lacking (bulk_of (map string_bytes words.now.items)))
-        result sink.old sink.new }
+    ensures { SaysUnread W.shown (bulk_of (map string_bytes words.now.items)) result sink.old sink.new }
 {
     match bulk_of(words) {
         Some(asked) => run_bulk(alloc, asked, sink, methods),
@@ -190,7 +187,7 @@ fn answer_unread<P: PeerMethod, M: ServerMethod, W: Sink>(
 /// Writes the usage line.
 #[tactic(auto, unfolding(answer_text::specs::Writes::Appends))]
 fn show_usage<W: Sink>(sink: &mut W) -> Status
-    ensures { Finishes W.written W.write_faults W.last_write_fault result sink.old sink.new usage_answer }
+    ensures { Finishes W.shown result sink.old sink.new usage_answer }
 {
     match write_usage(sink) {
         Ok(()) => Status::Usage,
@@ -200,7 +197,7 @@ fn show_usage<W: Sink>(sink: &mut W) -> Status
 
 #[tactic(auto, unfolding(crate::specs::Login::usage_text))]
 fn write_usage<W: Sink>(sink: &mut W) -> Result<(), Failed>
-    ensures { Appends W.written W.write_faults W.last_write_fault result sink.old sink.new usage_text }
+    ensures { Appends W.shown result sink.old sink.new usage_text }
 {
     write_line(
         sink,

@@ -1,9 +1,9 @@
 -- How a run of the program ends: by what it was started with, what it read and wrote, and its exit status.
-use Rattle.std.specs.Prelude.{◌≡◌, ℕ, List, drop, Option, Some, ◌⊎◌}
+use Rattle.std.specs.Prelude.{◌≡◌, ℕ, List, drop, Some, ◌⊎◌}
+use Rattle.octet_io.specs.Shown.{Shown, HasRisen}
 use Rattle.world_commands.specs.Headline.{HonestEndsAgree, WritesNeverBoth}
 use Rattle.world_commands.specs.SmoothTraces.{SmoothTracesAgree}
 use Rattle.login_call.specs.Login.{asked_by, Completes}
-use Rattle.command_driver.specs.Answers.{HasRisen}
 use Rattle.command_driver.specs.Responding.{Responds}
 use Rattle.command_driver.specs.Statuses.{number_of}
 use Rattle.command_driver.specs.declared.status.Status.{Status}
@@ -15,8 +15,7 @@ after_name args = drop 1 args
 
 -- by what a source and a sink show of themselves: what is left and what was written, the counts of faults, and
 -- the last values of those counts
-module _ {S W : Type 0} (left : S → Option (List ℕ)) (read_faults : S → ℕ) (last_read_fault : Option ℕ)
-    (written : W → Option (List ℕ)) (write_faults : W → ℕ) (last_write_fault : Option ℕ) where
+module _ {S W : Type 0} (source : Shown S) (sink : Shown W) where
   -- memory was wanting before anything was read or written
   pub record Lacked (before : S) (now : S) (old : W) (new : W) (s : Status) : Type 0 where
     pub memory : s ≡ status.Memory
@@ -29,13 +28,13 @@ module _ {S W : Type 0} (left : S → Option (List ℕ)) (read_faults : S → �
   -- that nonces are fresh or nothing of them; if neither a read nor a write failed, the status is the answer's, or
   -- memory was wanting if it may be
   pub record Answers (words : List (List ℕ)) (before : S) (now : S) (old : W) (new : W) (s : Status) : Type 0 where
-    pub responds : Responds left read_faults last_read_fault written write_faults last_write_fault (asked_by words) s before now old new
+    pub responds : Responds source sink (asked_by words) s before now old new
         ⊎ Lacked before now old new s
     pub honest_ends_agree : (octets : List ℕ) → HonestEndsAgree octets
     pub smooth_traces_agree : SmoothTracesAgree
-    pub never_both : (octets : List ℕ) → left before ≡ Some octets → WritesNeverBoth s (written old) (written new)
-    pub complete : (octets : List ℕ) → left before ≡ Some octets → (HasRisen last_read_fault (read_faults before) (read_faults now) → ⊥)
-        → (HasRisen last_write_fault (write_faults old) (write_faults new) → ⊥) → Completes words octets s ⊎ Lacked before now old new s
+    pub never_both : (octets : List ℕ) → source.octets before ≡ Some octets → WritesNeverBoth s (sink.octets old) (sink.octets new)
+    pub complete : (octets : List ℕ) → source.octets before ≡ Some octets → (HasRisen source before now → ⊥)
+        → (HasRisen sink old new → ⊥) → Completes words octets s ⊎ Lacked before now old new s
 
   -- words were answered, and the exit status is the number of the status
   pub record Exits (words : List (List ℕ)) (before : S) (now : S) (old : W) (new : W) (number : ℕ) : Type 0 where

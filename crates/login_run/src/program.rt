@@ -30,7 +30,7 @@ pub fn run<S: Source, W: Sink>(
     source: &mut S,
     sink: &mut W,
 ) -> u8
-    ensures answers { IfOk args (λ args. Exits S.left S.read_faults S.last_read_fault W.written W.write_faults W.last_write_fault
+    ensures answers { IfOk args (λ args. Exits S.shown W.shown
         (map string_bytes (after_name (into_iter_items args))) source.old source.new sink.old sink.new result) }
 
     // If the arguments could not be read, nothing is read or written.
@@ -52,7 +52,7 @@ fn answer<S: Source, W: Sink>(
     source: &mut S,
     sink: &mut W,
 ) -> io::Result<Status>
-    ensures answers { IfOk result (λ status. Answers S.left S.read_faults S.last_read_fault W.written W.write_faults W.last_write_fault
+    ensures answers { IfOk result (λ status. Answers S.shown W.shown
         (map string_bytes (after_name (into_iter_items args))) source.old source.new sink.old sink.new status) }
     ensures memory { IfErr result (λ error. error_kind error ≡ OutOfMemory) }
     ensures unread { OnErr result (source.new ≡ source.old) }

@@ -4,3 +4,4 @@ pub mod Known
 pub mod LineSteps
 pub mod Lines
 pub mod Memory
+pub mod Shown

@@ -1,8 +1,9 @@
 -- The lines of an input. A line ends with LF, and one CR directly before the LF is no part of it.
 -- The last line may lack its LF. A line has at most 4,096 octets, its CR among them, and the input
 -- at most 16,777,216.
-use Rattle.std.specs.Prelude.{◌≡◌, ℕ, ◌+◌, ◌≤◌, ◌<◌, List, [], ◌∷◌, ◌++◌, length, Bool, true, false, ◌==◌, ◌&&◌, not, if◌then◌else◌, Option, Some, option_map, nat_le, min, ◌-◌}
+use Rattle.std.specs.Prelude.{◌≡◌, ℕ, ◌+◌, ◌<◌, List, [], ◌∷◌, ◌++◌, length, Bool, true, false, ◌==◌, ◌&&◌, not, if◌then◌else◌, Option, option_map, nat_le, min, ◌-◌}
 use Rattle.octet_io.specs.Known.{nothing_known}
+use Rattle.octet_io.specs.Shown.{Shown, HasRisen}
 use Rattle.octet_io.specs.declared.lines.NextLine.{NextLine}
 use Rattle.octet_io.specs.declared.lines.NextLine.TheVariants.{Line, End, TooLong, TooMuch, Read}
 
@@ -98,12 +99,12 @@ Exhausts Read left = Unit {0}
 
 -- the answer Read comes only if the count of faults rose, or is at its last value; after any other
 -- answer it is as it was
-abbrev pub Faults : NextLine → Option ℕ → ℕ → ℕ → Type 0
-Faults Read last before after = after ≤ before → last ≡ Some after
-Faults Line last before after = after ≡ before
-Faults End last before after = after ≡ before
-Faults TooLong last before after = after ≡ before
-Faults TooMuch last before after = after ≡ before
+abbrev pub Faults : {S : Type 0} → Shown S → NextLine → S → S → Type 0
+Faults shown Read before after = HasRisen shown before after
+Faults shown Line before after = shown.faults after ≡ shown.faults before
+Faults shown End before after = shown.faults after ≡ shown.faults before
+Faults shown TooLong before after = shown.faults after ≡ shown.faults before
+Faults shown TooMuch before after = shown.faults after ≡ shown.faults before
 
 -- every answer but a line is the last one
 abbrev pub is_last : NextLine → Bool

@@ -1,7 +1,8 @@
 //! Octets of a source that were read and not used yet.
 
-ghost use Rattle.std.specs.Prelude.{◌≡◌, ◌≤◌, [], length, drop, Some, IfOk, OnErr, OnOk};
+ghost use Rattle.std.specs.Prelude.{◌≡◌, ◌≤◌, [], length, drop, IfOk, OnErr, OnOk};
 ghost use Rattle.octet_io.specs.Known.{prepend_known, nothing_known};
+ghost use Rattle.octet_io.specs.Shown.{HasRisen};
 
 use crate::source::{Failed, Source};
 use std::marker::Model;
@@ -42,11 +43,11 @@ impl Ahead {
     /// none left.
     pub fn fill<S: Source>(&mut self, source: &mut S) -> Result<usize, Failed>
         ensures count { IfOk result (λ n. n ≡ length self.new) }
-        ensures gives { IfOk result (λ n. S.left source.old ≡ prepend_known self.new (S.left source.new)) }
-        ensures over { IfOk result (λ n. n ≡ 0 → S.left source.new ≡ nothing_known (S.left source.new)) }
-        ensures counted { OnErr result (S.read_faults source.new ≤ S.read_faults source.old → S.last_read_fault ≡ Some (S.read_faults source.new)) }
-        ensures uncounted { OnOk result (S.read_faults source.new ≡ S.read_faults source.old) }
-        ensures never_falls { S.read_faults source.old ≤ S.read_faults source.new }
+        ensures gives { IfOk result (λ n. S.shown.octets source.old ≡ prepend_known self.new (S.shown.octets source.new)) }
+        ensures over { IfOk result (λ n. n ≡ 0 → S.shown.octets source.new ≡ nothing_known (S.shown.octets source.new)) }
+        ensures counted { OnErr result (HasRisen S.shown source.old source.new) }
+        ensures uncounted { OnOk result (S.shown.faults source.new ≡ S.shown.faults source.old) }
+        ensures never_falls { S.shown.faults source.old ≤ S.shown.faults source.new }
     {
         self.place = 0;
         self.filled = 0;

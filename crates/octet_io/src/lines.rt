@@ -92,16 +92,16 @@ impl LineReader {
 
         // The lines are those of the octets that the reader has buffered and the source has left,
         // however they are cut into reads.
-        ensures lines { Divides result self.new.line (lines_left self.old (S.left source.old)) (lines_left self.new (S.left source.new)) }
+        ensures lines { Divides result self.new.line (lines_left self.old (S.shown.octets source.old)) (lines_left self.new (S.shown.octets source.new)) }
         ensures number { Numbers result self.old.number self.new.number }
         ensures begun { Begins result self.old self.new }
         ensures over { self.new.over ≡ is_last result }
         ensures takes { Takes result self.old.taken self.new.taken }
         ensures bounded { self.new.taken ≤ max_input }
-        ensures exhausted { Exhausts result (S.left source.new) }
+        ensures exhausted { Exhausts result (S.shown.octets source.new) }
 
-        ensures read { Faults result S.last_read_fault (S.read_faults source.old) (S.read_faults source.new) }
-        ensures never_falls { S.read_faults source.old ≤ S.read_faults source.new }
+        ensures read { Faults S.shown result source.old source.new }
+        ensures never_falls { S.shown.faults source.old ≤ S.shown.faults source.new }
     {
         self.begin_line();
         let answer = self.read_line(source);
@@ -123,17 +123,17 @@ impl LineReader {
     fn read_line<S: Source>(&mut self, source: &mut S) -> NextLine
         requires begun { self.old.line ≡ [] }
         requires bounded { self.old.taken ≤ max_input }
-        ensures lines { Divides result self.new.line (lines_within self.old (S.left source.old)) (lines_left self.new (S.left source.new)) }
+        ensures lines { Divides result self.new.line (lines_within self.old (S.shown.octets source.old)) (lines_left self.new (S.shown.octets source.new)) }
         ensures number { self.new.number ≡ self.old.number }
         ensures over { self.new.over ≡ self.old.over }
         ensures takes { Takes result self.old.taken self.new.taken }
         ensures bounded { self.new.taken ≤ max_input }
         ensures grows { self.old.taken ≤ self.new.taken }
         ensures begins { result ≡ NextLine.Read → self.new.taken ≡ self.old.taken + length self.new.line }
-        ensures exhausted { Exhausts result (S.left source.new) }
+        ensures exhausted { Exhausts result (S.shown.octets source.new) }
 
-        ensures read { Faults result S.last_read_fault (S.read_faults source.old) (S.read_faults source.new) }
-        ensures never_falls { S.read_faults source.old ≤ S.read_faults source.new }
+        ensures read { Faults S.shown result source.old source.new }
+        ensures never_falls { S.shown.faults source.old ≤ S.shown.faults source.new }
     {
         loop {
             if self.ahead.as_slice().is_empty() {

@@ -55,11 +55,7 @@ impl MemSource {
 impl Source for MemSource {
     ghost use Rattle.std.specs.Prelude.{Some, None};
 
-    ghost left = { λ s. Some s.left };
-
-    ghost read_faults = { λ s. s.faults };
-
-    ghost last_read_fault = { None };
+    ghost shown = { record { octets = λ s. Some s.left; faults = λ s. s.faults; most_faults = None } };
 
     fn read(&mut self, buf: &mut [u8]) -> Result<usize, Failed>
         ensures fits { IfOk result (λ n. n ≤ length buf.old) }
@@ -149,11 +145,7 @@ impl Sink for MemSink {
     ghost use Rattle.std.specs.Prelude.{Some};
     ghost use Rattle.octet_io.specs.Memory.{last_fault};
 
-    ghost written = { λ s. Some s.written };
-
-    ghost write_faults = { λ s. s.faults };
-
-    ghost last_write_fault = { Some last_fault };
+    ghost shown = { record { octets = λ s. Some s.written; faults = λ s. s.faults; most_faults = Some last_fault } };
 
     fn write(&mut self, piece: &[u8]) -> Result<usize, Failed>
         ensures moves { IfOk result (λ n. 0 < length piece.now → 0 < n) }

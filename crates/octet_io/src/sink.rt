@@ -1,22 +1,18 @@
 //! The trait of a sink of octets.
 
-ghost use Rattle.std.specs.Prelude.{◌≡◌, ◌≤◌, ◌<◌, length, take, Some, IfOk, IfSome, OnOk, OnErr};
+ghost use Rattle.std.specs.Prelude.{◌≡◌, ◌≤◌, ◌<◌, length, take, IfOk, IfSome, OnOk, OnErr};
 ghost use Rattle.octet_io.specs.Known.{append_known};
+ghost use Rattle.octet_io.specs.Shown.{HasRisen};
 
 use crate::source::Failed;
 
 /// A sink of octets which counts its faults.
 pub trait Sink {
-    ghost use Rattle.std.specs.Prelude.{ℕ, List, Option};
+    ghost use Rattle.octet_io.specs.Shown.{Shown};
 
-    /// The octets that were written so far, if the sink shows them.
-    ghost written: { Self → Option (List ℕ) };
-
-    /// How many writes have failed so far.
-    ghost write_faults: { Self → ℕ };
-
-    /// The greatest number that the count of faults can reach, if there is one.
-    ghost last_write_fault: { Option ℕ };
+    /// The octets that were written so far, if the sink shows them, the count of its faults, and the
+    /// last value of that count, if there is one.
+    ghost shown: { Shown Self };
 
     /// Writes the first octets of `piece`, at least one if there is one, and answers how many.
     /// `Failed` comes only if the count of faults rose, or is at its last value, which it never
@@ -24,10 +20,10 @@ pub trait Sink {
     fn write(&mut self, piece: &[u8]) -> Result<usize, Failed>
         ensures moves { IfOk result (λ n. 0 < length piece.now → 0 < n) }
         ensures fits { IfOk result (λ n. n ≤ length piece.now) }
-        ensures appended { IfOk result (λ n. append_known (written self.old) (take n piece.now) ≡ written self.new) }
-        ensures unchanged { OnErr result (written self.new ≡ written self.old) }
-        ensures counted { OnErr result (write_faults self.new ≤ write_faults self.old → last_write_fault ≡ Some (write_faults self.new)) }
-        ensures uncounted { OnOk result (write_faults self.new ≡ write_faults self.old) }
-        ensures never_falls { write_faults self.old ≤ write_faults self.new }
-        ensures never_passes { IfSome last_write_fault (λ last. write_faults self.new ≤ last) };
+        ensures appended { IfOk result (λ n. append_known (shown.octets self.old) (take n piece.now) ≡ shown.octets self.new) }
+        ensures unchanged { OnErr result (shown.octets self.new ≡ shown.octets self.old) }
+        ensures counted { OnErr result (HasRisen shown self.old self.new) }
+        ensures uncounted { OnOk result (shown.faults self.new ≡ shown.faults self.old) }
+        ensures never_falls { shown.faults self.old ≤ shown.faults self.new }
+        ensures never_passes { IfSome shown.most_faults (λ last. shown.faults self.new ≤ last) };
 }

@@ -42,11 +42,7 @@ impl<R: Read + Drop> Source for StdSource<R> {
     ghost use Rattle.std.specs.Prelude.{Some, None};
     ghost use Rattle.octet_io.specs.Memory.{last_fault};
 
-    ghost left = { λ _. None };
-
-    ghost read_faults = { λ s. s.faults };
-
-    ghost last_read_fault = { Some last_fault };
+    ghost shown = { record { octets = λ _. None; faults = λ s. s.faults; most_faults = Some last_fault } };
 
     fn read(&mut self, buf: &mut [u8]) -> Result<usize, Failed>
         ensures fits { IfOk result (λ n. n ≤ length buf.old) }
@@ -104,11 +100,7 @@ impl<W: Write + Drop> Sink for StdSink<W> {
     ghost use Rattle.std.specs.Prelude.{Some, None};
     ghost use Rattle.octet_io.specs.Memory.{last_fault};
 
-    ghost written = { λ _. None };
-
-    ghost write_faults = { λ s. s.faults };
-
-    ghost last_write_fault = { Some last_fault };
+    ghost shown = { record { octets = λ _. None; faults = λ s. s.faults; most_faults = Some last_fault } };
 
     fn write(&mut self, piece: &[u8]) -> Result<usize, Failed>
         ensures moves { IfOk result (λ n. 0 < length piece.now → 0 < n) }

@@ -37,11 +37,7 @@ impl SureSource {
 impl Source for SureSource {
     ghost use Rattle.std.specs.Prelude.{Some, None};
 
-    ghost left = { λ s. Some s };
-
-    ghost read_faults = { λ _. 0 };
-
-    ghost last_read_fault = { None };
+    ghost shown = { record { octets = λ s. Some s; faults = λ _. 0; most_faults = None } };
 
     fn read(&mut self, buf: &mut [u8]) -> Result<usize, Failed>
         ensures fits { IfOk result (λ n. n ≤ length buf.old) }
@@ -71,11 +67,7 @@ impl SureSink {
 impl Sink for SureSink {
     ghost use Rattle.std.specs.Prelude.{None};
 
-    ghost written = { λ _. None };
-
-    ghost write_faults = { λ _. 0 };
-
-    ghost last_write_fault = { None };
+    ghost shown = { record { octets = λ _. None; faults = λ _. 0; most_faults = None } };
 
     fn write(&mut self, piece: &[u8]) -> Result<usize, Failed>
         ensures whole { result ≡ Ok (length piece.now) }

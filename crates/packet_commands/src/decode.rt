@@ -48,7 +48,7 @@ impl Decode {
     fn packet<W: Sink>(&mut self, sink: &mut W, octets: &[u8]) -> Result<Next, Trouble>
         requires packets { self.old.packets < 2 ^ 31 }
         requires malformed { self.old.malformed < 2 ^ 31 }
-        ensures answers { AnswersLine W.written W.write_faults W.last_write_fault result sink.old sink.new
+        ensures answers { AnswersLine W.shown result sink.old sink.new
             (took_packet self.old (Ok (Some octets.now))) false self.new }
         ensures after { self.new ≡ with_packet self.old octets.now }
     {
@@ -98,8 +98,7 @@ impl Command for Decode {
 /// Reads packets in hex and writes what they are. It allocates no memory.
 #[tactic(auto, using(command_driver::proofs::Responding::never_lacks))]
 pub fn decode_packets<S: Source, W: Sink>(source: &mut S, sink: &mut W) -> Status
-    ensures { Responds S.left S.read_faults S.last_read_fault W.written W.write_faults W.last_write_fault
-        (reading decode_answer never) result source.old source.new sink.old sink.new }
+    ensures { Responds S.shown W.shown (reading decode_answer never) result source.old source.new sink.old sink.new }
 {
     drive(&mut Decode::new(), source, sink)
 }

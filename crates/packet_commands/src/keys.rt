@@ -59,8 +59,7 @@ impl Command for Keys {
 /// Reads requests for ciphers, MACs and keys and writes the answers. It allocates no memory.
 #[tactic(auto, using(command_driver::proofs::Responding::never_lacks))]
 pub fn answer_keys<S: Source, W: Sink>(source: &mut S, sink: &mut W) -> Status
-    ensures { Responds S.left S.read_faults S.last_read_fault W.written W.write_faults W.last_write_fault
-        (reading keys_answer never) result source.old source.new sink.old sink.new }
+    ensures { Responds S.shown W.shown (reading keys_answer never) result source.old source.new sink.old sink.new }
 {
     drive(&mut Keys::new(), source, sink)
 }

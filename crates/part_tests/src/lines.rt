@@ -72,11 +72,7 @@ struct Ruled {
 impl Source for Ruled {
     ghost use Rattle.std.specs.Prelude.{None};
 
-    ghost left = { λ _. None };
-
-    ghost read_faults = { λ _. 0 };
-
-    ghost last_read_fault = { None };
+    ghost shown = { record { octets = λ _. None; faults = λ _. 0; most_faults = None } };
 
     fn read(&mut self, buf: &mut [u8]) -> Result<usize, Failed> {
         let count = buf.len().min(self.left as usize);

@@ -79,10 +79,12 @@ octets_text names event octets None = []
 octets_text names event octets (Some sent) = if names then octets_line event octets else []
 
 -- the names of the keys that a party first reports, which are only in a trace with names
+abbrev pub key_names_line : ℕ → List ℕ → List ℕ → List ℕ → List ℕ
+key_names_line event party msk emsk = concat (
+    decimal event ∷ codes " keys " ∷ party ∷ codes " msk " ∷ hex_text msk ∷ codes " emsk " ∷ hex_text emsk ∷ codes "\n" ∷ [])
+
 abbrev pub keys_line : ℕ → Named → List ℕ
-keys_line event named = concat (
-    decimal event ∷ codes " keys " ∷ party_word named.party ∷ codes " msk " ∷ hex_text (key_name_of named.report.msk) ∷
-    codes " emsk " ∷ hex_text (key_name_of named.report.emsk) ∷ codes "\n" ∷ [])
+keys_line event named = key_names_line event (party_word named.party) (key_name_of named.report.msk) (key_name_of named.report.emsk)
 
 abbrev pub keys_text : Bool → ℕ → Option Named → List ℕ
 keys_text names event None = []

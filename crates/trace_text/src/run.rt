@@ -4,9 +4,8 @@
 ghost use Rattle.std.specs.Prelude.{◌≡◌, Some, slice_index, [], ◌∷◌, codes, decimal};
 ghost use Rattle.std.specs.List.{concat};
 ghost use Rattle.answer_text.specs.Writes.{Appends, Puts};
-ghost use Rattle.answer_text.specs.Pieces.{hex_text};
 ghost use Rattle.trace_text.specs.Run.{party_word, port_word, skip_word, code_word, party_text};
-ghost use Rattle.trace_text.specs.Run.{sent_text, octets_line, octets_text, keys_line, keys_text, shown_text, acted_text};
+ghost use Rattle.trace_text.specs.Run.{sent_text, octets_line, octets_text, key_names_line, keys_line, keys_text, shown_text, acted_text};
 ghost use Rattle.trace_text.specs.Run.{told_text, peer_start_text, server_start_text, start_text, stands_text, counts_text, fresh_text, fresh_told, tags_text, verdict_word};
 ghost use Rattle.trace_text.specs.Run.{result_text, end_text_of, end_text, peer_state_line, pass_state_line, server_state_line};
 ghost use Rattle.eap_world.specs.World.{now_of};
@@ -96,7 +95,7 @@ fn put_head<W: Sink>(
     event: u32,
     party: Party,
 ) -> Result<(), Failed>
-    ensures { Puts W.written W.write_faults W.last_write_fault result sink.old sink.new line.old line.new
+    ensures { Puts W.shown result sink.old sink.new line.old line.new
         (concat (decimal event ∷ codes " " ∷ party_word party ∷ [])) }
 {
     put_pieces(
@@ -119,7 +118,7 @@ fn put_party<W: Sink>(
     party: Party,
     path: &[State],
 ) -> Result<(), Failed>
-    ensures { Puts W.written W.write_faults W.last_write_fault result sink.old sink.new line.old line.new (party_text event (Some party) path.now) }
+    ensures { Puts W.shown result sink.old sink.new line.old line.new (party_text event (Some party) path.now) }
 {
     put_head(sink, line, event, party)?;
     put_path(sink, line, path)
@@ -132,7 +131,7 @@ fn write_party_line<W: Sink>(
     party: Party,
     path: &[State],
 ) -> Result<(), Failed>
-    ensures { Appends W.written W.write_faults W.last_write_fault result sink.old sink.new (party_text event (Some party) path.now) }
+    ensures { Appends W.shown result sink.old sink.new (party_text event (Some party) path.now) }
 {
     let mut line = LineBuffer::new();
     put_party(sink, &mut line, event, party, path)?;
@@ -146,7 +145,7 @@ fn write_party<W: Sink>(
     party: Option<Party>,
     path: &[State],
 ) -> Result<(), Failed>
-    ensures { Appends W.written W.write_faults W.last_write_fault result sink.old sink.new (party_text event party path.now) }
+    ensures { Appends W.shown result sink.old sink.new (party_text event party path.now) }
 {
     match party {
         None => write_nothing(sink),
@@ -161,7 +160,7 @@ fn write_sent<W: Sink>(
     octets: &[u8],
     sent: &Option<SentPacket>,
 ) -> Result<(), Failed>
-    ensures { Appends W.written W.write_faults W.last_write_fault result sink.old sink.new (sent_text event octets.now sent.now) }
+    ensures { Appends W.shown result sink.old sink.new (sent_text event octets.now sent.now) }
 {
     match sent {
         None => write_nothing(sink),
@@ -177,7 +176,7 @@ fn write_packet_line<W: Sink>(
     octets: &[u8],
     sent: &SentPacket,
 ) -> Result<(), Failed>
-    ensures { Appends W.written W.write_faults W.last_write_fault result sink.old sink.new (sent_text event octets.now (Some sent.now)) }
+    ensures { Appends W.shown result sink.old sink.new (sent_text event octets.now (Some sent.now)) }
 {
     let code = octet_at(octets, 0);
     let has_type = code <= 2;
@@ -209,7 +208,7 @@ fn write_packet_line<W: Sink>(
 
 /// Writes all octets of a packet in hex, in one line.
 fn write_octets_line<W: Sink>(sink: &mut W, event: u32, octets: &[u8]) -> Result<(), Failed>
-    ensures { Appends W.written W.write_faults W.last_write_fault result sink.old sink.new (octets_line event octets.now) }
+    ensures { Appends W.shown result sink.old sink.new (octets_line event octets.now) }
 {
     write_pieces(
         sink,
@@ -230,7 +229,7 @@ fn write_octets<W: Sink>(
     sent: &Option<SentPacket>,
     names: bool,
 ) -> Result<(), Failed>
-    ensures { Appends W.written W.write_faults W.last_write_fault result sink.old sink.new (octets_text names event octets.now sent.now) }
+    ensures { Appends W.shown result sink.old sink.new (octets_text names event octets.now sent.now) }
 {
     match sent {
         None => write_nothing(sink),
@@ -246,7 +245,7 @@ fn write_octets<W: Sink>(
 
 /// Writes the names of the keys that a party reports, in one line.
 fn write_keys_line<W: Sink>(sink: &mut W, event: u32, named: &Named) -> Result<(), Failed>
-    ensures { Appends W.written W.write_faults W.last_write_fault result sink.old sink.new (keys_line event named.now) }
+    ensures { Appends W.shown result sink.old sink.new (keys_line event named.now) }
 {
     let msk = key_name(&named.report.msk);
     let emsk = key_name(&named.report.emsk);
@@ -261,8 +260,7 @@ fn write_key_names<'a, W: Sink>(
     msk: &'a [u8],
     emsk: &'a [u8],
 ) -> Result<(), Failed>
-    ensures { Appends W.written W.write_faults W.last_write_fault result sink.old sink.new (concat (
-        decimal event ∷ codes " keys " ∷ party.now ∷ codes " msk " ∷ hex_text msk.now ∷ codes " emsk " ∷ hex_text emsk.now ∷ codes "\n" ∷ [])) }
+    ensures { Appends W.shown result sink.old sink.new (key_names_line event party.now msk.now emsk.now) }
 {
     write_pieces(
         sink,
@@ -286,7 +284,7 @@ fn write_keys<W: Sink>(
     named: &Option<Named>,
     names: bool,
 ) -> Result<(), Failed>
-    ensures { Appends W.written W.write_faults W.last_write_fault result sink.old sink.new (keys_text names event named.now) }
+    ensures { Appends W.shown result sink.old sink.new (keys_text names event named.now) }
 {
     match named {
         None => write_nothing(sink),
@@ -311,7 +309,7 @@ pub fn write_told<W: Sink>(
     octets: &[u8],
     names: bool,
 ) -> Result<(), Failed>
-    ensures { Appends W.written W.write_faults W.last_write_fault result sink.old sink.new (told_text names octets.now told.now) }
+    ensures { Appends W.shown result sink.old sink.new (told_text names octets.now told.now) }
 {
     match told.skip {
         None => write_acted(sink, told, octets, names),
@@ -330,7 +328,7 @@ pub fn write_told<W: Sink>(
 /// Writes the lines of an event that wasn't skipped.
 #[tactic(auto, using(answer_text::proofs::Fronts::appends_both, answer_text::proofs::Fronts::appends_front))]
 fn write_acted<W: Sink>(sink: &mut W, told: &Told, octets: &[u8], names: bool) -> Result<(), Failed>
-    ensures { Appends W.written W.write_faults W.last_write_fault result sink.old sink.new (acted_text names octets.now told.now) }
+    ensures { Appends W.shown result sink.old sink.new (acted_text names octets.now told.now) }
 {
     write_party(sink, told.event, told.party, told.path.as_slice())?;
     write_cause(sink, told.event, told.cause)?;
@@ -340,7 +338,7 @@ fn write_acted<W: Sink>(sink: &mut W, told: &Told, octets: &[u8], names: bool) -
 /// Writes the lines of the packet that was sent, of its octets, and of the keys.
 #[tactic(auto, using(answer_text::proofs::Fronts::appends_both, answer_text::proofs::Fronts::appends_front))]
 fn write_shown<W: Sink>(sink: &mut W, told: &Told, octets: &[u8], names: bool) -> Result<(), Failed>
-    ensures { Appends W.written W.write_faults W.last_write_fault result sink.old sink.new (shown_text names octets.now told.now) }
+    ensures { Appends W.shown result sink.old sink.new (shown_text names octets.now told.now) }
 {
     write_sent(sink, told.event, octets, &told.sent)?;
     write_octets(sink, told.event, octets, &told.sent, names)?;
@@ -350,7 +348,7 @@ fn write_shown<W: Sink>(sink: &mut W, told: &Told, octets: &[u8], names: bool) -
 /// Writes the line of the peer's INITIALIZE (RFC 4137 section 4.5).
 #[tactic(auto, unfolding(crate::specs::Run::peer_start_text))]
 fn write_peer_start<W: Sink>(sink: &mut W) -> Result<(), Failed>
-    ensures { Appends W.written W.write_faults W.last_write_fault result sink.old sink.new peer_start_text }
+    ensures { Appends W.shown result sink.old sink.new peer_start_text }
 {
     write_pieces(sink, &[Text(b"0 peer INITIALIZE IDLE\n")])
 }
@@ -359,7 +357,7 @@ fn write_peer_start<W: Sink>(sink: &mut W) -> Result<(), Failed>
 /// of one that answers by itself.
 #[tactic(auto, using(answer_text::proofs::Fronts::appends_none), unfolding(crate::specs::Run::server_start_text))]
 fn write_server_start<W: Sink>(sink: &mut W, mode: Mode) -> Result<(), Failed>
-    ensures { Appends W.written W.write_faults W.last_write_fault result sink.old sink.new (server_start_text mode) }
+    ensures { Appends W.shown result sink.old sink.new (server_start_text mode) }
 {
     match mode {
         Mode::Alone => Ok(()),
@@ -378,7 +376,7 @@ pub fn write_start<W: Sink>(
     octets: &[u8],
     names: bool,
 ) -> Result<(), Failed>
-    ensures { Appends W.written W.write_faults W.last_write_fault result sink.old sink.new (start_text mode names octets.now told.now) }
+    ensures { Appends W.shown result sink.old sink.new (start_text mode names octets.now told.now) }
 {
     write_peer_start(sink)?;
     write_told(sink, told, octets, names)?;
@@ -398,7 +396,7 @@ pub fn write_end_of<W: Sink>(
     tags: TagsVerdict,
     verdict: Verdict,
 ) -> Result<(), Failed>
-    ensures { Appends W.written W.write_faults W.last_write_fault result sink.old sink.new (end_text_of peer pass server counts fresh tags verdict) }
+    ensures { Appends W.shown result sink.old sink.new (end_text_of peer pass server counts fresh tags verdict) }
 {
     write_stands(sink, peer, pass, server)?;
     write_counts(sink, counts)?;
@@ -415,7 +413,7 @@ fn write_stands<W: Sink>(
     pass: Option<State>,
     server: State,
 ) -> Result<(), Failed>
-    ensures { Appends W.written W.write_faults W.last_write_fault result sink.old sink.new (stands_text peer pass server) }
+    ensures { Appends W.shown result sink.old sink.new (stands_text peer pass server) }
 {
     write_peer_state(sink, peer)?;
     write_pass_state(sink, pass)?;
@@ -425,7 +423,7 @@ fn write_stands<W: Sink>(
 /// Writes the state of the peer.
 #[tactic(auto, unfolding(crate::specs::Run::peer_state_line))]
 fn write_peer_state<W: Sink>(sink: &mut W, peer: State) -> Result<(), Failed>
-    ensures { Appends W.written W.write_faults W.last_write_fault result sink.old sink.new (peer_state_line peer) }
+    ensures { Appends W.shown result sink.old sink.new (peer_state_line peer) }
 {
     write_pieces(
         sink,
@@ -440,7 +438,7 @@ fn write_peer_state<W: Sink>(sink: &mut W, peer: State) -> Result<(), Failed>
 /// Writes the state of the pass-through, if there is one.
 #[tactic(auto, using(answer_text::proofs::Fronts::appends_none), unfolding(crate::specs::Run::pass_state_line))]
 fn write_pass_state<W: Sink>(sink: &mut W, pass: Option<State>) -> Result<(), Failed>
-    ensures { Appends W.written W.write_faults W.last_write_fault result sink.old sink.new (pass_state_line pass) }
+    ensures { Appends W.shown result sink.old sink.new (pass_state_line pass) }
 {
     match pass {
         None => Ok(()),
@@ -458,7 +456,7 @@ fn write_pass_state<W: Sink>(sink: &mut W, pass: Option<State>) -> Result<(), Fa
 /// Writes the state of the server.
 #[tactic(auto, unfolding(crate::specs::Run::server_state_line))]
 fn write_server_state<W: Sink>(sink: &mut W, server: State) -> Result<(), Failed>
-    ensures { Appends W.written W.write_faults W.last_write_fault result sink.old sink.new (server_state_line server) }
+    ensures { Appends W.shown result sink.old sink.new (server_state_line server) }
 {
     write_pieces(
         sink,
@@ -473,7 +471,7 @@ fn write_server_state<W: Sink>(sink: &mut W, server: State) -> Result<(), Failed
 /// Writes how many events, deliveries and discards there were.
 #[tactic(auto, unfolding(crate::specs::Run::counts_text))]
 fn write_counts<W: Sink>(sink: &mut W, counts: Counts) -> Result<(), Failed>
-    ensures { Appends W.written W.write_faults W.last_write_fault result sink.old sink.new (counts_text counts) }
+    ensures { Appends W.shown result sink.old sink.new (counts_text counts) }
 {
     write_pieces(
         sink,
@@ -494,7 +492,7 @@ fn write_counts<W: Sink>(sink: &mut W, counts: Counts) -> Result<(), Failed>
 /// Writes whether each conversation began with a fresh nonce; nothing for None.
 #[tactic(auto, unfolding(crate::specs::Run::fresh_text))]
 fn write_fresh<W: Sink>(sink: &mut W, fresh: Option<bool>) -> Result<(), Failed>
-    ensures { Appends W.written W.write_faults W.last_write_fault result sink.old sink.new (fresh_text fresh) }
+    ensures { Appends W.shown result sink.old sink.new (fresh_text fresh) }
 {
     match fresh {
         None => write_pieces(sink, &[]),
@@ -518,7 +516,7 @@ fn fresh_told<P: PeerMethod, S: ServerMethod>(world: &World<P, S>) -> Option<boo
 /// that wasn't.
 #[tactic(auto, unfolding(crate::specs::Run::tags_text))]
 fn write_tags<W: Sink>(sink: &mut W, tags: TagsVerdict) -> Result<(), Failed>
-    ensures { Appends W.written W.write_faults W.last_write_fault result sink.old sink.new (tags_text tags) }
+    ensures { Appends W.shown result sink.old sink.new (tags_text tags) }
 {
     match tags {
         TagsVerdict::Honest => write_pieces(sink, &[Text(b"tags honest\n")]),
@@ -532,7 +530,7 @@ fn write_tags<W: Sink>(sink: &mut W, tags: TagsVerdict) -> Result<(), Failed>
 /// Writes the verdict on the login, and the last line.
 #[tactic(auto, unfolding(crate::specs::Run::result_text))]
 fn write_result<W: Sink>(sink: &mut W, verdict: Verdict) -> Result<(), Failed>
-    ensures { Appends W.written W.write_faults W.last_write_fault result sink.old sink.new (result_text verdict) }
+    ensures { Appends W.shown result sink.old sink.new (result_text verdict) }
 {
     write_pieces(
         sink,
@@ -552,7 +550,7 @@ pub fn write_end<W: Sink, P: PeerMethod, S: ServerMethod>(
     sink: &mut W,
     world: &World<P, S>,
 ) -> Result<(), Failed>
-    ensures { Appends W.written W.write_faults W.last_write_fault result sink.old sink.new (end_text (now_of P.peer_shown S.server_shown world.now)) }
+    ensures { Appends W.shown result sink.old sink.new (end_text (now_of P.peer_shown S.server_shown world.now)) }
 {
     write_end_of(
         sink,

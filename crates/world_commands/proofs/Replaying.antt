@@ -58,7 +58,7 @@ module _ (c : ReplayNow) where
       → answers n (in_world c r w) rest ≡ run_scenario w (scenario_from n w.counts.events r rest)
 
   end_in_world : (n : ℕ) (r : Reading) (w : WorldNow) (x : Result (Unit {0}) LineFault)
-      → after_text (closing_by (in_world c r w) x).text (closing_answer (n + 1) (closing_by (in_world c r w) x).closed)
+      → closing_answer (n + 1) (closing_by (in_world c r w) x)
       ≡ run_scenario w (stops (finish_outcome (n + 1) x))
   unfolding run_after outcomes_after
   end_in_world n r w (Ok done) = ap (λ t. record { text = t; status = status.Done }) (append-nil (end_text w))
@@ -111,7 +111,7 @@ module _ (c : ReplayNow) where
   Waits n rest = (r : Reading) → BeforeRun r.phase → answers n (in_none c r) rest ≡ scenario_answer c.names (scenario_from n 0 r rest)
 
   end_before : (n : ℕ) (r : Reading) (x : Result (Unit {0}) LineFault)
-      → after_text (closing_by (in_none c r) x).text (closing_answer (n + 1) (closing_by (in_none c r) x).closed)
+      → closing_answer (n + 1) (closing_by (in_none c r) x)
       ≡ scenario_answer c.names (stops (finish_outcome (n + 1) x))
   end_before n r (Ok done) = refl
   end_before n r (Err fault) = refl

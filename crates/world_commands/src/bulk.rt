@@ -73,7 +73,7 @@ pub fn run_bulk<P: PeerMethod, M: ServerMethod, W: Sink>(
 ) -> Status
     requires few { bulk.count ≤ max_count }
     requires both { HasBoth P.peer_shown M.server_shown methods }
-    ensures { Says W.written W.write_faults W.last_write_fault (bulk_answer bulk) at_any result sink.old sink.new }
+    ensures { Says W.shown (bulk_answer bulk) at_any result sink.old sink.new }
 {
     match run_all(alloc, bulk.number, bulk.count, methods) {
         Err(_) => Status::Memory,
@@ -87,7 +87,7 @@ pub fn run_bulk<P: PeerMethod, M: ServerMethod, W: Sink>(
 /// Writes the words and the summary.
 #[tactic(auto, using(answer_text::proofs::Fronts::appends_both, answer_text::proofs::Fronts::appends_front))]
 fn write_summary<W: Sink>(sink: &mut W, bulk: Bulk, summary: Summary) -> Result<(), Failed>
-    ensures { Appends W.written W.write_faults W.last_write_fault result sink.old sink.new (bulk_text bulk.number bulk.count summary) }
+    ensures { Appends W.shown result sink.old sink.new (bulk_text bulk.number bulk.count summary) }
 {
     write_words(sink, bulk)?;
     write_verdicts(sink, summary)?;
@@ -98,7 +98,7 @@ fn write_summary<W: Sink>(sink: &mut W, bulk: Bulk, summary: Summary) -> Result<
 /// Writes the words.
 #[tactic(auto, unfolding(crate::specs::Bulk::bulk_line))]
 fn write_words<W: Sink>(sink: &mut W, bulk: Bulk) -> Result<(), Failed>
-    ensures { Appends W.written W.write_faults W.last_write_fault result sink.old sink.new (bulk_line bulk.number bulk.count) }
+    ensures { Appends W.shown result sink.old sink.new (bulk_line bulk.number bulk.count) }
 {
     write_pieces(
         sink,
@@ -115,7 +115,7 @@ fn write_words<W: Sink>(sink: &mut W, bulk: Bulk) -> Result<(), Failed>
 /// Writes how the conversations ended, and in how many a tag was broken.
 #[tactic(auto, unfolding(crate::specs::Bulk::verdicts_text))]
 fn write_verdicts<W: Sink>(sink: &mut W, summary: Summary) -> Result<(), Failed>
-    ensures { Appends W.written W.write_faults W.last_write_fault result sink.old sink.new (verdicts_text summary) }
+    ensures { Appends W.shown result sink.old sink.new (verdicts_text summary) }
 {
     write_pieces(
         sink,
@@ -142,7 +142,7 @@ fn write_verdicts<W: Sink>(sink: &mut W, summary: Summary) -> Result<(), Failed>
 /// Writes what was delivered and discarded in the conversations.
 #[tactic(auto, unfolding(crate::specs::Bulk::handled_text))]
 fn write_handled<W: Sink>(sink: &mut W, summary: Summary) -> Result<(), Failed>
-    ensures { Appends W.written W.write_faults W.last_write_fault result sink.old sink.new (handled_text summary) }
+    ensures { Appends W.shown result sink.old sink.new (handled_text summary) }
 {
     write_pieces(
         sink,

@@ -70,7 +70,7 @@ impl<P: PeerMethod, S: ServerMethod> Replay<P, S> {
         requires ready { IsReady P.peer_shown S.server_shown self.old 0 }
         ensures ready_after { IfOk result (λ next. IsReady P.peer_shown S.server_shown self.new 0) }
         ensures answers { (setup : Setup) → setup_of self.old.reader.settings ≡ Ok setup
-            → AnswersLine W.written W.write_faults W.last_write_fault result sink.old sink.new
+            → AnswersLine W.shown result sink.old sink.new
             (starts (seen_of P.peer_shown S.server_shown self.old) setup) true (seen_of P.peer_shown S.server_shown self.new) }
     {
         if self.world.is_some() {
@@ -103,7 +103,7 @@ impl<P: PeerMethod, S: ServerMethod> Replay<P, S> {
     /// The end of the input, after the line `end`.
     #[tactic(auto, unfolding(answer_text::specs::Writes::Appends))]
     fn end<W: Sink>(&self, sink: &mut W) -> Result<Close, Failed>
-        ensures { AnswersEnd W.written W.write_faults W.last_write_fault result sink.old sink.new
+        ensures { AnswersEnd W.shown result sink.old sink.new
             (record { text = end_of (seen_of P.peer_shown S.server_shown self.now).world; closed = ends Status.Done }) }
     {
         match &self.world {
@@ -120,7 +120,7 @@ impl<P: PeerMethod, S: ServerMethod> Replay<P, S> {
     fn step<W: Sink>(&mut self, sink: &mut W, event: &Event) -> Result<Next, Trouble>
         requires ready { IsReady P.peer_shown S.server_shown self.old 0 }
         ensures ready_after { IfOk result (λ next. IsReady P.peer_shown S.server_shown self.new 0) }
-        ensures answers { AnswersLine W.written W.write_faults W.last_write_fault result sink.old sink.new
+        ensures answers { AnswersLine W.shown result sink.old sink.new
             (steps (seen_of P.peer_shown S.server_shown self.old) event.now) true (seen_of P.peer_shown S.server_shown self.new) }
     {
         let names = self.names;
@@ -185,7 +185,7 @@ fn write_outcome<W: Sink, P: PeerMethod, S: ServerMethod>(
     told: &Told,
     names: bool,
 ) -> Result<(), Failed>
-    ensures { Appends W.written W.write_faults W.last_write_fault result sink.old sink.new
+    ensures { Appends W.shown result sink.old sink.new
         (told_text names (octets_of_sent world.now.sent told.now.sent) told.now) }
 {
     write_told(sink, told, world.octets_of(told), names)
@@ -200,7 +200,7 @@ pub fn replay_scenario<P: PeerMethod, M: ServerMethod, S: Source, W: Sink>(
     methods: Methods<P, M>,
 ) -> Status
     requires { HasBoth P.peer_shown M.server_shown methods }
-    ensures { Responds S.left S.read_faults S.last_read_fault W.written W.write_faults W.last_write_fault
+    ensures { Responds S.shown W.shown
         (asked_replay names) result source.old source.new sink.old sink.new }
 {
     match write_trace_header(sink) {
@@ -215,7 +215,7 @@ pub fn replay_scenario<P: PeerMethod, M: ServerMethod, S: Source, W: Sink>(
 /// Writes the first line of a trace.
 #[tactic(auto, unfolding(crate::specs::Scenario::trace_header))]
 fn write_trace_header<W: Sink>(sink: &mut W) -> Result<(), Failed>
-    ensures { Appends W.written W.write_faults W.last_write_fault result sink.old sink.new trace_header }
+    ensures { Appends W.shown result sink.old sink.new trace_header }
 {
     write_line(sink, b"eap-trace 1")
 }

@@ -5,5 +5,5 @@ use Rattle.answer_text.proofs.packet.put_numbers.Given as goal
 
 abbrev pub invariant-loop-octet : goal.invariant-loop-octet
 invariant-loop-octet g l =
-    Putting g.W.Sink.written g.W.Sink.write_faults g.W.Sink.last_write_fault l.initial.sink l.sink l.initial.line l.line
+    Putting g.W.Sink.shown l.initial.sink l.sink l.initial.line l.line
     (numbers_text l.octets) (numbers_text (drop l.octet-index l.octets))

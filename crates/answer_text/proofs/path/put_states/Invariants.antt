@@ -5,5 +5,5 @@ use Rattle.answer_text.proofs.path.put_states.Given as goal
 
 abbrev pub invariant-loop-state : goal.invariant-loop-state
 invariant-loop-state g l =
-    Putting g.W.Sink.written g.W.Sink.write_faults g.W.Sink.last_write_fault l.initial.sink l.sink l.initial.line l.line
+    Putting g.W.Sink.shown l.initial.sink l.sink l.initial.line l.line
     (states_text l.states) (states_text (drop l.state-index l.states))

@@ -3,18 +3,18 @@ use Rattle.answer_text.proofs.Putting.{putting_begins, putting_next, putting_cut
 use Rattle.answer_text.proofs.pieces.put_digits.Goals as goal
 
 pub loop-rest-init : goal.loop-rest-init
-loop-rest-init g c = putting_begins _ _ _ _ _ _
+loop-rest-init g c = putting_begins _ _ _ _
 
 pub loop-rest-preserved : goal.loop-rest-preserved
 loop-rest-preserved g c =
-    putting_next _ _ _ _ _ _ _ _ _ _ _ _ _ (encoded-range _ _) c.loop-rest.invariant (rw c.digits_of.ensures at c.in_ok-put_octets.ensures)
+    putting_next _ _ _ _ _ _ _ _ _ _ _ (encoded-range _ _) c.loop-rest.invariant (rw c.digits_of.ensures at c.in_ok-put_octets.ensures)
 
 pub returns-in_err-put_octets : goal.returns-in_err-put_octets
 returns-in_err-put_octets g c =
-    putting_cut _ _ _ _ _ _ _ _ _ _ _ _ _ _ _ _ c.from_residual.ensures.0 refl (encoded-range _ _) c.loop-rest.invariant
+    putting_cut _ _ _ _ _ _ _ _ _ _ _ _ _ _ c.from_residual.ensures.0 refl (encoded-range _ _) c.loop-rest.invariant
     (rw c.digits_of.ensures at c.in_err-put_octets.ensures)
 
 pub returns : goal.returns
 returns g c =
     let none : length c.loop-rest.rest.now ≡ 0 = omega arith in
-    putting_over _ _ _ _ _ _ _ _ _ c.loop-rest.invariant (encoded-none _ none)
+    putting_over _ _ _ _ _ _ _ c.loop-rest.invariant (encoded-none _ none)

@@ -5,7 +5,7 @@ use Rattle.answer_text.proofs.pieces.put_digits.Given as goal
 
 abbrev pub invariant-loop-rest : goal.invariant-loop-rest
 invariant-loop-rest g l =
-    Putting g.W.Sink.written g.W.Sink.write_faults g.W.Sink.last_write_fault l.initial.sink l.sink l.initial.line l.line
+    Putting g.W.Sink.shown l.initial.sink l.sink l.initial.line l.line
     (encode_lower l.octets) (encode_lower l.rest)
 
 abbrev pub decreases-loop-rest : goal.decreases-loop-rest

@@ -5,5 +5,5 @@ use Rattle.answer_text.proofs.pieces.put_pieces.Given as goal
 
 abbrev pub invariant-loop-piece : goal.invariant-loop-piece
 invariant-loop-piece g l =
-    Putting g.W.Sink.written g.W.Sink.write_faults g.W.Sink.last_write_fault l.initial.sink l.sink l.initial.line l.line
+    Putting g.W.Sink.shown l.initial.sink l.sink l.initial.line l.line
     (joined l.pieces) (joined (drop l.piece-index l.pieces))

@@ -3,7 +3,7 @@ use Rattle.answer_text.proofs.Fronts.{Appending}
 use Rattle.answer_text.proofs.pieces.write_whole.Given as goal
 
 abbrev pub invariant-loop-rest : goal.invariant-loop-rest
-invariant-loop-rest g l = Appending g.W.Sink.written g.W.Sink.write_faults g.W.Sink.last_write_fault l.initial.sink l.sink l.octets l.rest
+invariant-loop-rest g l = Appending g.W.Sink.shown l.initial.sink l.sink l.octets l.rest
 
 abbrev pub decreases-loop-rest : goal.decreases-loop-rest
 decreases-loop-rest g l = length l.rest

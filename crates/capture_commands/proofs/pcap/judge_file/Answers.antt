@@ -62,4 +62,4 @@ returns-in_default g c =
     (λ octets e. ends_same _ _ _ _ _ (sym (pcap_answers c.args.users.now octets))
     (underway_ends c.args.users.now _ _ _ _ _ _ _ _ _ _ _ _ (same.underway octets e)
     (divides_last _ _ _ _ _ c.in_default.not-Record c.in_default.not-Read is.contents) (c.number-in_default.ensures ∙ is.number ∙ ap (λ k. c.loop-found.reader.number + k) (begun_last _ _ _ c.in_default.not-Read)) finishes.ends))
-    (c.close.ensures.drains _ is.exhausted) (faults_last _ _ _ _ c.in_default.not-Read is.read ∙ same.read_faults) same.write_faults
+    (c.close.ensures.drains _ is.exhausted) (faults_last g.S.Source.shown _ _ _ c.in_default.not-Read is.read ∙ same.read_faults) same.write_faults

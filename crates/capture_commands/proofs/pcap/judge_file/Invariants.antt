@@ -12,10 +12,10 @@ invariant-loop-found g l = record {
   bounded : l.reader.taken ≤ max_input;
   few_records : l.reader.number ≤ l.reader.taken;
   holds : HasFound l.found l.reader.number;
-  underway : (octets : List ℕ) → g.S.Source.left l.initial.source ≡ Some octets
-      → Underway l.users (g.W.Sink.written l.initial.sink) (g.W.Sink.written l.sink) (contents octets) l.reader.number l.found (contents_left l.reader (g.S.Source.left l.source));
-  read_faults : g.S.Source.read_faults l.source ≡ g.S.Source.read_faults l.initial.source;
-  write_faults : g.W.Sink.write_faults l.sink ≡ g.W.Sink.write_faults l.initial.sink;
+  underway : (octets : List ℕ) → g.S.Source.shown.octets l.initial.source ≡ Some octets
+      → Underway l.users (g.W.Sink.shown.octets l.initial.sink) (g.W.Sink.shown.octets l.sink) (contents octets) l.reader.number l.found (contents_left l.reader (g.S.Source.shown.octets l.source));
+  read_faults : g.S.Source.shown.faults l.source ≡ g.S.Source.shown.faults l.initial.source;
+  write_faults : g.W.Sink.shown.faults l.sink ≡ g.W.Sink.shown.faults l.initial.sink;
 }
 
 abbrev pub decreases-loop-found : goal.decreases-loop-found

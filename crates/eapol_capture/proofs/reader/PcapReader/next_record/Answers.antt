@@ -6,5 +6,5 @@ use Rattle.eapol_capture.proofs.reader.PcapReader.next_record.Goals as goal
 
 pub returns-clause-waits : goal.returns-clause-waits
 returns-clause-waits g c =
-    waits-settled c.read_next-answer.result c.args.self.now c.read_next-answer.new.self c.settle.new.self (g.S.Source.left c.args.source.now)
+    waits-settled c.read_next-answer.result c.args.self.now c.read_next-answer.new.self c.settle.new.self (g.S.Source.shown.octets c.args.source.now)
     (ap (λ (r : Reading). r.taken) c.settle.ensures) c.read_next-answer.ensures.waits

@@ -8,7 +8,7 @@ pub returns-then-not-branch-clause-contents : goal.returns-then-not-branch-claus
 returns-then-not-branch-clause-contents g c =
     let called = c.in_ok-has_more.ensures in
     let none = ap Ok c.if-not-branch.true in
-    records-end c.args.self.now c.has_more.new.self (g.S.Source.left c.args.source.now) (g.S.Source.left c.has_more.new.source) c.args.order
+    records-end c.args.self.now c.has_more.new.self (g.S.Source.shown.octets c.args.source.now) (g.S.Source.shown.octets c.has_more.new.source) c.args.order
     c.requires.order called.left (called.none_held none) (called.none_left none)
 
 pub returns-in_err-size-clause-contents : goal.returns-in_err-size-clause-contents
@@ -20,7 +20,7 @@ returns-in_err-size-clause-contents g c =
     let order : c.read_length.new.self.order ≡ Some c.args.order = called.keeps.order ∙ looked.keeps.order ∙ c.requires.order in
     rw same
     (length-stops c.args.self.now c.has_more.new.self c.read_length.new.self
-    (g.S.Source.left c.args.source.now) (g.S.Source.left c.has_more.new.source) (g.S.Source.left c.read_length.new.source) c.args.order c.in_err-size.field-0.0
+    (g.S.Source.shown.octets c.args.source.now) (g.S.Source.shown.octets c.has_more.new.source) (g.S.Source.shown.octets c.read_length.new.source) c.args.order c.in_err-size.field-0.0
     c.requires.order c.requires.bounded called.bounded looked.left looked.taken some order called.part)
 
 pub returns-in_err-size-clause-takes : goal.returns-in_err-size-clause-takes
@@ -31,7 +31,7 @@ returns-in_err-size-clause-takes g c =
     let grows : c.args.self.now.taken ≤ c.read_length.new.self.taken = omega (arith, looked.taken, called.grows) in
     rw same
     (stops-take c.in_err-size.field-0.0 12 c.has_more.new.self c.read_length.new.self
-    (g.S.Source.left c.has_more.new.source) (g.S.Source.left c.read_length.new.source) called.part grows)
+    (g.S.Source.shown.octets c.has_more.new.source) (g.S.Source.shown.octets c.read_length.new.source) called.part grows)
 
 pub returns-then-size-gt-MAX_FRAME-clause-contents : goal.returns-then-size-gt-MAX_FRAME-clause-contents
 returns-then-size-gt-MAX_FRAME-clause-contents g c =
@@ -39,11 +39,11 @@ returns-then-size-gt-MAX_FRAME-clause-contents g c =
     let called = c.in_ok-size.ensures in
     let begun =
     begins c.args.order c.in_ok-size.size c.args.self.now c.has_more.new.self c.read_length.new.self
-    (g.S.Source.left c.args.source.now) (g.S.Source.left c.has_more.new.source) (g.S.Source.left c.read_length.new.source)
+    (g.S.Source.shown.octets c.args.source.now) (g.S.Source.shown.octets c.has_more.new.source) (g.S.Source.shown.octets c.read_length.new.source)
     c.requires.order looked.left looked.taken looked.held called.part called.length called.bounded in
     let long : max_frame < c.in_ok-size.size = omega arith in
     bad-size c.args.order c.in_ok-size.size c.args.self.now c.read_length.new.self
-    (g.S.Source.left c.args.source.now) (g.S.Source.left c.read_length.new.source) begun long
+    (g.S.Source.shown.octets c.args.source.now) (g.S.Source.shown.octets c.read_length.new.source) begun long
 
 pub returns-clause-contents : goal.returns-clause-contents
 returns-clause-contents g c =
@@ -51,13 +51,13 @@ returns-clause-contents g c =
     let called = c.in_ok-size.ensures in
     let begun =
     begins c.args.order c.in_ok-size.size c.args.self.now c.has_more.new.self c.read_length.new.self
-    (g.S.Source.left c.args.source.now) (g.S.Source.left c.has_more.new.source) (g.S.Source.left c.read_length.new.source)
+    (g.S.Source.shown.octets c.args.source.now) (g.S.Source.shown.octets c.has_more.new.source) (g.S.Source.shown.octets c.read_length.new.source)
     c.requires.order looked.left looked.taken looked.held called.part called.length called.bounded in
     let short : c.in_ok-size.size ≤ max_frame = omega arith in
     let body = c.read_body.ensures in
     let order : c.read_body.new.self.order ≡ Some c.args.order = body.keeps.order ∙ called.keeps.order ∙ looked.keeps.order ∙ c.requires.order in
     frame-divides c.read_body.result c.args.order c.in_ok-size.size c.args.self.now c.read_length.new.self c.read_body.new.self
-    (g.S.Source.left c.args.source.now) (g.S.Source.left c.read_length.new.source) (g.S.Source.left c.read_body.new.source)
+    (g.S.Source.shown.octets c.args.source.now) (g.S.Source.shown.octets c.read_length.new.source) (g.S.Source.shown.octets c.read_body.new.source)
     begun short order body.bounded body.part
 
 pub returns-clause-takes : goal.returns-clause-takes
@@ -66,18 +66,18 @@ returns-clause-takes g c =
     let called = c.in_ok-size.ensures in
     let begun =
     begins c.args.order c.in_ok-size.size c.args.self.now c.has_more.new.self c.read_length.new.self
-    (g.S.Source.left c.args.source.now) (g.S.Source.left c.has_more.new.source) (g.S.Source.left c.read_length.new.source)
+    (g.S.Source.shown.octets c.args.source.now) (g.S.Source.shown.octets c.has_more.new.source) (g.S.Source.shown.octets c.read_length.new.source)
     c.requires.order looked.left looked.taken looked.held called.part called.length called.bounded in
     let body = c.read_body.ensures in
     frame-takes c.read_body.result c.args.order c.in_ok-size.size c.args.self.now c.read_length.new.self c.read_body.new.self
-    (g.S.Source.left c.args.source.now) (g.S.Source.left c.read_length.new.source) (g.S.Source.left c.read_body.new.source)
+    (g.S.Source.shown.octets c.args.source.now) (g.S.Source.shown.octets c.read_length.new.source) (g.S.Source.shown.octets c.read_body.new.source)
     begun body.grows body.part
 
 pub returns-in_err-has_more-clause-waits : goal.returns-in_err-has_more-clause-waits
 returns-in_err-has_more-clause-waits g c =
     let same : c.from_residual.result ≡ Err c.in_err-has_more.field-0.0 = search rules in
     rw same
-    (look-waits c.in_err-has_more.field-0.0 c.args.self.now c.has_more.new.self (g.S.Source.left c.args.source.now) c.args.order
+    (look-waits c.in_err-has_more.field-0.0 c.args.self.now c.has_more.new.self (g.S.Source.shown.octets c.args.source.now) c.args.order
     c.requires.order c.in_err-has_more.ensures.taken c.in_err-has_more.ensures.spent)
 
 pub returns-in_err-size-clause-waits : goal.returns-in_err-size-clause-waits
@@ -87,7 +87,7 @@ returns-in_err-size-clause-waits g c =
     let called = c.in_err-size.ensures in
     rw same
     (length-waits c.in_err-size.field-0.0 c.args.self.now c.has_more.new.self c.read_length.new.self
-    (g.S.Source.left c.args.source.now) (g.S.Source.left c.has_more.new.source) (g.S.Source.left c.read_length.new.source) c.args.order
+    (g.S.Source.shown.octets c.args.source.now) (g.S.Source.shown.octets c.has_more.new.source) (g.S.Source.shown.octets c.read_length.new.source) c.args.order
     c.requires.order c.requires.bounded called.bounded looked.left looked.taken looked.held called.part)
 
 pub returns-clause-waits : goal.returns-clause-waits
@@ -96,10 +96,10 @@ returns-clause-waits g c =
     let called = c.in_ok-size.ensures in
     let begun =
     begins c.args.order c.in_ok-size.size c.args.self.now c.has_more.new.self c.read_length.new.self
-    (g.S.Source.left c.args.source.now) (g.S.Source.left c.has_more.new.source) (g.S.Source.left c.read_length.new.source)
+    (g.S.Source.shown.octets c.args.source.now) (g.S.Source.shown.octets c.has_more.new.source) (g.S.Source.shown.octets c.read_length.new.source)
     c.requires.order looked.left looked.taken looked.held called.part called.length called.bounded in
     let short : c.in_ok-size.size ≤ max_frame = omega arith in
     let body = c.read_body.ensures in
     frame-waits c.read_body.result c.args.order c.in_ok-size.size c.args.self.now c.read_length.new.self c.read_body.new.self
-    (g.S.Source.left c.args.source.now) (g.S.Source.left c.read_length.new.source) (g.S.Source.left c.read_body.new.source)
+    (g.S.Source.shown.octets c.args.source.now) (g.S.Source.shown.octets c.read_length.new.source) (g.S.Source.shown.octets c.read_body.new.source)
     begun short body.bounded body.part

@@ -8,14 +8,14 @@ returns-in_err-read_part-clause-contents g c =
     let same : c.from_residual.result ≡ Err c.in_err-read_part.field-0.0 = search rules in
     let called = c.in_err-read_part.ensures in
     rw same
-    (header-stops c.args.self.now c.read_part.new.self (g.S.Source.left c.args.source.now) (g.S.Source.left c.read_part.new.source) c.in_err-read_part.field-0.0
+    (header-stops c.args.self.now c.read_part.new.self (g.S.Source.shown.octets c.args.source.now) (g.S.Source.shown.octets c.read_part.new.source) c.in_err-read_part.field-0.0
     c.requires.header c.requires.bounded called.bounded called.part)
 
 pub returns-clause-contents : goal.returns-clause-contents
 returns-clause-contents g c =
     let called = c.in_ok-read_part.ensures in
-    header-judged c.judge.result c.args.self.now c.read_part.new.self c.judge.new.self (g.S.Source.left c.args.source.now)
-    (g.S.Source.left c.read_part.new.source)
+    header-judged c.judge.result c.args.self.now c.read_part.new.self c.judge.new.self (g.S.Source.shown.octets c.args.source.now)
+    (g.S.Source.shown.octets c.read_part.new.source)
     c.requires.header c.requires.bounded called.bounded called.part c.judge.ensures.judged c.judge.ensures.kept
 
 pub returns-in_err-read_part-clause-header : goal.returns-in_err-read_part-clause-header
@@ -23,10 +23,10 @@ returns-in_err-read_part-clause-header g c =
     let same : c.from_residual.result ≡ Err c.in_err-read_part.field-0.0 = search rules in
     let called = c.in_err-read_part.ensures in
     rw same
-    (header-waits c.in_err-read_part.field-0.0 c.args.self.now c.read_part.new.self (g.S.Source.left c.args.source.now) (g.S.Source.left c.read_part.new.source)
+    (header-waits c.in_err-read_part.field-0.0 c.args.self.now c.read_part.new.self (g.S.Source.shown.octets c.args.source.now) (g.S.Source.shown.octets c.read_part.new.source)
     c.requires.header c.requires.bounded called.bounded called.part)
 
 pub returns-clause-header : goal.returns-clause-header
 returns-clause-header g c =
-    header-heads c.judge.result c.args.self.now c.read_part.new.self c.judge.new.self (g.S.Source.left c.args.source.now)
-    (g.S.Source.left c.read_part.new.source) c.in_ok-read_part.ensures.part c.judge.ensures.judged c.judge.ensures.kept
+    header-heads c.judge.result c.args.self.now c.read_part.new.self c.judge.new.self (g.S.Source.shown.octets c.args.source.now)
+    (g.S.Source.shown.octets c.read_part.new.source) c.in_ok-read_part.ensures.part c.judge.ensures.judged c.judge.ensures.kept

@@ -16,5 +16,5 @@ pub returns-in-Ok-clause-waits : goal.returns-in-Ok-clause-waits
 returns-in-Ok-clause-waits g c =
     let none : c.args.self.now.order ≡ None = cc in
     waits-behind c.read_record-in-Ok.result c.in-Ok.order c.args.self.now c.read_header.new.self c.read_record-in-Ok.new.self
-    (g.S.Source.left c.args.source.now) (g.S.Source.left c.read_header.new.source) none c.in-Ok.ensures.bounded c.in-Ok.ensures.header
+    (g.S.Source.shown.octets c.args.source.now) (g.S.Source.shown.octets c.read_header.new.source) none c.in-Ok.ensures.bounded c.in-Ok.ensures.header
     c.read_record-in-Ok.ensures.waits

@@ -5,7 +5,7 @@ use Rattle.eapol_capture.proofs.reader.PcapReader.read_part.Goals as goal
 
 pub loop-missing-init : goal.loop-missing-init
 loop-missing-init g c =
-    in_part c.args.count c.args.self.now c.drop_frame.new.self (g.S.Source.left c.args.source.now) (g.S.Source.read_faults c.args.source.now)
+    in_part c.args.count c.args.self.now c.drop_frame.new.self (g.S.Source.shown.octets c.args.source.now) (g.S.Source.shown.faults c.args.source.now)
     c.drop_frame.ensures c.requires.bounded
 
 pub loop-missing-preserved : goal.loop-missing-preserved
@@ -15,7 +15,7 @@ loop-missing-preserved g c =
     let mid = c.has_more.new.self in
     let after = c.take_held-handed.new.self in
     let n = c.take_held-handed.result in
-    let looks : Looks now mid (g.S.Source.left c.loop-missing.source) (g.S.Source.left c.has_more.new.source) =
+    let looks : Looks now mid (g.S.Source.shown.octets c.loop-missing.source) (g.S.Source.shown.octets c.has_more.new.source) =
     record {
       keeps = c.has_more.ensures.keeps;
       taken = c.has_more.ensures.taken;
@@ -28,8 +28,8 @@ loop-missing-preserved g c =
     record { keeps = t.keeps; there = t.there; taken = t.taken; held = t.held; kept = t.kept; bounded = t.bounded } in
     let fewer : c.loop-missing.missing - n + n ≡ c.loop-missing.missing = omega arith in
     more-part c.args.count c.loop-missing.missing n (c.loop-missing.missing - n) before now mid after
-    (g.S.Source.left c.args.source.now) (g.S.Source.left c.loop-missing.source) (g.S.Source.left c.has_more.new.source)
-    (g.S.Source.read_faults c.args.source.now) (g.S.Source.read_faults c.loop-missing.source) (g.S.Source.read_faults c.has_more.new.source)
+    (g.S.Source.shown.octets c.args.source.now) (g.S.Source.shown.octets c.loop-missing.source) (g.S.Source.shown.octets c.has_more.new.source)
+    (g.S.Source.shown.faults c.args.source.now) (g.S.Source.shown.faults c.loop-missing.source) (g.S.Source.shown.faults c.has_more.new.source)
     c.loop-missing.invariant looks takes fewer c.in_ok-has_more.ensures.read
 
 pub returns-clause-size : goal.returns-clause-size
