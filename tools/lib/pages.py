@@ -141,12 +141,19 @@ def lines_of(part: str, crates: List[str]) -> int:
     return sum(len(it.read_text().splitlines()) for it in files)
 
 
+@functools.lru_cache(maxsize=None)
+def module_of(file: Path, text: bytes) -> ModuleType:
+    """A script with this text, which is read once."""
+    module = ModuleType(file.name)
+    module.__file__ = str(file)
+    exec(compile(text, file, "exec"), vars(module))
+    return module
+
+
 def cases() -> int:
     """How many cases cases/run runs."""
     file = ROOT / "cases/run"
-    run = ModuleType("run")
-    run.__file__ = str(file)
-    exec(compile(file.read_bytes(), file, "exec"), vars(run))
+    run = module_of(file, file.read_bytes())
     return sum(len(run.rows_of(it)) for it in sorted((ROOT / "cases").glob("*.cases")))
 
 
