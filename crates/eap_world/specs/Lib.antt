@@ -4,6 +4,5 @@ pub mod Conversations
 pub mod Hearing
 pub mod Kept
 pub mod World
-pub mod Conversed
 pub mod Judgement
 pub mod Run

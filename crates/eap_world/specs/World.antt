@@ -96,7 +96,7 @@ parties_of peer_shown server_shown m =
 -- what a world is, if the objects show their methods and views
 abbrev pub now_of : {P S : Type 0} → (P → PeerShown) → (S → ServerShown) → WorldValue P S → WorldNow
 now_of peer_shown server_shown w = record {
-  parties = parties_of peer_shown server_shown (record { mode = w.mode; peer = w.peer; server = w.server; pass = w.pass });
+  parties = record { mode = w.mode; peer = peers.now_of peer_shown w.peer; server = servers.now_of server_shown w.server; pass = w.pass };
   sent = w.sent;
   book = w.book;
   counts = w.counts;
@@ -346,9 +346,9 @@ acted action after = record { action = action; after = after }
 abbrev pub skipped : Parties → Skip → Acted
 skipped parties skip = acted (Skipped skip) parties
 
--- what a call did that answers so, with what it wrote, and the machines after it
-abbrev pub acted_with : {P S : Type 0} → (P → PeerShown) → (S → ServerShown) → brief_action.Action → List ℕ → Tags → Machines P S → Acted
-acted_with peer_shown server_shown action packet tags after = acted (action_with action packet tags) (parties_of peer_shown server_shown after)
+-- what a call did that answers so, with what it wrote into the machines after it
+abbrev pub acted_with : {P S : Type 0} → (P → PeerShown) → (S → ServerShown) → brief_action.Action → Machines P S → Acted
+acted_with peer_shown server_shown action after = acted (action_with action after.packet after.tags) (parties_of peer_shown server_shown after)
 
 abbrev pub did_at : Party → Port → Bool → Step → Did
 did_at party port is_delivery step = record { party = party; is_delivery = is_delivery; port = port; step = step }
@@ -381,39 +381,6 @@ abbrev pub called_unless : Parties → Option Skip → Option Call → Acted
 called_unless parties (Some skip) call = skipped parties skip
 called_unless parties None None = skipped parties NoParty
 called_unless parties None (Some call) = called parties call
-
--- the same by what the event is: a packet's octets, as they are, altered or cut, and others, that arrive at a port;
--- the end of a timer; a report of the lower layer
-abbrev pub handed : Parties → Option Sent → Bool → List ℕ → Acted
-handed parties packet is_misplaced octets = called_unless parties (first_skip (packet_skips parties.mode packet is_misplaced)) (call_with packet octets)
-
-abbrev pub delivered : Parties → Option Sent → Acted
-delivered parties packet = handed parties packet false (octets_of packet)
-
-abbrev pub delivered_altered : Parties → Option Sent → ℕ → ℕ → Acted
-delivered_altered parties packet place mask =
-    handed parties packet (nat_le (length (octets_of packet)) place) (altered (octets_of packet) place mask)
-
-abbrev pub delivered_cut : Parties → Option Sent → ℕ → Acted
-delivered_cut parties packet keep = handed parties packet (nat_lt (length (octets_of packet)) keep) (take keep (octets_of packet))
-
-abbrev pub injected : Parties → Port → List ℕ → Acted
-injected parties port octets = called_unless parties (first_skip ((is_absent parties.mode port, NoParty) ∷ [])) (Some (call_at port octets))
-
-abbrev pub timed_out : Parties → Party → Acted
-timed_out parties party = called_unless parties (first_skip (timer_skips parties party)) (Some (timer_call party))
-
--- the server behind the pass-through is lost, or has nothing to ask
-abbrev pub unanswered : Parties → PassInput → Acted
-unanswered parties input = called_unless parties (first_skip (aaa_skips parties)) (Some (to_pass input))
-
-abbrev pub told_peer : Parties → Event → Acted
-told_peer parties e = called_unless parties (first_skip ((is_end parties.peer.vars.state, Ended) ∷ [])) (reported e)
-
--- a party begins a new conversation
-abbrev pub restarted : Parties → Conversations → Party → Acted
-restarted parties conversations party =
-    called_unless parties (first_skip (restart_skips parties conversations party)) (restart_call conversations party)
 
 -- what an event does to the parties, if these conversations have begun and these packets were sent before it
 unfoldable pub act : Parties → Conversations → List Sent → Event → Acted
@@ -460,6 +427,23 @@ conversed_unless event conversations None (Some call) = conversed event conversa
 unfoldable pub conversed_by : ℕ → Parties → Conversations → List Sent → Event → Conversations
 conversed_by event parties conversations sent e =
     conversed_unless event conversations (first_skip (skip_table parties conversations sent e)) (call_of conversations sent e)
+
+-- ---- how the machines do it
+
+-- they answer so, this is what was done and what the parties are after it, and these are the conversations then; they run
+-- alike before and after
+pub record Does {P S : Type 0} (peer_shown : P → PeerShown) (server_shown : S → ServerShown) (before : Machines P S) (action : brief_action.Action)
+    (after : Machines P S) (out : Acted) (conversations : Conversations) : Type 0 where
+  pub acts : out ≡ acted_with peer_shown server_shown action after
+  pub heard : after.conversations ≡ conversations
+  pub alike : RunAlike peer_shown server_shown before after
+
+-- a call that is made if nothing skips it
+abbrev pub DoesCall : {P S : Type 0} → (P → PeerShown) → (S → ServerShown) → Machines P S → brief_action.Action → Machines P S
+    → Option Skip → Option Call → Type 0
+DoesCall peer_shown server_shown before action after skip call =
+    Does peer_shown server_shown before action after (called_unless (parties_of peer_shown server_shown before) skip call)
+    (conversed_unless before.event before.conversations skip call)
 
 -- ---- what is read off an action
 

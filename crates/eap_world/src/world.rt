@@ -11,7 +11,7 @@ ghost use Rattle.eap_world.specs.World.{Called, Skipped, action_with, parties_of
 ghost use Rattle.eap_world.specs.World.{Parties, first_report, held_before, held_by, held_after, held_with, report_of, role_in, told_of, told_with};
 ghost use Rattle.eap_world.specs.Sent.{Sent};
 
-use crate::act::{Action, Did, Machines, act, start};
+use crate::act::{Action, Did, Machines};
 use crate::conversations::Conversations;
 use crate::store::Store;
 use crate::told::{Counts, Named, SentPacket, Skip, Told};
@@ -65,14 +65,9 @@ pub struct World<P, S> {
     book: Vec<Entry>,
     counts: Counts,
     held: Held,
-    conversations: Conversations,
     /// The version of the scenario's text.
     version: u8,
     started: bool,
-    /// The packet that a machine sends, before it is stored.
-    packet: Packet,
-    /// The records of a machine's tags, before they are booked.
-    tags: Tags,
 }
 
 impl<P, S> Model for World<P, S> {
@@ -90,7 +85,7 @@ impl<P, S> Model for World<P, S> {
       book = w.book.items;
       counts = w.counts;
       held = w.held;
-      conversations = w.conversations;
+      conversations = w.machines.conversations;
       version = w.version;
       started = w.started;
     } };
@@ -137,6 +132,10 @@ impl<P: PeerMethod, S: ServerMethod> World<P, S> {
                     setup.max_retrans,
                     methods.server,
                 ),
+                conversations,
+                event: 0,
+                packet: Packet::new(),
+                tags: Tags::new(),
             },
             sent: Store::new(alloc),
             book: Vec::new(alloc),
@@ -149,11 +148,8 @@ impl<P: PeerMethod, S: ServerMethod> World<P, S> {
                 peer: false,
                 server: false,
             },
-            conversations,
             version,
             started: false,
-            packet: Packet::new(),
-            tags: Tags::new(),
         }
     }
 
@@ -217,7 +213,7 @@ impl<P: PeerMethod, S: ServerMethod> World<P, S> {
         if !make_room(&mut self.sent, &mut self.book) {
             return Err(Memory);
         }
-        let action = start(&mut self.machines, &mut self.packet, &mut self.tags);
+        let action = self.machines.start();
         self.started = true;
         Ok(keep(
             &self.machines,
@@ -226,8 +222,6 @@ impl<P: PeerMethod, S: ServerMethod> World<P, S> {
             &mut self.held,
             0,
             action,
-            &self.packet,
-            &self.tags,
         ))
     }
 
@@ -248,16 +242,9 @@ impl<P: PeerMethod, S: ServerMethod> World<P, S> {
             return Err(Memory);
         }
         let number = self.counts.events + 1;
-        self.held = held_before(self.held, &self.conversations, event);
-        let action = act(
-            &mut self.machines,
-            &mut self.conversations,
-            number,
-            &self.sent,
-            event,
-            &mut self.packet,
-            &mut self.tags,
-        );
+        self.held = held_before(self.held, &self.machines.conversations, event);
+        self.machines.event = number;
+        let action = self.machines.act(&self.sent, event);
         self.counts = count(self.counts, &action);
         Ok(keep(
             &self.machines,
@@ -266,8 +253,6 @@ impl<P: PeerMethod, S: ServerMethod> World<P, S> {
             &mut self.held,
             number,
             action,
-            &self.packet,
-            &self.tags,
         ))
     }
 
@@ -374,7 +359,7 @@ impl<P: PeerMethod, S: ServerMethod> World<P, S> {
     pub fn fresh(&self) -> bool
         ensures { result ≡ self.now.conversations.fresh }
     {
-        self.conversations.fresh()
+        self.machines.conversations.fresh()
     }
 
     /// The version of the scenario's text, as the setup gives it.
@@ -519,23 +504,21 @@ fn keep<P: PeerMethod, S: ServerMethod>(
     held: &mut Held,
     event: u32,
     action: Action,
-    packet: &Packet,
-    tags: &Tags,
 ) -> Told
     requires sent_room { (max_packet ≤ sent.old.octets_room) × (1 ≤ sent.old.packets_room) }
     requires book_room { vec_len book.old + 4 ≤ vec_capacity book.old }
     requires few { length sent.old.packets < 2 ^ 32 - 1 }
     ensures told { result
-        ≡ told_with P.peer_shown S.server_shown held.old machines.now event (length sent.old.packets + 1) (action_with action packet.now tags.now) }
-    ensures sent { sent.new.packets ≡ sent.old.packets ++ sent_by (action_with action packet.now tags.now) }
-    ensures book { book.new.items ≡ book.old.items ++ booked_by event (action_with action packet.now tags.now) }
-    ensures held { held.new ≡ held_with P.peer_shown S.server_shown held.old machines.now (action_with action packet.now tags.now) }
+        ≡ told_with P.peer_shown S.server_shown held.old machines.now event (length sent.old.packets + 1) (action_with action machines.now.packet machines.now.tags) }
+    ensures sent { sent.new.packets ≡ sent.old.packets ++ sent_by (action_with action machines.now.packet machines.now.tags) }
+    ensures book { book.new.items ≡ book.old.items ++ booked_by event (action_with action machines.now.packet machines.now.tags) }
+    ensures held { held.new ≡ held_with P.peer_shown S.server_shown held.old machines.now (action_with action machines.now.packet machines.now.tags) }
     ensures few_sent { length sent.new.packets ≤ length sent.old.packets + 1 }
     ensures few_booked { vec_len book.new ≤ vec_len book.old + 4 }
 {
     let number = next_number(sent.len());
-    keep_sent(sent, &action, packet);
-    keep_tags(book, event, &action, tags);
+    keep_sent(sent, &action, &machines.packet);
+    keep_tags(book, event, &action, &machines.tags);
     match action {
         Action::Skipped(skip) => tell_skip(event, skip),
         Action::Called(

@@ -1,7 +1,7 @@
 -- A world whose parties stand as those of another, and whose packets end with those of the other, goes on as the other.
 use Rattle.std.proofs.Common.{◌≡◌, ℕ, zero, suc, ◌+◌, ◌-◌, ◌≤◌, List, [], ◌∷◌, ◌++◌, length, Bool, true, false, cond, map, Option, None, Some, inl, inr, refl, sym, ap, subst, ◌∙◌}
 use Rattle.std.proofs.Common.{arith, append_assoc, append-nil}
-use Rattle.std.specs.Prelude.{◌==◌, is_some, slice_get}
+use Rattle.std.specs.Prelude.{◌==◌, is_some, nat_le, nat_lt, slice_get}
 use Rattle.std.specs.List.{list_any}
 use Rattle.std.proofs.lemmas.Bool.{cond-false, ne_eqb, or_cases, or_left, or_right}
 use Rattle.std.proofs.lemmas.List.{map-append}
@@ -28,9 +28,9 @@ use Rattle.world_laws.proofs.TagsOfEnds.{unbroken}
 use Rattle.peer_machine.specs.Inputs as peer_inputs
 use Rattle.server_machine.specs.Inputs as server_inputs
 use Rattle.pass_through.specs.Inputs as pass_inputs
-use Rattle.eap_world.specs.World.{WorldNow, Parties, Acted, Action, Call, Called, Skipped, act, altered, booked_by, booked_of, call_at, call_with, conversed, conversed_by, conversed_unless}
-use Rattle.eap_world.specs.World.{counted, delivered, delivered_altered, delivered_cut, end_of, first_skip, heard_in, injected, octets_of, one_if, pass_octets, run_after, sent_by}
-use Rattle.eap_world.specs.World.{skip_table, timed_out, timer_call, to_pass, to_peer, to_server, told_peer, unanswered, world_step}
+use Rattle.eap_world.specs.World.{WorldNow, Parties, Acted, Action, Call, Called, Skipped, act, altered, booked_by, booked_of, call_at, call_with, called_unless}
+use Rattle.eap_world.specs.World.{conversed, conversed_by, conversed_unless, counted, end_of, first_skip, heard_in, octets_of, one_if, packet_skips, pass_octets, run_after}
+use Rattle.eap_world.specs.World.{sent_by, skip_table, timer_call, to_pass, to_peer, to_server, world_step}
 use Rattle.world_laws.proofs.Acting.{begins_anew}
 use Rattle.std.specs.Prelude.{All, take}
 use Rattle.std.proofs.lemmas.List.Elements.{All-head, All-tail, All-nil, All-cons}
@@ -206,26 +206,29 @@ module _ (since : WorldNow) (before : List Sent) (w v : WorldNow) (f : Follows s
   found_so : (n : ℕ) → packet_numbered w.sent (number_behind (length before) n) ≡ packet_numbered v.sent n
   found_so n = ap (λ (sent : List Sent). packet_numbered sent (number_behind (length before) n)) f.sent ∙ numbered_so before v.sent n
 
+  -- and what comes of it
+  abbrev handed : Bool → (List ℕ → List ℕ) → Option Sent → Acted
+  handed is_misplaced part found =
+      called_unless v.parties (first_skip (packet_skips v.parties.mode found is_misplaced)) (call_with found (part (octets_of found)))
+
+  same_of : (e : Event) → is_restart e ≡ false
+      → act v.parties w.conversations w.sent (event_behind (length before) e) ≡ act v.parties v.conversations v.sent e
+  unfolding act
+  same_of (event.Deliver n) stays = ap (handed false (λ (octets : List ℕ). octets)) (found_so n)
+  same_of (event.Alter n place mask) stays = ap (λ (found : Option Sent). handed (nat_le (length (octets_of found)) place) (λ (octets : List ℕ). altered octets place mask) found) (found_so n)
+  same_of (event.Cut n keep) stays = ap (λ (found : Option Sent). handed (nat_lt (length (octets_of found)) keep) (λ (octets : List ℕ). take keep octets) found) (found_so n)
+  same_of (event.Inject to octets) stays = refl
+  same_of (event.Timeout of) stays = refl
+  same_of event.AaaTimeout stays = refl
+  same_of event.AaaNoReq stays = refl
+  same_of event.Idle stays = refl
+  same_of event.AltAccept stays = refl
+  same_of event.AltReject stays = refl
+  same_of (event.Restart of) stays = cc stays
+
   same_act : (e : Event) → is_restart e ≡ false
       → act w.parties w.conversations w.sent (event_behind (length before) e) ≡ act v.parties v.conversations v.sent e
-  unfolding act
-  same_act (event.Deliver n) stays =
-      ap (λ (p : Parties). delivered p (packet_numbered w.sent (number_behind (length before) n))) f.parties
-      ∙ ap (λ (found : Option Sent). delivered v.parties found) (found_so n)
-  same_act (event.Alter n place mask) stays =
-      ap (λ (p : Parties). delivered_altered p (packet_numbered w.sent (number_behind (length before) n)) place mask) f.parties
-      ∙ ap (λ (found : Option Sent). delivered_altered v.parties found place mask) (found_so n)
-  same_act (event.Cut n keep) stays =
-      ap (λ (p : Parties). delivered_cut p (packet_numbered w.sent (number_behind (length before) n)) keep) f.parties
-      ∙ ap (λ (found : Option Sent). delivered_cut v.parties found keep) (found_so n)
-  same_act (event.Inject to octets) stays = ap (λ (p : Parties). injected p to octets) f.parties
-  same_act (event.Timeout of) stays = ap (λ (p : Parties). timed_out p of) f.parties
-  same_act event.AaaTimeout stays = ap (λ (p : Parties). unanswered p pass_inputs.aaa_timeout) f.parties
-  same_act event.AaaNoReq stays = ap (λ (p : Parties). unanswered p pass_inputs.aaa_noreq) f.parties
-  same_act event.Idle stays = ap (λ (p : Parties). told_peer p event.Idle) f.parties
-  same_act event.AltAccept stays = ap (λ (p : Parties). told_peer p event.AltAccept) f.parties
-  same_act event.AltReject stays = ap (λ (p : Parties). told_peer p event.AltReject) f.parties
-  same_act (event.Restart of) stays = cc stays
+  same_act e stays = ap (λ (p : Parties). act p w.conversations w.sent (event_behind (length before) e)) f.parties ∙ same_of e stays
 
   takes : (e : Event) → is_restart e ≡ false
       → Follows since before (world_step w (event_behind (length before) e)).after (world_step v e).after

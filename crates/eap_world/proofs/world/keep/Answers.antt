@@ -5,8 +5,8 @@ use Rattle.eap_world.proofs.world.keep.Goals as goal
 
 pub returns-in-Called-clause-told : goal.returns-in-Called-clause-told
 returns-in-Called-clause-told g c =
-    let did = did_with c.in-Called.field-0 c.args.packet.now c.args.tags.now in
-    let said = c.tell-told.ensures.told c.in-Called.field-0.is_delivery c.args.packet.now c.args.tags.now in
+    let did = did_with c.in-Called.field-0 c.args.machines.now.packet c.args.machines.now.tags in
+    let said = c.tell-told.ensures.told c.in-Called.field-0.is_delivery c.args.machines.now.packet c.args.machines.now.tags in
     let number : c.next_number-number.result ≡ length c.args.sent.now.packets + 1 = c.next_number-number.ensures ∙ ap (λ (n : ℕ). n + 1) c.len.ensures in
     let is : c.tell-told.result ≡ told_of c.args.event (length c.args.sent.now.packets + 1) None (Called did) = search (said, number) in
     let named : c.tell_report.new.named
