@@ -2,7 +2,7 @@
 
 ghost use Rattle.std.specs.Prelude.{◌≡◌, ◌<◌, ◌^◌, ℕ, List, Option, [], map, string_bytes, All, IsTrue};
 ghost use Rattle.login_setup.specs.Setup.{fits_kind};
-ghost use Rattle.eapol_capture.specs.Frames.{carried, eap};
+ghost use Rattle.eapol_capture.specs.Frames.{carried};
 ghost use Rattle.eapol_capture.specs.Reading.{Exhausts};
 ghost use Rattle.text_tables.specs.UserWords.{read_as};
 ghost use Rattle.command_driver.specs.Answers.{Finishes, Drains, IsRefusal};
@@ -97,30 +97,13 @@ impl Found {
                 self.findings += 1;
                 write_cut(sink, number)
             }
-            FrameFinding::Eap(octets) => self.packet(users, sink, number, octets),
+            FrameFinding::Eap(octets) => {
+                let finding = self.checker.packet(users, is_to_peer(octets), octets);
+                self.packets += 1;
+                self.findings += u32::from(is_counted(&finding));
+                write_finding(sink, number, &finding)
+            }
         }
-    }
-
-    /// Judges the packet in the record with this number.
-    #[tactic(auto, unfolding(crate::specs::PcapSteps::record_step))]
-    fn packet<W: Sink>(
-        &mut self,
-        users: &Users,
-        sink: &mut W,
-        number: u32,
-        octets: &[u8],
-    ) -> Result<(), Failed>
-        requires keys { All (λ user. IsTrue (fits_kind user.kind user.psk)) users.now }
-        requires packets { self.old.packets < 2 ^ 31 }
-        requires findings { self.old.findings < 2 ^ 31 }
-        ensures appends { Appends W.shown result sink.old sink.new
-            (record_step users.now self.old number (eap octets.now)).text }
-        ensures after { self.new ≡ (record_step users.now self.old number (eap octets.now)).after }
-    {
-        let finding = self.checker.packet(users, is_to_peer(octets), octets);
-        self.packets += 1;
-        self.findings += u32::from(is_counted(&finding));
-        write_finding(sink, number, &finding)
     }
 
     /// Handles the end of the file, if the record last begun has this number.

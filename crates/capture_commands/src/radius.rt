@@ -197,29 +197,25 @@ impl Radius {
         }
     }
 
-    /// What a packet is, under the secret and after the request that is kept.
-    #[tactic(auto, unfolding(crate::specs::Radius::judged, radius_carry::specs::Fault::value_of))]
-    fn judge(&self, view: &RadiusView) -> Judgement
+    /// What a packet is, under the secret and after the request that is kept. Keeps a request that is good.
+    #[tactic(auto, unfolding(crate::specs::Radius::judged, crate::specs::Radius::kept_after, radius_carry::specs::Tags::is_good_request, radius_carry::specs::Fault::value_of))]
+    fn judge(&mut self, view: &RadiusView) -> Judgement
         requires { IsRadius (value_of view.now) view.now.whole.now }
-        ensures { result ≡ judged self.now.secret self.now.asked (value_of view.now) }
+        ensures judged { result ≡ judged self.old.secret self.old.asked (value_of view.now) }
+        ensures kept { self.new ≡ record self.old { asked = kept_after self.old.secret self.old.asked (value_of view.now) } }
     {
         match view.kind {
-            RadiusKind::Request => good_or_bad(request_good(self.secret.as_slice(), view)),
+            RadiusKind::Request => {
+                let is_good = request_good(self.secret.as_slice(), view);
+                if is_good {
+                    self.asked = Some(KeptRequest {
+                        id: view.id,
+                        authenticator: view.authenticator,
+                    });
+                }
+                good_or_bad(is_good)
+            }
             _ => judged_reply(self.secret.as_slice(), &self.asked, view),
-        }
-    }
-
-    /// Keeps a request that is good.
-    #[tactic(auto, unfolding(crate::specs::Radius::kept_after, radius_carry::specs::Fault::value_of))]
-    fn keep(&mut self, view: &RadiusView)
-        requires { IsRadius (value_of view.now) view.now.whole.now }
-        ensures { self.new ≡ record self.old { asked = kept_after self.old.secret self.old.asked (value_of view.now) } }
-    {
-        if request_good(self.secret.as_slice(), view) {
-            self.asked = Some(KeptRequest {
-                id: view.id,
-                authenticator: view.authenticator,
-            });
         }
     }
 
@@ -293,7 +289,6 @@ impl Radius {
             Err(cause) => write_words(sink, b"read", cause.word().as_bytes()),
             Ok(view) => {
                 let judgement = self.judge(&view);
-                self.keep(&view);
                 write_packet(sink, &view, judgement)
             }
         };

@@ -73,30 +73,23 @@ fn write_acted<W: Sink>(
     write_keys(sink, number, &told.named)
 }
 
-/// Writes the line of the packet that is sent, if one is.
+/// Writes all octets of the packet that is sent in hex, in one line, if one is.
 fn write_sent<W: Sink>(sink: &mut W, number: u32, octets: &[u8], sends: bool) -> Result<(), Failed>
     ensures { Appends W.shown result sink.old sink.new (send_text number (if sends then Some octets.now else None)) }
 {
     if sends {
-        write_packet(sink, number, octets)
+        write_pieces(
+            sink,
+            &[
+                Number(u64::from(number)),
+                Text(b" send "),
+                Hex(octets),
+                Text(b"\n"),
+            ],
+        )
     } else {
         write_nothing(sink)
     }
-}
-
-/// Writes all octets of a packet in hex, in one line.
-fn write_packet<W: Sink>(sink: &mut W, number: u32, octets: &[u8]) -> Result<(), Failed>
-    ensures { Appends W.shown result sink.old sink.new (send_text number (Some octets.now)) }
-{
-    write_pieces(
-        sink,
-        &[
-            Number(u64::from(number)),
-            Text(b" send "),
-            Hex(octets),
-            Text(b"\n"),
-        ],
-    )
 }
 
 /// Writes the names of the keys of a report that the end first has, if there is one.

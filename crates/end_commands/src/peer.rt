@@ -35,13 +35,9 @@ impl<M: PeerMethod> Begins<M> for PeerMachine<M> {
         let Ok(setup) = end.reader.peer_setup() else {
             return None;
         };
-        match end.methods.take() {
-            None => None,
-            Some(methods) => {
-                end.pipe = Some(peer_of(setup, methods));
-                None
-            }
-        }
+        let methods = end.methods.take()?;
+        end.pipe = Some(peer_of(setup, methods));
+        None
     }
 }
 

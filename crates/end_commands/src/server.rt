@@ -41,17 +41,13 @@ impl<M: ServerMethod> Begins<M> for StandAloneServer<M> {
         let Ok(setup) = end.reader.server_setup() else {
             return None;
         };
-        match end.methods.take() {
-            None => None,
-            Some(methods) => {
-                let first_id = end.reader.first_id();
-                let max_retrans = end.reader.max_retrans();
-                let mut pipe = server_of(setup, first_id, max_retrans, methods);
-                let step = pipe.start(&mut end.packet, &mut end.tags);
-                end.pipe = Some(pipe);
-                Some(step)
-            }
-        }
+        let methods = end.methods.take()?;
+        let first_id = end.reader.first_id();
+        let max_retrans = end.reader.max_retrans();
+        let mut pipe = server_of(setup, first_id, max_retrans, methods);
+        let step = pipe.start(&mut end.packet, &mut end.tags);
+        end.pipe = Some(pipe);
+        Some(step)
     }
 }
 

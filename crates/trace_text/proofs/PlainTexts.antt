@@ -19,7 +19,7 @@ use Rattle.eap_world.specs.declared.told.Told.{Told}
 use Rattle.login_keys.specs.KeyName.{key_name_of}
 use Rattle.answer_text.specs.Paths.{path_text, cause_text}
 use Rattle.answer_text.specs.Pieces.{hex_text}
-use Rattle.trace_text.specs.Run.{party_word, port_word, skip_word, code_word, type_text, party_text, sent_text, octets_line, octets_text, keys_line, keys_text, shown_text, acted_text, told_by, told_text, peer_start_text, server_start_text, start_text, peer_state_line, pass_state_line, server_state_line, stands_text, counts_text}
+use Rattle.trace_text.specs.Run.{party_word, port_word, skip_word, code_word, type_text, party_text, sent_text, octets_line, octets_text, keys_line, keys_text, shown_text, acted_text, told_by, told_text, peer_start_text, server_start_text, start_text, pass_state_line, state_line, stands_text, counts_text}
 use Rattle.answer_text.proofs.PlainPaths.{path_plain, cause_plain}
 use Rattle.answer_text.proofs.PlainWords.{state_within, either_within, hex_within}
 use Rattle.answer_text.proofs.Plain.{is_within, plain, join, through, within_join, decimal_within, decimal_first, numbered}
@@ -128,23 +128,23 @@ unfolding peer_start_text
 start_plain m names octets told =
     join begins_verdict (told_text names octets told) (server_start_text m) true (told_plain begins_verdict no_verdict names octets told) (server_start_plain m)
 
+peer_state_plain : (peer : State) → plain begins_verdict true (state_line (codes "state peer ") peer) ≡ true
+unfolding state_line
+peer_state_plain peer = through begins_verdict (state_word peer) _ (state_within peer) refl
+
+server_state_plain : (server : State) → plain begins_verdict true (state_line (codes "state server ") server) ≡ true
+unfolding state_line
+server_state_plain server = through begins_verdict (state_word server) _ (state_within server) refl
+
 pass_state_plain : (pass : Option State) → plain begins_verdict true (pass_state_line pass) ≡ true
-unfolding pass_state_line
+unfolding pass_state_line state_line
 pass_state_plain None = refl
 pass_state_plain (Some pass) = through begins_verdict (state_word pass) _ (state_within pass) refl
 
-peer_state_plain : (peer : State) → plain begins_verdict true (peer_state_line peer) ≡ true
-unfolding peer_state_line
-peer_state_plain peer = through begins_verdict (state_word peer) _ (state_within peer) refl
-
-server_state_plain : (server : State) → plain begins_verdict true (server_state_line server) ≡ true
-unfolding server_state_line
-server_state_plain server = through begins_verdict (state_word server) _ (state_within server) refl
-
 pub stands_plain : (peer : State) (pass : Option State) (server : State) → plain begins_verdict true (stands_text peer pass server) ≡ true
 stands_plain peer pass server =
-    join begins_verdict (peer_state_line peer) (pass_state_line pass ++ server_state_line server) true (peer_state_plain peer)
-    (join begins_verdict (pass_state_line pass) (server_state_line server) true (pass_state_plain pass) (server_state_plain server))
+    join begins_verdict (state_line (codes "state peer ") peer) _ true (peer_state_plain peer)
+    (join begins_verdict (pass_state_line pass) (state_line (codes "state server ") server) true (pass_state_plain pass) (server_state_plain server))
 
 pub counts_plain : (counts : Counts) → plain begins_verdict true (counts_text counts) ≡ true
 unfolding counts_text

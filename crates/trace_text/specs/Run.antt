@@ -128,14 +128,8 @@ abbrev pub begin_text : Bool → WorldOutcome → List ℕ
 begin_text names out = start_text out.after.parties.mode names (told_octets out) out.told
 
 -- the state of each party
-abbrev pub state_line : List ℕ → State → List ℕ
+unfoldable pub state_line : List ℕ → State → List ℕ
 state_line of state = concat (of ∷ state_word state ∷ codes "\n" ∷ [])
-
-unfoldable pub peer_state_line : State → List ℕ
-peer_state_line state = state_line (codes "state peer ") state
-
-unfoldable pub server_state_line : State → List ℕ
-server_state_line state = state_line (codes "state server ") state
 
 -- the pass-through if there is one
 unfoldable pub pass_state_line : Option State → List ℕ
@@ -143,7 +137,7 @@ pass_state_line None = []
 pass_state_line (Some state) = state_line (codes "state pass ") state
 
 abbrev pub stands_text : State → Option State → State → List ℕ
-stands_text peer pass server = peer_state_line peer ++ (pass_state_line pass ++ server_state_line server)
+stands_text peer pass server = state_line (codes "state peer ") peer ++ (pass_state_line pass ++ state_line (codes "state server ") server)
 
 -- how many events, deliveries and discards there were
 unfoldable pub counts_text : Counts → List ℕ

@@ -5,9 +5,9 @@ ghost use Rattle.std.specs.Prelude.{◌≡◌, Some, slice_index, [], ◌∷◌,
 ghost use Rattle.std.specs.List.{concat};
 ghost use Rattle.answer_text.specs.Writes.{Appends, Puts};
 ghost use Rattle.trace_text.specs.Run.{party_word, port_word, skip_word, code_word, party_text};
-ghost use Rattle.trace_text.specs.Run.{sent_text, octets_line, octets_text, key_names_line, keys_line, keys_text, shown_text, acted_text};
+ghost use Rattle.trace_text.specs.Run.{sent_text, octets_text, key_names_line, keys_line, keys_text, acted_text};
 ghost use Rattle.trace_text.specs.Run.{told_text, peer_start_text, server_start_text, start_text, stands_text, counts_text, fresh_text, fresh_told, tags_text, verdict_word};
-ghost use Rattle.trace_text.specs.Run.{result_text, end_text_of, end_text, peer_state_line, pass_state_line, server_state_line};
+ghost use Rattle.trace_text.specs.Run.{result_text, end_text_of, end_text, pass_state_line, state_line};
 ghost use Rattle.eap_world.specs.World.{now_of};
 
 use answer_text::Piece::{Hex, Number, Text};
@@ -124,21 +124,8 @@ fn put_party<W: Sink>(
     put_path(sink, line, path)
 }
 
-#[tactic(auto, using(answer_text::proofs::Putting::appends_sent, answer_text::proofs::Putting::appends_cut))]
-fn write_party_line<W: Sink>(
-    sink: &mut W,
-    event: u32,
-    party: Party,
-    path: &[State],
-) -> Result<(), Failed>
-    ensures { Appends W.shown result sink.old sink.new (party_text event (Some party) path.now) }
-{
-    let mut line = LineBuffer::new();
-    put_party(sink, &mut line, event, party, path)?;
-    send(sink, &mut line)
-}
-
 /// Writes the line of the party that acted, with the states that it entered.
+#[tactic(auto, using(answer_text::proofs::Putting::appends_sent, answer_text::proofs::Putting::appends_cut))]
 fn write_party<W: Sink>(
     sink: &mut W,
     event: u32,
@@ -147,10 +134,12 @@ fn write_party<W: Sink>(
 ) -> Result<(), Failed>
     ensures { Appends W.shown result sink.old sink.new (party_text event party path.now) }
 {
-    match party {
-        None => write_nothing(sink),
-        Some(party) => write_party_line(sink, event, party, path),
-    }
+    let Some(party) = party else {
+        return write_nothing(sink);
+    };
+    let mut line = LineBuffer::new();
+    put_party(sink, &mut line, event, party, path)?;
+    send(sink, &mut line)
 }
 
 /// Writes the line of the packet that was sent, if there was one.
@@ -206,22 +195,7 @@ fn write_packet_line<W: Sink>(
     )
 }
 
-/// Writes all octets of a packet in hex, in one line.
-fn write_octets_line<W: Sink>(sink: &mut W, event: u32, octets: &[u8]) -> Result<(), Failed>
-    ensures { Appends W.shown result sink.old sink.new (octets_line event octets.now) }
-{
-    write_pieces(
-        sink,
-        &[
-            Number(u64::from(event)),
-            Text(b" octets "),
-            Hex(octets),
-            Text(b"\n"),
-        ],
-    )
-}
-
-/// Writes the octets of the packet that was sent, if there was one and names are asked for.
+/// Writes all octets of the packet that was sent in hex, in one line, if there was one and names are asked for.
 fn write_octets<W: Sink>(
     sink: &mut W,
     event: u32,
@@ -232,14 +206,16 @@ fn write_octets<W: Sink>(
     ensures { Appends W.shown result sink.old sink.new (octets_text names event octets.now sent.now) }
 {
     match sent {
-        None => write_nothing(sink),
-        Some(_) => {
-            if names {
-                write_octets_line(sink, event, octets)
-            } else {
-                write_nothing(sink)
-            }
-        }
+        Some(_) if names => write_pieces(
+            sink,
+            &[
+                Number(u64::from(event)),
+                Text(b" octets "),
+                Hex(octets),
+                Text(b"\n"),
+            ],
+        ),
+        _ => write_nothing(sink),
     }
 }
 
@@ -287,14 +263,8 @@ fn write_keys<W: Sink>(
     ensures { Appends W.shown result sink.old sink.new (keys_text names event named.now) }
 {
     match named {
-        None => write_nothing(sink),
-        Some(named) => {
-            if names {
-                write_keys_line(sink, event, named)
-            } else {
-                write_nothing(sink)
-            }
-        }
+        Some(named) if names => write_keys_line(sink, event, named),
+        _ => write_nothing(sink),
     }
 }
 
@@ -332,14 +302,6 @@ fn write_acted<W: Sink>(sink: &mut W, told: &Told, octets: &[u8], names: bool) -
 {
     write_party(sink, told.event, told.party, told.path.as_slice())?;
     write_cause(sink, told.event, told.cause)?;
-    write_shown(sink, told, octets, names)
-}
-
-/// Writes the lines of the packet that was sent, of its octets, and of the keys.
-#[tactic(auto, using(answer_text::proofs::Fronts::appends_both, answer_text::proofs::Fronts::appends_front))]
-fn write_shown<W: Sink>(sink: &mut W, told: &Told, octets: &[u8], names: bool) -> Result<(), Failed>
-    ensures { Appends W.shown result sink.old sink.new (shown_text names octets.now told.now) }
-{
     write_sent(sink, told.event, octets, &told.sent)?;
     write_octets(sink, told.event, octets, &told.sent, names)?;
     write_keys(sink, told.event, &told.named, names)
@@ -415,23 +377,19 @@ fn write_stands<W: Sink>(
 ) -> Result<(), Failed>
     ensures { Appends W.shown result sink.old sink.new (stands_text peer pass server) }
 {
-    write_peer_state(sink, peer)?;
+    write_state(sink, b"state peer ", peer)?;
     write_pass_state(sink, pass)?;
-    write_server_state(sink, server)
+    write_state(sink, b"state server ", server)
 }
 
-/// Writes the state of the peer.
-#[tactic(auto, unfolding(crate::specs::Run::peer_state_line))]
-fn write_peer_state<W: Sink>(sink: &mut W, peer: State) -> Result<(), Failed>
-    ensures { Appends W.shown result sink.old sink.new (peer_state_line peer) }
+/// Writes the state of a party.
+#[tactic(auto, unfolding(crate::specs::Run::state_line))]
+fn write_state<'a, W: Sink>(sink: &mut W, of: &'a [u8], state: State) -> Result<(), Failed>
+    ensures { Appends W.shown result sink.old sink.new (state_line of.now state) }
 {
     write_pieces(
         sink,
-        &[
-            Text(b"state peer "),
-            Text(peer.word().as_bytes()),
-            Text(b"\n"),
-        ],
+        &[Text(of), Text(state.word().as_bytes()), Text(b"\n")],
     )
 }
 
@@ -442,30 +400,8 @@ fn write_pass_state<W: Sink>(sink: &mut W, pass: Option<State>) -> Result<(), Fa
 {
     match pass {
         None => Ok(()),
-        Some(pass) => write_pieces(
-            sink,
-            &[
-                Text(b"state pass "),
-                Text(pass.word().as_bytes()),
-                Text(b"\n"),
-            ],
-        ),
+        Some(pass) => write_state(sink, b"state pass ", pass),
     }
-}
-
-/// Writes the state of the server.
-#[tactic(auto, unfolding(crate::specs::Run::server_state_line))]
-fn write_server_state<W: Sink>(sink: &mut W, server: State) -> Result<(), Failed>
-    ensures { Appends W.shown result sink.old sink.new (server_state_line server) }
-{
-    write_pieces(
-        sink,
-        &[
-            Text(b"state server "),
-            Text(server.word().as_bytes()),
-            Text(b"\n"),
-        ],
-    )
 }
 
 /// Writes how many events, deliveries and discards there were.

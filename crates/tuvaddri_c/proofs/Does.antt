@@ -1,6 +1,7 @@
 -- What a machine's step says is what is told of it.
-use Rattle.std.proofs.Common.{◌≡◌, refl, ℕ, List, [], sym, ap, subst, ◌∙◌, Bool, true, false, Option, None}
+use Rattle.std.proofs.Common.{◌≡◌, refl, ℕ, List, sym, ap, subst, Bool, true, false, None}
 use Rattle.std.specs.Prelude.{if◌then◌else◌, Some}
+use Rattle.eap_packet.specs.declared.state.State.{State}
 use Rattle.eap_method.specs.Steps.{step_with}
 use Rattle.eap_method.specs.declared.step.Step as brief
 use Rattle.eap_method.specs.declared.tags.Tags.{Tags}
@@ -10,7 +11,7 @@ use Rattle.server_machine.specs.ServerTable.{ServerValue, ServerAnswer}
 use Rattle.server_machine.specs.ServerTable as server
 use Rattle.end_objects.specs.Objects.{peer_object_shown, server_object_shown}
 use Rattle.tuvaddri_c.specs.declared.session.Sent.{Sent}
-use Rattle.tuvaddri_c.specs.Sent.{after_turn, rested}
+use Rattle.tuvaddri_c.specs.Sent.{after_turn}
 use Rattle.tuvaddri_c.specs.Turns.{turn_of, PeerDoes, ServerDoes, PassDoes, is_some}
 use Rattle.pass_through.specs.PassTable.{Side, PassAnswer, step_to}
 use Rattle.pass_through.specs.PassTable as pass
@@ -32,44 +33,30 @@ sends_so : (b : Bool) (p : List ℕ) → is_some (if b then Some p else None) �
 sends_so true p = refl
 sends_so false p = refl
 
+says_so : (step : brief.Step) (packet : List ℕ) (s : State)
+    → turn_of step s ≡ record (turn_of step s) { sends = is_some (if step.sends then Some packet else None) }
+says_so step packet s = ap (λ (b : Bool). record (turn_of step s) { sends = b }) (sym (sends_so step.sends packet))
+
 pub peer_does : (row : PeerAnswer) (step : brief.Step) (packet : List ℕ) (tags : Tags) (after : PeerValue PeerObject) (before sent : Sent)
     → row ≡ peer.answer (step_with step packet tags) (peer.now_of peer_object_shown after)
     → sent ≡ after_turn (if step.sends then Some packet else None) before
     → PeerDoes row before (turn_of step after.vars.state) sent after
 peer_does row step packet tags after before sent e s = subst (λ (r : PeerAnswer). PeerDoes r before (turn_of step after.vars.state) sent after) (sym e)
-    (record { turn_is = (λ i. record { sends = sym (sends_so step.sends packet) i; discards = is_some step.cause; misplaced = false; cause = (turn_of step after.vars.state).cause; state = (turn_of step after.vars.state).state }); sent_is = s; machine = refl })
+    (record { turn_is = says_so step packet after.vars.state; sent_is = s; machine = refl })
 
 pub server_does : (row : ServerAnswer) (step : brief.Step) (packet : List ℕ) (tags : Tags) (after : ServerValue ServerObject) (before sent : Sent)
     → row ≡ server.answer (step_with step packet tags) (server.now_of server_object_shown after)
     → sent ≡ after_turn (if step.sends then Some packet else None) before
     → ServerDoes row before (turn_of step after.vars.state) sent after
 server_does row step packet tags after before sent e s = subst (λ (r : ServerAnswer). ServerDoes r before (turn_of step after.vars.state) sent after) (sym e)
-    (record { turn_is = (λ i. record { sends = sym (sends_so step.sends packet) i; discards = is_some step.cause; misplaced = false; cause = (turn_of step after.vars.state).cause; state = (turn_of step after.vars.state).state }); sent_is = s; machine = refl })
+    (record { turn_is = says_so step packet after.vars.state; sent_is = s; machine = refl })
 
 pub pass_does : (to : Side) (row : PassAnswer) (step : brief.Step) (packet : List ℕ) (after : PassVariables) (before sent : Sent)
     → row ≡ pass.answer (step_to to step packet) after
     → sent ≡ after_turn (if step.sends then Some packet else None) before
     → PassDoes row before (turn_of step after.state) sent after
 pass_does to row step packet after before sent e s = subst (λ (r : PassAnswer). PassDoes r before (turn_of step after.state) sent after) (sym e)
-    (record { turn_is = (λ i. record { sends = sym (sends_so step.sends packet) i; discards = is_some step.cause; misplaced = false; cause = (turn_of step after.state).cause; state = (turn_of step after.state).state }); sent_is = s; machine = refl })
-
--- a call whose row sends nothing
-none_after : (told : Option (List ℕ)) (before sent : Sent) → told ≡ None → sent ≡ rested before → sent ≡ after_turn told before
-none_after told before sent none s = s ∙ ap (λ (o : Option (List ℕ)). after_turn o before) (sym none)
-
-pub peer_rests : (row : PeerAnswer) (step : brief.Step) (tags : Tags) (after : PeerValue PeerObject) (before sent : Sent)
-    → row ≡ peer.answer (step_with step [] tags) (peer.now_of peer_object_shown after)
-    → row.step.sent ≡ None → sent ≡ rested before
-    → PeerDoes row before (turn_of step after.vars.state) sent after
-peer_rests row step tags after before sent e none s = peer_does row step [] tags after before sent e
-    (none_after (if step.sends then Some [] else None) before sent (sym (ap (λ (r : PeerAnswer). r.step.sent) e) ∙ none) s)
-
-pub pass_rests : (to : Side) (row : PassAnswer) (step : brief.Step) (after : PassVariables) (before sent : Sent)
-    → row ≡ pass.answer (step_to to step []) after
-    → row.step.sent ≡ None → sent ≡ rested before
-    → PassDoes row before (turn_of step after.state) sent after
-pass_rests to row step after before sent e none s = pass_does to row step [] after before sent e
-    (none_after (if step.sends then Some [] else None) before sent (sym (ap (λ (r : PassAnswer). r.step.sent) e) ∙ none) s)
+    (record { turn_is = says_so step packet after.state; sent_is = s; machine = refl })
 
 -- a method's turn sends the packet that it wrote, where it says so
 peer_replies : (b : peer_briefs.PeerTurn) (packet : List ℕ) (tags : Tags) (after : PeerObject) (before sent : Sent)

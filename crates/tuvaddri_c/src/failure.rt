@@ -7,7 +7,7 @@ ghost use Rattle.end_objects.specs.Objects.{peer_object_shown, server_object_sho
 ghost use Rattle.tuvaddri_c.specs.Failures.{failing, known_code, repeated_code, code_in, sent_code, peer_failure, peer_ended, shown_failure, server_failure, server_ended, pass_ended, end_failure};
 
 use crate::handle::TuvEnd;
-use crate::session::{End, Session};
+use crate::session::End;
 use eap_base::{GPSK_KIND, PSK_KIND, Packet};
 use eap_method::ServerMethod;
 use eap_packet::{Code, State, decode, write_plain};
@@ -176,9 +176,13 @@ fn pass_ended(state: State) -> TuvFailure
     }
 }
 
-fn failure_of(session: &Session) -> TuvFailure
-    ensures { result ≡ end_failure session.now.end session.now.sent.packet }
+/// Why the login has failed, as far as the end can know.
+#[unsafe(no_mangle)]
+pub extern "C" fn tuv_end_failure(end: &mut TuvEnd) -> TuvFailure
+    ensures same { end.new.value ≡ end.old.value }
+    ensures failure { result ≡ end_failure end.old.value.end end.old.value.sent.packet }
 {
+    let session = end.session();
     let sent = session.sent.packet.as_slice();
     match &session.end {
         End::Closed => failing(0, 0),
@@ -192,13 +196,4 @@ fn failure_of(session: &Session) -> TuvFailure
         End::Backend(machine) => server_failure(machine.current(), server_ended(machine.state())),
         End::Pass(machine) => pass_ended(machine.state()),
     }
-}
-
-/// Why the login has failed, as far as the end can know.
-#[unsafe(no_mangle)]
-pub extern "C" fn tuv_end_failure(end: &mut TuvEnd) -> TuvFailure
-    ensures same { end.new.value ≡ end.old.value }
-    ensures failure { result ≡ end_failure end.old.value.end end.old.value.sent.packet }
-{
-    failure_of(end.session())
 }

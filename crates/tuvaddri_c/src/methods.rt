@@ -1,13 +1,13 @@
 //! The methods alone, for a program with machines of its own.
 
 ghost use Rattle.std.specs.Prelude.{◌≡◌, true, false, IsTrue, All, Ok, Err, None, IfSome, IfOk, IfErr};
-ghost use Rattle.login_setup.specs.Setup.{are_kinds, fits_kind};
+ghost use Rattle.login_setup.specs.Setup.{fits_kind};
 ghost use Rattle.eap_packet.specs.Fault.{packet_of};
 ghost use Rattle.eap_method.specs.Peer.{peer_kind, peer_step, IsRequest};
 ghost use Rattle.eap_method.specs.Server.{server_kind, server_step, server_first_step, IsResponse};
 ghost use Rattle.end_objects.specs.Objects.{peer_object_shown, server_object_shown};
-ghost use Rattle.end_objects.specs.Refusals.{peer_refusal, server_refusal, IsSoundOther};
-ghost use Rattle.end_objects.specs.Settings.{settings_of, kinds_of, first_kind, users_of, credential_of, side_of};
+ghost use Rattle.end_objects.specs.Refusals.{peer_refusal, server_refusal};
+ghost use Rattle.end_objects.specs.Settings.{settings_of, first_kind, users_of, credential_of, side_of};
 ghost use Rattle.tuvaddri_c.specs.Answers.{begun, refusal_number};
 ghost use Rattle.tuvaddri_c.specs.Sent.{none_sent};
 ghost use Rattle.tuvaddri_c.specs.declared.session.End.TheVariants as ends;
@@ -16,7 +16,7 @@ ghost use Rattle.tuvaddri_c.specs.Methods.{IfPeerMethod, AsPeerMethod, IfServerM
 use crate::answers::{BEGUN, number_of_refusal};
 use crate::handle::TuvEnd;
 use crate::method_turn::TuvMethodTurn;
-use crate::session::{End, Known, Sent, Session};
+use crate::session::{End, Known};
 use eap_base::{Nonce, Packet, Secret};
 use eap_method::{PeerMethod, ServerMethod, Tags};
 use eap_packet::{Cause, Code, decode};
@@ -25,22 +25,6 @@ use end_objects::{
     server_object, server_refusal, server_side, users_of,
 };
 use login_setup::Users;
-
-/// Makes the end the first of the peer's methods, alone.
-fn begin_peer(session: &mut Session, settings: &Settings, nonce: &Nonce)
-    requires taken { peer_refusal (settings_of settings.now) ≡ None }
-    requires kinds { IsTrue (are_kinds (kinds_of (settings_of settings.now))) }
-    ensures made { AsPeerMethod session.new.end (λ n key. (key ≡ (credential_of (settings_of settings.now)).psk)
-        × (peer_object_shown n ≡ peer_fresh (first_kind (settings_of settings.now)) (credential_of (settings_of settings.now)) nonce.now)) }
-    ensures sent { session.new.sent ≡ none_sent }
-{
-    let kind = first_kind(settings);
-    let credential = credential(settings);
-    let mut object = peer_object(kind);
-    object.begin(&credential, nonce);
-    hold_peer(&mut session.end, object, credential.psk.copy());
-    session.sent.clear();
-}
 
 /// Makes the end this peer's method. (By itself, since the compiler then builds it where it stays.)
 fn hold_peer(end: &mut End, object: PeerObject, key: Secret)
@@ -63,22 +47,16 @@ pub extern "C" fn tuv_peer_method_begin(end: &mut TuvEnd, settings: &Settings, n
     match peer_refusal(settings) {
         Some(refusal) => number_of_refusal(refusal),
         None => {
-            begin_peer(end.session(), settings, nonce);
+            let kind = first_kind(settings);
+            let credential = credential(settings);
+            let mut object = peer_object(kind);
+            object.begin(&credential, nonce);
+            let session = end.session();
+            hold_peer(&mut session.end, object, credential.psk.copy());
+            session.sent.clear();
             BEGUN
         }
     }
-}
-
-#[tactic(auto, using(crate::proofs::Does::peer_turns))]
-fn hand_to_peer(object: &mut PeerObject, request: &[u8], sent: &mut Sent) -> TuvMethodTurn
-    requires { IsRequest (peer_kind (peer_object_shown object.old)) request.now }
-    ensures { PeerTurns (peer_step (peer_object_shown object.old) request.now) sent.old result sent.new object.new }
-{
-    let mut packet = Packet::new();
-    let mut tags = Tags::new();
-    let turn = TuvMethodTurn::of_peer(object.handle(request, &mut packet, &mut tags));
-    sent.take(turn.sends, &packet);
-    turn
 }
 
 /// The Request of this Type with which the octets begin.
@@ -103,26 +81,10 @@ fn request_of<'a>(octets: &'a [u8], kind: u8) -> Result<&'a [u8], Cause>
     }
 }
 
-fn handle_peer(session: &mut Session, octets: &[u8]) -> TuvMethodTurn
-    ensures turn { IfPeerMethod session.old.end (λ o key. IfOk (requested (peer_kind (peer_object_shown o)) (packet_of octets.now)) (λ whole.
-        AsPeerMethod session.new.end (λ n after. (after ≡ key)
-        × PeerTurns (peer_step (peer_object_shown o) whole) session.old.sent result session.new.sent n))) }
-    ensures discarded { IfPeerMethod session.old.end (λ o key. IfErr (requested (peer_kind (peer_object_shown o)) (packet_of octets.now)) (λ cause.
-        IsDiscarded cause session.old result session.new)) }
-    ensures misplaced { is_peer_method session.old.end ≡ false → IsMisplaced session.old result session.new }
-{
-    match &mut session.end {
-        End::PeerMethod(object, _) => match request_of(octets, object.kind()) {
-            Err(cause) => TuvMethodTurn::discard(cause, &mut session.sent),
-            Ok(whole) => hand_to_peer(object, whole, &mut session.sent),
-        },
-        _ => TuvMethodTurn::none(&mut session.sent),
-    }
-}
-
 /// Octets arrive at a peer's method. Octets that begin with no Request of its Type are silently discarded, and change
 /// nothing.
 #[unsafe(no_mangle)]
+#[tactic(auto, using(crate::proofs::Does::peer_turns))]
 pub extern "C" fn tuv_peer_method_handle(end: &mut TuvEnd, octets: &[u8]) -> TuvMethodTurn
     ensures turn { IfPeerMethod end.old.value.end (λ o key. IfOk (requested (peer_kind (peer_object_shown o)) (packet_of octets.now)) (λ whole.
         AsPeerMethod end.new.value.end (λ n after. (after ≡ key)
@@ -131,26 +93,20 @@ pub extern "C" fn tuv_peer_method_handle(end: &mut TuvEnd, octets: &[u8]) -> Tuv
         IsDiscarded cause end.old.value result end.new.value)) }
     ensures misplaced { is_peer_method end.old.value.end ≡ false → IsMisplaced end.old.value result end.new.value }
 {
-    handle_peer(end.session(), octets)
-}
-
-/// Makes the end the first of the server's methods, alone, which has made its first Request.
-#[tactic(auto, using(crate::proofs::Sides::side_has_suites))]
-fn begin_server(session: &mut Session, settings: &Settings, nonce: &Nonce, id: u8)
-    requires taken { server_refusal (settings_of settings.now) ≡ None }
-    requires kinds { IsTrue (are_kinds (kinds_of (settings_of settings.now))) }
-    requires other { IsSoundOther (settings_of settings.now) }
-    ensures made { AsServerMethod session.new.end (λ n known. (known.users ≡ users_of (settings_of settings.now))
-        × (server_first_step (server_fresh (first_kind (settings_of settings.now)) (side_of (settings_of settings.now)) nonce.now) id
-        ≡ record { packet = session.new.sent.packet; after = server_object_shown n })) }
-    ensures fresh { session.new.sent.fresh ≡ true }
-{
-    let own = server_side(settings);
-    let mut object = server_object(first_kind(settings));
-    object.begin(&own, nonce);
-    object.first(id, &mut session.sent.packet);
-    session.sent.fresh = true;
-    hold_server(&mut session.end, object, users_of(settings));
+    let session = end.session();
+    match &mut session.end {
+        End::PeerMethod(object, _) => match request_of(octets, object.kind()) {
+            Err(cause) => TuvMethodTurn::discard(cause, &mut session.sent),
+            Ok(whole) => {
+                let mut packet = Packet::new();
+                let mut tags = Tags::new();
+                let turn = TuvMethodTurn::of_peer(object.handle(whole, &mut packet, &mut tags));
+                session.sent.take(turn.sends, &packet);
+                turn
+            }
+        },
+        _ => TuvMethodTurn::none(&mut session.sent),
+    }
 }
 
 /// Makes the end this server's method. (By itself, since the compiler then builds it where it stays.)
@@ -164,6 +120,7 @@ fn hold_server(end: &mut End, object: ServerObject, users: Users)
 /// Makes the end the first of the server's methods, alone, which has begun and written its first Request, with this
 /// Identifier, and answers 0. Else it answers as `tuv_peer_method_begin`.
 #[unsafe(no_mangle)]
+#[tactic(auto, using(crate::proofs::Sides::side_has_suites))]
 pub extern "C" fn tuv_server_method_begin(
     end: &mut TuvEnd,
     settings: &Settings,
@@ -181,30 +138,16 @@ pub extern "C" fn tuv_server_method_begin(
     match server_refusal(settings) {
         Some(refusal) => number_of_refusal(refusal),
         None => {
-            begin_server(end.session(), settings, nonce, id);
+            let own = server_side(settings);
+            let mut object = server_object(first_kind(settings));
+            object.begin(&own, nonce);
+            let session = end.session();
+            object.first(id, &mut session.sent.packet);
+            session.sent.fresh = true;
+            hold_server(&mut session.end, object, users_of(settings));
             BEGUN
         }
     }
-}
-
-#[tactic(auto, using(crate::proofs::Does::server_turns))]
-fn hand_to_server(
-    object: &mut ServerObject,
-    response: &[u8],
-    next_id: u8,
-    users: &Users,
-    sent: &mut Sent,
-) -> TuvMethodTurn
-    requires response { IsResponse (server_kind (server_object_shown object.old)) response.now }
-    requires keys { All (λ user. IsTrue (fits_kind user.kind user.psk)) users.now }
-    ensures { ServerTurns (server_step users.now next_id (server_object_shown object.old) response.now) sent.old result sent.new object.new }
-{
-    let mut packet = Packet::new();
-    let mut tags = Tags::new();
-    let turn = object.handle(response, next_id, users, &mut packet, &mut tags);
-    let turn = TuvMethodTurn::of_server(turn);
-    sent.take(turn.sends, &packet);
-    turn
 }
 
 /// The Response of this Type with which the octets begin.
@@ -229,26 +172,10 @@ fn response_of<'a>(octets: &'a [u8], kind: u8) -> Result<&'a [u8], Cause>
     }
 }
 
-fn handle_server(session: &mut Session, octets: &[u8], next_id: u8) -> TuvMethodTurn
-    ensures turn { IfServerMethod session.old.end (λ o known. IfOk (responded (server_kind (server_object_shown o)) (packet_of octets.now)) (λ whole.
-        AsServerMethod session.new.end (λ n after. (after.users ≡ known.users)
-        × ServerTurns (server_step known.users next_id (server_object_shown o) whole) session.old.sent result session.new.sent n))) }
-    ensures discarded { IfServerMethod session.old.end (λ o known. IfErr (responded (server_kind (server_object_shown o)) (packet_of octets.now)) (λ cause.
-        IsDiscarded cause session.old result session.new)) }
-    ensures misplaced { is_server_method session.old.end ≡ false → IsMisplaced session.old result session.new }
-{
-    match &mut session.end {
-        End::ServerMethod(object, known) => match response_of(octets, object.kind()) {
-            Err(cause) => TuvMethodTurn::discard(cause, &mut session.sent),
-            Ok(whole) => { hand_to_server(object, whole, next_id, &known.users, &mut session.sent) }
-        },
-        _ => TuvMethodTurn::none(&mut session.sent),
-    }
-}
-
 /// Octets arrive at a server's method; a Request that follows has the Identifier `next_id`. Octets that begin with
 /// no Response of its Type are silently discarded, and change nothing.
 #[unsafe(no_mangle)]
+#[tactic(auto, using(crate::proofs::Does::server_turns))]
 pub extern "C" fn tuv_server_method_handle(
     end: &mut TuvEnd,
     octets: &[u8],
@@ -261,5 +188,19 @@ pub extern "C" fn tuv_server_method_handle(
         IsDiscarded cause end.old.value result end.new.value)) }
     ensures misplaced { is_server_method end.old.value.end ≡ false → IsMisplaced end.old.value result end.new.value }
 {
-    handle_server(end.session(), octets, next_id)
+    let session = end.session();
+    match &mut session.end {
+        End::ServerMethod(object, known) => match response_of(octets, object.kind()) {
+            Err(cause) => TuvMethodTurn::discard(cause, &mut session.sent),
+            Ok(whole) => {
+                let mut packet = Packet::new();
+                let mut tags = Tags::new();
+                let turn = object.handle(whole, next_id, &known.users, &mut packet, &mut tags);
+                let turn = TuvMethodTurn::of_server(turn);
+                session.sent.take(turn.sends, &packet);
+                turn
+            }
+        },
+        _ => TuvMethodTurn::none(&mut session.sent),
+    }
 }

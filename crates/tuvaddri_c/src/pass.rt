@@ -10,7 +10,7 @@ ghost use Rattle.tuvaddri_c.specs.Turns.{PassDoes, IsMisplaced};
 
 use crate::answers::{BEGUN, number_of_refusal};
 use crate::handle::TuvEnd;
-use crate::session::{End, Sent};
+use crate::session::End;
 use crate::turn::TuvTurn;
 use eap_base::Packet;
 use end_objects::retry_refusal;
@@ -38,81 +38,9 @@ pub extern "C" fn tuv_pass_begin(end: &mut TuvEnd, first_id: u8, max_retrans: u8
     }
 }
 
-#[tactic(auto, using(crate::proofs::Does::pass_does))]
-fn start(machine: &mut PassThrough, sent: &mut Sent) -> TuvTurn
-    requires { is_started machine.old.state ≡ false }
-    ensures { PassDoes (pass_start machine.old) sent.old result sent.new machine.new }
-{
-    let mut packet = Packet::new();
-    let step = machine.start(&mut packet);
-    sent.take(step.sends, &packet);
-    TuvTurn::of(&step, machine.state())
-}
-
-#[tactic(auto, using(crate::proofs::Does::pass_does))]
-fn restart(machine: &mut PassThrough, sent: &mut Sent) -> TuvTurn
-    ensures { PassDoes (pass_restart machine.old) none_sent result sent.new machine.new }
-{
-    let mut packet = Packet::new();
-    let step = machine.restart(&mut packet);
-    sent.clear();
-    sent.take(step.sends, &packet);
-    TuvTurn::of(&step, machine.state())
-}
-
-#[tactic(auto, using(crate::proofs::Does::pass_does))]
-fn from_peer(machine: &mut PassThrough, octets: &[u8], sent: &mut Sent) -> TuvTurn
-    ensures { PassDoes (pass_from_peer machine.old octets.now) sent.old result sent.new machine.new }
-{
-    let mut packet = Packet::new();
-    let step = machine.from_peer(octets, &mut packet);
-    sent.take(step.sends, &packet);
-    TuvTurn::of(&step, machine.state())
-}
-
-#[tactic(auto, using(crate::proofs::Does::pass_does))]
-fn from_backend(machine: &mut PassThrough, octets: &[u8], sent: &mut Sent) -> TuvTurn
-    ensures { PassDoes (pass_from_backend machine.old octets.now) sent.old result sent.new machine.new }
-{
-    let mut packet = Packet::new();
-    let step = machine.from_backend(octets, &mut packet);
-    sent.take(step.sends, &packet);
-    TuvTurn::of(&step, machine.state())
-}
-
-#[tactic(auto, using(crate::proofs::Does::pass_does))]
-fn timeout(machine: &mut PassThrough, sent: &mut Sent) -> TuvTurn
-    requires { has_timer machine.old.state ≡ true }
-    ensures { PassDoes (pass_timeout machine.old) sent.old result sent.new machine.new }
-{
-    let mut packet = Packet::new();
-    let step = machine.timeout(&mut packet);
-    sent.take(step.sends, &packet);
-    TuvTurn::of(&step, machine.state())
-}
-
-#[tactic(auto, using(crate::proofs::Does::pass_rests, crate::proofs::Rests::aaa_timeout_sends_nothing))]
-fn aaa_timeout(machine: &mut PassThrough, sent: &mut Sent) -> TuvTurn
-    requires { is_aaa_idle machine.old.state ≡ true }
-    ensures { PassDoes (pass_aaa_timeout machine.old) sent.old result sent.new machine.new }
-{
-    let step = machine.aaa_timeout();
-    sent.rest();
-    TuvTurn::of(&step, machine.state())
-}
-
-#[tactic(auto, using(crate::proofs::Does::pass_rests, crate::proofs::Rests::aaa_noreq_sends_nothing))]
-fn aaa_noreq(machine: &mut PassThrough, sent: &mut Sent) -> TuvTurn
-    requires { is_aaa_idle machine.old.state ≡ true }
-    ensures { PassDoes (pass_aaa_noreq machine.old) sent.old result sent.new machine.new }
-{
-    let step = machine.aaa_noreq();
-    sent.rest();
-    TuvTurn::of(&step, machine.state())
-}
-
 /// It starts, if it has not: its Request goes to the peer.
 #[unsafe(no_mangle)]
+#[tactic(auto, using(crate::proofs::Does::pass_does))]
 pub extern "C" fn tuv_pass_start(end: &mut TuvEnd) -> TuvTurn
     ensures pass { IfPass end.old.value.end (λ m. is_started m.state ≡ false → AsPass end.new.value.end (λ n.
         PassDoes (pass_start m) end.old.value.sent result end.new.value.sent n)) }
@@ -120,12 +48,10 @@ pub extern "C" fn tuv_pass_start(end: &mut TuvEnd) -> TuvTurn
 {
     let session = end.session();
     match &mut session.end {
-        End::Pass(machine) => {
-            if machine.started() {
-                TuvTurn::none(&mut session.sent)
-            } else {
-                start(machine, &mut session.sent)
-            }
+        End::Pass(machine) if !machine.started() => {
+            let mut packet = Packet::new();
+            let step = machine.start(&mut packet);
+            TuvTurn::of(&step, &packet, machine.state(), &mut session.sent)
         }
         _ => TuvTurn::none(&mut session.sent),
     }
@@ -134,6 +60,7 @@ pub extern "C" fn tuv_pass_start(end: &mut TuvEnd) -> TuvTurn
 /// It restarts, in any state, also before its start: its Request, with the first Identifier, goes to the
 /// peer.
 #[unsafe(no_mangle)]
+#[tactic(auto, using(crate::proofs::Does::pass_does))]
 pub extern "C" fn tuv_pass_restart(end: &mut TuvEnd) -> TuvTurn
     ensures pass { IfPass end.old.value.end (λ m. AsPass end.new.value.end (λ n.
         PassDoes (pass_restart m) none_sent result end.new.value.sent n)) }
@@ -141,13 +68,19 @@ pub extern "C" fn tuv_pass_restart(end: &mut TuvEnd) -> TuvTurn
 {
     let session = end.session();
     match &mut session.end {
-        End::Pass(machine) => restart(machine, &mut session.sent),
+        End::Pass(machine) => {
+            let mut packet = Packet::new();
+            let step = machine.restart(&mut packet);
+            session.sent.clear();
+            TuvTurn::of(&step, &packet, machine.state(), &mut session.sent)
+        }
         _ => TuvTurn::none(&mut session.sent),
     }
 }
 
 /// Octets arrive from the peer: what is sent goes to the backend.
 #[unsafe(no_mangle)]
+#[tactic(auto, using(crate::proofs::Does::pass_does))]
 pub extern "C" fn tuv_pass_from_peer(end: &mut TuvEnd, octets: &[u8]) -> TuvTurn
     ensures pass { IfPass end.old.value.end (λ m. AsPass end.new.value.end (λ n.
         PassDoes (pass_from_peer m octets.now) end.old.value.sent result end.new.value.sent n)) }
@@ -155,13 +88,18 @@ pub extern "C" fn tuv_pass_from_peer(end: &mut TuvEnd, octets: &[u8]) -> TuvTurn
 {
     let session = end.session();
     match &mut session.end {
-        End::Pass(machine) => from_peer(machine, octets, &mut session.sent),
+        End::Pass(machine) => {
+            let mut packet = Packet::new();
+            let step = machine.from_peer(octets, &mut packet);
+            TuvTurn::of(&step, &packet, machine.state(), &mut session.sent)
+        }
         _ => TuvTurn::none(&mut session.sent),
     }
 }
 
 /// Octets arrive from the backend: what is sent goes to the peer.
 #[unsafe(no_mangle)]
+#[tactic(auto, using(crate::proofs::Does::pass_does))]
 pub extern "C" fn tuv_pass_from_backend(end: &mut TuvEnd, octets: &[u8]) -> TuvTurn
     ensures pass { IfPass end.old.value.end (λ m. AsPass end.new.value.end (λ n.
         PassDoes (pass_from_backend m octets.now) end.old.value.sent result end.new.value.sent n)) }
@@ -169,13 +107,18 @@ pub extern "C" fn tuv_pass_from_backend(end: &mut TuvEnd, octets: &[u8]) -> TuvT
 {
     let session = end.session();
     match &mut session.end {
-        End::Pass(machine) => from_backend(machine, octets, &mut session.sent),
+        End::Pass(machine) => {
+            let mut packet = Packet::new();
+            let step = machine.from_backend(octets, &mut packet);
+            TuvTurn::of(&step, &packet, machine.state(), &mut session.sent)
+        }
         _ => TuvTurn::none(&mut session.sent),
     }
 }
 
 /// The retransmission timer ends, if it runs: what is sent goes to the peer.
 #[unsafe(no_mangle)]
+#[tactic(auto, using(crate::proofs::Does::pass_does))]
 pub extern "C" fn tuv_pass_timeout(end: &mut TuvEnd) -> TuvTurn
     ensures pass { IfPass end.old.value.end (λ m. has_timer m.state ≡ true → AsPass end.new.value.end (λ n.
         PassDoes (pass_timeout m) end.old.value.sent result end.new.value.sent n)) }
@@ -183,12 +126,10 @@ pub extern "C" fn tuv_pass_timeout(end: &mut TuvEnd) -> TuvTurn
 {
     let session = end.session();
     match &mut session.end {
-        End::Pass(machine) => {
-            if machine.has_timer() {
-                timeout(machine, &mut session.sent)
-            } else {
-                TuvTurn::none(&mut session.sent)
-            }
+        End::Pass(machine) if machine.has_timer() => {
+            let mut packet = Packet::new();
+            let step = machine.timeout(&mut packet);
+            TuvTurn::of(&step, &packet, machine.state(), &mut session.sent)
         }
         _ => TuvTurn::none(&mut session.sent),
     }
@@ -196,6 +137,7 @@ pub extern "C" fn tuv_pass_timeout(end: &mut TuvEnd) -> TuvTurn
 
 /// No answer of the backend comes any more (aaaTimeout), if it is waited for.
 #[unsafe(no_mangle)]
+#[tactic(auto, using(crate::proofs::Does::pass_does))]
 pub extern "C" fn tuv_pass_aaa_timeout(end: &mut TuvEnd) -> TuvTurn
     ensures pass { IfPass end.old.value.end (λ m. is_aaa_idle m.state ≡ true → AsPass end.new.value.end (λ n.
         PassDoes (pass_aaa_timeout m) end.old.value.sent result end.new.value.sent n)) }
@@ -203,12 +145,9 @@ pub extern "C" fn tuv_pass_aaa_timeout(end: &mut TuvEnd) -> TuvTurn
 {
     let session = end.session();
     match &mut session.end {
-        End::Pass(machine) => {
-            if machine.waits_for_server() {
-                aaa_timeout(machine, &mut session.sent)
-            } else {
-                TuvTurn::none(&mut session.sent)
-            }
+        End::Pass(machine) if machine.waits_for_server() => {
+            let step = machine.aaa_timeout();
+            TuvTurn::of(&step, &Packet::new(), machine.state(), &mut session.sent)
         }
         _ => TuvTurn::none(&mut session.sent),
     }
@@ -216,6 +155,7 @@ pub extern "C" fn tuv_pass_aaa_timeout(end: &mut TuvEnd) -> TuvTurn
 
 /// The backend has nothing to ask (aaaEapNoReq), if it is waited for.
 #[unsafe(no_mangle)]
+#[tactic(auto, using(crate::proofs::Does::pass_does))]
 pub extern "C" fn tuv_pass_aaa_noreq(end: &mut TuvEnd) -> TuvTurn
     ensures pass { IfPass end.old.value.end (λ m. is_aaa_idle m.state ≡ true → AsPass end.new.value.end (λ n.
         PassDoes (pass_aaa_noreq m) end.old.value.sent result end.new.value.sent n)) }
@@ -223,12 +163,9 @@ pub extern "C" fn tuv_pass_aaa_noreq(end: &mut TuvEnd) -> TuvTurn
 {
     let session = end.session();
     match &mut session.end {
-        End::Pass(machine) => {
-            if machine.waits_for_server() {
-                aaa_noreq(machine, &mut session.sent)
-            } else {
-                TuvTurn::none(&mut session.sent)
-            }
+        End::Pass(machine) if machine.waits_for_server() => {
+            let step = machine.aaa_noreq();
+            TuvTurn::of(&step, &Packet::new(), machine.state(), &mut session.sent)
         }
         _ => TuvTurn::none(&mut session.sent),
     }

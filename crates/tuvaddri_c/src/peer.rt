@@ -1,51 +1,26 @@
 //! The peer of RFC 4137 section 4.
 
-ghost use Rattle.std.specs.Prelude.{◌≡◌, true, false, None, IfSome, IsTrue};
-ghost use Rattle.login_setup.specs.Setup.{are_kinds};
+ghost use Rattle.std.specs.Prelude.{◌≡◌, true, false, None, IfSome};
 ghost use Rattle.eap_method.specs.Steps.{is_end};
 ghost use Rattle.peer_machine.specs.PeerTable.{peer_idle, peer_alt_accept, peer_alt_reject, peer_made};
 ghost use Rattle.peer_machine.specs.PeerTable as peer;
 ghost use Rattle.end_objects.specs.Objects.{peer_object_shown};
 ghost use Rattle.end_objects.specs.Refusals.{peer_refusal};
-ghost use Rattle.end_objects.specs.Settings.{settings_of, kinds_of, peer_setup_of};
+ghost use Rattle.end_objects.specs.Settings.{settings_of, peer_setup_of};
 ghost use Rattle.tuvaddri_c.specs.Answers.{begun, no_memory, refusal_number};
-ghost use Rattle.tuvaddri_c.specs.Ends.{IfPeer, AsPeer, is_going_peer, peer_has_objects, can_restart};
+ghost use Rattle.tuvaddri_c.specs.Ends.{IfPeer, AsPeer, is_going_peer, can_restart};
 ghost use Rattle.tuvaddri_c.specs.declared.session.End.TheVariants as ends;
 ghost use Rattle.tuvaddri_c.specs.Sent.{none_sent};
 ghost use Rattle.tuvaddri_c.specs.Turns.{PeerDoes, IsMisplaced};
 
 use crate::answers::{BEGUN, NO_MEMORY, number_of_refusal};
 use crate::handle::TuvEnd;
-use crate::session::{End, Sent, Session};
+use crate::session::End;
 use crate::turn::TuvTurn;
-use eap_base::Nonce;
+use eap_base::{Nonce, Packet};
 use end_objects::{PeerObject, Settings, kinds_of, peer_objects, peer_refusal, peer_setup};
 use peer_machine::PeerMachine;
 use std::alloc::Global;
-
-/// Makes the end a peer with these settings.
-#[tactic(auto, using(crate::proofs::StillThere::peer_made_with), unfolding(end_objects::specs::Settings::peer_setup_of))]
-fn begin(alloc: Global, session: &mut Session, settings: &Settings, nonce: &Nonce) -> u8
-    requires taken { peer_refusal (settings_of settings.now) ≡ None }
-    requires kinds { IsTrue (are_kinds (kinds_of (settings_of settings.now))) }
-    ensures begun { (result ≡ no_memory → ⊥) → result ≡ begun }
-    ensures made { result ≡ begun → AsPeer session.new.end (λ n.
-        peer.now_of peer_object_shown n ≡ peer_made (peer_setup_of (settings_of settings.now) nonce.now)) }
-    ensures objects { result ≡ begun → can_restart session.new.end ≡ true }
-    ensures sent { result ≡ begun → session.new.sent ≡ none_sent }
-    ensures unchanged { (result ≡ begun → ⊥) → session.new ≡ session.old }
-{
-    let kinds = kinds_of(settings);
-    match peer_objects(alloc, kinds.as_slice()) {
-        Err(_) => NO_MEMORY,
-        Ok(methods) => {
-            let setup = peer_setup(settings, nonce);
-            hold(&mut session.end, PeerMachine::new(setup, methods));
-            session.sent.clear();
-            BEGUN
-        }
-    }
-}
 
 /// Makes the end this peer. (By itself, since the compiler then builds it where it stays.)
 fn hold(end: &mut End, machine: PeerMachine<PeerObject>)
@@ -57,6 +32,7 @@ fn hold(end: &mut End, machine: PeerMachine<PeerObject>)
 /// Makes the end a peer with these settings, and answers 0. Else it answers the number of the refusal, or 8 for want
 /// of memory, and the end stays as it was.
 #[unsafe(no_mangle)]
+#[tactic(auto, using(crate::proofs::StillThere::peer_made_with), unfolding(end_objects::specs::Settings::peer_setup_of))]
 pub extern "C" fn tuv_peer_begin(
     alloc: Global,
     end: &mut TuvEnd,
@@ -73,45 +49,25 @@ pub extern "C" fn tuv_peer_begin(
 {
     match peer_refusal(settings) {
         Some(refusal) => number_of_refusal(refusal),
-        None => begin(alloc, end.session(), settings, nonce),
+        None => {
+            let kinds = kinds_of(settings);
+            match peer_objects(alloc, kinds.as_slice()) {
+                Err(_) => NO_MEMORY,
+                Ok(methods) => {
+                    let setup = peer_setup(settings, nonce);
+                    let session = end.session();
+                    hold(&mut session.end, PeerMachine::new(setup, methods));
+                    session.sent.clear();
+                    BEGUN
+                }
+            }
+        }
     }
-}
-
-#[tactic(auto, using(crate::proofs::Does::peer_rests, crate::proofs::Rests::idle_sends_nothing, crate::proofs::StillThere::peer_still_has))]
-fn idle(machine: &mut PeerMachine<PeerObject>, sent: &mut Sent) -> TuvTurn
-    requires { is_end machine.old.vars.state ≡ false }
-    ensures row { PeerDoes (peer_idle (peer.now_of peer_object_shown machine.old)) sent.old result sent.new machine.new }
-    ensures objects { peer_has_objects machine.old ≡ true → peer_has_objects machine.new ≡ true }
-{
-    let step = machine.idle();
-    sent.rest();
-    TuvTurn::of(&step, machine.state())
-}
-
-#[tactic(auto, using(crate::proofs::Does::peer_rests, crate::proofs::Rests::alt_accept_sends_nothing, crate::proofs::StillThere::peer_still_has))]
-fn alt_accept(machine: &mut PeerMachine<PeerObject>, sent: &mut Sent) -> TuvTurn
-    requires { is_end machine.old.vars.state ≡ false }
-    ensures row { PeerDoes (peer_alt_accept (peer.now_of peer_object_shown machine.old)) sent.old result sent.new machine.new }
-    ensures objects { peer_has_objects machine.old ≡ true → peer_has_objects machine.new ≡ true }
-{
-    let step = machine.alt_accept();
-    sent.rest();
-    TuvTurn::of(&step, machine.state())
-}
-
-#[tactic(auto, using(crate::proofs::Does::peer_rests, crate::proofs::Rests::alt_reject_sends_nothing, crate::proofs::StillThere::peer_still_has))]
-fn alt_reject(machine: &mut PeerMachine<PeerObject>, sent: &mut Sent) -> TuvTurn
-    requires { is_end machine.old.vars.state ≡ false }
-    ensures row { PeerDoes (peer_alt_reject (peer.now_of peer_object_shown machine.old)) sent.old result sent.new machine.new }
-    ensures objects { peer_has_objects machine.old ≡ true → peer_has_objects machine.new ≡ true }
-{
-    let step = machine.alt_reject();
-    sent.rest();
-    TuvTurn::of(&step, machine.state())
 }
 
 /// The lower layer is idle: to a peer that has not ended.
 #[unsafe(no_mangle)]
+#[tactic(auto, using(crate::proofs::Does::peer_does, crate::proofs::StillThere::peer_still_has))]
 pub extern "C" fn tuv_peer_idle(end: &mut TuvEnd) -> TuvTurn
     ensures peer { IfPeer end.old.value.end (λ m. is_end m.vars.state ≡ false → AsPeer end.new.value.end (λ n.
         PeerDoes (peer_idle (peer.now_of peer_object_shown m)) end.old.value.sent result end.new.value.sent n)) }
@@ -120,12 +76,9 @@ pub extern "C" fn tuv_peer_idle(end: &mut TuvEnd) -> TuvTurn
 {
     let session = end.session();
     match &mut session.end {
-        End::Peer(machine) => {
-            if machine.ended() {
-                TuvTurn::none(&mut session.sent)
-            } else {
-                idle(machine, &mut session.sent)
-            }
+        End::Peer(machine) if !machine.ended() => {
+            let step = machine.idle();
+            TuvTurn::of(&step, &Packet::new(), machine.state(), &mut session.sent)
         }
         _ => TuvTurn::none(&mut session.sent),
     }
@@ -133,6 +86,7 @@ pub extern "C" fn tuv_peer_idle(end: &mut TuvEnd) -> TuvTurn
 
 /// The lower layer reports success: to a peer that has not ended.
 #[unsafe(no_mangle)]
+#[tactic(auto, using(crate::proofs::Does::peer_does, crate::proofs::StillThere::peer_still_has))]
 pub extern "C" fn tuv_peer_alt_accept(end: &mut TuvEnd) -> TuvTurn
     ensures peer { IfPeer end.old.value.end (λ m. is_end m.vars.state ≡ false → AsPeer end.new.value.end (λ n.
         PeerDoes (peer_alt_accept (peer.now_of peer_object_shown m)) end.old.value.sent result end.new.value.sent n)) }
@@ -141,12 +95,9 @@ pub extern "C" fn tuv_peer_alt_accept(end: &mut TuvEnd) -> TuvTurn
 {
     let session = end.session();
     match &mut session.end {
-        End::Peer(machine) => {
-            if machine.ended() {
-                TuvTurn::none(&mut session.sent)
-            } else {
-                alt_accept(machine, &mut session.sent)
-            }
+        End::Peer(machine) if !machine.ended() => {
+            let step = machine.alt_accept();
+            TuvTurn::of(&step, &Packet::new(), machine.state(), &mut session.sent)
         }
         _ => TuvTurn::none(&mut session.sent),
     }
@@ -154,6 +105,7 @@ pub extern "C" fn tuv_peer_alt_accept(end: &mut TuvEnd) -> TuvTurn
 
 /// The lower layer reports failure: to a peer that has not ended.
 #[unsafe(no_mangle)]
+#[tactic(auto, using(crate::proofs::Does::peer_does, crate::proofs::StillThere::peer_still_has))]
 pub extern "C" fn tuv_peer_alt_reject(end: &mut TuvEnd) -> TuvTurn
     ensures peer { IfPeer end.old.value.end (λ m. is_end m.vars.state ≡ false → AsPeer end.new.value.end (λ n.
         PeerDoes (peer_alt_reject (peer.now_of peer_object_shown m)) end.old.value.sent result end.new.value.sent n)) }
@@ -162,12 +114,9 @@ pub extern "C" fn tuv_peer_alt_reject(end: &mut TuvEnd) -> TuvTurn
 {
     let session = end.session();
     match &mut session.end {
-        End::Peer(machine) => {
-            if machine.ended() {
-                TuvTurn::none(&mut session.sent)
-            } else {
-                alt_reject(machine, &mut session.sent)
-            }
+        End::Peer(machine) if !machine.ended() => {
+            let step = machine.alt_reject();
+            TuvTurn::of(&step, &Packet::new(), machine.state(), &mut session.sent)
         }
         _ => TuvTurn::none(&mut session.sent),
     }

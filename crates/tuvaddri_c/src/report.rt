@@ -6,7 +6,6 @@ ghost use Rattle.tuvaddri_c.specs.Reports.{report_size, both, end_held, IsReport
 
 use crate::handle::TuvEnd;
 use crate::held::{nonces_of, report_of};
-use crate::session::Session;
 use eap_base::MAX_NAME;
 use eap_method::Report;
 use end_objects::Nonces;
@@ -50,16 +49,9 @@ pub extern "C" fn tuv_end_report(end: &mut TuvEnd, report: &mut TuvReport) -> bo
     ensures none { end_held end.old.value.end ≡ None → (IsTrue result → ⊥) × (report.new ≡ report.old) }
     ensures other_size { (report.old.size ≡ report_size → ⊥) → (IsTrue result → ⊥) × (report.new ≡ report.old) }
 {
-    tell(end.session(), report)
-}
-
-fn tell(session: &Session, report: &mut TuvReport) -> bool
-    ensures held { report.old.size ≡ report_size → IfSome (end_held session.now.end) (λ held. IsTrue result × IsReport held report.old report.new) }
-    ensures none { end_held session.now.end ≡ None → (IsTrue result → ⊥) × (report.new ≡ report.old) }
-    ensures other_size { (report.old.size ≡ report_size → ⊥) → (IsTrue result → ⊥) × (report.new ≡ report.old) }
-{
+    let end = &end.session().end;
     if report.size == REPORT_SIZE {
-        write_held(&report_of(&session.end), &nonces_of(&session.end), report)
+        write_held(&report_of(end), &nonces_of(end), report)
     } else {
         false
     }

@@ -1,66 +1,33 @@
 //! The stand-alone server of RFC 4137 section 5, and the backend of section 6.
 
-ghost use Rattle.std.specs.Prelude.{◌≡◌, ◌≤◌, true, false, None, IfSome, IsTrue};
-ghost use Rattle.login_setup.specs.Setup.{are_kinds};
+ghost use Rattle.std.specs.Prelude.{◌≡◌, true, false, None, IfSome};
 ghost use Rattle.server_machine.specs.ServerTable.{server_start, server_timeout, server_made, backend_made, is_started, is_backend, has_timer};
 ghost use Rattle.server_machine.specs.ServerTable as server;
 ghost use Rattle.server_machine.specs.declared.variables.Role.TheVariants.{StandAlone};
 ghost use Rattle.end_objects.specs.Objects.{server_object_shown};
 ghost use Rattle.end_objects.specs.Refusals.{server_refusal, stand_alone_refusal};
-ghost use Rattle.end_objects.specs.Settings.{settings_of, kinds_of, server_setup_of};
+ghost use Rattle.end_objects.specs.Settings.{settings_of, server_setup_of};
 ghost use Rattle.tuvaddri_c.specs.Answers.{begun, no_memory, refusal_number};
-ghost use Rattle.tuvaddri_c.specs.Ends.{IfServer, AsServer, AsBackend, server_has_objects, can_restart};
+ghost use Rattle.tuvaddri_c.specs.Ends.{IfServer, AsServer, AsBackend, can_restart};
 ghost use Rattle.tuvaddri_c.specs.Ends as ends;
 ghost use Rattle.tuvaddri_c.specs.Sent.{none_sent};
 ghost use Rattle.tuvaddri_c.specs.Turns.{ServerDoes, IsMisplaced};
 
 use crate::answers::{BEGUN, NO_MEMORY, number_of_refusal};
 use crate::handle::TuvEnd;
-use crate::session::{End, Sent, Session};
+use crate::session::End;
 use crate::turn::TuvTurn;
 use eap_base::{Nonce, Packet};
 use end_objects::{
-    ServerObject, Settings, kinds_of, server_objects, server_refusal, server_setup,
-    stand_alone_refusal,
+    Settings, kinds_of, server_objects, server_refusal, server_setup, stand_alone_refusal,
 };
 use server_machine::{Backend, ServerMachine};
 use std::alloc::Global;
 
-/// Makes the end a stand-alone server that has not started.
-#[tactic(auto, using(crate::proofs::StillThere::server_made_with), unfolding(end_objects::specs::Settings::server_setup_of))]
-fn begin_server(
-    alloc: Global,
-    session: &mut Session,
-    settings: &Settings,
-    nonce: &Nonce,
-    first_id: u8,
-    max_retrans: u8,
-) -> u8
-    requires taken { server_refusal (settings_of settings.now) ≡ None }
-    requires kinds { IsTrue (are_kinds (kinds_of (settings_of settings.now))) }
-    requires few { max_retrans ≤ 10 }
-    ensures begun { (result ≡ no_memory → ⊥) → result ≡ begun }
-    ensures made { result ≡ begun → AsServer session.new.end (λ n. server.now_of server_object_shown n
-        ≡ server_made StandAlone (server_setup_of (settings_of settings.now) nonce.now) first_id max_retrans) }
-    ensures objects { result ≡ begun → can_restart session.new.end ≡ true }
-    ensures sent { result ≡ begun → session.new.sent ≡ none_sent }
-    ensures unchanged { (result ≡ begun → ⊥) → session.new ≡ session.old }
-{
-    let kinds = kinds_of(settings);
-    match server_objects(alloc, kinds.as_slice()) {
-        Err(_) => NO_MEMORY,
-        Ok(methods) => {
-            let setup = server_setup(settings, nonce);
-            session.end = End::Server(ServerMachine::new(setup, first_id, max_retrans, methods));
-            session.sent.clear();
-            BEGUN
-        }
-    }
-}
-
 /// Makes the end a stand-alone server that has not started, and answers 0. Its first Request has the Identifier
 /// `first_id`; a Request is sent again at most `max_retrans` times, at most 10. Else it answers as `tuv_peer_begin`.
 #[unsafe(no_mangle)]
+#[tactic(auto, using(crate::proofs::StillThere::server_made_with), unfolding(end_objects::specs::Settings::server_setup_of))]
 pub extern "C" fn tuv_server_begin(
     alloc: Global,
     end: &mut TuvEnd,
@@ -79,36 +46,30 @@ pub extern "C" fn tuv_server_begin(
 {
     match stand_alone_refusal(settings, max_retrans) {
         Some(refusal) => number_of_refusal(refusal),
-        None => begin_server(alloc, end.session(), settings, nonce, first_id, max_retrans),
-    }
-}
-
-/// Makes the end a backend that waits for its first Response.
-#[tactic(auto, using(crate::proofs::StillThere::server_made_with), unfolding(end_objects::specs::Settings::server_setup_of))]
-fn begin_backend(alloc: Global, session: &mut Session, settings: &Settings, nonce: &Nonce) -> u8
-    requires taken { server_refusal (settings_of settings.now) ≡ None }
-    requires kinds { IsTrue (are_kinds (kinds_of (settings_of settings.now))) }
-    ensures begun { (result ≡ no_memory → ⊥) → result ≡ begun }
-    ensures made { result ≡ begun → AsBackend session.new.end (λ n. server.now_of server_object_shown n
-        ≡ backend_made (server_setup_of (settings_of settings.now) nonce.now)) }
-    ensures objects { result ≡ begun → can_restart session.new.end ≡ true }
-    ensures sent { result ≡ begun → session.new.sent ≡ none_sent }
-    ensures unchanged { (result ≡ begun → ⊥) → session.new ≡ session.old }
-{
-    let kinds = kinds_of(settings);
-    match server_objects(alloc, kinds.as_slice()) {
-        Err(_) => NO_MEMORY,
-        Ok(methods) => {
-            let setup = server_setup(settings, nonce);
-            session.end = End::Backend(Backend::new(setup, methods));
-            session.sent.clear();
-            BEGUN
+        None => {
+            let kinds = kinds_of(settings);
+            match server_objects(alloc, kinds.as_slice()) {
+                Err(_) => NO_MEMORY,
+                Ok(methods) => {
+                    let setup = server_setup(settings, nonce);
+                    let session = end.session();
+                    session.end = End::Server(ServerMachine::new(
+                        setup,
+                        first_id,
+                        max_retrans,
+                        methods,
+                    ));
+                    session.sent.clear();
+                    BEGUN
+                }
+            }
         }
     }
 }
 
 /// Makes the end a backend that waits for its first Response, and answers 0. Else it answers as `tuv_peer_begin`.
 #[unsafe(no_mangle)]
+#[tactic(auto, using(crate::proofs::StillThere::server_made_with), unfolding(end_objects::specs::Settings::server_setup_of))]
 pub extern "C" fn tuv_backend_begin(
     alloc: Global,
     end: &mut TuvEnd,
@@ -125,37 +86,25 @@ pub extern "C" fn tuv_backend_begin(
 {
     match server_refusal(settings) {
         Some(refusal) => number_of_refusal(refusal),
-        None => begin_backend(alloc, end.session(), settings, nonce),
+        None => {
+            let kinds = kinds_of(settings);
+            match server_objects(alloc, kinds.as_slice()) {
+                Err(_) => NO_MEMORY,
+                Ok(methods) => {
+                    let setup = server_setup(settings, nonce);
+                    let session = end.session();
+                    session.end = End::Backend(Backend::new(setup, methods));
+                    session.sent.clear();
+                    BEGUN
+                }
+            }
+        }
     }
-}
-
-#[tactic(auto, using(crate::proofs::Does::server_does, crate::proofs::StillThere::server_still_has))]
-fn start(machine: &mut ServerMachine<ServerObject>, sent: &mut Sent) -> TuvTurn
-    requires unstarted { is_started machine.old.vars ≡ false }
-    requires stand_alone { is_backend machine.old.vars ≡ false }
-    ensures row { ServerDoes (server_start (server.now_of server_object_shown machine.old)) sent.old result sent.new machine.new }
-    ensures objects { server_has_objects machine.old ≡ true → server_has_objects machine.new ≡ true }
-{
-    let mut packet = Packet::new();
-    let step = machine.start(&mut packet);
-    sent.take(step.sends, &packet);
-    TuvTurn::of(&step, machine.state())
-}
-
-#[tactic(auto, using(crate::proofs::Does::server_does, crate::proofs::StillThere::server_still_has))]
-fn timeout(machine: &mut ServerMachine<ServerObject>, sent: &mut Sent) -> TuvTurn
-    requires { has_timer machine.old.vars ≡ true }
-    ensures row { ServerDoes (server_timeout (server.now_of server_object_shown machine.old)) sent.old result sent.new machine.new }
-    ensures objects { server_has_objects machine.old ≡ true → server_has_objects machine.new ≡ true }
-{
-    let mut packet = Packet::new();
-    let step = machine.timeout(&mut packet);
-    sent.take(step.sends, &packet);
-    TuvTurn::of(&step, machine.state())
 }
 
 /// The server starts: one that has not started.
 #[unsafe(no_mangle)]
+#[tactic(auto, using(crate::proofs::Does::server_does, crate::proofs::StillThere::server_still_has))]
 pub extern "C" fn tuv_server_start(end: &mut TuvEnd) -> TuvTurn
     ensures server { IfServer end.old.value.end (λ m. is_started m.vars ≡ false → is_backend m.vars ≡ false → AsServer end.new.value.end (λ n.
         ServerDoes (server_start (server.now_of server_object_shown m)) end.old.value.sent result end.new.value.sent n)) }
@@ -164,12 +113,10 @@ pub extern "C" fn tuv_server_start(end: &mut TuvEnd) -> TuvTurn
 {
     let session = end.session();
     match &mut session.end {
-        End::Server(machine) => {
-            if machine.started() || machine.is_backend() {
-                TuvTurn::none(&mut session.sent)
-            } else {
-                start(machine, &mut session.sent)
-            }
+        End::Server(machine) if !machine.started() && !machine.is_backend() => {
+            let mut packet = Packet::new();
+            let step = machine.start(&mut packet);
+            TuvTurn::of(&step, &packet, machine.state(), &mut session.sent)
         }
         _ => TuvTurn::none(&mut session.sent),
     }
@@ -177,6 +124,7 @@ pub extern "C" fn tuv_server_start(end: &mut TuvEnd) -> TuvTurn
 
 /// The server's retransmission timer ends: of one that has it running.
 #[unsafe(no_mangle)]
+#[tactic(auto, using(crate::proofs::Does::server_does, crate::proofs::StillThere::server_still_has))]
 pub extern "C" fn tuv_server_timeout(end: &mut TuvEnd) -> TuvTurn
     ensures server { IfServer end.old.value.end (λ m. has_timer m.vars ≡ true → AsServer end.new.value.end (λ n.
         ServerDoes (server_timeout (server.now_of server_object_shown m)) end.old.value.sent result end.new.value.sent n)) }
@@ -185,12 +133,10 @@ pub extern "C" fn tuv_server_timeout(end: &mut TuvEnd) -> TuvTurn
 {
     let session = end.session();
     match &mut session.end {
-        End::Server(machine) => {
-            if machine.has_timer() {
-                timeout(machine, &mut session.sent)
-            } else {
-                TuvTurn::none(&mut session.sent)
-            }
+        End::Server(machine) if machine.has_timer() => {
+            let mut packet = Packet::new();
+            let step = machine.timeout(&mut packet);
+            TuvTurn::of(&step, &packet, machine.state(), &mut session.sent)
         }
         _ => TuvTurn::none(&mut session.sent),
     }

@@ -1,10 +1,11 @@
 //! The result of a call, as numbers.
 
-ghost use Rattle.std.specs.Prelude.{◌≡◌};
-ghost use Rattle.tuvaddri_c.specs.Sent.{rested};
+ghost use Rattle.std.specs.Prelude.{◌≡◌, if◌then◌else◌, Some, None};
+ghost use Rattle.tuvaddri_c.specs.Sent.{rested, after_turn};
 ghost use Rattle.tuvaddri_c.specs.Turns.{turn_of, no_turn, cause_number, state_number};
 
 use crate::session::Sent;
+use eap_base::Packet;
 use eap_method::Step;
 use eap_packet::{Cause, State};
 
@@ -40,10 +41,12 @@ impl TuvTurn {
         }
     }
 
-    /// The result of a step.
-    pub fn of(step: &Step, state: State) -> TuvTurn
-        ensures { result ≡ turn_of step.now state }
+    /// The result of a step that leads to this state; it sends the packet, or nothing.
+    pub fn of(step: &Step, packet: &Packet, state: State, sent: &mut Sent) -> TuvTurn
+        ensures turn { result ≡ turn_of step.now state }
+        ensures sent { sent.new ≡ after_turn (if step.now.sends then Some packet.now else None) sent.old }
     {
+        sent.take(step.sends, packet);
         match step.cause {
             None => TuvTurn {
                 sends: step.sends,

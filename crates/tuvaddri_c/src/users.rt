@@ -3,7 +3,7 @@
 ghost use Rattle.std.specs.Prelude.{◌≡◌, true, false, None, All, IsTrue, IfSome, if◌then◌else◌};
 ghost use Rattle.login_setup.specs.Setup.{fits_kind};
 ghost use Rattle.server_machine.specs.ServerTable.{with_users};
-ghost use Rattle.end_objects.specs.Refusals.{user_refusal, IsSoundOther};
+ghost use Rattle.end_objects.specs.Refusals.{user_refusal};
 ghost use Rattle.end_objects.specs.Settings.{settings_of, users_of};
 ghost use Rattle.tuvaddri_c.specs.Answers.{begun, no_place, refusal_number};
 ghost use Rattle.tuvaddri_c.specs.Ends.{IfServer, AsServer, IfBackend, AsBackend, can_restart};
@@ -12,34 +12,11 @@ ghost use Rattle.tuvaddri_c.specs.Users.{has_users, TakesUser};
 
 use crate::answers::{BAD_KEY, BEGUN, NO_PLACE, number_of_refusal};
 use crate::handle::TuvEnd;
-use crate::session::{End, Known, Session};
+use crate::session::{End, Known};
 use eap_base::is_among;
 use eap_method::ServerMethod;
 use end_objects::{Settings, keyed_kinds, user_refusal, users_of};
 use login_setup::Users;
-
-/// Gives the machine of a server or a backend its user.
-fn give(session: &mut Session, settings: &Settings) -> u8
-    requires other { IsSoundOther (settings_of settings.now) }
-    ensures answer { result ≡ (if has_users session.old.end then begun else no_place) }
-    ensures server { IfServer session.old.end (λ m. AsServer session.new.end (λ n. n ≡ with_users m (users_of (settings_of settings.now)))) }
-    ensures backend { IfBackend session.old.end (λ m. AsBackend session.new.end (λ n. n ≡ with_users m (users_of (settings_of settings.now)))) }
-    ensures objects { can_restart session.old.end ≡ true → can_restart session.new.end ≡ true }
-    ensures sent { session.new.sent ≡ session.old.sent }
-    ensures unchanged { has_users session.old.end ≡ false → session.new ≡ session.old }
-{
-    match &mut session.end {
-        End::Server(machine) => {
-            machine.set_users(users_of(settings));
-            BEGUN
-        }
-        End::Backend(machine) => {
-            machine.set_users(users_of(settings));
-            BEGUN
-        }
-        _ => NO_PLACE,
-    }
-}
 
 /// Gives a stand-alone server or a backend its one user, the other end of the settings with its keys, in place of the
 /// users that it had, in any state, and answers 0. Else it answers the number of the refusal, or 9 at another end,
@@ -48,15 +25,27 @@ fn give(session: &mut Session, settings: &Settings) -> u8
 pub extern "C" fn tuv_server_user(end: &mut TuvEnd, settings: &Settings) -> u8
     ensures refused { IfSome (user_refusal (settings_of settings.now)) (λ reason. result ≡ refusal_number reason) }
     ensures taken { user_refusal (settings_of settings.now) ≡ None → result ≡ (if has_users end.old.value.end then begun else no_place) }
-    ensures server { result ≡ begun → IfServer end.old.value.end (λ m. AsServer end.new.value.end (λ n. n ≡ with_users m (users_of (settings_of settings.now)))) }
-    ensures backend { result ≡ begun → IfBackend end.old.value.end (λ m. AsBackend end.new.value.end (λ n. n ≡ with_users m (users_of (settings_of settings.now)))) }
+    ensures server { result ≡ begun → IfServer end.old.value.end (λ m. AsServer end.new.value.end (λ n.
+        n ≡ with_users m (users_of (settings_of settings.now)))) }
+    ensures backend { result ≡ begun → IfBackend end.old.value.end (λ m. AsBackend end.new.value.end (λ n.
+        n ≡ with_users m (users_of (settings_of settings.now)))) }
     ensures objects { can_restart end.old.value.end ≡ true → can_restart end.new.value.end ≡ true }
     ensures sent { end.new.value.sent ≡ end.old.value.sent }
     ensures unchanged { (result ≡ begun → ⊥) → end.new.value ≡ end.old.value }
 {
     match user_refusal(settings) {
         Some(refusal) => number_of_refusal(refusal),
-        None => give(end.session(), settings),
+        None => match &mut end.session().end {
+            End::Server(machine) => {
+                machine.set_users(users_of(settings));
+                BEGUN
+            }
+            End::Backend(machine) => {
+                machine.set_users(users_of(settings));
+                BEGUN
+            }
+            _ => NO_PLACE,
+        },
     }
 }
 
@@ -66,27 +55,6 @@ fn put(known: &mut Known, users: Users)
     ensures { known.new.users ≡ users }
 {
     *known = Known { users };
-}
-
-/// Gives a server's method its user.
-fn give_method(session: &mut Session, settings: &Settings) -> u8
-    requires other { IsSoundOther (settings_of settings.now) }
-    ensures method { IfServerMethod session.old.end (λ o before. TakesUser (settings_of settings.now) o result session.new.end) }
-    ensures misplaced { is_server_method session.old.end ≡ false → result ≡ no_place }
-    ensures sent { session.new.sent ≡ session.old.sent }
-    ensures unchanged { (result ≡ begun → ⊥) → session.new ≡ session.old }
-{
-    match &mut session.end {
-        End::ServerMethod(object, known) => {
-            if is_among(keyed_kinds(settings).as_slice(), object.kind()) {
-                put(known, users_of(settings));
-                BEGUN
-            } else {
-                BAD_KEY
-            }
-        }
-        _ => NO_PLACE,
-    }
 }
 
 /// Gives a server's method its one user, as `tuv_server_user`, and answers 0. If there is no key for its method it
@@ -102,6 +70,16 @@ pub extern "C" fn tuv_server_method_user(end: &mut TuvEnd, settings: &Settings) 
 {
     match user_refusal(settings) {
         Some(refusal) => number_of_refusal(refusal),
-        None => give_method(end.session(), settings),
+        None => match &mut end.session().end {
+            End::ServerMethod(object, known) => {
+                if is_among(keyed_kinds(settings).as_slice(), object.kind()) {
+                    put(known, users_of(settings));
+                    BEGUN
+                } else {
+                    BAD_KEY
+                }
+            }
+            _ => NO_PLACE,
+        },
     }
 }

@@ -1,10 +1,9 @@
 -- The words `bulk N K`: K conversations of the number N.
-use Rattle.std.specs.Prelude.{ℕ, List, [], ◌∷◌, ◌++◌, if◌then◌else◌, codes, decimal, Option, Some, None, Result, Ok, Err}
+use Rattle.std.specs.Prelude.{ℕ, List, [], ◌∷◌, if◌then◌else◌, codes, decimal, Option, Some, None, Result, Ok, Err}
 use Rattle.std.specs.List.{concat}
 use Rattle.std.specs.Str.{bytes_eq}
 use Rattle.bulk_run.specs.Summing.{summary_of}
 use Rattle.bulk_run.specs.declared.summary.Summary.{Summary}
-use Rattle.answer_text.specs.Lines.{line_text}
 use Rattle.text_tables.specs.Fields.{number_of}
 use Rattle.text_tables.specs.declared.fault.LineFault.{LineFault}
 use Rattle.command_driver.specs.Answers.{Answer}
@@ -34,25 +33,14 @@ bulk_of (word ∷ number ∷ []) = None
 bulk_of (word ∷ number ∷ count ∷ []) = if bytes_eq word (codes "bulk") then bulk_spelled number count else None
 bulk_of (word ∷ number ∷ count ∷ more ∷ rest) = None
 
--- the words again
-unfoldable pub bulk_line : ℕ → ℕ → List ℕ
-bulk_line number count = concat (codes "bulk " ∷ decimal number ∷ codes " " ∷ decimal count ∷ codes "\n" ∷ [])
-
--- how the conversations ended, and in how many a tag was broken
-unfoldable pub verdicts_text : Summary → List ℕ
-verdicts_text s = concat (
-    codes "conversations " ∷ decimal s.conversations ∷ codes "\n" ∷ codes "agree " ∷ decimal s.agree ∷ codes "\n" ∷
-    codes "open " ∷ decimal s.unfinished ∷ codes "\n" ∷ codes "apart " ∷ decimal s.apart ∷ codes "\n" ∷
-    codes "broken " ∷ decimal s.broken ∷ codes "\n" ∷ [])
-
--- what was delivered and discarded in them
-unfoldable pub handled_text : Summary → List ℕ
-handled_text s = concat (
-    codes "deliveries " ∷ decimal s.deliveries ∷ codes "\n" ∷ codes "discards " ∷ decimal s.discards ∷ codes "\n" ∷ [])
-
--- the lines of the answer
-abbrev pub bulk_text : ℕ → ℕ → Summary → List ℕ
-bulk_text number count s = bulk_line number count ++ (verdicts_text s ++ (handled_text s ++ line_text (codes "end")))
+-- the words again, how the conversations ended, in how many a tag was broken, and what was delivered and discarded in
+-- them
+unfoldable pub bulk_text : ℕ → ℕ → Summary → List ℕ
+bulk_text number count s = concat (
+    codes "bulk " ∷ decimal number ∷ codes " " ∷ decimal count ∷ codes "\nconversations " ∷ decimal s.conversations ∷
+    codes "\nagree " ∷ decimal s.agree ∷ codes "\nopen " ∷ decimal s.unfinished ∷ codes "\napart " ∷ decimal s.apart ∷
+    codes "\nbroken " ∷ decimal s.broken ∷ codes "\ndeliveries " ∷ decimal s.deliveries ∷ codes "\ndiscards " ∷
+    decimal s.discards ∷ codes "\nend\n" ∷ [])
 
 unfoldable pub bulk_answer : Bulk → Answer
 bulk_answer b = record { text = bulk_text b.number b.count (summary_of b.number b.count); status = status.Done }

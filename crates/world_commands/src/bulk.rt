@@ -1,13 +1,13 @@
 //! The command `bulk N K`: many conversations from one number. It reads no input.
 
 ghost use Rattle.std.specs.Prelude.{◌≡◌, ◌≤◌, map, string_bytes, IfSome};
-ghost use Rattle.world_commands.specs.Bulk.{max_count, bulk_of, bulk_spelled, bulk_line, verdicts_text, handled_text, bulk_text, bulk_answer};
+ghost use Rattle.world_commands.specs.Bulk.{max_count, bulk_of, bulk_spelled, bulk_text, bulk_answer};
 ghost use Rattle.world_commands.specs.Replay.{HasBoth};
 ghost use Rattle.command_driver.specs.Responding.{Says, at_any};
 ghost use Rattle.answer_text.specs.Writes.{Appends};
 
 use answer_text::Piece::{Number, Text};
-use answer_text::{write_line, write_pieces};
+use answer_text::write_pieces;
 use bulk_run::{Summary, run_all};
 use command_driver::Status;
 use eap_method::{PeerMethod, ServerMethod};
@@ -84,21 +84,10 @@ pub fn run_bulk<P: PeerMethod, M: ServerMethod, W: Sink>(
     }
 }
 
-/// Writes the words and the summary.
-#[tactic(auto, using(answer_text::proofs::Fronts::appends_both, answer_text::proofs::Fronts::appends_front))]
+/// Writes the words, how the conversations ended, in how many a tag was broken, and what was delivered and discarded in
+/// them.
 fn write_summary<W: Sink>(sink: &mut W, bulk: Bulk, summary: Summary) -> Result<(), Failed>
     ensures { Appends W.shown result sink.old sink.new (bulk_text bulk.number bulk.count summary) }
-{
-    write_words(sink, bulk)?;
-    write_verdicts(sink, summary)?;
-    write_handled(sink, summary)?;
-    write_line(sink, b"end")
-}
-
-/// Writes the words.
-#[tactic(auto, unfolding(crate::specs::Bulk::bulk_line))]
-fn write_words<W: Sink>(sink: &mut W, bulk: Bulk) -> Result<(), Failed>
-    ensures { Appends W.shown result sink.old sink.new (bulk_line bulk.number bulk.count) }
 {
     write_pieces(
         sink,
@@ -108,18 +97,6 @@ fn write_words<W: Sink>(sink: &mut W, bulk: Bulk) -> Result<(), Failed>
             Text(b" "),
             Number(u64::from(bulk.count)),
             Text(b"\n"),
-        ],
-    )
-}
-
-/// Writes how the conversations ended, and in how many a tag was broken.
-#[tactic(auto, unfolding(crate::specs::Bulk::verdicts_text))]
-fn write_verdicts<W: Sink>(sink: &mut W, summary: Summary) -> Result<(), Failed>
-    ensures { Appends W.shown result sink.old sink.new (verdicts_text summary) }
-{
-    write_pieces(
-        sink,
-        &[
             Text(b"conversations "),
             Number(u64::from(summary.conversations)),
             Text(b"\n"),
@@ -135,24 +112,13 @@ fn write_verdicts<W: Sink>(sink: &mut W, summary: Summary) -> Result<(), Failed>
             Text(b"broken "),
             Number(u64::from(summary.broken)),
             Text(b"\n"),
-        ],
-    )
-}
-
-/// Writes what was delivered and discarded in the conversations.
-#[tactic(auto, unfolding(crate::specs::Bulk::handled_text))]
-fn write_handled<W: Sink>(sink: &mut W, summary: Summary) -> Result<(), Failed>
-    ensures { Appends W.shown result sink.old sink.new (handled_text summary) }
-{
-    write_pieces(
-        sink,
-        &[
             Text(b"deliveries "),
             Number(u64::from(summary.deliveries)),
             Text(b"\n"),
             Text(b"discards "),
             Number(u64::from(summary.discards)),
             Text(b"\n"),
+            Text(b"end\n"),
         ],
     )
 }
