@@ -23,8 +23,7 @@ alice nonce key = record {
   accepts = One (codes "srv");
   methods = gpsk_kind ∷ [];
   suites = 1 ∷ 2 ∷ [];
-  psk47 = None;
-  psk51 = Some key;
+  keys = record { kind = gpsk_kind; psk = key } ∷ [];
   nonce = nonce;
   expanded = false;
 }

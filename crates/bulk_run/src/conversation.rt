@@ -19,7 +19,9 @@ use crate::turn::{begin, take, take_chosen};
 use eap_base::{GPSK_KIND, Identity, Kinds, Nonce, Secret, Suites};
 use eap_method::{PeerMethod, ServerMethod};
 use eap_world::{Memory, Methods, World};
-use login_setup::{Accepts, Event, Later, Mode, PeerSetup, ServerSetup, Setup, User, Users};
+use login_setup::{
+    Accepts, Event, Key, Keys, Later, Mode, PeerSetup, ServerSetup, Setup, User, Users,
+};
 use std::alloc::Global;
 
 /// The name of the peer, who is the server's one user.
@@ -77,13 +79,17 @@ pub fn converse<P: PeerMethod, S: ServerMethod>(
 fn alice(nonce: Nonce, key: &Nonce) -> PeerSetup
     ensures { result ≡ alice nonce key.now }
 {
+    let mut keys = Keys::new();
+    keys.push(Key {
+        kind: GPSK_KIND,
+        psk: Secret::of(key),
+    });
     PeerSetup {
         name: Identity::of(PEER),
         accepts: Accepts::One(Identity::of(SERVER)),
         methods: Kinds::of(&[GPSK_KIND]),
         suites: Suites::of(&[1, 2]),
-        psk47: None,
-        psk51: Some(Secret::of(key)),
+        keys,
         nonce,
         expanded: false,
     }

@@ -1,25 +1,38 @@
 -- A peer begins: each object with the key for its method.
-use Rattle.std.proofs.Common.{◌≡◌, ℕ, List, [], ◌∷◌, true, false, map, IsTrue, Option, Some, None, refl, ap}
-use Rattle.std.specs.Prelude.{IsSome, IfSome}
+use Rattle.std.proofs.Common.{◌≡◌, ℕ, List, [], ◌∷◌, Bool, true, false, map, IsTrue, Option, Some, refl, ap, subst}
+use Rattle.std.specs.Prelude.{◌==◌, if◌then◌else◌, IsSome, All}
+use Rattle.std.proofs.lemmas.Bool.{eqb-true}
+use Rattle.std.proofs.lemmas.List.Elements.{All-head, All-tail}
+use Rattle.login_setup.specs.Keys.{key_of}
+use Rattle.login_setup.specs.declared.keys.Key.{Key}
 use Rattle.login_setup.specs.declared.setup.PeerSetup.{PeerSetup}
 use Rattle.eap_base.specs.Among.{psk_kind, gpsk_kind, is_among}
 use Rattle.login_setup.specs.Setup.{fits_kind, IsSoundPeer, HasKeys}
 use Rattle.eap_method.specs.PskPeer as psk_peer
 use Rattle.eap_method.specs.GpskPeer as gpsk_peer
-use Rattle.eap_method.specs.Peer.{PeerShown, psk, gpsk, PeerViews, peer_kind, peer_kinds, peer_begun, peer_views, views_where, psk_view_of, gpsk_view_of, views_begun, octets_or_none, credential_for, have_each}
+use Rattle.eap_method.specs.Peer.{PeerShown, psk, gpsk, PeerViews, peer_kind, peer_kinds, peer_begun, peer_views, views_where, psk_view_of, gpsk_view_of, views_begun, psk_or_none, credential_for, have_each}
 use Rattle.eap_method.specs.Begun.{peer_begun_in}
 use Rattle.eap_method.proofs.Amongs.{each_one, same_if}
 
--- a key that is there fits its method
-key_fits : (kind : ℕ) (key : Option (List ℕ)) → IfSome key (λ octets. IsTrue (fits_kind kind octets)) → IsSome key → IsTrue (fits_kind kind (octets_or_none key))
-key_fits kind None fits is_there = absurd (cc is_there)
-key_fits kind (Some octets) fits is_there = fits
+first_or_later : (test : Bool) (key : Key) (later : Option Key) (kind : ℕ) → (test ≡ true → IsTrue (fits_kind kind key.psk))
+    → (IsSome later → IsTrue (fits_kind kind (psk_or_none later))) → IsSome (if test then Some key else later) → IsTrue (fits_kind kind (psk_or_none (if test then Some key else later)))
+first_or_later true key later kind here next is_there = here refl
+first_or_later false key later kind here next is_there = next is_there
 
-pub credential_fits : (setup : PeerSetup) (s : PeerShown) → IsSoundPeer setup → HasKeys setup → is_among setup.methods (peer_kind s) ≡ true
-    → IsTrue (fits_kind (peer_kind s) (credential_for setup (peer_kind s)).psk)
+-- the key for a method that is there fits it
+key_fits : (keys : List Key) (kind : ℕ) → All (λ key. IsTrue (fits_kind key.kind key.psk)) keys → IsSome (key_of keys kind)
+    → IsTrue (fits_kind kind (psk_or_none (key_of keys kind)))
+key_fits [] kind fit is_there = absurd (cc is_there)
+key_fits (key ∷ rest) kind fit is_there =
+    let fits = λ (key : Key). IsTrue (fits_kind key.kind key.psk) in
+    first_or_later (key.kind == kind) key (key_of rest kind) kind
+    (λ is. subst (λ kind. IsTrue (fits_kind kind key.psk)) (eqb-true key.kind kind is) (All-head fits key rest fit))
+    (key_fits rest kind (All-tail fits key rest fit)) is_there
+
+pub credential_fits : (setup : PeerSetup) (kind : ℕ) → IsSoundPeer setup → HasKeys setup → is_among setup.methods kind ≡ true
+    → IsTrue (fits_kind kind (credential_for setup kind).psk)
 unfolding credential_for
-credential_fits setup (psk view) sound keys is_allowed = key_fits psk_kind setup.psk47 sound.psk47 (keys.psk47 is_allowed)
-credential_fits setup (gpsk view) sound keys is_allowed = key_fits gpsk_kind setup.psk51 sound.psk51 (keys.psk51 is_allowed)
+credential_fits setup kind sound keys is_allowed = key_fits setup.keys kind sound.keys (keys kind is_allowed)
 
 -- an object whose method is allowed begins, any other stays
 pub begins : (setup : PeerSetup) (s : PeerShown) → is_among setup.methods (peer_kind s) ≡ true

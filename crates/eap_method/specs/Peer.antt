@@ -1,6 +1,8 @@
 -- The peer's methods by kind: what an object is, its state, and its calls.
 use Rattle.std.specs.Prelude.{◌≡◌, ℕ, List, [], ◌∷◌, Bool, ◌==◌, if◌then◌else◌, Option, Some, None, map}
 use Rattle.std.specs.List.{list_all}
+use Rattle.login_setup.specs.Keys.{key_of}
+use Rattle.login_setup.specs.declared.keys.Key.{Key}
 use Rattle.login_setup.specs.declared.setup.PeerSetup.{PeerSetup}
 use Rattle.eap_base.specs.Among.{psk_kind, gpsk_kind, is_among}
 use Rattle.eap_packet.specs.Packet.{request, spelled, IsPacket}
@@ -100,12 +102,12 @@ peer_report_of kind views =
     else None
 
 -- what the peer of these settings brings into a method: the key is the one for it, or none
-abbrev pub octets_or_none : Option (List ℕ) → List ℕ
-octets_or_none None = []
-octets_or_none (Some octets) = octets
+abbrev pub psk_or_none : Option Key → List ℕ
+psk_or_none None = []
+psk_or_none (Some key) = key.psk
 
 abbrev pub key_for : PeerSetup → ℕ → List ℕ
-key_for setup kind = octets_or_none (if kind == psk_kind then setup.psk47 else setup.psk51)
+key_for setup kind = psk_or_none (key_of setup.keys kind)
 
 unfoldable pub credential_for : PeerSetup → ℕ → Credential
 credential_for setup kind = record { id_p = setup.name; accepts = setup.accepts; suites = setup.suites; psk = key_for setup kind }

@@ -3,7 +3,7 @@
 ghost use Rattle.std.specs.Prelude.{◌≡◌, ℕ, List, true, map};
 ghost use Rattle.eap_base.specs.Among.{is_among};
 ghost use Rattle.login_setup.specs.Setup.{IsSoundPeer, HasKeys};
-ghost use Rattle.eap_method.specs.Peer.{peer_kinds, peer_views, peer_turn, IsRequest, peer_report_of, views_begun, have_each, octets_or_none, key_for, credential_for};
+ghost use Rattle.eap_method.specs.Peer.{peer_kinds, peer_views, peer_turn, IsRequest, peer_report_of, views_begun, have_each, key_for, credential_for};
 ghost use Rattle.eap_method.specs.Begun.{peer_begun_in};
 ghost use Rattle.eap_method.specs.Unnamed.{peers_unnamed};
 ghost use Rattle.eap_method.specs.PeerTurn.{peer_turn_with, peer_tags};
@@ -13,7 +13,7 @@ use crate::peer::PeerMethod;
 use crate::tags::Tags;
 use crate::turn::PeerTurn;
 use crate::values::{Credential, Report};
-use eap_base::{PSK_KIND, Packet, Secret};
+use eap_base::{Packet, Secret};
 use eap_packet::Cause;
 use login_policy::peer_allows;
 use login_setup::PeerSetup;
@@ -121,18 +121,8 @@ fn credential_for(setup: &PeerSetup, kind: u8) -> Credential
 fn key_for(setup: &PeerSetup, kind: u8) -> Secret
     ensures { result ≡ key_for setup.now kind }
 {
-    if kind == PSK_KIND {
-        octets_or_none(&setup.psk47)
-    } else {
-        octets_or_none(&setup.psk51)
-    }
-}
-
-fn octets_or_none(key: &Option<Secret>) -> Secret
-    ensures { result ≡ octets_or_none key.now }
-{
-    match key {
+    match setup.keys.find(kind) {
         None => Secret::new(),
-        Some(octets) => octets.copy(),
+        Some(key) => key.psk.copy(),
     }
 }

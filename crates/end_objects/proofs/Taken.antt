@@ -1,15 +1,20 @@
 -- What is known of settings that aren't refused.
-use Rattle.std.proofs.Common.{◌≡◌, ℕ, ◌<◌, ◌≤◌, List, [], ◌∷◌, ◌++◌, length, map, Bool, true, false, None, IsTrue, refl, sym, arith, eq-eqb}
-use Rattle.std.specs.Prelude.{◌&&◌, ◌||◌, not, ◌==◌, if◌then◌else◌, slice_index, IfSome, IsSome, All}
+use Rattle.std.proofs.Common.{◌≡◌, ℕ, ◌<◌, ◌≤◌, List, [], ◌∷◌, ◌++◌, length, map, Bool, true, false, Option, Some, None, IsTrue, refl, sym, ◌∙◌, arith, eq-eqb}
+use Rattle.std.specs.Prelude.{◌&&◌, ◌||◌, not, ◌==◌, if◌then◌else◌, slice_index, IsSome, All}
 use Rattle.std.specs.List.{list_all}
-use Rattle.std.proofs.lemmas.Bool.{eqb-true}
+use Rattle.std.proofs.lemmas.List.Elements.{All-map}
+use Rattle.std.proofs.lemmas.List.Folds.{list_all-append, list_all-map}
+use Rattle.std.proofs.lemmas.List.Sums.{AllPass-from_list_all}
 use Rattle.eap_base.specs.Among.{psk_kind, gpsk_kind, is_kind, is_among, are_distinct, is_filled}
 use Rattle.eap_base.specs.Sizes.{max_name}
+use Rattle.login_setup.specs.Keys.{key_of}
 use Rattle.login_setup.specs.Setup.{are_kinds, are_suites, fits_kind, IsSoundPeer, HasKeys, IsSoundServer}
 use Rattle.login_setup.specs.declared.users.User.{User}
-use Rattle.end_objects.specs.Settings.{SettingsValue, or_else, kind_if, keyed_kinds, named_kinds, kinds_of, first_kind, suites_of, key_for, key_of, peer_setup_of, user_with, users_of, server_setup_of}
+use Rattle.end_objects.specs.Settings.{SettingsValue, or_else, kind_if, keyed_kinds, named_kinds, kinds_of, first_kind, suites_of, key_for, key_with, peer_setup_of, user_with, users_of, server_setup_of}
 use Rattle.end_objects.specs.Refusals.{refuse_if, has_other_size, has_gap, has_bad_methods, has_bad_suites, is_name, has_long_other, has_keys, has_key_of_user, peer_refusal, server_refusal, user_refusal, IsSoundOther}
-use Rattle.end_objects.specs.Soundness.{serves, is_sound_user}
+use Rattle.eap_method.specs.Peer.{have_each}
+use Rattle.eap_method.proofs.Amongs.{each_one}
+use Rattle.end_objects.specs.Soundness.{is_sound_user}
 use Rattle.end_objects.specs.declared.refusals.Refusal.{Refusal}
 use Rattle.end_objects.specs.declared.refusals.Refusal.TheVariants as refusal
 use Rattle.end_objects.proofs.Sound.{have_keys, have_kinds}
@@ -35,10 +40,6 @@ first_is_so false b h = absurd (cc h)
 both_are_so : (a b : Bool) → (a && b) ≡ true → b ≡ true
 both_are_so true b h = h
 both_are_so false b h = absurd (cc h)
-
-both_hold : (a b : Bool) → a ≡ true → b ≡ true → (a && b) ≡ true
-both_hold true b h k = k
-both_hold false b h k = h
 
 -- ---- no reason applies where none is given
 
@@ -113,23 +114,29 @@ other_fits told h = grind arith
 fitting_size : (kind : ℕ) (key : List ℕ) → fits_kind kind key ≡ true → length key ≤ 64
 fitting_size kind key h = grind arith
 
-served_size : (wanted : List ℕ) (kind : ℕ) (key : List ℕ) → serves wanted kind (key_of key) ≡ true → length key ≤ 64
-served_size wanted kind [] h = omega arith
-served_size wanted kind (octet ∷ rest) h = fitting_size kind (octet ∷ rest) h
+-- whether the key for a method fits it
+abbrev key_fits : SettingsValue → ℕ → Bool
+key_fits told kind = fits_kind kind (key_for told kind)
 
-psk_serves : (wanted : List ℕ) (told : SettingsValue) → has_keys wanted told ≡ true → serves wanted psk_kind (key_of told.psk_key) ≡ true
+-- each key that there is fits, and there is one for each wanted method
+keys_fit : (wanted : List ℕ) (told : SettingsValue) → has_keys wanted told ≡ true → list_all (key_fits told) (keyed_kinds told) ≡ true
 unfolding has_keys
-psk_serves wanted told h = first_is_so (serves wanted psk_kind (key_of told.psk_key)) (serves wanted gpsk_kind (key_of told.gpsk_key)) h
+keys_fit wanted told h = first_is_so (list_all (key_fits told) (keyed_kinds told)) (have_each (keyed_kinds told) wanted) h
 
-gpsk_serves : (wanted : List ℕ) (told : SettingsValue) → has_keys wanted told ≡ true → serves wanted gpsk_kind (key_of told.gpsk_key) ≡ true
+are_keyed : (wanted : List ℕ) (told : SettingsValue) → has_keys wanted told ≡ true → have_each (keyed_kinds told) wanted ≡ true
 unfolding has_keys
-gpsk_serves wanted told h = both_are_so (serves wanted psk_kind (key_of told.psk_key)) (serves wanted gpsk_kind (key_of told.gpsk_key)) h
+are_keyed wanted told h = both_are_so (list_all (key_fits told) (keyed_kinds told)) (have_each (keyed_kinds told) wanted) h
 
-psk_size : (wanted : List ℕ) (told : SettingsValue) → has_keys wanted told ≡ true → length told.psk_key ≤ 64
-psk_size wanted told h = served_size wanted psk_kind told.psk_key (psk_serves wanted told h)
+keyed_size : (fits : ℕ → Bool) (kind : ℕ) (key : List ℕ) → fits kind ≡ fits_kind kind key → list_all fits (kind_if key kind) ≡ true → length key ≤ 64
+keyed_size fits kind [] is h = omega arith
+keyed_size fits kind (octet ∷ rest) is h = fitting_size kind (octet ∷ rest) (sym is ∙ first_is_so (fits kind) true h)
 
-gpsk_size : (wanted : List ℕ) (told : SettingsValue) → has_keys wanted told ≡ true → length told.gpsk_key ≤ 64
-gpsk_size wanted told h = served_size wanted gpsk_kind told.gpsk_key (gpsk_serves wanted told h)
+key_sizes : (wanted : List ℕ) (told : SettingsValue) → has_keys wanted told ≡ true → (length told.psk_key ≤ 64) × (length told.gpsk_key ≤ 64)
+unfolding keyed_kinds
+key_sizes wanted told h =
+    let gpsk = kind_if told.gpsk_key gpsk_kind in let psk = kind_if told.psk_key psk_kind in let p = key_fits told in
+    let each : (list_all p gpsk && list_all p psk) ≡ true = sym (list_all-append p gpsk psk) ∙ keys_fit wanted told h in
+    (keyed_size p psk_kind told.psk_key refl (both_are_so (list_all p gpsk) (list_all p psk) each), keyed_size p gpsk_kind told.gpsk_key refl (first_is_so (list_all p gpsk) (list_all p psk) each))
 
 pub peer_name : (told : SettingsValue) → peer_refusal told ≡ None → length told.name ≤ max_name
 peer_name told none = name_fits told.name (peer_passes told none).name
@@ -138,10 +145,10 @@ pub peer_other : (told : SettingsValue) → peer_refusal told ≡ None → lengt
 peer_other told none = other_fits told (peer_passes told none).other
 
 pub peer_psk : (told : SettingsValue) → peer_refusal told ≡ None → length told.psk_key ≤ 64
-peer_psk told none = psk_size (kinds_of told) told (peer_passes told none).keys
+peer_psk told none = (key_sizes (kinds_of told) told (peer_passes told none).keys).0
 
 pub peer_gpsk : (told : SettingsValue) → peer_refusal told ≡ None → length told.gpsk_key ≤ 64
-peer_gpsk told none = gpsk_size (kinds_of told) told (peer_passes told none).keys
+peer_gpsk told none = (key_sizes (kinds_of told) told (peer_passes told none).keys).1
 
 pub server_name : (told : SettingsValue) → server_refusal told ≡ None → length told.name ≤ max_name
 server_name told none = name_fits told.name (server_passes told none).name
@@ -174,55 +181,35 @@ first_is_kind told h = first_is_known (kinds_of told) (kinds_are_some told) h
 
 -- ---- a peer's keys
 
-served_fits : (wanted : List ℕ) (kind : ℕ) (key : List ℕ) → serves wanted kind (key_of key) ≡ true → IfSome (key_of key) (λ octets. IsTrue (fits_kind kind octets))
-served_fits wanted kind [] h = tt
-served_fits wanted kind (octet ∷ rest) h = h
+some_if : {A : Type 0} (test later : Bool) (it : A) (others : Option A) → (later ≡ true → IsSome others) → (test || later) ≡ true
+    → IsSome (if test then Some it else others)
+some_if true later it others next h = refl
+some_if false later it others next h = next h
 
-not_both : (b : Bool) → not b ≡ true → b ≡ true → ⊥
-not_both true h so = cc h
-not_both false h so = cc so
-
-served_has : (wanted : List ℕ) (kind : ℕ) (key : List ℕ) → serves wanted kind (key_of key) ≡ true → IsTrue (is_among wanted kind) → IsSome (key_of key)
-served_has wanted kind [] h is_wanted = absurd (not_both (is_among wanted kind) h is_wanted)
-served_has wanted kind (octet ∷ rest) h is_wanted = refl
+-- there is a key for each method that has octets of one
+keyed_has : (told : SettingsValue) (kinds : List ℕ) (kind : ℕ) → is_among kinds kind ≡ true → IsSome (key_of (map (key_with told) kinds) kind)
+keyed_has told [] kind h = absurd (cc h)
+keyed_has told (first ∷ rest) kind h =
+    some_if (first == kind) (is_among rest kind) (key_with told first) (key_of (map (key_with told) rest) kind) (keyed_has told rest kind) h
 
 pub peer_is_sound : (told : SettingsValue) (nonce : List ℕ) → peer_refusal told ≡ None → IsSoundPeer (peer_setup_of told nonce)
 unfolding peer_setup_of
 peer_is_sound told nonce none = let p = peer_passes told none in record {
   methods = p.kinds;
   suites = p.suites;
-  psk47 = served_fits (kinds_of told) psk_kind told.psk_key (psk_serves (kinds_of told) told p.keys);
-  psk51 = served_fits (kinds_of told) gpsk_kind told.gpsk_key (gpsk_serves (kinds_of told) told p.keys);
+  keys = All-map (λ key. IsTrue (fits_kind key.kind key.psk)) (key_with told) (keyed_kinds told)
+      (AllPass-from_list_all (key_fits told) (keyed_kinds told) (keys_fit (kinds_of told) told p.keys));
 }
+
+-- a method that the settings name has a key
+kind_is_keyed : (told : SettingsValue) (kind : ℕ) → peer_refusal told ≡ None → is_among (kinds_of told) kind ≡ true → is_among (keyed_kinds told) kind ≡ true
+kind_is_keyed told kind none is = each_one (is_among (keyed_kinds told)) (kinds_of told) kind (are_keyed (kinds_of told) told (peer_passes told none).keys) is
 
 pub peer_has_keys : (told : SettingsValue) (nonce : List ℕ) → peer_refusal told ≡ None → HasKeys (peer_setup_of told nonce)
 unfolding peer_setup_of
-peer_has_keys told nonce none = let p = peer_passes told none in record {
-  psk47 = served_has (kinds_of told) psk_kind told.psk_key (psk_serves (kinds_of told) told p.keys);
-  psk51 = served_has (kinds_of told) gpsk_kind told.gpsk_key (gpsk_serves (kinds_of told) told p.keys);
-}
+peer_has_keys told nonce none kind is = keyed_has told (keyed_kinds told) kind (kind_is_keyed told kind none is)
 
 -- ---- the key for the first method of a peer
-
-wanted_fits : (wanted : List ℕ) (kind : ℕ) (key : List ℕ) → is_among wanted kind ≡ true → serves wanted kind (key_of key) ≡ true → fits_kind kind key ≡ true
-wanted_fits wanted kind [] is_wanted h = absurd (not_both (is_among wanted kind) h is_wanted)
-wanted_fits wanted kind (octet ∷ rest) is_wanted h = h
-
-either_way : (is_psk is_gpsk : Bool) (psk gpsk : List ℕ) (kind : ℕ) → (is_psk || is_gpsk) ≡ true
-    → (is_psk ≡ true → fits_kind kind psk ≡ true) → (is_gpsk ≡ true → fits_kind kind gpsk ≡ true) → fits_kind kind (if is_psk then psk else gpsk) ≡ true
-either_way true is_gpsk psk gpsk kind known first second = first refl
-either_way false true psk gpsk kind known first second = second refl
-either_way false false psk gpsk kind known first second = absurd (cc known)
-
-as_kind : (wanted : List ℕ) (kind known : ℕ) (key : List ℕ) → kind ≡ known → is_among wanted kind ≡ true → serves wanted known (key_of key) ≡ true → fits_kind kind key ≡ true
-as_kind wanted kind known key same is_wanted served = rw same (wanted_fits wanted known key (rw (sym same) is_wanted) served)
-
-key_of_kind : (told : SettingsValue) (wanted : List ℕ) (kind : ℕ) → is_kind kind ≡ true → is_among wanted kind ≡ true
-    → serves wanted psk_kind (key_of told.psk_key) ≡ true → serves wanted gpsk_kind (key_of told.gpsk_key) ≡ true → fits_kind kind (key_for told kind) ≡ true
-key_of_kind told wanted kind known is_wanted psk gpsk =
-    either_way (kind == psk_kind) (kind == gpsk_kind) told.psk_key told.gpsk_key kind known
-    (λ is. as_kind wanted kind psk_kind told.psk_key (eqb-true kind psk_kind is) is_wanted psk)
-    (λ is. as_kind wanted kind gpsk_kind told.gpsk_key (eqb-true kind gpsk_kind is) is_wanted gpsk)
 
 first_is_there : (a b : Bool) → a ≡ true → (a || b) ≡ true
 first_is_there true b h = refl
@@ -233,9 +220,9 @@ first_is_among [] some = absurd (omega (arith, some))
 first_is_among (kind ∷ rest) some = first_is_there (kind == kind) (is_among rest kind) (eq-eqb kind kind refl)
 
 pub first_key_fits : (told : SettingsValue) → peer_refusal told ≡ None → fits_kind (first_kind told) (key_for told (first_kind told)) ≡ true
-first_key_fits told none = let p = peer_passes told none in
-    key_of_kind told (kinds_of told) (first_kind told) (first_is_kind told p.kinds) (first_is_among (kinds_of told) (kinds_are_some told))
-    (psk_serves (kinds_of told) told p.keys) (gpsk_serves (kinds_of told) told p.keys)
+first_key_fits told none =
+    let is = kind_is_keyed told (first_kind told) none (first_is_among (kinds_of told) (kinds_are_some told)) in
+    each_one (key_fits told) (keyed_kinds told) (first_kind told) (keys_fit (kinds_of told) told (peer_passes told none).keys) is
 
 pub first_key_size : (told : SettingsValue) → peer_refusal told ≡ None → length (key_for told (first_kind told)) ≤ 64
 first_key_size told none = fitting_size (first_kind told) (key_for told (first_kind told)) (first_key_fits told none)
@@ -255,31 +242,10 @@ user_other told none =
     }
 
 pub psk_key_size : (told : SettingsValue) → IsSoundOther told → length told.psk_key ≤ 64
-psk_key_size told other = psk_size [] told other.keys
+psk_key_size told other = (key_sizes [] told other.keys).0
 
 pub gpsk_key_size : (told : SettingsValue) → IsSoundOther told → length told.gpsk_key ≤ 64
-gpsk_key_size told other = gpsk_size [] told other.keys
-
--- the user of a method for which there is a key is sound
-sound_where_keyed : (told : SettingsValue) (kind : ℕ) (key : List ℕ) → key_for told kind ≡ key → serves [] kind (key_of key) ≡ true
-    → list_all is_sound_user (map (user_with told) (kind_if key kind)) ≡ true
-sound_where_keyed told kind [] is h = refl
-sound_where_keyed told kind (octet ∷ rest) is h = let fits : fits_kind kind (key_for told kind) ≡ true = rw is h in rw fits refl
-
-all_in_both : (user_of : ℕ → User) (some others : List ℕ) → list_all is_sound_user (map user_of some) ≡ true → list_all is_sound_user (map user_of others) ≡ true
-    → list_all is_sound_user (map user_of (some ++ others)) ≡ true
-all_in_both user_of [] others first second = second
-all_in_both user_of (kind ∷ rest) others first second =
-    both_hold (is_sound_user (user_of kind)) (list_all is_sound_user (map user_of (rest ++ others)))
-    (first_is_so (is_sound_user (user_of kind)) (list_all is_sound_user (map user_of rest)) first)
-    (all_in_both user_of rest others (both_are_so (is_sound_user (user_of kind)) (list_all is_sound_user (map user_of rest)) first) second)
-
-both_sound : (told : SettingsValue) → has_keys [] told ≡ true → list_all is_sound_user (map (user_with told) (keyed_kinds told)) ≡ true
-unfolding keyed_kinds
-both_sound told h =
-    all_in_both (user_with told) (kind_if told.gpsk_key gpsk_kind) (kind_if told.psk_key psk_kind)
-    (sound_where_keyed told gpsk_kind told.gpsk_key refl (gpsk_serves [] told h))
-    (sound_where_keyed told psk_kind told.psk_key refl (psk_serves [] told h))
+gpsk_key_size told other = (key_sizes [] told other.keys).1
 
 sound_if : (there : Bool) (users : List User) → list_all is_sound_user users ≡ true → list_all is_sound_user (if there then users else []) ≡ true
 sound_if true users h = h
@@ -287,7 +253,9 @@ sound_if false users h = refl
 
 users_are_sound : (told : SettingsValue) → IsSoundOther told → list_all is_sound_user (users_of told) ≡ true
 unfolding users_of
-users_are_sound told other = sound_if (is_filled told.other) (map (user_with told) (keyed_kinds told)) (both_sound told other.keys)
+users_are_sound told other =
+    sound_if (is_filled told.other) (map (user_with told) (keyed_kinds told))
+    (list_all-map is_sound_user (user_with told) (keyed_kinds told) ∙ keys_fit [] told other.keys)
 
 pub users_have_keys : (told : SettingsValue) → IsSoundOther told → All (λ user. IsTrue (fits_kind user.kind user.psk)) (users_of told)
 users_have_keys told other = have_keys (users_of told) (users_are_sound told other)

@@ -1,11 +1,11 @@
 -- When settings are refused, and why.
 use Rattle.std.specs.Prelude.{◌≡◌, ℕ, ◌≤◌, List, [], ◌∷◌, length, Bool, true, false, ◌&&◌, ◌||◌, ◌==◌, not, nat_lt, nat_le, if◌then◌else◌, Option, Some, None}
-use Rattle.std.specs.List.{list_any}
-use Rattle.eap_base.specs.Among.{psk_kind, gpsk_kind, is_filled}
+use Rattle.std.specs.List.{list_any, list_all}
+use Rattle.eap_base.specs.Among.{is_filled}
 use Rattle.eap_base.specs.Sizes.{max_name}
-use Rattle.login_setup.specs.Setup.{are_kinds, are_suites}
-use Rattle.end_objects.specs.Settings.{SettingsValue, is_set, keyed_kinds, named_kinds, kinds_of, suites_of, key_of}
-use Rattle.end_objects.specs.Soundness.{serves}
+use Rattle.login_setup.specs.Setup.{are_kinds, are_suites, fits_kind}
+use Rattle.eap_method.specs.Peer.{have_each}
+use Rattle.end_objects.specs.Settings.{SettingsValue, is_set, keyed_kinds, named_kinds, kinds_of, suites_of, key_for}
 use Rattle.end_objects.specs.declared.refusals.Refusal.{Refusal}
 use Rattle.end_objects.specs.declared.refusals.Refusal.TheVariants as refusal
 
@@ -45,8 +45,7 @@ has_long_other told = nat_lt max_name (length told.other)
 
 -- whether each key fits its method, and there is one for each of these methods
 unfoldable pub has_keys : List ℕ → SettingsValue → Bool
-has_keys wanted told =
-    serves wanted psk_kind (key_of told.psk_key) && serves wanted gpsk_kind (key_of told.gpsk_key)
+has_keys wanted told = list_all (λ kind. fits_kind kind (key_for told kind)) (keyed_kinds told) && have_each (keyed_kinds told) wanted
 
 -- whether there is a key exactly if there is a user
 unfoldable pub has_key_of_user : SettingsValue → Bool

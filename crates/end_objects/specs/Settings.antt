@@ -1,6 +1,7 @@
 -- The settings of an end, from what a program gives.
-use Rattle.std.specs.Prelude.{ℕ, List, [], ◌∷◌, ◌++◌, map, slice_index, Bool, ◌==◌, not, if◌then◌else◌, Option, Some, None}
+use Rattle.std.specs.Prelude.{ℕ, List, [], ◌∷◌, ◌++◌, map, slice_index, Bool, ◌==◌, not, if◌then◌else◌}
 use Rattle.eap_base.specs.Among.{psk_kind, gpsk_kind, is_filled}
+use Rattle.login_setup.specs.declared.keys.Key.{Key}
 use Rattle.login_setup.specs.declared.setup.Accepts.{Accepts}
 use Rattle.login_setup.specs.declared.setup.Accepts.TheVariants.{Any, One}
 use Rattle.login_setup.specs.declared.setup.PeerSetup.{PeerSetup}
@@ -74,10 +75,8 @@ suites_of told = or_else (listed told.suites) (1 ∷ 2 ∷ [])
 abbrev pub key_for : SettingsValue → ℕ → List ℕ
 key_for told kind = if kind == psk_kind then told.psk_key else told.gpsk_key
 
--- a key, if there are octets of it
-abbrev pub key_of : List ℕ → Option (List ℕ)
-key_of [] = None
-key_of (octet ∷ rest) = Some (octet ∷ rest)
+abbrev pub key_with : SettingsValue → ℕ → Key
+key_with told kind = record { kind = kind; psk = key_for told kind }
 
 -- whether a field is set: it isn't 0
 abbrev pub is_set : ℕ → Bool
@@ -95,8 +94,7 @@ peer_setup_of told nonce = record {
   accepts = accepted told.other;
   methods = kinds_of told;
   suites = suites_of told;
-  psk47 = key_of told.psk_key;
-  psk51 = key_of told.gpsk_key;
+  keys = map (key_with told) (keyed_kinds told);
   nonce = nonce;
   expanded = is_set told.expanded;
 }

@@ -1,14 +1,17 @@
 //! Why the settings of an end are refused.
 
 ghost use Rattle.std.specs.Prelude.{◌≡◌, ◌≤◌, None, IsTrue};
-ghost use Rattle.login_setup.specs.Setup.{are_kinds};
-ghost use Rattle.end_objects.specs.Settings.{settings_of, kinds_of, key_of};
-ghost use Rattle.end_objects.specs.Soundness.{serves};
+ghost use Rattle.std.specs.List.{list_all};
+ghost use Rattle.login_setup.specs.Setup.{are_kinds, fits_kind};
+ghost use Rattle.eap_method.specs.Peer.{have_each};
+ghost use Rattle.end_objects.specs.Settings.{settings_of, kinds_of, key_for};
 ghost use Rattle.end_objects.specs.Refusals.{has_other_size, has_gap, has_bad_methods, has_bad_suites, is_name, has_keys, has_key_of_user, peer_refusal, server_refusal, retry_refusal, stand_alone_refusal, user_refusal, IsSoundOther};
 
-use crate::settings::{SETTINGS_SIZE, Settings, keyed_kinds, kinds_of, named_kinds, suites_of};
+use crate::settings::{
+    SETTINGS_SIZE, Settings, key_for, keyed_kinds, kinds_of, named_kinds, suites_of,
+};
 use crate::soundness::{are_kinds, are_suites, fits};
-use eap_base::{GPSK_KIND, MAX_NAME, PSK_KIND, is_among};
+use eap_base::{MAX_NAME, is_among};
 
 /// Why settings are refused. If several reasons apply, the first of them is the answer.
 #[derive(Clone, Copy, PartialEq, Eq, Debug)]
@@ -71,14 +74,20 @@ fn is_name(name: &[u8]) -> bool
     }
 }
 
-/// Whether the key fits the method or, if there is no octet of it, the method isn't wanted.
-fn serves(wanted: &[u8], kind: u8, key: &[u8]) -> bool
-    ensures { result ≡ serves wanted.now kind (key_of key.now) }
+/// Whether the keys for these methods fit them.
+fn are_fitting(kinds: &[u8], settings: &Settings) -> bool
+    ensures { result ≡ list_all (λ kind. fits_kind kind (key_for (settings_of settings.now) kind)) kinds.now }
 {
-    match key {
-        [] => !is_among(wanted, kind),
-        [_, ..] => fits(kind, key),
-    }
+    kinds
+        .iter()
+        .all(|kind| fits(*kind, key_for(settings, *kind)))
+}
+
+/// Whether each of these methods is among others.
+fn have_each(kinds: &[u8], wanted: &[u8]) -> bool
+    ensures { result ≡ have_each kinds.now wanted.now }
+{
+    wanted.iter().all(|kind| is_among(kinds, *kind))
 }
 
 /// Whether each key fits its method, and there is one for each of these methods.
@@ -86,7 +95,8 @@ fn serves(wanted: &[u8], kind: u8, key: &[u8]) -> bool
 fn has_keys(wanted: &[u8], settings: &Settings) -> bool
     ensures { result ≡ has_keys wanted.now (settings_of settings.now) }
 {
-    serves(wanted, PSK_KIND, settings.psk_key) && serves(wanted, GPSK_KIND, settings.gpsk_key)
+    let keyed = keyed_kinds(settings);
+    are_fitting(keyed.as_slice(), settings) && have_each(keyed.as_slice(), wanted)
 }
 
 /// Whether there is a key exactly if there is a user.

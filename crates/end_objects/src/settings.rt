@@ -5,12 +5,12 @@ ghost use Rattle.eap_base.specs.Among.{is_kind};
 ghost use Rattle.eap_base.specs.Sizes.{max_name};
 ghost use Rattle.login_setup.specs.Setup.{are_kinds, fits_kind, IsSoundPeer, HasKeys, IsSoundServer};
 ghost use Rattle.login_setup.specs.Users.{HasRoom};
-ghost use Rattle.end_objects.specs.Settings.{settings_of, or_else, listed, keyed_kinds, named_kinds, kinds_of, first_kind, suites_of, key_of, key_for, accepted, peer_setup_of, user_with, users_of, server_setup_of, credential_of, side_of};
+ghost use Rattle.end_objects.specs.Settings.{settings_of, or_else, listed, keyed_kinds, named_kinds, kinds_of, first_kind, suites_of, key_for, key_with, accepted, peer_setup_of, user_with, users_of, server_setup_of, credential_of, side_of};
 ghost use Rattle.end_objects.specs.Refusals.{peer_refusal, server_refusal, IsSoundOther};
 
 use eap_base::{GPSK_KIND, Identity, Kinds, Nonce, Octets, PSK_KIND, Secret, Suites};
 use eap_method::{Credential, ServerSide};
-use login_setup::{Accepts, PeerSetup, ServerSetup, User, Users};
+use login_setup::{Accepts, Key, Keys, PeerSetup, ServerSetup, User, Users};
 
 /// The octets of [`Settings`] on 64 bits.
 pub const SETTINGS_SIZE: usize = 80;
@@ -129,15 +129,21 @@ pub fn key_for<'a>(settings: &Settings<'a>, kind: u8) -> &'a [u8]
     }
 }
 
-/// The key, if there are octets of it.
-fn key_of(octets: &[u8]) -> Option<Secret>
-    requires { length octets.now ≤ 64 }
-    ensures { result ≡ key_of octets.now }
+/// The keys that there are, that for EAP-GPSK first.
+fn keys_of(settings: &Settings) -> Keys
+    requires psk { length settings.now.psk_key.now ≤ 64 }
+    requires gpsk { length settings.now.gpsk_key.now ≤ 64 }
+    ensures { result ≡ map (key_with (settings_of settings.now)) (keyed_kinds (settings_of settings.now)) }
 {
-    match octets {
-        [] => None,
-        [_, ..] => Some(Secret::of(octets)),
+    let kinds = keyed_kinds(settings);
+    let mut keys = Keys::new();
+    for kind in kinds.as_slice() {
+        keys.push(Key {
+            kind: *kind,
+            psk: Secret::of(key_for(settings, *kind)),
+        });
     }
+    keys
 }
 
 /// A server of this name alone, or any if it is empty.
@@ -175,8 +181,7 @@ fn peer_setup_from(settings: &Settings, nonce: &Nonce) -> PeerSetup
         accepts: accepts(settings.other),
         methods: kinds_of(settings),
         suites: suites_of(settings),
-        psk47: key_of(settings.psk_key),
-        psk51: key_of(settings.gpsk_key),
+        keys: keys_of(settings),
         nonce: *nonce,
         expanded: settings.expanded != 0,
     }

@@ -5,23 +5,24 @@ ghost use Rattle.std.specs.List.{list_all};
 ghost use Rattle.eap_base.specs.Among.{is_kind, are_distinct};
 ghost use Rattle.login_setup.specs.Setup.{are_kinds, are_suites, fits_kind};
 ghost use Rattle.login_setup.specs.Setup.{IsSoundPeer, HasKeys, IsSoundServer};
-ghost use Rattle.end_objects.specs.Soundness.{is_suite, serves, is_sound_user};
+ghost use Rattle.end_objects.specs.Soundness.{is_suite, is_sound_key, has_key, is_sound_user};
 
-use eap_base::{GPSK_KIND, PSK_KIND, Secret, is_among};
-use login_setup::{PeerSetup, ServerSetup, User};
+use eap_base::{GPSK_KIND, PSK_KIND, is_among};
+use login_setup::{Key, Keys, PeerSetup, ServerSetup, User};
 
 /// Whether a peer's machine and world accept these settings, as `PeerMachine::new` and `World::new` ask. Its methods
 /// are of 47 (EAP-PSK) and 51 (EAP-GPSK), each at most once; its suites of 1 and 2, at least one and each at most
 /// once; a key for 47 has 16 octets, one for 51 has 32 to 64, also if the method isn't allowed; and it has a key
 /// for each method that it allows.
+#[tactic(auto, using(crate::proofs::Sound::keys_fit, crate::proofs::Sound::keys_pass, crate::proofs::Sound::each_has, crate::proofs::Sound::all_have))]
 pub fn is_sound_peer(setup: &PeerSetup) -> bool
     ensures { IsTrue result ↔ (IsSoundPeer setup.now × HasKeys setup.now) }
 {
     let allowed = setup.methods.as_slice();
     are_kinds(allowed)
         && are_suites(setup.suites.as_slice())
-        && serves(allowed, PSK_KIND, &setup.psk47)
-        && serves(allowed, GPSK_KIND, &setup.psk51)
+        && are_fitting(setup.keys.as_slice())
+        && has_each(&setup.keys, allowed)
 }
 
 /// Whether a server's machine and world accept these settings, as `ServerMachine::new`, `ServerMachine::in_role`,
@@ -91,14 +92,18 @@ fn are_distinct(numbers: &[u8]) -> bool
     }
 }
 
-/// Whether the key fits the method or, if there is none, the method isn't allowed.
-fn serves(allowed: &[u8], kind: u8, key: &Option<Secret>) -> bool
-    ensures { result ≡ serves allowed.now kind key.now }
+/// Whether each key fits its method.
+fn are_fitting(keys: &[Key]) -> bool
+    ensures { result ≡ list_all is_sound_key keys.now }
 {
-    match key {
-        None => !is_among(allowed, kind),
-        Some(octets) => fits(kind, octets.as_slice()),
-    }
+    keys.iter().all(|key| fits(key.kind, key.psk.as_slice()))
+}
+
+/// Whether there is a key for each of these methods.
+fn has_each(keys: &Keys, kinds: &[u8]) -> bool
+    ensures { result ≡ list_all (has_key keys.now) kinds.now }
+{
+    kinds.iter().all(|kind| keys.find(*kind).is_some())
 }
 
 /// Whether each user is of one of the two methods and has a key that fits it.

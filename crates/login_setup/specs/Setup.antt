@@ -1,8 +1,9 @@
 -- When the settings of an end are sound: its methods, its suites and its keys.
-use Rattle.std.specs.Prelude.{ℕ, List, [], length, Bool, true, ◌==◌, ◌&&◌, ◌||◌, if◌then◌else◌, nat_le, IsTrue, IfSome, IsSome, All}
+use Rattle.std.specs.Prelude.{◌≡◌, ℕ, List, [], length, Bool, true, ◌==◌, ◌&&◌, ◌||◌, if◌then◌else◌, nat_le, IsTrue, IsSome, All}
 use Rattle.std.specs.List.{list_all}
 use Rattle.std.specs.Str.{bytes_eq}
 use Rattle.eap_base.specs.Among.{is_among, are_distinct, is_filled, psk_kind, gpsk_kind, is_kind}
+use Rattle.login_setup.specs.Keys.{key_of}
 use Rattle.login_setup.specs.declared.setup.Accepts.{Accepts}
 use Rattle.login_setup.specs.declared.setup.Accepts.TheVariants.{Any, One}
 use Rattle.login_setup.specs.declared.setup.Later.{Later}
@@ -36,8 +37,7 @@ no_later = record { version = 1; peer = []; server = [] }
 pub record IsSoundPeer (setup : PeerSetup) : Type 0 where
   pub methods : IsTrue (are_kinds setup.methods)
   pub suites : IsTrue (are_suites setup.suites)
-  pub psk47 : IfSome setup.psk47 (λ key. IsTrue (fits_kind psk_kind key))
-  pub psk51 : IfSome setup.psk51 (λ key. IsTrue (fits_kind gpsk_kind key))
+  pub keys : All (λ key. IsTrue (fits_kind key.kind key.psk)) setup.keys
 
 -- the settings of a server are sound
 pub record IsSoundServer (setup : ServerSetup) : Type 0 where
@@ -47,6 +47,5 @@ pub record IsSoundServer (setup : ServerSetup) : Type 0 where
   pub keys : All (λ user. IsTrue (fits_kind user.kind user.psk)) setup.users
 
 -- a peer has a key for each method that it allows
-pub record HasKeys (setup : PeerSetup) : Type 0 where
-  pub psk47 : IsTrue (is_among setup.methods psk_kind) → IsSome setup.psk47
-  pub psk51 : IsTrue (is_among setup.methods gpsk_kind) → IsSome setup.psk51
+abbrev pub HasKeys : PeerSetup → Type 0
+HasKeys setup = (kind : ℕ) → is_among setup.methods kind ≡ true → IsSome (key_of setup.keys kind)

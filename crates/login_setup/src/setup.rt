@@ -3,9 +3,10 @@
 ghost use Rattle.std.specs.Prelude.{◌≡◌};
 ghost use Rattle.login_setup.specs.Setup.{accepts_name, no_later};
 
+use crate::keys::Keys;
 use crate::nonces::Nonces;
 use crate::users::Users;
-use eap_base::{Identity, Kinds, Nonce, Secret, Suites};
+use eap_base::{Identity, Kinds, Nonce, Suites};
 
 /// Whether the server answers by itself, or behind a pass-through authenticator.
 #[derive(Clone, Copy, PartialEq, Eq, Debug)]
@@ -74,10 +75,8 @@ pub struct PeerSetup {
     pub methods: Kinds,
     /// The EAP-GPSK suites that it allows, 1 or 2, each at most once.
     pub suites: Suites,
-    /// Its key for EAP-PSK, of 16 octets.
-    pub psk47: Option<Secret>,
-    /// Its key for EAP-GPSK, of 32 to 64 octets.
-    pub psk51: Option<Secret>,
+    /// Its keys: of 16 octets for EAP-PSK, of 32 to 64 for EAP-GPSK.
+    pub keys: Keys,
     /// The octets from which its nonce is taken.
     pub nonce: Nonce,
     /// Whether it reads Expanded Types (RFC 3748 section 5.7).
@@ -94,8 +93,7 @@ impl PeerSetup {
             accepts: self.accepts.copy(),
             methods: self.methods.copy(),
             suites: self.suites.copy(),
-            psk47: copy_secret(&self.psk47),
-            psk51: copy_secret(&self.psk51),
+            keys: self.keys.copy(),
             nonce: self.nonce,
             expanded: self.expanded,
         }
@@ -196,14 +194,5 @@ impl Setup {
             server: self.server.copy(),
             later: self.later.copy(),
         }
-    }
-}
-
-fn copy_secret(secret: &Option<Secret>) -> Option<Secret>
-    ensures { result ≡ secret.now }
-{
-    match secret {
-        None => None,
-        Some(octets) => Some(octets.copy()),
     }
 }

@@ -1,11 +1,8 @@
 -- The settings with another nonce are sound.
 use Rattle.std.proofs.Common.{List, ℕ}
-use Rattle.login_setup.specs.Setup.{IsSoundPeer, HasKeys}
+use Rattle.login_setup.specs.Setup.{IsSoundPeer}
 use Rattle.login_setup.specs.declared.setup.PeerSetup.{PeerSetup}
 use Rattle.peer_machine.specs.PeerTable.{own_nonce}
 
 pub still_sound : (setup : PeerSetup) (nonce : List ℕ) → IsSoundPeer setup → IsSoundPeer (own_nonce setup nonce)
-still_sound setup nonce is = record { methods = is.methods; suites = is.suites; psk47 = is.psk47; psk51 = is.psk51 }
-
-pub still_keyed : (setup : PeerSetup) (nonce : List ℕ) → HasKeys setup → HasKeys (own_nonce setup nonce)
-still_keyed setup nonce is = record { psk47 = is.psk47; psk51 = is.psk51 }
+still_sound setup nonce is = record { methods = is.methods; suites = is.suites; keys = is.keys }

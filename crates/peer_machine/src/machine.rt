@@ -85,7 +85,7 @@ impl<M: PeerMethod> PeerMachine<M> {
     /// Begins a new conversation with this nonce, in any state: its variables and the objects of its methods are
     /// as INITIALIZE sets them (RFC 4137 section 4.5), and of the settings the nonce alone changes. Nothing is sent, and no
     /// tag is accepted or made. Each of its methods has an object.
-    #[tactic(auto, unfolding(crate::specs::PeerTable::peer_restart), using(crate::proofs::Restarting::still_sound, crate::proofs::Restarting::still_keyed))]
+    #[tactic(auto, unfolding(crate::specs::PeerTable::peer_restart), using(crate::proofs::Restarting::still_sound))]
     pub fn restart(&mut self, nonce: &Nonce) -> Step
         requires objects { have_each (peer_kinds (map M.peer_shown self.old.methods)) self.old.vars.setup.methods ≡ true }
         ensures step { peer_restart (now_of M.peer_shown self.old) nonce.now ≡ answer (step_with result [] no_tags) (now_of M.peer_shown self.new) }

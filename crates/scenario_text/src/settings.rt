@@ -1,14 +1,17 @@
 //! The settings of a scenario that have been read so far.
 
 ghost use Rattle.std.specs.Prelude.{◌≡◌, ◌∷◌, [], unwrap_or, is_err};
-ghost use Rattle.scenario_text.specs.Reading.{no_settings, is_full, with_later, with_nonce, has_setting, with_setting, both_suites, key_for};
+ghost use Rattle.scenario_text.specs.Reading.{no_settings, is_full, with_later, with_nonce, has_setting, with_setting, has_key, with_key, both_suites, have_keys};
 ghost use Rattle.scenario_text.specs.Reading.{later_nonces, later_of, peer_setup_of, server_setup_of, setup_of, is_crowded};
 
 use crate::entry::Setting;
 use crate::keyword::Keyword;
 use crate::version::Version;
-use eap_base::{GPSK_KIND, Identity, Kinds, Nonce, PSK_KIND, Secret, Suites, is_among};
-use login_setup::{Accepts, Later, MAX_USERS, Mode, Nonces, PeerSetup, ServerSetup, Setup, Users};
+use eap_base::{Identity, Kinds, Nonce, Suites};
+use login_setup::{
+    Accepts, Key, Keys, Later, MAX_KEYS, MAX_USERS, Mode, Nonces, PeerSetup, ServerSetup, Setup,
+    Users,
+};
 use text_tables::{LineFault, add_user};
 
 /// The nonces of an end that have come, at most 16.
@@ -32,10 +35,9 @@ pub struct Settings {
     pub peer_server: Option<Accepts>,
     pub peer_methods: Option<Kinds>,
     pub peer_suites: Option<Suites>,
-    pub peer_psk47: Option<Secret>,
-    pub peer_psk51: Option<Secret>,
     pub peer_nonces: Option<GivenNonces>,
     pub peer_expanded: Option<bool>,
+    pub peer_keys: Keys,
     pub server_name: Option<Identity>,
     pub server_methods: Option<Kinds>,
     pub server_suites: Option<Suites>,
@@ -58,10 +60,9 @@ impl Settings {
             peer_server: None,
             peer_methods: None,
             peer_suites: None,
-            peer_psk47: None,
-            peer_psk51: None,
             peer_nonces: None,
             peer_expanded: None,
+            peer_keys: Keys::new(),
             server_name: None,
             server_methods: None,
             server_suites: None,
@@ -102,8 +103,7 @@ impl Settings {
             Setting::PeerServer(_) => self.peer_server.is_some(),
             Setting::PeerMethods(_) => self.peer_methods.is_some(),
             Setting::PeerSuites(_) => self.peer_suites.is_some(),
-            Setting::PeerPsk47(_) => self.peer_psk47.is_some(),
-            Setting::PeerPsk51(_) => self.peer_psk51.is_some(),
+            Setting::PeerKey(key) => has_key(&self.peer_keys, key.kind),
             Setting::PeerNonce(_) => !self.version.has_later() && self.peer_nonces.is_some(),
             Setting::ServerName(_) => self.server_name.is_some(),
             Setting::ServerMethods(_) => self.server_methods.is_some(),
@@ -127,8 +127,7 @@ impl Settings {
             Setting::PeerServer(accepts) => self.peer_server = Some(accepts),
             Setting::PeerMethods(kinds) => self.peer_methods = Some(kinds),
             Setting::PeerSuites(suites) => self.peer_suites = Some(suites),
-            Setting::PeerPsk47(key) => self.peer_psk47 = Some(key),
-            Setting::PeerPsk51(key) => self.peer_psk51 = Some(key),
+            Setting::PeerKey(key) => add_key(&mut self.peer_keys, key),
             Setting::PeerNonce(nonce) => add_nonce(self.version, &mut self.peer_nonces, nonce),
             Setting::ServerName(name) => self.server_name = Some(name),
             Setting::ServerMethods(kinds) => self.server_methods = Some(kinds),
@@ -178,15 +177,15 @@ impl Settings {
         let accepts = self.peer_server.as_ref().ok_or(LineFault::Missing)?;
         let methods = self.peer_methods.as_ref().ok_or(LineFault::Missing)?;
         let nonces = self.peer_nonces.as_ref().ok_or(LineFault::Missing)?;
-        let psk47 = key_for(methods, PSK_KIND, &self.peer_psk47)?;
-        let psk51 = key_for(methods, GPSK_KIND, &self.peer_psk51)?;
+        if !have_keys(&self.peer_keys, methods.as_slice()) {
+            return Err(LineFault::Missing);
+        }
         Ok(PeerSetup {
             name: name.copy(),
             accepts: accepts.copy(),
             methods: methods.copy(),
             suites: suites_or_both(&self.peer_suites),
-            psk47,
-            psk51,
+            keys: self.peer_keys.copy(),
             nonce: nonces.first,
             expanded: self.peer_expanded.unwrap_or(false),
         })
@@ -262,20 +261,28 @@ fn later_nonces(slot: &Option<GivenNonces>) -> Nonces
     }
 }
 
-/// The peer's key for a method, or `Missing` if there is none and the method is among these.
-fn key_for(methods: &Kinds, kind: u8, slot: &Option<Secret>) -> Result<Option<Secret>, LineFault>
-    ensures { result ≡ key_for methods.now kind slot.now }
+/// True if a key for the method has come, or as many as there are methods.
+fn has_key(keys: &Keys, kind: u8) -> bool
+    ensures { result ≡ has_key keys.now kind }
 {
-    match slot {
-        Some(key) => Ok(Some(key.copy())),
-        None => {
-            if is_among(methods.as_slice(), kind) {
-                Err(LineFault::Missing)
-            } else {
-                Ok(None)
-            }
-        }
+    keys.as_slice().len() >= MAX_KEYS || keys.find(kind).is_some()
+}
+
+/// Adds a key, unless one for its method is there, or as many as there are methods.
+#[tactic(auto, unfolding(crate::specs::Reading::with_key))]
+fn add_key(keys: &mut Keys, key: Key)
+    ensures { keys.new ≡ with_key keys.old key }
+{
+    if !has_key(keys, key.kind) {
+        keys.push(key);
     }
+}
+
+/// True if each of these methods has a key.
+fn have_keys(keys: &Keys, methods: &[u8]) -> bool
+    ensures { result ≡ have_keys keys.now methods.now }
+{
+    methods.iter().all(|kind| keys.find(*kind).is_some())
 }
 
 /// The suites that were set, or else both.

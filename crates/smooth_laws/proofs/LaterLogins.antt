@@ -22,7 +22,7 @@ use Rattle.smooth_laws.proofs.Restarts.{restarts_begin_anew}
 still_whole : (setup : Setup) (one two : List ℕ) → length one ≡ 32 → length two ≡ 32 → IsWhole setup → IsWhole (with_nonces setup one two)
 still_whole setup one two one_size two_size whole = record {
   peer = peers.still_sound setup.peer one whole.peer;
-  keys = peers.still_keyed setup.peer one whole.keys;
+  keys = whole.keys;
   server = servers.still_sound setup.server two whole.server;
   peer_nonce = one_size;
   server_nonce = two_size;

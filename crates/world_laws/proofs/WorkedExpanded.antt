@@ -34,8 +34,7 @@ refusing_setup = record {
     accepts = One (codes "srv");
     methods = [];
     suites = 1 ∷ 2 ∷ [];
-    psk47 = None;
-    psk51 = None;
+    keys = [];
     nonce = replicate 32 17;
     expanded = true;
   };

@@ -54,8 +54,7 @@ setup_with second = record {
     accepts = One (codes "srv");
     methods = [];
     suites = 1 ∷ 2 ∷ [];
-    psk47 = None;
-    psk51 = None;
+    keys = [];
     nonce = replicate 32 17;
     expanded = false;
   };

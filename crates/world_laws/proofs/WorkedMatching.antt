@@ -38,8 +38,7 @@ setup = record {
     accepts = One (codes "srv");
     methods = [];
     suites = 1 ∷ 2 ∷ [];
-    psk47 = None;
-    psk51 = None;
+    keys = [];
     nonce = replicate 32 17;
     expanded = false;
   };
