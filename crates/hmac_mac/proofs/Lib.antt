@@ -1,4 +1,4 @@
--- What the loops over a block leave.
+-- What combines a block with a pad.
 pub mod Blocks
 -- The size of a result, for those who cut it or send it.
 pub mod Laws

@@ -8,6 +8,7 @@ ghost use Rattle.hmac_mac.specs.Holds.{Holds};
 ghost use Rattle.sha2.specs.Hashers.{Holds256};
 
 use sha2::{Digest, Sha256};
+use std::simd::prelude::*;
 
 /// The octets of a block of SHA-256, and of MD5 (RFC 2104, section 2).
 pub const BLOCK_LEN: usize = 64;
@@ -19,15 +20,12 @@ pub const INNER_PAD: u8 = 0x36;
 pub const OUTER_PAD: u8 = 0x5c;
 
 /// The octets with zeros at their end, up to a whole block.
-#[tactic(auto, using(crate::proofs::Blocks::paste_zeros, std::proofs::lemmas::List::Edits::paste_more), unfolding(crate::specs::Hmac::filled))]
 fn fill(octets: &[u8]) -> [u8; BLOCK_LEN]
     requires { length octets.now ≤ 64 }
     ensures { result ≡ filled octets.now }
 {
     let mut block = [0; BLOCK_LEN];
-    'octets: for i in 0..octets.len() {
-        block[i] = octets[i];
-    }
+    block[..octets.len()].copy_from_slice(octets);
     block
 }
 
@@ -45,15 +43,10 @@ fn key_block(key: &[u8]) -> [u8; BLOCK_LEN]
 }
 
 /// Each octet of the block combined with the pad.
-#[tactic(auto, using(crate::proofs::Blocks::map_whole), unfolding(crate::specs::Hmac::padded))]
 fn combine(block: &[u8; BLOCK_LEN], pad: u8) -> [u8; BLOCK_LEN]
     ensures { result ≡ padded block.now pad }
 {
-    let mut combined = *block;
-    for octet in combined.iter_mut() {
-        *octet ^= pad;
-    }
-    combined
+    (u8x64::from_array(*block) ^ u8x64::splat(pad)).to_array()
 }
 
 /// A hash that has been fed the key's block combined with the pad.

@@ -1,5 +1,3 @@
--- Fields that are fed as pieces.
-pub mod Pieces
 -- Blocks of a list that is made block by block.
 pub mod Blocks
 -- The definitions computed, with values of an independent program (Python with its hashlib and hmac, and with AES of

@@ -9,8 +9,11 @@ ghost use Rattle.login_keys.specs.Gpsk as spec;
 
 use crate::derivation::{gkdf, two_octets};
 use cmac_mac::cmac_whole;
-use eap_base::{Octets, Suite, array_of};
+use eap_base::{MAX_NAME, Octets, Suite, array_of};
 use hmac_mac::hmac_whole;
+
+// The most octets of inputString: two nonces and two names.
+const INPUT_ROOM: usize = 2 * (32 + MAX_NAME);
 
 /// The keys of an EAP-GPSK login (RFC 5433, section 4). KS is 16 for suite 1 and 32 for suite 2.
 #[derive(Drop)]
@@ -48,55 +51,27 @@ pub fn gpsk_keys(
     ensures sk_size { length result.sk ≡ ks_of suite }
     ensures pk_size { length result.pk ≡ pk_size suite }
 {
-    derive(suite, psk, rand_p, id_p, rand_s, id_s)
-}
-
-// The same, for fields that live as long.
-#[tactic(auto, unfolding(crate::specs::Gpsk::gpsk_keys_of))]
-fn derive<'a>(
-    suite: Suite,
-    psk: &'a [u8],
-    rand_p: &'a [u8; 32],
-    id_p: &'a [u8],
-    rand_s: &'a [u8; 32],
-    id_s: &'a [u8],
-) -> GpskKeys
-    requires long_enough { 32 ≤ length psk.now }
-    requires short_enough { length psk.now ≤ 64 }
-    ensures keys { result ≡ gpsk_keys_of suite psk.now rand_p.now id_p.now rand_s.now id_s.now }
-    ensures mk_size { length result.mk ≡ ks_of suite }
-    ensures sk_size { length result.sk ≡ ks_of suite }
-    ensures pk_size { length result.pk ≡ pk_size suite }
-{
-    let mk = master_key(suite, psk, rand_p, id_p, rand_s, id_s);
-    let derived = gkdf(suite, 160, mk.as_slice(), &[rand_p, id_p, rand_s, id_s]);
+    let mut input: Octets<INPUT_ROOM> = Octets::new();
+    input.put(rand_p);
+    input.put(id_p);
+    input.put(rand_s);
+    input.put(id_s);
+    let mk = master_key(suite, psk, input.as_slice());
+    let derived = gkdf(suite, 160, mk.as_slice(), &[input.as_slice()]);
     cut_keys(suite, mk, derived.as_slice())
 }
 
 // The master key MK.
-#[tactic(auto, unfolding(crate::specs::Gpsk::master_key))]
-fn master_key<'a>(
-    suite: Suite,
-    psk: &'a [u8],
-    rand_p: &'a [u8; 32],
-    id_p: &'a [u8],
-    rand_s: &'a [u8; 32],
-    id_s: &'a [u8],
-) -> Octets<32>
+fn master_key<'a>(suite: Suite, psk: &'a [u8], input: &'a [u8]) -> Octets<32>
     requires long_enough { 32 ≤ length psk.now }
     requires short_enough { length psk.now ≤ 64 }
-    ensures key { result ≡ spec.master_key suite psk.now (input_string rand_p.now id_p.now rand_s.now id_s.now) }
+    ensures key { result ≡ spec.master_key suite psk.now input.now }
     ensures size { length result ≡ ks_of suite }
 {
     let ks = suite.ks();
     let psk_len = two_octets(psk.len() as u16);
     let selected = suite.octets();
-    let mk = gkdf(
-        suite,
-        ks,
-        &psk[..ks],
-        &[&psk_len, psk, &selected, rand_p, id_p, rand_s, id_s],
-    );
+    let mk = gkdf(suite, ks, &psk[..ks], &[&psk_len, psk, &selected, input]);
     Octets::of(mk.as_slice())
 }
 
