@@ -79,6 +79,7 @@ impl Aes128 {
     }
 
     /// Encrypts a block (FIPS 197, section 5.1).
+    #[inline(always)]
     pub fn encrypt(&self, block: &[u8; 16]) -> [u8; 16]
         ensures { result ≡ aes128 self.now block.now }
     {

@@ -80,6 +80,7 @@ impl Taken {
 }
 
 // The chain, a block on (RFC 4493, section 2.4, step 6).
+#[inline(always)]
 fn chain_block(cipher: &Aes128, chain: &[u8; 16], block: &[u8; 16]) -> [u8; 16]
     ensures { result ≡ aes128 cipher.now (spec.xor_blocks chain.now block.now) }
 {

@@ -1,5 +1,3 @@
--- What combines a block with a pad.
-pub mod Blocks
 -- The size of a result, for those who cut it or send it.
 pub mod Laws
 -- The definition computed on two test cases of RFC 4231, so that a wrong step in it does not check.

@@ -1,4 +1,4 @@
-use Rattle.std.proofs.Common.{◌≡◌, ℕ, List, [], ◌++◌, ap, sym, ◌∙◌, append-nil, append_assoc}
+use Rattle.std.proofs.Common.{◌≡◌, ℕ, List, ◌++◌, ap, sym, ◌∙◌, append-nil, append_assoc}
 use Rattle.login_keys.specs.Gkdf.{gkdf}
 use Rattle.login_keys.specs.Gpsk.{gpsk_keys_of, input_string, keys_from, master_key}
 use Rattle.login_keys.proofs.gpsk.gpsk_keys.Goals as goal
