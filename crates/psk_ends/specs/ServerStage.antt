@@ -1,12 +1,13 @@
--- The state of a server of EAP-PSK, as its definition says it, and what a call leaves.
-use Rattle.std.specs.Prelude.{ℕ, List, Bool, false, Option, Some, None, Result, Ok, Err}
+-- The state of a server of EAP-PSK, and its state after a call, as its definition says it.
+use Rattle.std.specs.Prelude.{ℕ, List, [], false, Option, Some, None, Result, Ok, Err}
 use Rattle.eap_packet.specs.declared.cause.Cause.{Cause}
 use Rattle.eap_method.specs.declared.tags.Tags.{Tags}
 use Rattle.eap_method.specs.declared.turn.ServerTurn as brief
-use Rattle.eap_method.specs.ServerTurn.{ServerTurn, Discard, Request, Done, server_turn_with, server_tags}
-use Rattle.eap_method.specs.PskServer.{View, Login, unset, begun, asked, checked, refused, over}
-use Rattle.eap_method.specs.Turns.{ServerOutcome}
+use Rattle.eap_method.specs.ServerTurn.{server_turn_with}
+use Rattle.eap_method.specs.PskServer.{View, Login, unset, begun, asked, checked, refused, over, r_for, answers}
+use Rattle.eap_method.specs.Turns.{ServerOutcome, dropped, done}
 use Rattle.psk_ends.specs.declared.server.login.Begun.{Begun}
+use Rattle.psk_ends.specs.declared.server.login.Psk2.{Psk2}
 use Rattle.psk_ends.specs.declared.server.stage.EarlyPhase.{EarlyPhase}
 use Rattle.psk_ends.specs.declared.server.stage.EarlyPhase.TheVariants as early
 use Rattle.psk_ends.specs.declared.server.stage.KnownPhase.{KnownPhase}
@@ -31,32 +32,24 @@ view_of stage.Unset = unset
 view_of (stage.Early own phase) = in_early phase own
 view_of (stage.Known login phase) = in_known phase login
 
--- what a call leaves: the turn, the server's state after it, and the records
-pub record Left : Type 0 where
-  pub turn : ServerTurn
-  pub after : View
-  pub tags : Tags
+-- a turn with what it wrote, and the server's state after it
+abbrev pub outcome_with : brief.ServerTurn → List ℕ → Tags → View → ServerOutcome View
+outcome_with turn packet tags after = record { turn = server_turn_with turn packet tags; after = after }
 
--- what is left by a turn's definition
-abbrev pub left_by : ServerOutcome View → Left
-left_by out = record { turn = out.turn; after = out.after; tags = server_tags out.turn }
+-- the login that begins with PSK-2
+abbrev pub login_with : Begun → Psk2 → Login
+login_with own psk2 = record {
+  own = own.side;
+  nonce = own.nonce;
+  id_p = psk2.id_p.now;
+  psk = psk2.user.now.psk;
+  rand_p = psk2.rand_p;
+  r = r_for psk2.user.now.barred;
+}
 
--- what is left by a call that answers so
-abbrev pub left_with : brief.ServerTurn → List ℕ → Tags → View → Left
-left_with turn packet tags after = record { turn = server_turn_with turn packet tags; after = after; tags = tags }
-
--- the same for a discard
-abbrev pub left_alone : View → Cause → Tags → Left
-left_alone view cause tags = record { turn = Discard cause; after = view; tags = tags }
-
--- the same for a server that has sent PSK-1: PSK-2 is discarded, refused without a user, or answered and
--- the login begins
-abbrev pub asked_left : Begun → List ℕ → Tags → Result (Option Login) Cause → Left
-asked_left own packet tags (Err cause) = left_alone (asked own.side own.nonce) cause tags
-asked_left own packet tags (Ok None) = record { turn = Done false tags; after = refused own.side own.nonce; tags = tags }
-asked_left own packet tags (Ok (Some login)) = record { turn = Request packet tags; after = checked login; tags = tags }
-
--- the same for a server that has sent PSK-3: PSK-4 is discarded, or ends the login with success or not
-abbrev pub checked_left : Login → Tags → Result Bool Cause → Left
-checked_left login tags (Err cause) = left_alone (checked login) cause tags
-checked_left login tags (Ok success) = record { turn = Done success tags; after = over login success; tags = tags }
+-- what a server that has sent PSK-1 makes of the PSK-2 that it accepts, of one without a user, or of the
+-- cause why it accepts none
+abbrev pub asked_with : Begun → ℕ → Result (Option Psk2) Cause → ServerOutcome View
+asked_with own next_id (Err cause) = dropped (asked own.side own.nonce) cause
+asked_with own next_id (Ok None) = done (refused own.side own.nonce) false []
+asked_with own next_id (Ok (Some psk2)) = answers (login_with own psk2) next_id psk2.mac

@@ -1,10 +1,14 @@
-//! RAND_S or RAND_P of a nonce, the header of a packet and its message.
+//! RAND_S or RAND_P of a nonce, the header of a packet and its message, or why it is discarded.
 
-ghost use Rattle.std.specs.Prelude.{◌≡◌, ◌≤◌, length, IfOk};
+ghost use Rattle.std.specs.Prelude.{◌≡◌, ◌≤◌, length, Bool, IfOk};
 ghost use Rattle.psk_messages.specs.Message.{AreFields, heard, message_of};
 ghost use Rattle.psk_messages.specs.Reading.{read_of};
-ghost use Rattle.eap_method.specs.Turns.{body_of};
+ghost use Rattle.eap_method.specs.Turns.{body_of, discarded, dropped};
 ghost use Rattle.eap_method.specs.PskTags.{header_of, rand_of};
+ghost use Rattle.eap_method.specs.PskPeer as peer;
+ghost use Rattle.eap_method.specs.PskPeer.{over_reads};
+ghost use Rattle.eap_method.specs.PskServer as server;
+ghost use Rattle.eap_method.specs.PskServer.{idle_reads};
 
 use eap_base::{Nonce, array_of};
 use eap_packet::Cause;
@@ -32,4 +36,17 @@ pub fn message_in<'a>(packet: &'a [u8]) -> Result<PskView<'a>, Cause>
     ensures fields { IfOk result (λ view. AreFields (message_of view)) }
 {
     read_psk(&packet[5..])
+}
+
+/// Why an end that awaits nothing discards a packet.
+pub fn idle_cause(packet: &[u8]) -> Cause
+    requires { 5 ≤ length packet.now }
+    ensures peer { (login : peer.Login) (good : Bool)
+        → discarded (peer.over login good) result ≡ over_reads login good (read_of (body_of packet.now)) }
+    ensures server { (view : server.View) → dropped view result ≡ idle_reads view (read_of (body_of packet.now)) }
+{
+    match message_in(packet) {
+        Err(cause) => cause,
+        Ok(_) => Cause::WrongOp,
+    }
 }

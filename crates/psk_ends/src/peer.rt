@@ -10,8 +10,8 @@ mod turns;
 
 use crate::nonces::Nonces;
 use crate::peer::login::Begun;
-use crate::peer::stage::Stage;
-use crate::peer::turns::take;
+use crate::peer::stage::{Phase, Stage};
+use crate::peer::turns::hears_request;
 use eap_base::{Nonce, PSK_KIND, Packet};
 use eap_method::{Credential, PeerMethod, PeerTurn, Report, Tags};
 use std::marker::Model;
@@ -49,14 +49,26 @@ impl PskPeer {
     pub fn nonces(&self) -> Option<Nonces>
         ensures { result ≡ peer_nonces self.now }
     {
-        self.stage.nonces()
+        match &self.stage {
+            Stage::Known {
+                login,
+                phase: Phase::Over { good: true },
+            } => Some(login.nonces()),
+            _ => None,
+        }
     }
 
     /// Whether the login has failed: PSK-3 carried DONE_FAILURE (RFC 4764 section 5.3).
     pub fn has_failed(&self) -> bool
         ensures { result ≡ peer_has_failed self.now }
     {
-        self.stage.has_failed()
+        matches!(
+            &self.stage,
+            Stage::Known {
+                phase: Phase::Over { good: false },
+                ..
+            }
+        )
     }
 }
 
@@ -80,12 +92,23 @@ impl PeerMethod for PskPeer {
 
     #[tactic(auto, unfolding(eap_method::specs::Peer::peer_step))]
     fn handle(&mut self, request: &[u8], packet: &mut Packet, tags: &mut Tags) -> PeerTurn {
-        tags.clear();
-        take(&mut self.stage, request, packet, tags)
+        match hears_request(&mut self.stage, request, packet, tags) {
+            PeerTurn::Discard(cause) => {
+                tags.clear();
+                PeerTurn::Discard(cause)
+            }
+            PeerTurn::Reply { state, decision } => PeerTurn::Reply { state, decision },
+        }
     }
 
     #[tactic(auto, unfolding(eap_method::specs::Peer::peer_report))]
     fn report(&self) -> Option<Report> {
-        self.stage.report()
+        match &self.stage {
+            Stage::Known {
+                login,
+                phase: Phase::Over { good: true },
+            } => Some(login.report()),
+            _ => None,
+        }
     }
 }

@@ -11,8 +11,8 @@ mod turns;
 
 use crate::nonces::Nonces;
 use crate::server::login::Begun;
-use crate::server::stage::{EarlyPhase, Stage};
-use crate::server::turns::{ask, take};
+use crate::server::stage::{EarlyPhase, KnownPhase, Stage};
+use crate::server::turns::{ask, hears_response};
 use eap_base::{Nonce, PSK_KIND, Packet};
 use eap_method::{Report, ServerMethod, ServerSide, ServerTurn, Tags};
 use login_setup::Users;
@@ -51,14 +51,26 @@ impl PskServer {
     pub fn nonces(&self) -> Option<Nonces>
         ensures { result ≡ server_nonces self.now }
     {
-        self.stage.nonces()
+        match &self.stage {
+            Stage::Known {
+                login,
+                phase: KnownPhase::Over { success: true },
+            } => Some(login.nonces()),
+            _ => None,
+        }
     }
 
     /// Whether it has refused a user that it doesn't know.
     pub fn is_unknown(&self) -> bool
         ensures { result ≡ is_unknown self.now }
     {
-        self.stage.is_unknown()
+        matches!(
+            &self.stage,
+            Stage::Early {
+                phase: EarlyPhase::Refused,
+                ..
+            }
+        )
     }
 
     /// Whether the login of a user that it knows has failed: PSK-3 or PSK-4 carried DONE_FAILURE (RFC 4764
@@ -66,7 +78,13 @@ impl PskServer {
     pub fn has_failed(&self) -> bool
         ensures { result ≡ server_has_failed self.now }
     {
-        self.stage.has_failed()
+        matches!(
+            &self.stage,
+            Stage::Known {
+                phase: KnownPhase::Over { success: false },
+                ..
+            }
+        )
     }
 }
 
@@ -103,12 +121,24 @@ impl ServerMethod for PskServer {
         packet: &mut Packet,
         tags: &mut Tags,
     ) -> ServerTurn {
-        tags.clear();
-        take(&mut self.stage, response, next_id, users, packet, tags)
+        match hears_response(&mut self.stage, response, next_id, users, packet, tags) {
+            ServerTurn::Discard(cause) => {
+                tags.clear();
+                ServerTurn::Discard(cause)
+            }
+            ServerTurn::Request => ServerTurn::Request,
+            ServerTurn::Done { success } => ServerTurn::Done { success },
+        }
     }
 
     #[tactic(auto, unfolding(eap_method::specs::Server::server_report))]
     fn report(&self) -> Option<Report> {
-        self.stage.report()
+        match &self.stage {
+            Stage::Known {
+                login,
+                phase: KnownPhase::Over { success: true },
+            } => Some(login.report()),
+            _ => None,
+        }
     }
 }

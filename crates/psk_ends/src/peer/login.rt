@@ -22,17 +22,12 @@ pub struct Begun {
     ghost sixteen: { length cred.psk ≡ 16 },
 }
 
-impl Begun {
-    /// An equal value.
-    fn copy(&self) -> Begun
-        ensures cred { result.cred ≡ self.now.cred }
-        ensures nonce { result.nonce ≡ self.now.nonce }
-    {
-        Begun {
-            cred: self.cred.copy(),
-            nonce: self.nonce,
-        }
-    }
+/// PSK-1 of a server that the peer accepts.
+#[derive(Drop)]
+pub struct Psk1<'a> {
+    pub rand_s: [u8; 16],
+    pub id_s: &'a [u8],
+    ghost name: { length id_s.now ≤ max_name },
 }
 
 /// A login after PSK-1, with its keys, which are derived once. Contracts see what they come from.
@@ -69,18 +64,21 @@ impl Login {
     ghost use Rattle.eap_method.specs.PskTags.{ak_record};
     ghost use Rattle.eap_method.specs.PskPeer.{rand_p_of, ak_of, keys_of, mac_p_covers, mac_p_of, mac_s_covers, mac_s_of, report_of};
     ghost use Rattle.psk_ends.specs.Nonces.{peer_nonces_of};
+    ghost use Rattle.psk_ends.specs.PeerStage.{login_with};
 
     /// The login of a peer that has accepted PSK-1.
-    pub fn new(own: &Begun, id_s: &[u8], rand_s: &[u8; 16]) -> Login
-        requires { length id_s.now ≤ max_name }
-        ensures { result ≡ record { cred = own.now.cred; nonce = own.now.nonce; id_s = id_s.now; rand_s = rand_s.now } }
+    pub fn new(own: &Begun, psk1: &Psk1) -> Login
+        ensures { result ≡ login_with own.now psk1.now }
     {
         let PskLong { ak, kdk } = long_keys(&own.cred.psk);
         let keys = psk_session(&kdk, &rand_of(&own.nonce));
         Login {
-            own: own.copy(),
-            id_s: Octets::of(id_s),
-            rand_s: *rand_s,
+            own: Begun {
+                cred: own.cred.copy(),
+                nonce: own.nonce,
+            },
+            id_s: Octets::of(psk1.id_s),
+            rand_s: psk1.rand_s,
             ak: CmacKey::new(&ak),
             tek: CmacKey::new(&keys.tek),
             keys,

@@ -1,21 +1,22 @@
 //! Checking PSK-3, and answering it by PSK-4 (RFC 4764 sections 5.3 and 5.4).
 
-ghost use Rattle.std.specs.Prelude.{◌≡◌, ◌≤◌, ◌<◌, [], length, not, None, Ok, IfOk};
+ghost use Rattle.std.specs.Prelude.{◌≡◌, ◌≤◌, ◌<◌, [], length, not, true, None};
 ghost use Rattle.eap_packet.specs.declared.cause.Cause.TheVariants.{BadTag};
 ghost use Rattle.psk_messages.specs.Message.{psk4};
-ghost use Rattle.eap_method.specs.Room.{HasRoom};
+ghost use Rattle.eap_method.specs.Room.{HasRoom, replies};
 ghost use Rattle.eap_method.specs.Turns.{fault_if};
-ghost use Rattle.eap_method.specs.Tags.{no_tags};
 ghost use Rattle.eap_method.specs.PskTags.{psk_response, blank_tag, opened, result_fault, result_of};
 ghost use Rattle.eap_method.specs.PskPeer.{keys_of, psk4_of, psk4_record, psk3_records, psk3_fault, are_right, confirms};
 ghost use Rattle.psk_ends.specs.Checks.{checked};
-ghost use Rattle.psk_ends.specs.PeerStage.{left_by, wait_left};
+ghost use Rattle.psk_ends.specs.PeerStage.{in_phase, outcome_with};
+ghost use Rattle.psk_ends.specs.declared.peer.stage.Phase.TheVariants.{Wait};
 
 use crate::channel::{DONE_FAILURE, DONE_SUCCESS, Sealed, check_result, open, seal_in};
 use crate::peer::login::Login;
+use crate::peer::stage::Phase;
 use crate::records::add_channel;
 use eap_base::{Packet, equal_in_full};
-use eap_method::{TagList, Tags};
+use eap_method::{Decision, MethodState, PeerTurn, TagList, Tags};
 use eap_packet::{Cause, Code};
 use psk_messages::{PskView, write_psk_into};
 
@@ -56,19 +57,34 @@ fn psk4(login: &Login, id: u8, r: u8, packet: &mut Packet, made: &mut TagList)
     seal_in(packet, login.tek(), login.psk(), 1, r, made);
 }
 
-/// A PSK-3 without a fault is answered by PSK-4, with its R. Whether the login succeeded.
+/// A PSK-3 without a fault is answered by PSK-4, with its R, and the login is over.
 #[tactic(auto, unfolding(eap_method::specs::PskPeer::confirms))]
-fn confirm(login: &Login, id: u8, octet: u8, packet: &mut Packet, tags: &mut Tags) -> bool
+fn confirm(
+    login: &Login,
+    phase: &mut Phase,
+    id: u8,
+    octet: u8,
+    packet: &mut Packet,
+    tags: &mut Tags,
+) -> PeerTurn
     requires { tags.old.made ≡ [] }
-    ensures left { wait_left login.now packet.new tags.new (Ok result) ≡ left_by (confirms login.now id (result_of octet) tags.old.accepted None) }
+    ensures turn { outcome_with result packet.new tags.new (in_phase phase.new login.now) ≡ confirms login.now id (result_of octet) tags.old.accepted None }
     ensures room { HasRoom packet.new }
 {
     if octet / 64 == DONE_SUCCESS {
         psk4(login, id, DONE_SUCCESS, packet, &mut tags.made);
-        true
+        *phase = Phase::Over { good: true };
+        PeerTurn::Reply {
+            state: MethodState::Done,
+            decision: Decision::UncondSucc,
+        }
     } else {
         psk4(login, id, DONE_FAILURE, packet, &mut tags.made);
-        false
+        *phase = Phase::Over { good: false };
+        PeerTurn::Reply {
+            state: MethodState::MayCont,
+            decision: Decision::Fail,
+        }
     }
 }
 
@@ -117,29 +133,31 @@ fn add_psk3(login: &Login, header: &[u8], psk3: &Psk3, accepted: &mut TagList)
     add_channel(accepted, login.psk(), 0, header, &channel);
 }
 
-/// PSK-3, with this Identifier and this header: whether the login succeeded, if it has no fault.
-#[tactic(auto, using(crate::proofs::PeerChecks::left_faultless))]
+/// PSK-3, with this Identifier and this header: it is answered, if it has no fault.
+#[tactic(auto, using(crate::proofs::PeerChecks::is_confirmed))]
 pub fn hears_psk3(
     login: &Login,
+    phase: &mut Phase,
     id: u8,
     header: &[u8],
     psk3: &Psk3,
     packet: &mut Packet,
     tags: &mut Tags,
-) -> Result<bool, Cause>
+) -> PeerTurn
     requires header { length header.now ≤ 22 }
-    requires none { tags.old ≡ no_tags }
-    ensures left { wait_left login.now packet.new tags.new result ≡ left_by (confirms login.now id
+    requires waits { phase.old ≡ Wait }
+    ensures turn { outcome_with result packet.new tags.new (in_phase phase.new login.now) ≡ confirms login.now id
         (result_of (opened (keys_of login.now).tek 0 psk3.now.sealed))
         (psk3_records login.now header.now psk3.now.mac psk3.now.tag psk3.now.sealed)
-        (psk3_fault login.now header.now psk3.now.rand_s psk3.now.mac psk3.now.nonce psk3.now.tag psk3.now.sealed)) }
-    ensures room { IfOk result (λ good. HasRoom packet.new) }
+        (psk3_fault login.now header.now psk3.now.rand_s psk3.now.mac psk3.now.nonce psk3.now.tag psk3.now.sealed) }
+    ensures room { replies result ≡ true → HasRoom packet.new }
 {
     match check_psk3(login, header, psk3) {
-        Err(cause) => Err(cause),
+        Err(cause) => PeerTurn::Discard(cause),
         Ok(octet) => {
+            tags.clear();
             add_psk3(login, header, psk3, &mut tags.accepted);
-            Ok(confirm(login, id, octet, packet, tags))
+            confirm(login, phase, id, octet, packet, tags)
         }
     }
 }

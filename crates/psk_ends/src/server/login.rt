@@ -3,6 +3,7 @@
 ghost use Rattle.std.specs.Prelude.{◌≡◌, ◌≤◌, ◌<◌, [], ◌∷◌, ◌++◌, length};
 ghost use Rattle.eap_base.specs.Sizes.{max_name};
 ghost use Rattle.cmac_mac.specs.Cmac.{aes_cmac};
+ghost use Rattle.login_keys.specs.Psk.{psk_long_of};
 ghost use Rattle.eap_method.specs.PskTags.{mac_p_octets, rand_of};
 ghost use Rattle.eap_method.specs.PskServer.{r_for};
 
@@ -26,16 +27,6 @@ pub struct Begun {
 }
 
 impl Begun {
-    /// An equal value.
-    fn copy(&self) -> Begun
-        ensures { result ≡ self.now }
-    {
-        Begun {
-            side: self.side.copy(),
-            nonce: self.nonce,
-        }
-    }
-
     /// MAC_P of a peer of this name under this AK (RFC 4764 section 5.2).
     pub fn mac_p(&self, ak: &CmacKey, id_p: &[u8], rand_p: &[u8; 16]) -> [u8; 16]
         ensures { result ≡ aes_cmac ak.now (mac_p_octets id_p.now self.now.side.id_s (rand_of self.now.nonce) rand_p.now) }
@@ -50,6 +41,21 @@ fn r_for(barred: bool) -> u8
     ensures { result ≡ r_for barred }
 {
     if barred { DONE_FAILURE } else { DONE_SUCCESS }
+}
+
+/// PSK-2 of a user that the server knows, with the user's MAC_P.
+#[derive(Drop)]
+pub struct Psk2<'a> {
+    pub user: &'a User,
+    pub id_p: &'a [u8],
+    pub rand_p: [u8; 16],
+    pub mac: [u8; 16],
+    /// AK, expanded.
+    pub ak: CmacKey,
+    pub kdk: [u8; 16],
+    ghost name: { length id_p.now ≤ max_name },
+    ghost ak_is: { ak ≡ (psk_long_of user.now.psk).ak },
+    ghost kdk_is: { kdk ≡ (psk_long_of user.now.psk).kdk },
 }
 
 /// A login after PSK-2, with its keys, which are derived once. Contracts see what they come from.
@@ -86,40 +92,26 @@ impl Model for Login {
 }
 
 impl Login {
-    ghost use Rattle.login_keys.specs.Psk.{psk_long_of};
     ghost use Rattle.eap_method.specs.PskTags.{ak_record};
     ghost use Rattle.eap_method.specs.PskServer.{rand_s_of, keys_of, mac_p_covers, mac_s_covers, mac_s_of, report_of};
     ghost use Rattle.psk_ends.specs.Nonces.{server_nonces_of};
+    ghost use Rattle.psk_ends.specs.ServerStage.{login_with};
 
-    /// The login of a user, from AK and KDK of the user's key.
-    pub fn new(
-        own: &Begun,
-        id_p: &[u8],
-        user: &User,
-        rand_p: &[u8; 16],
-        ak: CmacKey,
-        kdk: &[u8; 16],
-    ) -> Login
-        requires name { length id_p.now ≤ max_name }
-        requires ak { ak ≡ (psk_long_of user.now.psk).ak }
-        requires kdk { kdk.now ≡ (psk_long_of user.now.psk).kdk }
-        ensures { result ≡ record {
-          own = own.now.side;
-          nonce = own.now.nonce;
-          id_p = id_p.now;
-          psk = user.now.psk;
-          rand_p = rand_p.now;
-          r = r_for user.now.barred;
-        } }
+    /// The login of a server that has accepted PSK-2.
+    pub fn new(own: &Begun, psk2: Psk2) -> Login
+        ensures { result ≡ login_with own.now psk2.entry }
     {
-        let keys = psk_session(kdk, rand_p);
+        let keys = psk_session(&psk2.kdk, &psk2.rand_p);
         Login {
-            own: own.copy(),
-            id_p: Octets::of(id_p),
-            psk: user.psk.copy(),
-            rand_p: *rand_p,
-            r: r_for(user.barred),
-            ak,
+            own: Begun {
+                side: own.side.copy(),
+                nonce: own.nonce,
+            },
+            id_p: Octets::of(psk2.id_p),
+            psk: psk2.user.psk.copy(),
+            rand_p: psk2.rand_p,
+            r: r_for(psk2.user.barred),
+            ak: psk2.ak,
             tek: CmacKey::new(&keys.tek),
             keys,
         }

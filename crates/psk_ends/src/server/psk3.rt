@@ -1,21 +1,23 @@
 //! Checking PSK-2, and answering it by PSK-3 (RFC 4764 sections 5.2 and 5.3).
 
-ghost use Rattle.std.specs.Prelude.{◌≡◌, ◌≤◌, [], length, All, IsTrue, Some, IfSome, IfOk};
+ghost use Rattle.std.specs.Prelude.{◌≡◌, ℕ, ◌≤◌, [], length, All, IsTrue, Some};
 ghost use Rattle.eap_base.specs.Among.{psk_kind};
 ghost use Rattle.eap_base.specs.Sizes.{max_name};
 ghost use Rattle.login_setup.specs.Setup.{fits_kind};
 ghost use Rattle.login_setup.specs.Users.{user_of};
 ghost use Rattle.psk_messages.specs.Message.{psk3};
+ghost use Rattle.psk_messages.specs.Reading.{read_of};
+ghost use Rattle.eap_method.specs.declared.turn.ServerTurn.TheVariants.{Request};
 ghost use Rattle.eap_method.specs.Room.{HasRoom};
-ghost use Rattle.eap_method.specs.Tags.{no_tags};
+ghost use Rattle.eap_method.specs.Turns.{body_of};
 ghost use Rattle.eap_method.specs.PskTags.{psk_request, blank_tag};
-ghost use Rattle.eap_method.specs.PskServer.{rand_s_of, psk3_of, psk3_records, finds, hears_psk2};
-ghost use Rattle.psk_ends.specs.ServerStage.{left_by, asked_left};
+ghost use Rattle.eap_method.specs.PskServer.{checked, rand_s_of, psk3_of, psk3_records, answers, finds, asked_reads};
+ghost use Rattle.psk_ends.specs.ServerStage.{outcome_with, login_with, asked_with};
 
 use crate::channel::seal_in;
 use crate::keys::long_keys;
-use crate::octets::rand_of;
-use crate::server::login::{Begun, Login};
+use crate::octets::{message_in, rand_of};
+use crate::server::login::{Begun, Login, Psk2};
 use cmac_mac::CmacKey;
 use eap_base::{PSK_KIND, Packet, equal_in_full};
 use eap_method::{TagList, Tags};
@@ -23,14 +25,6 @@ use eap_packet::{Cause, Code};
 use login_keys::PskLong;
 use login_setup::{User, Users};
 use psk_messages::{PskView, write_psk_into};
-
-/// The fields of PSK-2 but its name.
-#[derive(Drop)]
-pub struct Psk2 {
-    pub rand_s: [u8; 16],
-    pub rand_p: [u8; 16],
-    pub mac: [u8; 16],
-}
 
 /// Writes PSK-3 with this MAC_S, PCHANNEL still blank.
 fn write_psk3(login: &Login, id: u8, mac: &[u8; 16], packet: &mut Packet)
@@ -61,78 +55,97 @@ fn psk3(login: &Login, id: u8, packet: &mut Packet, made: &mut TagList)
     seal_in(packet, login.tek(), login.psk(), 0, login.r(), made);
 }
 
+/// PSK-2 is answered by PSK-3, and the login begins.
+#[tactic(auto, unfolding(eap_method::specs::PskServer::answers))]
+pub fn answer(own: &Begun, psk2: Psk2, next_id: u8, packet: &mut Packet, tags: &mut Tags) -> Login
+    ensures login { result ≡ login_with own.now psk2.entry }
+    ensures turn { outcome_with Request packet.new tags.new (checked result) ≡ answers (login_with own.now psk2.entry) next_id psk2.entry.mac }
+    ensures room { HasRoom packet.new }
+{
+    let mac = psk2.mac;
+    let login = Login::new(own, psk2);
+    tags.clear();
+    login.add_mac_p(&mut tags.accepted, &mac);
+    psk3(&login, next_id, packet, &mut tags.made);
+    login
+}
+
 /// A PSK-2 of this user, under this name. `BadTag`: MAC_P is wrong.
-#[tactic(auto, unfolding(eap_method::specs::PskServer::answers, eap_method::specs::PskServer::mac_p_of, eap_method::specs::PskServer::mac_p_covers, eap_method::specs::PskServer::ak_of))]
-fn check(
+#[tactic(auto, unfolding(eap_method::specs::PskServer::mac_p_of, eap_method::specs::PskServer::mac_p_covers, eap_method::specs::PskServer::ak_of))]
+fn check<'a>(
     own: &Begun,
-    next_id: u8,
-    psk2: &Psk2,
-    id_p: &[u8],
-    user: &User,
-    packet: &mut Packet,
-    tags: &mut Tags,
-) -> Result<Option<Login>, Cause>
+    rand_p: [u8; 16],
+    mac: [u8; 16],
+    id_p: &'a [u8],
+    user: &'a User,
+) -> Result<Option<Psk2<'a>>, Cause>
     requires key { length user.now.psk ≡ 16 }
     requires name { length id_p.now ≤ max_name }
-    requires none { tags.old ≡ no_tags }
-    ensures left { asked_left own.now packet.new tags.new result
-        ≡ left_by (finds own.now.side own.now.nonce next_id psk2.now.rand_p psk2.now.mac id_p.now (Some user.now)) }
-    ensures room { IfOk result (λ found. IfSome found (λ login. HasRoom packet.new)) }
+    ensures { (next_id : ℕ) → asked_with own.now next_id result
+        ≡ finds own.now.side own.now.nonce next_id rand_p mac id_p.now (Some user.now) }
 {
     let PskLong { ak, kdk } = long_keys(&user.psk);
     let ak = CmacKey::new(&ak);
-    if !equal_in_full(&own.mac_p(&ak, id_p, &psk2.rand_p), &psk2.mac) {
+    if !equal_in_full(&own.mac_p(&ak, id_p, &rand_p), &mac) {
         return Err(Cause::BadTag);
     }
-    let login = Login::new(own, id_p, user, &psk2.rand_p, ak, &kdk);
-    login.add_mac_p(&mut tags.accepted, &psk2.mac);
-    psk3(&login, next_id, packet, &mut tags.made);
-    Ok(Some(login))
+    Ok(Some(Psk2 {
+        user,
+        id_p,
+        rand_p,
+        mac,
+        ak,
+        kdk,
+    }))
 }
 
-/// A PSK-2 that answers PSK-1, of the user of this name; None if there is none.
-fn find(
+/// A PSK-2 with the server's RAND_S; None if there is no user of its name.
+fn find<'a>(
     own: &Begun,
-    next_id: u8,
-    psk2: &Psk2,
-    id_p: &[u8],
-    users: &Users,
-    packet: &mut Packet,
-    tags: &mut Tags,
-) -> Result<Option<Login>, Cause>
-    requires size { length id_p.now ≤ max_name }
+    rand_p: [u8; 16],
+    mac: [u8; 16],
+    id_p: &'a [u8],
+    users: &'a Users,
+) -> Result<Option<Psk2<'a>>, Cause>
+    requires name { length id_p.now ≤ max_name }
     requires keys { All (λ user. IsTrue (fits_kind user.kind user.psk)) users.now }
-    requires none { tags.old ≡ no_tags }
-    ensures left { asked_left own.now packet.new tags.new result ≡ left_by (finds own.now.side own.now.nonce next_id psk2.now.rand_p psk2.now.mac id_p.now
-        (user_of users.now id_p.now psk_kind)) }
-    ensures room { IfOk result (λ found. IfSome found (λ login. HasRoom packet.new)) }
+    ensures { (next_id : ℕ) → asked_with own.now next_id result
+        ≡ finds own.now.side own.now.nonce next_id rand_p mac id_p.now (user_of users.now id_p.now psk_kind) }
 {
     match users.find(id_p, PSK_KIND) {
         None => Ok(None),
-        Some(user) => check(own, next_id, psk2, id_p, user, packet, tags),
+        Some(user) => check(own, rand_p, mac, id_p, user),
     }
 }
 
-/// PSK-2. `FieldMismatch`: its RAND_S is not the server's.
-pub fn hears_psk2(
+/// A Response at a server that has sent PSK-1: PSK-2 with its MAC_P; None if its user isn't known.
+/// `FieldMismatch`: its RAND_S is not the server's.
+pub fn asked_reads<'a>(
     own: &Begun,
-    next_id: u8,
-    psk2: &Psk2,
-    id_p: &[u8],
-    users: &Users,
-    packet: &mut Packet,
-    tags: &mut Tags,
-) -> Result<Option<Login>, Cause>
-    requires size { length id_p.now ≤ max_name }
+    response: &'a [u8],
+    users: &'a Users,
+) -> Result<Option<Psk2<'a>>, Cause>
+    requires size { 5 ≤ length response.now }
     requires keys { All (λ user. IsTrue (fits_kind user.kind user.psk)) users.now }
-    requires none { tags.old ≡ no_tags }
-    ensures left { asked_left own.now packet.new tags.new result
-        ≡ left_by (hears_psk2 users.now own.now.side own.now.nonce next_id psk2.now.rand_s psk2.now.rand_p psk2.now.mac id_p.now) }
-    ensures room { IfOk result (λ found. IfSome found (λ login. HasRoom packet.new)) }
+    ensures { (next_id : ℕ) → asked_with own.now next_id result
+        ≡ asked_reads users.now own.now.side own.now.nonce next_id (read_of (body_of response.now)) }
 {
-    if psk2.rand_s.as_slice() == rand_of(&own.nonce).as_slice() {
-        find(own, next_id, psk2, id_p, users, packet, tags)
-    } else {
-        Err(Cause::FieldMismatch)
+    match message_in(response) {
+        Err(cause) => Err(cause),
+        Ok(
+            PskView::P2 {
+                rand_s,
+                rand_p,
+                mac,
+                id_p,
+            },
+        ) => {
+            if rand_s.as_slice() == rand_of(&own.nonce).as_slice() {
+                find(own, rand_p, mac, id_p, users)
+            } else {
+                Err(Cause::FieldMismatch)
+            }
+        }
+        Ok(_) => Err(Cause::WrongOp),
     }
 }

@@ -1,19 +1,19 @@
 //! Checking PSK-4, which ends the login (RFC 4764 section 5.4).
 
-ghost use Rattle.std.specs.Prelude.{◌≡◌, ◌≤◌, ◌∷◌, [], length, not, None, Ok};
+ghost use Rattle.std.specs.Prelude.{◌≡◌, ℕ, ◌≤◌, List, ◌∷◌, [], length, not};
 ghost use Rattle.eap_packet.specs.declared.cause.Cause.TheVariants.{BadTag};
-ghost use Rattle.eap_method.specs.Tags.{no_tags};
-ghost use Rattle.eap_method.specs.declared.tags.Tags.{Tags};
 ghost use Rattle.eap_method.specs.Turns.{fault_if};
 ghost use Rattle.eap_method.specs.PskTags.{opened, is_sealed, result_fault, result_of, tek_record};
-ghost use Rattle.eap_method.specs.PskServer.{keys_of, psk4_fault, ends};
+ghost use Rattle.eap_method.specs.PskServer.{keys_of, psk4_fault, both_succeed, ends};
 ghost use Rattle.psk_ends.specs.Checks.{checked};
-ghost use Rattle.psk_ends.specs.ServerStage.{left_by, checked_left};
+ghost use Rattle.psk_ends.specs.ServerStage.{in_known, outcome_with};
+ghost use Rattle.psk_ends.specs.declared.server.stage.KnownPhase.TheVariants.{Checked};
 
 use crate::channel::{DONE_SUCCESS, Sealed, check_result, open};
 use crate::records::add_channel;
 use crate::server::login::Login;
-use eap_method::{TagList, Tags};
+use crate::server::stage::KnownPhase;
+use eap_method::{ServerTurn, TagList, Tags};
 use eap_packet::Cause;
 
 /// The fields of PSK-4.
@@ -54,9 +54,8 @@ fn check_psk4(login: &Login, header: &[u8], psk4: &Psk4) -> Result<u8, Cause>
 }
 
 /// Whether the login ends with success: both sides have sent it.
-#[tactic(auto, unfolding(eap_method::specs::PskServer::ends))]
 fn end(login: &Login, octet: u8) -> bool
-    ensures { (tags : Tags) → tags.made ≡ [] → checked_left login.now tags (Ok result) ≡ left_by (ends login.now (result_of octet) tags.accepted None) }
+    ensures { result ≡ both_succeed login.now (result_of octet) }
 {
     login.r() == DONE_SUCCESS && octet / 64 == DONE_SUCCESS
 }
@@ -74,21 +73,30 @@ fn add_psk4(login: &Login, header: &[u8], psk4: &Psk4, accepted: &mut TagList)
     add_channel(accepted, login.psk(), 1, header, &channel);
 }
 
-/// PSK-4, with this header: whether the login succeeded, if it has no fault.
-#[tactic(auto, using(crate::proofs::ServerChecks::left_faultless))]
-pub fn hears_psk4(login: &Login, header: &[u8], psk4: &Psk4, tags: &mut Tags) -> Result<bool, Cause>
+/// PSK-4, with this header: it ends the login, if it has no fault.
+#[tactic(auto, using(crate::proofs::ServerChecks::is_end))]
+pub fn hears_psk4(
+    login: &Login,
+    phase: &mut KnownPhase,
+    header: &[u8],
+    psk4: &Psk4,
+    tags: &mut Tags,
+) -> ServerTurn
     requires header { length header.now ≤ 22 }
-    requires none { tags.old ≡ no_tags }
-    ensures { checked_left login.now tags.new result ≡ left_by (ends login.now
+    requires awaits { phase.old ≡ Checked }
+    ensures { (packet : List ℕ) → outcome_with result packet tags.new (in_known phase.new login.now) ≡ ends login.now
         (result_of (opened (keys_of login.now).tek 1 psk4.now.sealed))
         (tek_record login.now.psk 1 header.now psk4.now.sealed psk4.now.tag ∷ [])
-        (psk4_fault login.now header.now psk4.now.rand_s psk4.now.nonce psk4.now.tag psk4.now.sealed)) }
+        (psk4_fault login.now header.now psk4.now.rand_s psk4.now.nonce psk4.now.tag psk4.now.sealed) }
 {
     match check_psk4(login, header, psk4) {
-        Err(cause) => Err(cause),
+        Err(cause) => ServerTurn::Discard(cause),
         Ok(octet) => {
+            tags.clear();
             add_psk4(login, header, psk4, &mut tags.accepted);
-            Ok(end(login, octet))
+            let success = end(login, octet);
+            *phase = KnownPhase::Over { success };
+            ServerTurn::Done { success }
         }
     }
 }

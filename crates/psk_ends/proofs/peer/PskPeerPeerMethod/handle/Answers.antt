@@ -2,5 +2,5 @@ use Rattle.eap_base.specs.Among.{psk_kind}
 use Rattle.psk_ends.proofs.Requests.{holds_a_type}
 use Rattle.psk_ends.proofs.peer.PskPeerPeerMethod.handle.Goals as goal
 
-pub take-requires-clause-size : goal.take-requires-clause-size
-take-requires-clause-size c = holds_a_type psk_kind c.args.request.now c.requires
+pub hears_request-requires : goal.hears_request-requires
+hears_request-requires c = holds_a_type psk_kind c.args.request.now c.requires

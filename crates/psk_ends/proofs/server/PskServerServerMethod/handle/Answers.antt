@@ -2,5 +2,5 @@ use Rattle.eap_base.specs.Among.{psk_kind}
 use Rattle.psk_ends.proofs.Requests.{response_holds_a_type}
 use Rattle.psk_ends.proofs.server.PskServerServerMethod.handle.Goals as goal
 
-pub take-requires-clause-size : goal.take-requires-clause-size
-take-requires-clause-size c = response_holds_a_type psk_kind c.args.response.now c.requires.response
+pub hears_response-requires-clause-size : goal.hears_response-requires-clause-size
+hears_response-requires-clause-size c = response_holds_a_type psk_kind c.args.response.now c.requires.response
