@@ -11,8 +11,8 @@ mod turns;
 
 use crate::nonces::Nonces;
 use crate::peer::login::Begun;
-use crate::peer::stage::Stage;
-use crate::peer::turns::take;
+use crate::peer::stage::{Phase, Stage};
+use crate::peer::turns::hears_request;
 use eap_base::{GPSK_KIND, Nonce, Packet};
 use eap_method::{Credential, PeerMethod, PeerTurn, Report, Tags};
 use std::marker::Model;
@@ -51,14 +51,26 @@ impl GpskPeer {
     pub fn nonces(&self) -> Option<Nonces>
         ensures { result ≡ peer_nonces self.now }
     {
-        self.stage.nonces()
+        match &self.stage {
+            Stage::Login {
+                login,
+                phase: Phase::Over { good: true },
+            } => Some(login.nonces()),
+            _ => None,
+        }
     }
 
     /// Whether the login has failed: GPSK-Fail or GPSK-Protected-Fail came (RFC 5433 section 10).
     pub fn has_failed(&self) -> bool
         ensures { result ≡ peer_has_failed self.now }
     {
-        self.stage.has_failed()
+        matches!(
+            &self.stage,
+            Stage::Login {
+                phase: Phase::Over { good: false },
+                ..
+            }
+        )
     }
 }
 
@@ -82,7 +94,7 @@ impl PeerMethod for GpskPeer {
 
     #[tactic(auto, unfolding(eap_method::specs::Peer::peer_step))]
     fn handle(&mut self, request: &[u8], packet: &mut Packet, tags: &mut Tags) -> PeerTurn {
-        match take(&mut self.stage, request, packet, tags) {
+        match hears_request(&mut self.stage, request, packet, tags) {
             PeerTurn::Discard(cause) => {
                 tags.clear();
                 PeerTurn::Discard(cause)
@@ -93,6 +105,12 @@ impl PeerMethod for GpskPeer {
 
     #[tactic(auto, unfolding(eap_method::specs::Peer::peer_report))]
     fn report(&self) -> Option<Report> {
-        self.stage.report()
+        match &self.stage {
+            Stage::Login {
+                login,
+                phase: Phase::Over { good: true },
+            } => Some(login.report()),
+            _ => None,
+        }
     }
 }

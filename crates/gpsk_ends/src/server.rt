@@ -10,8 +10,8 @@ mod turns;
 
 use crate::nonces::Nonces;
 use crate::server::login::Begun;
-use crate::server::stage::{Alone, Stage};
-use crate::server::turns::{ask, take};
+use crate::server::stage::{Alone, Phase, Stage};
+use crate::server::turns::{ask, hears_response};
 use eap_base::{GPSK_KIND, Nonce, Packet};
 use eap_method::{Report, ServerMethod, ServerSide, ServerTurn, Tags};
 use login_setup::Users;
@@ -51,21 +51,39 @@ impl GpskServer {
     pub fn nonces(&self) -> Option<Nonces>
         ensures { result ≡ server_nonces self.now }
     {
-        self.stage.nonces()
+        match &self.stage {
+            Stage::Login {
+                login,
+                phase: Phase::Over { good: true },
+            } => Some(login.nonces()),
+            _ => None,
+        }
     }
 
     /// Whether it has sent GPSK-Fail to a user that it doesn't know (RFC 5433 section 10).
     pub fn is_unknown(&self) -> bool
         ensures { result ≡ is_unknown self.now }
     {
-        self.stage.is_unknown()
+        matches!(
+            &self.stage,
+            Stage::Alone {
+                phase: Alone::Refusing | Alone::Refused,
+                ..
+            }
+        )
     }
 
     /// Whether it has sent GPSK-Protected-Fail to a user that it knows, who is barred.
     pub fn has_failed(&self) -> bool
         ensures { result ≡ server_has_failed self.now }
     {
-        self.stage.has_failed()
+        matches!(
+            &self.stage,
+            Stage::Login {
+                phase: Phase::Barring | Phase::Over { good: false },
+                ..
+            }
+        )
     }
 }
 
@@ -102,7 +120,7 @@ impl ServerMethod for GpskServer {
         packet: &mut Packet,
         tags: &mut Tags,
     ) -> ServerTurn {
-        match take(&mut self.stage, response, next_id, users, packet, tags) {
+        match hears_response(&mut self.stage, response, next_id, users, packet, tags) {
             ServerTurn::Discard(cause) => {
                 tags.clear();
                 ServerTurn::Discard(cause)
@@ -114,6 +132,12 @@ impl ServerMethod for GpskServer {
 
     #[tactic(auto, unfolding(eap_method::specs::Server::server_report))]
     fn report(&self) -> Option<Report> {
-        self.stage.report()
+        match &self.stage {
+            Stage::Login {
+                login,
+                phase: Phase::Over { good: true },
+            } => Some(login.report()),
+            _ => None,
+        }
     }
 }

@@ -3,11 +3,9 @@
 ghost use Rattle.std.specs.Prelude.{◌≡◌, ◌≤◌, ℕ, length, None};
 ghost use Rattle.eap_base.specs.Sizes.{max_name};
 ghost use Rattle.eap_packet.specs.Packet.{max_type_data};
-ghost use Rattle.gpsk_messages.specs.Message.{message_of};
 ghost use Rattle.gpsk_messages.specs.Reading.{read_of};
 ghost use Rattle.login_policy.specs.Policy.{picked_suite};
-ghost use Rattle.eap_method.specs.GpskPeer.{picks, hears_gpsk1, fresh_hears, fresh_reads};
-ghost use Rattle.gpsk_ends.specs.Heard.{IsHeard};
+ghost use Rattle.eap_method.specs.GpskPeer.{picks, fresh_reads};
 ghost use Rattle.gpsk_ends.specs.PeerStage.{offered};
 
 use crate::hearing::hear;
@@ -20,59 +18,37 @@ use login_policy::pick_suite;
 
 /// GPSK-1 of a server that the peer accepts: the first suite of the list that it allows is picked.
 /// `NoSuite`: there is none.
-fn pick<'a>(own: &Begun, id_s: &'a [u8], rand_s: &Nonce, list: &'a [u8]) -> Result<Offer<'a>, Cause>
+fn pick<'a>(own: &Begun, id_s: &'a [u8], rand_s: Nonce, list: &'a [u8]) -> Result<Offer<'a>, Cause>
     requires name { length id_s.now ≤ max_name }
     requires few { length list.now ≤ 120 }
     ensures { (id : ℕ) → offered own.now.cred own.now.nonce id result
-        ≡ picks own.now.cred own.now.nonce id id_s.now rand_s.now list.now (picked_suite own.now.cred.suites list.now) }
+        ≡ picks own.now.cred own.now.nonce id id_s.now rand_s list.now (picked_suite own.now.cred.suites list.now) }
 {
     match pick_suite(&own.cred.suites, list) {
         None => Err(Cause::NoSuite),
         Some(suite) => Ok(Offer {
             id_s,
-            rand_s: *rand_s,
+            rand_s,
             list,
             suite,
         }),
     }
 }
 
-/// GPSK-1. `UnknownServer`: the peer does not accept the server's name.
-fn hears_gpsk1<'a>(
-    own: &Begun,
-    id_s: &'a [u8],
-    rand_s: &Nonce,
-    list: &'a [u8],
-) -> Result<Offer<'a>, Cause>
-    requires name { length id_s.now ≤ max_name }
-    requires few { length list.now ≤ 120 }
-    ensures { (id : ℕ) → offered own.now.cred own.now.nonce id result ≡ hears_gpsk1 own.now.cred own.now.nonce id id_s.now rand_s.now list.now }
-{
-    if own.cred.accepts.takes(id_s) {
-        pick(own, id_s, rand_s, list)
-    } else {
-        Err(Cause::UnknownServer)
-    }
-}
-
-/// A message at a peer that has begun.
-fn fresh_hears<'a>(own: &Begun, view: &GpskView<'a>, body: &[u8]) -> Result<Offer<'a>, Cause>
-    requires { IsHeard (message_of view.now) body.now }
-    ensures { (id : ℕ) → offered own.now.cred own.now.nonce id result ≡ fresh_hears own.now.cred own.now.nonce id (message_of view.now) }
-{
-    match view {
-        GpskView::M1 { id_s, rand_s, list } => hears_gpsk1(own, id_s, rand_s, list),
-        _ => Err(Cause::WrongOp),
-    }
-}
-
-/// The Type-Data at a peer that has begun.
+/// The Type-Data at a peer that has begun. `UnknownServer`: it does not accept the server's name.
 pub fn fresh_reads<'a>(own: &Begun, body: &'a [u8]) -> Result<Offer<'a>, Cause>
     requires { length body.now ≤ max_type_data }
     ensures { (id : ℕ) → offered own.now.cred own.now.nonce id result ≡ fresh_reads own.now.cred own.now.nonce id (read_of None body.now) }
 {
     match hear(body, None) {
         Err(cause) => Err(cause),
-        Ok(view) => fresh_hears(own, &view, body),
+        Ok(GpskView::M1 { id_s, rand_s, list }) => {
+            if own.cred.accepts.takes(id_s) {
+                pick(own, id_s, rand_s, list)
+            } else {
+                Err(Cause::UnknownServer)
+            }
+        }
+        Ok(_) => Err(Cause::WrongOp),
     }
 }

@@ -29,19 +29,6 @@ pub struct Begun {
     ghost long_enough: { 32 ≤ length cred.psk },
 }
 
-impl Begun {
-    /// An equal value.
-    fn copy(&self) -> Begun
-        ensures cred { result.cred ≡ self.now.cred }
-        ensures nonce { result.nonce ≡ self.now.nonce }
-    {
-        Begun {
-            cred: self.cred.copy(),
-            nonce: self.nonce,
-        }
-    }
-}
-
 /// A login after GPSK-1, with its keys. Contracts see the login alone: its keys are those that it has
 /// by its definition.
 #[derive(Drop)]
@@ -81,7 +68,10 @@ impl Login {
         let rand_s = &offer.rand_s;
         let keys = Keys::new(offer.suite, psk, &own.nonce, id_p, rand_s, offer.id_s);
         Login {
-            own: own.copy(),
+            own: Begun {
+                cred: own.cred.copy(),
+                nonce: own.nonce,
+            },
             id_s: Octets::of(offer.id_s),
             rand_s: offer.rand_s,
             keys,

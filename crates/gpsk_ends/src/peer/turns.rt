@@ -9,7 +9,7 @@ ghost use Rattle.gpsk_messages.specs.Message.{message_of};
 ghost use Rattle.gpsk_messages.specs.Reading.{read_of};
 ghost use Rattle.eap_method.specs.Turns.{fault_if, discarded};
 ghost use Rattle.eap_method.specs.GpskPeer.{answers, over, over_reads, step};
-ghost use Rattle.eap_method.specs.GpskPeer.{confirms, repeats_fail, repeats_protected, is_tagged_by, wait_hears, wait_reads};
+ghost use Rattle.eap_method.specs.GpskPeer.{confirms, repeats_fail, repeats_protected, is_tagged_by, wait_reads};
 ghost use Rattle.eap_method.specs.Room.{HasRoom, replies};
 ghost use Rattle.gpsk_ends.specs.Heard.{IsHeard};
 ghost use Rattle.gpsk_ends.specs.PeerStage.{view_in, view_of, outcome_with, login_with};
@@ -124,46 +124,9 @@ fn repeat_protected(
     }
 }
 
-/// A message at a peer that has sent GPSK-2. `FieldMismatch`: GPSK-3 does not repeat the fields of the
-/// login.
+/// The Type-Data at a peer that has sent GPSK-2. `FieldMismatch`: GPSK-3 does not repeat the fields of
+/// the login.
 #[tactic(auto, unfolding(eap_method::specs::GpskPeer::confirms))]
-fn wait_hears(
-    login: &Login,
-    phase: &mut Phase,
-    id: u8,
-    view: &GpskView,
-    body: &[u8],
-    packet: &mut Packet,
-    tags: &mut Tags,
-) -> PeerTurn
-    requires heard { IsHeard (message_of view.now) body.now }
-    requires waits { phase.old ≡ Wait }
-    ensures turn { outcome_with result packet.new tags.new (view_in login.now phase.new) ≡ wait_hears login.now id (message_of view.now) }
-    ensures room { replies result ≡ true → HasRoom packet.new }
-{
-    match view {
-        GpskView::M3 {
-            rand_p,
-            rand_s,
-            id_s,
-            suite,
-            ..
-        } => {
-            if login.repeats(rand_p, rand_s, id_s, *suite) {
-                confirm(login, phase, id, view, body, packet, tags)
-            } else {
-                PeerTurn::Discard(Cause::FieldMismatch)
-            }
-        }
-        GpskView::Fail { code } => repeat_fail(login, phase, id, *code, packet, tags),
-        GpskView::ProtectedFail { code, .. } => {
-            repeat_protected(login, phase, id, *code, view, body, packet, tags)
-        }
-        _ => PeerTurn::Discard(Cause::WrongOp),
-    }
-}
-
-/// The Type-Data at a peer that has sent GPSK-2.
 fn wait_reads(
     login: &Login,
     phase: &mut Phase,
@@ -180,7 +143,26 @@ fn wait_reads(
 {
     match hear(body, Some(login.suite())) {
         Err(cause) => PeerTurn::Discard(cause),
-        Ok(view) => wait_hears(login, phase, id, &view, body, packet, tags),
+        Ok(view) => match view {
+            GpskView::M3 {
+                rand_p,
+                rand_s,
+                id_s,
+                suite,
+                ..
+            } => {
+                if login.repeats(&rand_p, &rand_s, id_s, suite) {
+                    confirm(login, phase, id, &view, body, packet, tags)
+                } else {
+                    PeerTurn::Discard(Cause::FieldMismatch)
+                }
+            }
+            GpskView::Fail { code } => repeat_fail(login, phase, id, code, packet, tags),
+            GpskView::ProtectedFail { code, .. } => {
+                repeat_protected(login, phase, id, code, &view, body, packet, tags)
+            }
+            _ => PeerTurn::Discard(Cause::WrongOp),
+        },
     }
 }
 
@@ -197,7 +179,12 @@ fn over_cause(login: &Login, good: bool, body: &[u8]) -> Cause
 
 /// The turn for the octets of a Request of Type 51. After a discard `packet` and `tags` are unspecified.
 #[tactic(auto, unfolding(eap_method::specs::GpskPeer::step))]
-pub fn take(stage: &mut Stage, request: &[u8], packet: &mut Packet, tags: &mut Tags) -> PeerTurn
+pub fn hears_request(
+    stage: &mut Stage,
+    request: &[u8],
+    packet: &mut Packet,
+    tags: &mut Tags,
+) -> PeerTurn
     requires header { 5 ≤ length request.now }
     requires size { length request.now ≤ max_packet }
     ensures turn { outcome_with result packet.new tags.new (view_of stage.new) ≡ step (view_of stage.old) request.now }

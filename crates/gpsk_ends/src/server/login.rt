@@ -37,16 +37,6 @@ impl Begun {
     ghost use Rattle.eap_method.specs.GpskTags.{suite_list};
     ghost use Rattle.eap_method.specs.GpskServer.{first, repeats};
 
-    /// An equal value.
-    fn copy(&self) -> Begun
-        ensures { result ≡ self.now }
-    {
-        Begun {
-            side: self.side.copy(),
-            nonce: self.nonce,
-        }
-    }
-
     /// CSuite_List: the entry of each suite that the server offers, in six octets (RFC 5433 section 9.2).
     #[tactic(auto, unfolding(eap_method::specs::GpskTags::suite_list))]
     fn suite_list(&self) -> Octets<12>
@@ -133,7 +123,10 @@ impl Login {
         let id_s = own.side.id_s.as_slice();
         let keys = Keys::new(suite, &user.psk, rand_p, id_p, &own.nonce, id_s);
         Login {
-            own: own.copy(),
+            own: Begun {
+                side: own.side.copy(),
+                nonce: own.nonce,
+            },
             id_p: Octets::of(id_p),
             psk: user.psk.copy(),
             rand_p: *rand_p,

@@ -9,8 +9,8 @@ ghost use Rattle.gpsk_messages.specs.Message.{message_of};
 ghost use Rattle.gpsk_messages.specs.Reading.{read_of};
 ghost use Rattle.eap_method.specs.declared.values.ServerSide.{ServerSide};
 ghost use Rattle.eap_method.specs.GpskTags.{sk_record};
-ghost use Rattle.eap_method.specs.GpskServer.{View, is_begun, first_step, refusing_hears, refusing_reads, over, idle_reads, step};
-ghost use Rattle.eap_method.specs.GpskServer.{barring_hears, barring_reads, checked_hears, checked_reads};
+ghost use Rattle.eap_method.specs.GpskServer.{View, is_begun, first_step, refusing_reads, over, idle_reads, step};
+ghost use Rattle.eap_method.specs.GpskServer.{barring_reads, checked_reads};
 ghost use Rattle.eap_method.specs.Room.{HasRoom, requests};
 ghost use Rattle.eap_method.specs.Turns.{done, dropped};
 ghost use Rattle.gpsk_ends.specs.Heard.{IsHeard};
@@ -46,28 +46,8 @@ pub fn ask(stage: &mut Stage, id: u8, packet: &mut Packet)
     }
 }
 
-/// A message at a server that has sent GPSK-Fail: the same failure ends the method. `FieldMismatch`: it
-/// is another.
-fn refusing_hears(view: &GpskView, phase: &mut Alone, tags: &mut Tags) -> ServerTurn
-    requires { phase.old ≡ Refusing }
-    ensures { (own : ServerSide) (nonce packet : List ℕ) →
-        outcome_with result packet tags.new (view_alone own nonce phase.new) ≡ refusing_hears own nonce (message_of view.now) }
-{
-    match view {
-        GpskView::Fail { code } => {
-            if *code == PSK_NOT_FOUND {
-                tags.clear();
-                *phase = Alone::Refused;
-                ServerTurn::Done { success: false }
-            } else {
-                ServerTurn::Discard(Cause::FieldMismatch)
-            }
-        }
-        _ => ServerTurn::Discard(Cause::WrongOp),
-    }
-}
-
-/// The Type-Data at a server that has sent GPSK-Fail.
+/// The Type-Data at a server that has sent GPSK-Fail: the same failure ends the method. `FieldMismatch`:
+/// it is another.
 fn refusing_reads(body: &[u8], phase: &mut Alone, tags: &mut Tags) -> ServerTurn
     requires size { length body.now ≤ max_type_data }
     requires awaits { phase.old ≡ Refusing }
@@ -76,7 +56,16 @@ fn refusing_reads(body: &[u8], phase: &mut Alone, tags: &mut Tags) -> ServerTurn
 {
     match hear(body, None) {
         Err(cause) => ServerTurn::Discard(cause),
-        Ok(view) => refusing_hears(&view, phase, tags),
+        Ok(GpskView::Fail { code }) => {
+            if code == PSK_NOT_FOUND {
+                tags.clear();
+                *phase = Alone::Refused;
+                ServerTurn::Done { success: false }
+            } else {
+                ServerTurn::Discard(Cause::FieldMismatch)
+            }
+        }
+        Ok(_) => ServerTurn::Discard(Cause::WrongOp),
     }
 }
 
@@ -100,35 +89,9 @@ fn end(
     ServerTurn::Done { success }
 }
 
-/// A message at a server that has sent GPSK-Protected-Fail: the same failure ends the method.
+/// The Type-Data at a server that has sent GPSK-Protected-Fail: the same failure ends the method.
 /// `FieldMismatch`: it is another. `BadTag`: its MAC is wrong.
 #[tactic(auto, unfolding(eap_method::specs::GpskServer::ends))]
-fn barring_hears(
-    login: &Login,
-    phase: &mut Phase,
-    view: &GpskView,
-    body: &[u8],
-    tags: &mut Tags,
-) -> ServerTurn
-    requires heard { IsHeard (message_of view.now) body.now }
-    requires awaits { phase.old ≡ Barring }
-    ensures { (packet : List ℕ) → outcome_with result packet tags.new (view_in login.now phase.new) ≡ barring_hears login.now (message_of view.now) }
-{
-    match view {
-        GpskView::ProtectedFail { code, .. } => {
-            if *code != AUTHORIZATION_FAILURE {
-                ServerTurn::Discard(Cause::FieldMismatch)
-            } else if login.is_tagged(view, body) {
-                end(login, phase, false, view, body, tags)
-            } else {
-                ServerTurn::Discard(Cause::BadTag)
-            }
-        }
-        _ => ServerTurn::Discard(Cause::WrongOp),
-    }
-}
-
-/// The Type-Data at a server that has sent GPSK-Protected-Fail.
 fn barring_reads(login: &Login, phase: &mut Phase, body: &[u8], tags: &mut Tags) -> ServerTurn
     requires size { length body.now ≤ max_type_data }
     requires awaits { phase.old ≡ Barring }
@@ -137,37 +100,24 @@ fn barring_reads(login: &Login, phase: &mut Phase, body: &[u8], tags: &mut Tags)
 {
     match hear(body, Some(login.suite())) {
         Err(cause) => ServerTurn::Discard(cause),
-        Ok(view) => barring_hears(login, phase, &view, body, tags),
-    }
-}
-
-/// A message at a server that has sent GPSK-3: GPSK-4 ends the method with success. `BadTag`: its MAC is
-/// wrong.
-#[tactic(auto, unfolding(eap_method::specs::GpskServer::ends))]
-fn checked_hears(
-    login: &Login,
-    phase: &mut Phase,
-    view: &GpskView,
-    body: &[u8],
-    tags: &mut Tags,
-) -> ServerTurn
-    requires heard { IsHeard (message_of view.now) body.now }
-    requires awaits { phase.old ≡ Checked }
-    ensures { (packet : List ℕ) → outcome_with result packet tags.new (view_in login.now phase.new) ≡ checked_hears login.now (message_of view.now) }
-{
-    match view {
-        GpskView::M4 { .. } => {
-            if login.is_tagged(view, body) {
-                end(login, phase, true, view, body, tags)
-            } else {
-                ServerTurn::Discard(Cause::BadTag)
+        Ok(view) => match view {
+            GpskView::ProtectedFail { code, .. } => {
+                if code != AUTHORIZATION_FAILURE {
+                    ServerTurn::Discard(Cause::FieldMismatch)
+                } else if login.is_tagged(&view, body) {
+                    end(login, phase, false, &view, body, tags)
+                } else {
+                    ServerTurn::Discard(Cause::BadTag)
+                }
             }
-        }
-        _ => ServerTurn::Discard(Cause::WrongOp),
+            _ => ServerTurn::Discard(Cause::WrongOp),
+        },
     }
 }
 
-/// The Type-Data at a server that has sent GPSK-3.
+/// The Type-Data at a server that has sent GPSK-3: GPSK-4 ends the method with success. `BadTag`: its MAC
+/// is wrong.
+#[tactic(auto, unfolding(eap_method::specs::GpskServer::ends))]
 fn checked_reads(login: &Login, phase: &mut Phase, body: &[u8], tags: &mut Tags) -> ServerTurn
     requires size { length body.now ≤ max_type_data }
     requires awaits { phase.old ≡ Checked }
@@ -176,7 +126,16 @@ fn checked_reads(login: &Login, phase: &mut Phase, body: &[u8], tags: &mut Tags)
 {
     match hear(body, Some(login.suite())) {
         Err(cause) => ServerTurn::Discard(cause),
-        Ok(view) => checked_hears(login, phase, &view, body, tags),
+        Ok(view) => match view {
+            GpskView::M4 { .. } => {
+                if login.is_tagged(&view, body) {
+                    end(login, phase, true, &view, body, tags)
+                } else {
+                    ServerTurn::Discard(Cause::BadTag)
+                }
+            }
+            _ => ServerTurn::Discard(Cause::WrongOp),
+        },
     }
 }
 
@@ -207,7 +166,7 @@ fn login_reads(login: &Login, phase: &mut Phase, body: &[u8], tags: &mut Tags) -
 
 /// The turn for the octets of a Response of Type 51. After a discard `packet` and `tags` are unspecified.
 #[tactic(auto, unfolding(eap_method::specs::GpskServer::step))]
-pub fn take(
+pub fn hears_response(
     stage: &mut Stage,
     response: &[u8],
     next_id: u8,

@@ -2,8 +2,8 @@ use Rattle.eap_base.specs.Among.{gpsk_kind}
 use Rattle.gpsk_ends.proofs.Requests.{response_holds_a_type, response_fits}
 use Rattle.gpsk_ends.proofs.server.GpskServerServerMethod.handle.Goals as goal
 
-pub take-requires-clause-header : goal.take-requires-clause-header
-take-requires-clause-header c = response_holds_a_type gpsk_kind c.args.response.now c.requires.response
+pub hears_response-requires-clause-header : goal.hears_response-requires-clause-header
+hears_response-requires-clause-header c = response_holds_a_type gpsk_kind c.args.response.now c.requires.response
 
-pub take-requires-clause-size : goal.take-requires-clause-size
-take-requires-clause-size c = response_fits gpsk_kind c.args.response.now c.requires.response
+pub hears_response-requires-clause-size : goal.hears_response-requires-clause-size
+hears_response-requires-clause-size c = response_fits gpsk_kind c.args.response.now c.requires.response

@@ -1,6 +1,6 @@
 use Rattle.std.proofs.Common.{ap}
 use Rattle.eap_method.proofs.Rooms.{sends_nothing}
-use Rattle.gpsk_ends.proofs.server.turns.take.Goals as goal
+use Rattle.gpsk_ends.proofs.server.turns.hears_response.Goals as goal
 
 pub returns-in-Refusing-clause-room : goal.returns-in-Refusing-clause-room
 returns-in-Refusing-clause-room c = λ sent.
