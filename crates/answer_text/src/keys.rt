@@ -1,6 +1,5 @@
 //! Ciphers, MACs and keys that are asked for, each in a line with its name.
 
-ghost use Rattle.std.specs.Prelude.{◌≤◌, length};
 ghost use Rattle.eax_mode.specs.Eax.{eax_sealed};
 ghost use Rattle.answer_text.specs.Writes.{Appends};
 ghost use Rattle.request_text.specs.Keys.{HasSizes};
@@ -10,15 +9,17 @@ use crate::pieces::Piece::{Hex, Text};
 use crate::pieces::write_pieces;
 use aes_block::Aes128;
 use cmac_mac::cmac_whole;
+use eap_base::Octets;
 use eax_mode::eax_seal;
 use hmac_mac::hmac_whole;
 use login_keys::{GpskKeys, PskKeys, PskLong, gpsk_keys, key_name, psk_long, psk_session};
 use octet_io::{Failed, Sink};
 use request_text::KeyLine;
 
-/// Writes a name and octets in hex, `-` if there are none, in one line.
+/// Writes a name and octets in hex, `-` if there are none, in one line. `Failed`: a write failed, and a prefix of the
+/// line was appended.
 #[tactic(auto, unfolding(crate::specs::Keys::hex_line))]
-fn write_hex_line<'a, W: Sink>(sink: &mut W, name: &'a str, octets: &'a [u8]) -> Result<(), Failed>
+pub fn write_hex<'a, W: Sink>(sink: &mut W, name: &'a str, octets: &'a [u8]) -> Result<(), Failed>
     ensures { Appends W.shown result sink.old sink.new (hex_line name.now octets.now) }
 {
     write_pieces(
@@ -67,17 +68,16 @@ fn write_sealed<W: Sink>(
 fn write_eax<W: Sink>(
     sink: &mut W,
     key: &[u8; 16],
-    nonce: &[u8],
-    header: &[u8],
-    text: &[u8],
+    nonce: &Octets<2000>,
+    header: &Octets<2000>,
+    text: &Octets<2000>,
 ) -> Result<(), Failed>
-    requires { length text.now ≤ 2000 }
     ensures { Appends W.shown result sink.old sink.new (sealed_text (eax_sealed key.now nonce.now header.now text.now)) }
 {
     let mut room = [0; 2000];
     let copy = &mut room[..text.len()];
-    copy.copy_from_slice(text);
-    write_sealed(sink, key, nonce, header, copy)
+    copy.copy_from_slice(text.as_slice());
+    write_sealed(sink, key, nonce.as_slice(), header.as_slice(), copy)
 }
 
 /// Writes the keys that both methods export (RFC 3748 section 7.10).
@@ -85,8 +85,8 @@ fn write_eax<W: Sink>(
 fn write_exported<W: Sink>(sink: &mut W, msk: &[u8; 64], emsk: &[u8; 64]) -> Result<(), Failed>
     ensures { Appends W.shown result sink.old sink.new (exported_text msk.now emsk.now) }
 {
-    write_hex_line(sink, "msk", msk)?;
-    write_hex_line(sink, "emsk", emsk)
+    write_hex(sink, "msk", msk)?;
+    write_hex(sink, "emsk", emsk)
 }
 
 /// Writes the keys of an EAP-GPSK login.
@@ -94,10 +94,10 @@ fn write_exported<W: Sink>(sink: &mut W, msk: &[u8; 64], emsk: &[u8; 64]) -> Res
 fn write_gpsk_keys<W: Sink>(sink: &mut W, keys: &GpskKeys) -> Result<(), Failed>
     ensures { Appends W.shown result sink.old sink.new (gpsk_text keys.now) }
 {
-    write_hex_line(sink, "mk", keys.mk.as_slice())?;
+    write_hex(sink, "mk", keys.mk.as_slice())?;
     write_exported(sink, &keys.msk, &keys.emsk)?;
-    write_hex_line(sink, "sk", keys.sk.as_slice())?;
-    write_hex_line(sink, "pk", keys.pk.as_slice())
+    write_hex(sink, "sk", keys.sk.as_slice())?;
+    write_hex(sink, "pk", keys.pk.as_slice())
 }
 
 /// Writes the long-lived keys of EAP-PSK (RFC 4764 section 3.1).
@@ -105,8 +105,8 @@ fn write_gpsk_keys<W: Sink>(sink: &mut W, keys: &GpskKeys) -> Result<(), Failed>
 fn write_psk_long<W: Sink>(sink: &mut W, long: &PskLong) -> Result<(), Failed>
     ensures { Appends W.shown result sink.old sink.new (long_text long.now) }
 {
-    write_hex_line(sink, "ak", &long.ak)?;
-    write_hex_line(sink, "kdk", &long.kdk)
+    write_hex(sink, "ak", &long.ak)?;
+    write_hex(sink, "kdk", &long.kdk)
 }
 
 /// Writes the keys of an EAP-PSK login (RFC 4764 section 3.2).
@@ -114,7 +114,7 @@ fn write_psk_long<W: Sink>(sink: &mut W, long: &PskLong) -> Result<(), Failed>
 fn write_psk_session<W: Sink>(sink: &mut W, keys: &PskKeys) -> Result<(), Failed>
     ensures { Appends W.shown result sink.old sink.new (session_text keys.now) }
 {
-    write_hex_line(sink, "tek", &keys.tek)?;
+    write_hex(sink, "tek", &keys.tek)?;
     write_exported(sink, &keys.msk, &keys.emsk)
 }
 
@@ -136,27 +136,19 @@ pub fn write_key_line<W: Sink>(sink: &mut W, asked: &KeyLine) -> Result<(), Fail
     ensures { Appends W.shown result sink.old sink.new (key_text asked.now) }
 {
     match asked {
-        KeyLine::Aes { key, block } => {
-            write_hex_line(sink, "aes", &Aes128::new(key).encrypt(block))
-        }
+        KeyLine::Aes { key, block } => { write_hex(sink, "aes", &Aes128::new(key).encrypt(block)) }
         KeyLine::Cmac { key, text } => {
-            write_hex_line(sink, "cmac", &cmac_whole(key, text.as_slice()))
+            write_hex(sink, "cmac", &cmac_whole(key, text.as_slice()))
         }
         KeyLine::Hmac { key, text } => {
-            write_hex_line(sink, "hmac", &hmac_whole(key.as_slice(), text.as_slice()))
+            write_hex(sink, "hmac", &hmac_whole(key.as_slice(), text.as_slice()))
         }
         KeyLine::Eax {
             key,
             nonce,
             header,
             text,
-        } => write_eax(
-            sink,
-            key,
-            nonce.as_slice(),
-            header.as_slice(),
-            text.as_slice(),
-        ),
+        } => write_eax(sink, key, nonce, header, text),
         KeyLine::Gpsk {
             suite,
             psk,
@@ -176,6 +168,6 @@ pub fn write_key_line<W: Sink>(sink: &mut W, asked: &KeyLine) -> Result<(), Fail
             write_gpsk_keys(sink, &keys)
         }
         KeyLine::Psk { psk, randp } => write_psk(sink, psk, randp),
-        KeyLine::Name { key } => write_hex_line(sink, "name", &key_name(key.as_slice())),
+        KeyLine::Name { key } => write_hex(sink, "name", &key_name(key.as_slice())),
     }
 }

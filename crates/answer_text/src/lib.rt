@@ -12,7 +12,7 @@ mod path;
 mod pieces;
 
 pub use finding::{write_finding, write_finding_counts};
-pub use keys::write_key_line;
+pub use keys::{write_hex, write_key_line};
 pub use line_buffer::LineBuffer;
 pub use lines::{write_line, write_refused};
 pub use packet::{write_packet, write_packet_counts};

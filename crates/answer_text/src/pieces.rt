@@ -72,12 +72,25 @@ fn put_octets<W: Sink>(sink: &mut W, line: &mut LineBuffer, octets: &[u8]) -> Re
     Ok(())
 }
 
+/// Appends octets to a line, which mostly has room for them. This is short, so that it is compiled into its callers.
+#[tactic(auto, using(crate::proofs::Putting::puts_held))]
+fn put_short<W: Sink>(sink: &mut W, line: &mut LineBuffer, octets: &[u8]) -> Result<(), Failed>
+    ensures { Puts W.shown result sink.old sink.new line.old line.new octets.now }
+{
+    if octets.len() <= line.room() {
+        line.append(octets);
+        Ok(())
+    } else {
+        put_octets(sink, line, octets)
+    }
+}
+
 /// Appends octets to a line, and writes it if they end it.
 #[tactic(auto, using(crate::proofs::Putting::puts_sent, crate::proofs::Putting::puts_front))]
 fn put_text<W: Sink>(sink: &mut W, line: &mut LineBuffer, octets: &[u8]) -> Result<(), Failed>
     ensures { Puts W.shown result sink.old sink.new line.old line.new octets.now }
 {
-    put_octets(sink, line, octets)?;
+    put_short(sink, line, octets)?;
     if octets.ends_with(&[LF]) {
         send(sink, line)
     } else {
@@ -125,7 +138,7 @@ pub fn put_number<W: Sink>(sink: &mut W, line: &mut LineBuffer, number: u64) -> 
     ensures { Puts W.shown result sink.old sink.new line.old line.new (decimal number) }
 {
     let mut buffer = Buffer::new();
-    put_octets(sink, line, buffer.format(number).as_bytes())
+    put_short(sink, line, buffer.format(number).as_bytes())
 }
 
 /// Appends a piece to a line, and writes it if the piece ends it.
