@@ -17,6 +17,7 @@ use Rattle.request_text.specs.declared.radius_line.ReplyKind.{ReplyKind}
 use Rattle.request_text.specs.declared.radius_line.ReplyKind.TheVariants as kind
 use Rattle.request_text.specs.declared.radius_line.RadiusItem.{RadiusItem}
 use Rattle.request_text.specs.declared.radius_line.RadiusItem.TheVariants as item
+use Rattle.answer_text.specs.Keys.{hex_line}
 use Rattle.answer_text.specs.Pieces.{hex_text}
 use Rattle.command_driver.specs.Answers.{Answer}
 use Rattle.command_driver.specs.Commands.{Took, Closing, goes, refuses, ends, misses, answer}
@@ -27,9 +28,6 @@ use Rattle.capture_commands.specs.declared.radius.Radius.{Radius}
 use Rattle.command_driver.specs.declared.status.Status.TheVariants as status
 
 -- ---- the lines that are written
-
-unfoldable pub hex_line : List ℕ → List ℕ → List ℕ
-hex_line word octets = concat (word ∷ codes " " ∷ hex_text octets ∷ codes "\n" ∷ [])
 
 unfoldable pub word_line : List ℕ → List ℕ → List ℕ
 word_line word next = concat (word ∷ codes " " ∷ next ∷ codes "\n" ∷ [])

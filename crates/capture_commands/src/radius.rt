@@ -7,11 +7,11 @@ ghost use Rattle.radius_carry.specs.Fault.{value_of};
 ghost use Rattle.answer_text.specs.Writes.{Appends};
 ghost use Rattle.command_driver.specs.Responding.{Responds, reading, never};
 ghost use Rattle.capture_commands.specs.Radius.{radius_answer};
-ghost use Rattle.capture_commands.specs.Radius.{code_of, good_or_bad, hex_line, judged, kept_after, kind_word, judgement_word, packet_line, read_text};
+ghost use Rattle.capture_commands.specs.Radius.{code_of, good_or_bad, judged, kept_after, kind_word, judgement_word, packet_line, read_text};
 ghost use Rattle.capture_commands.specs.Radius.{reply_judged, word_line};
 
 use answer_text::Piece::{Hex, Number, Text};
-use answer_text::write_pieces;
+use answer_text::{write_hex, write_pieces};
 use command_driver::{Close, Command, Next, Status, Trouble, drive};
 use eap_base::{Identity, Octets, Packet};
 use octet_io::{Failed, Sink, Source};
@@ -44,14 +44,6 @@ pub struct Radius {
     reader: RadiusReader,
     secret: Octets<64>,
     asked: Option<KeptRequest>,
-}
-
-/// Writes a word and octets in hex, in one line.
-#[tactic(auto, unfolding(crate::specs::Radius::hex_line))]
-fn write_hex<'a, W: Sink>(sink: &mut W, word: &'a [u8], octets: &'a [u8]) -> Result<(), Failed>
-    ensures { Appends W.shown result sink.old sink.new (hex_line word.now octets.now) }
-{
-    write_pieces(sink, &[Text(word), Text(b" "), Hex(octets), Text(b"\n")])
 }
 
 /// Writes two words in one line.
@@ -241,7 +233,7 @@ impl Radius {
             eap.as_slice(),
         );
         self.asked = Some(asked);
-        match write_hex(sink, b"request", packet.as_slice()) {
+        match write_hex(sink, "request", packet.as_slice()) {
             Ok(()) => Ok(Next::Goes),
             Err(_) => Err(Trouble::Write),
         }
@@ -270,7 +262,7 @@ impl Radius {
                     state.as_slice(),
                     eap.as_slice(),
                 );
-                write_hex(sink, b"reply", packet.as_slice())
+                write_hex(sink, "reply", packet.as_slice())
             }
         };
         match written {
