@@ -8,7 +8,7 @@ from typing import Callable, Dict, Iterable, Iterator, List, NamedTuple, Optiona
 
 from lib import rattle
 from lib.common import ROOT, Refused
-from lib.crates import names_of, text_here
+from lib.crates import files_of, names_of, text_here
 
 NAME = r"[A-Za-z_][\w']*"
 # (within a module a definition is indented; so are the fields of a record, which have no other word than pub)
@@ -285,10 +285,8 @@ class Repository:
         self.sources: Dict[str, Source] = {}
         self.of: Dict[Tuple[str, str], List[Item]] = {}
         for crate in self.crates:
-            for part in ("specs", "src"):
-                for path in sorted((ROOT / "crates" / crate / part).rglob("*.*t*")):
-                    if path.suffix in (".rt", ".antt"):
-                        self.add(source_of(path.relative_to(ROOT).as_posix(), path.read_text()))
+            for path in files_of(crate, ("specs", "src")):
+                self.add(source_of(path.relative_to(ROOT).as_posix(), path.read_text()))
         self.calls: List[Call] = [it for source in self.sources.values() for it in source.items if isinstance(it, Call)]
         of_traits = {(it.owner, it.name): it for it in self.calls if it.inside and it.inside.name == it.owner and not it.of_trait}
         for it in self.calls:
