@@ -4,7 +4,7 @@ ghost use Rattle.std.specs.Prelude.{◌≡◌, ◌≤◌, length};
 ghost use Rattle.eap_base.specs.Suite.{ks_of};
 ghost use Rattle.eap_base.specs.Sizes.{max_name};
 ghost use Rattle.login_keys.specs.Gkdf.{gpsk_tag_of};
-ghost use Rattle.login_keys.specs.Gpsk.{gpsk_keys_of, input_string, keys_from, pk_size};
+ghost use Rattle.login_keys.specs.Gpsk.{gpsk_keys_of, keys_from, pk_size};
 ghost use Rattle.login_keys.specs.Gpsk as spec;
 
 use crate::derivation::{gkdf, two_octets};

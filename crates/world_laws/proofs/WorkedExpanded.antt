@@ -1,5 +1,5 @@
 -- A proposal that is refused between ends that read Expanded Types (RFC 3748 section 5.7), computed from the definitions alone.
-use Rattle.std.proofs.Common.{◌≡◌, List, [], ◌∷◌, ◌++◌, true, refl, None}
+use Rattle.std.proofs.Common.{◌≡◌, List, [], ◌∷◌, ◌++◌, true, refl}
 use Rattle.std.specs.Prelude.{codes, map, replicate}
 use Rattle.login_setup.specs.Setup.{no_later}
 use Rattle.login_setup.specs.declared.setup.Setup.{Setup}
