@@ -7,13 +7,13 @@ use Rattle.hex.specs.Hex.{encode_with, encode_lower}
 use Rattle.octet_io.specs.Known.{append_known}
 use Rattle.octet_io.specs.declared.source.Failed.{Failed}
 use Rattle.octet_io.specs.Shown.{Shown}
-use Rattle.answer_text.specs.Pieces.{spelled, joined}
+use Rattle.answer_text.specs.Pieces.{text_of, text_of_pieces}
 use Rattle.answer_text.specs.Writes.{Appends, Puts}
 use Rattle.answer_text.specs.declared.pieces.Piece.{Piece}
 use Rattle.answer_text.proofs.Fronts.{append_known_append, append_known_nil}
 
 pub joined-drop : (pieces : List Piece) (i : ℕ) (d : Piece) → i < length pieces
-    → joined (drop i pieces) ≡ spelled (get_or pieces i d) ++ joined (drop (i + 1) pieces)
+    → text_of_pieces (drop i pieces) ≡ text_of (get_or pieces i d) ++ text_of_pieces (drop (i + 1) pieces)
 joined-drop pieces i d h = rw (add-one, drop-cons pieces i d h) refl
 
 -- octets in hex, in two parts

@@ -11,11 +11,11 @@ hex_text [] = codes "-"
 hex_text (b ∷ rest) = encode_lower (b ∷ rest)
 
 -- the text of a piece
-abbrev pub spelled : Piece → List ℕ
-spelled (Text octets) = octets.now
-spelled (Hex octets) = hex_text octets.now
-spelled (Number number) = decimal number
+abbrev pub text_of : Piece → List ℕ
+text_of (Text octets) = octets.now
+text_of (Hex octets) = hex_text octets.now
+text_of (Number number) = decimal number
 
 -- the text of pieces, one after the other
-abbrev pub joined : List Piece → List ℕ
-joined pieces = concat (map spelled pieces)
+abbrev pub text_of_pieces : List Piece → List ℕ
+text_of_pieces pieces = concat (map text_of pieces)

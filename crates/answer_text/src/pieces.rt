@@ -4,7 +4,7 @@
 ghost use Rattle.std.specs.Prelude.{◌≡◌, ◌≤◌, ◌+◌, List, ℕ, [], length, decimal, OnOk};
 ghost use Rattle.hex.specs.Hex.{encode_lower};
 ghost use Rattle.answer_text.specs.Writes.{Appends, Puts};
-ghost use Rattle.answer_text.specs.Pieces.{spelled, joined, hex_text};
+ghost use Rattle.answer_text.specs.Pieces.{text_of, text_of_pieces, hex_text};
 
 use crate::line_buffer::LineBuffer;
 use itoa::Buffer;
@@ -143,7 +143,7 @@ pub fn put_number<W: Sink>(sink: &mut W, line: &mut LineBuffer, number: u64) -> 
 
 /// Appends a piece to a line, and writes it if the piece ends it.
 fn put_piece<W: Sink>(sink: &mut W, line: &mut LineBuffer, piece: Piece) -> Result<(), Failed>
-    ensures { Puts W.shown result sink.old sink.new line.old line.new (spelled piece.entry) }
+    ensures { Puts W.shown result sink.old sink.new line.old line.new (text_of piece.entry) }
 {
     match piece {
         Piece::Text(octets) => put_text(sink, line, octets),
@@ -158,7 +158,7 @@ pub fn put_pieces<W: Sink>(
     line: &mut LineBuffer,
     pieces: &[Piece],
 ) -> Result<(), Failed>
-    ensures { (text : List ℕ) → text ≡ joined pieces.now
+    ensures { (text : List ℕ) → text ≡ text_of_pieces pieces.now
         → Puts W.shown result sink.old sink.new line.old line.new text }
 {
     for piece in pieces {
@@ -170,7 +170,7 @@ pub fn put_pieces<W: Sink>(
 /// Writes pieces one after the other: the text that they make joined. `Failed`: a write failed, and a
 /// prefix of that text was appended.
 pub fn write_pieces<W: Sink>(sink: &mut W, pieces: &[Piece]) -> Result<(), Failed>
-    ensures { (text : List ℕ) → text ≡ joined pieces.now
+    ensures { (text : List ℕ) → text ≡ text_of_pieces pieces.now
         → Appends W.shown result sink.old sink.new text }
 {
     let mut line = LineBuffer::new();

@@ -4,8 +4,8 @@ use Rattle.std.proofs.lemmas.List.{length-append}
 use Rattle.login_setup.specs.declared.event.Event.{Event}
 use Rattle.login_setup.specs.declared.setup.Port.{Port}
 use Rattle.eap_world.specs.Sent.{Sent}
-use Rattle.eap_world.specs.World.{WorldNow, WorldOutcome, Action, Skipped, Called, act, called, counted}
-use Rattle.eap_world.specs.World.{numbered, one_if, sent_by, sent_to, start_call, told_of, world_outcome, world_start, world_step}
+use Rattle.eap_world.specs.World.{WorldNow, WorldOutcome, Action, Skipped, Called, act, act_of_call, counts_after}
+use Rattle.eap_world.specs.World.{sent_packet, one_if, sent_by, sent_to, start_call, told_of, world_outcome, world_start, world_step}
 use Rattle.eap_world.specs.declared.told.Counts.{Counts}
 use Rattle.eap_world.specs.declared.told.Named.{Named}
 use Rattle.eap_world.specs.declared.told.Told.{Told}
@@ -16,7 +16,7 @@ none_more sent = let e = length-append {A = Sent} sent [] in omega (arith, e)
 
 -- how many packets were sent then
 sent_one : (sent : List Sent) (port : Port) (octets : Option (List ℕ))
-    → length (sent ++ sent_to port octets) ≡ sent_after (length sent) (numbered (length sent + 1) port octets)
+    → length (sent ++ sent_to port octets) ≡ sent_after (length sent) (sent_packet (length sent + 1) port octets)
 sent_one sent port None = none_more sent
 sent_one sent port (Some octets) = length-append sent (record { port = port; octets = octets } ∷ [])
 
@@ -30,7 +30,7 @@ one_at_most : (b : Bool) (n most : ℕ) → n ≤ most → n + one_if b ≤ most
 one_at_most true n most h = omega arith
 one_at_most false n most h = omega arith
 
-counts_more : (counts : Counts) (action : Action) (most : ℕ) → AreFew counts most → AreFew (counted counts action) (most + 1)
+counts_more : (counts : Counts) (action : Action) (most : ℕ) → AreFew counts most → AreFew (counts_after counts action) (most + 1)
 counts_more counts (Skipped skip) most few = record {
   events = let h = few.events in omega (arith, h);
   deliveries = let h = few.deliveries in omega (arith, h);
@@ -70,7 +70,7 @@ started_by : (before : WorldNow) → Started before (world_start before).told (w
 unfolding world_start
 started_by before = record {
   started = refl;
-  packets = sent_more before.sent _ _ (called before.parties (start_call before.parties.mode)).action;
+  packets = sent_more before.sent _ _ (act_of_call before.parties (start_call before.parties.mode)).action;
   counts = refl;
 }
 

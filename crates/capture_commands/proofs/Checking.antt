@@ -17,7 +17,7 @@ use Rattle.capture_check.specs.Kept.{kept_of}
 use Rattle.capture_check.proofs.Keeping.{kept_of_none, kept_of_next}
 use Rattle.command_driver.specs.Commands.{Took, answer}
 use Rattle.capture_commands.specs.Check.{CheckNow, silent, packet_took, item_took, line_took, check_took, check_closing, nothing_checked, check_answer}
-use Rattle.capture_commands.specs.CheckSteps.{begun, silent_step, packet_step, item_step, line_step, step_took, step_closing, kept_in}
+use Rattle.capture_commands.specs.CheckSteps.{first_check, silent_step, packet_step, item_step, line_step, step_took, step_closing, kept_in}
 use Rattle.capture_commands.specs.declared.check.Check.{Check}
 
 -- before the line `packets` there is no packet
@@ -103,9 +103,9 @@ answers_alike (line l rest) n c h =
 pub begins_orderly : IsOrderly nothing_checked
 begins_orderly = record { early = refl; names = All-nil _ }
 
-begun_kept : begun ≡ kept_in nothing_checked
+begun_kept : first_check ≡ kept_in nothing_checked
 begun_kept = rw (kept_of_none []) refl
 
 -- the answer to an input
-pub check_answers : (octets : List ℕ) → answer step_took step_closing 0 begun (lines octets) ≡ check_answer octets
+pub check_answers : (octets : List ℕ) → answer step_took step_closing 0 first_check (lines octets) ≡ check_answer octets
 check_answers octets = rw begun_kept (answers_alike (lines octets) 0 nothing_checked begins_orderly)

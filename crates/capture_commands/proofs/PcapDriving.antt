@@ -5,7 +5,7 @@ use Rattle.octet_io.specs.Known.{append_known}
 use Rattle.octet_io.specs.Shown.{Shown}
 use Rattle.login_setup.specs.declared.users.User.{User}
 use Rattle.eapol_capture.specs.Files.{Contents, ends, record_of}
-use Rattle.eapol_capture.specs.Frames.{Carried, other, cut, eap, carried}
+use Rattle.eapol_capture.specs.Frames.{Carried, other, cut, eap, contents_of}
 use Rattle.eapol_capture.specs.Reading.{Reading, Divides, Faults, begun, begun_in}
 use Rattle.eapol_capture.specs.declared.reader.NextRecord.{NextRecord}
 use Rattle.eapol_capture.specs.declared.reader.NextRecord.TheVariants as answer
@@ -58,7 +58,7 @@ found_step users f n number (eap octets) e h =
 module _ (users : List User) where
   record_first : (n : ℕ) (f : Found) (frame : List ℕ) (rest : Contents)
       → answer_from users n f (record_of frame rest)
-      ≡ after_text (record_step users f (n + 1) (carried frame)).text (answer_from users (n + 1) (record_step users f (n + 1) (carried frame)).after rest)
+      ≡ after_text (record_step users f (n + 1) (contents_of frame)).text (answer_from users (n + 1) (record_step users f (n + 1) (contents_of frame)).after rest)
   unfolding answer_from
   record_first n f frame rest = refl
 
@@ -82,13 +82,13 @@ module _ (users : List User) where
   -- a record is judged
   pub underway_goes : (before mid now : Option (List ℕ)) (all : Contents) (n number : ℕ) (f new : Found) (frame : List ℕ) (left next : Option Contents)
       → Underway before mid all n f left → left ≡ option_map (record_of frame) next → number ≡ n + 1
-      → append_known mid (record_step users f number (carried frame)).text ≡ now → new ≡ (record_step users f number (carried frame)).after
+      → append_known mid (record_step users f number (contents_of frame)).text ≡ now → new ≡ (record_step users f number (contents_of frame)).after
       → Underway before now all number new next
   underway_goes before mid now all n number f new frame left next u e count text after =
       let m = made (record_of frame) next u.rest (sym u.known ∙ e) in
-      let step = record_step users f (n + 1) (carried frame) in
-      let written : append_known mid step.text ≡ now = subst (λ (k : ℕ). append_known mid (record_step users f k (carried frame)).text ≡ now) count text in
-      let is_new : new ≡ step.after = subst (λ (k : ℕ). new ≡ (record_step users f k (carried frame)).after) count after in
+      let step = record_step users f (n + 1) (contents_of frame) in
+      let written : append_known mid step.text ≡ now = subst (λ (k : ℕ). append_known mid (record_step users f k (contents_of frame)).text ≡ now) count text in
+      let is_new : new ≡ step.after = subst (λ (k : ℕ). new ≡ (record_step users f k (contents_of frame)).after) count after in
       record {
         rest = m.from;
         known = m.is;
@@ -102,10 +102,10 @@ module _ (users : List User) where
   -- the line of a record is cut short
   pub underway_cut : (before mid now : Option (List ℕ)) (all : Contents) (n number : ℕ) (f : Found) (frame : List ℕ) (left next : Option Contents)
       → Underway before mid all n f left → left ≡ option_map (record_of frame) next → number ≡ n + 1
-      → WritesFront mid now (record_step users f number (carried frame)).text → WritesFront before now (answer_from users 0 nothing_found all).text
+      → WritesFront mid now (record_step users f number (contents_of frame)).text → WritesFront before now (answer_from users 0 nothing_found all).text
   underway_cut before mid now all n number f frame left next u e count w =
       let m = made (record_of frame) next u.rest (sym u.known ∙ e) in
-      let front : WritesFront mid now (record_step users f (n + 1) (carried frame)).text = subst (λ (k : ℕ). WritesFront mid now (record_step users f k (carried frame)).text) count w in
+      let front : WritesFront mid now (record_step users f (n + 1) (contents_of frame)).text = subst (λ (k : ℕ). WritesFront mid now (record_step users f k (contents_of frame)).text) count w in
       front_progress before mid now _ _ u.progress (rw (m.value, record_first n f frame m.from) (front_first mid now _ _ front))
 
   -- nothing more is written

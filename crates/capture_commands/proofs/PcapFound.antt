@@ -2,12 +2,12 @@
 use Rattle.std.proofs.Common.{◌≡◌, ℕ, ◌+◌, List, [], ◌∷◌, refl, sym, ap, ◌∙◌, length-append}
 use Rattle.login_setup.specs.declared.users.User.{User}
 use Rattle.eapol_capture.specs.Files.{Contents, ends, record_of, contents}
-use Rattle.eapol_capture.specs.Frames.{Carried, other, cut, eap, carried}
+use Rattle.eapol_capture.specs.Frames.{Carried, other, cut, eap, contents_of}
 use Rattle.capture_check.specs.Heard.{Captured}
 use Rattle.capture_check.specs.Finding.{finding_of}
 use Rattle.capture_check.proofs.Keeping.{kept_of_none, kept_of_next}
 use Rattle.command_driver.specs.Answers.{after_text}
-use Rattle.capture_commands.specs.Pcap.{PcapNow, RecordTold, record_told, is_to_peer, judged, nothing_recorded, pcap_answer}
+use Rattle.capture_commands.specs.Pcap.{PcapNow, RecordTold, record_told, is_to_peer, answer_to, nothing_recorded, pcap_answer}
 use Rattle.capture_commands.specs.PcapSteps.{RecordStep, record_step, answer_from, nothing_found, found_in}
 
 -- what a record brings, with what is kept after it
@@ -27,12 +27,12 @@ records_told users f other = refl
 records_told users f cut = refl
 records_told users f (eap octets) = refl
 
-answers_alike : (users : List User) (f : PcapNow) (all : Contents) → answer_from users f.records (found_in users f) all ≡ judged users f all
-unfolding answer_from judged
+answers_alike : (users : List User) (f : PcapNow) (all : Contents) → answer_from users f.records (found_in users f) all ≡ answer_to users f all
+unfolding answer_from answer_to
 answers_alike users f (ends begun a) = refl
 answers_alike users f (record_of frame rest) =
-    let t = record_told users f (carried frame) in
-    rw (step_alike users f (carried frame)) (ap (after_text t.text) (ap (λ n. answer_from users n (found_in users t.after) rest) (sym (records_told users f (carried frame))) ∙ answers_alike users t.after rest))
+    let t = record_told users f (contents_of frame) in
+    rw (step_alike users f (contents_of frame)) (ap (after_text t.text) (ap (λ n. answer_from users n (found_in users t.after) rest) (sym (records_told users f (contents_of frame))) ∙ answers_alike users t.after rest))
 
 nothing_kept_of : (users : List User) → nothing_found ≡ found_in users nothing_recorded
 nothing_kept_of users = rw (kept_of_none users) refl

@@ -3,14 +3,14 @@ use Rattle.std.proofs.Common.{◌≡◌, ℕ, ◌≤◌, ◌+◌, List, length, 
 use Rattle.std.proofs.lemmas.Bool.{ne_eqb}
 use Rattle.login_setup.specs.declared.users.User.{User}
 use Rattle.eapol_capture.specs.Files.{Contents, ends, record_of, contents}
-use Rattle.eapol_capture.specs.Frames.{Carried, other, cut, eap, carried}
+use Rattle.eapol_capture.specs.Frames.{Carried, other, cut, eap, contents_of}
 use Rattle.eapol_capture.specs.declared.reader.NextRecord.{NextRecord}
 use Rattle.eapol_capture.specs.declared.reader.NextRecord.TheVariants as answer
 use Rattle.capture_check.specs.Finding.{finding_of}
 use Rattle.capture_check.proofs.Names.{finding_names}
 use Rattle.answer_text.proofs.Plain.{is_within, plain, join, through, decimal_within, decimal_first}
 use Rattle.answer_text.proofs.PlainFindings.{finding_plain}
-use Rattle.capture_commands.specs.Pcap.{PcapNow, is_to_peer, cut_text, records_text, file_refusal, file_end, record_told, judged, nothing_recorded, pcap_answer}
+use Rattle.capture_commands.specs.Pcap.{PcapNow, is_to_peer, cut_text, records_text, file_refusal, file_end, record_told, answer_to, nothing_recorded, pcap_answer}
 use Rattle.command_driver.specs.declared.status.Status.TheVariants as status
 use Rattle.capture_commands.proofs.PcapUsers.{HaveNames}
 use Rattle.command_driver.proofs.Quiet.{IsQuiet, never_done}
@@ -46,13 +46,13 @@ module _ (users : List User) (names : HaveNames users) where
       finding_plain begins_tags no_digit (f.records + 1) (finding_of users f.before (is_to_peer octets) octets)
       (finding_names (λ name. is_within name ≡ true) users names.within f.before (is_to_peer octets) octets)
 
-  judged_quiet : (f : PcapNow) (all : Contents) → IsQuiet begins_tags (judged users f all)
-  unfolding judged
+  judged_quiet : (f : PcapNow) (all : Contents) → IsQuiet begins_tags (answer_to users f all)
+  unfolding answer_to
   judged_quiet f (ends begun a) = end_quiet (f.records + begun) (length f.before) f.findings a
   judged_quiet f (record_of frame rest) =
-      let t = record_told users f (carried frame) in
+      let t = record_told users f (contents_of frame) in
       let more = judged_quiet t.after rest in
-      record { holds = λ done. join begins_tags t.text (judged users t.after rest).text true (told_quiet f (carried frame)) (more.holds done) }
+      record { holds = λ done. join begins_tags t.text (answer_to users t.after rest).text true (told_quiet f (contents_of frame)) (more.holds done) }
 
   pub pcap_quiet : (octets : List ℕ) → IsQuiet begins_tags (pcap_answer users octets)
   pcap_quiet octets = judged_quiet nothing_recorded (contents octets)

@@ -18,7 +18,7 @@ use Rattle.answer_text.proofs.PlainWords.{either_within, hex_within}
 use Rattle.command_driver.specs.Commands.{Took}
 use Rattle.command_driver.proofs.Quiet.{IsQuiet, IsQuietLine, quiet_answer}
 use Rattle.answer_text.specs.Keys.{hex_line}
-use Rattle.capture_commands.specs.Radius.{word_line, packet_line, read_text, kind_word, judgement_word, judged}
+use Rattle.capture_commands.specs.Radius.{word_line, packet_line, read_text, kind_word, judgement_word, judgement_of}
 use Rattle.capture_commands.specs.Radius.{reply_took, read_took, item_took, line_took}
 use Rattle.capture_commands.specs.Radius.{radius_took, radius_end, radius_closing, nothing_asked, radius_answer}
 use Rattle.capture_commands.specs.declared.radius.KeptRequest.{KeptRequest}
@@ -88,7 +88,7 @@ reply_quiet c (Some asked) k state eap = record { text = (hex_quiet _).1; refusi
 
 read_quiet : (c : Radius) (x : Result RadiusPacket RadiusCause) → IsQuietRadius (read_took c x)
 read_quiet c (Err cause) = record { text = cause_quiet cause; refusing = tt; after = tt }
-read_quiet c (Ok packet) = record { text = packet_quiet packet (judged c.secret c.asked packet); refusing = tt; after = tt }
+read_quiet c (Ok packet) = record { text = packet_quiet packet (judgement_of c.secret c.asked packet); refusing = tt; after = tt }
 
 item_quiet : (c : Radius) (i : RadiusItem) → IsQuietRadius (item_took c i)
 item_quiet c item.Nothing = record { text = refl; refusing = tt; after = tt }

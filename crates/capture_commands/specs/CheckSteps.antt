@@ -15,8 +15,8 @@ use Rattle.capture_commands.specs.Check.{CheckNow, with_finding, check_end}
 use Rattle.capture_commands.specs.declared.check.Check.{Check}
 use Rattle.command_driver.specs.declared.status.Status.TheVariants as status
 
-abbrev pub begun : Check
-begun = record { reader = record { phase = Unread; users = [] }; checker = nothing_kept; packets = 0; findings = 0 }
+abbrev pub first_check : Check
+first_check = record { reader = record { phase = Unread; users = [] }; checker = nothing_kept; packets = 0; findings = 0 }
 
 -- a packet is judged
 abbrev pub packet_step : Check → Capture → Bool → List ℕ → Took Check

@@ -5,7 +5,7 @@ use Rattle.std.specs.List.{concat}
 use Rattle.std.specs.Str.{bytes_eq}
 use Rattle.login_setup.specs.declared.users.User.{User}
 use Rattle.eapol_capture.specs.Files.{Contents, ends, record_of, contents}
-use Rattle.eapol_capture.specs.Frames.{Carried, other, cut, eap, carried}
+use Rattle.eapol_capture.specs.Frames.{Carried, other, cut, eap, contents_of}
 use Rattle.eapol_capture.specs.declared.reader.NextRecord.{NextRecord}
 use Rattle.eapol_capture.specs.declared.reader.NextRecord.TheVariants as answer
 use Rattle.text_tables.specs.UserWords.{users_named}
@@ -94,13 +94,13 @@ record_told users f (eap octets) =
     }
 
 -- the answer to what a file is
-unfoldable pub judged : List User → PcapNow → Contents → Answer
-judged users f (ends begun a) = file_end (f.records + begun) (length f.before) f.findings a
-judged users f (record_of frame rest) = after_text (record_told users f (carried frame)).text (judged users (record_told users f (carried frame)).after rest)
+unfoldable pub answer_to : List User → PcapNow → Contents → Answer
+answer_to users f (ends begun a) = file_end (f.records + begun) (length f.before) f.findings a
+answer_to users f (record_of frame rest) = after_text (record_told users f (contents_of frame)).text (answer_to users (record_told users f (contents_of frame)).after rest)
 
 abbrev pub nothing_recorded : PcapNow
 nothing_recorded = record { records = 0; before = []; findings = 0 }
 
 -- what a file answers
 abbrev pub pcap_answer : List User → List ℕ → Answer
-pcap_answer users octets = judged users nothing_recorded (contents octets)
+pcap_answer users octets = answer_to users nothing_recorded (contents octets)

@@ -2,7 +2,7 @@
 use Rattle.std.specs.Prelude.{ℕ, ◌+◌, ◌≤◌, List, [], length}
 use Rattle.login_setup.specs.declared.users.User.{User}
 use Rattle.eapol_capture.specs.Files.{Contents, ends, record_of}
-use Rattle.eapol_capture.specs.Frames.{Carried, other, cut, eap, carried}
+use Rattle.eapol_capture.specs.Frames.{Carried, other, cut, eap, contents_of}
 use Rattle.capture_check.specs.Finding.{finding_in}
 use Rattle.capture_check.specs.Kept.{kept_of}
 use Rattle.capture_check.specs.Steps.{kept_next, nothing_kept}
@@ -35,7 +35,7 @@ record_step users f number (eap octets) =
 unfoldable pub answer_from : List User → ℕ → Found → Contents → Answer
 answer_from users number f (ends begun a) = file_end (number + begun) f.packets f.findings a
 answer_from users number f (record_of frame rest) =
-    after_text (record_step users f (number + 1) (carried frame)).text (answer_from users (number + 1) (record_step users f (number + 1) (carried frame)).after rest)
+    after_text (record_step users f (number + 1) (contents_of frame)).text (answer_from users (number + 1) (record_step users f (number + 1) (contents_of frame)).after rest)
 
 abbrev pub nothing_found : Found
 nothing_found = record { checker = nothing_kept; packets = 0; findings = 0 }

@@ -63,8 +63,8 @@ reply_judged secret None packet = judgement.NoRequest
 reply_judged secret (Some asked) packet =
     if asked.id == packet.id then good_or_bad (is_good_reply secret asked.authenticator packet) else judgement.NoRequest
 
-unfoldable pub judged : List ℕ → Option KeptRequest → RadiusPacket → Judgement
-judged secret asked packet =
+unfoldable pub judgement_of : List ℕ → Option KeptRequest → RadiusPacket → Judgement
+judgement_of secret asked packet =
     if packet.code == 1 then good_or_bad (is_good_request secret packet) else reply_judged secret asked packet
 
 -- the request that is kept after it: a good one in place of the one before
@@ -89,7 +89,7 @@ reply_took c (Some asked) k state eap =
 
 abbrev pub read_took : Radius → Result RadiusPacket RadiusCause → Took Radius
 read_took c (Err cause) = wrote (word_line (codes "read") (cause_word cause)) c
-read_took c (Ok packet) = wrote (packet_line packet (judged c.secret c.asked packet)) (record c { asked = kept_after c.secret c.asked packet })
+read_took c (Ok packet) = wrote (packet_line packet (judgement_of c.secret c.asked packet)) (record c { asked = kept_after c.secret c.asked packet })
 
 abbrev pub item_took : Radius → RadiusItem → Took Radius
 item_took c item.Nothing = wrote [] c

@@ -34,12 +34,12 @@ pub fn is_counted(finding: &Finding) -> bool
 impl Check {
     ghost use Rattle.command_driver.specs.Commands.{AnswersLine, AnswersEnd};
     ghost use Rattle.capture_commands.specs.Check.{check_end};
-    ghost use Rattle.capture_commands.specs.CheckSteps.{begun, packet_step};
+    ghost use Rattle.capture_commands.specs.CheckSteps.{first_check, packet_step};
     ghost use Rattle.std.specs.Prelude.{Ok};
 
     /// Nothing has been read yet.
     pub fn new() -> Check
-        ensures { result ≡ begun }
+        ensures { result ≡ first_check }
     {
         Check {
             reader: CaptureReader::new(),

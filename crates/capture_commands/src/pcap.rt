@@ -2,7 +2,7 @@
 
 ghost use Rattle.std.specs.Prelude.{◌≡◌, ◌<◌, ◌^◌, ℕ, List, Option, [], map, string_bytes, All, IsTrue};
 ghost use Rattle.login_setup.specs.Setup.{fits_kind};
-ghost use Rattle.eapol_capture.specs.Frames.{carried};
+ghost use Rattle.eapol_capture.specs.Frames.{contents_of};
 ghost use Rattle.eapol_capture.specs.Reading.{Exhausts};
 ghost use Rattle.text_tables.specs.UserWords.{read_as};
 ghost use Rattle.command_driver.specs.Answers.{Finishes, Drains, IsRefusal};
@@ -88,8 +88,8 @@ impl Found {
         requires packets { self.old.packets < 2 ^ 31 }
         requires findings { self.old.findings < 2 ^ 31 }
         ensures appends { Appends W.shown result sink.old sink.new
-            (record_step users.now self.old number (carried frame.now)).text }
-        ensures after { self.new ≡ (record_step users.now self.old number (carried frame.now)).after }
+            (record_step users.now self.old number (contents_of frame.now)).text }
+        ensures after { self.new ≡ (record_step users.now self.old number (contents_of frame.now)).after }
     {
         match eap_of_frame(frame) {
             FrameFinding::Other => Ok(()),

@@ -7,7 +7,7 @@ ghost use Rattle.radius_carry.specs.Fault.{value_of};
 ghost use Rattle.answer_text.specs.Writes.{Appends};
 ghost use Rattle.command_driver.specs.Responding.{Responds, reading, never};
 ghost use Rattle.capture_commands.specs.Radius.{radius_answer};
-ghost use Rattle.capture_commands.specs.Radius.{code_of, good_or_bad, judged, kept_after, kind_word, judgement_word, packet_line, read_text};
+ghost use Rattle.capture_commands.specs.Radius.{code_of, good_or_bad, judgement_of, kept_after, kind_word, judgement_word, packet_line, read_text};
 ghost use Rattle.capture_commands.specs.Radius.{reply_judged, word_line};
 
 use answer_text::Piece::{Hex, Number, Text};
@@ -190,10 +190,10 @@ impl Radius {
     }
 
     /// What a packet is, under the secret and after the request that is kept. Keeps a request that is good.
-    #[tactic(auto, unfolding(crate::specs::Radius::judged, crate::specs::Radius::kept_after, radius_carry::specs::Tags::is_good_request, radius_carry::specs::Fault::value_of))]
+    #[tactic(auto, unfolding(crate::specs::Radius::judgement_of, crate::specs::Radius::kept_after, radius_carry::specs::Tags::is_good_request, radius_carry::specs::Fault::value_of))]
     fn judge(&mut self, view: &RadiusView) -> Judgement
         requires { IsRadius (value_of view.now) view.now.whole.now }
-        ensures judged { result ≡ judged self.old.secret self.old.asked (value_of view.now) }
+        ensures judgement_of { result ≡ judgement_of self.old.secret self.old.asked (value_of view.now) }
         ensures kept { self.new ≡ record self.old { asked = kept_after self.old.secret self.old.asked (value_of view.now) } }
     {
         match view.kind {

@@ -16,7 +16,7 @@ use Rattle.eap_method.specs.declared.values.Credential.{Credential}
 use Rattle.eap_method.specs.declared.values.Report.{Report}
 use Rattle.eap_method.specs.declared.values.MethodState.TheVariants.{Cont, MayCont, Done}
 use Rattle.eap_method.specs.declared.values.Decision.TheVariants.{Fail, CondSucc}
-use Rattle.eap_method.specs.GpskTags.{gpsk_response, tagged, is_tagged, sk_record, same_suite}
+use Rattle.eap_method.specs.GpskTags.{gpsk_response, message_with_mac, is_tagged, sk_record, same_suite}
 use Rattle.eap_method.specs.Turns.{PeerOutcome, id_of, body_of, fault_if, discarded, replied}
 
 -- what a peer keeps of a login: its credential and RAND_Peer, ID_Server, RAND_Server, CSuite_Sel
@@ -43,7 +43,7 @@ abbrev pub open_gpsk2 : Login → List ℕ → Message
 open_gpsk2 login list = gpsk2 login.cred.id_p login.id_s login.nonce login.rand_s list login.suite [] []
 
 abbrev pub gpsk2_of : Login → List ℕ → Message
-gpsk2_of login list = tagged login.suite (keys_of login).sk (open_gpsk2 login list)
+gpsk2_of login list = message_with_mac login.suite (keys_of login).sk (open_gpsk2 login list)
 
 -- GPSK-1 is answered by GPSK-2, and the login begins
 unfoldable pub answers : Login → ℕ → List ℕ → PeerOutcome View
@@ -77,7 +77,7 @@ repeats login rand_p rand_s id_s suite =
 
 -- GPSK-4, with its MAC
 abbrev pub gpsk4_of : Login → Message
-gpsk4_of login = tagged login.suite (keys_of login).sk (gpsk4 [] [])
+gpsk4_of login = message_with_mac login.suite (keys_of login).sk (gpsk4 [] [])
 
 -- GPSK-3 without a fault is answered by GPSK-4, and the login has succeeded
 unfoldable pub confirms : Login → ℕ → Message → Option Cause → PeerOutcome View
@@ -92,7 +92,7 @@ repeats_fail login id code = replied (over login false) (gpsk_response id (fail 
 
 -- GPSK-Protected-Fail, with its MAC
 abbrev pub protected_fail_of : Login → ℕ → Message
-protected_fail_of login code = tagged login.suite (keys_of login).sk (protected_fail code [])
+protected_fail_of login code = message_with_mac login.suite (keys_of login).sk (protected_fail code [])
 
 -- GPSK-Protected-Fail is answered by one with the same code
 unfoldable pub repeats_protected : Login → ℕ → ℕ → Message → Option Cause → PeerOutcome View

@@ -14,7 +14,7 @@ use Rattle.login_keys.specs.Gpsk.{gpsk_keys_of}
 use Rattle.login_keys.specs.declared.gpsk.GpskKeys.{GpskKeys}
 use Rattle.eap_method.specs.declared.values.ServerSide.{ServerSide}
 use Rattle.eap_method.specs.declared.values.Report.{Report}
-use Rattle.eap_method.specs.GpskTags.{gpsk_request, tagged, is_tagged, sk_record, suite_list}
+use Rattle.eap_method.specs.GpskTags.{gpsk_request, message_with_mac, is_tagged, sk_record, suite_list}
 use Rattle.eap_method.specs.Turns.{ServerOutcome, FirstOutcome, body_of, fault_if, dropped, requested, done}
 
 -- what a server keeps of a login: its own side and RAND_Server, ID_Peer and the user's key,
@@ -74,10 +74,10 @@ is_tagged_by login message = is_tagged login.suite (keys_of login).sk message
 
 -- GPSK-3 and GPSK-Protected-Fail, with their MACs
 abbrev pub gpsk3_of : Login → Message
-gpsk3_of login = tagged login.suite (keys_of login).sk (gpsk3 login.rand_p login.nonce login.own.id_s login.suite [] [])
+gpsk3_of login = message_with_mac login.suite (keys_of login).sk (gpsk3 login.rand_p login.nonce login.own.id_s login.suite [] [])
 
 abbrev pub bars_with : Login → Message
-bars_with login = tagged login.suite (keys_of login).sk (protected_fail authorization_failure [])
+bars_with login = message_with_mac login.suite (keys_of login).sk (protected_fail authorization_failure [])
 
 -- an unknown user is answered by GPSK-Fail, without a MAC
 unfoldable pub refuses : ServerSide → List ℕ → ℕ → ServerOutcome View

@@ -22,8 +22,8 @@ abbrev pub gpsk_response : ℕ → Message → List ℕ
 gpsk_response id message = packets.spelled (response id gpsk_kind (messages.spelled message))
 
 -- a message with the MAC of its covered octets under SK
-abbrev pub tagged : Suite → List ℕ → Message → Message
-tagged suite sk message = with_mac message (gpsk_tag_of suite sk (covered_of message))
+abbrev pub message_with_mac : Suite → List ℕ → Message → Message
+message_with_mac suite sk message = with_mac message (gpsk_tag_of suite sk (covered_of message))
 
 -- whether a message has that MAC
 abbrev pub is_tagged : Suite → List ℕ → Message → Bool

@@ -16,7 +16,7 @@ use Rattle.eap_method.specs.declared.tags.TagRecord.{TagRecord}
 use Rattle.eap_method.specs.declared.values.Report.{Report}
 use Rattle.eap_method.specs.declared.values.MethodState.TheVariants.{Cont, MayCont, Done}
 use Rattle.eap_method.specs.declared.values.Decision.TheVariants.{Fail, UncondSucc}
-use Rattle.eap_method.specs.PskTags.{psk_response, mac_p_octets, mac_s_octets, ak_record, tek_record, header_of, sealed_result, is_sealed, opened, result_fault, result_of, done_success, done_failure, blank_tag, rand_of}
+use Rattle.eap_method.specs.PskTags.{psk_response, mac_p_octets, mac_s_octets, ak_record, tek_record, header_of, sealed_result, is_sealed, hidden_octet, result_fault, result_of, done_success, done_failure, blank_tag, rand_of}
 use Rattle.eap_method.specs.Turns.{PeerOutcome, id_of, body_of, fault_if, discarded, replied}
 
 -- what a peer keeps of a login: its credential and the nonce whose prefix is RAND_P, ID_S, RAND_S
@@ -123,12 +123,12 @@ psk3_fault login header rand_s mac nonce tag sealed =
     fault_if (not (bytes_eq rand_s login.rand_s)) FieldMismatch
     (fault_if (not (nonce == 0)) BadNonce
     (fault_if (not (are_right login header mac tag sealed)) BadTag
-    (result_fault (opened (keys_of login).tek 0 sealed))))
+    (result_fault (hidden_octet (keys_of login).tek 0 sealed))))
 
 -- a peer that has sent PSK-2
 abbrev pub wait_hears : Login → ℕ → List ℕ → Message → PeerOutcome View
 wait_hears login id header (psk3 rand_s mac nonce tag sealed) =
-    confirms login id (result_of (opened (keys_of login).tek 0 sealed)) (psk3_records login header mac tag sealed)
+    confirms login id (result_of (hidden_octet (keys_of login).tek 0 sealed)) (psk3_records login header mac tag sealed)
     (psk3_fault login header rand_s mac nonce tag sealed)
 wait_hears login id header message = discarded (wait login) WrongOp
 

@@ -15,7 +15,7 @@ use Rattle.login_keys.specs.declared.psk.PskKeys.{PskKeys}
 use Rattle.eap_method.specs.declared.values.ServerSide.{ServerSide}
 use Rattle.eap_method.specs.declared.tags.TagRecord.{TagRecord}
 use Rattle.eap_method.specs.declared.values.Report.{Report}
-use Rattle.eap_method.specs.PskTags.{psk_request, mac_p_octets, mac_s_octets, ak_record, tek_record, header_of, sealed_result, is_sealed, opened, result_fault, result_of, done_success, done_failure, blank_tag, rand_of}
+use Rattle.eap_method.specs.PskTags.{psk_request, mac_p_octets, mac_s_octets, ak_record, tek_record, header_of, sealed_result, is_sealed, hidden_octet, result_fault, result_of, done_success, done_failure, blank_tag, rand_of}
 use Rattle.eap_method.specs.Turns.{ServerOutcome, FirstOutcome, body_of, fault_if, dropped, requested, done}
 
 -- what a server keeps of a login: its own side and the nonce whose prefix is RAND_S, ID_P and
@@ -136,7 +136,7 @@ psk4_fault login header rand_s nonce tag sealed =
     fault_if (not (bytes_eq rand_s (rand_s_of login))) FieldMismatch
     (fault_if (not (nonce == 1)) BadNonce
     (fault_if (not (is_sealed (keys_of login).tek 1 header sealed tag)) BadTag
-    (result_fault (opened (keys_of login).tek 1 sealed))))
+    (result_fault (hidden_octet (keys_of login).tek 1 sealed))))
 
 -- success exactly if both sides sent DONE_SUCCESS
 abbrev pub both_succeed : Login → ℕ → Bool
@@ -150,7 +150,7 @@ ends login r accepted None = done (over login (both_succeed login r)) (both_succ
 -- a server that has sent PSK-3
 abbrev pub checked_hears : Login → List ℕ → Message → ServerOutcome View
 checked_hears login header (psk4 rand_s nonce tag sealed) =
-    ends login (result_of (opened (keys_of login).tek 1 sealed)) (tek_record login.psk 1 header sealed tag ∷ [])
+    ends login (result_of (hidden_octet (keys_of login).tek 1 sealed)) (tek_record login.psk 1 header sealed tag ∷ [])
     (psk4_fault login header rand_s nonce tag sealed)
 checked_hears login header message = dropped (checked login) WrongOp
 

@@ -59,8 +59,8 @@ abbrev pub octet_with : ℕ → ℕ
 octet_with r = 64 * r
 
 -- the sealed octet as a list, and the octet that it hides
-abbrev pub opened : List ℕ → ℕ → ℕ → ℕ
-opened tek number sealed = slice_index (eax_plaintext tek (channel_nonce number) (sealed ∷ [])) 0
+abbrev pub hidden_octet : List ℕ → ℕ → ℕ → ℕ
+hidden_octet tek number sealed = slice_index (eax_plaintext tek (channel_nonce number) (sealed ∷ [])) 0
 
 -- what is sealed into PCHANNEL under this header
 unfoldable pub sealed_result : List ℕ → ℕ → List ℕ → ℕ → Sealed

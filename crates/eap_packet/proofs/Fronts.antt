@@ -1,7 +1,7 @@
 -- Octets that begin with a packet have its spelling as their front.
 use Rattle.std.proofs.Common.{◌≡◌, ℕ, ◌+◌, ◌*◌, ◌-◌, ◌/◌, ◌%◌, ◌<◌, ◌≤◌, List, [], ◌∷◌, length, suc, zero, take, All, refl, ap, ◌∙◌, arith}
 use Rattle.std.proofs.lemmas.List.{length-take-le}
-use Rattle.eap_packet.specs.Packet.{spelled, framed}
+use Rattle.eap_packet.specs.Packet.{spelled, frame_of}
 use Rattle.eap_packet.specs.Fault.{code_of, length_of, fields_of}
 use Rattle.eap_packet.proofs.Faults.{Begins}
 
@@ -13,7 +13,7 @@ take_five a b c d e m tail =
 -- The front of a Request or a Response: the Length says how much Type-Data there is.
 typed_front : (code id high low kind : ℕ) (tail : List ℕ) →
     low < 256 → 5 ≤ 256 * high + low → 256 * high + low ≤ length (code ∷ id ∷ high ∷ low ∷ kind ∷ tail) →
-    take (256 * high + low) (code ∷ id ∷ high ∷ low ∷ kind ∷ tail) ≡ framed code id (kind ∷ take (256 * high + low - 5) tail)
+    take (256 * high + low) (code ∷ id ∷ high ∷ low ∷ kind ∷ tail) ≡ frame_of code id (kind ∷ take (256 * high + low - 5) tail)
 typed_front code id high low kind tail small typed there =
     let m = 256 * high + low - 5 in
     let size : 256 * high + low ≡ 5 + m = omega arith in
@@ -24,7 +24,7 @@ typed_front code id high low kind tail small typed there =
 
 -- The front of a Success or a Failure.
 plain_front : (code id high low : ℕ) (tail : List ℕ) → low < 256 → 256 * high + low ≡ 4 →
-    take (256 * high + low) (code ∷ id ∷ high ∷ low ∷ tail) ≡ framed code id []
+    take (256 * high + low) (code ∷ id ∷ high ∷ low ∷ tail) ≡ frame_of code id []
 plain_front code id high low tail small size =
     let first : 0 ≡ high = omega arith in
     let second : 4 ≡ low = omega arith in

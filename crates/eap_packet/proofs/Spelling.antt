@@ -3,7 +3,7 @@ use Rattle.std.proofs.Common.{◌≡◌, ◌≢◌, ℕ, ◌+◌, ◌-◌, ◌<�
 use Rattle.std.proofs.lemmas.List.{take_at}
 use Rattle.eap_packet.specs.declared.packet.Code.{Code}
 use Rattle.eap_packet.specs.declared.packet.Code.TheVariants.{Request, Response, Success, Failure}
-use Rattle.eap_packet.specs.Packet.{PacketValue, request, response, success, failure, spelled, framed, two_octets, number_of, value_with, has_type, IsPacket}
+use Rattle.eap_packet.specs.Packet.{PacketValue, request, response, success, failure, spelled, frame_of, two_octets, number_of, value_with, has_type, IsPacket}
 use Rattle.eap_packet.specs.Fault.{code_of, length_of, fields_of, packet_of, packet_unless}
 use Rattle.eap_packet.proofs.Faults.{Begins, none_if_begins}
 
@@ -47,16 +47,16 @@ unfolding packet_of
 read_if_begins octets b = ap (λ found. packet_unless found octets) (none_if_begins octets b)
 
 -- the Length field of a Request or a Response
-length_typed : (code id kind : ℕ) (body rest : List ℕ) → length_of (framed code id (kind ∷ body) ++ rest) ≡ length body + 5
+length_typed : (code id kind : ℕ) (body rest : List ℕ) → length_of (frame_of code id (kind ∷ body) ++ rest) ≡ length body + 5
 length_typed code id kind body rest = omega arith
 
 body_typed : (code id kind : ℕ) (body rest : List ℕ) →
-    (let octets = framed code id (kind ∷ body) ++ rest in take (length_of octets - 5) (drop 5 octets) ≡ body)
+    (let octets = frame_of code id (kind ∷ body) ++ rest in take (length_of octets - 5) (drop 5 octets) ≡ body)
 body_typed code id kind body rest = take_at body rest _ (omega arith)
 
 -- a spelling, with any octets behind it, begins with a packet
 begins_typed : (code id kind : ℕ) (body rest : List ℕ) → 1 ≤ code → code ≤ 2 → length body ≤ 1495 →
-    (code ≡ 1 → kind ≢ 3) → (code ≡ 2 → kind ≡ 3 → 0 < length body) → Begins (framed code id (kind ∷ body) ++ rest)
+    (code ≡ 1 → kind ≢ 3) → (code ≡ 2 → kind ≡ 3 → 0 < length body) → Begins (frame_of code id (kind ∷ body) ++ rest)
 begins_typed code id kind body rest low high size no_nak desires =
     let count = length-append body rest in
     let field = length_typed code id kind body rest in

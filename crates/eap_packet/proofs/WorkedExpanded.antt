@@ -2,7 +2,7 @@
 use Rattle.std.proofs.Common.{◌≡◌, ℕ, List, [], ◌∷◌, true, false, Some, None, Ok, refl}
 use Rattle.eap_packet.specs.Packet.{PacketValue, request, response, success}
 use Rattle.eap_packet.specs.Fault.{fault, packet_of}
-use Rattle.eap_packet.specs.Expanded.{expanded_of, are_expanded, plain, wrap, wrapped, is_bad_expanded}
+use Rattle.eap_packet.specs.Expanded.{expanded_of, are_expanded, plain, wrap, expanded_form, is_bad_expanded}
 
 -- a Request of vendor 1 with Vendor-Type 2: it is read so, is its own plain form, and isn't bad
 abbrev vendor_octets : List ℕ
@@ -82,14 +82,14 @@ notice = request 5 2 (65 ∷ [])
 notice_wrapped : wrap notice ≡ request 5 254 (0 ∷ 0 ∷ 0 ∷ 0 ∷ 0 ∷ 0 ∷ 2 ∷ 65 ∷ [])
 notice_wrapped = refl
 
-notice_octets : wrapped (1 ∷ 5 ∷ 0 ∷ 6 ∷ 2 ∷ 65 ∷ []) ≡ 1 ∷ 5 ∷ 0 ∷ 13 ∷ 254 ∷ 0 ∷ 0 ∷ 0 ∷ 0 ∷ 0 ∷ 0 ∷ 2 ∷ 65 ∷ []
+notice_octets : expanded_form (1 ∷ 5 ∷ 0 ∷ 6 ∷ 2 ∷ 65 ∷ []) ≡ 1 ∷ 5 ∷ 0 ∷ 13 ∷ 254 ∷ 0 ∷ 0 ∷ 0 ∷ 0 ∷ 0 ∷ 0 ∷ 2 ∷ 65 ∷ []
 notice_octets = refl
 
 notice_again : plain (wrap notice) ≡ notice
 notice_again = refl
 
 -- octets behind the Length are padding and left out
-padded : (rest : List ℕ) → wrapped (1 ∷ 1 ∷ 0 ∷ 5 ∷ 51 ∷ rest) ≡ 1 ∷ 1 ∷ 0 ∷ 12 ∷ 254 ∷ 0 ∷ 0 ∷ 0 ∷ 0 ∷ 0 ∷ 0 ∷ 51 ∷ []
+padded : (rest : List ℕ) → expanded_form (1 ∷ 1 ∷ 0 ∷ 5 ∷ 51 ∷ rest) ≡ 1 ∷ 1 ∷ 0 ∷ 12 ∷ 254 ∷ 0 ∷ 0 ∷ 0 ∷ 0 ∷ 0 ∷ 0 ∷ 51 ∷ []
 padded rest = refl
 
 -- Vendor-Types 0, 254 and over 255 of Vendor-Id 0 have no plain form

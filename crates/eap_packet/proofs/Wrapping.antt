@@ -5,9 +5,9 @@ use Rattle.std.proofs.lemmas.Bool.Decides.{nat_tests}
 use Rattle.std.proofs.lemmas.List.{take_at}
 use Rattle.std.specs.Prelude.{◌↔◌, if◌then◌else◌}
 use Rattle.eap_base.specs.Among.{ietf}
-use Rattle.eap_packet.specs.Packet.{PacketValue, request, response, success, failure, spelled, framed, two_octets}
+use Rattle.eap_packet.specs.Packet.{PacketValue, request, response, success, failure, spelled, frame_of, two_octets}
 use Rattle.eap_packet.specs.Fault.{length_of}
-use Rattle.eap_packet.specs.Expanded.{has_plain, is_plain_body, is_wrapped, inner_kind, inner_body, wrapped}
+use Rattle.eap_packet.specs.Expanded.{has_plain, is_plain_body, is_wrapped, inner_kind, inner_body, expanded_form}
 use Rattle.eap_packet.specs.Laws.{PlainOfWrap, WrapsTheSpelling, OnlyWrappedDiffer}
 
 if_so : {A : Type 0} (b : Bool) (one other : A) → b ≡ true → (if b then one else other) ≡ one
@@ -26,17 +26,17 @@ plain_of_wrap (success id) has = refl
 plain_of_wrap (failure id) has = refl
 
 -- the Length of a Request or a Response, and the octets behind it
-length_typed : (code id kind : ℕ) (body rest : List ℕ) → length_of (framed code id (kind ∷ body) ++ rest) ≡ length body + 5
+length_typed : (code id kind : ℕ) (body rest : List ℕ) → length_of (frame_of code id (kind ∷ body) ++ rest) ≡ length body + 5
 length_typed code id kind body rest = omega arith
 
 behind_length : (code id kind : ℕ) (body rest : List ℕ) →
-    (let octets = framed code id (kind ∷ body) ++ rest in take (length_of octets - 4) (drop 4 octets) ≡ kind ∷ body)
+    (let octets = frame_of code id (kind ∷ body) ++ rest in take (length_of octets - 4) (drop 4 octets) ≡ kind ∷ body)
 behind_length code id kind body rest = take_at (kind ∷ body) rest _ (omega arith)
 
 wrapped_framed : (code id kind : ℕ) (body rest : List ℕ) →
-    wrapped (framed code id (kind ∷ body) ++ rest) ≡ framed code id (254 ∷ ietf ++ kind ∷ body)
+    expanded_form (frame_of code id (kind ∷ body) ++ rest) ≡ frame_of code id (254 ∷ ietf ++ kind ∷ body)
 wrapped_framed code id kind body rest =
-    ap (λ (n : ℕ). code ∷ id ∷ two_octets n ++ 254 ∷ ietf ++ take (length_of (framed code id (kind ∷ body) ++ rest) - 4) (kind ∷ body ++ rest))
+    ap (λ (n : ℕ). code ∷ id ∷ two_octets n ++ 254 ∷ ietf ++ take (length_of (frame_of code id (kind ∷ body) ++ rest) - 4) (kind ∷ body ++ rest))
     (let size = length_typed code id kind body rest in omega arith)
     ∙ ap (λ (tail : List ℕ). code ∷ id ∷ two_octets (length body + 12) ++ 254 ∷ ietf ++ tail) (behind_length code id kind body rest)
     ∙ ap (λ (n : ℕ). code ∷ id ∷ two_octets n ++ 254 ∷ ietf ++ kind ∷ body) (omega arith)

@@ -27,9 +27,9 @@ expanded_of body =
     else Some (record { vendor = vendor_of body; vendor_type = vendor_type_of body; rest = drop 7 body })
 
 -- a reader's answer, with the list of the Vendor data in place of its octets
-abbrev pub shown : Option Expanded → Option ExpandedValue
-shown None = None
-shown (Some fields) = Some (record { vendor = fields.vendor; vendor_type = fields.vendor_type; rest = fields.rest.now })
+abbrev pub expanded_value : Option Expanded → Option ExpandedValue
+expanded_value None = None
+expanded_value (Some fields) = Some (record { vendor = fields.vendor; vendor_type = fields.vendor_type; rest = fields.rest.now })
 
 -- whether Type-Data has Vendor-Id 0 and a Vendor-Type under 256; that Type, and the data behind it
 abbrev pub is_ietf : List ℕ → Bool
@@ -82,8 +82,8 @@ wrap (failure id) = failure id
 
 -- the octets of a packet wrapped, without padding: Code and Identifier, the new Length, Type 254 and
 -- the vendor before the Type
-abbrev pub wrapped : List ℕ → List ℕ
-wrapped octets =
+abbrev pub expanded_form : List ℕ → List ℕ
+expanded_form octets =
     slice_index octets 0 ∷ slice_index octets 1 ∷ two_octets (length_of octets + 7) ++
     expanded_kind ∷ ietf ++ take (length_of octets - 4) (drop 4 octets)
 

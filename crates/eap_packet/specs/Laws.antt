@@ -3,7 +3,7 @@ use Rattle.std.specs.Prelude.{◌≡◌, ◌↔◌, ◌≤◌, ◌<◌, ℕ, Lis
 use Rattle.eap_base.specs.Among.{nak_kind}
 use Rattle.eap_packet.specs.Packet.{PacketValue, request, response, success, failure, spelled, IsPacket, IsOctets}
 use Rattle.eap_packet.specs.Fault.{fault, packet_of}
-use Rattle.eap_packet.specs.Expanded.{vendor_of, vendor_type_of, is_ietf, is_nak_body, inner_kind, has_plain, has_plain_form, plain, wrap, wrapped}
+use Rattle.eap_packet.specs.Expanded.{vendor_of, vendor_type_of, is_ietf, is_nak_body, inner_kind, has_plain, has_plain_form, plain, wrap, expanded_form}
 
 -- the octets are the packet's encoding with some octets behind it
 pub record BeginsWith (octets : List ℕ) (packet : PacketValue) : Type 0 where
@@ -72,7 +72,7 @@ IsTyped (failure id) = ⊥
 -- a packet's encoding, with any octets behind it, is wrapped as the packet is
 abbrev pub WrapsTheSpelling : Type 0
 WrapsTheSpelling =
-    (packet : PacketValue) (rest : List ℕ) → IsTyped packet → wrapped (spelled packet ++ rest) ≡ spelled (wrap packet)
+    (packet : PacketValue) (rest : List ℕ) → IsTyped packet → expanded_form (spelled packet ++ rest) ≡ spelled (wrap packet)
 
 -- the plain form of a packet is one
 abbrev pub PlainIsPacket : Type 0

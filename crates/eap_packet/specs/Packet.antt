@@ -18,8 +18,8 @@ abbrev pub two_octets : ℕ → List ℕ
 two_octets n = n / 256 ∷ n % 256 ∷ []
 
 -- Code, Identifier and Length before the data; Length counts all four fields
-abbrev pub framed : ℕ → ℕ → List ℕ → List ℕ
-framed code id «data» = code ∷ id ∷ two_octets (length «data» + 4) ++ «data»
+abbrev pub frame_of : ℕ → ℕ → List ℕ → List ℕ
+frame_of code id «data» = code ∷ id ∷ two_octets (length «data» + 4) ++ «data»
 
 -- the Code field
 abbrev pub number_of : Code → ℕ
@@ -30,10 +30,10 @@ number_of Failure = 4
 
 -- the octets of a packet
 unfoldable pub spelled : PacketValue → List ℕ
-spelled (request id kind body) = framed 1 id (kind ∷ body)
-spelled (response id kind body) = framed 2 id (kind ∷ body)
-spelled (success id) = framed 3 id []
-spelled (failure id) = framed 4 id []
+spelled (request id kind body) = frame_of 1 id (kind ∷ body)
+spelled (response id kind body) = frame_of 2 id (kind ∷ body)
+spelled (success id) = frame_of 3 id []
+spelled (failure id) = frame_of 4 id []
 
 -- numbers of one octet each
 abbrev pub IsOctets : List ℕ → Type 0
@@ -84,6 +84,6 @@ abbrev pub value_of : PacketView → PacketValue
 value_of view = value_with view.code view.id view.kind view.body.now
 
 -- a decoder's answer, with the packet value in place of the view
-abbrev pub heard : Result PacketView Cause → Result PacketValue Cause
-heard (Ok view) = Ok (value_of view)
-heard (Err cause) = Err cause
+abbrev pub decoded_value : Result PacketView Cause → Result PacketValue Cause
+decoded_value (Ok view) = Ok (value_of view)
+decoded_value (Err cause) = Err cause

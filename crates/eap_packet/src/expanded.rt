@@ -6,7 +6,7 @@ ghost use Rattle.eap_base.specs.Sizes.{max_packet};
 ghost use Rattle.eap_base.specs.Among.{expanded_kind, ietf};
 ghost use Rattle.eap_packet.specs.Packet.{spelled, value_of, two_octets, max_type_data};
 ghost use Rattle.eap_packet.specs.Fault.{length_of};
-ghost use Rattle.eap_packet.specs.Expanded.{shown, expanded_of, is_ietf, has_plain, is_wrapped, has_plain_form, plain, wrapped, are_expanded, are_entries, is_bad_body, is_bad_expanded};
+ghost use Rattle.eap_packet.specs.Expanded.{expanded_value, expanded_of, is_ietf, has_plain, is_wrapped, has_plain_form, plain, expanded_form, are_expanded, are_entries, is_bad_body, is_bad_expanded};
 
 use crate::packet::{Code, PacketView, begin_into, length_field};
 use byteorder::{BigEndian, ByteOrder};
@@ -26,7 +26,7 @@ pub struct Expanded<'a> {
 /// section 5.7).
 pub fn read_expanded<'a>(view: &PacketView<'a>) -> Option<Expanded<'a>>
     requires { view.now.kind ≡ expanded_kind }
-    ensures { shown result ≡ expanded_of view.now.body.now }
+    ensures { expanded_value result ≡ expanded_of view.now.body.now }
 {
     if view.body.len() < VENDOR_SIZE {
         return None;
@@ -148,7 +148,7 @@ pub fn wrap(packet: &mut Packet)
     requires typed { 5 ≤ length_of packet.old }
     requires whole { length_of packet.old ≤ length packet.old }
     requires fits { length_of packet.old ≤ 1493 }
-    ensures { packet.new ≡ wrapped packet.old }
+    ensures { packet.new ≡ expanded_form packet.old }
 {
     let plain = packet.copy();
     let octets = plain.as_slice();

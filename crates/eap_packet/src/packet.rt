@@ -3,7 +3,7 @@
 ghost use Rattle.std.specs.Prelude.{◌≡◌, ◌≢◌, ◌≤◌, [], ℕ, List, ◌++◌, length, take, IfOk, IsTrue, not, ◌∷◌, ◌-◌, drop, slice_index};
 ghost use Rattle.eap_base.specs.Sizes.{max_packet};
 ghost use Rattle.eap_base.specs.Among.{nak_kind};
-ghost use Rattle.eap_packet.specs.Packet.{spelled, value_of, value_with, has_type, IsPacket, IsPlain, heard, number_of, two_octets, max_type_data};
+ghost use Rattle.eap_packet.specs.Packet.{spelled, value_of, value_with, has_type, IsPacket, IsPlain, decoded_value, number_of, two_octets, max_type_data};
 ghost use Rattle.eap_packet.specs.Fault.{fault, fields_of, code_of, length_of, type_of, packet_of};
 
 use crate::cause::Cause;
@@ -133,7 +133,7 @@ fn view_of<'a>(octets: &'a [u8]) -> PacketView<'a>
 /// cause, in the order of `Cause`, that keeps them from beginning with one (RFC 3748 section 4).
 #[tactic(auto, unfolding(crate::specs::Fault::packet_of))]
 pub fn decode<'a>(octets: &'a [u8]) -> Result<PacketView<'a>, Cause>
-    ensures packet { heard result ≡ packet_of octets.now }
+    ensures packet { decoded_value result ≡ packet_of octets.now }
     ensures sound { IfOk result (λ view. IsPacket (value_of view)) }
     ensures whole { IfOk result (λ view. view.whole.now ≡ spelled (value_of view)) }
     ensures prefix { IfOk result (λ view. view.whole.now ≡ take (length_of octets.now) octets.now) }

@@ -11,7 +11,7 @@ use Rattle.server_machine.specs.Inputs as server_inputs
 use Rattle.pass_through.specs.Inputs as pass_inputs
 use Rattle.eap_world.specs.Conversations.{Conversations}
 use Rattle.eap_world.specs.Sent.{Sent, packet_numbered}
-use Rattle.eap_world.specs.World.{Call, Parties, altered, call_at, call_of, call_with, first_skip, held_before, has_none, held_unless, next_call, octets_of, restart_skips, skip_table, timer_call, to_pass, to_peer, to_server}
+use Rattle.eap_world.specs.World.{Call, Parties, alteration, call_at, call_of, call_with, first_skip, held_before, has_none, held_unless, next_call, octets_of, restart_skips, skip_table, timer_call, to_pass, to_peer, to_server}
 use Rattle.eap_world.specs.declared.conversations.Waiting.{Waiting}
 use Rattle.eap_world.specs.declared.told.Skip.{Skip}
 use Rattle.eap_world.specs.declared.told.Skip.TheVariants.{NoNonce}
@@ -40,7 +40,7 @@ timer_told held party.Server = refl
 call_told : (held : Held) (all : Conversations) (sent : List Sent) (e : Event) → ((of : Party) → e ≡ event.Restart of → ⊥)
     → held_unless held None (call_of all sent e) ≡ held
 call_told held all sent (event.Deliver n) other = with_packet held (packet_numbered sent n) (octets_of (packet_numbered sent n))
-call_told held all sent (event.Alter n place mask) other = with_packet held (packet_numbered sent n) (altered (octets_of (packet_numbered sent n)) place mask)
+call_told held all sent (event.Alter n place mask) other = with_packet held (packet_numbered sent n) (alteration (octets_of (packet_numbered sent n)) place mask)
 call_told held all sent (event.Cut n keep) other = with_packet held (packet_numbered sent n) (take keep (octets_of (packet_numbered sent n)))
 call_told held all sent (event.Inject to octets) other = at_port held to octets
 call_told held all sent (event.Timeout of) other = timer_told held of

@@ -9,7 +9,7 @@ use Rattle.server_machine.specs.declared.variables.Role.TheVariants.{StandAlone}
 use Rattle.server_machine.proofs.Starting.{backend_is_ready, stays_as_it_is}
 use Rattle.eap_world.specs.Conversations.{Conversations}
 use Rattle.eap_world.specs.Sent.{Sent}
-use Rattle.eap_world.specs.World.{Acted, Action, Call, IsServing, Parties, act, acted, call_of, called, called_unless, first_skip}
+use Rattle.eap_world.specs.World.{Acted, Action, Call, IsServing, Parties, act, act_with, call_of, act_of_call, called_unless, first_skip}
 use Rattle.eap_world.specs.World.{role_in, skip_table, start_call, to_pass, to_peer, to_server}
 use Rattle.eap_world.specs.declared.told.Skip.{Skip}
 
@@ -17,7 +17,7 @@ use Rattle.eap_world.specs.declared.told.Skip.{Skip}
 abbrev Serves : Acted → Type 0
 Serves out = IsServing out.after.mode out.after.server.vars
 
-call-serves : (parties : Parties) (call : Call) → IsServing parties.mode parties.server.vars → Serves (called parties call)
+call-serves : (parties : Parties) (call : Call) → IsServing parties.mode parties.server.vars → Serves (act_of_call parties call)
 call-serves parties (to_peer input) serving = serving
 call-serves parties (to_server input) serving =
     let same = stays_as_it_is parties.server input in
@@ -31,7 +31,7 @@ unless-serves parties None None serving = serving
 unless-serves parties None (Some call) serving = call-serves parties call serving
 
 pub act_serves : (parties after : Parties) (conversations : Conversations) (sent : List Sent) (e : Event) (action : Action)
-    → act parties conversations sent e ≡ acted action after
+    → act parties conversations sent e ≡ act_with action after
     → IsServing parties.mode parties.server.vars → IsServing after.mode after.server.vars
 unfolding act
 act_serves parties after conversations sent e action is serving =
@@ -45,18 +45,18 @@ alone-starts server alone unstarted = rw unstarted (record { role = alone; ready
 
 -- or the pass-through before the backend
 begins : (runs : Mode) (parties : Parties) → parties.server.vars.role ≡ role_in runs → is_started parties.server.vars ≡ false
-    → IsServing runs (called parties (start_call runs)).after.server.vars
+    → IsServing runs (act_of_call parties (start_call runs)).after.server.vars
 begins mode.Alone parties role unstarted = alone-starts parties.server role unstarted
 begins mode.Through parties role unstarted = record { role = role; ready = backend_is_ready parties.server.vars role }
 
-mode-stays : (parties : Parties) (call : Call) → (called parties call).after.mode ≡ parties.mode
+mode-stays : (parties : Parties) (call : Call) → (act_of_call parties call).after.mode ≡ parties.mode
 mode-stays parties (to_peer input) = refl
 mode-stays parties (to_server input) = refl
 mode-stays parties (to_pass input) = refl
 
-pub start_serves : (parties after : Parties) (action : Action) → called parties (start_call parties.mode) ≡ acted action after
+pub start_serves : (parties after : Parties) (action : Action) → act_of_call parties (start_call parties.mode) ≡ act_with action after
     → parties.server.vars.role ≡ role_in parties.mode → is_started parties.server.vars ≡ false → IsServing after.mode after.server.vars
 start_serves parties after action is role unstarted =
     subst Serves is
-    (subst (λ (runs : Mode). IsServing runs (called parties (start_call parties.mode)).after.server.vars)
+    (subst (λ (runs : Mode). IsServing runs (act_of_call parties (start_call parties.mode)).after.server.vars)
     (sym (mode-stays parties (start_call parties.mode))) (begins parties.mode parties role unstarted))

@@ -33,8 +33,8 @@ abbrev pub waiting : List ℕ → Waiting
 waiting nonce = record { nonce = nonce; heard = false }
 
 -- a conversation that began in this event, at this end, with this nonce
-abbrev pub begun : ℕ → End → List ℕ → Begun
-begun event end nonce = record { event = event; end = end; nonce = nonce }
+abbrev pub beginning : ℕ → End → List ℕ → Begun
+beginning event end nonce = record { event = event; end = end; nonce = nonce }
 
 -- octets are delivered to some party: a nonce whose prefix occurs in them isn't fresh any more
 abbrev pub hears : List ℕ → Waiting → Waiting
@@ -53,7 +53,7 @@ is_new all one = not one.heard && not (is_used all one.nonce)
 -- an end begins a conversation with the nonce
 abbrev pub begins : ℕ → End → Waiting → Conversations → Conversations
 begins event end one all =
-    record all { begun = all.begun ++ begun event end one.nonce ∷ []; fresh = all.fresh && is_new all.begun one }
+    record all { begun = all.begun ++ beginning event end one.nonce ∷ []; fresh = all.fresh && is_new all.begun one }
 
 -- with the next of its nonces, if it has one
 abbrev pub peer_begins : ℕ → Conversations → List Waiting → Conversations
@@ -74,7 +74,7 @@ abbrev pub conversations_from : List ℕ → List ℕ → Later → Conversation
 conversations_from peer server later = record {
   peer_left = map waiting later.peer;
   server_left = map waiting later.server;
-  begun = begun 0 end.Peer peer ∷ begun 0 end.Server server ∷ [];
+  begun = beginning 0 end.Peer peer ∷ beginning 0 end.Server server ∷ [];
   fresh = not (bytes_eq (front peer) (front server));
 }
 

@@ -47,10 +47,10 @@ server_agrees setup report =
 abbrev pub agree : PeerSetup → ServerSetup → Report → Report → Bool
 agree peer server one other = same_report one other && (peer_agrees peer one && server_agrees server one)
 
-abbrev pub judged : PeerSetup → ServerSetup → Option Report → Option Report → Bool
-judged peer server (Some one) (Some other) = agree peer server one other
-judged peer server (Some one) None = false
-judged peer server None reported = false
+abbrev pub agreement_of : PeerSetup → ServerSetup → Option Report → Option Report → Bool
+agreement_of peer server (Some one) (Some other) = agree peer server one other
+agreement_of peer server (Some one) None = false
+agreement_of peer server None reported = false
 
 abbrev pub is_success : State → Bool
 is_success s = elim s [ state.Success ↦ true | _ ↦ false ]
@@ -59,5 +59,5 @@ is_success s = elim s [ state.Success ↦ true | _ ↦ false ]
 unfoldable pub verdict_of : WorldNow → Verdict
 verdict_of w =
     if is_success w.parties.peer.vars.state && is_success w.parties.server.vars.state
-    then (if judged w.parties.peer.vars.setup w.parties.server.vars.setup (peer_reports w.parties.peer) (server_reports w.parties.server) then Agree else Apart)
+    then (if agreement_of w.parties.peer.vars.setup w.parties.server.vars.setup (peer_reports w.parties.peer) (server_reports w.parties.server) then Agree else Apart)
     else Unfinished

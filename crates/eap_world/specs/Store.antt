@@ -23,11 +23,11 @@ abbrev pub packets_at : List ℕ → List Slot → List Sent
 packets_at octets slots = map (packet_at octets) slots
 
 -- a packet as the store shows it
-abbrev pub stored : Stored → Sent
-stored packet = record { port = packet.port; octets = packet.octets.now }
+abbrev pub sent_of : Stored → Sent
+sent_of packet = record { port = packet.port; octets = packet.octets.now }
 
-abbrev pub lent : Option Stored → Option Sent
-lent packet = option_map stored packet
+abbrev pub sent_of_slot : Option Stored → Option Sent
+sent_of_slot packet = option_map sent_of packet
 
 -- so many octets are enough for a slot, which is a packet's
 pub record IsThere (count : ℕ) (slot : Slot) : Type 0 where

@@ -34,7 +34,7 @@ use Rattle.pass_through.specs.Inputs.{PassInput, pass_takes}
 use Rattle.pass_through.specs.PassTable as passes
 use Rattle.pass_through.specs.PassTable.{Side, PassStep, pass_made, is_over, has_timer, is_aaa_idle}
 use Rattle.pass_through.specs.declared.variables.PassVariables.{PassVariables}
-use Rattle.tag_book.specs.Book.{booked}
+use Rattle.tag_book.specs.Book.{entries_of}
 use Rattle.eap_world.specs.Conversations.{Conversations, conversations_made, heard_by, peer_begins, server_begins}
 use Rattle.eap_world.specs.Sent.{Sent, packet_numbered}
 use Rattle.eap_world.specs.declared.act.Action as brief_action
@@ -214,8 +214,8 @@ octets_of None = []
 octets_of (Some packet) = packet.octets
 
 -- the octets with the one at a place combined with a mask by exclusive or
-abbrev pub altered : List ℕ → ℕ → ℕ → List ℕ
-altered octets place mask = take place octets ++ bit_xor (slice_index octets place) mask ∷ drop (place + 1) octets
+abbrev pub alteration : List ℕ → ℕ → ℕ → List ℕ
+alteration octets place mask = take place octets ++ bit_xor (slice_index octets place) mask ∷ drop (place + 1) octets
 
 -- nobody is at the port of a packet
 abbrev pub goes_nowhere : Mode → Option Sent → Bool
@@ -286,11 +286,11 @@ abbrev pub timer_call : Party → Call
 timer_call party.Pass = to_pass pass_inputs.timeout
 timer_call _ = to_server server_inputs.timeout
 
-abbrev pub reported : Event → Option Call
-reported event.Idle = Some (to_peer peer_inputs.idle)
-reported event.AltAccept = Some (to_peer peer_inputs.alt_accept)
-reported event.AltReject = Some (to_peer peer_inputs.alt_reject)
-reported _ = None
+abbrev pub lower_layer_call : Event → Option Call
+lower_layer_call event.Idle = Some (to_peer peer_inputs.idle)
+lower_layer_call event.AltAccept = Some (to_peer peer_inputs.alt_accept)
+lower_layer_call event.AltReject = Some (to_peer peer_inputs.alt_reject)
+lower_layer_call _ = None
 
 -- an end begins with the next of its nonces
 abbrev pub next_call : (List ℕ → Call) → List Waiting → Option Call
@@ -304,14 +304,14 @@ restart_call conversations party.Server = next_call (λ nonce. to_server (server
 
 abbrev pub call_of : Conversations → List Sent → Event → Option Call
 call_of conversations sent (event.Deliver n) = let packet = packet_numbered sent n in call_with packet (octets_of packet)
-call_of conversations sent (event.Alter n place mask) = let packet = packet_numbered sent n in call_with packet (altered (octets_of packet) place mask)
+call_of conversations sent (event.Alter n place mask) = let packet = packet_numbered sent n in call_with packet (alteration (octets_of packet) place mask)
 call_of conversations sent (event.Cut n keep) = let packet = packet_numbered sent n in call_with packet (take keep (octets_of packet))
 call_of conversations sent (event.Inject port octets) = Some (call_at port octets)
 call_of conversations sent (event.Timeout party) = Some (timer_call party)
 call_of conversations sent event.AaaTimeout = Some (to_pass pass_inputs.aaa_timeout)
 call_of conversations sent event.AaaNoReq = Some (to_pass pass_inputs.aaa_noreq)
 call_of conversations sent (event.Restart party) = restart_call conversations party
-call_of conversations sent e = reported e
+call_of conversations sent e = lower_layer_call e
 
 -- what a call of a party did, with what it wrote: the party, whether octets were delivered to it, the port to which
 -- what it sends goes, and its step
@@ -340,15 +340,15 @@ pub record Acted : Type 0 where
   pub action : Action
   pub after : Parties
 
-abbrev pub acted : Action → Parties → Acted
-acted action after = record { action = action; after = after }
+abbrev pub act_with : Action → Parties → Acted
+act_with action after = record { action = action; after = after }
 
-abbrev pub skipped : Parties → Skip → Acted
-skipped parties skip = acted (Skipped skip) parties
+abbrev pub act_of_skip : Parties → Skip → Acted
+act_of_skip parties skip = act_with (Skipped skip) parties
 
 -- what a call did that answers so, with what it wrote into the machines after it
 abbrev pub acted_with : {P S : Type 0} → (P → PeerShown) → (S → ServerShown) → brief_action.Action → Machines P S → Acted
-acted_with peer_shown server_shown action after = acted (action_with action after.packet after.tags) (parties_of peer_shown server_shown after)
+acted_with peer_shown server_shown action after = act_with (action_with action after.packet after.tags) (parties_of peer_shown server_shown after)
 
 abbrev pub did_at : Party → Port → Bool → Step → Did
 did_at party port is_delivery step = record { party = party; is_delivery = is_delivery; port = port; step = step }
@@ -366,21 +366,21 @@ did_pass input step =
     did_at party.Pass (pass_port step.to) (is_delivery (to_pass input))
     (record { path = step.path; cause = step.cause; sent = step.sent; tags = no_tags })
 
-abbrev pub called : Parties → Call → Acted
-called parties (to_peer input) =
+abbrev pub act_of_call : Parties → Call → Acted
+act_of_call parties (to_peer input) =
     let out = peer_takes parties.peer input in
-    acted (Called (did_by parties.mode party.Peer (is_delivery (to_peer input)) out.step)) (record parties { peer = out.after })
-called parties (to_server input) =
+    act_with (Called (did_by parties.mode party.Peer (is_delivery (to_peer input)) out.step)) (record parties { peer = out.after })
+act_of_call parties (to_server input) =
     let out = server_takes parties.server input in
-    acted (Called (did_by parties.mode party.Server (is_delivery (to_server input)) out.step)) (record parties { server = out.after })
-called parties (to_pass input) =
+    act_with (Called (did_by parties.mode party.Server (is_delivery (to_server input)) out.step)) (record parties { server = out.after })
+act_of_call parties (to_pass input) =
     let out = pass_takes parties.pass input in
-    acted (Called (did_pass input out.step)) (record parties { pass = out.after })
+    act_with (Called (did_pass input out.step)) (record parties { pass = out.after })
 
 abbrev pub called_unless : Parties → Option Skip → Option Call → Acted
-called_unless parties (Some skip) call = skipped parties skip
-called_unless parties None None = skipped parties NoParty
-called_unless parties None (Some call) = called parties call
+called_unless parties (Some skip) call = act_of_skip parties skip
+called_unless parties None None = act_of_skip parties NoParty
+called_unless parties None (Some call) = act_of_call parties call
 
 -- what an event does to the parties, if these conversations have begun and these packets were sent before it
 unfoldable pub act : Parties → Conversations → List Sent → Event → Acted
@@ -413,15 +413,15 @@ call_octets (to_peer input) = peer_octets input
 call_octets (to_server input) = server_octets input
 call_octets (to_pass input) = pass_octets input
 
-abbrev pub conversed : ℕ → Conversations → Call → Conversations
-conversed event conversations (to_peer (peer_inputs.restart nonce)) = peer_begins event conversations conversations.peer_left
-conversed event conversations (to_server (server_inputs.restart nonce)) = server_begins event conversations conversations.server_left
-conversed event conversations call = heard_in conversations (call_octets call)
+abbrev pub conversations_after : ℕ → Conversations → Call → Conversations
+conversations_after event conversations (to_peer (peer_inputs.restart nonce)) = peer_begins event conversations conversations.peer_left
+conversations_after event conversations (to_server (server_inputs.restart nonce)) = server_begins event conversations conversations.server_left
+conversations_after event conversations call = heard_in conversations (call_octets call)
 
 abbrev pub conversed_unless : ℕ → Conversations → Option Skip → Option Call → Conversations
 conversed_unless event conversations (Some skip) call = conversations
 conversed_unless event conversations None None = conversations
-conversed_unless event conversations None (Some call) = conversed event conversations call
+conversed_unless event conversations None (Some call) = conversations_after event conversations call
 
 -- of an event
 unfoldable pub conversed_by : ℕ → Parties → Conversations → List Sent → Event → Conversations
@@ -464,7 +464,7 @@ end_of party.Server = Some end.Server
 
 abbrev pub booked_of : ℕ → Option End → Tags → List Entry
 booked_of event None tags = []
-booked_of event (Some end) tags = booked event end tags
+booked_of event (Some end) tags = entries_of event end tags
 
 abbrev pub booked_by : ℕ → Action → List Entry
 booked_by event (Skipped skip) = []
@@ -474,9 +474,9 @@ booked_by event (Called did) = booked_of event (end_of did.party) did.step.tags
 abbrev pub one_if : Bool → ℕ
 one_if b = if b then 1 else 0
 
-abbrev pub counted : Counts → Action → Counts
-counted c (Skipped skip) = record c { events = c.events + 1 }
-counted c (Called did) = record {
+abbrev pub counts_after : Counts → Action → Counts
+counts_after c (Skipped skip) = record c { events = c.events + 1 }
+counts_after c (Called did) = record {
   events = c.events + 1;
   deliveries = c.deliveries + one_if did.is_delivery;
   discards = c.discards + one_if (is_some did.step.cause);
@@ -524,9 +524,9 @@ held_before held parties conversations sent e =
     held_unless held (first_skip (skip_table parties conversations sent e)) (call_of conversations sent e)
 
 -- its result: the number of its event, that of the packet it sends, and a first report
-abbrev pub numbered : ℕ → Port → Option (List ℕ) → Option SentPacket
-numbered number port None = None
-numbered number port (Some octets) = Some (record { number = number; port = port })
+abbrev pub sent_packet : ℕ → Port → Option (List ℕ) → Option SentPacket
+sent_packet number port None = None
+sent_packet number port (Some octets) = Some (record { number = number; port = port })
 
 abbrev pub told_of : ℕ → ℕ → Option Named → Action → Told
 told_of event number named (Skipped skip) =
@@ -537,7 +537,7 @@ told_of event number named (Called did) = record {
   path = did.step.path;
   cause = did.step.cause;
   skip = None;
-  sent = numbered number did.port did.step.sent;
+  sent = sent_packet number did.port did.step.sent;
   named = named;
 }
 
@@ -584,14 +584,14 @@ start_call mode.Alone = to_server server_inputs.start
 start_call mode.Through = to_pass pass_inputs.start
 
 unfoldable pub world_start : WorldNow → WorldOutcome
-world_start w = world_acted w 0 w.counts w.held w.conversations (called w.parties (start_call w.parties.mode))
+world_start w = world_acted w 0 w.counts w.held w.conversations (act_of_call w.parties (start_call w.parties.mode))
 
 -- the next event
 unfoldable pub world_step : WorldNow → Event → WorldOutcome
 world_step w e =
     let event = w.counts.events + 1 in
     let out = act w.parties w.conversations w.sent e in
-    world_acted w event (counted w.counts out.action) (held_before w.held w.parties w.conversations w.sent e)
+    world_acted w event (counts_after w.counts out.action) (held_before w.held w.parties w.conversations w.sent e)
     (conversed_by event w.parties w.conversations w.sent e) out
 
 -- the run: the start, and then the events in order

@@ -6,10 +6,10 @@ ghost use Rattle.eap_method.specs.Steps.{is_end, step_with};
 ghost use Rattle.pass_through.specs.PassTable as passes;
 ghost use Rattle.server_machine.specs.ServerTable as servers;
 ghost use Rattle.eap_method.specs.declared.tags.Tags.{Tags};
-ghost use Rattle.eap_world.specs.Store.{lent};
-ghost use Rattle.eap_world.specs.World.{Does, DoesCall, HaveObjects, IsServing, aaa_skips, act, action_with, altered, call_at, call_with, called};
+ghost use Rattle.eap_world.specs.Store.{sent_of_slot};
+ghost use Rattle.eap_world.specs.World.{Does, DoesCall, HaveObjects, IsServing, aaa_skips, act, action_with, alteration, call_at, call_with, act_of_call};
 ghost use Rattle.eap_world.specs.World.{conversed_by, did_at, did_by, first_skip, goes_to, is_absent, octets_of, packet_skips, parties_of};
-ghost use Rattle.eap_world.specs.World.{pass_skips, reported, restart_call, restart_skips, role_in, start_call, timer_call, timer_skips, to_pass};
+ghost use Rattle.eap_world.specs.World.{pass_skips, lower_layer_call, restart_call, restart_skips, role_in, start_call, timer_call, timer_skips, to_pass};
 ghost use Rattle.eap_world.specs.World as worlds;
 ghost use Rattle.pass_through.specs.Inputs.{aaa_timeout, aaa_noreq};
 ghost use Rattle.login_setup.specs.declared.setup.Party.TheVariants.{Pass, Peer, Server};
@@ -68,7 +68,7 @@ impl<P: PeerMethod, S: ServerMethod> Machines<P, S> {
         requires role { self.old.server.vars.role ≡ role_in self.old.mode }
         requires pass { passes.is_started self.old.pass.state ≡ false }
         ensures { Does P.peer_shown S.server_shown self.old result self.new
-            (called (parties_of P.peer_shown S.server_shown self.old) (start_call self.old.mode)) self.old.conversations }
+            (act_of_call (parties_of P.peer_shown S.server_shown self.old) (start_call self.old.mode)) self.old.conversations }
     {
         self.tags.clear();
         match self.mode {
@@ -122,7 +122,7 @@ impl<P: PeerMethod, S: ServerMethod> Machines<P, S> {
     fn deliver(&mut self, packet: Option<Stored>) -> Action
         requires serving { IsServing self.old.mode self.old.server.vars }
         ensures { DoesCall P.peer_shown S.server_shown self.old result self.new
-            (first_skip (packet_skips self.old.mode (lent packet.entry) false)) (call_with (lent packet.entry) (octets_of (lent packet.entry))) }
+            (first_skip (packet_skips self.old.mode (sent_of_slot packet.entry) false)) (call_with (sent_of_slot packet.entry) (octets_of (sent_of_slot packet.entry))) }
     {
         self.hand_part(packet, false, octets_of(packet))
     }
@@ -132,8 +132,8 @@ impl<P: PeerMethod, S: ServerMethod> Machines<P, S> {
         requires serving { IsServing self.old.mode self.old.server.vars }
         requires sizes { IfSome packet (λ s. length s.octets.now ≤ max_packet) }
         ensures { DoesCall P.peer_shown S.server_shown self.old result self.new
-            (first_skip (packet_skips self.old.mode (lent packet.entry) (nat_le (length (octets_of (lent packet.entry))) place)))
-            (call_with (lent packet.entry) (altered (octets_of (lent packet.entry)) place mask)) }
+            (first_skip (packet_skips self.old.mode (sent_of_slot packet.entry) (nat_le (length (octets_of (sent_of_slot packet.entry))) place)))
+            (call_with (sent_of_slot packet.entry) (alteration (octets_of (sent_of_slot packet.entry)) place mask)) }
     {
         let octets = octets_of(packet);
         let place = usize::from(place);
@@ -145,8 +145,8 @@ impl<P: PeerMethod, S: ServerMethod> Machines<P, S> {
     fn cut(&mut self, packet: Option<Stored>, keep: u16) -> Action
         requires serving { IsServing self.old.mode self.old.server.vars }
         ensures { DoesCall P.peer_shown S.server_shown self.old result self.new
-            (first_skip (packet_skips self.old.mode (lent packet.entry) (nat_lt (length (octets_of (lent packet.entry))) keep)))
-            (call_with (lent packet.entry) (take keep (octets_of (lent packet.entry)))) }
+            (first_skip (packet_skips self.old.mode (sent_of_slot packet.entry) (nat_lt (length (octets_of (sent_of_slot packet.entry))) keep)))
+            (call_with (sent_of_slot packet.entry) (take keep (octets_of (sent_of_slot packet.entry)))) }
     {
         let octets = octets_of(packet);
         let keep = usize::from(keep);
@@ -158,7 +158,7 @@ impl<P: PeerMethod, S: ServerMethod> Machines<P, S> {
         requires serving { IsServing self.old.mode self.old.server.vars }
         ensures { (came : List ℕ) → (is_misplaced ≡ false → octets.now ≡ came)
             → DoesCall P.peer_shown S.server_shown self.old result self.new
-            (first_skip (packet_skips self.old.mode (lent packet.entry) is_misplaced)) (call_with (lent packet.entry) came) }
+            (first_skip (packet_skips self.old.mode (sent_of_slot packet.entry) is_misplaced)) (call_with (sent_of_slot packet.entry) came) }
     {
         match packet {
             None => Action::Skipped(Skip::Unsent),
@@ -302,7 +302,7 @@ impl<P: PeerMethod, S: ServerMethod> Machines<P, S> {
     /// The peer's lower layer is idle, or reports success or failure. Nothing is sent for it, and no tag made.
     fn report(&mut self, event: &Event) -> Action
         ensures { DoesCall P.peer_shown S.server_shown self.old result self.new
-            (first_skip ((is_end self.old.peer.vars.state, Ended) ∷ [])) (reported event.now) }
+            (first_skip ((is_end self.old.peer.vars.state, Ended) ∷ [])) (lower_layer_call event.now) }
     {
         self.packet.clear();
         self.tags.clear();
@@ -437,7 +437,7 @@ fn is_absent(mode: Mode, port: Port) -> bool
 
 /// The octets of a packet; none if it wasn't sent.
 fn octets_of<'a>(packet: Option<Stored<'a>>) -> &'a [u8]
-    ensures octets { result.now ≡ octets_of (lent packet.entry) }
+    ensures octets { result.now ≡ octets_of (sent_of_slot packet.entry) }
     ensures fits { IfSome packet.entry (λ s. length s.octets.now ≤ max_packet) → length result.now ≤ max_packet }
 {
     match packet {
@@ -449,7 +449,7 @@ fn octets_of<'a>(packet: Option<Stored<'a>>) -> &'a [u8]
 /// A copy whose octet at `place`, if there is one, is combined with `mask` by exclusive or.
 fn altered_copy(octets: &[u8], place: usize, mask: u8) -> Packet
     requires { length octets.now ≤ max_packet }
-    ensures { nat_le (length octets.now) place ≡ false → result ≡ altered octets.now place mask }
+    ensures { nat_le (length octets.now) place ≡ false → result ≡ alteration octets.now place mask }
 {
     let mut copy = Packet::new();
     if place < octets.len() {

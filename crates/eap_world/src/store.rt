@@ -3,7 +3,7 @@
 ghost use Rattle.std.specs.Prelude.{◌≡◌, ◌≤◌, ◌+◌, ◌++◌, ◌∷◌, [], true, length, take, drop, Some, IfSome, is_some};
 ghost use Rattle.eap_base.specs.Sizes.{max_packet};
 ghost use Rattle.eap_world.specs.Sent.{last_to, packet_numbered, same_port};
-ghost use Rattle.eap_world.specs.Store.{AreThere, IsThere, last_slot, lent, packet_at, packets_at};
+ghost use Rattle.eap_world.specs.Store.{AreThere, IsThere, last_slot, sent_of_slot, packet_at, packets_at};
 
 use eap_base::MAX_PACKET;
 use login_setup::Port;
@@ -127,7 +127,7 @@ impl Store {
 
     /// The packet of this number, counted from 1; None if none was sent with it.
     pub fn get(&self, number: u32) -> Option<Stored>
-        ensures packet { lent result ≡ packet_numbered self.now.packets number }
+        ensures packet { sent_of_slot result ≡ packet_numbered self.now.packets number }
         ensures fits { IfSome result (λ packet. length packet.octets.now ≤ max_packet) }
     {
         if number == 0 {

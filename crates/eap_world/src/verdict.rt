@@ -2,7 +2,7 @@
 
 ghost use Rattle.std.specs.Prelude.{◌≡◌};
 ghost use Rattle.login_setup.specs.Users.{user_of};
-ghost use Rattle.eap_world.specs.Judgement.{same_report, allows_suite, peer_agrees, server_agrees, agree, judged, is_welcome};
+ghost use Rattle.eap_world.specs.Judgement.{same_report, allows_suite, peer_agrees, server_agrees, agree, agreement_of, is_welcome};
 
 use eap_base::{GPSK_KIND, is_among};
 use eap_method::Report;
@@ -27,7 +27,7 @@ pub fn judge_reports(
     one: &Option<Report>,
     other: &Option<Report>,
 ) -> bool
-    ensures { result ≡ judged peer.now server.now one.now other.now }
+    ensures { result ≡ agreement_of peer.now server.now one.now other.now }
 {
     match one {
         None => false,

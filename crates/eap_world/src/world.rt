@@ -7,7 +7,7 @@ ghost use Rattle.login_setup.specs.Setup.{IsSoundPeer, IsSoundServer, HasKeys};
 ghost use Rattle.login_setup.specs.declared.event.Event.TheVariants.{Restart};
 ghost use Rattle.eap_method.specs.declared.tags.Tags.{Tags};
 ghost use Rattle.eap_method.specs.Steps.{step_with};
-ghost use Rattle.eap_world.specs.World.{Called, Skipped, action_with, parties_of, sent_by, booked_by, counted, end_of, has_held};
+ghost use Rattle.eap_world.specs.World.{Called, Skipped, action_with, parties_of, sent_by, booked_by, counts_after, end_of, has_held};
 ghost use Rattle.eap_world.specs.World.{Parties, first_report, held_before, held_by, held_after, held_with, report_of, role_in, told_of, told_with};
 ghost use Rattle.eap_world.specs.Sent.{Sent};
 
@@ -645,7 +645,7 @@ fn count(counts: Counts, action: &Action) -> Counts
     requires room { counts.events < 2 ^ 31 }
     requires deliveries { counts.deliveries ≤ counts.events }
     requires discards { counts.discards ≤ counts.events }
-    ensures value { (packet : List ℕ) (tags : Tags) → result ≡ counted counts (action_with action.now packet tags) }
+    ensures value { (packet : List ℕ) (tags : Tags) → result ≡ counts_after counts (action_with action.now packet tags) }
     ensures events { result.events ≡ counts.events + 1 }
     ensures few_deliveries { result.deliveries ≤ counts.deliveries + 1 }
     ensures few_discards { result.discards ≤ counts.discards + 1 }

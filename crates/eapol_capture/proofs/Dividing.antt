@@ -11,7 +11,7 @@ use Rattle.eapol_capture.specs.Files.{Contents, ends, record_of, number, order_o
 use Rattle.octet_io.specs.Lines.{max_input}
 use Rattle.eapol_capture.specs.Files.{max_frame, max_kept}
 use Rattle.eapol_capture.specs.Reading.{Reading, octets_left, contents_from, contents_left, Divides, Answers, begun_in, Takes, Exhausts}
-use Rattle.eapol_capture.specs.Parts.{Hands, HandsAll, HasFrame, IsCut, IsPast, Stops, Parts, Frames, Fails, Opens, told, answer_of}
+use Rattle.eapol_capture.specs.Parts.{Hands, HandsAll, HasFrame, IsCut, IsPast, Stops, Parts, Frames, Fails, Opens, order_found, answer_of}
 use Rattle.eapol_capture.proofs.RecordLaws.{none-missing, cut-missing, past-missing, no-records, stops-early, stops-late, bad-record, one-record}
 use Rattle.eapol_capture.proofs.Handing.{hands_more, prepend-append}
 
@@ -182,7 +182,7 @@ header-opens before mid was left order none fits bounded all good =
 
 pub header-judged : (found : Result OctetOrder NextRecord) (before mid after : Reading) (was left : Option (List ℕ)) → before.order ≡ None →
     before.taken ≤ max_input → mid.taken ≤ max_input → HandsAll 24 before mid was left → found ≡ order_or_fault mid.frame →
-    after ≡ record mid { order = told found } → Opens found (contents_left before was) (contents_left after left)
+    after ≡ record mid { order = order_found found } → Opens found (contents_left before was) (contents_left after left)
 header-judged (Ok order) before mid after was left none fits bounded all judged is =
     rw is (header-opens before mid was left order none fits bounded all (sym judged))
 header-judged (Err answer) before mid after was left none fits bounded all judged is =

@@ -3,7 +3,7 @@ use Rattle.std.proofs.Common.{◌≡◌, ℕ, List, [], ◌∷◌, ◌++◌, tak
 use Rattle.eapol_capture.specs.declared.order.OctetOrder.TheVariants.{Big}
 use Rattle.eapol_capture.specs.declared.reader.NextRecord.TheVariants.{End, CutFile, BadMagic, BadVersion, BadLink, BadRecord, TooMuch}
 use Rattle.eapol_capture.specs.Files.{ends, record_of, contents, records, all_records}
-use Rattle.eapol_capture.specs.Frames.{carried, other, cut, eap}
+use Rattle.eapol_capture.specs.Frames.{contents_of, other, cut, eap}
 
 -- the header of a file, the most significant octet first, and the least one first
 big_header : List ℕ
@@ -103,43 +103,43 @@ unfolding records big_head identity_frame
 cut_at_limit = refl
 
 -- what frames carry
-identity : carried identity_frame ≡ eap (1 ∷ 0 ∷ 0 ∷ 5 ∷ 1 ∷ [])
-unfolding carried identity_frame
+identity : contents_of identity_frame ≡ eap (1 ∷ 0 ∷ 0 ∷ 5 ∷ 1 ∷ [])
+unfolding contents_of identity_frame
 identity = refl
 
-padded : carried (identity_frame ++ replicate 37 0) ≡ eap (1 ∷ 0 ∷ 0 ∷ 5 ∷ 1 ∷ [])
-unfolding carried identity_frame
+padded : contents_of (identity_frame ++ replicate 37 0) ≡ eap (1 ∷ 0 ∷ 0 ∷ 5 ∷ 1 ∷ [])
+unfolding contents_of identity_frame
 padded = refl
 
-short : carried (take 22 identity_frame) ≡ cut
-unfolding carried identity_frame
+short : contents_of (take 22 identity_frame) ≡ cut
+unfolding contents_of identity_frame
 short = refl
 
-headless : carried (take 17 identity_frame) ≡ cut
-unfolding carried identity_frame
+headless : contents_of (take 17 identity_frame) ≡ cut
+unfolding contents_of identity_frame
 headless = refl
 
-typeless : carried (take 13 identity_frame) ≡ other
-unfolding carried identity_frame
+typeless : contents_of (take 13 identity_frame) ≡ other
+unfolding contents_of identity_frame
 typeless = refl
 
-another_type : carried (replicate 12 0 ++ 8 ∷ 0 ∷ 1 ∷ 0 ∷ []) ≡ other
-unfolding carried
+another_type : contents_of (replicate 12 0 ++ 8 ∷ 0 ∷ 1 ∷ 0 ∷ []) ≡ other
+unfolding contents_of
 another_type = refl
 
 -- EAPOL-Start
-started : carried (replicate 12 0 ++ 136 ∷ 142 ∷ 1 ∷ 1 ∷ 0 ∷ 0 ∷ []) ≡ other
-unfolding carried
+started : contents_of (replicate 12 0 ++ 136 ∷ 142 ∷ 1 ∷ 1 ∷ 0 ∷ 0 ∷ []) ≡ other
+unfolding contents_of
 started = refl
 
-no_body : carried (replicate 12 0 ++ 136 ∷ 142 ∷ 1 ∷ 0 ∷ 0 ∷ 0 ∷ []) ≡ eap []
-unfolding carried
+no_body : contents_of (replicate 12 0 ++ 136 ∷ 142 ∷ 1 ∷ 0 ∷ 0 ∷ 0 ∷ []) ≡ eap []
+unfolding contents_of
 no_body = refl
 
-longest : carried (replicate 12 0 ++ 136 ∷ 142 ∷ 1 ∷ 0 ∷ 7 ∷ 208 ∷ replicate 2000 7) ≡ eap (replicate 2000 7)
-unfolding carried
+longest : contents_of (replicate 12 0 ++ 136 ∷ 142 ∷ 1 ∷ 0 ∷ 7 ∷ 208 ∷ replicate 2000 7) ≡ eap (replicate 2000 7)
+unfolding contents_of
 longest = refl
 
-too_long : carried (replicate 12 0 ++ 136 ∷ 142 ∷ 1 ∷ 0 ∷ 7 ∷ 209 ∷ replicate 2001 7) ≡ cut
-unfolding carried
+too_long : contents_of (replicate 12 0 ++ 136 ∷ 142 ∷ 1 ∷ 0 ∷ 7 ∷ 209 ∷ replicate 2001 7) ≡ cut
+unfolding contents_of
 too_long = refl

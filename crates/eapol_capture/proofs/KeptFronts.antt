@@ -3,13 +3,13 @@ use Rattle.std.proofs.Common.{◌≡◌, ℕ, ◌+◌, ◌-◌, ◌≤◌, List,
 use Rattle.std.specs.Int.{w16, from_be_bytes}
 use Rattle.std.proofs.lemmas.Bool.{cases_lt, lt-ltb, le-ltb}
 use Rattle.std.proofs.lemmas.List.{take_all, take-take, drop-take, get_or-take, length-take-le}
-use Rattle.eapol_capture.specs.Frames.{Carried, cut, eap, type_of, packet_type, body_length, body_of, carried}
+use Rattle.eapol_capture.specs.Frames.{Carried, cut, eap, type_of, packet_type, body_length, body_of, contents_of}
 use Rattle.eapol_capture.specs.Laws.{FrontsCarryTheSame}
 
 -- frames with EAPOL's whole header carry the same where their fields are the same
 same-fields : (a b : List ℕ) → 18 ≤ length a → 18 ≤ length b → type_of a ≡ type_of b → packet_type a ≡ packet_type b → body_of a ≡ body_of b →
-    carried a ≡ carried b
-unfolding carried
+    contents_of a ≡ contents_of b
+unfolding contents_of
 same-fields a b long other types kinds bodies =
     let a_type : ltb (length a) 14 ≡ false = le-ltb (length a) 14 (omega arith) in
     let b_type : ltb (length b) 14 ≡ false = le-ltb (length b) 14 (omega arith) in
@@ -49,7 +49,7 @@ body-of-size frame size long =
 pub fronts_carry_the_same : FrontsCarryTheSame
 fronts_carry_the_same frame =
     elim (cases_lt (length frame) 4096) [
-      | inl short ↦ ap carried (take_all 4096 frame (omega arith))
+      | inl short ↦ ap contents_of (take_all 4096 frame (omega arith))
       | inr long ↦
           let kept : length (take 4096 frame) ≡ 4096 = length-take-le 4096 frame long in
           let types : type_of (take 4096 frame) ≡ type_of frame = ap (from_be_bytes w16) (kept-field 12 2 frame (omega arith)) in

@@ -7,7 +7,7 @@ use Rattle.eapol_capture.specs.declared.order.OctetOrder.{OctetOrder}
 use Rattle.eapol_capture.specs.declared.order.OctetOrder.TheVariants.{Big, Little}
 use Rattle.octet_io.specs.Lines.{max_input}
 use Rattle.eapol_capture.specs.Files.{record_of, number, order_or_fault, all_records, max_frame, max_kept}
-use Rattle.eapol_capture.specs.Laws.{Captured, IsCaptured, four_octets, spelled_header, spelled_record, spelled_records, listed, SpelledFilesAreRead}
+use Rattle.eapol_capture.specs.Laws.{Captured, IsCaptured, four_octets, spelled_header, spelled_record, spelled_records, contents_of_list, SpelledFilesAreRead}
 use Rattle.eapol_capture.proofs.Dividing.{header-is, size-front}
 use Rattle.eapol_capture.proofs.RecordLaws.{no-records, one-record}
 
@@ -64,7 +64,7 @@ record-read order room c rest is fits =
     one ∙ rw (frame_is, rest_is, whole) refl
 
 records-read : (order : OctetOrder) (room : ℕ) (captured : List Captured) → All IsCaptured captured → length (spelled_records order captured) ≤ room →
-    all_records order room (spelled_records order captured) ≡ listed captured
+    all_records order room (spelled_records order captured) ≡ contents_of_list captured
 records-read order room [] all fits = no-records order room
 records-read order room (c ∷ rest) all fits =
     let is = All-head IsCaptured c rest all in

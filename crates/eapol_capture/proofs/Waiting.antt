@@ -9,7 +9,7 @@ use Rattle.eapol_capture.specs.declared.reader.NextRecord.TheVariants.{CutFile, 
 use Rattle.octet_io.specs.Lines.{max_input}
 use Rattle.eapol_capture.specs.Files.{number, order_of, order_or_fault, from_header, all_records, max_frame, max_kept}
 use Rattle.eapol_capture.specs.Reading.{Reading, octets_left, is_open, Waits}
-use Rattle.eapol_capture.specs.Parts.{Hands, HandsAll, Stops, Frames, HasHeader, Heads, told, answer_of}
+use Rattle.eapol_capture.specs.Parts.{Hands, HandsAll, Stops, Frames, HasHeader, Heads, order_found, answer_of}
 use Rattle.eapol_capture.proofs.RecordLaws.{cut-missing, no-records, stops-early, stops-late}
 use Rattle.eapol_capture.proofs.Handing.{prepend-append, prepend-nil}
 use Rattle.eapol_capture.proofs.Dividing.{Begins, each-fault, header-is, size-front}
@@ -32,7 +32,7 @@ header-waits Read before after was left none fits bounded stop = record {
 header-waits _ before after was left none fits bounded stop = tt
 
 pub header-heads : (found : Result OctetOrder NextRecord) (before mid after : Reading) (was left : Option (List ℕ)) → HandsAll 24 before mid was left →
-    found ≡ order_or_fault mid.frame → after ≡ record mid { order = told found } → Heads found before after was left
+    found ≡ order_or_fault mid.frame → after ≡ record mid { order = order_found found } → Heads found before after was left
 header-heads (Ok order) before mid after was left all judged is =
     let part_is : mid.frame ≡ all.part = all.kept ∙ take_all max_kept all.part (omega (arith, all.all)) in
     let good : order_or_fault all.part ≡ Ok order = rw part_is at (sym judged) in

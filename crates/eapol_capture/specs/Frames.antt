@@ -33,8 +33,8 @@ body_of frame =
     else eap (take (body_length frame) (drop 18 frame))
 
 -- what a frame carries: EAPOL's type 0 is an EAP packet
-unfoldable pub carried : List ℕ → Carried
-carried frame =
+unfoldable pub contents_of : List ℕ → Carried
+contents_of frame =
     if nat_lt (length frame) 14 then other
     else if not (type_of frame == eapol_type) then other
     else if nat_lt (length frame) 18 then cut
@@ -42,7 +42,7 @@ carried frame =
     else body_of frame
 
 -- what an answer says of a frame
-abbrev pub heard : FrameFinding → Carried
-heard Other = other
-heard Cut = cut
-heard (Eap octets) = eap octets.now
+abbrev pub finding_value : FrameFinding → Carried
+finding_value Other = other
+finding_value Cut = cut
+finding_value (Eap octets) = eap octets.now

@@ -6,7 +6,7 @@ use Rattle.eapol_capture.specs.declared.order.OctetOrder.TheVariants.{Big, Littl
 use Rattle.eapol_capture.specs.declared.reader.NextRecord.TheVariants.{End}
 use Rattle.octet_io.specs.Lines.{max_input}
 use Rattle.eapol_capture.specs.Files.{Contents, ends, record_of, contents, magic_number, max_frame, max_kept}
-use Rattle.eapol_capture.specs.Frames.{eap, eapol_type, carried}
+use Rattle.eapol_capture.specs.Frames.{eap, eapol_type, contents_of}
 
 -- a captured frame, with its time and its length before it was cut, as they are in a file
 pub record Captured : Type 0 where
@@ -45,15 +45,15 @@ abbrev pub spelled_file : OctetOrder → List ℕ → List Captured → List ℕ
 spelled_file order unread captured = spelled_header order unread ++ spelled_records order captured
 
 -- what the file is
-abbrev pub listed : List Captured → Contents
-listed [] = ends 0 End
-listed (c ∷ rest) = record_of (take max_kept c.frame) (listed rest)
+abbrev pub contents_of_list : List Captured → Contents
+contents_of_list [] = ends 0 End
+contents_of_list (c ∷ rest) = record_of (take max_kept c.frame) (contents_of_list rest)
 
 -- in either octet order a file is read as the records that it encodes, and then its end
 abbrev pub SpelledFilesAreRead : Type 0
 SpelledFilesAreRead =
     (order : OctetOrder) (unread : List ℕ) (captured : List Captured) → length unread ≡ 12 → All IsCaptured captured →
-    length (spelled_file order unread captured) ≤ max_input → contents (spelled_file order unread captured) ≡ listed captured
+    length (spelled_file order unread captured) ≤ max_input → contents (spelled_file order unread captured) ≡ contents_of_list captured
 
 -- a frame that carries an EAP packet: two addresses, the type of EAPOL, its version, its type 0 and the packet's length,
 -- the packet, and padding
@@ -65,8 +65,8 @@ spelled_frame addresses version packet padding =
 abbrev pub SpelledFramesCarryTheirPackets : Type 0
 SpelledFramesCarryTheirPackets =
     (addresses : List ℕ) (version : ℕ) (packet padding : List ℕ) → length addresses ≡ 12 → length packet ≤ 2000 →
-    carried (spelled_frame addresses version packet padding) ≡ eap packet
+    contents_of (spelled_frame addresses version packet padding) ≡ eap packet
 
 -- what is kept of a frame carries the same as the frame
 abbrev pub FrontsCarryTheSame : Type 0
-FrontsCarryTheSame = (frame : List ℕ) → carried (take max_kept frame) ≡ carried frame
+FrontsCarryTheSame = (frame : List ℕ) → contents_of (take max_kept frame) ≡ contents_of frame

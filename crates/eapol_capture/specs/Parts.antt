@@ -14,9 +14,9 @@ answer_of (Ok value) = Record
 answer_of (Err answer) = answer
 
 -- the octet order that a header gives
-abbrev pub told : Result OctetOrder NextRecord → Option OctetOrder
-told (Ok order) = Some order
-told (Err answer) = None
+abbrev pub order_found : Result OctetOrder NextRecord → Option OctetOrder
+order_found (Ok order) = Some order
+order_found (Err answer) = None
 
 -- what no part changes
 pub record Keeps (before after : Reading) : Type 0 where

@@ -1,7 +1,7 @@
 //! EAP packets in Ethernet frames.
 
 ghost use Rattle.std.specs.Prelude.{◌≡◌, ◌≤◌, length, nat_lt};
-ghost use Rattle.eapol_capture.specs.Frames.{carried, heard, body_of, type_of, body_length};
+ghost use Rattle.eapol_capture.specs.Frames.{contents_of, finding_value, body_of, type_of, body_length};
 
 use eap_base::array_of;
 
@@ -50,7 +50,7 @@ fn body_length(frame: &[u8]) -> usize
 /// The EAP packet in a frame with EAPOL's header, if it is whole.
 fn body_of<'a>(frame: &'a [u8]) -> FrameFinding<'a>
     requires { 18 ≤ length frame.now }
-    ensures { heard result ≡ body_of frame.now }
+    ensures { finding_value result ≡ body_of frame.now }
 {
     let size = body_length(frame);
     let body = &frame[EAPOL..];
@@ -72,9 +72,9 @@ fn is_short(frame: &[u8]) -> bool
 /// 11.3). `Cut`: the frame's type is 888e and it has under 18 octets, or EAPOL's type is 0 and its length is
 /// over the octets that are there or over 2,000. `Other`: the frame has under 14 octets, its type isn't
 /// 888e, or it has 18 octets or more and EAPOL's type isn't 0. Octets past the body are padding.
-#[tactic(auto, unfolding(crate::specs::Frames::carried))]
+#[tactic(auto, unfolding(crate::specs::Frames::contents_of))]
 pub fn eap_of_frame<'a>(frame: &'a [u8]) -> FrameFinding<'a>
-    ensures { heard result ≡ carried frame.now }
+    ensures { finding_value result ≡ contents_of frame.now }
 {
     if frame.len() < ETHERNET || type_of(frame) != EAPOL_TYPE {
         FrameFinding::Other

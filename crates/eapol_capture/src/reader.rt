@@ -76,7 +76,7 @@ impl PcapReader {
     ghost use Rattle.octet_io.specs.Lines.{max_input};
     ghost use Rattle.eapol_capture.specs.Files.{max_kept, number, order_or_fault};
     ghost use Rattle.eapol_capture.specs.Reading.{contents_left, octets_left, Answers, begun, records_begin, Takes, Exhausts, Waits, Faults, is_last};
-    ghost use Rattle.eapol_capture.specs.Parts.{answer_of, told, Keeps, Parts, Frames, Opens, Heads};
+    ghost use Rattle.eapol_capture.specs.Parts.{answer_of, order_found, Keeps, Parts, Frames, Opens, Heads};
 
     /// A reader that has read nothing.
     pub fn new() -> PcapReader
@@ -174,7 +174,7 @@ impl PcapReader {
         requires bounded { self.old.taken ≤ max_input }
         ensures contents { Opens result (contents_left self.old (S.shown.octets source.old)) (contents_left self.new (S.shown.octets source.new)) }
         ensures header { Heads result self.old self.new (S.shown.octets source.old) (S.shown.octets source.new) }
-        ensures order { self.new.order ≡ told result }
+        ensures order { self.new.order ≡ order_found result }
         ensures number { self.new.number ≡ self.old.number }
         ensures over { self.new.over ≡ self.old.over }
         ensures grows { self.old.taken ≤ self.new.taken }
@@ -190,7 +190,7 @@ impl PcapReader {
     fn judge(&mut self) -> Result<OctetOrder, NextRecord>
         requires { length self.old.frame ≡ 24 }
         ensures judged { result ≡ order_or_fault self.old.frame }
-        ensures kept { self.new ≡ record self.old { order = told result } }
+        ensures kept { self.new ≡ record self.old { order = order_found result } }
     {
         let found = judge_header(self.frame.as_slice());
         self.order = found.ok();

@@ -42,9 +42,9 @@ or_else [] others = others
 or_else (number ∷ rest) others = number ∷ rest
 
 -- the numbers of a field: those before its first 0
-abbrev pub listed : List ℕ → List ℕ
-listed [] = []
-listed (number ∷ rest) = if number == 0 then [] else number ∷ listed rest
+abbrev pub numbers_of : List ℕ → List ℕ
+numbers_of [] = []
+numbers_of (number ∷ rest) = if number == 0 then [] else number ∷ numbers_of rest
 
 -- a method, if there is a key for it
 abbrev pub kind_if : List ℕ → ℕ → List ℕ
@@ -57,7 +57,7 @@ keyed_kinds told = kind_if told.gpsk_key gpsk_kind ++ kind_if told.psk_key psk_k
 
 -- the methods of the field or, if it has none, those for which there is a key
 unfoldable pub named_kinds : SettingsValue → List ℕ
-named_kinds told = or_else (listed told.methods) (keyed_kinds told)
+named_kinds told = or_else (numbers_of told.methods) (keyed_kinds told)
 
 -- the methods of an end: if none is named, both
 unfoldable pub kinds_of : SettingsValue → List ℕ
@@ -69,7 +69,7 @@ first_kind told = slice_index (kinds_of told) 0
 
 -- the suites of EAP-GPSK
 unfoldable pub suites_of : SettingsValue → List ℕ
-suites_of told = or_else (listed told.suites) (1 ∷ 2 ∷ [])
+suites_of told = or_else (numbers_of told.suites) (1 ∷ 2 ∷ [])
 
 -- the octets of the key for a method
 abbrev pub key_for : SettingsValue → ℕ → List ℕ
@@ -83,15 +83,15 @@ abbrev pub is_set : ℕ → Bool
 is_set field = not (field == 0)
 
 -- a server of this name alone, or any if it is empty
-abbrev pub accepted : List ℕ → Accepts
-accepted [] = Any
-accepted (octet ∷ rest) = One (octet ∷ rest)
+abbrev pub accepts_of : List ℕ → Accepts
+accepts_of [] = Any
+accepts_of (octet ∷ rest) = One (octet ∷ rest)
 
 -- the settings of a peer
 unfoldable pub peer_setup_of : SettingsValue → List ℕ → PeerSetup
 peer_setup_of told nonce = record {
   name = told.name;
-  accepts = accepted told.other;
+  accepts = accepts_of told.other;
   methods = kinds_of told;
   suites = suites_of told;
   keys = map (key_with told) (keyed_kinds told);
@@ -122,7 +122,7 @@ server_setup_of told nonce = record {
 unfoldable pub credential_of : SettingsValue → Credential
 credential_of told = record {
   id_p = told.name;
-  accepts = accepted told.other;
+  accepts = accepts_of told.other;
   suites = suites_of told;
   psk = key_for told (first_kind told);
 }

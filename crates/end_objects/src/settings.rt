@@ -5,7 +5,7 @@ ghost use Rattle.eap_base.specs.Among.{is_kind};
 ghost use Rattle.eap_base.specs.Sizes.{max_name};
 ghost use Rattle.login_setup.specs.Setup.{are_kinds, fits_kind, IsSoundPeer, HasKeys, IsSoundServer};
 ghost use Rattle.login_setup.specs.Users.{HasRoom};
-ghost use Rattle.end_objects.specs.Settings.{settings_of, or_else, listed, keyed_kinds, named_kinds, kinds_of, first_kind, suites_of, key_for, key_with, accepted, peer_setup_of, user_with, users_of, server_setup_of, credential_of, side_of};
+ghost use Rattle.end_objects.specs.Settings.{settings_of, or_else, numbers_of, keyed_kinds, named_kinds, kinds_of, first_kind, suites_of, key_for, key_with, accepts_of, peer_setup_of, user_with, users_of, server_setup_of, credential_of, side_of};
 ghost use Rattle.end_objects.specs.Refusals.{peer_refusal, server_refusal, IsSoundOther};
 
 use eap_base::{GPSK_KIND, Identity, Kinds, Nonce, Octets, PSK_KIND, Secret, Suites};
@@ -44,7 +44,7 @@ pub struct Settings<'a> {
 
 /// The numbers of a field: those before its first 0.
 fn listed(field: &[u8; 2]) -> Octets<2>
-    ensures { result ≡ listed field.now }
+    ensures { result ≡ numbers_of field.now }
 {
     let [first, second] = *field;
     if first == 0 {
@@ -149,7 +149,7 @@ fn keys_of(settings: &Settings) -> Keys
 /// A server of this name alone, or any if it is empty.
 fn accepts(server: &[u8]) -> Accepts
     requires { length server.now ≤ max_name }
-    ensures { result ≡ accepted server.now }
+    ensures { result ≡ accepts_of server.now }
 {
     match server {
         [] => Accepts::Any,

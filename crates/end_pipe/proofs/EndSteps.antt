@@ -13,7 +13,7 @@ use Rattle.scenario_text.specs.declared.entry.Setting.{Setting}
 use Rattle.scenario_text.specs.declared.settings.Settings.{Settings}
 use Rattle.end_pipe.specs.EndContents.{Entry}
 use Rattle.end_pipe.specs.EndContents as entry
-use Rattle.end_pipe.specs.EndReading.{EndReading, ReadLine, end, is_missing, lacks_some, part_of, read_line, said, taken}
+use Rattle.end_pipe.specs.EndReading.{EndReading, ReadLine, end, is_missing, lacks_some, part_of, read_line, line_of, line_of_entry}
 use Rattle.end_pipe.specs.EndReading as item
 use Rattle.end_pipe.specs.EndTable.{row_of}
 use Rattle.end_pipe.specs.declared.input.EndInput.{EndInput}
@@ -21,18 +21,18 @@ use Rattle.end_pipe.specs.declared.table.Role.{Role}
 
 -- the header; a line that is passed over; a setting, or the line `events` where none is missing; an input, or the line `end`
 pub data Follows (role : Role) (s : Settings) : Phase → ReadLine → Type 0 where
-  Header : Follows role s phase.Unread (said item.Nothing role phase.Settings no_settings)
-  Passed : (p : Phase) → Follows role s p (said item.Nothing role p s)
-  NewSetting : (v : Setting) → Follows role s phase.Settings (said item.Nothing role phase.Settings (with_setting s v))
-  AllSet : lacks_some role s ≡ false → Follows role s phase.Settings (said item.Ready role phase.Events s)
-  NewInput : (input : EndInput) → Follows role s phase.Events (said (item.Input input) role phase.Events s)
-  AllRead : Follows role s phase.Events (said item.End role phase.Ended s)
+  Header : Follows role s phase.Unread (line_of item.Nothing role phase.Settings no_settings)
+  Passed : (p : Phase) → Follows role s p (line_of item.Nothing role p s)
+  NewSetting : (v : Setting) → Follows role s phase.Settings (line_of item.Nothing role phase.Settings (with_setting s v))
+  AllSet : lacks_some role s ≡ false → Follows role s phase.Settings (line_of item.Ready role phase.Events s)
+  NewInput : (input : EndInput) → Follows role s phase.Events (line_of (item.Input input) role phase.Events s)
+  AllRead : Follows role s phase.Events (line_of item.End role phase.Ended s)
 
 module _ (role : Role) (s : Settings) where
   abbrev at : Phase → EndReading
   at p = record { role = role; phase = p; settings = s }
 
-  taken_follows : (p : Phase) (e : Entry) → may_stand p (part_of e) ≡ true → is_missing role s e ≡ false → Follows role s p (taken role p s e)
+  taken_follows : (p : Phase) (e : Entry) → may_stand p (part_of e) ≡ true → is_missing role s e ≡ false → Follows role s p (line_of_entry role p s e)
   taken_follows phase.Settings (entry.Set v) m n = NewSetting v
   taken_follows phase.Settings entry.Events m n = AllSet n
   taken_follows phase.Events (entry.Comes input) m n = NewInput input
@@ -46,7 +46,7 @@ module _ (role : Role) (s : Settings) where
   header_read : (out : ReadLine) (same : Bool) → read_begin row_of end (cond same (Some (record { role = role; phase = phase.Settings; settings = no_settings })) None) ≡ Ok out
       → Follows role s phase.Unread out
   header_read out true e =
-      let is : said item.Nothing role phase.Settings no_settings ≡ out = cc in subst (Follows role s phase.Unread) is Header
+      let is : line_of item.Nothing role phase.Settings no_settings ≡ out = cc in subst (Follows role s phase.Unread) is Header
   header_read out false e = absurd cc
 
   at_phase : (p : Phase) (line : List ℕ) (out : ReadLine) → read_at row_of end p (at p) line ≡ Ok out → Follows role s p out

@@ -44,8 +44,8 @@ unread role = record { role = role; phase = phase.Unread; settings = no_settings
 abbrev pub ReadLine : Type 0
 ReadLine = texts.ReadLine Item EndReading
 
-abbrev pub said : Item → Role → Phase → Settings → ReadLine
-said item role p s = texts.said item (record { role = role; phase = p; settings = s })
+abbrev pub line_of : Item → Role → Phase → Settings → ReadLine
+line_of item role p s = texts.line_of item (record { role = role; phase = p; settings = s })
 
 -- the answer of a reader, with the input that was written if it has one
 abbrev pub item_with : answer.EndItem → EndReading → EndInput → Item
@@ -70,8 +70,8 @@ HasSetup answer.TheVariants.Ready after = AreWhole after.role after.settings
 HasSetup other after = Unit {0}
 
 -- line 1
-abbrev pub begun : Role → List ℕ → Option EndReading
-begun role line = if bytes_eq line (codes "eap-end 1") then Some (record { role = role; phase = phase.Settings; settings = no_settings }) else None
+abbrev pub reading_after_header : Role → List ℕ → Option EndReading
+reading_after_header role line = if bytes_eq line (codes "eap-end 1") then Some (record { role = role; phase = phase.Settings; settings = no_settings }) else None
 
 -- settings come before the line `events`, inputs and the line `end` after it
 abbrev pub part_of : Entry → Part
@@ -96,11 +96,11 @@ is_missing role s entry.Events = lacks_some role s
 is_missing role s e = false
 
 -- what a line says and adds
-abbrev pub taken : Role → Phase → Settings → Entry → ReadLine
-taken role p s (entry.Set v) = said Nothing role p (with_setting s v)
-taken role p s entry.Events = said Ready role phase.Events s
-taken role p s (entry.Comes input) = said (Input input) role p s
-taken role p s entry.End = said End role phase.Ended s
+abbrev pub line_of_entry : Role → Phase → Settings → Entry → ReadLine
+line_of_entry role p s (entry.Set v) = line_of Nothing role p (with_setting s v)
+line_of_entry role p s entry.Events = line_of Ready role phase.Events s
+line_of_entry role p s (entry.Comes input) = line_of (Input input) role p s
+line_of_entry role p s entry.End = line_of End role phase.Ended s
 
 abbrev pub end : texts.Table EndWord Entry EndReading Item
 end = record {
@@ -109,12 +109,12 @@ end = record {
   entry = entry_of;
   part = part_of;
   phase = λ r. r.phase;
-  begun = λ r. begun r.role;
+  begun = λ r. reading_after_header r.role;
   nothing = Nothing;
   is_crowded = λ r. is_crowded r.settings;
   came_before = λ r. came_before r.settings;
   is_missing = λ r. is_missing r.role r.settings;
-  taken = λ r. taken r.role r.phase r.settings;
+  taken = λ r. line_of_entry r.role r.phase r.settings;
 }
 
 -- what a line says and adds, or its first fault

@@ -63,8 +63,8 @@ pub record Moved (N : Type 0) : Type 0 where
   pub step : Step
   pub after : N
 
-abbrev pub moved : {N : Type 0} → Step → N → Moved N
-moved step after = record { step = step; after = after }
+abbrev pub move_of : {N : Type 0} → Step → N → Moved N
+move_of step after = record { step = step; after = after }
 
 -- what settings begin: an end, and the result of its start, if it has one
 pub record Begun (N : Type 0) : Type 0 where
@@ -96,7 +96,7 @@ peer_answers now (Some input) = peer_takes now input
 peer_answers now None = peers.answer (enters [] no_tags) now
 
 abbrev pub peer_moved : PeerAnswer → Moved PeerNow
-peer_moved out = moved out.step out.after
+peer_moved out = move_of out.step out.after
 
 abbrev pub peer_begun : PeerSetup → EndNow PeerNow
 peer_begun setup = record { now = peer_made setup; held = false }
@@ -119,7 +119,7 @@ server_answers now (Some input) = server_takes now input
 server_answers now None = servers.answer (enters [] no_tags) now
 
 abbrev pub server_moved : ServerAnswer → Moved ServerNow
-server_moved out = moved out.step out.after
+server_moved out = move_of out.step out.after
 
 abbrev pub server_unstarted : ServerSetup → ℕ → ℕ → EndNow ServerNow
 server_unstarted setup first_id max_retrans = record { now = server_made StandAlone setup first_id max_retrans; held = false }
@@ -127,8 +127,8 @@ server_unstarted setup first_id max_retrans = record { now = server_made StandAl
 unfoldable pub server_starts : EndNow ServerNow → EndOutcome ServerNow
 server_starts e = goes server_reports e.held (server_moved (server_start e.now))
 
-abbrev pub started : EndOutcome ServerNow → Begun ServerNow
-started out = record { told = Some out.told; after = out.after }
+abbrev pub begun_with : EndOutcome ServerNow → Begun ServerNow
+begun_with out = record { told = Some out.told; after = out.after }
 
 abbrev pub server_begun : ServerSetup → ℕ → ℕ → EndNow ServerNow
 server_begun setup first_id max_retrans = (server_starts (server_unstarted setup first_id max_retrans)).after
@@ -137,7 +137,7 @@ abbrev pub server_table : MachineTable ServerNow
 server_table = record {
   begins = λ settings.
       server_setup_of settings >>= λ setup.
-      Ok (started (server_starts (server_unstarted setup (unwrap_or settings.first_id 0) (unwrap_or settings.max_retrans 4))));
+      Ok (begun_with (server_starts (server_unstarted setup (unwrap_or settings.first_id 0) (unwrap_or settings.max_retrans 4))));
   moves = λ now input. server_moved (server_answers now (server_input input));
   state = λ now. now.vars.state;
   reports = server_reports;

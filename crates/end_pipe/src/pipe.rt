@@ -2,7 +2,7 @@
 
 ghost use Rattle.std.specs.Prelude.{◌≡◌, ◌||◌, List, false, is_some};
 ghost use Rattle.eap_method.specs.Steps.{step_with};
-ghost use Rattle.end_pipe.specs.EndRun.{EndNow, GoesOn, StandsFor, end_now, end_step, first_report, moved, outcome, told_with};
+ghost use Rattle.end_pipe.specs.EndRun.{EndNow, GoesOn, StandsFor, end_now, end_step, first_report, move_of, outcome, told_with};
 ghost use Rattle.end_pipe.specs.Inputs.{is_skipped};
 ghost use Rattle.end_pipe.specs.declared.input.EndInput.{EndInput};
 
@@ -35,7 +35,7 @@ pub trait Machine: Drop {
         requires going { is_going self.old }
         requires heard { is_skipped (table.state (shown self.old)) input.now ≡ false }
         ensures step { table.moves (shown self.old) input.now
-            ≡ moved (step_with result packet.new tags.new) (shown self.new) }
+            ≡ move_of (step_with result packet.new tags.new) (shown self.new) }
         ensures going { is_going self.new };
 
     /// The machine's state.

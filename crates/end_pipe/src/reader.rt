@@ -2,7 +2,7 @@
 //! the header an empty line and one that begins with `#` are ignored.
 
 ghost use Rattle.std.specs.Prelude.{◌≡◌, ◌≤◌, unwrap_or, IfOk, OnErr};
-ghost use Rattle.text_tables.specs.Texts.{answered};
+ghost use Rattle.text_tables.specs.Texts.{line_result};
 ghost use Rattle.scenario_text.specs.Reading.{peer_setup_of, server_setup_of};
 ghost use Rattle.scenario_text.specs.Valid.{IsValidPeer, IsValidServer};
 ghost use Rattle.end_pipe.specs.EndReading.{HasSetup, finish_of, item_with, lacks_some};
@@ -64,7 +64,7 @@ impl EndReader {
     /// its first fault, and then the reader is as it was.
     #[tactic(auto, unfolding(crate::specs::EndReading::read_line))]
     pub fn line(&mut self, line: &[u8], input: &mut EndInput) -> Result<EndItem, LineFault>
-        ensures read { reading.read_line self.old line.now ≡ answered item_with result self.new input.new }
+        ensures read { reading.read_line self.old line.now ≡ line_result item_with result self.new input.new }
         ensures ready { IfOk result (λ item. HasSetup item self.new) }
         ensures unchanged { OnErr result (self.new ≡ self.old) }
     {

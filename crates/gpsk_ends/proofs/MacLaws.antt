@@ -6,14 +6,14 @@ use Rattle.eap_base.specs.declared.suite.Suite.TheVariants.{Cmac, Hmac}
 use Rattle.eap_base.specs.Suite.{ks_of}
 use Rattle.eap_packet.specs.declared.packet.Code.{Code}
 use Rattle.eap_packet.specs.declared.packet.Code.TheVariants.{Request, Response, Success, Failure}
-use Rattle.eap_packet.specs.Packet.{has_type, value_with, number_of, framed, two_octets}
+use Rattle.eap_packet.specs.Packet.{has_type, value_with, number_of, frame_of, two_octets}
 use Rattle.eap_packet.specs.Packet as packets
 use Rattle.gpsk_messages.specs.Message.{Message, gpsk1, gpsk2, gpsk3, gpsk4, fail, protected_fail, op_code, covered_of, mac_of, size_of, spelled, without_mac}
 use Rattle.gpsk_messages.specs.Reading.{with_mac}
 use Rattle.login_keys.specs.Gkdf.{gpsk_tag_of}
 use Rattle.eap_method.specs.declared.tags.Label.TheVariants.{Sk}
 use Rattle.eap_method.specs.declared.tags.TagRecord.{TagRecord}
-use Rattle.eap_method.specs.GpskTags.{tagged}
+use Rattle.eap_method.specs.GpskTags.{message_with_mac}
 use Rattle.gpsk_ends.specs.Sealed.{packet_of, record_of}
 
 -- ---- a message and its MAC
@@ -97,7 +97,7 @@ front_of code id count op covered = code ∷ id ∷ two_octets count ++ (51 ∷ 
 
 -- the packet is its front with the MAC
 parts : (code id op : ℕ) (covered mac : List ℕ) →
-    framed code id (51 ∷ op ∷ covered ++ mac) ≡ front_of code id (length (51 ∷ op ∷ covered ++ mac) + 4) op covered ++ mac
+    frame_of code id (51 ∷ op ∷ covered ++ mac) ≡ front_of code id (length (51 ∷ op ∷ covered ++ mac) + 4) op covered ++ mac
 unfolding front_of
 parts code id op covered mac = refl
 
@@ -117,7 +117,7 @@ front_covered code id count op covered = refl
 
 -- a MAC of the same size behind the front makes the packet with it
 front_joined : (code id op : ℕ) (covered mac tag : List ℕ) → length tag ≡ length mac →
-    front_of code id (length (51 ∷ op ∷ covered ++ mac) + 4) op covered ++ tag ≡ framed code id (51 ∷ op ∷ covered ++ tag)
+    front_of code id (length (51 ∷ op ∷ covered ++ mac) + 4) op covered ++ tag ≡ frame_of code id (51 ∷ op ∷ covered ++ tag)
 front_joined code id op covered mac tag e =
     let one = length-append covered mac in
     let other = length-append covered tag in
@@ -125,7 +125,7 @@ front_joined code id op covered mac tag e =
     ap (λ count. front_of code id count op covered ++ tag) size ∙ sym (parts code id op covered tag)
 
 -- a Request and a Response have a Type
-typed : (code : Code) (id : ℕ) (body : List ℕ) → IsTrue (has_type code) → packets.spelled (value_with code id 51 body) ≡ framed (number_of code) id (51 ∷ body)
+typed : (code : Code) (id : ℕ) (body : List ℕ) → IsTrue (has_type code) → packets.spelled (value_with code id 51 body) ≡ frame_of (number_of code) id (51 ∷ body)
 unfolding packets.spelled
 typed Request id body t = refl
 typed Response id body t = refl
@@ -170,7 +170,7 @@ is_front code id suite message packet octets t m e o =
       covered = ap (λ (l : List ℕ). drop 6 l) cut ∙ front_covered n id count op covered;
       sealed = λ tag h.
           ap (λ (l : List ℕ). l ++ tag) cut ∙ front_joined n id op covered mac tag (h ∙ sym m)
-          ∙ ap (λ (l : List ℕ). framed n id (51 ∷ l)) (sym (spelled_with suite message tag m))
+          ∙ ap (λ (l : List ℕ). frame_of n id (51 ∷ l)) (sym (spelled_with suite message tag m))
           ∙ sym (typed code id (spelled (with_mac message tag)) t);
     }
 
@@ -178,7 +178,7 @@ is_front code id suite message packet octets t m e o =
 
 -- the MAC of the covered octets, and the message with it
 tag_of : (suite : Suite) (sk : List ℕ) (message : Message) (octets tag : List ℕ) → octets ≡ covered_of message →
-    tag ≡ gpsk_tag_of suite sk octets → tagged suite sk (without_mac message) ≡ with_mac message tag
+    tag ≡ gpsk_tag_of suite sk octets → message_with_mac suite sk (without_mac message) ≡ with_mac message tag
 tag_of suite sk message octets tag o t =
     let same : gpsk_tag_of suite sk (covered_of (without_mac message)) ≡ tag = ap (gpsk_tag_of suite sk) (covered_without message ∙ sym o) ∙ sym t in
     ap (with_mac (without_mac message)) same ∙ with_without message tag

@@ -9,8 +9,8 @@ pub record SuiteKeys : Type 0 where
   pub suite : Suite
   pub keys : GpskKeys
 
-abbrev pub shown : Inside → SuiteKeys
-shown kept = record { suite = kept.suite; keys = kept.keys }
+abbrev pub suite_keys : Inside → SuiteKeys
+suite_keys kept = record { suite = kept.suite; keys = kept.keys }
 
 -- the MAC's key is SK
 abbrev pub IsReady : Inside → Type 0

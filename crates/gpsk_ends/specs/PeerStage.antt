@@ -33,6 +33,6 @@ abbrev pub login_with : Credential → List ℕ → Offer → Login
 login_with cred nonce offer = record { cred = cred; nonce = nonce; id_s = offer.id_s.now; rand_s = offer.rand_s; suite = offer.suite }
 
 -- what a peer that has begun makes of the offer that it accepts, or of the cause why it accepts none
-abbrev pub offered : Credential → List ℕ → ℕ → Result Offer Cause → PeerOutcome View
-offered cred nonce id (Err cause) = discarded (fresh cred nonce) cause
-offered cred nonce id (Ok offer) = answers (login_with cred nonce offer) id offer.list.now
+abbrev pub outcome_of_offer : Credential → List ℕ → ℕ → Result Offer Cause → PeerOutcome View
+outcome_of_offer cred nonce id (Err cause) = discarded (fresh cred nonce) cause
+outcome_of_offer cred nonce id (Ok offer) = answers (login_with cred nonce offer) id offer.list.now

@@ -3,7 +3,7 @@
 ghost use Rattle.std.specs.Prelude.{◌≡◌, ◌≤◌, length, option_map, IfOk};
 ghost use Rattle.eap_base.specs.Suite.{ks_of};
 ghost use Rattle.eap_packet.specs.Packet.{max_type_data};
-ghost use Rattle.gpsk_messages.specs.Message.{message_of, heard};
+ghost use Rattle.gpsk_messages.specs.Message.{message_of, read_value};
 ghost use Rattle.gpsk_messages.specs.Reading.{read_of};
 ghost use Rattle.gpsk_ends.specs.Heard.{IsHeard};
 
@@ -15,7 +15,7 @@ use gpsk_messages::{GpskView, read_gpsk};
 #[tactic(auto, using(crate::proofs::Pieces::ks_small))]
 pub(crate) fn hear<'a>(body: &'a [u8], suite: Option<Suite>) -> Result<GpskView<'a>, Cause>
     requires { length body.now ≤ max_type_data }
-    ensures message { heard result ≡ read_of (option_map ks_of suite) body.now }
+    ensures message { read_value result ≡ read_of (option_map ks_of suite) body.now }
     ensures sound { IfOk result (λ view. IsHeard (message_of view) body.now) }
 {
     match suite {

@@ -28,11 +28,11 @@ pub(crate) struct Keys {
 }
 
 impl Model for Keys {
-    ghost use Rattle.gpsk_ends.specs.Keys.{SuiteKeys, shown, IsReady};
+    ghost use Rattle.gpsk_ends.specs.Keys.{SuiteKeys, suite_keys, IsReady};
 
     ghost Value = { SuiteKeys };
 
-    ghost view = { shown };
+    ghost view = { suite_keys };
 
     ghost invariant = { IsReady };
 }

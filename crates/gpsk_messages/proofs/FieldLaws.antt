@@ -11,7 +11,7 @@ use Rattle.eap_base.specs.declared.suite.Suite.{Suite}
 use Rattle.eap_base.specs.declared.suite.Suite.TheVariants.{Cmac, Hmac}
 use Rattle.eap_base.specs.Suite.{suite_octets}
 use Rattle.eap_packet.specs.Packet.{IsOctets}
-use Rattle.gpsk_messages.specs.Message.{sized, IsIdentity, IsBlock, IsSuiteList}
+use Rattle.gpsk_messages.specs.Message.{field_with_length, IsIdentity, IsBlock, IsSuiteList}
 use Rattle.gpsk_messages.specs.Reading.{and_then, exact_at, sized_at, identity_at, suites_at, suite_at, code_at}
 
 -- a step that gave something
@@ -54,7 +54,7 @@ exact_small count octets x small e =
     let g = cond_some {A = List ℕ × List ℕ} (leb count (length octets)) (take count octets, drop count octets) x e in
     subst (λ (p : List ℕ × List ℕ). IsOctets p.0) g.1 (All-take (λ b. b < 256) count octets small)
 
-pub sized_takes : (octets : List ℕ) (x : List ℕ × List ℕ) → IsOctets octets → sized_at octets ≡ Some x → Takes octets (sized x.0) x.1 × IsBlock x.0
+pub sized_takes : (octets : List ℕ) (x : List ℕ × List ℕ) → IsOctets octets → sized_at octets ≡ Some x → Takes octets (field_with_length x.0) x.1 × IsBlock x.0
 unfolding sized_at
 sized_takes [] x small e = absurd cc
 sized_takes (high ∷ []) x small e = absurd cc
@@ -69,14 +69,14 @@ sized_takes (high ∷ low ∷ octets) x small e =
     let joined = t.0.parts in
     (record { parts = cc; rest_small = t.0.rest_small }, omega arith)
 
-pub identity_takes : (octets : List ℕ) (x : List ℕ × List ℕ) → IsOctets octets → identity_at octets ≡ Some x → Takes octets (sized x.0) x.1 × IsIdentity x.0
+pub identity_takes : (octets : List ℕ) (x : List ℕ × List ℕ) → IsOctets octets → identity_at octets ≡ Some x → Takes octets (field_with_length x.0) x.1 × IsIdentity x.0
 unfolding identity_at
 identity_takes octets x small e =
     let s = step_of _ _ _ e in
     let g = cond_some (leb (length s.0.0) 253) s.0 x s.2 in
-    subst (λ (p : List ℕ × List ℕ). Takes octets (sized p.0) p.1 × IsIdentity p.0) g.1 ((sized_takes octets s.0 small s.1).0, leb-true (length s.0.0) 253 g.0)
+    subst (λ (p : List ℕ × List ℕ). Takes octets (field_with_length p.0) p.1 × IsIdentity p.0) g.1 ((sized_takes octets s.0 small s.1).0, leb-true (length s.0.0) 253 g.0)
 
-pub suites_takes : (octets : List ℕ) (x : List ℕ × List ℕ) → IsOctets octets → suites_at octets ≡ Some x → Takes octets (sized x.0) x.1 × IsSuiteList x.0
+pub suites_takes : (octets : List ℕ) (x : List ℕ × List ℕ) → IsOctets octets → suites_at octets ≡ Some x → Takes octets (field_with_length x.0) x.1 × IsSuiteList x.0
 unfolding suites_at
 suites_takes octets x small e =
     let s = step_of _ _ _ e in
@@ -85,7 +85,7 @@ suites_takes octets x small e =
     let tests = and_parts (ltb 0 size) (eqb (size % 6) 0) g.0 in
     let t = sized_takes octets s.0 small s.1 in
     let list : IsSuiteList s.0.0 = record { some = ltb-true 0 size tests.0; whole = eqb-true (size % 6) 0 tests.1; size = t.1 } in
-    subst (λ (p : List ℕ × List ℕ). Takes octets (sized p.0) p.1 × IsSuiteList p.0) g.1 (t.0, list)
+    subst (λ (p : List ℕ × List ℕ). Takes octets (field_with_length p.0) p.1 × IsSuiteList p.0) g.1 (t.0, list)
 
 suite_front : (suite : Suite) (octets : List ℕ) (x : Suite × List ℕ) → IsOctets (suite_octets suite ++ octets) → (suite, octets) ≡ x →
     Takes (suite_octets suite ++ octets) (suite_octets x.0) x.1
@@ -133,17 +133,17 @@ exact_again count field rest size =
     let fits : leb count (length (field ++ rest)) ≡ true = le-leb _ _ (omega (arith, length-append field rest)) in
     rw (fits, take_at field rest count size, drop_at field rest count size) refl
 
-pub sized_again : (field rest : List ℕ) → sized_at (sized field ++ rest) ≡ Some (field, rest)
+pub sized_again : (field rest : List ℕ) → sized_at (field_with_length field ++ rest) ≡ Some (field, rest)
 unfolding sized_at
 sized_again field rest =
     let n = length field in
     exact_again (256 * (n / 256) + n % 256) field rest (omega arith)
 
-pub identity_again : (field rest : List ℕ) → IsIdentity field → identity_at (sized field ++ rest) ≡ Some (field, rest)
+pub identity_again : (field rest : List ℕ) → IsIdentity field → identity_at (field_with_length field ++ rest) ≡ Some (field, rest)
 unfolding identity_at and_then
 identity_again field rest fits = rw (sized_again field rest, le-leb (length field) 253 fits) refl
 
-pub suites_again : (field rest : List ℕ) → IsSuiteList field → suites_at (sized field ++ rest) ≡ Some (field, rest)
+pub suites_again : (field rest : List ℕ) → IsSuiteList field → suites_at (field_with_length field ++ rest) ≡ Some (field, rest)
 unfolding suites_at and_then
 suites_again field rest list =
     rw (sized_again field rest, and_from _ _ (lt-ltb 0 (length field) list.some) (eq-eqb (length field % 6) 0 list.whole)) refl

@@ -8,8 +8,8 @@ use Rattle.eap_packet.specs.declared.cause.Cause.{Cause}
 use Rattle.eap_packet.specs.declared.cause.Cause.TheVariants.{GpskShape, ListTooLong}
 use Rattle.eap_packet.specs.Packet.{IsOctets}
 use Rattle.gpsk_messages.specs.declared.view.GpskView.{GpskView}
-use Rattle.gpsk_messages.specs.Message.{Message, message_of, heard, gpsk1, gpsk2, gpsk3, gpsk4, fail, protected_fail, op_code, mac_of, list_of, covered_of, without_mac, spelled, AreFields, HasMac, IsMacSize, IsGpsk, IsGpskLoose}
-use Rattle.gpsk_messages.specs.Reading.{fields_at, is_mac_size, takes_mac, with_mac, sealed, loose_of, judged, read_of}
+use Rattle.gpsk_messages.specs.Message.{Message, message_of, read_value, gpsk1, gpsk2, gpsk3, gpsk4, fail, protected_fail, op_code, mac_of, list_of, covered_of, without_mac, spelled, AreFields, HasMac, IsMacSize, IsGpsk, IsGpskLoose}
+use Rattle.gpsk_messages.specs.Reading.{fields_at, is_mac_size, takes_mac, with_mac, message_if_mac_fits, loose_of, outcome_of, read_of}
 use Rattle.gpsk_messages.specs.Laws.{SpellingsAreRead, ReadsTheSpelling, SpellingsAreApart, ShapelessSpellsNothing, SpellsALongList, Refuses, LongListsAreTold, SpellingsAreSized, CoveredIsTheMiddle, CoveredTellsTheFields}
 use Rattle.gpsk_messages.proofs.FieldLaws.{step_of, step_again}
 use Rattle.gpsk_messages.proofs.Reader.{fields_takes, fields_again}
@@ -42,7 +42,7 @@ seals ks (fail code) mac f e = record { fields = f; mac = tt; spelling = ap (λ 
 seals ks (protected_fail code none) mac f e = record { fields = f; mac = size_told ks (length mac) e; spelling = refl }
 
 -- the fields of a message and its MAC are sealed to it
-seals_again : (ks : Option ℕ) (message : Message) → HasMac ks message → sealed ks (without_mac message, mac_of message) ≡ Some message
+seals_again : (ks : Option ℕ) (message : Message) → HasMac ks message → message_if_mac_fits ks (without_mac message, mac_of message) ≡ Some message
 seals_again ks (gpsk1 id_s rand_s list) h = refl
 seals_again ks (gpsk2 id_p id_s rand_p rand_s list suite pd mac) h = cond-true _ _ _ (eq-eqb _ _ h)
 seals_again ks (gpsk3 rand_p rand_s id_s suite pd mac) h = cond-true _ _ _ (eq-eqb _ _ h)
@@ -77,17 +77,17 @@ abbrev Judged : Option Message → Result Message Cause → Type 0
 Judged found (Ok message) = (found ≡ Some message) × (length (list_of message) ≤ 6 * 20)
 Judged found (Err cause) = ((cause ≡ GpskShape) × (found ≡ None)) ⊎ ((cause ≡ ListTooLong) × ((message : Message) × (found ≡ Some message) × (6 * 20 < length (list_of message))))
 
-judgement : (found : Option Message) → Judged found (judged found)
+judgement : (found : Option Message) → Judged found (outcome_of found)
 judgement None = inl (refl, refl)
 judgement (Some message) =
     cond_both (leb (length (list_of message)) (6 * 20)) (Ok message) (Err ListTooLong) (Judged (Some message))
     (λ within. (refl, leb-true (length (list_of message)) (6 * 20) within))
     (λ long. inr (refl, (message, refl, leb-false (length (list_of message)) (6 * 20) long)))
 
-judged_within : (message : Message) → length (list_of message) ≤ 6 * 20 → judged (Some message) ≡ Ok message
+judged_within : (message : Message) → length (list_of message) ≤ 6 * 20 → outcome_of (Some message) ≡ Ok message
 judged_within message within = cond-true _ _ _ (le-leb (length (list_of message)) (6 * 20) within)
 
-judged_long : (message : Message) → 6 * 20 < length (list_of message) → judged (Some message) ≡ Err ListTooLong
+judged_long : (message : Message) → 6 * 20 < length (list_of message) → outcome_of (Some message) ≡ Err ListTooLong
 judged_long message long = cond-false _ _ _ (lt-leb (length (list_of message)) (6 * 20) long)
 
 -- what each answer comes from
@@ -95,9 +95,9 @@ read_judged : (ks : Option ℕ) (octets : List ℕ) (answer : Result Message Cau
 unfolding read_of
 read_judged ks octets answer e = subst (Judged (loose_of ks octets)) e (judgement (loose_of ks octets))
 
-judged_again : (ks : Option ℕ) (octets : List ℕ) (found : Option Message) (answer : Result Message Cause) → loose_of ks octets ≡ found → judged found ≡ answer → read_of ks octets ≡ answer
+judged_again : (ks : Option ℕ) (octets : List ℕ) (found : Option Message) (answer : Result Message Cause) → loose_of ks octets ≡ found → outcome_of found ≡ answer → read_of ks octets ≡ answer
 unfolding read_of
-judged_again ks octets found answer e j = ap judged e ∙ j
+judged_again ks octets found answer e j = ap outcome_of e ∙ j
 
 -- ---- the laws
 
@@ -162,13 +162,13 @@ pub long_lists_are_told : LongListsAreTold
 long_lists_are_told ks octets small = (long_if_told ks octets small, told_if_long ks octets)
 
 -- a reader's answer: a message that the octets spell
-pub spelled_if_heard : (ks : Option ℕ) (answer : Result GpskView Cause) (octets : List ℕ) → IsOctets octets → heard answer ≡ read_of ks octets →
+pub spelled_if_heard : (ks : Option ℕ) (answer : Result GpskView Cause) (octets : List ℕ) → IsOctets octets → read_value answer ≡ read_of ks octets →
     IfOk answer (λ view. IsGpsk ks (message_of view) octets)
 spelled_if_heard ks (Ok view) octets small e = spelled_if_read ks octets (message_of view) small (sym e)
 spelled_if_heard ks (Err cause) octets small e = tt
 
 -- or the cause, where they spell none
-pub refused_if_heard : (ks : Option ℕ) (answer : Result GpskView Cause) (octets : List ℕ) → IsOctets octets → heard answer ≡ read_of ks octets →
+pub refused_if_heard : (ks : Option ℕ) (answer : Result GpskView Cause) (octets : List ℕ) → IsOctets octets → read_value answer ≡ read_of ks octets →
     IfErr answer (Refuses ks octets)
 refused_if_heard ks (Ok view) octets small e = tt
 refused_if_heard ks (Err cause) octets small e =

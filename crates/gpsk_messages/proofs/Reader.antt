@@ -6,7 +6,7 @@ use Rattle.std.proofs.lemmas.Option.{same_Some}
 use Rattle.eap_base.specs.declared.suite.Suite.{Suite}
 use Rattle.eap_base.specs.Suite.{suite_octets}
 use Rattle.eap_packet.specs.Packet.{IsOctets}
-use Rattle.gpsk_messages.specs.Message.{Message, gpsk1, gpsk2, gpsk3, gpsk4, fail, protected_fail, op_code, sized, covered_of, without_mac, AreFields}
+use Rattle.gpsk_messages.specs.Message.{Message, gpsk1, gpsk2, gpsk3, gpsk4, fail, protected_fail, op_code, field_with_length, covered_of, without_mac, AreFields}
 use Rattle.gpsk_messages.specs.Reading.{and_then, gpsk1_at, gpsk2_at, gpsk3_at, gpsk4_at, fail_at, protected_fail_at, fields_at}
 use Rattle.gpsk_messages.proofs.FieldLaws.{step_of, step_again, Takes-then, exact_takes, sized_takes, identity_takes, suites_takes, suite_takes, code_takes, exact_again, sized_again, identity_again, suites_again, suite_again, code_again}
 
@@ -124,20 +124,20 @@ gpsk1_again : (id_s rand_s list rest : List ℕ) → AreFields (gpsk1 id_s rand_
     gpsk1_at (covered_of (gpsk1 id_s rand_s list) ++ rest) ≡ Some (gpsk1 id_s rand_s list, rest)
 unfolding gpsk1_at covered_of
 gpsk1_again id_s rand_s list rest f =
-    ap gpsk1_at (regroup2 (sized id_s) rand_s (sized list) rest)
-    ∙ step_again _ _ _ (identity_again id_s (rand_s ++ (sized list ++ rest)) f.0)
-    ∙ step_again _ _ _ (exact_again 32 rand_s (sized list ++ rest) f.1)
+    ap gpsk1_at (regroup2 (field_with_length id_s) rand_s (field_with_length list) rest)
+    ∙ step_again _ _ _ (identity_again id_s (rand_s ++ (field_with_length list ++ rest)) f.0)
+    ∙ step_again _ _ _ (exact_again 32 rand_s (field_with_length list ++ rest) f.1)
     ∙ step_again _ _ _ (suites_again list rest f.2)
 
 gpsk2_again : (id_p id_s rand_p rand_s list : List ℕ) (suite : Suite) (pd mac rest : List ℕ) → AreFields (gpsk2 id_p id_s rand_p rand_s list suite pd mac) →
     gpsk2_at (covered_of (gpsk2 id_p id_s rand_p rand_s list suite pd mac) ++ rest) ≡ Some (gpsk2 id_p id_s rand_p rand_s list suite pd [], rest)
 unfolding gpsk2_at covered_of
 gpsk2_again id_p id_s rand_p rand_s list suite pd mac rest f =
-    let after_suite = sized pd ++ rest in
+    let after_suite = field_with_length pd ++ rest in
     let after_list = suite_octets suite ++ after_suite in
-    let after_rands = sized list ++ after_list in
-    ap gpsk2_at (regroup6 (sized id_p) (sized id_s) rand_p rand_s (sized list) (suite_octets suite) (sized pd) rest)
-    ∙ step_again _ _ _ (identity_again id_p (sized id_s ++ (rand_p ++ (rand_s ++ after_rands))) f.0)
+    let after_rands = field_with_length list ++ after_list in
+    ap gpsk2_at (regroup6 (field_with_length id_p) (field_with_length id_s) rand_p rand_s (field_with_length list) (suite_octets suite) (field_with_length pd) rest)
+    ∙ step_again _ _ _ (identity_again id_p (field_with_length id_s ++ (rand_p ++ (rand_s ++ after_rands))) f.0)
     ∙ step_again _ _ _ (identity_again id_s (rand_p ++ (rand_s ++ after_rands)) f.1)
     ∙ step_again _ _ _ (exact_again 32 rand_p (rand_s ++ after_rands) f.2)
     ∙ step_again _ _ _ (exact_again 32 rand_s after_rands f.3)
@@ -149,11 +149,11 @@ gpsk3_again : (rand_p rand_s id_s : List ℕ) (suite : Suite) (pd mac rest : Lis
     gpsk3_at (covered_of (gpsk3 rand_p rand_s id_s suite pd mac) ++ rest) ≡ Some (gpsk3 rand_p rand_s id_s suite pd [], rest)
 unfolding gpsk3_at covered_of
 gpsk3_again rand_p rand_s id_s suite pd mac rest f =
-    let after_suite = sized pd ++ rest in
+    let after_suite = field_with_length pd ++ rest in
     let after_name = suite_octets suite ++ after_suite in
-    ap gpsk3_at (regroup4 rand_p rand_s (sized id_s) (suite_octets suite) (sized pd) rest)
-    ∙ step_again _ _ _ (exact_again 32 rand_p (rand_s ++ (sized id_s ++ after_name)) f.0)
-    ∙ step_again _ _ _ (exact_again 32 rand_s (sized id_s ++ after_name) f.1)
+    ap gpsk3_at (regroup4 rand_p rand_s (field_with_length id_s) (suite_octets suite) (field_with_length pd) rest)
+    ∙ step_again _ _ _ (exact_again 32 rand_p (rand_s ++ (field_with_length id_s ++ after_name)) f.0)
+    ∙ step_again _ _ _ (exact_again 32 rand_s (field_with_length id_s ++ after_name) f.1)
     ∙ step_again _ _ _ (identity_again id_s after_name f.2)
     ∙ step_again _ _ _ (suite_again suite after_suite)
     ∙ step_again _ _ _ (sized_again pd rest)

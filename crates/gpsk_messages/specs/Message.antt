@@ -51,16 +51,16 @@ list_of (fail code) = []
 list_of (protected_fail code mac) = []
 
 -- a field behind its length in two octets
-abbrev pub sized : List ℕ → List ℕ
-sized field = two_octets (length field) ++ field
+abbrev pub field_with_length : List ℕ → List ℕ
+field_with_length field = two_octets (length field) ++ field
 
 -- what the MAC covers: the octets after the OP-Code up to the MAC
 unfoldable pub covered_of : Message → List ℕ
-covered_of (gpsk1 id_s rand_s list) = sized id_s ++ (rand_s ++ sized list)
+covered_of (gpsk1 id_s rand_s list) = field_with_length id_s ++ (rand_s ++ field_with_length list)
 covered_of (gpsk2 id_p id_s rand_p rand_s list suite pd mac) =
-    sized id_p ++ (sized id_s ++ (rand_p ++ (rand_s ++ (sized list ++ (suite_octets suite ++ sized pd)))))
-covered_of (gpsk3 rand_p rand_s id_s suite pd mac) = rand_p ++ (rand_s ++ (sized id_s ++ (suite_octets suite ++ sized pd)))
-covered_of (gpsk4 pd mac) = sized pd
+    field_with_length id_p ++ (field_with_length id_s ++ (rand_p ++ (rand_s ++ (field_with_length list ++ (suite_octets suite ++ field_with_length pd)))))
+covered_of (gpsk3 rand_p rand_s id_s suite pd mac) = rand_p ++ (rand_s ++ (field_with_length id_s ++ (suite_octets suite ++ field_with_length pd)))
+covered_of (gpsk4 pd mac) = field_with_length pd
 covered_of (fail code) = to_be_bytes w32 code
 covered_of (protected_fail code mac) = to_be_bytes w32 code
 
@@ -148,6 +148,6 @@ message_of (view.Fail code) = fail code
 message_of (view.ProtectedFail code mac) = protected_fail code mac.now
 
 -- a reader's answer, with the message in place of the view
-abbrev pub heard : Result GpskView Cause → Result Message Cause
-heard (Ok shown) = Ok (message_of shown)
-heard (Err cause) = Err cause
+abbrev pub read_value : Result GpskView Cause → Result Message Cause
+read_value (Ok shown) = Ok (message_of shown)
+read_value (Err cause) = Err cause

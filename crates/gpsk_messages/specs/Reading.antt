@@ -131,21 +131,21 @@ with_mac (gpsk4 pd none) mac = gpsk4 pd mac
 with_mac (fail code) mac = fail code
 with_mac (protected_fail code none) mac = protected_fail code mac
 
-abbrev pub sealed : Option ℕ → Message × List ℕ → Option Message
-sealed ks fields = some_if (takes_mac ks fields.0 (length fields.1)) (with_mac fields.0 fields.1)
+abbrev pub message_if_mac_fits : Option ℕ → Message × List ℕ → Option Message
+message_if_mac_fits ks fields = some_if (takes_mac ks fields.0 (length fields.1)) (with_mac fields.0 fields.1)
 
 -- the message that the octets encode, with any number of suites in a list
 unfoldable pub loose_of : Option ℕ → List ℕ → Option Message
 loose_of ks [] = None
 loose_of ks (op ∷ octets) = do
   fields ← fields_at op octets
-  sealed ks fields
+  message_if_mac_fits ks fields
 
 -- a list has at most 20 suites
-abbrev pub judged : Option Message → Result Message Cause
-judged None = Err GpskShape
-judged (Some message) = if nat_le (length (list_of message)) (6 * 20) then Ok message else Err ListTooLong
+abbrev pub outcome_of : Option Message → Result Message Cause
+outcome_of None = Err GpskShape
+outcome_of (Some message) = if nat_le (length (list_of message)) (6 * 20) then Ok message else Err ListTooLong
 
 -- the message that the octets encode, or why there is none
 unfoldable pub read_of : Option ℕ → List ℕ → Result Message Cause
-read_of ks octets = judged (loose_of ks octets)
+read_of ks octets = outcome_of (loose_of ks octets)

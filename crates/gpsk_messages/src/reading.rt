@@ -1,9 +1,9 @@
 //! Reading Type-Data as a message (RFC 5433 section 9).
 
 ghost use Rattle.std.specs.Prelude.{◌≡◌, ◌+◌, ◌-◌, ◌≤◌, length, take, drop, option_map, IfOk, IfErr};
-ghost use Rattle.gpsk_messages.specs.Message.{message_of, heard, list_of, IsGpsk};
+ghost use Rattle.gpsk_messages.specs.Message.{message_of, read_value, list_of, IsGpsk};
 ghost use Rattle.gpsk_messages.specs.Laws.{Refuses};
-ghost use Rattle.gpsk_messages.specs.Reading.{and_then, gpsk1_at, gpsk2_at, gpsk3_at, gpsk4_at, fail_at, protected_fail_at, sealed, is_mac_size, loose_of, read_of};
+ghost use Rattle.gpsk_messages.specs.Reading.{and_then, gpsk1_at, gpsk2_at, gpsk3_at, gpsk4_at, fail_at, protected_fail_at, message_if_mac_fits, is_mac_size, loose_of, read_of};
 
 use crate::fields::{
     code_field, identity_field, rand_field, sized_field, suite_field, suites_field,
@@ -27,7 +27,7 @@ fn is_size_of_mac(size: usize, ks: Option<u8>) -> bool
 /// GPSK-1: ID_Server, RAND_Server, CSuite_List.
 #[tactic(auto, unfolding(crate::specs::Reading::and_then, crate::specs::Reading::gpsk1_at))]
 fn read_gpsk1<'a>(octets: &'a [u8], ks: Option<u8>) -> Option<GpskView<'a>>
-    ensures { option_map message_of result ≡ and_then (gpsk1_at octets.now) (sealed ks) }
+    ensures { option_map message_of result ≡ and_then (gpsk1_at octets.now) (message_if_mac_fits ks) }
 {
     let (id_s, rest) = identity_field(octets)?;
     let (rand_s, rest) = rand_field(rest)?;
@@ -42,7 +42,7 @@ fn read_gpsk1<'a>(octets: &'a [u8], ks: Option<u8>) -> Option<GpskView<'a>>
 /// GPSK-2: ID_Peer, ID_Server, RAND_Peer, RAND_Server, CSuite_List, CSuite_Sel, PD block, MAC.
 #[tactic(auto, unfolding(crate::specs::Reading::and_then, crate::specs::Reading::gpsk2_at))]
 fn read_gpsk2<'a>(octets: &'a [u8], ks: Option<u8>) -> Option<GpskView<'a>>
-    ensures { option_map message_of result ≡ and_then (gpsk2_at octets.now) (sealed ks) }
+    ensures { option_map message_of result ≡ and_then (gpsk2_at octets.now) (message_if_mac_fits ks) }
 {
     let (id_p, rest) = identity_field(octets)?;
     let (id_s, rest) = identity_field(rest)?;
@@ -70,7 +70,7 @@ fn read_gpsk2<'a>(octets: &'a [u8], ks: Option<u8>) -> Option<GpskView<'a>>
 /// GPSK-3: RAND_Peer, RAND_Server, ID_Server, CSuite_Sel, PD block, MAC.
 #[tactic(auto, unfolding(crate::specs::Reading::and_then, crate::specs::Reading::gpsk3_at))]
 fn read_gpsk3<'a>(octets: &'a [u8], ks: Option<u8>) -> Option<GpskView<'a>>
-    ensures { option_map message_of result ≡ and_then (gpsk3_at octets.now) (sealed ks) }
+    ensures { option_map message_of result ≡ and_then (gpsk3_at octets.now) (message_if_mac_fits ks) }
 {
     let (rand_p, rest) = rand_field(octets)?;
     let (rand_s, rest) = rand_field(rest)?;
@@ -94,7 +94,7 @@ fn read_gpsk3<'a>(octets: &'a [u8], ks: Option<u8>) -> Option<GpskView<'a>>
 /// GPSK-4: PD block, MAC.
 #[tactic(auto, unfolding(crate::specs::Reading::and_then, crate::specs::Reading::gpsk4_at))]
 fn read_gpsk4<'a>(octets: &'a [u8], ks: Option<u8>) -> Option<GpskView<'a>>
-    ensures { option_map message_of result ≡ and_then (gpsk4_at octets.now) (sealed ks) }
+    ensures { option_map message_of result ≡ and_then (gpsk4_at octets.now) (message_if_mac_fits ks) }
 {
     let (pd, mac) = sized_field(octets)?;
     if is_size_of_mac(mac.len(), ks) {
@@ -107,7 +107,7 @@ fn read_gpsk4<'a>(octets: &'a [u8], ks: Option<u8>) -> Option<GpskView<'a>>
 /// GPSK-Fail: Failure-Code.
 #[tactic(auto, unfolding(crate::specs::Reading::and_then, crate::specs::Reading::fail_at))]
 fn read_fail<'a>(octets: &'a [u8], ks: Option<u8>) -> Option<GpskView<'a>>
-    ensures { option_map message_of result ≡ and_then (fail_at octets.now) (sealed ks) }
+    ensures { option_map message_of result ≡ and_then (fail_at octets.now) (message_if_mac_fits ks) }
 {
     let (code, rest) = code_field(octets)?;
     if rest.is_empty() {
@@ -120,7 +120,7 @@ fn read_fail<'a>(octets: &'a [u8], ks: Option<u8>) -> Option<GpskView<'a>>
 /// GPSK-Protected-Fail: Failure-Code, MAC.
 #[tactic(auto, unfolding(crate::specs::Reading::and_then, crate::specs::Reading::protected_fail_at))]
 fn read_protected_fail<'a>(octets: &'a [u8], ks: Option<u8>) -> Option<GpskView<'a>>
-    ensures { option_map message_of result ≡ and_then (protected_fail_at octets.now) (sealed ks) }
+    ensures { option_map message_of result ≡ and_then (protected_fail_at octets.now) (message_if_mac_fits ks) }
 {
     let (code, mac) = code_field(octets)?;
     if is_size_of_mac(mac.len(), ks) {
@@ -162,7 +162,7 @@ fn list_size(view: &GpskView) -> usize
 /// `GpskShape` if the octets encode no message, `ListTooLong` if they encode one but for a list
 /// of more than 20 suites (RFC 5433 section 9.2).
 pub fn read_gpsk<'a>(body: &'a [u8], ks: Option<u8>) -> Result<GpskView<'a>, Cause>
-    ensures message { heard result ≡ read_of ks body.now }
+    ensures message { read_value result ≡ read_of ks body.now }
     ensures spelled { IfOk result (λ view. IsGpsk ks (message_of view) body.now) }
     ensures refused { IfErr result (Refuses ks body.now) }
 {
@@ -172,7 +172,7 @@ pub fn read_gpsk<'a>(body: &'a [u8], ks: Option<u8>) -> Result<GpskView<'a>, Cau
 /// The message that the octets encode, or why there is none.
 #[tactic(auto, unfolding(crate::specs::Reading::read_of))]
 fn read_shape<'a>(body: &'a [u8], ks: Option<u8>) -> Result<GpskView<'a>, Cause>
-    ensures { heard result ≡ read_of ks body.now }
+    ensures { read_value result ≡ read_of ks body.now }
 {
     match read_loosely(body, ks) {
         None => Err(Cause::GpskShape),

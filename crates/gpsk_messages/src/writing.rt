@@ -6,7 +6,7 @@ ghost use Rattle.eap_base.specs.Suite.{suite_octets};
 ghost use Rattle.eap_base.specs.Sizes.{max_packet};
 ghost use Rattle.eap_packet.specs.Packet.{value_with, has_type, max_type_data};
 ghost use Rattle.eap_packet.specs.Packet as packets;
-ghost use Rattle.gpsk_messages.specs.Message.{message_of, op_code, spelled, sized, size_of};
+ghost use Rattle.gpsk_messages.specs.Message.{message_of, op_code, spelled, field_with_length, size_of};
 
 use crate::view::GpskView;
 use byteorder::{BigEndian, ByteOrder};
@@ -16,7 +16,7 @@ use eap_packet::{Code, begin_into};
 /// Appends a field behind its length, for which there is room.
 fn put_sized(packet: &mut Packet, field: &[u8])
     requires { length packet.old + 2 + length field.now ≤ max_packet }
-    ensures { packet.new ≡ packet.old ++ sized field.now }
+    ensures { packet.new ≡ packet.old ++ field_with_length field.now }
 {
     let mut size = [0; 2];
     BigEndian::write_u16(&mut size, field.len() as u16);
@@ -54,7 +54,7 @@ fn put_rands(packet: &mut Packet, rand_p: &[u8; 32], rand_s: &[u8; 32])
 /// Appends the fields of GPSK-1, for which there is room.
 fn put_gpsk1(packet: &mut Packet, id_s: &[u8], rand_s: &[u8; 32], list: &[u8])
     requires { length packet.old + 4 + length id_s.now + length rand_s.now + length list.now ≤ max_packet }
-    ensures { packet.new ≡ packet.old ++ (sized id_s.now ++ (rand_s.now ++ sized list.now)) }
+    ensures { packet.new ≡ packet.old ++ (field_with_length id_s.now ++ (rand_s.now ++ field_with_length list.now)) }
 {
     put_sized(packet, id_s);
     put_rand(packet, rand_s);
@@ -71,7 +71,7 @@ fn put_offer(
     list: &[u8],
 )
     requires { length packet.old + 6 + length id_p.now + length id_s.now + length rand_p.now + length rand_s.now + length list.now ≤ max_packet }
-    ensures { packet.new ≡ packet.old ++ (sized id_p.now ++ (sized id_s.now ++ (rand_p.now ++ (rand_s.now ++ sized list.now)))) }
+    ensures { packet.new ≡ packet.old ++ (field_with_length id_p.now ++ (field_with_length id_s.now ++ (rand_p.now ++ (rand_s.now ++ field_with_length list.now)))) }
 {
     put_sized(packet, id_p);
     put_sized(packet, id_s);
@@ -82,7 +82,7 @@ fn put_offer(
 /// Appends CSuite_Sel, the PD block and the MAC, for which there is room.
 fn put_sealed(packet: &mut Packet, suite: Suite, pd: &[u8], mac: &[u8])
     requires { length packet.old + 8 + length pd.now + length mac.now ≤ max_packet }
-    ensures { packet.new ≡ packet.old ++ (suite_octets suite ++ (sized pd.now ++ mac.now)) }
+    ensures { packet.new ≡ packet.old ++ (suite_octets suite ++ (field_with_length pd.now ++ mac.now)) }
 {
     packet.put(&suite.octets());
     put_sized(packet, pd);

@@ -11,13 +11,13 @@ use Rattle.peer_machine.specs.Inputs as peer_inputs
 use Rattle.server_machine.specs.Inputs as server_inputs
 use Rattle.eap_world.specs.Conversations.{Conversations}
 use Rattle.eap_world.specs.World as world
-use Rattle.eap_world.specs.World.{Call, WorldNow, call_of, conversed, conversed_by, conversed_unless, first_skip, run_after, skip_table, world_made, world_start, world_step}
+use Rattle.eap_world.specs.World.{Call, WorldNow, call_of, conversations_after, conversed_by, conversed_unless, first_skip, run_after, skip_table, world_made, world_start, world_step}
 use Rattle.eap_world.specs.declared.conversations.Begun.{Begun}
 use Rattle.eap_world.specs.declared.told.Skip.{Skip}
 use Rattle.joined_laws.specs.Joined.{Comes, event_of, is_input, to_peer, to_server, world_of}
 use Rattle.end_pipe.specs.declared.input.EndInput.TheVariants as inputs
 
-unless_begun : (number : ℕ) (all : Conversations) (skip : Option Skip) (call : Call) → (conversed number all call).begun ≡ all.begun
+unless_begun : (number : ℕ) (all : Conversations) (skip : Option Skip) (call : Call) → (conversations_after number all call).begun ≡ all.begun
     → (conversed_unless number all skip (Some call)).begun ≡ all.begun
 unless_begun number all (Some skip) call same = refl
 unless_begun number all None call same = same
@@ -25,7 +25,7 @@ unless_begun number all None call same = same
 module _ (w : WorldNow) where
   -- an event that is such a call
   step_begun : (e : Event) (call : Call) → call_of w.conversations w.sent e ≡ Some call
-      → (conversed (w.counts.events + 1) w.conversations call).begun ≡ w.conversations.begun
+      → (conversations_after (w.counts.events + 1) w.conversations call).begun ≡ w.conversations.begun
       → (world_step w e).after.conversations.begun ≡ w.conversations.begun
   unfolding conversed_by world_step
   step_begun e call is same =

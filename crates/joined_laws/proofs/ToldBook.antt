@@ -14,9 +14,9 @@ use Rattle.peer_machine.specs.PeerTable.{PeerNow}
 use Rattle.server_machine.specs.Inputs as server_inputs
 use Rattle.server_machine.specs.Inputs.{server_takes}
 use Rattle.server_machine.specs.ServerTable.{ServerNow, server_start}
-use Rattle.tag_book.specs.Book.{booked}
+use Rattle.tag_book.specs.Book.{entries_of}
 use Rattle.eap_world.specs.World as world
-use Rattle.eap_world.specs.World.{Action, Called, Parties, Skipped, WorldNow, act, booked_by, called_unless, counted, first_skip, run_after, world_made, world_start, world_step}
+use Rattle.eap_world.specs.World.{Action, Called, Parties, Skipped, WorldNow, act, booked_by, called_unless, counts_after, first_skip, run_after, world_made, world_start, world_step}
 use Rattle.tag_book.specs.declared.book.End.TheVariants as end
 use Rattle.tag_book.specs.declared.book.Entry.{Entry}
 use Rattle.eap_world.specs.declared.told.Counts.{Counts}
@@ -50,19 +50,19 @@ tells table e input = tells_by table.reports e (table.moves e.now input) (is_ski
 
 report_books : (number : ℕ) (parties : Parties) (input : PeerInput) (over : Bool)
     → booked_by number (called_unless parties (first_skip ((over, Ended) ∷ [])) (Some (world.to_peer input))).action
-    ≡ booked number end.Peer (cond over no_tags (peer_takes parties.peer input).step.tags)
+    ≡ entries_of number end.Peer (cond over no_tags (peer_takes parties.peer input).step.tags)
 report_books number parties input true = refl
 report_books number parties input false = refl
 
 timer_books : (number : ℕ) (parties : Parties) (over : Bool)
     → booked_by number (called_unless parties (first_skip ((over, Ended) ∷ (false, NoTimer) ∷ [])) (Some (world.to_server server_inputs.timeout))).action
-    ≡ booked number end.Server (cond over no_tags (server_takes parties.server server_inputs.timeout).step.tags)
+    ≡ entries_of number end.Server (cond over no_tags (server_takes parties.server server_inputs.timeout).step.tags)
 timer_books number parties true = refl
 timer_books number parties false = refl
 
 abbrev tags_at : ℕ → Parties → Comes → List Entry
-tags_at number parties (to_peer input) = booked number end.Peer (peer_tags parties.peer input)
-tags_at number parties (to_server input) = booked number end.Server (server_tags parties.server input)
+tags_at number parties (to_peer input) = entries_of number end.Peer (peer_tags parties.peer input)
+tags_at number parties (to_server input) = entries_of number end.Server (server_tags parties.server input)
 
 books_so : (number : ℕ) (w : WorldNow) (input : Comes) → w.parties.mode ≡ mode.Alone → is_input input ≡ true
     → booked_by number (act w.parties w.conversations w.sent (event_of input)).action ≡ tags_at number w.parties input
@@ -78,7 +78,7 @@ books_so number w (to_server other) alone fits = absurd cc
 
 -- ---- one event after the other
 
-counts_one : (c : Counts) (action : Action) → (counted c action).events ≡ c.events + 1
+counts_one : (c : Counts) (action : Action) → (counts_after c action).events ≡ c.events + 1
 counts_one c (Skipped skip) = refl
 counts_one c (Called did) = refl
 
@@ -110,9 +110,9 @@ told w p s (to_peer input ∷ rest) alone peer server fit =
     let moved = n.peer ∙ (ap (λ (now : PeerNow). peer_moved now input) peer ∙ sym (moves peer_table p input)) in
     told next out.after s rest n.alone moved (n.server ∙ server) parts.1
     ∙ ap (λ (all : List Entry). all ++ told_book next.counts.events out.after s rest) stepped.book
-    ∙ ap (λ (number : ℕ). (w.book ++ booked (w.counts.events + 1) end.Peer (peer_tags w.parties.peer input)) ++ told_book number out.after s rest) stepped.events
-    ∙ ap (λ (t : Tags). (w.book ++ booked (w.counts.events + 1) end.Peer t) ++ told_book (w.counts.events + 1) out.after s rest) tags
-    ∙ append_assoc w.book (booked (w.counts.events + 1) end.Peer out.told.step.tags) (told_book (w.counts.events + 1) out.after s rest)
+    ∙ ap (λ (number : ℕ). (w.book ++ entries_of (w.counts.events + 1) end.Peer (peer_tags w.parties.peer input)) ++ told_book number out.after s rest) stepped.events
+    ∙ ap (λ (t : Tags). (w.book ++ entries_of (w.counts.events + 1) end.Peer t) ++ told_book (w.counts.events + 1) out.after s rest) tags
+    ∙ append_assoc w.book (entries_of (w.counts.events + 1) end.Peer out.told.step.tags) (told_book (w.counts.events + 1) out.after s rest)
 told w p s (to_server input ∷ rest) alone peer server fit =
     let parts = and_parts (is_input (to_server input)) (list_all is_input rest) fit in
     let n = acts_so w.parties w.conversations w.sent (to_server input) alone parts.0 in
@@ -123,10 +123,10 @@ told w p s (to_server input ∷ rest) alone peer server fit =
     let moved = n.server ∙ (ap (λ (now : ServerNow). server_moved now input) server ∙ sym (moves server_table s input)) in
     told next p out.after rest n.alone (n.peer ∙ peer) moved parts.1
     ∙ ap (λ (all : List Entry). all ++ told_book next.counts.events p out.after rest) stepped.book
-    ∙ ap (λ (number : ℕ). (w.book ++ booked (w.counts.events + 1) end.Server (server_tags w.parties.server input)) ++ told_book number p out.after rest)
+    ∙ ap (λ (number : ℕ). (w.book ++ entries_of (w.counts.events + 1) end.Server (server_tags w.parties.server input)) ++ told_book number p out.after rest)
     stepped.events
-    ∙ ap (λ (t : Tags). (w.book ++ booked (w.counts.events + 1) end.Server t) ++ told_book (w.counts.events + 1) p out.after rest) tags
-    ∙ append_assoc w.book (booked (w.counts.events + 1) end.Server out.told.step.tags) (told_book (w.counts.events + 1) p out.after rest)
+    ∙ ap (λ (t : Tags). (w.book ++ entries_of (w.counts.events + 1) end.Server t) ++ told_book (w.counts.events + 1) p out.after rest) tags
+    ∙ append_assoc w.book (entries_of (w.counts.events + 1) end.Server out.told.step.tags) (told_book (w.counts.events + 1) p out.after rest)
 
 -- the start books nothing and is no event
 record Starts (w : WorldNow) : Type 0 where

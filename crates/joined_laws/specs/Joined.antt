@@ -12,8 +12,8 @@ use Rattle.peer_machine.specs.PeerTable.{PeerNow, peer_reports}
 use Rattle.server_machine.specs.ServerTable.{ServerNow, server_reports}
 use Rattle.eap_world.specs.Run.{run_of}
 use Rattle.world_laws.specs.Agreement.{AreTheirs, IsWhole}
-use Rattle.tag_book.specs.Book.{booked, tags_verdict_either}
-use Rattle.eap_world.specs.Judgement.{is_success, judged}
+use Rattle.tag_book.specs.Book.{entries_of, tags_verdict_either}
+use Rattle.eap_world.specs.Judgement.{is_success, agreement_of}
 use Rattle.tag_book.specs.declared.book.End.TheVariants as end
 use Rattle.tag_book.specs.declared.book.Entry.{Entry}
 use Rattle.tag_book.specs.declared.book.TagsVerdict.TheVariants.{Honest}
@@ -88,9 +88,9 @@ InterleavingsAreRuns =
 unfoldable pub told_book : ℕ → EndNow PeerNow → EndNow ServerNow → List Comes → List Entry
 told_book number p s [] = []
 told_book number p s (to_peer input ∷ rest) =
-    let out = peer_step p input in booked (number + 1) end.Peer out.told.step.tags ++ told_book (number + 1) out.after s rest
+    let out = peer_step p input in entries_of (number + 1) end.Peer out.told.step.tags ++ told_book (number + 1) out.after s rest
 told_book number p s (to_server input ∷ rest) =
-    let out = server_step s input in booked (number + 1) end.Server out.told.step.tags ++ told_book (number + 1) p out.after rest
+    let out = server_step s input in entries_of (number + 1) end.Server out.told.step.tags ++ told_book (number + 1) p out.after rest
 
 -- these are the book of the world
 abbrev pub BookIsTold : Type 0
@@ -104,7 +104,7 @@ HaveSucceeded peer server = (is_success peer.vars.state ≡ true) × (is_success
 
 -- both have a report, and the same, which both policies allow
 abbrev pub ReportTheSame : PeerNow → ServerNow → Type 0
-ReportTheSame peer server = judged peer.vars.setup server.vars.setup (peer_reports peer) (server_reports server) ≡ true
+ReportTheSame peer server = agreement_of peer.vars.setup server.vars.setup (peer_reports peer) (server_reports server) ≡ true
 
 -- both report the same, and what they report is their own: names, user, key and suite
 pub record EndsAgree (setup : Setup) (peer : PeerNow) (server : ServerNow) : Type 0 where

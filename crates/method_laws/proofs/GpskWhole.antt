@@ -18,7 +18,7 @@ use Rattle.login_keys.specs.Gpsk.{gpsk_keys_of}
 use Rattle.login_keys.specs.declared.gpsk.GpskKeys.{GpskKeys}
 use Rattle.login_keys.proofs.Laws.{length_gpsk_tag_of}
 use Rattle.login_policy.specs.Policy.{picked_suite, suite_or, is_allowed}
-use Rattle.eap_method.specs.GpskTags.{gpsk_request, gpsk_response, suite_list, is_tagged, tagged, same_suite}
+use Rattle.eap_method.specs.GpskTags.{gpsk_request, gpsk_response, suite_list, is_tagged, message_with_mac, same_suite}
 use Rattle.eap_method.specs.Turns.{body_of}
 use Rattle.eap_method.specs.GpskPeer as peer
 use Rattle.eap_method.specs.GpskServer as server
@@ -76,28 +76,28 @@ offers allowed (first ∷ suites) suite e =
 
 -- a message with the MAC of its covered octets is found to have it
 is_tagged_so : (suite : Suite) (sk other : List ℕ) (message : Message)
-    → covered_of (tagged suite sk message) ≡ covered_of message
-    → mac_of (tagged suite sk message) ≡ gpsk_tag_of suite sk (covered_of message)
+    → covered_of (message_with_mac suite sk message) ≡ covered_of message
+    → mac_of (message_with_mac suite sk message) ≡ gpsk_tag_of suite sk (covered_of message)
     → sk ≡ other
-    → is_tagged suite other (tagged suite sk message) ≡ true
+    → is_tagged suite other (message_with_mac suite sk message) ≡ true
 is_tagged_so suite sk other message covered mac same =
-    ap (λ octets. bytes_eq (gpsk_tag_of suite other octets) (mac_of (tagged suite sk message))) covered
+    ap (λ octets. bytes_eq (gpsk_tag_of suite other octets) (mac_of (message_with_mac suite sk message))) covered
     ∙ ap (λ octets. bytes_eq (gpsk_tag_of suite other (covered_of message)) octets) (mac ∙ ap (λ key. gpsk_tag_of suite key (covered_of message)) same)
     ∙ bytes_same (gpsk_tag_of suite other (covered_of message))
 
 gpsk2_tagged : (suite : Suite) (sk other id_p id_s rand_p rand_s list : List ℕ) → sk ≡ other
-    → is_tagged suite other (tagged suite sk (gpsk2 id_p id_s rand_p rand_s list suite [] [])) ≡ true
+    → is_tagged suite other (message_with_mac suite sk (gpsk2 id_p id_s rand_p rand_s list suite [] [])) ≡ true
 unfolding covered_of
 gpsk2_tagged suite sk other id_p id_s rand_p rand_s list same =
     is_tagged_so suite sk other (gpsk2 id_p id_s rand_p rand_s list suite [] []) refl refl same
 
 gpsk3_tagged : (suite : Suite) (sk other rand_p rand_s id_s : List ℕ) → sk ≡ other
-    → is_tagged suite other (tagged suite sk (gpsk3 rand_p rand_s id_s suite [] [])) ≡ true
+    → is_tagged suite other (message_with_mac suite sk (gpsk3 rand_p rand_s id_s suite [] [])) ≡ true
 unfolding covered_of
 gpsk3_tagged suite sk other rand_p rand_s id_s same = is_tagged_so suite sk other (gpsk3 rand_p rand_s id_s suite [] []) refl refl same
 
 gpsk4_tagged : (suite : Suite) (sk other : List ℕ) → sk ≡ other
-    → is_tagged suite other (tagged suite sk (gpsk4 [] [])) ≡ true
+    → is_tagged suite other (message_with_mac suite sk (gpsk4 [] [])) ≡ true
 unfolding covered_of
 gpsk4_tagged suite sk other same = is_tagged_so suite sk other (gpsk4 [] []) refl refl same
 

@@ -11,7 +11,7 @@ use Rattle.psk_messages.proofs.Channel.{length-channel}
 use Rattle.eax_mode.specs.Eax.{eax_accepts, eax_ciphertext, eax_plaintext, eax_tag}
 use Rattle.eax_mode.proofs.Laws.{length_eax_ciphertext, length_eax_tag}
 use Rattle.eax_mode.proofs.Sealing.{eax_plaintext_eax_ciphertext}
-use Rattle.eap_method.specs.PskTags.{psk_request, psk_response, header_of, channel_nonce, sealed_result, is_sealed, opened, octet_with}
+use Rattle.eap_method.specs.PskTags.{psk_request, psk_response, header_of, channel_nonce, sealed_result, is_sealed, hidden_octet, octet_with}
 use Rattle.method_laws.proofs.Tests.{bytes_same}
 
 -- ---- the sealed octet
@@ -38,7 +38,7 @@ sealed_accepted tek number header r =
 
 -- and is opened
 pub sealed_opened : (tek : List ℕ) (number : ℕ) (header : List ℕ) (r : ℕ)
-    → opened tek number (slice_index (sealed_result tek number header r).ciphertext 0) ≡ octet_with r
+    → hidden_octet tek number (slice_index (sealed_result tek number header r).ciphertext 0) ≡ octet_with r
 unfolding sealed_result
 sealed_opened tek number header r =
     let hidden : List ℕ = eax_ciphertext tek (channel_nonce number) (octet_with r ∷ []) in

@@ -14,7 +14,7 @@ use Rattle.cmac_mac.proofs.Laws.{length_aes_cmac}
 use Rattle.login_keys.specs.Psk.{psk_long_of, psk_keys_of}
 use Rattle.login_keys.specs.declared.psk.PskKeys.{PskKeys}
 use Rattle.eap_method.specs.declared.tags.TagRecord.{TagRecord}
-use Rattle.eap_method.specs.PskTags.{psk_request, psk_response, mac_p_octets, mac_s_octets, ak_record, tek_record, header_of, is_sealed, opened, octet_with, result_of, result_fault, done_success, blank_tag, rand_of}
+use Rattle.eap_method.specs.PskTags.{psk_request, psk_response, mac_p_octets, mac_s_octets, ak_record, tek_record, header_of, is_sealed, hidden_octet, octet_with, result_of, result_fault, done_success, blank_tag, rand_of}
 use Rattle.eap_method.specs.Turns.{body_of, requested, done}
 use Rattle.eap_method.specs.PskPeer as peer
 use Rattle.eap_method.specs.PskServer as server
@@ -52,7 +52,7 @@ psk3_accepted : (login : server.Login) (id : ℕ)
 unfolding server.psk3_sealed
 psk3_accepted login id = sealed_accepted _ _ _ _
 
-psk3_opened : (login : server.Login) (id : ℕ) → opened (server.keys_of login).tek 0 (server.psk3_octet login id) ≡ octet_with login.r
+psk3_opened : (login : server.Login) (id : ℕ) → hidden_octet (server.keys_of login).tek 0 (server.psk3_octet login id) ≡ octet_with login.r
 unfolding server.psk3_sealed
 psk3_opened login id = sealed_opened _ _ _ _
 
@@ -61,7 +61,7 @@ psk4_accepted : (login : peer.Login) (id r : ℕ)
 unfolding peer.psk4_sealed
 psk4_accepted login id r = sealed_accepted _ _ _ _
 
-psk4_opened : (login : peer.Login) (id r : ℕ) → opened (peer.keys_of login).tek 1 (peer.psk4_octet login id r) ≡ octet_with r
+psk4_opened : (login : peer.Login) (id r : ℕ) → hidden_octet (peer.keys_of login).tek 1 (peer.psk4_octet login id r) ≡ octet_with r
 unfolding peer.psk4_sealed
 psk4_opened login id r = sealed_opened _ _ _ _
 
@@ -148,9 +148,9 @@ module _ (ends : Ends) (fit : Fit ends) where
   psk2_record = ap (λ psk. ak_record psk (peer.mac_p_covers (peer_login ends)) (peer.mac_p_of (peer_login ends)) ∷ []) fit.one_key
 
   -- the octet in PSK-3 is the server's R for the peer's key
-  psk3_seen : (id : ℕ) → opened (peer.keys_of (peer_login ends)).tek 0 (server.psk3_octet (server_login ends) id) ≡ octet_with done_success
+  psk3_seen : (id : ℕ) → hidden_octet (peer.keys_of (peer_login ends)).tek 0 (server.psk3_octet (server_login ends) id) ≡ octet_with done_success
   psk3_seen id =
-      ap (λ tek. opened tek 0 (server.psk3_octet (server_login ends) id)) (sym same_tek)
+      ap (λ tek. hidden_octet tek 0 (server.psk3_octet (server_login ends) id)) (sym same_tek)
       ∙ psk3_opened (server_login ends) id
       ∙ ap (λ r. octet_with r) r_is_success
 
@@ -186,7 +186,7 @@ module _ (ends : Ends) (fit : Fit ends) where
       ap (λ number. peer.wait_reads login number (header_of packet) (read_of (body_of packet))) (request_id id psk_kind (spelled message))
       ∙ ap (λ octets. peer.wait_reads login id (header_of packet) (read_of octets)) (request_body id psk_kind (spelled message))
       ∙ ap (λ read. peer.wait_reads login id (header_of packet) read) (reads_psk3 id)
-      ∙ ap (λ fault. peer.confirms login id (result_of (opened (peer.keys_of login).tek 0 octet)) (peer.psk3_records login (header_of packet) mac tag octet) fault)
+      ∙ ap (λ fault. peer.confirms login id (result_of (hidden_octet (peer.keys_of login).tek 0 octet)) (peer.psk3_records login (header_of packet) mac tag octet) fault)
       (no_fault (bytes_eq (rand_of ends.own_nonce) (rand_of ends.own_nonce)) FieldMismatch _ (bytes_same (rand_of ends.own_nonce))
       ∙ no_fault (peer.are_right login (header_of packet) mac tag octet) BadTag _ (psk3_right id)
       ∙ ap (λ seen. result_fault seen) (psk3_seen id))
@@ -194,9 +194,9 @@ module _ (ends : Ends) (fit : Fit ends) where
       ∙ ap (λ accepted. peer.confirms login id done_success accepted None) (psk3_recorded id)
 
   -- the octet in PSK-4 is the peer's R for the server's key
-  psk4_seen : (id r : ℕ) → opened (server.keys_of (server_login ends)).tek 1 (peer.psk4_octet (peer_login ends) id r) ≡ octet_with r
+  psk4_seen : (id r : ℕ) → hidden_octet (server.keys_of (server_login ends)).tek 1 (peer.psk4_octet (peer_login ends) id r) ≡ octet_with r
   psk4_seen id r =
-      ap (λ tek. opened tek 1 (peer.psk4_octet (peer_login ends) id r)) same_tek
+      ap (λ tek. hidden_octet tek 1 (peer.psk4_octet (peer_login ends) id r)) same_tek
       ∙ psk4_opened (peer_login ends) id r
 
   psk4_right : (id r : ℕ) → is_sealed (server.keys_of (server_login ends)).tek 1 (header_of (psk_response id (peer.psk4_of (peer_login ends) id r)))
@@ -229,7 +229,7 @@ module _ (ends : Ends) (fit : Fit ends) where
       let tag : List ℕ = (peer.psk4_sealed (peer_login ends) id done_success).tag in
       ap (λ octets. server.checked_reads login (header_of packet) (read_of octets)) (response_body id psk_kind (spelled message))
       ∙ ap (λ read. server.checked_reads login (header_of packet) read) (reads_psk4 id done_success)
-      ∙ ap (λ fault. server.ends login (result_of (opened (server.keys_of login).tek 1 octet)) (tek_record ends.user.psk 1 (header_of packet) octet tag ∷ []) fault)
+      ∙ ap (λ fault. server.ends login (result_of (hidden_octet (server.keys_of login).tek 1 octet)) (tek_record ends.user.psk 1 (header_of packet) octet tag ∷ []) fault)
       (no_fault (bytes_eq (rand_of ends.own_nonce) (rand_of ends.own_nonce)) FieldMismatch _ (bytes_same (rand_of ends.own_nonce))
       ∙ no_fault (is_sealed (server.keys_of login).tek 1 (header_of packet) octet tag) BadTag _ (psk4_right id done_success)
       ∙ ap (λ seen. result_fault seen) (psk4_seen id done_success))

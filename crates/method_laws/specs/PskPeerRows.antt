@@ -8,7 +8,7 @@ use Rattle.eap_method.specs.declared.values.Credential.{Credential}
 use Rattle.eap_method.specs.declared.values.MethodState.TheVariants.{Cont, MayCont, Done}
 use Rattle.eap_method.specs.declared.values.Decision.TheVariants.{Fail, UncondSucc}
 use Rattle.login_setup.specs.Setup.{accepts_name}
-use Rattle.eap_method.specs.PskTags.{psk_response, ak_record, header_of, channel_nonce, is_sealed, opened, result_of, is_extended, done_success, done_failure}
+use Rattle.eap_method.specs.PskTags.{psk_response, ak_record, header_of, channel_nonce, is_sealed, hidden_octet, result_of, is_extended, done_success, done_failure}
 use Rattle.eap_method.specs.Turns.{PeerOutcome, id_of, body_of, discarded, replied}
 use Rattle.eap_method.specs.PskPeer.{Login, View, fresh, wait, over, keys_of, mac_p_covers, mac_p_of, mac_s_of, psk2_of, psk3_records, psk4_of, psk4_record, are_right, step}
 
@@ -18,7 +18,7 @@ login_from cred nonce id_s rand_s = record { cred = cred; nonce = nonce; id_s = 
 
 -- the octet that a PSK-3 seals
 abbrev pub opened_by : Login → ℕ → ℕ
-opened_by login sealed = opened (keys_of login).tek 0 sealed
+opened_by login sealed = hidden_octet (keys_of login).tek 0 sealed
 
 -- the outcome of a turn in this view for these octets
 pub data PskPeerRow (view : View) (octets : List ℕ) : PeerOutcome View → Type 0 where

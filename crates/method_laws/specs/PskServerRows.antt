@@ -8,7 +8,7 @@ use Rattle.psk_messages.specs.Message.{psk2, psk4}
 use Rattle.psk_messages.specs.Reading.{read_of}
 use Rattle.eax_mode.specs.Eax.{eax_tag}
 use Rattle.eap_method.specs.declared.values.ServerSide.{ServerSide}
-use Rattle.eap_method.specs.PskTags.{psk_request, ak_record, tek_record, header_of, channel_nonce, is_sealed, opened, result_of, is_extended, done_success, done_failure, rand_of}
+use Rattle.eap_method.specs.PskTags.{psk_request, ak_record, tek_record, header_of, channel_nonce, is_sealed, hidden_octet, result_of, is_extended, done_success, done_failure, rand_of}
 use Rattle.eap_method.specs.Turns.{ServerOutcome, body_of, dropped, requested, done}
 use Rattle.eap_method.specs.PskServer.{Login, View, asked, checked, refused, over, keys_of, rand_s_of, mac_p_covers, mac_p_of, psk3_of, psk3_records, r_for, both_succeed, step}
 
@@ -19,7 +19,7 @@ login_from own nonce id_p user rand_p =
 
 -- the octet that a PSK-4 seals
 abbrev pub opened_by : Login → ℕ → ℕ
-opened_by login sealed = opened (keys_of login).tek 1 sealed
+opened_by login sealed = hidden_octet (keys_of login).tek 1 sealed
 
 -- the outcome of a turn in this view for these octets
 pub data PskServerRow (users : List User) (next_id : ℕ) (view : View) (octets : List ℕ) : ServerOutcome View → Type 0 where

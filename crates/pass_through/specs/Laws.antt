@@ -1,7 +1,7 @@
 -- Laws of the pass-through (RFC 4137 section 7), over its table alone.
 use Rattle.std.specs.Prelude.{◌≡◌, ℕ, List, true, Option, Some, None, IsSome}
 use Rattle.pass_through.specs.Inputs.{PassInput, start, timeout, from_peer, from_backend, restart, pass_takes}
-use Rattle.pass_through.specs.PassTable.{Side, Peer, Server, PassAnswer, identity_request, unpadded, is_over}
+use Rattle.pass_through.specs.PassTable.{Side, Peer, Server, PassAnswer, identity_request, without_padding, is_over}
 use Rattle.pass_through.specs.declared.variables.PassVariables.{PassVariables}
 
 -- no variable changed, and nothing was sent
@@ -21,8 +21,8 @@ pub data IsSentOn (vars : PassVariables) : PassInput → Side → Option (List �
   own : IsSentOn vars start Peer (Some (identity_request vars.first_id))
   own_again : IsSentOn vars restart Peer (Some (identity_request vars.first_id))
   again : IsSentOn vars timeout Peer (Some vars.last_request)
-  onwards : (octets : List ℕ) → IsSentOn vars (from_peer octets) Server (Some (unpadded octets))
-  back : (octets : List ℕ) → IsSentOn vars (from_backend octets) Peer (Some (unpadded octets))
+  onwards : (octets : List ℕ) → IsSentOn vars (from_peer octets) Server (Some (without_padding octets))
+  back : (octets : List ℕ) → IsSentOn vars (from_backend octets) Peer (Some (without_padding octets))
 
 -- what is stored for the timer is what was sent to the peer last, but for a Success or a Failure, after
 -- which nothing is sent

@@ -64,8 +64,8 @@ abbrev pub identity_request : ℕ → List ℕ
 identity_request id = spelled (request id identity_kind [])
 
 -- a delivery without what follows its Length
-abbrev pub unpadded : List ℕ → List ℕ
-unpadded octets = take (length_of octets) octets
+abbrev pub without_padding : List ℕ → List ℕ
+without_padding octets = take (length_of octets) octets
 
 -- INITIALIZE, then Identity is proposed and its Request sent
 unfoldable pub pass_start : PassVariables → PassAnswer
@@ -97,7 +97,7 @@ idle_response vars octets kind =
     if kind == identity_kind
     then answer
     (passes_on (state.Received ∷ state.IntegrityCheck ∷ state.MethodResponse ∷ state.SelectAction
-    ∷ state.InitializePassthrough ∷ state.AaaRequest ∷ state.AaaIdle ∷ []) (unpadded octets))
+    ∷ state.InitializePassthrough ∷ state.AaaRequest ∷ state.AaaIdle ∷ []) (without_padding octets))
     (record vars { state = state.AaaIdle })
     else idle_discard vars cause.WrongMethod
 
@@ -112,7 +112,7 @@ abbrev pub idle2_row : PassVariables → List ℕ → Result PacketValue Cause �
 idle2_row vars octets (Err c) = idle2_discard vars c
 idle2_row vars octets (Ok (response id kind body)) =
     if is_awaited vars.current_id id
-    then answer (passes_on (state.Received2 ∷ state.AaaRequest ∷ state.AaaIdle ∷ []) (unpadded octets)) (record vars { state = state.AaaIdle })
+    then answer (passes_on (state.Received2 ∷ state.AaaRequest ∷ state.AaaIdle ∷ []) (without_padding octets)) (record vars { state = state.AaaIdle })
     else idle2_discard vars cause.IdMismatch
 idle2_row vars octets (Ok packet) = idle2_discard vars cause.WrongRole
 
@@ -120,11 +120,11 @@ idle2_row vars octets (Ok packet) = idle2_discard vars cause.WrongRole
 abbrev pub aaa_row : PassVariables → List ℕ → Result PacketValue Cause → PassAnswer
 aaa_row vars octets (Err c) = answer (discards Peer [] c) vars
 aaa_row vars octets (Ok (request id kind body)) =
-    answer (asks (state.AaaResponse ∷ state.SendRequest2 ∷ state.Idle2 ∷ []) (unpadded octets))
-    (record vars { state = state.Idle2; current_id = Some id; retrans_count = 0; last_request = unpadded octets })
+    answer (asks (state.AaaResponse ∷ state.SendRequest2 ∷ state.Idle2 ∷ []) (without_padding octets))
+    (record vars { state = state.Idle2; current_id = Some id; retrans_count = 0; last_request = without_padding octets })
 aaa_row vars octets (Ok (response id kind body)) = answer (discards Peer [] cause.WrongRole) vars
-aaa_row vars octets (Ok (success id)) = answer (asks (state.Success2 ∷ []) (unpadded octets)) (record vars { state = state.Success2 })
-aaa_row vars octets (Ok (failure id)) = answer (asks (state.Failure2 ∷ []) (unpadded octets)) (record vars { state = state.Failure2 })
+aaa_row vars octets (Ok (success id)) = answer (asks (state.Success2 ∷ []) (without_padding octets)) (record vars { state = state.Success2 })
+aaa_row vars octets (Ok (failure id)) = answer (asks (state.Failure2 ∷ []) (without_padding octets)) (record vars { state = state.Failure2 })
 
 -- what comes from the side that isn't waited for is discarded with an empty path
 abbrev pub not_waiting : Side → PassVariables → PassAnswer

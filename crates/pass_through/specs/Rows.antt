@@ -8,7 +8,7 @@ use Rattle.eap_packet.specs.declared.cause.Cause.TheVariants as cause
 use Rattle.eap_packet.specs.declared.state.State.{State}
 use Rattle.eap_packet.specs.declared.state.State.TheVariants as state
 use Rattle.pass_through.specs.Inputs.{PassInput, start, timeout, aaa_timeout, aaa_noreq, from_peer, from_backend, restart, pass_rests, pass_takes}
-use Rattle.pass_through.specs.PassTable.{Side, Peer, Server, PassAnswer, answer, asks, passes_on, rests, discards, identity_request, unpadded, is_awaited, is_over, is_idle, is_idle2, is_aaa_idle, is_started, has_timer, pass_restart}
+use Rattle.pass_through.specs.PassTable.{Side, Peer, Server, PassAnswer, answer, asks, passes_on, rests, discards, identity_request, without_padding, is_awaited, is_over, is_idle, is_idle2, is_aaa_idle, is_started, has_timer, pass_restart}
 use Rattle.pass_through.specs.declared.variables.PassVariables.{PassVariables}
 
 -- why an input that has no place in this state does nothing
@@ -83,22 +83,22 @@ pub data PassRow (vars : PassVariables) : PassInput → PassAnswer → Type 0 wh
       → PassRow vars (from_peer octets)
       (answer
       (passes_on (state.Received ∷ state.IntegrityCheck ∷ state.MethodResponse ∷ state.SelectAction
-      ∷ state.InitializePassthrough ∷ state.AaaRequest ∷ state.AaaIdle ∷ []) (unpadded octets))
+      ∷ state.InitializePassthrough ∷ state.AaaRequest ∷ state.AaaIdle ∷ []) (without_padding octets))
       (record vars { state = state.AaaIdle }))
   hands_response : (octets : List ℕ) (id kind : ℕ) (body : List ℕ) (stands : vars.state ≡ state.Idle2)
       (is_packet : packet_of octets ≡ Ok (response id kind body)) (is_id : vars.current_id ≡ Some id)
       → PassRow vars (from_peer octets)
-      (answer (passes_on (state.Received2 ∷ state.AaaRequest ∷ state.AaaIdle ∷ []) (unpadded octets)) (record vars { state = state.AaaIdle }))
+      (answer (passes_on (state.Received2 ∷ state.AaaRequest ∷ state.AaaIdle ∷ []) (without_padding octets)) (record vars { state = state.AaaIdle }))
   -- a Request goes to the peer, and is kept for the timer; a Success or a Failure goes too, and ends the conversation
   hands_request : (octets : List ℕ) (id kind : ℕ) (body : List ℕ) (stands : vars.state ≡ state.AaaIdle)
       (is_packet : packet_of octets ≡ Ok (request id kind body))
       → PassRow vars (from_backend octets)
-      (answer (asks (state.AaaResponse ∷ state.SendRequest2 ∷ state.Idle2 ∷ []) (unpadded octets))
-      (record vars { state = state.Idle2; current_id = Some id; retrans_count = 0; last_request = unpadded octets }))
+      (answer (asks (state.AaaResponse ∷ state.SendRequest2 ∷ state.Idle2 ∷ []) (without_padding octets))
+      (record vars { state = state.Idle2; current_id = Some id; retrans_count = 0; last_request = without_padding octets }))
   hands_success : (octets : List ℕ) (id : ℕ) (stands : vars.state ≡ state.AaaIdle) (is_packet : packet_of octets ≡ Ok (success id))
-      → PassRow vars (from_backend octets) (answer (asks (state.Success2 ∷ []) (unpadded octets)) (record vars { state = state.Success2 }))
+      → PassRow vars (from_backend octets) (answer (asks (state.Success2 ∷ []) (without_padding octets)) (record vars { state = state.Success2 }))
   hands_failure : (octets : List ℕ) (id : ℕ) (stands : vars.state ≡ state.AaaIdle) (is_packet : packet_of octets ≡ Ok (failure id))
-      → PassRow vars (from_backend octets) (answer (asks (state.Failure2 ∷ []) (unpadded octets)) (record vars { state = state.Failure2 }))
+      → PassRow vars (from_backend octets) (answer (asks (state.Failure2 ∷ []) (without_padding octets)) (record vars { state = state.Failure2 }))
 
 -- what comes of every input is one of these transitions
 abbrev pub PassAnswersAreRows : Type 0

@@ -1,7 +1,7 @@
 -- The pass-through alone over all that comes to it: its state then, and what it has sent.
 use Rattle.std.specs.Prelude.{ℕ, List, [], ◌∷◌, ◌++◌, All, Option, Some, None}
 use Rattle.pass_through.specs.Inputs.{PassInput, from_peer, from_backend, pass_takes}
-use Rattle.pass_through.specs.PassTable.{Side, Peer, Server, identity_request, pass_made, unpadded}
+use Rattle.pass_through.specs.PassTable.{Side, Peer, Server, identity_request, pass_made, without_padding}
 use Rattle.pass_through.specs.declared.variables.PassVariables.{PassVariables}
 
 -- its variables after these inputs
@@ -32,8 +32,8 @@ pub data HasCome (input : PassInput) : List PassInput → Type 0 where
 -- the peer: both without what followed their Length
 pub data IsCarried (first_id : ℕ) (came : List PassInput) : SentOn → Type 0 where
   own : IsCarried first_id came (record { to = Peer; octets = identity_request first_id })
-  onwards : (octets : List ℕ) (has : HasCome (from_peer octets) came) → IsCarried first_id came (record { to = Server; octets = unpadded octets })
-  back : (octets : List ℕ) (has : HasCome (from_backend octets) came) → IsCarried first_id came (record { to = Peer; octets = unpadded octets })
+  onwards : (octets : List ℕ) (has : HasCome (from_peer octets) came) → IsCarried first_id came (record { to = Server; octets = without_padding octets })
+  back : (octets : List ℕ) (has : HasCome (from_backend octets) came) → IsCarried first_id came (record { to = Peer; octets = without_padding octets })
 
 -- each packet that it sends is its Identity Request, or came to it; so it is at each moment, over what has come so far
 abbrev pub CarriesWhatCame : Type 0

@@ -1,7 +1,7 @@
 //! The pass-through of RFC 4137 section 7.
 
 ghost use Rattle.std.specs.Prelude.{◌≡◌, ◌≤◌, true, false};
-ghost use Rattle.pass_through.specs.PassTable.{Peer, Server, answer, step_to, unpadded, identity_request};
+ghost use Rattle.pass_through.specs.PassTable.{Peer, Server, answer, step_to, without_padding, identity_request};
 
 use crate::rows::{resend, take_aaa_idle, take_idle, take_idle2, write_identity_request};
 use crate::states::{is_aaa_idle, is_idle, is_idle2, is_over};
@@ -98,7 +98,7 @@ impl PassThrough {
     #[tactic(auto, unfolding(crate::specs::PassTable::pass_from_peer))]
     pub fn from_peer(&mut self, octets: &[u8], packet: &mut Packet) -> Step
         ensures step { pass_from_peer self.old octets.now ≡ answer (step_to Server result packet.new) self.new }
-        ensures whole { result.sends ≡ true → packet.new ≡ unpadded octets.now }
+        ensures whole { result.sends ≡ true → packet.new ≡ without_padding octets.now }
     {
         let state = self.vars.state;
         if is_over(state) {
@@ -118,7 +118,7 @@ impl PassThrough {
     #[tactic(auto, unfolding(crate::specs::PassTable::pass_from_backend))]
     pub fn from_backend(&mut self, octets: &[u8], packet: &mut Packet) -> Step
         ensures step { pass_from_backend self.old octets.now ≡ answer (step_to Peer result packet.new) self.new }
-        ensures whole { result.sends ≡ true → packet.new ≡ unpadded octets.now }
+        ensures whole { result.sends ≡ true → packet.new ≡ without_padding octets.now }
     {
         let state = self.vars.state;
         if is_over(state) {

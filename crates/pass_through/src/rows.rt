@@ -3,7 +3,7 @@
 ghost use Rattle.std.specs.Prelude.{◌≡◌, ◌≤◌, ◌∷◌, [], true, false, Some};
 ghost use Rattle.eap_packet.specs.Fault.{packet_of};
 ghost use Rattle.eap_packet.specs.declared.state.State.TheVariants.{Received, Discard, Idle, Received2, Discard2, Idle2};
-ghost use Rattle.pass_through.specs.PassTable.{Peer, Server, answer, step_to, unpadded, identity_request, idle_row, idle2_row, aaa_row, is_over, resends};
+ghost use Rattle.pass_through.specs.PassTable.{Peer, Server, answer, step_to, without_padding, identity_request, idle_row, idle2_row, aaa_row, is_over, resends};
 
 use crate::variables::PassVariables;
 use eap_base::{IDENTITY, Packet};
@@ -22,7 +22,7 @@ pub fn take_idle(vars: &mut PassVariables, octets: &[u8], packet: &mut Packet) -
     ensures step { idle_row vars.old octets.now (packet_of octets.now) ≡ answer (step_to Server result packet.new) vars.new }
     ensures order { vars.old.retrans_count ≤ vars.old.max_retrans → vars.new.retrans_count ≤ vars.new.max_retrans }
     ensures most { vars.new.max_retrans ≡ vars.old.max_retrans }
-    ensures whole { result.sends ≡ true → packet.new ≡ unpadded octets.now }
+    ensures whole { result.sends ≡ true → packet.new ≡ without_padding octets.now }
 {
     match decode(octets) {
         Err(cause) => discard(cause),
@@ -63,7 +63,7 @@ pub fn take_idle2(vars: &mut PassVariables, octets: &[u8], packet: &mut Packet) 
     ensures step { idle2_row vars.old octets.now (packet_of octets.now) ≡ answer (step_to Server result packet.new) vars.new }
     ensures order { vars.old.retrans_count ≤ vars.old.max_retrans → vars.new.retrans_count ≤ vars.new.max_retrans }
     ensures most { vars.new.max_retrans ≡ vars.old.max_retrans }
-    ensures whole { result.sends ≡ true → packet.new ≡ unpadded octets.now }
+    ensures whole { result.sends ≡ true → packet.new ≡ without_padding octets.now }
 {
     match decode(octets) {
         Err(cause) => discard2(cause),
@@ -94,7 +94,7 @@ pub fn take_aaa_idle(vars: &mut PassVariables, octets: &[u8], packet: &mut Packe
     ensures step { aaa_row vars.old octets.now (packet_of octets.now) ≡ answer (step_to Peer result packet.new) vars.new }
     ensures order { vars.old.retrans_count ≤ vars.old.max_retrans → vars.new.retrans_count ≤ vars.new.max_retrans }
     ensures most { vars.new.max_retrans ≡ vars.old.max_retrans }
-    ensures whole { result.sends ≡ true → packet.new ≡ unpadded octets.now }
+    ensures whole { result.sends ≡ true → packet.new ≡ without_padding octets.now }
 {
     match decode(octets) {
         Err(cause) => Step::discarding(&[], cause),

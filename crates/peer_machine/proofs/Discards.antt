@@ -1,7 +1,7 @@
 -- A discard changes nothing.
 use Rattle.std.proofs.Common.{◌≡◌, ℕ, List, Option, Some, None, refl}
 use Rattle.std.specs.Prelude.{IsSome}
-use Rattle.peer_machine.specs.Expanded.{expressed}
+use Rattle.peer_machine.specs.Expanded.{expanded_answer}
 use Rattle.peer_machine.specs.Inputs.{PeerInput, octets, idle, alt_accept, alt_reject, restart, peer_answers}
 use Rattle.peer_machine.specs.Laws.{KeepsThePeer, DiscardsKeep}
 use Rattle.peer_machine.specs.PeerTable.{PeerNow, PeerAnswer, peer_restart}
@@ -30,7 +30,7 @@ answer-keeps now input = row-keeps now input (peer_answers now input) (peer_answ
 
 -- what is expressed is no discard, since it is sent
 expressed-keeps : (now : PeerNow) (out : PeerAnswer) → (IsSome out.step.cause → KeepsThePeer now out) → (sent : Option (List ℕ)) → out.step.sent ≡ sent
-    → IsSome (expressed out sent).step.cause → KeepsThePeer now (expressed out sent)
+    → IsSome (expanded_answer out sent).step.cause → KeepsThePeer now (expanded_answer out sent)
 expressed-keeps now out keeps None is is_discard = keeps is_discard
 expressed-keeps now out keeps (Some packet) is is_discard = let none = (keeps is_discard).sent in cc (none, is)
 

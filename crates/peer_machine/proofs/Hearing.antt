@@ -10,7 +10,7 @@ use Rattle.eap_packet.specs.declared.cause.Cause.{Cause}
 use Rattle.eap_packet.specs.declared.cause.Cause.TheVariants as cause
 use Rattle.eap_method.specs.Plain.{plain_octets}
 use Rattle.eap_method.specs.Steps.{is_end}
-use Rattle.peer_machine.specs.Expanded.{expressed, expressed_unless, peer_reads, peer_hears}
+use Rattle.peer_machine.specs.Expanded.{expanded_answer, expressed_unless, peer_reads, peer_hears}
 use Rattle.peer_machine.specs.PeerTable.{PeerNow, PeerAnswer, is_last_id, peer_discard, peer_deliver}
 
 -- this Request has come to a peer that has not ended
@@ -34,7 +34,7 @@ pub data PeerHearing (now : PeerNow) (octets : List ℕ) : PeerAnswer → Type 0
       → PeerHearing now octets (peer_deliver now (plain_octets octets (request id kind body)))
   expresses : (id kind : ℕ) (body : List ℕ) (asks : AsksExpanded now octets id kind body) (new : is_last_id now.vars.last_id id ≡ false)
       → PeerHearing now octets
-      (let out = peer_deliver now (plain_octets octets (request id kind body)) in expressed out out.step.sent)
+      (let out = peer_deliver now (plain_octets octets (request id kind body)) in expanded_answer out out.step.sent)
 
 module _ (now : PeerNow) (octets : List ℕ) where
   abbrev IsHearing : PeerAnswer → Type 0

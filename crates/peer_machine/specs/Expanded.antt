@@ -4,7 +4,7 @@ use Rattle.std.specs.Prelude.{ℕ, List, ◌∷◌, ◌++◌, Bool, true, false,
 use Rattle.eap_base.specs.Among.{expanded_kind, ietf, nak_kind}
 use Rattle.eap_packet.specs.Packet.{PacketValue, request, response, spelled}
 use Rattle.eap_packet.specs.Fault.{type_of, packet_of}
-use Rattle.eap_packet.specs.Expanded.{wrapped, is_bad_expanded}
+use Rattle.eap_packet.specs.Expanded.{expanded_form, is_bad_expanded}
 use Rattle.eap_packet.specs.declared.cause.Cause.{Cause}
 use Rattle.eap_packet.specs.declared.cause.Cause.TheVariants as cause
 use Rattle.login_policy.specs.Policy.{nak_of}
@@ -20,21 +20,21 @@ expanded_nak_response id methods = spelled (response id expanded_kind (ietf ++ n
 -- what answers a Request of Type 254: the Expanded Nak in place of a Nak, every other Response wrapped
 abbrev pub express : List ℕ → List ℕ → List ℕ
 express methods octets =
-    if type_of octets == nak_kind then expanded_nak_response (slice_index octets 1) methods else wrapped octets
+    if type_of octets == nak_kind then expanded_nak_response (slice_index octets 1) methods else expanded_form octets
 
 -- a Response is sent, and stored for RETRANSMIT, as it is expressed
 abbrev pub keeps_sent : PeerAnswer → List ℕ → PeerAnswer
 keeps_sent out octets =
     answer (record out.step { sent = Some octets }) (with_vars out.after (record out.after.vars { last_response = octets }))
 
-abbrev pub expressed : PeerAnswer → Option (List ℕ) → PeerAnswer
-expressed out None = out
-expressed out (Some octets) = keeps_sent out (express out.after.vars.setup.methods octets)
+abbrev pub expanded_answer : PeerAnswer → Option (List ℕ) → PeerAnswer
+expanded_answer out None = out
+expanded_answer out (Some octets) = keeps_sent out (express out.after.vars.setup.methods octets)
 
 -- RETRANSMIT sends lastRespData unchanged
 abbrev pub expressed_unless : Bool → PeerAnswer → PeerAnswer
 expressed_unless true out = out
-expressed_unless false out = expressed out out.step.sent
+expressed_unless false out = expanded_answer out out.step.sent
 
 -- a Request to a peer that has not ended: refused if no party accepts it; of Type 254, the transition of its plain
 -- form, expressed; else its transition

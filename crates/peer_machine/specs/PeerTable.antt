@@ -132,9 +132,9 @@ method_answers selects now kind id views (Reply packet m d tags) =
     (record { vars = record now.vars { selected = Some kind; method_state = m; decision = d; last_id = Some id; last_response = packet }; views = views })
 
 -- the views after a turn: a discard keeps those before it
-abbrev pub settled : PeerViews → PeerViews → PeerTurn → PeerViews
-settled before after (Discard c) = before
-settled before after (Reply packet m d tags) = after
+abbrev pub views_after : PeerViews → PeerViews → PeerTurn → PeerViews
+views_after before after (Discard c) = before
+views_after before after (Reply packet m d tags) = after
 
 -- the method of this Type handles the whole packet
 unfoldable pub peer_method : Bool → PeerNow → ℕ → ℕ → List ℕ → PeerAnswer

@@ -33,8 +33,8 @@ abbrev pub unheard : List State
 unheard = state.Received ∷ state.Discard ∷ state.Idle ∷ []
 
 -- a method discards a packet, which GET_METHOD may have selected it for
-abbrev pub unanswered : Bool → List State
-unanswered selects = before_method selects ++ state.Method ∷ state.Discard ∷ state.Idle ∷ []
+abbrev pub discard_path : Bool → List State
+discard_path selects = before_method selects ++ state.Method ∷ state.Discard ∷ state.Idle ∷ []
 
 -- why octets are discarded before the end, with this cause and on this path
 pub data Drops (now : PeerNow) (bytes : List ℕ) : Cause → List State → Type 0 where
@@ -56,7 +56,7 @@ pub data Drops (now : PeerNow) (bytes : List ℕ) : Cause → List State → Typ
       (is_selected : now.vars.selected ≡ Some kind) (is_over : is_done now.vars.method_state ≡ true) → Drops now bytes cause.MethodDone unheard
   by_method : (selects : Bool) (id kind : ℕ) (body : List ℕ) (c : Cause) (views : PeerViews) (heard : Hears now bytes id (request id kind body) false)
       (calls : Calls now kind selects) (turn : peer_turn kind now.views (spelled (request id kind body)) ≡ record { turn = Discard c; after = views })
-      → Drops now bytes c (unanswered selects)
+      → Drops now bytes c (discard_path selects)
 
 -- the peer may end in SUCCESS
 pub data EndsWell (now : PeerNow) : PeerInput → List State → Type 0 where

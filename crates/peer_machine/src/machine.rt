@@ -14,7 +14,7 @@ ghost use Rattle.eap_method.specs.Steps.{step_with};
 ghost use Rattle.eap_method.specs.Tags.{no_tags};
 ghost use Rattle.eap_method.specs.Unnamed.{KeepsPeers};
 ghost use Rattle.peer_machine.specs.Expanded.{express};
-ghost use Rattle.peer_machine.specs.PeerTable.{before_method, method_answers, settled, answer, is_allowed, first_of, selected_shown, selected_view};
+ghost use Rattle.peer_machine.specs.PeerTable.{before_method, method_answers, views_after, answer, is_allowed, first_of, selected_shown, selected_view};
 ghost use Rattle.eap_method.specs.Peer.{IsRequest, PeerShown, PeerViews, have_each, peer_views, peer_turn, peer_kinds};
 
 use crate::variables::PeerVariables;
@@ -641,7 +641,7 @@ fn settle(
 ) -> Step
     ensures step { (before after : PeerViews) (tags : Tags) → let whole = peer_turn_with turn packet.now tags in
         method_answers selects (record { vars = vars.old; views = before }) kind id after whole
-        ≡ answer (step_with result packet.now (peer_tags whole)) (record { vars = vars.new; views = settled before after whole }) }
+        ≡ answer (step_with result packet.now (peer_tags whole)) (record { vars = vars.new; views = views_after before after whole }) }
     ensures setup { vars.new.setup ≡ vars.old.setup }
     ensures sends { result.sends ≡ true → replies turn ≡ true }
     ensures selected { is_allowed vars.old.setup.methods vars.old.selected ≡ true → is_among vars.old.setup.methods kind ≡ true

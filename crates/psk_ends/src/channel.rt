@@ -1,8 +1,8 @@
 //! PCHANNEL, the protected channel (RFC 4764 section 3.3), with the one octet that it hides.
 
 ghost use Rattle.std.specs.Prelude.{◌≡◌, ◌≤◌, ◌<◌, ◌-◌, [], ◌∷◌, ◌++◌, length, take, slice_index, Some, None, if◌then◌else◌};
-ghost use Rattle.eap_method.specs.PskTags.{channel_nonce, header_of, sealed_result, is_sealed, opened, result_fault, tek_record};
-ghost use Rattle.psk_ends.specs.Checks.{checked};
+ghost use Rattle.eap_method.specs.PskTags.{channel_nonce, header_of, sealed_result, is_sealed, hidden_octet, result_fault, tek_record};
+ghost use Rattle.psk_ends.specs.Checks.{value_unless};
 
 use crate::octets::header_of;
 use crate::records::add_channel;
@@ -93,7 +93,7 @@ pub fn seal_in(
 
 /// The octet that was sealed under this Nonce and header, or None if the tag is wrong.
 pub fn open(tek: &CmacKey, number: u32, header: &[u8], sealed: u8, tag: &[u8; 16]) -> Option<u8>
-    ensures { result ≡ (if is_sealed tek.now number header.now sealed tag.now then Some (opened tek.now number sealed) else None) }
+    ensures { result ≡ (if is_sealed tek.now number header.now sealed tag.now then Some (hidden_octet tek.now number sealed) else None) }
 {
     let mut text = [sealed];
     if eax_unseal_with(tek, &channel_nonce(number), header, &mut text, tag) {
@@ -106,7 +106,7 @@ pub fn open(tek: &CmacKey, number: u32, header: &[u8], sealed: u8, tag: &[u8; 16
 /// The octet, if it has a result and no extension. `BadResult`: R is 0. `Extended`: E is set, or R
 /// is 1.
 pub fn check_result(octet: u8) -> Result<u8, Cause>
-    ensures { result ≡ checked (result_fault octet) octet }
+    ensures { result ≡ value_unless (result_fault octet) octet }
 {
     let r = octet / 64;
     if r == 0 {

@@ -1,7 +1,7 @@
 //! RAND_S or RAND_P of a nonce, the header of a packet and its message, or why it is discarded.
 
 ghost use Rattle.std.specs.Prelude.{◌≡◌, ◌≤◌, length, Bool, IfOk};
-ghost use Rattle.psk_messages.specs.Message.{AreFields, heard, message_of};
+ghost use Rattle.psk_messages.specs.Message.{AreFields, read_value, message_of};
 ghost use Rattle.psk_messages.specs.Reading.{read_of};
 ghost use Rattle.eap_method.specs.Turns.{body_of, discarded, dropped};
 ghost use Rattle.eap_method.specs.PskTags.{header_of, rand_of};
@@ -32,7 +32,7 @@ pub fn header_of<'a>(packet: &'a [u8]) -> &'a [u8]
 /// The message in the Type-Data of a Request or a Response.
 pub fn message_in<'a>(packet: &'a [u8]) -> Result<PskView<'a>, Cause>
     requires { 5 ≤ length packet.now }
-    ensures message { heard result ≡ read_of (body_of packet.now) }
+    ensures message { read_value result ≡ read_of (body_of packet.now) }
     ensures fields { IfOk result (λ view. AreFields (message_of view)) }
 {
     read_psk(&packet[5..])

@@ -88,6 +88,6 @@ message_of (view.P3 rand_s mac nonce tag sealed) = psk3 rand_s mac nonce tag sea
 message_of (view.P4 rand_s nonce tag sealed) = psk4 rand_s nonce tag sealed
 
 -- a reader's answer, with the message in place of the view
-abbrev pub heard : Result PskView Cause → Result Message Cause
-heard (Ok shown) = Ok (message_of shown)
-heard (Err cause) = Err cause
+abbrev pub read_value : Result PskView Cause → Result Message Cause
+read_value (Ok shown) = Ok (message_of shown)
+read_value (Err cause) = Err cause

@@ -2,7 +2,7 @@
 
 ghost use Rattle.std.specs.Prelude.{◌≡◌, ◌+◌, ◌≤◌, length, IfOk, IfErr, IsTrue};
 ghost use Rattle.eap_packet.specs.declared.cause.Cause.TheVariants.{PskShape};
-ghost use Rattle.psk_messages.specs.Message.{AreFields, IsPsk, SpellsNone, heard, message_of};
+ghost use Rattle.psk_messages.specs.Message.{AreFields, IsPsk, SpellsNone, read_value, message_of};
 ghost use Rattle.psk_messages.specs.Reading.{front, behind, is_size, message_at, nonce_at, tag_at, sealed_at, psk1_at, psk2_at, psk3_at, psk4_at, read_of};
 
 use crate::view::PskView;
@@ -149,7 +149,7 @@ fn read_fields<'a>(t: u8, octets: &'a [u8]) -> PskView<'a>
 /// The message that the Type-Data is: T is the two high bits of Flags, and the six low bits are
 /// ignored. `PskShape`: it is none, also if PCHANNEL has more than 21 octets (RFC 4764 section 5).
 pub fn read_psk<'a>(body: &'a [u8]) -> Result<PskView<'a>, Cause>
-    ensures message { heard result ≡ read_of body.now }
+    ensures message { read_value result ≡ read_of body.now }
     ensures spelled { IfOk result (λ view. IsPsk (message_of view) body.now) }
     ensures fields { IfOk result (λ view. AreFields (message_of view)) }
     ensures refused { IfErr result (λ cause. (cause ≡ PskShape) × SpellsNone body.now) }
@@ -160,7 +160,7 @@ pub fn read_psk<'a>(body: &'a [u8]) -> Result<PskView<'a>, Cause>
 /// The message that the Type-Data is, or `PskShape`.
 #[tactic(auto, unfolding(crate::specs::Reading::read_of))]
 fn read_shape<'a>(body: &'a [u8]) -> Result<PskView<'a>, Cause>
-    ensures message { heard result ≡ read_of body.now }
+    ensures message { read_value result ≡ read_of body.now }
     ensures fields { IfOk result (λ view. AreFields (message_of view)) }
 {
     match body {

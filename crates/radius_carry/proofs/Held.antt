@@ -3,7 +3,7 @@ use Rattle.std.proofs.Common.{◌≡◌, ℕ, zero, suc, ◌+◌, ◌-◌, ◌<�
 use Rattle.std.proofs.Common.{refl, ap, ◌∙◌, sym, arith, append_assoc, length-append}
 use Rattle.std.proofs.lemmas.Bool.Decides.{nat_tests, Decides-eqb}
 use Rattle.std.proofs.lemmas.List.{length-take-le, length-drop, take-append-drop, take_at, take_all, drop_at}
-use Rattle.radius_carry.specs.Packet.{Attribute, octets_of, attribute_octets, joined}
+use Rattle.radius_carry.specs.Packet.{Attribute, octets_of, attribute_octets, value_of_kind}
 use Rattle.radius_carry.specs.Fault.{begins, first, behind, attributes_in, left_in, attributes_of, left_of}
 
 -- the two ways of a test
@@ -205,11 +205,11 @@ held_whole ((kind, value) ∷ rest) =
 
 -- there is room for a value that is to be joined
 pub value_fits : (kind other : ℕ) (value now begun whole : List ℕ) (held rest : List Attribute) →
-    held ≡ (other, value) ∷ rest → other ≡ kind → now ++ joined kind held ≡ begun ++ whole → length begun + length whole ≤ 1500 →
+    held ≡ (other, value) ∷ rest → other ≡ kind → now ++ value_of_kind kind held ≡ begun ++ whole → length begun + length whole ≤ 1500 →
     length now + length value ≤ 1500
-unfolding joined
+unfolding value_of_kind
 value_fits kind other value now begun whole held rest more same all fits =
-    let is_kind : joined kind ((other, value) ∷ rest) ≡ value ++ joined kind rest =
-    ap (λ b. cond b (value ++ joined kind rest) (joined kind rest)) ((Decides-eqb other kind).1 same) in
-    let size = ap length (ap (λ (l : List ℕ). now ++ l) (sym (ap (joined kind) more ∙ is_kind)) ∙ all) in
-    omega (arith, length-append now (value ++ joined kind rest), length-append value (joined kind rest), length-append begun whole, size)
+    let is_kind : value_of_kind kind ((other, value) ∷ rest) ≡ value ++ value_of_kind kind rest =
+    ap (λ b. cond b (value ++ value_of_kind kind rest) (value_of_kind kind rest)) ((Decides-eqb other kind).1 same) in
+    let size = ap length (ap (λ (l : List ℕ). now ++ l) (sym (ap (value_of_kind kind) more ∙ is_kind)) ∙ all) in
+    omega (arith, length-append now (value ++ value_of_kind kind rest), length-append value (value_of_kind kind rest), length-append begun whole, size)

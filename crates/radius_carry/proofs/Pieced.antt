@@ -2,7 +2,7 @@
 use Rattle.std.proofs.Common.{◌≡◌, ℕ, zero, suc, ◌+◌, ◌≤◌, List, [], ◌∷◌, ◌++◌, length, take, drop, min, refl, ap, ◌∙◌, sym, arith, append_assoc, length-append}
 use Rattle.std.proofs.lemmas.List.{append-nil, length-drop, nil_from_length, take_min, drop_min}
 use Rattle.radius_carry.specs.Packet.{Attribute, attribute_octets, head_of, octets_of, spelled}
-use Rattle.radius_carry.specs.Written.{field, pieces, pieces_in, carried, tagged}
+use Rattle.radius_carry.specs.Written.{field, pieces, pieces_in, attributes_before_tag, packet_with_tag}
 
 -- more room than octets changes nothing
 same_pieces : (most other : ℕ) (eap : List ℕ) → length eap ≤ most → length eap ≤ other → pieces_in most eap ≡ pieces_in other eap
@@ -73,7 +73,7 @@ octets_of_none front rest none =
 
 -- the attributes before the tag, as they are written
 pub carried_spelled : (user state eap : List ℕ) →
-    (octets_of (field 1 user) ++ octets_of (field 24 state)) ++ octets_of (pieces eap) ≡ octets_of (carried user state eap)
+    (octets_of (field 1 user) ++ octets_of (field 24 state)) ++ octets_of (pieces eap) ≡ octets_of (attributes_before_tag user state eap)
 carried_spelled user state eap =
     append_assoc (octets_of (field 1 user)) (octets_of (field 24 state)) (octets_of (pieces eap))
     ∙ ap (λ (l : List ℕ). octets_of (field 1 user) ++ l) (sym (octets_of-append (field 24 state) (pieces eap)))
@@ -82,8 +82,8 @@ carried_spelled user state eap =
 -- a packet with its tag, as it is written
 pub tagged_spelled : (code id : ℕ) (authenticator attributes tag : List ℕ) (list : List Attribute) → length tag ≡ 16 → attributes ≡ octets_of list →
     ((head_of code id (length attributes + 18) ++ authenticator) ++ attributes) ++ attribute_octets (80, tag)
-    ≡ spelled (tagged code id authenticator list tag)
-unfolding spelled tagged
+    ≡ spelled (packet_with_tag code id authenticator list tag)
+unfolding spelled packet_with_tag
 tagged_spelled code id authenticator attributes tag list sixteen e =
     let all : octets_of (list ++ (80, tag) ∷ []) ≡ attributes ++ attribute_octets (80, tag) =
     octets_of-append list ((80, tag) ∷ []) ∙ ap (λ (l : List ℕ). octets_of list ++ l) (octets_of_one 80 tag)

@@ -2,10 +2,10 @@
 use Rattle.std.proofs.Common.{◌≡◌, ℕ, ◌+◌, ◌/◌, ◌%◌, ◌≤◌, List, [], ◌∷◌, ◌++◌, length, take, drop, replicate, true, false, cond, ◌==◌}
 use Rattle.std.proofs.Common.{refl, ap, ◌∙◌, sym, arith, append_assoc, length-append}
 use Rattle.std.proofs.lemmas.List.{append-nil, length-replicate, take_at, drop_at}
-use Rattle.radius_carry.specs.Packet.{Attribute, RadiusPacket, IsRadius, attribute_octets, count, head_of, joined, octets_of, spelled, tag_of}
+use Rattle.radius_carry.specs.Packet.{Attribute, RadiusPacket, IsRadius, attribute_octets, count, head_of, value_of_kind, octets_of, spelled, tag_of}
 use Rattle.radius_carry.specs.Place.{tag_place}
 use Rattle.radius_carry.proofs.Held.{both_ways}
-use Rattle.radius_carry.specs.Tags.{blanked, blank_text, asked_text}
+use Rattle.radius_carry.specs.Tags.{blank_attributes, blank_text, asked_text}
 
 -- the steps, by the Type of the first attribute
 count_same : (kind other : ℕ) (value : List ℕ) (rest : List Attribute) → (other == kind) ≡ true → count kind ((other, value) ∷ rest) ≡ 1 + count kind rest
@@ -17,22 +17,22 @@ unfolding count
 count_other kind other value rest b = ap (λ t. cond t (1 + count kind rest) (count kind rest)) b
 
 joined_same : (kind other : ℕ) (value : List ℕ) (rest : List Attribute) → (other == kind) ≡ true →
-    joined kind ((other, value) ∷ rest) ≡ value ++ joined kind rest
-unfolding joined
-joined_same kind other value rest b = ap (λ t. cond t (value ++ joined kind rest) (joined kind rest)) b
+    value_of_kind kind ((other, value) ∷ rest) ≡ value ++ value_of_kind kind rest
+unfolding value_of_kind
+joined_same kind other value rest b = ap (λ t. cond t (value ++ value_of_kind kind rest) (value_of_kind kind rest)) b
 
-joined_other : (kind other : ℕ) (value : List ℕ) (rest : List Attribute) → (other == kind) ≡ false → joined kind ((other, value) ∷ rest) ≡ joined kind rest
-unfolding joined
-joined_other kind other value rest b = ap (λ t. cond t (value ++ joined kind rest) (joined kind rest)) b
+joined_other : (kind other : ℕ) (value : List ℕ) (rest : List Attribute) → (other == kind) ≡ false → value_of_kind kind ((other, value) ∷ rest) ≡ value_of_kind kind rest
+unfolding value_of_kind
+joined_other kind other value rest b = ap (λ t. cond t (value ++ value_of_kind kind rest) (value_of_kind kind rest)) b
 
 blanked_same : (kind : ℕ) (value : List ℕ) (rest : List Attribute) → (kind == 80) ≡ true →
-    blanked ((kind, value) ∷ rest) ≡ (kind, replicate (length value) 0) ∷ blanked rest
-unfolding blanked
-blanked_same kind value rest b = ap (λ t. (kind, cond t (replicate (length value) 0) value) ∷ blanked rest) b
+    blank_attributes ((kind, value) ∷ rest) ≡ (kind, replicate (length value) 0) ∷ blank_attributes rest
+unfolding blank_attributes
+blanked_same kind value rest b = ap (λ t. (kind, cond t (replicate (length value) 0) value) ∷ blank_attributes rest) b
 
-blanked_other : (kind : ℕ) (value : List ℕ) (rest : List Attribute) → (kind == 80) ≡ false → blanked ((kind, value) ∷ rest) ≡ (kind, value) ∷ blanked rest
-unfolding blanked
-blanked_other kind value rest b = ap (λ t. (kind, cond t (replicate (length value) 0) value) ∷ blanked rest) b
+blanked_other : (kind : ℕ) (value : List ℕ) (rest : List Attribute) → (kind == 80) ≡ false → blank_attributes ((kind, value) ∷ rest) ≡ (kind, value) ∷ blank_attributes rest
+unfolding blank_attributes
+blanked_other kind value rest b = ap (λ t. (kind, cond t (replicate (length value) 0) value) ∷ blank_attributes rest) b
 
 place_same : (kind : ℕ) (value : List ℕ) (rest : List Attribute) → (kind == 80) ≡ true → tag_place ((kind, value) ∷ rest) ≡ 2
 unfolding tag_place
@@ -44,11 +44,11 @@ place_other kind value rest b = ap (λ t. cond t 2 (2 + length value + tag_place
 
 -- where there is no attribute of a Type, no value is joined and nothing is blanked
 pub record HasNone (attributes : List Attribute) : Type 0 where
-  pub none_joined : joined 80 attributes ≡ []
-  pub unblanked : blanked attributes ≡ attributes
+  pub none_joined : value_of_kind 80 attributes ≡ []
+  pub unblanked : blank_attributes attributes ≡ attributes
 
 pub has_none : (attributes : List Attribute) → count 80 attributes ≡ 0 → HasNone attributes
-unfolding joined blanked
+unfolding value_of_kind blank_attributes
 has_none [] e = record { none_joined = refl; unblanked = refl }
 has_none ((kind, value) ∷ rest) e =
     both_ways (HasNone ((kind, value) ∷ rest)) (kind == 80)
@@ -65,7 +65,7 @@ pub record Split (attributes : List Attribute) : Type 0 where
   pub before : List ℕ
   pub after : List ℕ
   pub whole : octets_of attributes ≡ before ++ (tag_of attributes ++ after)
-  pub blank : octets_of (blanked attributes) ≡ before ++ (replicate (length (tag_of attributes)) 0 ++ after)
+  pub blank : octets_of (blank_attributes attributes) ≡ before ++ (replicate (length (tag_of attributes)) 0 ++ after)
   pub place : length before ≡ tag_place attributes
 
 split_first : (kind : ℕ) (value : List ℕ) (rest : List Attribute) → count 80 rest ≡ 0 → (kind == 80) ≡ true → Split ((kind, value) ∷ rest)
@@ -129,8 +129,8 @@ pub record Cut (packet : RadiusPacket) (whole : List ℕ) : Type 0 where
   pub tag : take 16 (drop (tag_place packet.attributes) (drop 20 whole)) ≡ tag_of packet.attributes
   pub blank :
       take (tag_place packet.attributes) (drop 20 whole) ++ (replicate 16 0 ++ drop (tag_place packet.attributes + 16) (drop 20 whole))
-      ≡ octets_of (blanked packet.attributes)
-  pub same_size : length (octets_of (blanked packet.attributes)) ≡ length (octets_of packet.attributes)
+      ≡ octets_of (blank_attributes packet.attributes)
+  pub same_size : length (octets_of (blank_attributes packet.attributes)) ≡ length (octets_of packet.attributes)
 
 -- how many zeros there are
 length_zeros : (n : ℕ) → (let zeros : List ℕ = replicate n 0 in length zeros ≡ n)
@@ -200,8 +200,8 @@ covered_by_tag packet whole authenticator is =
     ∙ append_assoc (head ++ authenticator) (take place body) (replicate 16 0 ++ drop (place + 16) body)
     ∙ append_assoc head authenticator (take place body ++ (replicate 16 0 ++ drop (place + 16) body))
     ∙ ap (λ (l : List ℕ). head ++ (authenticator ++ l)) cut.blank
-    ∙ ap (λ (l : List ℕ). l ++ (authenticator ++ octets_of (blanked packet.attributes))) cut.head
-    ∙ ap (λ n. head_of packet.code packet.id n ++ (authenticator ++ octets_of (blanked packet.attributes))) (sym cut.same_size)
+    ∙ ap (λ (l : List ℕ). l ++ (authenticator ++ octets_of (blank_attributes packet.attributes))) cut.head
+    ∙ ap (λ n. head_of packet.code packet.id n ++ (authenticator ++ octets_of (blank_attributes packet.attributes))) (sym cut.same_size)
 
 -- the text of the Response Authenticator, in the pieces that are fed
 pub covered_by_response : (packet : RadiusPacket) (whole asked secret : List ℕ) → IsRadius packet whole →

@@ -5,9 +5,9 @@ use Rattle.std.proofs.lemmas.List.{append-nil, length-take, length-drop, take-ap
 use Rattle.hmac_mac.specs.Hmac.{hmac}
 use Rattle.md5.specs.Md5.{md5}
 use Rattle.md5.proofs.StandardFacts.{length-md5}
-use Rattle.radius_carry.specs.Packet.{Attribute, RadiusPacket, IsRadius, count, eap_of, is_code, joined, octets_of, spelled, tag_of}
-use Rattle.radius_carry.specs.Tags.{asked_text, blank_text, blanked, hmac_md5}
-use Rattle.radius_carry.specs.Written.{carried, field, pieces, pieces_in, sealed, tagged}
+use Rattle.radius_carry.specs.Packet.{Attribute, RadiusPacket, IsRadius, count, eap_of, is_code, value_of_kind, octets_of, spelled, tag_of}
+use Rattle.radius_carry.specs.Tags.{asked_text, blank_text, blank_attributes, hmac_md5}
+use Rattle.radius_carry.specs.Written.{attributes_before_tag, field, pieces, pieces_in, sealed_packet, packet_with_tag}
 use Rattle.radius_carry.specs.Laws.{AreFields, RequestsAreReadBack, RequestsAreGood, RepliesAreReadBack, RepliesAreGood}
 use Rattle.radius_carry.proofs.Grammar.{spellings_are_read}
 use Rattle.radius_carry.proofs.Pieced.{octets_of-append, pieces_more}
@@ -29,15 +29,15 @@ count-append kind [] ys = omega arith
 count-append kind ((other, value) ∷ xs) ys =
     ap (λ n. cond (other == kind) (1 + n) n) (count-append kind xs ys) ∙ cond_add (other == kind) (count kind xs) (count kind ys)
 
-joined-append : (kind : ℕ) (xs ys : List Attribute) → joined kind (xs ++ ys) ≡ joined kind xs ++ joined kind ys
-unfolding joined
+joined-append : (kind : ℕ) (xs ys : List Attribute) → value_of_kind kind (xs ++ ys) ≡ value_of_kind kind xs ++ value_of_kind kind ys
+unfolding value_of_kind
 joined-append kind [] ys = refl
 joined-append kind ((other, value) ∷ xs) ys =
     ap (λ (l : List ℕ). cond (other == kind) (value ++ l) l) (joined-append kind xs ys)
-    ∙ cond_append (other == kind) value (joined kind xs) (joined kind ys)
+    ∙ cond_append (other == kind) value (value_of_kind kind xs) (value_of_kind kind ys)
 
-blanked-append : (xs ys : List Attribute) → blanked (xs ++ ys) ≡ blanked xs ++ blanked ys
-unfolding blanked
+blanked-append : (xs ys : List Attribute) → blank_attributes (xs ++ ys) ≡ blank_attributes xs ++ blank_attributes ys
+unfolding blank_attributes
 blanked-append [] ys = refl
 blanked-append ((kind, value) ∷ xs) ys =
     ap (λ (l : List Attribute). (kind, cond (kind == 80) (replicate (length value) 0) value) ∷ l) (blanked-append xs ys)
@@ -46,30 +46,30 @@ blanked-append ((kind, value) ∷ xs) ys =
 
 record FieldOf (kind : ℕ) (value : List ℕ) : Type 0 where
   no_eap : count 79 (field kind value) ≡ 0
-  joins_none : joined 79 (field kind value) ≡ []
+  joins_none : value_of_kind 79 (field kind value) ≡ []
   no_tag : count 80 (field kind value) ≡ 0
   size : length (octets_of (field kind value)) ≤ length value + 2
 
 user_field : (value : List ℕ) → FieldOf 1 value
-unfolding count joined octets_of
+unfolding count value_of_kind octets_of
 user_field [] = record { no_eap = refl; joins_none = refl; no_tag = refl; size = omega arith }
 user_field (octet ∷ rest) = record { no_eap = refl; joins_none = refl; no_tag = refl; size = omega (arith, ap length (append-nil rest)) }
 
 state_field : (value : List ℕ) → FieldOf 24 value
-unfolding count joined octets_of
+unfolding count value_of_kind octets_of
 state_field [] = record { no_eap = refl; joins_none = refl; no_tag = refl; size = omega arith }
 state_field (octet ∷ rest) = record { no_eap = refl; joins_none = refl; no_tag = refl; size = omega (arith, ap length (append-nil rest)) }
 
 -- ---- an EAP packet in pieces
 
 record PiecesOf (most : ℕ) (eap : List ℕ) : Type 0 where
-  joins : joined 79 (pieces_in most eap) ≡ eap
+  joins : value_of_kind 79 (pieces_in most eap) ≡ eap
   no_tag : count 80 (pieces_in most eap) ≡ 0
   none : length (octets_of (pieces_in most eap)) ≤ 255 * length eap
   size : 253 * length (octets_of (pieces_in most eap)) ≤ 255 * length eap + 504
 
 pieces_of_none : (most : ℕ) → PiecesOf most []
-unfolding count joined octets_of pieces_in
+unfolding count value_of_kind octets_of pieces_in
 pieces_of_none zero = record { joins = refl; no_tag = refl; none = omega arith; size = omega arith }
 pieces_of_none (suc most) = record { joins = refl; no_tag = refl; none = omega arith; size = omega arith }
 
@@ -79,8 +79,8 @@ in_more most [] some = absurd (omega arith)
 in_more most (octet ∷ rest) some = refl
 
 -- one piece before others
-piece_joins : (value : List ℕ) (rest : List Attribute) → joined 79 ((79, value) ∷ rest) ≡ value ++ joined 79 rest
-unfolding joined
+piece_joins : (value : List ℕ) (rest : List Attribute) → value_of_kind 79 ((79, value) ∷ rest) ≡ value ++ value_of_kind 79 rest
+unfolding value_of_kind
 piece_joins value rest = refl
 
 piece_no_tag : (value : List ℕ) (rest : List Attribute) → count 80 ((79, value) ∷ rest) ≡ count 80 rest
@@ -100,7 +100,7 @@ pieces_of_more most eap some tail =
     let front = length-take 253 eap in
     let octets = ap length (ap octets_of more) ∙ piece_size value rest in
     record {
-      joins = ap (joined 79) more ∙ piece_joins value rest ∙ ap (λ (l : List ℕ). value ++ l) tail.joins ∙ take-append-drop 253 eap;
+      joins = ap (value_of_kind 79) more ∙ piece_joins value rest ∙ ap (λ (l : List ℕ). value ++ l) tail.joins ∙ take-append-drop 253 eap;
       no_tag = ap (count 80) more ∙ piece_no_tag value rest ∙ tail.no_tag;
       none = omega (arith, tail.none);
       size = omega (arith, tail.size, tail.none);
@@ -122,10 +122,10 @@ some_pieces eap some = rw pieces_more (omega arith)
 -- ---- a packet with its tag
 
 record CarriedOf (user state eap : List ℕ) : Type 0 where
-  carries : 1 ≤ count 79 (carried user state eap)
-  joins : joined 79 (carried user state eap) ≡ eap
-  no_tag : count 80 (carried user state eap) ≡ 0
-  size : 253 * length (octets_of (carried user state eap)) ≤ 253 * (length user + length state + 4) + 255 * length eap + 504
+  carries : 1 ≤ count 79 (attributes_before_tag user state eap)
+  joins : value_of_kind 79 (attributes_before_tag user state eap) ≡ eap
+  no_tag : count 80 (attributes_before_tag user state eap) ≡ 0
+  size : 253 * length (octets_of (attributes_before_tag user state eap)) ≤ 253 * (length user + length state + 4) + 255 * length eap + 504
 
 carried_of : (user state eap : List ℕ) → 1 ≤ length eap → CarriedOf user state eap
 unfolding pieces
@@ -139,9 +139,9 @@ carried_of user state eap some =
       carries = omega (arith, count-append 79 (field 1 user) rest, count-append 79 (field 24 state) (pieces eap));
       joins =
           joined-append 79 (field 1 user) rest
-          ∙ ap (λ (l : List ℕ). l ++ joined 79 rest) one.joins_none
+          ∙ ap (λ (l : List ℕ). l ++ value_of_kind 79 rest) one.joins_none
           ∙ joined-append 79 (field 24 state) (pieces eap)
-          ∙ ap (λ (l : List ℕ). l ++ joined 79 (pieces eap)) two.joins_none
+          ∙ ap (λ (l : List ℕ). l ++ value_of_kind 79 (pieces eap)) two.joins_none
           ∙ three.joins;
       no_tag = omega (arith, count-append 80 (field 1 user) rest, count-append 80 (field 24 state) (pieces eap), one.no_tag, two.no_tag, three.no_tag);
       size =
@@ -158,22 +158,22 @@ carried_of user state eap some =
     }
 
 record TaggedOf (code id : ℕ) (authenticator user state eap tag : List ℕ) : Type 0 where
-  is_radius : IsRadius (tagged code id authenticator (carried user state eap) tag) (spelled (tagged code id authenticator (carried user state eap) tag))
-  carries : eap_of (tagged code id authenticator (carried user state eap) tag).attributes ≡ eap
-  tag_there : tag_of (tagged code id authenticator (carried user state eap) tag).attributes ≡ tag
-  blank : blanked (tagged code id authenticator (carried user state eap) tag).attributes ≡ carried user state eap ++ (80, replicate 16 0) ∷ []
+  is_radius : IsRadius (packet_with_tag code id authenticator (attributes_before_tag user state eap) tag) (spelled (packet_with_tag code id authenticator (attributes_before_tag user state eap) tag))
+  carries : eap_of (packet_with_tag code id authenticator (attributes_before_tag user state eap) tag).attributes ≡ eap
+  tag_there : tag_of (packet_with_tag code id authenticator (attributes_before_tag user state eap) tag).attributes ≡ tag
+  blank : blank_attributes (packet_with_tag code id authenticator (attributes_before_tag user state eap) tag).attributes ≡ attributes_before_tag user state eap ++ (80, replicate 16 0) ∷ []
 
 -- the tag alone
 record LastTag (tag : List ℕ) : Type 0 where
   no_eap : count 79 ((80, tag) ∷ []) ≡ 0
-  joins_none : joined 79 ((80, tag) ∷ []) ≡ []
+  joins_none : value_of_kind 79 ((80, tag) ∷ []) ≡ []
   lone : count 80 ((80, tag) ∷ []) ≡ 1
-  joins : joined 80 ((80, tag) ∷ []) ≡ tag
-  blank : blanked ((80, tag) ∷ []) ≡ (80, replicate (length tag) 0) ∷ []
+  joins : value_of_kind 80 ((80, tag) ∷ []) ≡ tag
+  blank : blank_attributes ((80, tag) ∷ []) ≡ (80, replicate (length tag) 0) ∷ []
   size : length (octets_of ((80, tag) ∷ [])) ≡ length tag + 2
 
 last_tag : (tag : List ℕ) → LastTag tag
-unfolding count joined blanked octets_of
+unfolding count value_of_kind blank_attributes octets_of
 last_tag tag = record {
   no_eap = refl;
   joins_none = refl;
@@ -189,9 +189,9 @@ spelled_size packet = omega (arith, length-append packet.authenticator (octets_o
 
 tagged_of : (code id : ℕ) (authenticator user state eap tag : List ℕ) → IsTrue (is_code code) → AreFields authenticator user state eap → length tag ≡ 16 →
     TaggedOf code id authenticator user state eap tag
-unfolding tagged
+unfolding packet_with_tag
 tagged_of code id authenticator user state eap tag known fields sixteen =
-    let list : List Attribute = carried user state eap in
+    let list : List Attribute = attributes_before_tag user state eap in
     let last : List Attribute = (80, tag) ∷ [] in
     let of = carried_of user state eap fields.some_eap in
     let end = last_tag tag in
@@ -200,11 +200,11 @@ tagged_of code id authenticator user state eap tag known fields sixteen =
     let tags = count-append 80 list last in
     let octets = ap length (octets_of-append list last) in
     let both = length-append (octets_of list) (octets_of last) in
-    let packet = tagged code id authenticator list tag in
-    let carries : joined 79 (list ++ last) ≡ eap =
-    joined-append 79 list last ∙ ap (λ (l : List ℕ). joined 79 list ++ l) end.joins_none ∙ append-nil (joined 79 list) ∙ of.joins in
-    let there : joined 80 (list ++ last) ≡ tag =
-    joined-append 80 list last ∙ ap (λ (l : List ℕ). l ++ joined 80 last) none.none_joined ∙ end.joins in
+    let packet = packet_with_tag code id authenticator list tag in
+    let carries : value_of_kind 79 (list ++ last) ≡ eap =
+    joined-append 79 list last ∙ ap (λ (l : List ℕ). value_of_kind 79 list ++ l) end.joins_none ∙ append-nil (value_of_kind 79 list) ∙ of.joins in
+    let there : value_of_kind 80 (list ++ last) ≡ tag =
+    joined-append 80 list last ∙ ap (λ (l : List ℕ). l ++ value_of_kind 80 last) none.none_joined ∙ end.joins in
     record {
       is_radius = record {
         spelling = refl;
@@ -220,7 +220,7 @@ tagged_of code id authenticator user state eap tag known fields sixteen =
       tag_there = there;
       blank =
           blanked-append list last
-          ∙ ap (λ (l : List Attribute). l ++ blanked last) none.unblanked
+          ∙ ap (λ (l : List Attribute). l ++ blank_attributes last) none.unblanked
           ∙ ap (λ (l : List Attribute). list ++ l) end.blank
           ∙ ap (λ n. list ++ (80, replicate n 0) ∷ []) sixteen;
     }
@@ -232,15 +232,15 @@ unfolding hmac
 length-hmac_md5 key text = length-md5 _
 
 pub requests_are_read_back : RequestsAreReadBack
-unfolding sealed
+unfolding sealed_packet
 requests_are_read_back secret authenticator user state eap rest id fields =
     let of = tagged_of 1 id authenticator user state eap _ refl fields (length-hmac_md5 secret _) in
     record { read = spellings_are_read _ rest of.is_radius; carries = of.carries }
 
 pub requests_are_good : RequestsAreGood
-unfolding sealed tagged blank_text
+unfolding sealed_packet packet_with_tag blank_text
 requests_are_good secret authenticator user state eap id fields =
-    let blank : RadiusPacket = tagged 1 id authenticator (carried user state eap) (replicate 16 0) in
+    let blank : RadiusPacket = packet_with_tag 1 id authenticator (attributes_before_tag user state eap) (replicate 16 0) in
     let tag : List ℕ = hmac_md5 secret (spelled blank) in
     let of = tagged_of 1 id authenticator user state eap tag refl fields (length-hmac_md5 secret (spelled blank)) in
     record {
@@ -251,11 +251,11 @@ requests_are_good secret authenticator user state eap id fields =
     }
 
 pub replies_are_read_back : RepliesAreReadBack
-unfolding sealed tagged asked_text
+unfolding sealed_packet packet_with_tag asked_text
 replies_are_read_back secret asked state eap rest code id reply fields =
-    let blank : RadiusPacket = tagged code id asked (carried [] state eap) (replicate 16 0) in
+    let blank : RadiusPacket = packet_with_tag code id asked (attributes_before_tag [] state eap) (replicate 16 0) in
     let tag : List ℕ = hmac_md5 secret (spelled blank) in
-    let response : List ℕ = md5 (spelled (tagged code id asked (carried [] state eap) tag) ++ secret) in
+    let response : List ℕ = md5 (spelled (packet_with_tag code id asked (attributes_before_tag [] state eap) tag) ++ secret) in
     let of =
     tagged_of code id response [] state eap tag reply.known (record {
       sixteen = length-md5 _;
@@ -267,9 +267,9 @@ replies_are_read_back secret asked state eap rest code id reply fields =
     record { read = spellings_are_read _ rest of.is_radius; carries = of.carries }
 
 pub replies_are_good : RepliesAreGood
-unfolding sealed tagged asked_text blank_text
+unfolding sealed_packet packet_with_tag asked_text blank_text
 replies_are_good secret asked state eap code id reply fields =
-    let blank : RadiusPacket = tagged code id asked (carried [] state eap) (replicate 16 0) in
+    let blank : RadiusPacket = packet_with_tag code id asked (attributes_before_tag [] state eap) (replicate 16 0) in
     let tag : List ℕ = hmac_md5 secret (spelled blank) in
     let of = tagged_of code id asked [] state eap tag reply.known fields (length-hmac_md5 secret (spelled blank)) in
     record {

@@ -3,10 +3,10 @@
 use Rattle.std.proofs.Common.{◌≡◌, ℕ, List, [], ◌∷◌, ◌++◌, codes, Some, None, replicate, refl}
 use Rattle.hmac_mac.specs.Hmac.{block_key_of, filled, hmac, padded}
 use Rattle.md5.specs.Md5.{block_words, compress, digest_bytes, hash_after, md5, rounds}
-use Rattle.radius_carry.specs.Packet.{octets_of, spelled, count, joined, eap_of}
+use Rattle.radius_carry.specs.Packet.{octets_of, spelled, count, value_of_kind, eap_of}
 use Rattle.radius_carry.specs.Fault.{attributes_in, attributes_of, left_in, left_of, fault}
 use Rattle.radius_carry.specs.Tags.{asked_text, hmac_md5}
-use Rattle.radius_carry.specs.Written.{pieces, pieces_in, tagged, sealed, request_of, reply_of}
+use Rattle.radius_carry.specs.Written.{pieces, pieces_in, packet_with_tag, sealed_packet, request_of, reply_of}
 use Rattle.radius_carry.specs.declared.cause.RadiusCause.TheVariants.{RadiusShort, RadiusCode, RadiusLength, RadiusTruncated}
 use Rattle.radius_carry.specs.declared.cause.RadiusCause.TheVariants.{RadiusAttribute, NoEap, NoAuthenticator}
 
@@ -30,7 +30,7 @@ past = refl
 
 -- the pieces of an EAP packet are joined in their order
 pieced : eap_of ((79, 1 ∷ []) ∷ (1, 7 ∷ []) ∷ (79, 2 ∷ 3 ∷ []) ∷ []) ≡ 1 ∷ 2 ∷ 3 ∷ []
-unfolding joined
+unfolding value_of_kind
 pieced = refl
 
 -- the octets of a packet with this Code, this Length in one octet and these attributes
@@ -46,47 +46,47 @@ tag = 80 ∷ 18 ∷ sixteen 1
 
 -- the first cause, one row each
 nineteen : fault (sixteen 2 ++ 1 ∷ 1 ∷ 1 ∷ []) ≡ Some RadiusShort
-unfolding fault attributes_of attributes_in left_of left_in count joined whole sixteen success tag
+unfolding fault attributes_of attributes_in left_of left_in count value_of_kind whole sixteen success tag
 nineteen = refl
 
 bad_code : fault (whole 4 20 []) ≡ Some RadiusCode
-unfolding fault attributes_of attributes_in left_of left_in count joined whole sixteen success tag
+unfolding fault attributes_of attributes_in left_of left_in count value_of_kind whole sixteen success tag
 bad_code = refl
 
 short_length : fault (whole 1 19 []) ≡ Some RadiusLength
-unfolding fault attributes_of attributes_in left_of left_in count joined whole sixteen success tag
+unfolding fault attributes_of attributes_in left_of left_in count value_of_kind whole sixteen success tag
 short_length = refl
 
 long_length : fault (1 ∷ 0 ∷ 16 ∷ 1 ∷ sixteen 34) ≡ Some RadiusLength
-unfolding fault attributes_of attributes_in left_of left_in count joined whole sixteen success tag
+unfolding fault attributes_of attributes_in left_of left_in count value_of_kind whole sixteen success tag
 long_length = refl
 
 truncated : fault (whole 1 21 []) ≡ Some RadiusTruncated
-unfolding fault attributes_of attributes_in left_of left_in count joined whole sixteen success tag
+unfolding fault attributes_of attributes_in left_of left_in count value_of_kind whole sixteen success tag
 truncated = refl
 
 length_of_one : fault (whole 1 24 (1 ∷ 1 ∷ 0 ∷ 0 ∷ [])) ≡ Some RadiusAttribute
-unfolding fault attributes_of attributes_in left_of left_in count joined whole sixteen success tag
+unfolding fault attributes_of attributes_in left_of left_in count value_of_kind whole sixteen success tag
 length_of_one = refl
 
 no_eap : fault (whole 2 38 tag) ≡ Some NoEap
-unfolding fault attributes_of attributes_in left_of left_in count joined whole sixteen success tag
+unfolding fault attributes_of attributes_in left_of left_in count value_of_kind whole sixteen success tag
 no_eap = refl
 
 no_tag : fault (whole 2 26 success) ≡ Some NoAuthenticator
-unfolding fault attributes_of attributes_in left_of left_in count joined whole sixteen success tag
+unfolding fault attributes_of attributes_in left_of left_in count value_of_kind whole sixteen success tag
 no_tag = refl
 
 two_tags : fault (whole 2 62 (success ++ (tag ++ tag))) ≡ Some NoAuthenticator
-unfolding fault attributes_of attributes_in left_of left_in count joined whole sixteen success tag
+unfolding fault attributes_of attributes_in left_of left_in count value_of_kind whole sixteen success tag
 two_tags = refl
 
 short_tag : fault (whole 3 29 (success ++ 80 ∷ 3 ∷ 7 ∷ [])) ≡ Some NoAuthenticator
-unfolding fault attributes_of attributes_in left_of left_in count joined whole sixteen success tag
+unfolding fault attributes_of attributes_in left_of left_in count value_of_kind whole sixteen success tag
 short_tag = refl
 
 nothing_wrong : fault (whole 11 44 (success ++ (tag ++ 9 ∷ 9 ∷ []))) ≡ None
-unfolding fault attributes_of attributes_in left_of left_in count joined whole sixteen success tag
+unfolding fault attributes_of attributes_in left_of left_in count value_of_kind whole sixteen success tag
 nothing_wrong = refl
 
 -- HMAC-MD5 of RFC 2202: a key that is shorter than a block, and one that is longer
@@ -105,11 +105,11 @@ a_request : spelled (request_of (codes "xyzzy5461") 7 (replicate 16 34) (codes "
     1 ∷ 7 ∷ 0 ∷ 57 ∷ 34 ∷ 34 ∷ 34 ∷ 34 ∷ 34 ∷ 34 ∷ 34 ∷ 34 ∷ 34 ∷ 34 ∷ 34 ∷ 34 ∷ 34 ∷ 34 ∷ 34 ∷ 34 ∷ 1 ∷ 7 ∷ 97 ∷ 108 ∷
     105 ∷ 99 ∷ 101 ∷ 79 ∷ 12 ∷ 2 ∷ 0 ∷ 0 ∷ 10 ∷ 1 ∷ 97 ∷ 108 ∷ 105 ∷ 99 ∷ 101 ∷ 80 ∷ 18 ∷ 219 ∷ 205 ∷ 42 ∷ 183 ∷ 69 ∷ 101 ∷ 43 ∷
     116 ∷ 6 ∷ 62 ∷ 131 ∷ 75 ∷ 117 ∷ 86 ∷ 25 ∷ 30 ∷ []
-unfolding spelled octets_of sealed tagged pieces pieces_in block_words rounds compress hash_after digest_bytes md5 block_key_of filled padded hmac
+unfolding spelled octets_of sealed_packet packet_with_tag pieces pieces_in block_words rounds compress hash_after digest_bytes md5 block_key_of filled padded hmac
 a_request = refl
 
 a_reply : spelled (reply_of (codes "xyzzy5461") 3 7 (replicate 16 34) (1 ∷ []) (4 ∷ 0 ∷ 0 ∷ 4 ∷ [])) ≡
     3 ∷ 7 ∷ 0 ∷ 47 ∷ 62 ∷ 212 ∷ 223 ∷ 119 ∷ 132 ∷ 197 ∷ 46 ∷ 41 ∷ 86 ∷ 111 ∷ 209 ∷ 16 ∷ 78 ∷ 5 ∷ 241 ∷ 118 ∷ 24 ∷ 3 ∷ 1 ∷ 79 ∷
     6 ∷ 4 ∷ 0 ∷ 0 ∷ 4 ∷ 80 ∷ 18 ∷ 218 ∷ 94 ∷ 211 ∷ 131 ∷ 17 ∷ 187 ∷ 146 ∷ 86 ∷ 41 ∷ 37 ∷ 225 ∷ 22 ∷ 32 ∷ 110 ∷ 1 ∷ 165 ∷ []
-unfolding spelled octets_of sealed tagged pieces pieces_in asked_text block_words rounds compress hash_after digest_bytes md5 block_key_of filled padded hmac
+unfolding spelled octets_of sealed_packet packet_with_tag pieces pieces_in asked_text block_words rounds compress hash_after digest_bytes md5 block_key_of filled padded hmac
 a_reply = refl

@@ -123,6 +123,6 @@ value_of view = record {
 }
 
 -- a reader's answer, with the packet in place of the view
-abbrev pub heard : Result RadiusView RadiusCause → Result RadiusPacket RadiusCause
-heard (Ok view) = Ok (value_of view)
-heard (Err cause) = Err cause
+abbrev pub read_value : Result RadiusView RadiusCause → Result RadiusPacket RadiusCause
+read_value (Ok view) = Ok (value_of view)
+read_value (Err cause) = Err cause

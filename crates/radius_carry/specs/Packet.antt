@@ -40,17 +40,17 @@ count kind [] = 0
 count kind ((other, value) ∷ rest) = if other == kind then 1 + count kind rest else count kind rest
 
 -- the values of a type, joined in their order
-unfoldable pub joined : ℕ → List Attribute → List ℕ
-joined kind [] = []
-joined kind ((other, value) ∷ rest) = if other == kind then value ++ joined kind rest else joined kind rest
+unfoldable pub value_of_kind : ℕ → List Attribute → List ℕ
+value_of_kind kind [] = []
+value_of_kind kind ((other, value) ∷ rest) = if other == kind then value ++ value_of_kind kind rest else value_of_kind kind rest
 
 -- the EAP packet that the attributes EAP-Message carry (RFC 3579 section 3.1)
 abbrev pub eap_of : List Attribute → List ℕ
-eap_of attributes = joined 79 attributes
+eap_of attributes = value_of_kind 79 attributes
 
 -- the value of the attribute Message-Authenticator (RFC 3579 section 3.2)
 abbrev pub tag_of : List Attribute → List ℕ
-tag_of attributes = joined 80 attributes
+tag_of attributes = value_of_kind 80 attributes
 
 -- the Code field: Access-Request, Access-Accept, Access-Reject, Access-Challenge
 abbrev pub number_of : RadiusKind → ℕ

@@ -11,13 +11,13 @@ abbrev pub hmac_md5 : List ℕ → List ℕ → List ℕ
 hmac_md5 key text = hmac md5 key text
 
 -- the attributes, with each Message-Authenticator of zeros
-unfoldable pub blanked : List Attribute → List Attribute
-blanked [] = []
-blanked ((kind, value) ∷ rest) = (kind, if kind == 80 then replicate (length value) 0 else value) ∷ blanked rest
+unfoldable pub blank_attributes : List Attribute → List Attribute
+blank_attributes [] = []
+blank_attributes ((kind, value) ∷ rest) = (kind, if kind == 80 then replicate (length value) 0 else value) ∷ blank_attributes rest
 
 -- what a tag covers: the packet with this Authenticator, and zeros in the tag's place
 unfoldable pub blank_text : List ℕ → RadiusPacket → List ℕ
-blank_text authenticator packet = spelled (record packet { authenticator = authenticator; attributes = blanked packet.attributes })
+blank_text authenticator packet = spelled (record packet { authenticator = authenticator; attributes = blank_attributes packet.attributes })
 
 -- a request's tag: the HMAC over the whole packet
 abbrev pub request_tag : List ℕ → RadiusPacket → List ℕ

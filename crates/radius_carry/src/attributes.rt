@@ -2,7 +2,7 @@
 
 ghost use Rattle.std.specs.Prelude.{◌≡◌, ◌≤◌, ◌+◌, ◌++◌, ◌∷◌, [], length, IsTrue, ◌↔◌, IfSome, MatchOption};
 ghost use Rattle.eap_base.specs.Sizes.{max_packet};
-ghost use Rattle.radius_carry.specs.Packet.{count, joined};
+ghost use Rattle.radius_carry.specs.Packet.{count, value_of_kind};
 ghost use Rattle.radius_carry.specs.Fault.{attributes_of, left_of};
 ghost use Rattle.radius_carry.specs.Place.{tag_place};
 
@@ -69,10 +69,10 @@ pub struct Tally {
 }
 
 /// The attributes of this Type, counted.
-#[tactic(auto, unfolding(crate::specs::Packet::count, crate::specs::Packet::joined))]
+#[tactic(auto, unfolding(crate::specs::Packet::count, crate::specs::Packet::value_of_kind))]
 pub fn tally_of(kind: u8, octets: &[u8]) -> Tally
     ensures count { result.count ≡ count kind (attributes_of octets.now) }
-    ensures size { result.size ≡ length (joined kind (attributes_of octets.now)) }
+    ensures size { result.size ≡ length (value_of_kind kind (attributes_of octets.now)) }
 {
     let mut tally = Tally { count: 0, size: 0 };
     let mut rest = octets;
@@ -87,10 +87,10 @@ pub fn tally_of(kind: u8, octets: &[u8]) -> Tally
 }
 
 /// Appends the values of this Type, joined in their order.
-#[tactic(auto, unfolding(crate::specs::Packet::joined))]
+#[tactic(auto, unfolding(crate::specs::Packet::value_of_kind))]
 pub fn join_values(values: &mut Packet, kind: u8, octets: &[u8])
-    requires { length values.old + length (joined kind (attributes_of octets.now)) ≤ max_packet }
-    ensures { values.new ≡ values.old ++ joined kind (attributes_of octets.now) }
+    requires { length values.old + length (value_of_kind kind (attributes_of octets.now)) ≤ max_packet }
+    ensures { values.new ≡ values.old ++ value_of_kind kind (attributes_of octets.now) }
 {
     let mut rest = octets;
     while let Some(attribute) = first_attribute(rest) {

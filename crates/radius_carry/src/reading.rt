@@ -3,7 +3,7 @@
 ghost use Rattle.std.specs.Prelude.{◌≡◌, ◌≤◌, take, drop, length, IfOk, None, IsTrue, slice_index};
 ghost use Rattle.radius_carry.specs.Packet as spec;
 ghost use Rattle.radius_carry.specs.Packet.{IsRadius, number_of};
-ghost use Rattle.radius_carry.specs.Fault.{fault, first_cause, head_table, body_table, body_of, code_of, length_of, packet_at, packet_of, value_of, heard};
+ghost use Rattle.radius_carry.specs.Fault.{fault, first_cause, head_table, body_table, body_of, code_of, length_of, packet_at, packet_of, value_of, read_value};
 
 use crate::attributes::{
     EAP_MESSAGE, HEAD, MESSAGE_AUTHENTICATOR, TAG, are_attributes, join_values, tally_of,
@@ -121,7 +121,7 @@ fn view_of<'a>(octets: &'a [u8]) -> RadiusView<'a>
 /// from beginning with one.
 #[tactic(auto, unfolding(crate::specs::Fault::packet_of, crate::specs::Fault::packet_at, crate::specs::Fault::value_of))]
 pub fn read_radius<'a>(octets: &'a [u8]) -> Result<RadiusView<'a>, RadiusCause>
-    ensures packet { heard result ≡ packet_of octets.now }
+    ensures packet { read_value result ≡ packet_of octets.now }
     ensures sound { IfOk result (λ view. IsRadius (value_of view) view.whole.now) }
     ensures prefix { IfOk result (λ view. view.whole.now ≡ take (length_of octets.now) octets.now) }
     ensures attributes { IfOk result (λ view. view.attributes.now ≡ drop 20 view.whole.now) }

@@ -4,7 +4,7 @@ ghost use Rattle.std.specs.Prelude.{◌≡◌, ◌≢◌, ◌≤◌, ◌+◌, �
 ghost use Rattle.eap_base.specs.Sizes.{max_packet};
 ghost use Rattle.md5.specs.Md5.{md5};
 ghost use Rattle.radius_carry.specs.Packet.{Attribute, attribute_octets, head_of, number_of, octets_of, spelled, max_value};
-ghost use Rattle.radius_carry.specs.Written.{blank_of, carried, field, pieces, tagged, sealed, request_of, reply_of};
+ghost use Rattle.radius_carry.specs.Written.{blank_of, attributes_before_tag, field, pieces, packet_with_tag, sealed_packet, request_of, reply_of};
 ghost use Rattle.radius_carry.specs.Tags.{hmac_md5};
 
 use crate::attributes::{EAP_MESSAGE, MESSAGE_AUTHENTICATOR};
@@ -68,7 +68,7 @@ fn carried_octets(user: &[u8], state: &[u8], eap: &[u8]) -> Octets<2000>
     requires user { length user.now ≤ max_value }
     requires state { length state.now ≤ 64 }
     requires eap { length eap.now ≤ max_packet }
-    ensures octets { result ≡ octets_of (carried user.now state.now eap.now) }
+    ensures octets { result ≡ octets_of (attributes_before_tag user.now state.now eap.now) }
     ensures size { length result ≤ 1834 }
 {
     let mut octets = Octets::new();
@@ -98,7 +98,7 @@ fn framed(
     tag: &[u8; 16],
 ) -> Octets<2000>
     requires { length attributes.now ≤ 1834 }
-    ensures { (list : List Attribute) → attributes.now ≡ octets_of list → result ≡ spelled (tagged code id authenticator.now list tag.now) }
+    ensures { (list : List Attribute) → attributes.now ≡ octets_of list → result ≡ spelled (packet_with_tag code id authenticator.now list tag.now) }
 {
     let mut packet = Octets::new();
     packet.put(&head(code, id, attributes.len() + 18));
@@ -153,7 +153,7 @@ fn tag_over(
 /// An Access-Request that carries an EAP packet, with its Message-Authenticator under the secret (RFC
 /// 3579 section 3.2). The EAP packet is carried in attributes of 253 octets, the last with what is left;
 /// an empty name or state has no attribute.
-#[tactic(auto, unfolding(crate::specs::Written::sealed))]
+#[tactic(auto, unfolding(crate::specs::Written::sealed_packet))]
 pub fn write_request(
     secret: &[u8],
     id: u8,
@@ -177,7 +177,7 @@ pub fn write_request(
 /// A reply to the request with this Authenticator, which carries an EAP packet, with its
 /// Message-Authenticator and its Response Authenticator under the secret (RFC 3579 section 3.2, RFC 2865
 /// section 3). The EAP packet and the state are written as in a request.
-#[tactic(auto, unfolding(crate::specs::Written::sealed))]
+#[tactic(auto, unfolding(crate::specs::Written::sealed_packet))]
 pub fn write_reply(
     secret: &[u8],
     kind: RadiusKind,

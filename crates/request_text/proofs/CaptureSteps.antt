@@ -16,7 +16,7 @@ use Rattle.text_tables.specs.declared.phase.Phase.{Phase}
 use Rattle.text_tables.specs.declared.phase.Phase.TheVariants as phase
 use Rattle.text_tables.proofs.Reading as steps
 use Rattle.text_tables.proofs.Reading.{Stepped, stepped}
-use Rattle.request_text.specs.Captures.{Capture, CaptureLine, capture, capture_words, entry_of, part_of, read_line, row_of, said, taken}
+use Rattle.request_text.specs.Captures.{Capture, CaptureLine, capture, capture_words, entry_of, part_of, read_line, row_of, line_of, line_of_entry}
 use Rattle.request_text.specs.declared.capture_line.CaptureWord.{CaptureWord}
 use Rattle.request_text.specs.declared.capture_line.CaptureWord.TheVariants as word
 use Rattle.request_text.specs.declared.capture_line.CaptureEntry.{CaptureEntry}
@@ -25,12 +25,12 @@ use Rattle.request_text.specs.declared.capture.CaptureItem.TheVariants as item
 
 -- the header; a line that is passed over; a user with a printable name, or `packets`; a packet, or `end`
 pub data Follows (users : List User) : Phase → CaptureLine → Type 0 where
-  Header : Follows users phase.Unread (said item.Nothing phase.Settings [])
-  Passed : (p : Phase) → Follows users p (said item.Nothing p users)
-  NewUser : (user : User) → is_printable user.name ≡ true → Follows users phase.Settings (said item.Nothing phase.Settings (with_user users user))
-  AllUsers : Follows users phase.Settings (said item.Ready phase.Events users)
-  NewPacket : (to_peer : Bool) (octets : List ℕ) → Follows users phase.Events (said (item.Packet to_peer octets) phase.Events users)
-  AllPackets : Follows users phase.Events (said item.End phase.Ended users)
+  Header : Follows users phase.Unread (line_of item.Nothing phase.Settings [])
+  Passed : (p : Phase) → Follows users p (line_of item.Nothing p users)
+  NewUser : (user : User) → is_printable user.name ≡ true → Follows users phase.Settings (line_of item.Nothing phase.Settings (with_user users user))
+  AllUsers : Follows users phase.Settings (line_of item.Ready phase.Events users)
+  NewPacket : (to_peer : Bool) (octets : List ℕ) → Follows users phase.Events (line_of (item.Packet to_peer octets) phase.Events users)
+  AllPackets : Follows users phase.Events (line_of item.End phase.Ended users)
 
 -- ---- the words of a printable line are printable
 
@@ -76,7 +76,7 @@ unfolding entry_of
 entry_printable word.User line h = name_printable line h
 entry_printable other line h = tt
 
-taken_follows : (p : Phase) (users : List User) (e : CaptureEntry) → may_stand p (part_of e) ≡ true → NamePrintable e → Follows users p (taken p users e)
+taken_follows : (p : Phase) (users : List User) (e : CaptureEntry) → may_stand p (part_of e) ≡ true → NamePrintable e → Follows users p (line_of_entry p users e)
 taken_follows phase.Settings users (entry.User user) m n = NewUser user n
 taken_follows phase.Settings users entry.Packets m n = AllUsers
 taken_follows phase.Events users (entry.Packet to_peer octets) m n = NewPacket to_peer octets
@@ -97,7 +97,7 @@ module _ (c : Capture) (line : List ℕ) where
 
   header_follows : (out : CaptureLine) (same : Bool) → read_begin row_of capture (cond same (Some (record { phase = phase.Settings; users = [] })) None) ≡ Ok out
       → Follows c.users phase.Unread out
-  header_follows out true e = let is : said item.Nothing phase.Settings [] ≡ out = cc in subst (Follows c.users phase.Unread) is Header
+  header_follows out true e = let is : line_of item.Nothing phase.Settings [] ≡ out = cc in subst (Follows c.users phase.Unread) is Header
   header_follows out false e = absurd cc
 
   at_phase : (p : Phase) → c.phase ≡ p → (out : CaptureLine) → read_at row_of capture p c line ≡ Ok out → Follows c.users p out

@@ -58,12 +58,12 @@ pub record Capture : Type 0 where
 abbrev pub CaptureLine : Type 0
 CaptureLine = texts.ReadLine CaptureItem Capture
 
-abbrev pub said : CaptureItem → Phase → List User → CaptureLine
-said item p users = texts.said item (record { phase = p; users = users })
+abbrev pub line_of : CaptureItem → Phase → List User → CaptureLine
+line_of item p users = texts.line_of item (record { phase = p; users = users })
 
 -- line 1
-abbrev pub begun : List ℕ → Option Capture
-begun line = if bytes_eq line (codes "eap-capture 1") then Some (record { phase = phase.Settings; users = [] }) else None
+abbrev pub reading_after_header : List ℕ → Option Capture
+reading_after_header line = if bytes_eq line (codes "eap-capture 1") then Some (record { phase = phase.Settings; users = [] }) else None
 
 -- BadCount: a 17th user
 abbrev pub is_crowded : List User → CaptureWord → Bool
@@ -76,11 +76,11 @@ came_before users (entry.User user) = is_some (user_of users user.name user.kind
 came_before users e = false
 
 -- what a line says and adds
-abbrev pub taken : Phase → List User → CaptureEntry → CaptureLine
-taken p users (entry.User user) = said item.Nothing p (with_user users user)
-taken p users entry.Packets = said item.Ready phase.Events users
-taken p users (entry.Packet to_peer octets) = said (item.Packet to_peer octets) p users
-taken p users entry.End = said item.End phase.Ended users
+abbrev pub line_of_entry : Phase → List User → CaptureEntry → CaptureLine
+line_of_entry p users (entry.User user) = line_of item.Nothing p (with_user users user)
+line_of_entry p users entry.Packets = line_of item.Ready phase.Events users
+line_of_entry p users (entry.Packet to_peer octets) = line_of (item.Packet to_peer octets) p users
+line_of_entry p users entry.End = line_of item.End phase.Ended users
 
 abbrev pub capture : texts.Table CaptureWord CaptureEntry Capture CaptureItem
 capture = record {
@@ -89,12 +89,12 @@ capture = record {
   entry = entry_of;
   part = part_of;
   phase = λ c. c.phase;
-  begun = λ c. begun;
+  begun = λ c. reading_after_header;
   nothing = item.Nothing;
   is_crowded = λ c. is_crowded c.users;
   came_before = λ c. came_before c.users;
   is_missing = λ c e. false;
-  taken = λ c. taken c.phase c.users;
+  taken = λ c. line_of_entry c.phase c.users;
 }
 
 -- what a line says and adds, or its first fault

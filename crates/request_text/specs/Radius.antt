@@ -59,8 +59,8 @@ abbrev pub RadiusLine : Type 0
 RadiusLine = texts.ReadLine RadiusItem RadiusReader
 
 -- line 1
-abbrev pub begun : List ℕ → Option RadiusReader
-begun line = if bytes_eq line (codes "eap-radius 1") then Some (record { phase = phase.Settings }) else None
+abbrev pub reading_after_header : List ℕ → Option RadiusReader
+reading_after_header line = if bytes_eq line (codes "eap-radius 1") then Some (record { phase = phase.Settings }) else None
 
 -- Repeated: a second secret
 abbrev pub came_before : Phase → RadiusItem → Bool
@@ -81,12 +81,12 @@ radius = record {
   entry = item_of;
   part = part_of;
   phase = λ r. r.phase;
-  begun = λ r. begun;
+  begun = λ r. reading_after_header;
   nothing = item.Nothing;
   is_crowded = λ r k. false;
   came_before = λ r. came_before r.phase;
   is_missing = λ r i. false;
-  taken = λ r i. texts.said i (record { phase = phase_after r.phase i });
+  taken = λ r i. texts.line_of i (record { phase = phase_after r.phase i });
 }
 
 -- what a line says in a text that has come so far, or its first fault

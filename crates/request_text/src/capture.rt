@@ -5,7 +5,7 @@ ghost use Rattle.std.specs.Prelude.{◌≡◌, [], All, IsTrue, OnErr};
 ghost use Rattle.login_setup.specs.Setup.{fits_kind};
 ghost use Rattle.request_text.specs.Captures.{finish_of};
 ghost use Rattle.request_text.specs.Captures as captures;
-ghost use Rattle.text_tables.specs.Texts.{answered};
+ghost use Rattle.text_tables.specs.Texts.{line_result};
 ghost use Rattle.text_tables.specs.declared.phase.Phase.TheVariants as phase;
 
 use crate::capture_line::{CAPTURE_WORDS, CaptureEntry, CaptureWord, entry_of};
@@ -61,7 +61,7 @@ impl CaptureReader {
     /// reader is as it was.
     #[tactic(auto, unfolding(crate::specs::Captures::read_line))]
     pub fn line(&mut self, line: &[u8]) -> Result<CaptureItem, LineFault>
-        ensures read { captures.read_line self.old line.now ≡ answered (λ item after event. item) result self.new (tt {0}) }
+        ensures read { captures.read_line self.old line.now ≡ line_result (λ item after event. item) result self.new (tt {0}) }
         ensures unchanged { OnErr result (self.new ≡ self.old) }
     {
         read_line(self, line, &mut ())

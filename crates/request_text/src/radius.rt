@@ -2,7 +2,7 @@
 //! the line `end`. After the header an empty line and one that begins with `#` are ignored.
 
 ghost use Rattle.std.specs.Prelude.{◌≡◌, OnErr};
-ghost use Rattle.text_tables.specs.Texts.{answered};
+ghost use Rattle.text_tables.specs.Texts.{line_result};
 ghost use Rattle.request_text.specs.Radius as radius;
 ghost use Rattle.request_text.specs.Radius.{finish_of};
 
@@ -30,7 +30,7 @@ impl RadiusReader {
     /// reader is as it was.
     #[tactic(auto, unfolding(crate::specs::Radius::read_line))]
     pub fn line(&mut self, line: &[u8]) -> Result<RadiusItem, LineFault>
-        ensures read { radius.read_line self.old line.now ≡ answered (λ item after event. item) result self.new (tt {0}) }
+        ensures read { radius.read_line self.old line.now ≡ line_result (λ item after event. item) result self.new (tt {0}) }
         ensures unchanged { OnErr result (self.new ≡ self.old) }
     {
         read_line(self, line, &mut ())

@@ -13,7 +13,7 @@ use Rattle.scenario_text.specs.Entries.{item_of, keyword_of, said_by}
 use Rattle.scenario_text.specs.Contents.{Entry}
 use Rattle.scenario_text.specs.Contents as entry
 use Rattle.scenario_text.proofs.Settling.{none-later}
-use Rattle.scenario_text.specs.Whole.{Values, values_of, IsGivenOr, MakesSetup, told, is_restart, IsAlone, FirstScenariosAreAlone}
+use Rattle.scenario_text.specs.Whole.{Values, values_of, IsGivenOr, MakesSetup, lines_that_count, is_restart, IsAlone, FirstScenariosAreAlone}
 use Rattle.scenario_text.specs.declared.entry.Setting.{Setting}
 use Rattle.scenario_text.specs.declared.entry.Setting.TheVariants as setting
 use Rattle.scenario_text.specs.declared.keyword.Keyword.{Keyword}
@@ -112,4 +112,4 @@ alone-in version kept settings events setup first order made =
     }
 
 pub first_scenarios_are_alone : FirstScenariosAreAlone
-first_scenarios_are_alone lines setup events s first = alone-in s.version (told s.body) s.settings events setup first s.order s.made
+first_scenarios_are_alone lines setup events s first = alone-in s.version (lines_that_count s.body) s.settings events setup first s.order s.made

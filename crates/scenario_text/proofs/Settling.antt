@@ -18,7 +18,7 @@ use Rattle.login_setup.proofs.UserLists.{find_none}
 use Rattle.text_tables.specs.Fields.{◌>>=◌}
 use Rattle.text_tables.specs.Users.{with_user}
 use Rattle.text_tables.proofs.Adding.{empty, with_user_is, with_user_holds}
-use Rattle.scenario_text.specs.Reading.{begun, has_setting, with_later, with_nonce, is_full, with_setting, has_key, with_key, both_suites, needed, have_keys, later_nonces, later_of, peer_setup_of, server_setup_of, setup_of}
+use Rattle.scenario_text.specs.Reading.{settings_of_version, has_setting, with_later, with_nonce, is_full, with_setting, has_key, with_key, both_suites, given_or_missing, have_keys, later_nonces, later_of, peer_setup_of, server_setup_of, setup_of}
 use Rattle.scenario_text.specs.Valid.{AreApart, AreUsers, AreKeys, AreFew, IsKept}
 use Rattle.scenario_text.specs.Versions.{has_later, most_later}
 use Rattle.scenario_text.specs.Whole.{Values, no_values, with_value, values_of, IsGivenOr, AreNoncesOf, MakesPeer, MakesServer, MakesSetup}
@@ -66,7 +66,7 @@ few-kept First None nonce h = lit≤ tt
 few-kept Second None nonce h = lit≤ tt
 few-kept version (Some given) nonce h = later-few version given.later nonce h
 
-pub none-kept : (version : Version) → IsKept (begun version)
+pub none-kept : (version : Version) → IsKept (settings_of_version version)
 none-kept version = record { users = none-apart _ _; keys = none-apart _ _; peer_nonces = tt; server_nonces = tt }
 
 pub kept : (s : Settings) (x : Setting) → IsKept s → IsKept (with_setting s x)
@@ -180,7 +180,7 @@ version-after s (x ∷ rest) = version-after (with_setting s x) rest ∙ same-ve
 
 -- whole settings are those that the lines give
 module _ {A B : Type 0} (Q : B → Type 0) where
-  with_needed : (slot : Option A) (f : A → Result B LineFault) → ((a : A) → plus slot [] ≡ a ∷ [] → IfOk (f a) Q) → IfOk (needed slot >>= f) Q
+  with_needed : (slot : Option A) (f : A → Result B LineFault) → ((a : A) → plus slot [] ≡ a ∷ [] → IfOk (f a) Q) → IfOk (given_or_missing slot >>= f) Q
   with_needed None f h = tt
   with_needed (Some a) f h = h a refl
 
@@ -201,7 +201,7 @@ nonces-given version (Some other) given few e =
     (record { given = ap (λ l. other.first ∷ l) (append-nil other.later); few = few })
 
 -- (the slot stays in what is made of it, which tells the later nonces too)
-with_given : {A B : Type 0} (Q : B → Type 0) (slot : Option A) (f : A → Result B LineFault) → ((a : A) → slot ≡ Some a → IfOk (f a) Q) → IfOk (needed slot >>= f) Q
+with_given : {A B : Type 0} (Q : B → Type 0) (slot : Option A) (f : A → Result B LineFault) → ((a : A) → slot ≡ Some a → IfOk (f a) Q) → IfOk (given_or_missing slot >>= f) Q
 with_given Q None f h = tt
 with_given Q (Some a) f h = h a refl
 
@@ -345,10 +345,10 @@ peers-set version s later peer h =
     let methods = set-is s.peer_methods peer.methods (h.methods) in
     let nonces = nonces-set s.peer_nonces peer.nonce later (h.nonces.given) in
     let keys : s.peer_keys ≡ peer.keys = sym (append-nil s.peer_keys) ∙ h.keys in
-    let needed = h.has_keys in
+    let given_or_missing = h.has_keys in
     let suites = set-or s.peer_suites both_suites peer.suites (h.suites) in
     let expanded = set-or s.peer_expanded false peer.expanded (h.expanded) in
-    rw (name, accepts, methods, nonces, keys, needed, suites, expanded) refl
+    rw (name, accepts, methods, nonces, keys, given_or_missing, suites, expanded) refl
 
 servers-set : (version : Version) (s : Settings) (later : List (List ℕ)) (server : ServerSetup) → MakesServer version (joined s no_values) later server → server_setup_of s ≡ Ok server
 unfolding server_setup_of

@@ -14,10 +14,10 @@ use Rattle.scenario_text.specs.Entries.{keyword_of, item_of, said_by}
 use Rattle.scenario_text.specs.Keywords.{row_of}
 use Rattle.scenario_text.specs.Contents.{Entry}
 use Rattle.scenario_text.specs.Contents as entry
-use Rattle.scenario_text.specs.Reading.{Reading, ReadLine, said, has_setting, with_setting, no_settings, begun, begun_with, setup_of, part_of, is_crowded, came_before, is_missing, ready, scenario, taken, read_line}
+use Rattle.scenario_text.specs.Reading.{Reading, ReadLine, line_of, has_setting, with_setting, no_settings, settings_of_version, begun_with, setup_of, part_of, is_crowded, came_before, is_missing, ready, scenario, line_of_entry, read_line}
 use Rattle.scenario_text.specs.Versions.{header, version_of}
 use Rattle.scenario_text.specs.Items as item
-use Rattle.scenario_text.specs.Whole.{IsFaultless, no_values, MakesSetup, told, IsScenario, Script, no_script, with_item, read_lines, read_all, IsScript, ScenariosAreRead}
+use Rattle.scenario_text.specs.Whole.{IsFaultless, no_values, MakesSetup, lines_that_count, IsScenario, Script, no_script, with_item, read_lines, read_all, IsScript, ScenariosAreRead}
 use Rattle.text_tables.specs.declared.fault.LineFault.{LineFault}
 use Rattle.scenario_text.specs.declared.keyword.Keyword.{Keyword}
 use Rattle.scenario_text.specs.declared.keyword.Keyword.TheVariants as key
@@ -60,33 +60,33 @@ module _ (p : Phase) (s : Settings) (line : List ℕ) where
   may-stand : MayCome p s (said_by s.version line) → MayStand row_of scenario (at p s) line
   may-stand m = record { few = crowded s (keyword_of s.version line) (words line) ∙ m.few; fresh = m.fresh; whole = m.whole; stands = m.stands }
 
-  pub step-cases : (P : ReadLine → Type 0) → P (said item.Nothing p s) → (IsFaultless s.version line → MayCome p s (said_by s.version line) → P (taken p s (said_by s.version line)))
+  pub step-cases : (P : ReadLine → Type 0) → P (line_of item.Nothing p s) → (IsFaultless s.version line → MayCome p s (said_by s.version line) → P (line_of_entry p s (said_by s.version line)))
       → (out : ReadLine) → Stepped row_of scenario (at p s) line out → P out
   step-cases P passed entered _ (Passed k) = passed
   step-cases P passed entered _ (Entered k own may) = entered own (may-come may)
 
 -- before the line `events`: a line that is passed over, a new setting, or `events`
 pub data FromSettings (s : Settings) : ReadLine → Type 0 where
-  PassedBefore : FromSettings s (said item.Nothing phase.Settings s)
-  NewSetting : (v : Setting) → has_setting s v ≡ false → FromSettings s (said item.Nothing phase.Settings (with_setting s v))
-  AllSet : (setup : Setup) → setup_of s ≡ Ok setup → FromSettings s (said (item.Ready setup) phase.Events s)
+  PassedBefore : FromSettings s (line_of item.Nothing phase.Settings s)
+  NewSetting : (v : Setting) → has_setting s v ≡ false → FromSettings s (line_of item.Nothing phase.Settings (with_setting s v))
+  AllSet : (setup : Setup) → setup_of s ≡ Ok setup → FromSettings s (line_of (item.Ready setup) phase.Events s)
 
 -- before the line `end`: a line that is passed over, an event, or `end`
 pub data FromEvents (s : Settings) : ReadLine → Type 0 where
-  PassedBetween : FromEvents s (said item.Nothing phase.Events s)
-  NewEvent : (event : Event) → FromEvents s (said (item.Event event) phase.Events s)
-  AllRead : FromEvents s (said item.End phase.Ended s)
+  PassedBetween : FromEvents s (line_of item.Nothing phase.Events s)
+  NewEvent : (event : Event) → FromEvents s (line_of (item.Event event) phase.Events s)
+  AllRead : FromEvents s (line_of item.End phase.Ended s)
 
-is-set : (s : Settings) (r : Result Setup LineFault) → setup_of s ≡ r → is_err r ≡ false → FromSettings s (said (ready r) phase.Events s)
+is-set : (s : Settings) (r : Result Setup LineFault) → setup_of s ≡ r → is_err r ≡ false → FromSettings s (line_of (ready r) phase.Events s)
 is-set s (Ok setup) e h = AllSet setup e
 is-set s (Err f) e h = absurd cc
 
-settings-from : (s : Settings) (e : Entry) → MayCome phase.Settings s e → FromSettings s (taken phase.Settings s e)
+settings-from : (s : Settings) (e : Entry) → MayCome phase.Settings s e → FromSettings s (line_of_entry phase.Settings s e)
 settings-from s (entry.Set v) may = NewSetting v may.fresh
 settings-from s entry.Events may = is-set s (setup_of s) refl may.whole
 settings-from s other may = let no = may.stands in absurd cc
 
-events-from : (s : Settings) (e : Entry) → MayCome phase.Events s e → FromEvents s (taken phase.Events s e)
+events-from : (s : Settings) (e : Entry) → MayCome phase.Events s e → FromEvents s (line_of_entry phase.Events s e)
 events-from s (entry.Happens event) may = NewEvent event
 events-from s entry.End may = AllRead
 events-from s other may = let no = may.stands in absurd cc
@@ -106,7 +106,7 @@ read_line_at r p line e = ap (λ q. read_at row_of scenario q (at q r.settings) 
 pub record Starts (line : List ℕ) (out : ReadLine) : Type 0 where
   pub version : Version
   pub line_is : line ≡ header version
-  pub out_is : out ≡ said item.Nothing phase.Settings (begun version)
+  pub out_is : out ≡ line_of item.Nothing phase.Settings (settings_of_version version)
 
 header-of : (line : List ℕ) (version : Version) → version_of line ≡ Some version → line ≡ header version
 header-of line version e =
@@ -133,7 +133,7 @@ module _ (r : Reading) (line : List ℕ) (out : ReadLine) where
   read_line_from_unread at h = starts-in line out (version_of line) refl (sym (read_line_at r phase.Unread line at) ∙ h)
 
   by-step : (p : Phase) (P : ReadLine → Type 0) → read_at row_of scenario p (at p r.settings) line ≡ read_body row_of scenario (at p r.settings) line
-      → P (said item.Nothing p r.settings) → (MayCome p r.settings (said_by r.settings.version line) → P (taken p r.settings (said_by r.settings.version line)))
+      → P (line_of item.Nothing p r.settings) → (MayCome p r.settings (said_by r.settings.version line) → P (line_of_entry p r.settings (said_by r.settings.version line)))
       → r.phase ≡ p → read_line r line ≡ Ok out → P out
   by-step p P is passed entered e h =
       step-cases p r.settings line P passed (λ own. entered) out (stepped row_of scenario (at p r.settings) line out (sym is ∙ sym (read_line_at r p line e) ∙ h))
@@ -145,14 +145,14 @@ module _ (r : Reading) (line : List ℕ) (out : ReadLine) where
   pub read_line_from_events : r.phase ≡ phase.Events → read_line r line ≡ Ok out → FromEvents r.settings out
   read_line_from_events = by-step phase.Events (FromEvents r.settings) refl PassedBetween (events-from r.settings (said_by r.settings.version line))
 
-  pub read_line_from_ended : r.phase ≡ phase.Ended → read_line r line ≡ Ok out → out ≡ said item.Nothing phase.Ended r.settings
-  read_line_from_ended = by-step phase.Ended (λ o. o ≡ said item.Nothing phase.Ended r.settings) refl refl (λ may. absurd (none-stands (said_by r.settings.version line) may.stands))
+  pub read_line_from_ended : r.phase ≡ phase.Ended → read_line r line ≡ Ok out → out ≡ line_of item.Nothing phase.Ended r.settings
+  read_line_from_ended = by-step phase.Ended (λ o. o ≡ line_of item.Nothing phase.Ended r.settings) refl refl (λ may. absurd (none-stands (said_by r.settings.version line) may.stands))
 
 -- what is said in order, each where it may stand, and what it makes
 data Runs : Phase → Settings → List Entry → Script → Type 0 where
   Over : (s : Settings) → Runs phase.Ended s [] no_script
   Then : {p : Phase} {s : Settings} {e : Entry} {es : List Entry} {m : Script} → MayCome p s e →
-      Runs (taken p s e).after.phase (taken p s e).after.settings es m → Runs p s (e ∷ es) (with_item (taken p s e).item m)
+      Runs (line_of_entry p s e).after.phase (line_of_entry p s e).after.settings es m → Runs p s (e ∷ es) (with_item (line_of_entry p s e).item m)
 
 -- the same of lines, none of which has a fault of its own
 record AreTold (version : Version) (p : Phase) (s : Settings) (kept : List (List ℕ)) (script : Script) : Type 0 where
@@ -169,13 +169,13 @@ unfolding read_line texts.read_line
 body-at phase.Unread s line o = absurd cc
 body-at other s line o = refl
 
-stays : (p : Phase) (s : Settings) (e : Entry) → is_open p ≡ true → is_open (taken p s e).after.phase ≡ true
+stays : (p : Phase) (s : Settings) (e : Entry) → is_open p ≡ true → is_open (line_of_entry p s e).after.phase ≡ true
 stays p s (entry.Set v) o = o
 stays p s (entry.Happens e) o = o
 stays p s other o = refl
 
 -- a line leaves the version
-stays-in : (p : Phase) (s : Settings) (e : Entry) (version : Version) → s.version ≡ version → (taken p s e).after.settings.version ≡ version
+stays-in : (p : Phase) (s : Settings) (e : Entry) (version : Version) → s.version ≡ version → (line_of_entry p s e).after.settings.version ≡ version
 stays-in p s (entry.Set v) version is = same-version s v ∙ is
 stays-in p s (entry.Happens e) version is = is
 stays-in p s other version is = is
@@ -208,25 +208,25 @@ goes r line rest script h =
 -- lines that are read are told
 tells-line : (version : Version) (p : Phase) (s : Settings) (line : List ℕ) (rest : List (List ℕ)) (out : ReadLine) (m : Script) → s.version ≡ version → is_open p ≡ true →
     Stepped row_of scenario (at p s) line out →
-    ((q : Phase) (t : Settings) → t.version ≡ version → is_open q ≡ true → read_lines (at q t) rest ≡ Ok m → AreTold version q t (told rest) m) →
-    read_lines out.after rest ≡ Ok m → AreTold version p s (told (line ∷ rest)) (with_item out.item m)
+    ((q : Phase) (t : Settings) → t.version ≡ version → is_open q ≡ true → read_lines (at q t) rest ≡ Ok m → AreTold version q t (lines_that_count rest) m) →
+    read_lines out.after rest ≡ Ok m → AreTold version p s (lines_that_count (line ∷ rest)) (with_item out.item m)
 tells-line version p s line rest _ m v o (Passed k) more h = rw k (more p s v o h)
 tells-line version p s line rest _ m v o (Entered k own may) more h =
     let i = more _ _ (stays-in p s (said_by s.version line) version v) (stays p s (said_by s.version line) o) h in
-    rw k (subst (λ w. AreTold w p s (line ∷ told rest) (with_item (taken p s (said_by s.version line)).item m)) v
+    rw k (subst (λ w. AreTold w p s (line ∷ lines_that_count rest) (with_item (line_of_entry p s (said_by s.version line)).item m)) v
     (record {
-      faultless = (own, subst (λ w. AllByRecursion (IsFaultless w) (told rest)) (sym v) (i.faultless));
-      runs = Then (may-come p s line may) (subst (λ w. Runs (taken p s (said_by s.version line)).after.phase (taken p s (said_by s.version line)).after.settings (map (said_by w) (told rest)) m) (sym v) (i.runs));
+      faultless = (own, subst (λ w. AllByRecursion (IsFaultless w) (lines_that_count rest)) (sym v) (i.faultless));
+      runs = Then (may-come p s line may) (subst (λ w. Runs (line_of_entry p s (said_by s.version line)).after.phase (line_of_entry p s (said_by s.version line)).after.settings (map (said_by w) (lines_that_count rest)) m) (sym v) (i.runs));
     }))
 
 tells : (lines : List (List ℕ)) (version : Version) (p : Phase) (s : Settings) (script : Script) → s.version ≡ version → is_open p ≡ true →
-    read_lines (at p s) lines ≡ Ok script → AreTold version p s (told lines) script
+    read_lines (at p s) lines ≡ Ok script → AreTold version p s (lines_that_count lines) script
 unfolding read_lines
 tells [] version phase.Ended s script v o h = let is : no_script ≡ script = cc in subst (AreTold version phase.Ended s []) is (record { faultless = tt; runs = Over s })
 tells [] version other s script v o h = absurd cc
 tells (line ∷ rest) version p s script v o h =
     let g = goes (at p s) line rest script h in
-    subst (AreTold version p s (told (line ∷ rest))) (g.is)
+    subst (AreTold version p s (lines_that_count (line ∷ rest))) (g.is)
     (tells-line version p s line rest (g.out) (g.more) v o (stepped row_of scenario (at p s) line (g.out) (sym (body-at p s line o) ∙ g.read)) (λ q t. tells rest version q t (g.more)) (g.rests))
 
 -- and lines that are told are read
@@ -235,25 +235,25 @@ unfolding read_lines
 ends _ _ _ (Over s) = refl
 
 reads-line : (version : Version) (p : Phase) (s : Settings) (line : List ℕ) (rest : List (List ℕ)) (script : Script) → s.version ≡ version → is_open p ≡ true →
-    is_passed_over line ≡ false → IsFaultless s.version line → AllByRecursion (IsFaultless version) (told rest) →
-    Runs p s (said_by s.version line ∷ map (said_by version) (told rest)) script →
-    ((q : Phase) (t : Settings) (m : Script) → t.version ≡ version → is_open q ≡ true → AreTold version q t (told rest) m → read_lines (at q t) rest ≡ Ok m) →
+    is_passed_over line ≡ false → IsFaultless s.version line → AllByRecursion (IsFaultless version) (lines_that_count rest) →
+    Runs p s (said_by s.version line ∷ map (said_by version) (lines_that_count rest)) script →
+    ((q : Phase) (t : Settings) (m : Script) → t.version ≡ version → is_open q ≡ true → AreTold version q t (lines_that_count rest) m → read_lines (at q t) rest ≡ Ok m) →
     read_lines (at p s) (line ∷ rest) ≡ Ok script
 reads-line version p s line rest _ v o k own others (Then {m = m} may next) more =
-    let out : ReadLine = taken p s (said_by s.version line) in
+    let out : ReadLine = line_of_entry p s (said_by s.version line) in
     both (at p s) line rest out m (body-at p s line o ∙ enters row_of scenario (at p s) line k own (may-stand p s line may))
     (more _ _ m (stays-in p s (said_by s.version line) version v) (stays p s (said_by s.version line) o) (record { faultless = others; runs = next }))
 
 reads : (lines : List (List ℕ)) (version : Version) (p : Phase) (s : Settings) (script : Script) → s.version ≡ version → is_open p ≡ true →
-    AreTold version p s (told lines) script → read_lines (at p s) lines ≡ Ok script
+    AreTold version p s (lines_that_count lines) script → read_lines (at p s) lines ≡ Ok script
 reads [] version p s script v o h = ends p s script (h.runs)
 reads (line ∷ rest) version p s script v o h =
     elim (cases_Bool (is_passed_over line)) [
-      | inl k ↦ both (at p s) line rest (said item.Nothing p s) script (body-at p s line o ∙ read_body_passed row_of scenario (at p s) line k) (reads rest version p s script v o (rw k at h))
+      | inl k ↦ both (at p s) line rest (line_of item.Nothing p s) script (body-at p s line o ∙ read_body_passed row_of scenario (at p s) line k) (reads rest version p s script v o (rw k at h))
       | inr k ↦
-          let t : AreTold version p s (line ∷ told rest) script = rw k at h in
+          let t : AreTold version p s (line ∷ lines_that_count rest) script = rw k at h in
           reads-line version p s line rest script v o k (subst (λ w. IsFaultless w line) (sym v) (t.faultless.0)) (t.faultless.1)
-          (subst (λ w. Runs p s (said_by w line ∷ map (said_by version) (told rest)) script) (sym v) (t.runs)) (reads rest version)
+          (subst (λ w. Runs p s (said_by w line ∷ map (said_by version) (lines_that_count rest)) script) (sym v) (t.runs)) (reads rest version)
     ]
 
 -- what is said is settings, the line `events`, events and the line `end`
@@ -309,7 +309,7 @@ run-settings s [] setup events new made =
 run-settings s (v ∷ more) setup events new made =
     Then (record { few = new.0; fresh = new.1; whole = refl; stands = refl }) (run-settings (with_setting s v) more setup events (new.2) made)
 
-starts-with : (version : Version) → read_line (at phase.Unread no_settings) (header version) ≡ Ok (said item.Nothing phase.Settings (begun version))
+starts-with : (version : Version) → read_line (at phase.Unread no_settings) (header version) ≡ Ok (line_of item.Nothing phase.Settings (settings_of_version version))
 unfolding read_line texts.read_line
 starts-with First = refl
 starts-with Second = refl
@@ -320,7 +320,7 @@ no-lines script h = absurd cc
 
 read-taken : (lines : List (List ℕ)) (setup : Setup) (events : List Event) → IsScenario lines setup events → read_all lines ≡ Ok (record { setup = Some setup; events = events })
 read-taken lines setup events h =
-    let none = begun h.version in
+    let none = settings_of_version h.version in
     let script : Script = record { setup = Some setup; events = events } in
     let new = all-new none (h.settings) setup (h.made) in
     let after = settings_after none (h.settings) in
@@ -328,20 +328,20 @@ read-taken lines setup events h =
     let made = all-set after setup (subst (λ w. MakesSetup w (joined after no_values) setup) (sym (version-after none (h.settings))) gathered) in
     let runs = subst (λ es. Runs phase.Settings none es script) (sym (h.order)) (run-settings none (h.settings) setup events new made) in
     let rests = reads (h.body) h.version phase.Settings none _ refl refl
-    (record { faultless = recursion_from_All (IsFaultless h.version) (told (h.body)) (h.faultless); runs = runs }) in
+    (record { faultless = recursion_from_All (IsFaultless h.version) (lines_that_count (h.body)) (h.faultless); runs = runs }) in
     subst (λ all. read_all all ≡ Ok script) (sym (h.begins))
-    (both (at phase.Unread no_settings) (header h.version) (h.body) (said item.Nothing phase.Settings none) _ (starts-with h.version) rests)
+    (both (at phase.Unread no_settings) (header h.version) (h.body) (line_of item.Nothing phase.Settings none) _ (starts-with h.version) rests)
 
 read-only : (lines : List (List ℕ)) (script : Script) → read_all lines ≡ Ok script → IsScript lines script
 read-only [] script h = no-lines script h
 read-only (line ∷ rest) script h =
     let g = goes (at phase.Unread no_settings) line rest script h in
     let b = read_line_from_unread (at phase.Unread no_settings) line (g.out) refl (g.read) in
-    let none = begun b.version in
+    let none = settings_of_version b.version in
     let rests : read_lines (at phase.Settings none) rest ≡ Ok (g.more) = subst (λ o. read_lines o.after rest ≡ Ok (g.more)) (b.out_is) (g.rests) in
     let same : g.more ≡ script = subst (λ o. with_item o.item (g.more) ≡ script) (b.out_is) (g.is) in
     let told-of = tells rest b.version phase.Settings none (g.more) refl refl rests in
-    let i = subst (AfterHeader none (map (said_by b.version) (told rest))) same (after-header none _ (g.more) (told-of.runs)) in
+    let i = subst (AfterHeader none (map (said_by b.version) (lines_that_count rest))) same (after-header none _ (g.more) (told-of.runs)) in
     let after = settings_after none (i.settings) in
     let given = IfOk-at_ok (MakesSetup after.version (joined after no_values)) (i.made) (all-given after (kept-after none (i.settings) (none-kept b.version))) in
     record {
@@ -352,7 +352,7 @@ read-only (line ∷ rest) script h =
         body = rest;
         settings = i.settings;
         begins = ap (λ l. l ∷ rest) (b.line_is);
-        faultless = All-from_recursion (IsFaultless b.version) (told rest) (told-of.faultless);
+        faultless = All-from_recursion (IsFaultless b.version) (lines_that_count rest) (told-of.faultless);
         order = i.order;
         made = subst (λ v. MakesSetup b.version v (i.setup)) (sym (gathers none (i.settings) (i.new)))
             (subst (λ w. MakesSetup w (joined after no_values) (i.setup)) (version-after none (i.settings)) given);

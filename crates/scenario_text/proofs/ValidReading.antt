@@ -25,7 +25,7 @@ use Rattle.scenario_text.specs.Keywords.{row_of, keywords_in}
 use Rattle.scenario_text.specs.Entries.{accepts_of, kinds_of, suites_of, item_of, keyword_of, said_by}
 use Rattle.scenario_text.specs.Contents.{Entry, entry_with}
 use Rattle.scenario_text.specs.Contents as entry
-use Rattle.scenario_text.specs.Reading.{Reading, ReadLine, with_setting, with_later, with_nonce, no_settings, begun, both_suites, peer_setup_of, server_setup_of, later_nonces, setup_of, ready, scenario, taken, read_line}
+use Rattle.scenario_text.specs.Reading.{Reading, ReadLine, with_setting, with_later, with_nonce, no_settings, settings_of_version, both_suites, peer_setup_of, server_setup_of, later_nonces, setup_of, ready, scenario, line_of_entry, read_line}
 use Rattle.scenario_text.specs.Valid.{AcceptsName, IsValidUser, IsValidKey, IsNonce, IsValidSetting, IsValidEntry, IsValidTold, AreValidNonces, AreValid, IsValidPeer, IsValidServer, IsValidSetup, IsValidItem, IsValidReadLine}
 use Rattle.scenario_text.specs.Versions.{most_later}
 use Rattle.scenario_text.specs.Whole.{IsFaultless, Values, no_values, IsGivenOr, AreNoncesOf, MakesPeer, MakesServer, MakesSetup}
@@ -141,7 +141,7 @@ pub valid_told : (it : told.Entry) (e : Event) → IsValidEntry (entry_with it e
 valid_told (told.TheVariants.Set v) e h = h
 valid_told other e h = tt
 
-pub begun_valid : (version : Version) → AreValid (begun version)
+pub begun_valid : (version : Version) → AreValid (settings_of_version version)
 begun_valid version = record {
   first_id = tt;
   max_retrans = tt;
@@ -274,7 +274,7 @@ ready-valid : (r : Result Setup LineFault) → IfOk r IsValidSetup → IsValidIt
 ready-valid (Ok setup) h = h
 ready-valid (Err f) h = tt
 
-taken-valid : (p : Phase) (s : Settings) (e : Entry) → AreValid s → IsValidEntry e → IsValidReadLine (taken p s e)
+taken-valid : (p : Phase) (s : Settings) (e : Entry) → AreValid s → IsValidEntry e → IsValidReadLine (line_of_entry p s e)
 taken-valid p s (entry.Set v) h k = record { item = tt; settings = with_setting_valid s v h k }
 taken-valid p s entry.Events h k = record { item = ready-valid (setup_of s) (setup_of_valid s h); settings = h }
 taken-valid p s other h k = record { item = tt; settings = h }

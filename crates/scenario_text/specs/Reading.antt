@@ -59,8 +59,8 @@ no_settings = record {
 }
 
 -- none of a text of this version
-abbrev pub begun : Version → Settings
-begun v = record no_settings { version = v }
+abbrev pub settings_of_version : Version → Settings
+settings_of_version v = record no_settings { version = v }
 
 -- the nonces of an end with one more, the first or a later one, unless there are as many as the version has
 unfoldable pub with_later : Version → List (List ℕ) → List ℕ → List (List ℕ)
@@ -122,8 +122,8 @@ with_setting s (setting.PeerExpanded v) = record s { peer_expanded = Some v }
 with_setting s (setting.ServerExpanded v) = record s { server_expanded = Some v }
 
 -- a needed setting
-abbrev pub needed : {A : Type 0} → Option A → Result A LineFault
-needed slot = ok_or slot fault.Missing
+abbrev pub given_or_missing : {A : Type 0} → Option A → Result A LineFault
+given_or_missing slot = ok_or slot fault.Missing
 
 -- both suites, which is the default
 abbrev pub both_suites : List ℕ
@@ -136,10 +136,10 @@ have_keys keys methods = list_all (λ kind. is_some (key_of keys kind)) methods
 -- the settings of the peer, of the server, of the run, if none that is needed is missing
 unfoldable pub peer_setup_of : Settings → Result PeerSetup LineFault
 peer_setup_of s = do
-  name ← needed s.peer_name
-  accepts ← needed s.peer_server
-  methods ← needed s.peer_methods
-  nonces ← needed s.peer_nonces
+  name ← given_or_missing s.peer_name
+  accepts ← given_or_missing s.peer_server
+  methods ← given_or_missing s.peer_methods
+  nonces ← given_or_missing s.peer_nonces
   if have_keys s.peer_keys methods then Ok (record {
     name = name;
     accepts = accepts;
@@ -152,9 +152,9 @@ peer_setup_of s = do
 
 unfoldable pub server_setup_of : Settings → Result ServerSetup LineFault
 server_setup_of s = do
-  name ← needed s.server_name
-  methods ← needed s.server_methods
-  nonces ← needed s.server_nonces
+  name ← given_or_missing s.server_name
+  methods ← given_or_missing s.server_methods
+  nonces ← given_or_missing s.server_nonces
   Ok (record {
     name = name;
     methods = methods;
@@ -174,7 +174,7 @@ later_of s = record { version = version_number s.version; peer = later_nonces s.
 
 unfoldable pub setup_of : Settings → Result Setup LineFault
 setup_of s = do
-  mode ← needed s.mode
+  mode ← given_or_missing s.mode
   peer ← peer_setup_of s
   server ← server_setup_of s
   Ok (record {
@@ -195,8 +195,8 @@ pub record Reading : Type 0 where
 abbrev pub ReadLine : Type 0
 ReadLine = texts.ReadLine Item Reading
 
-abbrev pub said : Item → Phase → Settings → ReadLine
-said item phase settings = texts.said item (record { phase = phase; settings = settings })
+abbrev pub line_of : Item → Phase → Settings → ReadLine
+line_of item phase settings = texts.line_of item (record { phase = phase; settings = settings })
 
 -- the line `events`, if the settings are whole
 abbrev pub ready : Result Setup LineFault → Item
@@ -218,7 +218,7 @@ HasSetup other after = Unit {0}
 -- line 1 is the header of a version
 abbrev pub begun_with : Option Version → Option Reading
 begun_with None = None
-begun_with (Some v) = Some (record { phase = phase.Settings; settings = begun v })
+begun_with (Some v) = Some (record { phase = phase.Settings; settings = settings_of_version v })
 
 -- settings come before the line `events`, events and the line `end` after it
 abbrev pub part_of : Entry → Part
@@ -245,11 +245,11 @@ is_missing s entry.Events = is_err (setup_of s)
 is_missing s e = false
 
 -- what a line says and adds
-abbrev pub taken : Phase → Settings → Entry → ReadLine
-taken p s (entry.Set v) = said item.Nothing p (with_setting s v)
-taken p s entry.Events = said (ready (setup_of s)) phase.Events s
-taken p s (entry.Happens event) = said (item.Event event) p s
-taken p s entry.End = said item.End phase.Ended s
+abbrev pub line_of_entry : Phase → Settings → Entry → ReadLine
+line_of_entry p s (entry.Set v) = line_of item.Nothing p (with_setting s v)
+line_of_entry p s entry.Events = line_of (ready (setup_of s)) phase.Events s
+line_of_entry p s (entry.Happens event) = line_of (item.Event event) p s
+line_of_entry p s entry.End = line_of item.End phase.Ended s
 
 abbrev pub scenario : texts.Table Keyword Entry Reading Item
 scenario = record {
@@ -263,7 +263,7 @@ scenario = record {
   is_crowded = λ r. is_crowded r.settings;
   came_before = λ r. came_before r.settings;
   is_missing = λ r. is_missing r.settings;
-  taken = λ r. taken r.phase r.settings;
+  taken = λ r. line_of_entry r.phase r.settings;
 }
 
 -- what a line says and adds, or its first fault

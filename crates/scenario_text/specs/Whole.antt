@@ -133,8 +133,8 @@ pub record MakesSetup (version : Version) (v : Values) (setup : Setup) : Type 0 
   pub number : setup.later.version ≡ version_number version
 
 -- the lines that aren't ignored
-abbrev pub told : List (List ℕ) → List (List ℕ)
-told lines = filter (λ line. not (is_passed_over line)) lines
+abbrev pub lines_that_count : List (List ℕ) → List (List ℕ)
+lines_that_count lines = filter (λ line. not (is_passed_over line)) lines
 
 -- no fault of its own
 abbrev pub IsFaultless : Version → List ℕ → Type 0
@@ -147,8 +147,8 @@ pub record IsScenario (lines : List (List ℕ)) (setup : Setup) (events : List E
   pub body : List (List ℕ)
   pub settings : List Setting
   pub begins : lines ≡ header version ∷ body
-  pub faultless : All (IsFaultless version) (told body)
-  pub order : map (said_by version) (told body) ≡ map Set settings ++ Events ∷ (map Happens events ++ End ∷ [])
+  pub faultless : All (IsFaultless version) (lines_that_count body)
+  pub order : map (said_by version) (lines_that_count body) ≡ map Set settings ++ Events ∷ (map Happens events ++ End ∷ [])
   pub made : MakesSetup version (values_of settings) setup
 
 -- what reading lines makes: the setup, if the line `events` came, and the events

@@ -2,7 +2,7 @@
 //! the line `end`. After the header an empty line and one that begins with `#` are ignored.
 
 ghost use Rattle.std.specs.Prelude.{◌≡◌, IfOk, OnErr};
-ghost use Rattle.text_tables.specs.Texts.{answered};
+ghost use Rattle.text_tables.specs.Texts.{line_result};
 ghost use Rattle.scenario_text.specs.Reading.{no_settings, item_with, setup_of, finish_of, HasSetup};
 ghost use Rattle.scenario_text.specs.Reading as reading;
 ghost use Rattle.scenario_text.specs.Valid.{IsValidSetup};
@@ -61,7 +61,7 @@ impl ScenarioReader {
     /// refused with its first fault, and then the reader is as it was.
     #[tactic(auto, unfolding(crate::specs::Reading::read_line))]
     pub fn line(&mut self, line: &[u8], event: &mut Event) -> Result<Item, LineFault>
-        ensures read { reading.read_line self.old line.now ≡ answered item_with result self.new event.new }
+        ensures read { reading.read_line self.old line.now ≡ line_result item_with result self.new event.new }
         ensures ready { IfOk result (λ item. HasSetup item self.new) }
         ensures unchanged { OnErr result (self.new ≡ self.old) }
     {

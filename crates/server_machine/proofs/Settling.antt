@@ -11,7 +11,7 @@ use Rattle.eap_method.specs.ServerTurn.{Discard, Request, Done, server_turn_with
 use Rattle.eap_method.specs.Server.{ServerShown, ServerViews, server_views, server_turn, server_offer, side_of, server_report_of}
 use Rattle.eap_method.specs.Tags.{no_tags}
 use Rattle.eap_method.proofs.Discards.{server_turn_keeps}
-use Rattle.server_machine.specs.ServerTable.{ServerNow, answer, method_answers, settled, server_method, select_action, offers, ends_badly, next_id}
+use Rattle.server_machine.specs.ServerTable.{ServerNow, answer, method_answers, views_after, server_method, select_action, offers, ends_badly, next_id}
 use Rattle.server_machine.specs.declared.variables.ServerVariables.{ServerVariables}
 
 -- the Identity round has no report
@@ -46,7 +46,7 @@ offer_settles entered before vars shown after id kind desired first step next of
 
 settled_after : (now : ServerNow) (kind : ℕ) (after : ServerViews) (octets : List ℕ) (turn : ServerTurn)
     → server_turn now.vars.setup.users (next_id now.vars) kind now.views octets ≡ record { turn = turn; after = after }
-    → settled now.views after turn ≡ after
+    → views_after now.views after turn ≡ after
 settled_after now kind after octets (Discard c) turned = sym (server_turn_keeps now.vars.setup.users (next_id now.vars) kind now.views after octets c turned)
 settled_after now kind after octets (Request packet tags) turned = refl
 settled_after now kind after octets (Done good tags) turned = refl
@@ -59,7 +59,7 @@ pub turn_settles : (now : ServerNow) (vars : ServerVariables) (id kind : ℕ) (o
     → tags ≡ server_tags (server_turn_with turn packet tags)
     → (let after = server_views now.vars.setup.methods shown in
     let whole = server_turn_with turn packet tags in
-    method_answers now id after whole ≡ answer (step_with step sent (server_tags whole)) (record { vars = vars; views = settled now.views after whole }))
+    method_answers now id after whole ≡ answer (step_with step sent (server_tags whole)) (record { vars = vars; views = views_after now.views after whole }))
     → vars.setup ≡ now.vars.setup
     → server_method now id kind octets ≡ answer (step_with step sent tags) (record { vars = vars; views = server_views vars.setup.methods shown })
 unfolding server_method
@@ -67,6 +67,6 @@ turn_settles now vars id kind octets turn packet sent tags shown step turned tol
     let after = server_views now.vars.setup.methods shown in
     let whole = server_turn_with turn packet tags in
     let kept = settled_after now kind after octets whole turned in
-    let step_told = ap (λ (t : Tags). answer (step_with step sent t) (record { vars = vars; views = settled now.views after whole })) (sym told) in
+    let step_told = ap (λ (t : Tags). answer (step_with step sent t) (record { vars = vars; views = views_after now.views after whole })) (sym told) in
     let step_kept = ap (λ (views : ServerViews). answer (step_with step sent tags) (record { vars = vars; views = views })) kept in
     rw turned (settles ∙ (step_told ∙ (step_kept ∙ (rw same refl))))

@@ -4,7 +4,7 @@ use Rattle.std.specs.Prelude.{◌≡◌, ℕ, List, Bool, true, ◌==◌, ◌&&�
 use Rattle.eap_base.specs.Among.{expanded_kind, nak_kind}
 use Rattle.eap_packet.specs.Packet.{PacketValue, response, spelled}
 use Rattle.eap_packet.specs.Fault.{code_of, type_of, packet_of}
-use Rattle.eap_packet.specs.Expanded.{is_nak_body, inner_body, wrapped, is_bad_expanded}
+use Rattle.eap_packet.specs.Expanded.{is_nak_body, inner_body, expanded_form, is_bad_expanded}
 use Rattle.eap_packet.specs.declared.cause.Cause.{Cause}
 use Rattle.eap_packet.specs.declared.cause.Cause.TheVariants as cause
 use Rattle.login_policy.specs.Policy.{nak_of}
@@ -38,7 +38,7 @@ keeps_sent out octets =
 
 abbrev pub wraps_sent : ServerAnswer → Option (List ℕ) → ServerAnswer
 wraps_sent out None = out
-wraps_sent out (Some octets) = if code_of octets == 1 then keeps_sent out (wrapped octets) else out
+wraps_sent out (Some octets) = if code_of octets == 1 then keeps_sent out (expanded_form octets) else out
 
 abbrev pub wraps : ServerAnswer → ServerAnswer
 wraps out = wraps_sent out out.step.sent

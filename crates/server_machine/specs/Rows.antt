@@ -59,8 +59,8 @@ pub record Turns (now : ServerNow) (id kind : ℕ) (body : List ℕ) (turn : Ser
 abbrev pub unheard : List State
 unheard = state.Received ∷ state.Discard ∷ state.Idle ∷ []
 
-abbrev pub unanswered : List State
-unanswered = state.Received ∷ state.IntegrityCheck ∷ state.Discard ∷ state.Idle ∷ []
+abbrev pub discard_path : List State
+discard_path = state.Received ∷ state.IntegrityCheck ∷ state.Discard ∷ state.Idle ∷ []
 
 -- octets are discarded before any method sees them; a backend that awaits its first Response enters no state
 pub data Unheard (now : ServerNow) : List State → Type 0 where
@@ -78,7 +78,7 @@ pub data Drops (now : ServerNow) (bytes : List ℕ) : Cause → List State → T
       (no_nak : ((kind == nak_kind) && is_proposed now.vars.progress) ≡ false) (unawaited : awaits_first now.vars ≡ false)
       → Drops now bytes cause.WrongMethod unheard
   by_method : (id kind : ℕ) (body : List ℕ) (c : Cause) (views : ServerViews) (heard : Hears now bytes id kind body)
-      (turned : Turns now id kind body (turn.Discard c) views) → Drops now bytes c unanswered
+      (turned : Turns now id kind body (turn.Discard c) views) → Drops now bytes c discard_path
 
 -- what the server does at an input
 pub data ServerRow (now : ServerNow) : ServerInput → ServerAnswer → Type 0 where

@@ -177,10 +177,10 @@ method_answers now id views (turn.Done good tags) =
     if good then ends_well entered vars views id tags else ends_badly entered vars views id tags
 
 -- the views after a turn: a discard keeps those before it
-abbrev pub settled : ServerViews → ServerViews → ServerTurn → ServerViews
-settled before after (turn.Discard c) = before
-settled before after (turn.Request octets tags) = after
-settled before after (turn.Done good tags) = after
+abbrev pub views_after : ServerViews → ServerViews → ServerTurn → ServerViews
+views_after before after (turn.Discard c) = before
+views_after before after (turn.Request octets tags) = after
+views_after before after (turn.Done good tags) = after
 
 -- INTEGRITY_CHECK: the method of this Type checks the whole packet
 unfoldable pub server_method : ServerNow → ℕ → ℕ → List ℕ → ServerAnswer

@@ -13,7 +13,7 @@ ghost use Rattle.eap_method.specs.Tags.{no_tags};
 ghost use Rattle.eap_method.specs.declared.tags.Tags.{Tags};
 ghost use Rattle.server_machine.specs.Expanded.{MayWrap};
 ghost use Rattle.server_machine.specs.ServerTable.{answer, before_proposal, next_id, with_request, ends_well, ends_badly, offers, method_answers};
-ghost use Rattle.server_machine.specs.ServerTable.{settled, AreInOrder};
+ghost use Rattle.server_machine.specs.ServerTable.{views_after, AreInOrder};
 ghost use Rattle.server_machine.specs.declared.variables.Way.TheVariants.{AfterResponse};
 
 use crate::variables::{Progress, ServerVariables, Way};
@@ -196,7 +196,7 @@ pub fn settle(vars: &mut ServerVariables, id: u8, turn: ServerTurn, packet: &mut
     requires room { requests turn ≡ true → HasRoom packet.old }
     ensures step { (before after : ServerViews) (tags : Tags) → let whole = server_turn_with turn packet.old tags in
         method_answers (record { vars = vars.old; views = before }) id after whole
-        ≡ answer (step_with result packet.new (server_tags whole)) (record { vars = vars.new; views = settled before after whole }) }
+        ≡ answer (step_with result packet.new (server_tags whole)) (record { vars = vars.new; views = views_after before after whole }) }
     ensures room { MayWrap result.sends packet.new }
     ensures setup { vars.new.setup ≡ vars.old.setup }
     ensures order { AreInOrder vars.old → AreInOrder vars.new }

@@ -19,7 +19,7 @@ use Rattle.tag_book.specs.declared.book.Makers.TheVariants.{Other}
 use Rattle.eap_world.specs.Judgement.{is_success, verdict_of}
 use Rattle.eap_world.specs.World.{WorldNow, Parties, run_after, world_start}
 use Rattle.smooth_laws.specs.Again.{HasJustBegun, IsLoggedInSince, SmoothLoginsSucceedAgain}
-use Rattle.smooth_laws.specs.Smooth.{AreInOrder, IsLoggedIn, SucceedsInTime, bound, deliveries}
+use Rattle.smooth_laws.specs.Smooth.{AreInOrder, IsLoggedIn, SucceedsInTime, event_bound, deliveries}
 use Rattle.smooth_laws.proofs.Following.{as_honest, delivers_each, takes_each}
 use Rattle.smooth_laws.specs.Behind.{Follows, RunsGoOnAsTheirOwn, later}
 use Rattle.smooth_laws.proofs.Opening.{in_mode}
@@ -108,7 +108,7 @@ size_of first (suc count) = ap suc (size_of (first + 1) count)
 
 pub smooth_logins_succeed_again : SmoothLoginsSucceedAgain
 smooth_logins_succeed_again setup w events whole names fit begun order enough =
-    let most : ℕ = bound setup in
+    let most : ℕ = event_bound setup in
     let all : ℕ = length events in
     let one = (has_started setup).one in
     let joined = length-append begun.before (run_of setup []).sent in

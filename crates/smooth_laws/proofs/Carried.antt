@@ -4,10 +4,10 @@ use Rattle.std.specs.Prelude.{◌==◌, ◌||◌, nat_lt}
 use Rattle.std.proofs.lemmas.Bool.{and_from, and_left, and_right, eqb-false, le-leb, le-ltb}
 use Rattle.std.proofs.lemmas.List.{take_all}
 use Rattle.eap_base.specs.Among.{expanded_kind, ietf}
-use Rattle.eap_packet.specs.Packet.{request, response, spelled, framed, two_octets}
+use Rattle.eap_packet.specs.Packet.{request, response, spelled, frame_of, two_octets}
 use Rattle.eap_packet.specs.Fault.{length_of, packet_of}
-use Rattle.eap_packet.specs.Expanded.{has_plain, is_ietf, is_nak_body, is_plain_body, is_bad_body, wrapped}
-use Rattle.pass_through.specs.PassTable.{unpadded}
+use Rattle.eap_packet.specs.Expanded.{has_plain, is_ietf, is_nak_body, is_plain_body, is_bad_body, expanded_form}
+use Rattle.pass_through.specs.PassTable.{without_padding}
 use Rattle.smooth_laws.proofs.Packets.{request_read, response_read, request_whole, response_whole}
 
 -- a Type that is no Identity, no Notification and no Nak, and that has a plain form
@@ -20,7 +20,7 @@ pub record IsMethod (kind : ℕ) : Type 0 where
 
 abbrev pub carried : Bool → List ℕ → List ℕ
 carried false octets = octets
-carried true octets = wrapped octets
+carried true octets = expanded_form octets
 
 -- the Type and the Type-Data that it then has
 abbrev pub kind_as : Bool → ℕ → ℕ
@@ -33,12 +33,12 @@ body_as true kind body = ietf ++ kind ∷ body
 
 -- the octets of a wrapped packet, where nothing stands past its Length
 behind_length : (code id kind : ℕ) (body : List ℕ)
-    → (let octets = framed code id (kind ∷ body) in take (length_of octets - 4) (drop 4 octets) ≡ kind ∷ body)
+    → (let octets = frame_of code id (kind ∷ body) in take (length_of octets - 4) (drop 4 octets) ≡ kind ∷ body)
 behind_length code id kind body = take_all _ (kind ∷ body) (omega arith)
 
-wrapped_framed : (code id kind : ℕ) (body : List ℕ) → wrapped (framed code id (kind ∷ body)) ≡ framed code id (expanded_kind ∷ ietf ++ kind ∷ body)
+wrapped_framed : (code id kind : ℕ) (body : List ℕ) → expanded_form (frame_of code id (kind ∷ body)) ≡ frame_of code id (expanded_kind ∷ ietf ++ kind ∷ body)
 wrapped_framed code id kind body =
-    ap (λ (tail : List ℕ). code ∷ id ∷ two_octets (length_of (framed code id (kind ∷ body)) + 7) ++ expanded_kind ∷ ietf ++ tail) (behind_length code id kind body)
+    ap (λ (tail : List ℕ). code ∷ id ∷ two_octets (length_of (frame_of code id (kind ∷ body)) + 7) ++ expanded_kind ∷ ietf ++ tail) (behind_length code id kind body)
     ∙ ap (λ (size : ℕ). code ∷ id ∷ two_octets size ++ expanded_kind ∷ ietf ++ kind ∷ body) (omega arith)
 
 pub carried_request : (w : Bool) (id kind : ℕ) (body : List ℕ)
@@ -75,16 +75,16 @@ response_carried w id kind body fits differs =
 
 -- nothing stands past its Length
 pub request_carried_whole : (w : Bool) (id kind : ℕ) (body : List ℕ)
-    → unpadded (carried w (spelled (request id kind body))) ≡ carried w (spelled (request id kind body))
+    → without_padding (carried w (spelled (request id kind body))) ≡ carried w (spelled (request id kind body))
 request_carried_whole w id kind body =
     let is = carried_request w id kind body in
-    ap unpadded is ∙ (request_whole id (kind_as w kind) (body_as w kind body) ∙ sym is)
+    ap without_padding is ∙ (request_whole id (kind_as w kind) (body_as w kind body) ∙ sym is)
 
 pub response_carried_whole : (w : Bool) (id kind : ℕ) (body : List ℕ)
-    → unpadded (carried w (spelled (response id kind body))) ≡ carried w (spelled (response id kind body))
+    → without_padding (carried w (spelled (response id kind body))) ≡ carried w (spelled (response id kind body))
 response_carried_whole w id kind body =
     let is = carried_response w id kind body in
-    ap unpadded is ∙ (response_whole id (kind_as w kind) (body_as w kind body) ∙ sym is)
+    ap without_padding is ∙ (response_whole id (kind_as w kind) (body_as w kind body) ∙ sym is)
 
 -- a wrapped packet of a method has a plain form, and is one that a party takes
 pub of_ietf : (kind : ℕ) (body : List ℕ) → is_ietf (ietf ++ kind ∷ body) ≡ true

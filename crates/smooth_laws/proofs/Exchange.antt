@@ -16,7 +16,7 @@ use Rattle.peer_machine.specs.Expanded.{peer_hears}
 use Rattle.server_machine.specs.ServerTable as servers
 use Rattle.server_machine.specs.ServerTable.{ServerNow}
 use Rattle.server_machine.specs.Expanded.{server_hears}
-use Rattle.pass_through.specs.PassTable.{unpadded}
+use Rattle.pass_through.specs.PassTable.{without_padding}
 use Rattle.pass_through.specs.declared.variables.PassVariables.{PassVariables}
 use Rattle.eap_world.specs.World.{WorldNow}
 use Rattle.tag_book.specs.declared.book.End.TheVariants as end
@@ -65,7 +65,7 @@ peer_turns_in : (runs : Mode) (pass : PassVariables) (w : WorldNow) (number id k
     → AwaitsPeer id runs pass
     → Stage w runs number p s pass (packet_to port.Peer x) end.Peer accepted
     → (path : List State) (y body : List ℕ) (made : List TagRecord) (after : PeerNow)
-    → packet_of y ≡ Ok (response id kind body) → unpadded y ≡ y
+    → packet_of y ≡ Ok (response id kind body) → without_padding y ≡ y
     → peer_hears p x ≡ peers.answer (sends path y (record { accepted = accepted; made = made })) after
     → ToServer (exchanged runs w number) runs (number_after runs number) after s y made
 peer_turns_in runs pass w number id kind p s x accepted (alone v) stage path y body made after read whole takes =
@@ -83,7 +83,7 @@ peer_turns_in runs pass w number id kind p s x accepted (in_idle2 first_id max_r
 pub peer_turns : (runs : Mode) (w : WorldNow) (number id kind : ℕ) (p : PeerNow) (s : ServerNow) (x : List ℕ) (accepted : List TagRecord)
     → ToPeer w runs number id p s x accepted
     → (path : List State) (y body : List ℕ) (made : List TagRecord) (after : PeerNow)
-    → packet_of y ≡ Ok (response id kind body) → unpadded y ≡ y
+    → packet_of y ≡ Ok (response id kind body) → without_padding y ≡ y
     → peer_hears p x ≡ peers.answer (sends path y (record { accepted = accepted; made = made })) after
     → ToServer (exchanged runs w number) runs (number_after runs number) after s y made
 peer_turns runs w number id kind p s x accepted to path y body made after read whole takes =
@@ -95,7 +95,7 @@ server_turns_in : (runs : Mode) (pass : PassVariables) (w : WorldNow) (number id
     → AwaitsServer runs pass
     → Stage w runs number p s pass (packet_to port.Server x) end.Server accepted
     → (path : List State) (y body : List ℕ) (made : List TagRecord) (after : ServerNow)
-    → packet_of y ≡ Ok (request id kind body) → unpadded y ≡ y
+    → packet_of y ≡ Ok (request id kind body) → without_padding y ≡ y
     → server_hears s x ≡ servers.answer (sends path y (record { accepted = accepted; made = made })) after
     → ToPeer (exchanged runs w number) runs (number_after runs number) id p after y made
 server_turns_in runs pass w number id kind p s x accepted (alone v) stage path y body made after read whole takes =
@@ -113,7 +113,7 @@ server_turns_in runs pass w number id kind p s x accepted (in_aaa_idle first_id 
 pub server_turns : (runs : Mode) (w : WorldNow) (number id kind : ℕ) (p : PeerNow) (s : ServerNow) (x : List ℕ) (accepted : List TagRecord)
     → ToServer w runs number p s x accepted
     → (path : List State) (y body : List ℕ) (made : List TagRecord) (after : ServerNow)
-    → packet_of y ≡ Ok (request id kind body) → unpadded y ≡ y
+    → packet_of y ≡ Ok (request id kind body) → without_padding y ≡ y
     → server_hears s x ≡ servers.answer (sends path y (record { accepted = accepted; made = made })) after
     → ToPeer (exchanged runs w number) runs (number_after runs number) id p after y made
 server_turns runs w number id kind p s x accepted to path y body made after read whole takes =

@@ -28,8 +28,8 @@ use Rattle.world_laws.proofs.TagsOfEnds.{unbroken}
 use Rattle.peer_machine.specs.Inputs as peer_inputs
 use Rattle.server_machine.specs.Inputs as server_inputs
 use Rattle.pass_through.specs.Inputs as pass_inputs
-use Rattle.eap_world.specs.World.{WorldNow, Parties, Acted, Action, Call, Called, Skipped, act, altered, booked_by, booked_of, call_at, call_with, called_unless}
-use Rattle.eap_world.specs.World.{conversed, conversed_by, conversed_unless, counted, end_of, first_skip, heard_in, octets_of, one_if, packet_skips, pass_octets, run_after}
+use Rattle.eap_world.specs.World.{WorldNow, Parties, Acted, Action, Call, Called, Skipped, act, alteration, booked_by, booked_of, call_at, call_with, called_unless}
+use Rattle.eap_world.specs.World.{conversations_after, conversed_by, conversed_unless, counts_after, end_of, first_skip, heard_in, octets_of, one_if, packet_skips, pass_octets, run_after}
 use Rattle.eap_world.specs.World.{sent_by, skip_table, timer_call, to_pass, to_peer, to_server, world_step}
 use Rattle.world_laws.proofs.Acting.{begins_anew}
 use Rattle.std.specs.Prelude.{All, take}
@@ -71,7 +71,7 @@ booked_later shift event (Called did) = of_end_later shift event (end_of did.par
 
 -- ---- counts
 
-counted_events : (c : Counts) (action : Action) → (counted c action).events ≡ c.events + 1
+counted_events : (c : Counts) (action : Action) → (counts_after c action).events ≡ c.events + 1
 counted_events c (Skipped skip) = refl
 counted_events c (Called did) = refl
 
@@ -79,7 +79,7 @@ abbrev discards_in : Action → ℕ
 discards_in (Skipped skip) = 0
 discards_in (Called did) = one_if (is_some did.step.cause)
 
-counted_discards : (c : Counts) (action : Action) → (counted c action).discards ≡ c.discards + discards_in action
+counted_discards : (c : Counts) (action : Action) → (counts_after c action).discards ≡ c.discards + discards_in action
 counted_discards c (Skipped skip) = omega arith
 counted_discards c (Called did) = refl
 
@@ -105,8 +105,8 @@ module _ (since : WorldNow) (before : List Sent) (w v : WorldNow) (f : Follows s
         parties = ap (λ (o : Acted). o.after) same;
         sent = ap (λ (o : Acted). w.sent ++ sent_by o.action) same ∙ ap (λ (all : List Sent). all ++ sent_by out.action) f.sent
             ∙ append_assoc before v.sent (sent_by out.action);
-        events = ap (λ (o : Acted). (counted w.counts o.action).events) same ∙ (omega arith);
-        discards = ap (λ (o : Acted). (counted w.counts o.action).discards) same ∙ (omega arith);
+        events = ap (λ (o : Acted). (counts_after w.counts o.action).events) same ∙ (omega arith);
+        discards = ap (λ (o : Acted). (counts_after w.counts o.action).discards) same ∙ (omega arith);
         book = ap (λ (o : Acted). w.book ++ booked_by (w.counts.events + 1) o.action) same
             ∙ ap (λ (number : ℕ). w.book ++ booked_by number out.action) event
             ∙ ap (λ (all : List Entry). w.book ++ all) (booked_later k (v.counts.events + 1) out.action)
@@ -134,7 +134,7 @@ heard_same : (all : Conversations) (came : Option (List ℕ)) → Same (heard_in
 heard_same all None = record { begun = refl; fresh = refl }
 heard_same all (Some octets) = record { begun = refl; fresh = refl }
 
-call_same : (event : ℕ) (all : Conversations) (call : Call) → begins_anew call ≡ false → Same (conversed event all call) all
+call_same : (event : ℕ) (all : Conversations) (call : Call) → begins_anew call ≡ false → Same (conversations_after event all call) all
 call_same event all (to_peer (peer_inputs.octets bytes)) stays = heard_same all (Some bytes)
 call_same event all (to_peer peer_inputs.idle) stays = heard_same all None
 call_same event all (to_peer peer_inputs.alt_accept) stays = heard_same all None
@@ -175,7 +175,7 @@ event_same number p all sent (event.Deliver n) stays =
     packet_same number all (first_skip (skip_table p all sent (event.Deliver n))) (packet_numbered sent n) (octets_of (packet_numbered sent n))
 event_same number p all sent (event.Alter n place mask) stays =
     packet_same number all (first_skip (skip_table p all sent (event.Alter n place mask))) (packet_numbered sent n)
-    (altered (octets_of (packet_numbered sent n)) place mask)
+    (alteration (octets_of (packet_numbered sent n)) place mask)
 event_same number p all sent (event.Cut n keep) stays =
     packet_same number all (first_skip (skip_table p all sent (event.Cut n keep))) (packet_numbered sent n) (take keep (octets_of (packet_numbered sent n)))
 event_same number p all sent (event.Inject to octets) stays = at_port_same number all (first_skip (skip_table p all sent (event.Inject to octets))) to octets
@@ -215,7 +215,7 @@ module _ (since : WorldNow) (before : List Sent) (w v : WorldNow) (f : Follows s
       → act v.parties w.conversations w.sent (event_behind (length before) e) ≡ act v.parties v.conversations v.sent e
   unfolding act
   same_of (event.Deliver n) stays = ap (handed false (λ (octets : List ℕ). octets)) (found_so n)
-  same_of (event.Alter n place mask) stays = ap (λ (found : Option Sent). handed (nat_le (length (octets_of found)) place) (λ (octets : List ℕ). altered octets place mask) found) (found_so n)
+  same_of (event.Alter n place mask) stays = ap (λ (found : Option Sent). handed (nat_le (length (octets_of found)) place) (λ (octets : List ℕ). alteration octets place mask) found) (found_so n)
   same_of (event.Cut n keep) stays = ap (λ (found : Option Sent). handed (nat_lt (length (octets_of found)) keep) (λ (octets : List ℕ). take keep octets) found) (found_so n)
   same_of (event.Inject to octets) stays = refl
   same_of (event.Timeout of) stays = refl

@@ -29,8 +29,8 @@ use Rattle.tag_book.specs.Book.{first_broken}
 use Rattle.eap_world.specs.Conversations.{Conversations}
 use Rattle.eap_world.specs.Judgement.{is_success}
 use Rattle.eap_world.specs.Sent.{Sent, packet_numbered}
-use Rattle.eap_world.specs.World.{WorldNow, Parties, Acted, Called, acted, act, call_at, call_with, called, called_unless, did_by, did_pass, first_skip}
-use Rattle.eap_world.specs.World.{WorldOutcome, conversed, conversed_by, conversed_unless, goes_to, held_before, is_absent, octets_of, packet_skips, run_after, skipped, world_step}
+use Rattle.eap_world.specs.World.{WorldNow, Parties, Acted, Called, act_with, act, call_at, call_with, act_of_call, called_unless, did_by, did_pass, first_skip}
+use Rattle.eap_world.specs.World.{WorldOutcome, conversations_after, conversed_by, conversed_unless, goes_to, held_before, is_absent, octets_of, packet_skips, run_after, act_of_skip, world_step}
 use Rattle.tag_book.specs.declared.book.End.{End}
 use Rattle.tag_book.specs.declared.book.End.TheVariants as end
 use Rattle.tag_book.specs.declared.book.Makers.TheVariants.{Other}
@@ -72,7 +72,7 @@ abbrev pub delivered : WorldNow → ℕ → WorldNow
 delivered w number = (world_step w (Deliver number)).after
 
 -- a delivery begins no conversation
-at_port_begun : (event : ℕ) (all : Conversations) (to : Port) (octets : List ℕ) → (conversed event all (call_at to octets)).begun ≡ all.begun
+at_port_begun : (event : ℕ) (all : Conversations) (to : Port) (octets : List ℕ) → (conversations_after event all (call_at to octets)).begun ≡ all.begun
 at_port_begun event all port.Peer octets = refl
 at_port_begun event all port.Server octets = refl
 at_port_begun event all port.PassPeer octets = refl
@@ -103,7 +103,7 @@ last_numbered before last number count =
     ∙ ap (λ (x : Sent). Some x) (get_or_push before last last (number - 1) (omega arith))
 
 called_at : (w : WorldNow) (number : ℕ) (packet : Sent) → packet_numbered w.sent number ≡ Some packet → is_absent w.parties.mode packet.port ≡ false
-    → act w.parties w.conversations w.sent (Deliver number) ≡ called w.parties (call_at packet.port packet.octets)
+    → act w.parties w.conversations w.sent (Deliver number) ≡ act_of_call w.parties (call_at packet.port packet.octets)
 unfolding act
 called_at w number packet is there =
     ap (λ (found : Option Sent). called_unless w.parties (first_skip (packet_skips w.parties.mode found false)) (call_with found (octets_of found))) is
@@ -133,12 +133,12 @@ server_there mode.Through = refl
 module _ (w : WorldNow) (runs : Mode) (number : ℕ) (p : PeerNow) (s : ServerNow) (v : PassVariables) where
   handed : (last : Sent) (accepts : End) (tags : List TagRecord) → Stage w runs number p s v last accepts tags
       → is_absent w.parties.mode last.port ≡ false
-      → (out : Acted) → called (parties_at runs p s v) (call_at last.port last.octets) ≡ out
+      → (out : Acted) → act_of_call (parties_at runs p s v) (call_at last.port last.octets) ≡ out
       → delivered w number ≡ (delivered_as w number out).after
   handed last accepts tags stage there out is =
       after_is w number out
       (called_at w number last (ap (λ (sent : List Sent). packet_numbered sent number) stage.sent ∙ last_numbered stage.before last number stage.count) there
-      ∙ ap (λ (parties : Parties). called parties (call_at last.port last.octets)) stage.parties
+      ∙ ap (λ (parties : Parties). act_of_call parties (call_at last.port last.octets)) stage.parties
       ∙ is)
 
   counts_up : (last : Sent) (accepts : End) (tags : List TagRecord) → Stage w runs number p s v last accepts tags → length w.sent + 1 ≡ number + 1
@@ -155,12 +155,12 @@ module _ (w : WorldNow) (runs : Mode) (number : ℕ) (p : PeerNow) (s : ServerNo
   peer_moves x accepted stage path y made after takes =
       let step : Step = sends path y (record { accepted = accepted; made = made }) in
       let to : Parties = parties_at runs after s v in
-      let out : Acted = acted (Called (did_by runs party.Peer true step)) to in
+      let out : Acted = act_with (Called (did_by runs party.Peer true step)) to in
       let book = stays_honest (w.counts.events + 1) end.Peer w.book accepted made stage.honest stage.vouched in
       let discards = stage.none_discarded in
       subst (λ (now : WorldNow). Stage now runs (number + 1) after s v (packet_to (goes_to party.Peer runs) y) end.Server made)
       (sym (handed (packet_to port.Peer x) end.Peer accepted stage (peer_there w.parties.mode) out
-      (ap (λ (found : PeerAnswer). acted (Called (did_by runs party.Peer true found.step)) (parties_at runs found.after s v)) takes)))
+      (ap (λ (found : PeerAnswer). act_with (Called (did_by runs party.Peer true found.step)) (parties_at runs found.after s v)) takes)))
       (record {
         parties = refl;
         before = w.sent;
@@ -179,12 +179,12 @@ module _ (w : WorldNow) (runs : Mode) (number : ℕ) (p : PeerNow) (s : ServerNo
   server_moves x accepted stage path y made after takes =
       let step : Step = sends path y (record { accepted = accepted; made = made }) in
       let to : Parties = parties_at runs p after v in
-      let out : Acted = acted (Called (did_by runs party.Server true step)) to in
+      let out : Acted = act_with (Called (did_by runs party.Server true step)) to in
       let book = stays_honest (w.counts.events + 1) end.Server w.book accepted made stage.honest stage.vouched in
       let discards = stage.none_discarded in
       subst (λ (now : WorldNow). Stage now runs (number + 1) p after v (packet_to (goes_to party.Server runs) y) end.Peer made)
       (sym (handed (packet_to port.Server x) end.Server accepted stage (server_there w.parties.mode) out
-      (ap (λ (found : ServerAnswer). acted (Called (did_by runs party.Server true found.step)) (parties_at runs p found.after v)) takes)))
+      (ap (λ (found : ServerAnswer). act_with (Called (did_by runs party.Server true found.step)) (parties_at runs p found.after v)) takes)))
       (record {
         parties = refl;
         before = w.sent;
@@ -204,12 +204,12 @@ module _ (w : WorldNow) (runs : Mode) (number : ℕ) (p : PeerNow) (s : ServerNo
   peer_ends x accepted stage path after takes peer_in server_in =
       let step : Step = enters path no_tags in
       let to : Parties = parties_at runs after s v in
-      let out : Acted = acted (Called (did_by runs party.Peer true step)) to in
+      let out : Acted = act_with (Called (did_by runs party.Peer true step)) to in
       let discards = stage.none_discarded in
       let count = counts_up (packet_to port.Peer x) end.Peer accepted stage in
       subst (λ (now : WorldNow). BothIn now number)
       (sym (handed (packet_to port.Peer x) end.Peer accepted stage (peer_there w.parties.mode) out
-      (ap (λ (found : PeerAnswer). acted (Called (did_by runs party.Peer true found.step)) (parties_at runs found.after s v)) takes)))
+      (ap (λ (found : PeerAnswer). act_with (Called (did_by runs party.Peer true found.step)) (parties_at runs found.after s v)) takes)))
       (record {
         peer = peer_in;
         server = server_in;
@@ -229,11 +229,11 @@ module _ (w : WorldNow) (number : ℕ) (p : PeerNow) (s : ServerNow) (v : PassVa
       → pass_from_peer v x ≡ passes.answer (passes.passes_on path y) after
       → Stage (delivered w number) mode.Through (number + 1) p s after (packet_to port.Server y) accepts tags
   hands_to_server x accepts tags stage path y after takes =
-      let out : Acted = acted (Called (did_pass (pass_inputs.from_peer x) (passes.passes_on path y))) (parties_at mode.Through p s after) in
+      let out : Acted = act_with (Called (did_pass (pass_inputs.from_peer x) (passes.passes_on path y))) (parties_at mode.Through p s after) in
       let discards = stage.none_discarded in
       subst (λ (now : WorldNow). Stage now mode.Through (number + 1) p s after (packet_to port.Server y) accepts tags)
       (sym (handed w mode.Through number p s v (packet_to port.PassPeer x) accepts tags stage (through_there (packet_to port.PassPeer x) accepts tags stage) out
-      (ap (λ (found : PassAnswer). acted (Called (did_pass (pass_inputs.from_peer x) found.step)) (parties_at mode.Through p s found.after)) takes)))
+      (ap (λ (found : PassAnswer). act_with (Called (did_pass (pass_inputs.from_peer x) found.step)) (parties_at mode.Through p s found.after)) takes)))
       (record {
         parties = refl;
         before = w.sent;
@@ -249,12 +249,12 @@ module _ (w : WorldNow) (number : ℕ) (p : PeerNow) (s : ServerNow) (v : PassVa
       → pass_from_backend v x ≡ passes.answer (passes.asks path y) after
       → Stage (delivered w number) mode.Through (number + 1) p s after (packet_to port.Peer y) accepts tags
   hands_to_peer x accepts tags stage path y after takes =
-      let out : Acted = acted (Called (did_pass (pass_inputs.from_backend x) (passes.asks path y))) (parties_at mode.Through p s after) in
+      let out : Acted = act_with (Called (did_pass (pass_inputs.from_backend x) (passes.asks path y))) (parties_at mode.Through p s after) in
       let discards = stage.none_discarded in
       subst (λ (now : WorldNow). Stage now mode.Through (number + 1) p s after (packet_to port.Peer y) accepts tags)
       (sym (handed w mode.Through number p s v (packet_to port.PassServer x) accepts tags stage
       (through_there (packet_to port.PassServer x) accepts tags stage) out
-      (ap (λ (found : PassAnswer). acted (Called (did_pass (pass_inputs.from_backend x) found.step)) (parties_at mode.Through p s found.after)) takes)))
+      (ap (λ (found : PassAnswer). act_with (Called (did_pass (pass_inputs.from_backend x) found.step)) (parties_at mode.Through p s found.after)) takes)))
       (record {
         parties = refl;
         before = w.sent;
@@ -276,7 +276,7 @@ kept_unsent w number later both past =
     let none : packet_numbered w.sent later ≡ None =
     cond-false (later == 0) _ _ (ne_eqb later 0 (λ e. omega arith)) ∙ slice_get_past w.sent (later - 1) (omega arith) in
     subst (λ (now : WorldNow). BothIn now number)
-    (sym (after_is w later (skipped w.parties Unsent)
+    (sym (after_is w later (act_of_skip w.parties Unsent)
     (ap (λ (found : Option Sent). called_unless w.parties (first_skip (packet_skips w.parties.mode found false)) (call_with found (octets_of found))) none)))
     (record {
       peer = both.peer;

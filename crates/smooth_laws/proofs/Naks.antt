@@ -12,7 +12,7 @@ use Rattle.login_policy.specs.Policy.{nak_of}
 use Rattle.login_policy.specs.Expanded.{nak_entries, kinds_in, expanded_kinds}
 use Rattle.peer_machine.specs.PeerTable.{nak_response}
 use Rattle.peer_machine.specs.Expanded.{expanded_nak_response}
-use Rattle.pass_through.specs.PassTable.{unpadded}
+use Rattle.pass_through.specs.PassTable.{without_padding}
 use Rattle.smooth_laws.proofs.Carried.{of_ietf, not_under, or_none}
 use Rattle.smooth_laws.proofs.Choosing.{either}
 use Rattle.smooth_laws.proofs.Packets.{response_read, response_whole}
@@ -100,7 +100,7 @@ nak_read true id methods is =
     let size = is.size in
     response_read id expanded_kind (ietf ++ 3 ∷ nak_entries (nak_of methods)) (omega arith) (λ e. omega arith)
 
-pub nak_whole : (form : Bool) (id : ℕ) (methods : List ℕ) → unpadded (nak_as form id methods) ≡ nak_as form id methods
+pub nak_whole : (form : Bool) (id : ℕ) (methods : List ℕ) → without_padding (nak_as form id methods) ≡ nak_as form id methods
 nak_whole false id methods = response_whole id 3 (nak_of methods)
 nak_whole true id methods = response_whole id expanded_kind (ietf ++ 3 ∷ nak_entries (nak_of methods))
 

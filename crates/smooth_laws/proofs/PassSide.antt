@@ -7,7 +7,7 @@ use Rattle.eap_packet.specs.Fault.{packet_of}
 use Rattle.eap_packet.specs.declared.state.State.{State}
 use Rattle.eap_packet.specs.declared.state.State.TheVariants as state
 use Rattle.pass_through.specs.PassTable.{answer, asks, passes_on, pass_from_peer, pass_from_backend, idle_row, idle2_row, aaa_row}
-use Rattle.pass_through.specs.PassTable.{unpadded}
+use Rattle.pass_through.specs.PassTable.{without_padding}
 use Rattle.pass_through.specs.declared.variables.PassVariables.{PassVariables}
 
 -- a pass-through that has started: where it stands, the Identifier of the last Request, and that Request
@@ -17,7 +17,7 @@ pass_at first_id max_retrans at id last =
 
 module _ (first_id max_retrans : ℕ) where
   -- the Identity Response goes on to the server
-  pub hands_identity : (octets : List ℕ) (id : ℕ) (name last : List ℕ) → packet_of octets ≡ Ok (response id 1 name) → unpadded octets ≡ octets
+  pub hands_identity : (octets : List ℕ) (id : ℕ) (name last : List ℕ) → packet_of octets ≡ Ok (response id 1 name) → without_padding octets ≡ octets
       → pass_from_peer (pass_at first_id max_retrans state.Idle id last) octets
       ≡ answer
       (passes_on (state.Received ∷ state.IntegrityCheck ∷ state.MethodResponse ∷ state.SelectAction ∷ state.InitializePassthrough ∷ state.AaaRequest ∷
@@ -33,7 +33,7 @@ module _ (first_id max_retrans : ℕ) where
       (pass_at first_id max_retrans state.AaaIdle id last)) whole
 
   -- so does each Response to the last Request
-  pub hands_response : (octets : List ℕ) (id kind : ℕ) (body last : List ℕ) → packet_of octets ≡ Ok (response id kind body) → unpadded octets ≡ octets
+  pub hands_response : (octets : List ℕ) (id kind : ℕ) (body last : List ℕ) → packet_of octets ≡ Ok (response id kind body) → without_padding octets ≡ octets
       → pass_from_peer (pass_at first_id max_retrans state.Idle2 id last) octets
       ≡ answer (passes_on (state.Received2 ∷ state.AaaRequest ∷ state.AaaIdle ∷ []) octets) (pass_at first_id max_retrans state.AaaIdle id last)
   unfolding pass_from_peer
@@ -45,7 +45,7 @@ module _ (first_id max_retrans : ℕ) where
 
   -- a Request goes on to the peer
   pub hands_request : (octets : List ℕ) (id kind : ℕ) (body : List ℕ) (was : ℕ) (last : List ℕ) → packet_of octets ≡ Ok (request id kind body)
-      → unpadded octets ≡ octets
+      → without_padding octets ≡ octets
       → pass_from_backend (pass_at first_id max_retrans state.AaaIdle was last) octets
       ≡ answer (asks (state.AaaResponse ∷ state.SendRequest2 ∷ state.Idle2 ∷ []) octets) (pass_at first_id max_retrans state.Idle2 id octets)
   unfolding pass_from_backend
@@ -55,7 +55,7 @@ module _ (first_id max_retrans : ℕ) where
       (pass_at first_id max_retrans state.Idle2 id sent)) whole
 
   -- so does the Success, and it has ended
-  pub hands_success : (octets : List ℕ) (id was : ℕ) (last : List ℕ) → packet_of octets ≡ Ok (success id) → unpadded octets ≡ octets
+  pub hands_success : (octets : List ℕ) (id was : ℕ) (last : List ℕ) → packet_of octets ≡ Ok (success id) → without_padding octets ≡ octets
       → pass_from_backend (pass_at first_id max_retrans state.AaaIdle was last) octets
       ≡ answer (asks (state.Success2 ∷ []) octets) (pass_at first_id max_retrans state.Success2 was last)
   unfolding pass_from_backend

@@ -6,7 +6,7 @@ use Rattle.login_setup.specs.declared.setup.PeerSetup.{PeerSetup}
 use Rattle.eap_base.specs.Among.{is_among, expanded_kind, ietf}
 use Rattle.eap_packet.specs.Packet.{PacketValue, request, response, success, spelled}
 use Rattle.eap_packet.specs.Fault.{packet_of}
-use Rattle.eap_packet.specs.Expanded.{has_plain_form, is_bad_expanded, wrapped}
+use Rattle.eap_packet.specs.Expanded.{has_plain_form, is_bad_expanded, expanded_form}
 use Rattle.eap_packet.specs.declared.state.State.{State}
 use Rattle.eap_packet.specs.declared.state.State.TheVariants as state
 use Rattle.eap_method.specs.declared.tags.Tags.{Tags}
@@ -20,7 +20,7 @@ use Rattle.eap_method.specs.Plain.{plain_octets}
 use Rattle.eap_method.specs.Steps.{sends, is_end}
 use Rattle.eap_method.specs.Tags.{no_tags}
 use Rattle.eap_method.specs.Turns.{PeerOutcome}
-use Rattle.peer_machine.specs.Expanded.{expanded_nak_response, keeps_sent, expressed, expressed_unless, peer_reads, peer_hears}
+use Rattle.peer_machine.specs.Expanded.{expanded_nak_response, keeps_sent, expanded_answer, expressed_unless, peer_reads, peer_hears}
 use Rattle.peer_machine.specs.PeerTable.{PeerNow, PeerAnswer, answer, is_last_id, peer_made, peer_row, method_answers, peer_deliver, peer_method, identity_response}
 use Rattle.peer_machine.specs.PeerTable.{nak_response, is_done, is_fail, peer_ends}
 use Rattle.smooth_laws.proofs.Carried.{IsMethod, carried, asks_read, wrapped_plain, wrapped_taken}
@@ -151,34 +151,34 @@ hears_success now octets id read =
 -- a wrapped Request: the row of the plain one, expressed
 hears_wrapped : (now : PeerNow) (id kind : ℕ) (body : List ℕ) → now.vars.setup.expanded ≡ true → is_end now.vars.state ≡ false
     → is_last_id now.vars.last_id id ≡ false → IsMethod kind → length body ≤ 1488
-    → peer_hears now (wrapped (spelled (request id kind body)))
-    ≡ (let out = peer_deliver now (spelled (request id kind body)) in expressed out out.step.sent)
+    → peer_hears now (expanded_form (spelled (request id kind body)))
+    ≡ (let out = peer_deliver now (spelled (request id kind body)) in expanded_answer out out.step.sent)
 unfolding peer_hears
 hears_wrapped now id kind body reads going new is fits =
-    let octets : List ℕ = wrapped (spelled (request id kind body)) in
+    let octets : List ℕ = expanded_form (spelled (request id kind body)) in
     let packet : PacketValue = request id expanded_kind (ietf ++ kind ∷ body) in
     cond-true (now.vars.setup.expanded && not (is_end now.vars.state)) _ _ (and_from _ _ reads (ap not going))
     ∙ ap (λ found. peer_reads now octets found) (asks_read true id kind body is fits)
     ∙ cond-false (is_bad_expanded packet) _ _ (wrapped_taken true kind body is)
     ∙ ap (λ (last : Bool). expressed_unless last (peer_deliver now (plain_octets octets packet))) new
-    ∙ ap (λ (plain : List ℕ). let out = peer_deliver now plain in expressed out out.step.sent)
+    ∙ ap (λ (plain : List ℕ). let out = peer_deliver now plain in expanded_answer out out.step.sent)
     (cond-true (has_plain_form packet) _ _ (wrapped_plain kind body is) ∙ ap spelled (cond-true (has_plain_form packet) _ _ (wrapped_plain kind body is)))
 
 -- what is sent of a wrapped Request is wrapped, and kept so
 wraps_reply : (path : List State) (id kind : ℕ) (body : List ℕ) (tags : Tags) (setup : PeerSetup) (selected : Option ℕ) (m : MethodState) (d : Decision)
     (views : PeerViews) → (kind == 3) ≡ false
     → (let packet = spelled (response id kind body) in let out = replies path packet tags (peer_at setup selected m d id packet views) in
-    expressed out out.step.sent ≡ replies path (wrapped packet) tags (peer_at setup selected m d id (wrapped packet) views))
+    expanded_answer out out.step.sent ≡ replies path (expanded_form packet) tags (peer_at setup selected m d id (expanded_form packet) views))
 unfolding spelled
 wraps_reply path id kind body tags setup selected m d views not_nak =
     let packet : List ℕ = spelled (response id kind body) in
     ap (λ (octets : List ℕ). keeps_sent (replies path packet tags (peer_at setup selected m d id packet views)) octets)
-    (cond-false (kind == 3) (expanded_nak_response id setup.methods) (wrapped packet) not_nak)
+    (cond-false (kind == 3) (expanded_nak_response id setup.methods) (expanded_form packet) not_nak)
 
 says_nak : (path : List State) (id : ℕ) (tags : Tags) (setup : PeerSetup) (selected : Option ℕ) (m : MethodState) (d : Decision) (views : PeerViews)
     → (let packet = nak_response id setup.methods in let out = replies path packet tags (peer_at setup selected m d id packet views) in
     let said = expanded_nak_response id setup.methods in
-    expressed out out.step.sent ≡ replies path said tags (peer_at setup selected m d id said views))
+    expanded_answer out out.step.sent ≡ replies path said tags (peer_at setup selected m d id said views))
 unfolding spelled
 says_nak path id tags setup selected m d views = refl
 
@@ -203,7 +203,7 @@ module _ (setup : PeerSetup) where
   refuses_as true reads id kind body last said is fits new barred =
       let read = asks_read false id kind body is fits in
       hears_wrapped (peer_unbound setup last said) id kind body (reads refl) refl new is fits
-      ∙ ap (λ (out : PeerAnswer). expressed out out.step.sent) (refuses setup _ id kind body last said read new is.not_identity is.not_notification barred)
+      ∙ ap (λ (out : PeerAnswer). expanded_answer out out.step.sent) (refuses setup _ id kind body last said read new is.not_identity is.not_notification barred)
       ∙ says_nak (state.Received ∷ state.GetMethod ∷ state.SendResponse ∷ state.Idle ∷ []) id no_tags setup None method.NotSet decision.Fail (views_begun setup)
 
   -- the first Request of a method that it allows
@@ -223,7 +223,7 @@ module _ (setup : PeerSetup) where
   begins_as true reads id kind body last said answers m d tags views is fits new allowed turn unended =
       let read = asks_read false id kind body is fits in
       hears_wrapped (peer_unbound setup last said) id kind body (reads refl) refl new is fits
-      ∙ ap (λ (out : PeerAnswer). expressed out out.step.sent)
+      ∙ ap (λ (out : PeerAnswer). expanded_answer out out.step.sent)
       (begins setup _ id kind body last said _ m d tags views read new is.not_identity is.not_notification allowed turn unended)
       ∙ wraps_reply (state.Received ∷ state.GetMethod ∷ state.Method ∷ state.SendResponse ∷ state.Idle ∷ []) id kind answers tags setup (Some kind) m d views
       is.not_nak
@@ -244,7 +244,7 @@ module _ (setup : PeerSetup) where
   goes_on_as true reads id kind body last said before d_before views_before answers m d tags views is fits new not_done turn unended =
       let read = asks_read false id kind body is fits in
       hears_wrapped (peer_at setup (Some kind) before d_before last said views_before) id kind body (reads refl) refl new is fits
-      ∙ ap (λ (out : PeerAnswer). expressed out out.step.sent)
+      ∙ ap (λ (out : PeerAnswer). expanded_answer out out.step.sent)
       (goes_on setup _ id kind body last said before d_before views_before _ m d tags views read new is.not_notification not_done turn unended)
       ∙ wraps_reply (state.Received ∷ state.Method ∷ state.SendResponse ∷ state.Idle ∷ []) id kind answers tags setup (Some kind) m d views is.not_nak
 

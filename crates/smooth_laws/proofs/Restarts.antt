@@ -7,7 +7,7 @@ use Rattle.std.proofs.lemmas.List.Folds.{list_any-append}
 use Rattle.std.proofs.lemmas.Slice.Eq.{bytes_eq-Decides}
 use Rattle.eap_packet.specs.declared.cause.Cause.{Cause}
 use Rattle.eap_method.specs.declared.tags.Tags.{Tags}
-use Rattle.tag_book.specs.Book.{booked}
+use Rattle.tag_book.specs.Book.{entries_of}
 use Rattle.tag_book.specs.declared.book.End.{End}
 use Rattle.tag_book.specs.declared.book.End.TheVariants as end
 use Rattle.eap_world.specs.declared.conversations.Begun.{Begun}
@@ -34,10 +34,10 @@ use Rattle.pass_through.specs.Inputs as pass_inputs
 use Rattle.pass_through.specs.PassTable.{pass_made, pass_restart, pass_start}
 use Rattle.pass_through.specs.declared.variables.PassVariables.{PassVariables}
 use Rattle.eap_world.specs.Run.{run_of}
-use Rattle.eap_world.specs.Conversations.{Conversations, begins, begun, front, is_new, is_used, peer_begins, server_begins}
+use Rattle.eap_world.specs.Conversations.{Conversations, begins, beginning, front, is_new, is_used, peer_begins, server_begins}
 use Rattle.eap_world.specs.Sent.{Sent}
 use Rattle.eap_world.specs.World.{Acted, Parties, WorldNow, act, booked_by, called_unless, conversed_by, conversed_unless, first_skip, goes_to, has_none, next_call, run_after}
-use Rattle.eap_world.specs.World.{counted, is_alone, one_if, sent_by, sent_to, to_pass, to_peer, to_server, world_start, world_step}
+use Rattle.eap_world.specs.World.{counts_after, is_alone, one_if, sent_by, sent_to, to_pass, to_peer, to_server, world_start, world_step}
 use Rattle.eap_world.specs.declared.conversations.Waiting.{Waiting}
 use Rattle.eap_world.specs.declared.told.Skip.{Skip}
 use Rattle.eap_world.specs.declared.told.Skip.TheVariants.{NoNonce, NoParty}
@@ -138,7 +138,7 @@ module _ (w : WorldNow) where
     parties = ap (λ (all : List Waiting). (peer_acts all).after) is;
     sent = ap (λ (all : List Waiting). w.sent ++ sent_by (peer_acts all).action) is;
     book = ap (λ (all : List Waiting). w.book ++ booked_by (w.counts.events + 1) (peer_acts all).action) is ∙ append-nil w.book;
-    discards = ap (λ (all : List Waiting). (counted w.counts (peer_acts all).action).discards) is ∙ (omega arith);
+    discards = ap (λ (all : List Waiting). (counts_after w.counts (peer_acts all).action).discards) is ∙ (omega arith);
   }
 
   server_renews : (one : Waiting) (left : List Waiting) (runs : Mode) (sent : Option (List ℕ)) → w.conversations.server_left ≡ one ∷ left
@@ -151,9 +151,9 @@ module _ (w : WorldNow) where
         ∙ ap (λ (m : Mode). w.sent ++ sent_to (goes_to party.Server m) (server_restart w.parties.server one.nonce).step.sent) runs_so
         ∙ ap (λ (octets : Option (List ℕ)). w.sent ++ sent_to (goes_to party.Server runs) octets) sends;
     book = ap (λ (all : List Waiting). w.book ++ booked_by (w.counts.events + 1) (server_acts all).action) is
-        ∙ ap (λ (tags : Tags). w.book ++ booked (w.counts.events + 1) end.Server tags) (server_tags_none w.parties.server one.nonce)
+        ∙ ap (λ (tags : Tags). w.book ++ entries_of (w.counts.events + 1) end.Server tags) (server_tags_none w.parties.server one.nonce)
         ∙ append-nil w.book;
-    discards = ap (λ (all : List Waiting). (counted w.counts (server_acts all).action).discards) is
+    discards = ap (λ (all : List Waiting). (counts_after w.counts (server_acts all).action).discards) is
         ∙ ap (λ (found : Option Cause). w.counts.discards + one_if (is_some found)) (discards_none w.parties.server one.nonce)
         ∙ (omega arith);
   }
@@ -164,7 +164,7 @@ module _ (w : WorldNow) where
     parties = ap (λ (m : Mode). (pass_acts m).after) runs_so;
     sent = ap (λ (m : Mode). w.sent ++ sent_by (pass_acts m).action) runs_so ∙ ap (λ (n : ℕ). w.sent ++ asks n) first;
     book = ap (λ (m : Mode). w.book ++ booked_by (w.counts.events + 1) (pass_acts m).action) runs_so ∙ append-nil w.book;
-    discards = ap (λ (m : Mode). (counted w.counts (pass_acts m).action).discards) runs_so ∙ (omega arith);
+    discards = ap (λ (m : Mode). (counts_after w.counts (pass_acts m).action).discards) runs_so ∙ (omega arith);
   }
 
   peer_keeps : (after w party.Peer).conversations.server_left ≡ w.conversations.server_left
@@ -243,11 +243,11 @@ either_way one other =
 
 -- whether the nonces with which two conversations begin are new
 new_after : (event : ℕ) (of : End) (all : Conversations) (left : Bool) (one two : Waiting)
-    → (left && is_new (all.begun ++ begun event of one.nonce ∷ []) two)
+    → (left && is_new (all.begun ++ beginning event of one.nonce ∷ []) two)
     ≡ (left && (not two.heard && not (is_used all.begun two.nonce || (bytes_eq (front one.nonce) (front two.nonce) || false))))
 new_after event of all left one two =
     ap (λ (b : Bool). left && (not two.heard && not b))
-    (list_any-append (λ (b : Begun). bytes_eq (front b.nonce) (front two.nonce)) all.begun (begun event of one.nonce ∷ []))
+    (list_any-append (λ (b : Begun). bytes_eq (front b.nonce) (front two.nonce)) all.begun (beginning event of one.nonce ∷ []))
 
 peer_then_server : (a b c : Conversations) (one two : Waiting) → IsPeers a b one → IsServers b c two → c.fresh ≡ (a.fresh && are_new a.begun one two)
 peer_then_server a b c one two p s =

@@ -6,7 +6,7 @@ use Rattle.eap_base.specs.Among.{expanded_kind, ietf}
 use Rattle.login_setup.specs.declared.setup.ServerSetup.{ServerSetup}
 use Rattle.eap_packet.specs.Packet.{request, response, spelled}
 use Rattle.eap_packet.specs.Fault.{packet_of, type_of}
-use Rattle.eap_packet.specs.Expanded.{is_ietf, is_nak_body, has_plain_form, is_bad_expanded, wrapped}
+use Rattle.eap_packet.specs.Expanded.{is_ietf, is_nak_body, has_plain_form, is_bad_expanded, expanded_form}
 use Rattle.eap_packet.specs.declared.state.State.{State}
 use Rattle.eap_packet.specs.declared.state.State.TheVariants as state
 use Rattle.login_policy.specs.Policy.{next_kind, nak_of}
@@ -194,9 +194,9 @@ reads_identity now octets id name reads going read = reads_all now octets id 1 n
 -- a wrapped Response of a method
 reads_wrapped : (now : ServerNow) (id kind : ℕ) (body : List ℕ) → now.vars.setup.expanded ≡ true → is_end now.vars.state ≡ false
     → IsMethod kind → length body ≤ 1488
-    → server_hears now (wrapped (spelled (response id kind body))) ≡ wraps (server_deliver now (spelled (response id kind body)))
+    → server_hears now (expanded_form (spelled (response id kind body))) ≡ wraps (server_deliver now (spelled (response id kind body)))
 reads_wrapped now id kind body reads going is fits =
-    let octets : List ℕ = wrapped (spelled (response id kind body)) in
+    let octets : List ℕ = expanded_form (spelled (response id kind body)) in
     let inside : List ℕ = ietf ++ kind ∷ body in
     reads_all now octets id expanded_kind inside reads going (answers_read true id kind body is fits)
     (wrapped_taken false kind body is)
@@ -219,7 +219,7 @@ reads_nak now id methods reads going asked is =
 -- a Request of a method is wrapped, and kept so
 wraps_request : (made : Made) (path : List State) (sent_id kind : ℕ) (asks : List ℕ) (tags : Tags) (id : ℕ) (at : Progress) (proposed : List ℕ) (views : ServerViews)
     → (let packet = spelled (request sent_id kind asks) in wraps (replies path packet tags (server_at made id kind at packet proposed views))
-    ≡ replies path (wrapped packet) tags (server_at made id kind at (wrapped packet) proposed views))
+    ≡ replies path (expanded_form packet) tags (server_at made id kind at (expanded_form packet) proposed views))
 unfolding spelled
 wraps_request made path sent_id kind asks tags id at proposed views = refl
 
@@ -259,7 +259,7 @@ module _ (made : Made) where
       reads_none _ (nak_as false id methods) is
       ∙ hears_nak made (nak_as false id methods) id refused kind (nak_of methods) _ views after _ (nak_read false id methods back) chosen offered
   hears_nak_as true is id refused kind methods asked_body views after asks back chosen offered =
-      reads_nak (server_at made id refused progress.Proposed (wrapped (spelled (request id refused asked_body))) (refused ∷ []) views) id methods is refl refl back
+      reads_nak (server_at made id refused progress.Proposed (expanded_form (spelled (request id refused asked_body))) (refused ∷ []) views) id methods is refl refl back
       ∙ ap wraps (hears_nak made (nak_as false id methods) id refused kind (nak_of methods) _ views after _ (nak_read false id methods back) chosen offered)
       ∙ wraps_request made (before_proposal way.AfterNak ++ state.ProposeMethod ∷ state.MethodRequest ∷ state.SendRequest ∷ state.Idle ∷ [])
       (after_id id) kind asks no_tags (after_id id) progress.Proposed (refused ∷ kind ∷ []) after

@@ -35,7 +35,7 @@ use Rattle.pass_through.proofs.PassRows.{pass_answers_are_rows}
 use Rattle.eap_world.specs.Run.{run_of}
 use Rattle.eap_world.specs.Conversations.{Conversations}
 use Rattle.eap_world.specs.Sent.{Sent, packet_numbered}
-use Rattle.eap_world.specs.World.{Acted, Call, Parties, WorldNow, WorldOutcome, act, altered, call_at, call_with, called, called_unless, first_skip, has_none}
+use Rattle.eap_world.specs.World.{Acted, Call, Parties, WorldNow, WorldOutcome, act, alteration, call_at, call_with, act_of_call, called_unless, first_skip, has_none}
 use Rattle.eap_world.specs.World.{is_absent, next_call, octets_of, packet_skips, role_in, run_after, timer_skips, to_pass, to_peer, to_server, world_made, world_start, world_step}
 use Rattle.eap_world.specs.declared.conversations.Waiting.{Waiting}
 use Rattle.eap_world.specs.declared.told.Skip.{Skip}
@@ -146,7 +146,7 @@ pub record AreSet (setup : Setup) (p : Parties) : Type 0 where
   pub pass_max_retrans : p.pass.max_retrans ≡ setup.max_retrans
 
 module _ (setup : Setup) where
-  call-set : (p : Parties) (call : Call) → AreSet setup p → AreSet setup (called p call).after
+  call-set : (p : Parties) (call : Call) → AreSet setup p → AreSet setup (act_of_call p call).after
   call-set p (to_peer input) h = record {
     mode = h.mode;
     role = h.role;
@@ -237,7 +237,7 @@ module _ (peer : PeerNow) (server : ServerNow) (vars : PassVariables) where
   event-keeps all sent (event.Deliver n) = handed-keeps (packet_numbered sent n) false (octets_of (packet_numbered sent n))
   event-keeps all sent (event.Alter n place mask) =
       let packet = packet_numbered sent n in
-      handed-keeps packet (nat_le (length (octets_of packet)) place) (altered (octets_of packet) place mask)
+      handed-keeps packet (nat_le (length (octets_of packet)) place) (alteration (octets_of packet) place mask)
   event-keeps all sent (event.Cut n keep) =
       let packet = packet_numbered sent n in
       handed-keeps packet (nat_lt (length (octets_of packet)) keep) (take keep (octets_of packet))

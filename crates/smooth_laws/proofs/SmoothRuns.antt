@@ -23,7 +23,7 @@ use Rattle.tag_book.specs.declared.book.TagsVerdict.TheVariants.{Honest}
 use Rattle.eap_world.specs.Judgement.{is_success}
 use Rattle.eap_world.specs.World.{WorldNow, run_after, world_made, world_start}
 use Rattle.world_laws.proofs.HonestRuns.{honest_ends_agree}
-use Rattle.smooth_laws.specs.Smooth.{EndsFit, HasShortNames, IsLoggedIn, SmoothLoginsSucceed, bound, bound_in, deliveries, takes_first}
+use Rattle.smooth_laws.specs.Smooth.{EndsFit, HasShortNames, IsLoggedIn, SmoothLoginsSucceed, event_bound, bound_in, deliveries, takes_first}
 use Rattle.smooth_laws.proofs.Choosing.{few_kinds, few_suites, some_suites, found_passes, found_among, found_as_all, first_is_next, allowed_is_common}
 use Rattle.smooth_laws.proofs.Choosing.{common_is_next, some_picked}
 use Rattle.smooth_laws.proofs.Exchange.{exchanged, number_after}
@@ -166,7 +166,7 @@ module _ (setup : Setup) (whole : IsWhole setup) (names : HasShortNames setup) w
     logs_in_at runs [] none = absurd (none-some fit.kind (ap (λ (methods : List ℕ). find (is_among setup.peer.methods) methods) (sym none) ∙ fit.common))
     logs_in_at runs (first ∷ rest) order = logs_in_by runs first rest order (is_among setup.peer.methods first) refl
 
-    logs_in : SucceedsAt setup (bound setup)
+    logs_in : SucceedsAt setup (event_bound setup)
     logs_in = logs_in_at setup.mode setup.server.methods refl
 
 -- deliveries alone begin no second conversation
@@ -202,7 +202,7 @@ run_parted w first (suc count) more =
 
 pub smooth_logins_succeed : SmoothLoginsSucceed
 smooth_logins_succeed setup events whole names fit order enough =
-    let most : ℕ = bound setup in
+    let most : ℕ = event_bound setup in
     let succeeds : SucceedsAt setup most = logs_in setup whole names fit in
     let first : (count : ℕ) → count ≤ length events → take count events ≡ deliveries 1 count =
     λ count few. ap (λ (all : List Event). take count all) order ∙ take_deliveries 1 count (length events) few in

@@ -5,7 +5,7 @@ use Rattle.std.specs.Str.{bytes_eq}
 use Rattle.std.proofs.lemmas.Slice.Eq.{bytes_eq-Decides}
 use Rattle.std.proofs.lemmas.Bool.{and_parts, and_from, or_cases, or_left, or_right, eq-eqb}
 use Rattle.eap_method.specs.declared.tags.TagRecord.{TagRecord}
-use Rattle.tag_book.specs.Book.{entry, booked, same_tag, label_number, vouches, first_broken}
+use Rattle.tag_book.specs.Book.{entry, entries_of, same_tag, label_number, vouches, first_broken}
 use Rattle.tag_book.specs.declared.book.End.{End}
 use Rattle.tag_book.specs.declared.book.End.TheVariants.{Peer, Server}
 use Rattle.tag_book.specs.declared.book.Use.TheVariants.{Accepted, Made}
@@ -97,7 +97,7 @@ pub record StaysHonest (book : List Entry) (end : End) (made : List TagRecord) :
 
 pub stays_honest : (event : ℕ) (end : End) (book : List Entry) (accepted made : List TagRecord) → first_broken Other [] book ≡ None
     → are_vouched book end accepted ≡ true
-    → StaysHonest (book ++ booked event end (record { accepted = accepted; made = made })) end made
+    → StaysHonest (book ++ entries_of event end (record { accepted = accepted; made = made })) end made
 stays_honest event end book accepted made none h =
     let took : List Entry = map (entry event end Accepted) accepted in
     let gave : List Entry = map (entry event end Made) made in

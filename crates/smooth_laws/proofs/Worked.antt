@@ -12,7 +12,7 @@ use Rattle.login_setup.specs.declared.users.User.{User}
 use Rattle.eap_base.specs.Among.{is_kind}
 use Rattle.login_setup.specs.Setup.{fits_kind, no_later}
 use Rattle.world_laws.specs.Agreement.{IsWhole}
-use Rattle.smooth_laws.specs.Smooth.{EndsFit, HasShortNames, bound, common_kind, deliveries}
+use Rattle.smooth_laws.specs.Smooth.{EndsFit, HasShortNames, event_bound, common_kind, deliveries}
 
 user_of_kind : ℕ → List ℕ → User
 user_of_kind kind key = record { name = codes "alice"; kind = kind; psk = key; barred = false }
@@ -47,25 +47,25 @@ pub both : List ℕ
 both = 51 ∷ 47 ∷ []
 
 -- the first method that the server proposes is taken, by either method
-at_once : bound (example_setup Alone both both) ≡ 7
+at_once : event_bound (example_setup Alone both both) ≡ 7
 unfolding example_setup both
 at_once = refl
 
-by_psk : bound (example_setup Alone both (47 ∷ [])) ≡ 7
+by_psk : event_bound (example_setup Alone both (47 ∷ [])) ≡ 7
 unfolding example_setup both
 by_psk = refl
 
 -- it is refused by a Nak
-after_nak : bound (example_setup Alone (47 ∷ []) both) ≡ 9
+after_nak : event_bound (example_setup Alone (47 ∷ []) both) ≡ 9
 unfolding example_setup both
 after_nak = refl
 
 -- the same through the pass-through
-through : bound (example_setup Through both both) ≡ 13
+through : event_bound (example_setup Through both both) ≡ 13
 unfolding example_setup both
 through = refl
 
-through_after_nak : bound (example_setup Through (47 ∷ []) both) ≡ 17
+through_after_nak : event_bound (example_setup Through (47 ∷ []) both) ≡ 17
 unfolding example_setup both
 through_after_nak = refl
 

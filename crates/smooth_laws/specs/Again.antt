@@ -10,7 +10,7 @@ use Rattle.eap_world.specs.declared.verdict.Verdict.TheVariants.{Agree}
 use Rattle.eap_world.specs.Judgement.{is_success, verdict_of}
 use Rattle.eap_world.specs.Sent.{Sent}
 use Rattle.eap_world.specs.World.{WorldNow, run_after}
-use Rattle.smooth_laws.specs.Smooth.{EndsFit, HasShortNames, bound, deliveries}
+use Rattle.smooth_laws.specs.Smooth.{EndsFit, HasShortNames, event_bound, deliveries}
 
 -- the parties are as after the start of a run of these settings, whose nonces are those of the present
 -- conversations, and what was sent last asks for the identity; whatever else the world has
@@ -32,8 +32,8 @@ pub record IsLoggedInSince (since w : WorldNow) : Type 0 where
 
 -- the login has succeeded after the first `bound` deliveries, and not before; no further one changes that
 pub record SucceedsAgain (setup : Setup) (w : WorldNow) (events : List Event) : Type 0 where
-  pub not_before : is_success (run_after w (take (bound setup - 1) events)).parties.peer.vars.state ≡ false
-  pub in_time : IsLoggedInSince w (run_after w (take (bound setup) events))
+  pub not_before : is_success (run_after w (take (event_bound setup - 1) events)).parties.peer.vars.state ≡ false
+  pub in_time : IsLoggedInSince w (run_after w (take (event_bound setup) events))
   pub stays : IsLoggedInSince w (run_after w events)
 
 -- the last packet, and those sent after it, are delivered, each once and in order
@@ -44,4 +44,4 @@ AreNextInOrder w events = events ≡ deliveries (length w.sent) (length events)
 abbrev pub SmoothLoginsSucceedAgain : Type 0
 SmoothLoginsSucceedAgain =
     (setup : Setup) (w : WorldNow) (events : List Event) → IsWhole setup → HasShortNames setup → EndsFit setup → HasJustBegun setup w →
-    AreNextInOrder w events → bound setup ≤ length events → SucceedsAgain setup w events
+    AreNextInOrder w events → event_bound setup ≤ length events → SucceedsAgain setup w events

@@ -17,7 +17,7 @@ use Rattle.eap_world.specs.declared.conversations.Waiting.{Waiting}
 use Rattle.peer_machine.specs.PeerTable as peers
 use Rattle.server_machine.specs.ServerTable as servers
 use Rattle.smooth_laws.specs.Again.{AreNextInOrder, HasJustBegun, SucceedsAgain}
-use Rattle.smooth_laws.specs.Smooth.{AreInOrder, EndsFit, HasShortNames, IsLoggedIn, bound}
+use Rattle.smooth_laws.specs.Smooth.{AreInOrder, EndsFit, HasShortNames, IsLoggedIn, event_bound}
 
 -- the settings with these nonces
 abbrev pub with_nonces : Setup → List ℕ → List ℕ → Setup
@@ -66,17 +66,17 @@ abbrev pub LoginsAfterRestartsSucceed : Type 0
 LoginsAfterRestartsSucceed =
     (setup : Setup) (events restarts smooth : List Event) → IsWhole setup → HasShortNames setup → EndsFit setup →
     HaveNext setup events → BeginAnew setup.mode restarts →
-    AreNextInOrder (run_after (run_of setup events) restarts) smooth → bound setup ≤ length smooth →
+    AreNextInOrder (run_after (run_of setup events) restarts) smooth → event_bound setup ≤ length smooth →
     SucceedsAgain setup (run_after (run_of setup events) restarts) smooth
 
 -- smooth logins one after the other: the first, and behind each the restarts of all parties and the next; and whether each of them
 -- had fresh nonces
 pub data AreLogins (setup : Setup) : Bool → List Event → Type 0 where
-  first_login : (smooth : List Event) (in_order : AreInOrder smooth) (enough : bound setup ≤ length smooth)
+  first_login : (smooth : List Event) (in_order : AreInOrder smooth) (enough : event_bound setup ≤ length smooth)
       → AreLogins setup (not (bytes_eq (front setup.peer.nonce) (front setup.server.nonce))) smooth
   next_login : (fresh : Bool) (events restarts smooth : List Event) (before : AreLogins setup fresh events) (next : HaveNext setup events)
       (anew : BeginAnew setup.mode restarts) (in_order : AreNextInOrder (run_after (run_of setup events) restarts) smooth)
-      (enough : bound setup ≤ length smooth)
+      (enough : event_bound setup ≤ length smooth)
       → AreLogins setup (fresh && are_new (run_of setup events).conversations.begun next.peer next.server) (events ++ (restarts ++ smooth))
 
 -- both ends are in SUCCESS in their present conversations and agree; no delivery was ever discarded, all tags are

@@ -69,8 +69,8 @@ bound_in Alone false = 9
 bound_in Through true = 13
 bound_in Through false = 17
 
-abbrev pub bound : Setup → ℕ
-bound setup = bound_in setup.mode (takes_first setup.peer.methods setup.server.methods)
+abbrev pub event_bound : Setup → ℕ
+event_bound setup = bound_in setup.mode (takes_first setup.peer.methods setup.server.methods)
 
 -- both ends have succeeded: no delivery was discarded, each accepted tag was made earlier by the other end, and
 -- the ends agree
@@ -83,12 +83,12 @@ pub record IsLoggedIn (w : WorldNow) : Type 0 where
 
 -- the login has succeeded after the first `bound` deliveries, and not before; no further one changes that
 pub record SucceedsInTime (setup : Setup) (events : List Event) : Type 0 where
-  pub not_before : is_success (run_of setup (take (bound setup - 1) events)).parties.peer.vars.state ≡ false
-  pub in_time : IsLoggedIn (run_of setup (take (bound setup) events))
+  pub not_before : is_success (run_of setup (take (event_bound setup - 1) events)).parties.peer.vars.state ≡ false
+  pub in_time : IsLoggedIn (run_of setup (take (event_bound setup) events))
   pub stays : IsLoggedIn (run_of setup events)
 
 -- a smooth login of at least `bound` deliveries succeeds
 abbrev pub SmoothLoginsSucceed : Type 0
 SmoothLoginsSucceed =
     (setup : Setup) (events : List Event) → IsWhole setup → HasShortNames setup → EndsFit setup → AreInOrder events →
-    bound setup ≤ length events → SucceedsInTime setup events
+    event_bound setup ≤ length events → SucceedsInTime setup events

@@ -21,8 +21,8 @@ abbrev pub entry : ℕ → End → Use → TagRecord → Entry
 entry event end how tag = record { event = event; end = end; used = how; tag = tag }
 
 -- the entries of an event: the accepted tags before those made
-abbrev pub booked : ℕ → End → Tags → List Entry
-booked event end tags = map (entry event end Accepted) tags.accepted ++ map (entry event end Made) tags.made
+abbrev pub entries_of : ℕ → End → Tags → List Entry
+entries_of event end tags = map (entry event end Accepted) tags.accepted ++ map (entry event end Made) tags.made
 
 -- whether two ends, two labels, two records are the same
 abbrev pub same_end : End → End → Bool

@@ -2,7 +2,7 @@
 
 ghost use Rattle.std.specs.Prelude.{◌≡◌, ◌≤◌, ◌+◌, ◌++◌, ◌∷◌, [], map, vec_len, vec_capacity};
 ghost use Rattle.std.specs.List.{list_any};
-ghost use Rattle.tag_book.specs.Book.{entry, booked, first_broken, verdict_on, is_honest, may_make, vouches, same_tag};
+ghost use Rattle.tag_book.specs.Book.{entry, entries_of, first_broken, verdict_on, is_honest, may_make, vouches, same_tag};
 
 use eap_method::{TagList, TagRecord, Tags};
 
@@ -54,7 +54,7 @@ pub enum TagsVerdict {
 /// Writes the tags of an event into the book, the accepted ones before those made. There is room.
 pub fn book_tags(book: &mut Vec<Entry>, event: u32, end: End, tags: &Tags)
     requires { vec_len book.old + 4 ≤ vec_capacity book.old }
-    ensures items { book.new.items ≡ book.old.items ++ booked event end tags.now }
+    ensures items { book.new.items ≡ book.old.items ++ entries_of event end tags.now }
     ensures few { vec_len book.new ≤ vec_len book.old + 4 }
 {
     book_each(book, event, end, Use::Accepted, &tags.accepted);

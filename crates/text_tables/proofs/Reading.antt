@@ -3,7 +3,7 @@ use Rattle.std.proofs.Common.{◌≡◌, ℕ, Bool, true, false, cond, not, ◌|
 use Rattle.std.proofs.lemmas.Bool.{cases_Bool, or_parts, not-false}
 use Rattle.text_tables.specs.Phases.{may_stand}
 use Rattle.text_tables.specs.Rows.{Row, faults, unless, first_word, line_has}
-use Rattle.text_tables.specs.Texts.{AreJudged, ReadLine, Table, body_has, entry_in, has_at, place_has, read_at, read_begin, read_body, read_line, read_words, said, says_at, take, word_of}
+use Rattle.text_tables.specs.Texts.{AreJudged, ReadLine, Table, body_has, entry_in, has_at, place_has, read_at, read_begin, read_body, read_line, read_words, line_of, says_at, take, word_of}
 use Rattle.text_tables.specs.Words.{words, is_passed_over}
 use Rattle.text_tables.specs.declared.fault.LineFault.{LineFault}
 use Rattle.text_tables.specs.declared.fault.LineFault.TheVariants as fault
@@ -22,13 +22,13 @@ stands-or before missing false = refl
 module _ {K E S I : Type 0} (row : K → Row) (t : Table K E S I) where
   -- the header of a text, or none
   header-judged : (s : S) (begun : Option S) → read_begin row t begun
-      ≡ unless (cond (not (is_some begun)) (Some fault.NoHeader) None) (said t.nothing (unwrap_or begun s))
+      ≡ unless (cond (not (is_some begun)) (Some fault.NoHeader) None) (line_of t.nothing (unwrap_or begun s))
   header-judged s None = refl
   header-judged s (Some after) = refl
 
   module _ (s : S) (line : List ℕ) where
     -- a line that is passed over
-    pub read_body_passed : is_passed_over line ≡ true → read_body row t s line ≡ Ok (said t.nothing s)
+    pub read_body_passed : is_passed_over line ≡ true → read_body row t s line ≡ Ok (line_of t.nothing s)
     unfolding read_body
     read_body_passed e = rw e refl
 
@@ -48,7 +48,7 @@ module _ {K E S I : Type 0} (row : K → Row) (t : Table K E S I) where
         let told = t.entry k (words line) in
         let same : k ≡ word_of row t s line = sym (ap (λ found. unwrap_or found t.none) (b.found)) in
         subst
-        (λ w. cond (is_passed_over line) (Ok (said t.nothing s))
+        (λ w. cond (is_passed_over line) (Ok (line_of t.nothing s))
         (unless (find (λ f. line_has row (t.keywords s) line f || place_has row t s w (t.entry w (words line)) f) faults) (t.taken s (t.entry w (words line))))
         ≡ read_words row t s k (words line))
         same
@@ -59,7 +59,7 @@ module _ {K E S I : Type 0} (row : K → Row) (t : Table K E S I) where
     at-judged : (p : Phase) → read_at row t p s line ≡ unless (find (has_at row t p s line) faults) (says_at row t p s line)
     unfolding read_body
     at-judged phase.Unread = header-judged s (t.begun s line)
-    at-judged other = body-judged (is_passed_over line) (body_has row t s line) (said t.nothing s) (t.taken s (entry_in row t s line))
+    at-judged other = body-judged (is_passed_over line) (body_has row t s line) (line_of t.nothing s) (t.taken s (entry_in row t s line))
 
     -- nothing keeps a line from standing where it does
     pub record MayStand : Type 0 where
@@ -70,7 +70,7 @@ module _ {K E S I : Type 0} (row : K → Row) (t : Table K E S I) where
 
     -- a line after the first that is read is passed over, or has no fault and is taken
     pub data Stepped : ReadLine I S → Type 0 where
-      Passed : is_passed_over line ≡ true → Stepped (said t.nothing s)
+      Passed : is_passed_over line ≡ true → Stepped (line_of t.nothing s)
       Entered : is_passed_over line ≡ false → ((f : LineFault) → line_has row (t.keywords s) line f ≡ false) → MayStand
           → Stepped (t.taken s (entry_in row t s line))
 
@@ -94,8 +94,8 @@ module _ {K E S I : Type 0} (row : K → Row) (t : Table K E S I) where
     stepped out e =
         elim (cases_Bool (is_passed_over line)) [
           | inl k ↦
-              let over : Ok (said t.nothing s) ≡ Ok out = rw k at e in
-              let is : said t.nothing s ≡ out = cc in
+              let over : Ok (line_of t.nothing s) ≡ Ok out = rw k at e in
+              let is : line_of t.nothing s ≡ out = cc in
               subst Stepped is (Passed k)
           | inr k ↦
               let u = unless-ok (find (body_has row t s line) faults) (t.taken s (entry_in row t s line)) out (rw k at e) in

@@ -16,8 +16,8 @@ pub record ReadLine (I S : Type 0) : Type 0 where
   pub item : I
   pub after : S
 
-abbrev pub said : {I S : Type 0} → I → S → ReadLine I S
-said item after = record { item = item; after = after }
+abbrev pub line_of : {I S : Type 0} → I → S → ReadLine I S
+line_of item after = record { item = item; after = after }
 
 -- a text with these keywords and entries, of which so much is kept, and whose lines say so much
 pub record Table (K E S I : Type 0) : Type 0 where
@@ -65,7 +65,7 @@ module _ {K E S I : Type 0} (row : K → Row) (t : Table K E S I) where
   -- a line after the first
   unfoldable pub read_body : S → List ℕ → Result (ReadLine I S) LineFault
   read_body s line =
-      if is_passed_over line then Ok (said t.nothing s)
+      if is_passed_over line then Ok (line_of t.nothing s)
       else unless (find (body_has s line) faults) (t.taken s (entry_in s line))
 
   -- the same step by step: the keyword, its words, its place
@@ -87,7 +87,7 @@ module _ {K E S I : Type 0} (row : K → Row) (t : Table K E S I) where
   -- the first line
   abbrev pub read_begin : Option S → Result (ReadLine I S) LineFault
   read_begin None = Err fault.NoHeader
-  read_begin (Some after) = Ok (said t.nothing after)
+  read_begin (Some after) = Ok (line_of t.nothing after)
 
   abbrev pub read_at : Phase → S → List ℕ → Result (ReadLine I S) LineFault
   read_at phase.Unread s line = read_begin (t.begun s line)
@@ -107,17 +107,17 @@ module _ {K E S I : Type 0} (row : K → Row) (t : Table K E S I) where
   has_at p s line f = not (is_passed_over line) && body_has s line f
 
   abbrev pub says_at : Phase → S → List ℕ → ReadLine I S
-  says_at phase.Unread s line = said t.nothing (unwrap_or (t.begun s line) s)
-  says_at p s line = if is_passed_over line then said t.nothing s else t.taken s (entry_in s line)
+  says_at phase.Unread s line = line_of t.nothing (unwrap_or (t.begun s line) s)
+  says_at p s line = if is_passed_over line then line_of t.nothing s else t.taken s (entry_in s line)
 
   -- each line is judged
   abbrev pub AreJudged : Type 0
   AreJudged = (s : S) (line : List ℕ) → Judges (read_line s line) (has_at (t.phase s) s line) (says_at (t.phase s) s line)
 
 -- the answer of a reader, with what was written and what it keeps after, as what a line says and adds
-abbrev pub answered : {A O S I : Type 0} → (A → S → O → I) → Result A LineFault → S → O → Result (ReadLine I S) LineFault
-answered says (Ok item) after out = Ok (said (says item after out) after)
-answered says (Err f) after out = Err f
+abbrev pub line_result : {A O S I : Type 0} → (A → S → O → I) → Result A LineFault → S → O → Result (ReadLine I S) LineFault
+line_result says (Ok item) after out = Ok (line_of (says item after out) after)
+line_result says (Err f) after out = Err f
 
 -- what a call that reads line 1 keeps
 abbrev pub begun_by : {S : Type 0} → Bool → S → Option S

@@ -4,7 +4,7 @@
 ghost use Rattle.std.specs.Prelude.{◌≡◌, IfOk, OnErr};
 ghost use Rattle.text_tables.specs.Words.{words};
 ghost use Rattle.text_tables.specs.Texts as texts;
-ghost use Rattle.text_tables.specs.Texts.{answered, place_fault, read_begin, read_words};
+ghost use Rattle.text_tables.specs.Texts.{line_result, place_fault, read_begin, read_words};
 
 use crate::fault::LineFault;
 use crate::phase::{Part, Phase};
@@ -16,7 +16,7 @@ pub trait Text: Drop {
     ghost use Rattle.std.specs.Prelude.{false};
     ghost use Rattle.text_tables.specs.Words.{words};
     ghost use Rattle.text_tables.specs.Fits.{Fits};
-    ghost use Rattle.text_tables.specs.Texts.{Table, begun_by, said};
+    ghost use Rattle.text_tables.specs.Texts.{Table, begun_by, line_of};
 
     /// The first word of a line.
     type Word: TableWord;
@@ -90,7 +90,7 @@ pub trait Text: Drop {
     fn add(&mut self, entry: Self::Entry) -> Self::Item
         requires valid { is_valid entry }
         requires none_missing { (event : Self.Event) → table.is_missing self.old (whole entry event) ≡ false }
-        ensures taken { (event : Self.Event) → table.taken self.old (whole entry event) ≡ said (says result self.new event) self.new }
+        ensures taken { (event : Self.Event) → table.taken self.old (whole entry event) ≡ line_of (says result self.new event) self.new }
         ensures so { is_so result self.new };
 
     /// What the header says, and a line that is ignored.
@@ -107,7 +107,7 @@ pub fn read_line<T: Text>(
     line: &[u8],
     event: &mut T::Event,
 ) -> Result<T::Item, LineFault>
-    ensures read { texts.read_line T.Word.row_of T.table text.old line.now ≡ answered T.says result text.new event.new }
+    ensures read { texts.read_line T.Word.row_of T.table text.old line.now ≡ line_result T.says result text.new event.new }
     ensures so { IfOk result (λ item. T.is_so item text.new) }
     ensures unchanged { OnErr result (text.new ≡ text.old) }
 {
@@ -120,7 +120,7 @@ pub fn read_line<T: Text>(
 /// Reads line 1.
 fn read_header<T: Text>(text: &mut T, line: &[u8]) -> Result<T::Item, LineFault>
     ensures read { (event : T.Event) → read_begin T.Word.row_of T.table (T.table.begun text.old line.now)
-        ≡ answered T.says result text.new event }
+        ≡ line_result T.says result text.new event }
     ensures so { IfOk result (λ item. T.is_so item text.new) }
     ensures unchanged { OnErr result (text.new ≡ text.old) }
 {
@@ -133,7 +133,7 @@ fn read_header<T: Text>(text: &mut T, line: &[u8]) -> Result<T::Item, LineFault>
 
 /// Reads a line after the first.
 fn read_body<T: Text>(text: &mut T, line: &[u8], event: &mut T::Event) -> Result<T::Item, LineFault>
-    ensures read { texts.read_body T.Word.row_of T.table text.old line.now ≡ answered T.says result text.new event.new }
+    ensures read { texts.read_body T.Word.row_of T.table text.old line.now ≡ line_result T.says result text.new event.new }
     ensures so { IfOk result (λ item. T.is_so item text.new) }
     ensures unchanged { OnErr result (text.new ≡ text.old) }
 {
@@ -153,7 +153,7 @@ fn read_words<T: Text>(
     line: &[u8],
     event: &mut T::Event,
 ) -> Result<T::Item, LineFault>
-    ensures read { read_words T.Word.row_of T.table text.old word (words line.now) ≡ answered T.says result text.new event.new }
+    ensures read { read_words T.Word.row_of T.table text.old word (words line.now) ≡ line_result T.says result text.new event.new }
     ensures so { IfOk result (λ item. T.is_so item text.new) }
     ensures unchanged { OnErr result (text.new ≡ text.old) }
 {
@@ -175,7 +175,7 @@ fn read_words<T: Text>(
 fn take<T: Text>(text: &mut T, entry: T::Entry) -> Result<T::Item, LineFault>
     requires { T.is_valid entry }
     ensures read { (event : T.Event) → texts.take T.Word.row_of T.table text.old (T.whole entry event)
-        ≡ answered T.says result text.new event }
+        ≡ line_result T.says result text.new event }
     ensures so { IfOk result (λ item. T.is_so item text.new) }
     ensures unchanged { OnErr result (text.new ≡ text.old) }
 {

@@ -32,8 +32,8 @@ unknown_user code = failing 1 code
 abbrev pub barred_user : ℕ → TuvFailure
 barred_user code = failing 2 code
 
-abbrev pub refused : ℕ → TuvFailure
-refused code = failing 3 code
+abbrev pub refusal : ℕ → TuvFailure
+refusal code = failing 3 code
 
 abbrev pub no_method : TuvFailure
 no_method = failing 4 0
@@ -41,8 +41,8 @@ no_method = failing 4 0
 abbrev pub timed_out : TuvFailure
 timed_out = failing 5 0
 
-abbrev pub ended : TuvFailure
-ended = failing 6 0
+abbrev pub other_end : TuvFailure
+other_end = failing 6 0
 
 -- a Failure-Code of the standard; 0 for any other
 abbrev pub known_code : ℕ → ℕ
@@ -65,12 +65,12 @@ sent_code octets = code_in (plain_packet_of octets)
 -- a peer: the server has refused it within the method; else this
 abbrev pub peer_failure : Option PeerShown → List ℕ → TuvFailure → TuvFailure
 peer_failure None sent other = other
-peer_failure (Some shown) sent other = if peer_has_failed shown then refused (sent_code sent) else other
+peer_failure (Some shown) sent other = if peer_has_failed shown then refusal (sent_code sent) else other
 
 -- a peer in FAILURE, without a method or with one
 abbrev pub with_method : Option PeerShown → TuvFailure
 with_method None = no_method
-with_method (Some shown) = ended
+with_method (Some shown) = other_end
 
 abbrev pub peer_ended : State → Option PeerShown → TuvFailure
 peer_ended s selected = elim s [ state.Failure ↦ with_method selected | _ ↦ not_failed ]
@@ -94,7 +94,7 @@ abbrev pub server_ended : State → TuvFailure
 server_ended s = elim s [ state.TimeoutFailure ↦ timed_out | state.Failure ↦ no_method | _ ↦ not_failed ]
 
 abbrev pub pass_ended : State → TuvFailure
-pass_ended s = elim s [ state.TimeoutFailure ↦ timed_out | state.TimeoutFailure2 ↦ timed_out | state.Failure2 ↦ ended | _ ↦ not_failed ]
+pass_ended s = elim s [ state.TimeoutFailure ↦ timed_out | state.TimeoutFailure2 ↦ timed_out | state.Failure2 ↦ other_end | _ ↦ not_failed ]
 
 -- why the login of an end, which has sent this packet last, has failed
 abbrev pub end_failure : End → List ℕ → TuvFailure

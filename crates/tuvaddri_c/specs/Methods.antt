@@ -36,7 +36,7 @@ use Rattle.tuvaddri_c.specs.declared.session.End.{End}
 use Rattle.tuvaddri_c.specs.declared.session.Known.{Known}
 use Rattle.tuvaddri_c.specs.declared.session.Sent.{Sent}
 use Rattle.tuvaddri_c.specs.declared.session.Session.{Session}
-use Rattle.tuvaddri_c.specs.Sent.{after_turn, untouched}
+use Rattle.tuvaddri_c.specs.Sent.{after_turn, session_after_silence}
 use Rattle.tuvaddri_c.specs.declared.session.End.TheVariants as ends
 
 -- if the session has a peer's method, this holds of it and its key
@@ -87,12 +87,12 @@ method_done d = record { sends = false; discards = false; misplaced = false; cau
 -- a call that has no place says so, and changes nothing
 pub record IsMisplaced (before : Session) (turn : TuvMethodTurn) (after : Session) : Type 0 where
   pub turn_is : turn ≡ no_method_turn
-  pub same : after ≡ untouched before
+  pub same : after ≡ session_after_silence before
 
 -- what came is discarded, and changes nothing
 pub record IsDiscarded (c : Cause) (before : Session) (turn : TuvMethodTurn) (after : Session) : Type 0 where
   pub turn_is : turn ≡ discarding c
-  pub same : after ≡ untouched before
+  pub same : after ≡ session_after_silence before
 
 -- the result of a peer's turn
 abbrev pub peer_told : PeerTurn → TuvMethodTurn
@@ -139,20 +139,20 @@ pub record ServerTurns (out : ServerOutcome ServerShown) (before : Sent) (turn :
   pub object : out.after ≡ server_object_shown after
 
 -- the octets of the Request of this Type with which octets begin, or why they are discarded
-abbrev pub requested : ℕ → Result PacketValue Cause → Result (List ℕ) Cause
-requested kind (Err c) = Err c
-requested kind (Ok (request id other body)) = if other == kind then Ok (spelled (request id other body)) else Err cause.OtherMethod
-requested kind (Ok (response id other body)) = Err cause.WrongRole
-requested kind (Ok (success id)) = Err cause.WrongRole
-requested kind (Ok (failure id)) = Err cause.WrongRole
+abbrev pub request_in : ℕ → Result PacketValue Cause → Result (List ℕ) Cause
+request_in kind (Err c) = Err c
+request_in kind (Ok (request id other body)) = if other == kind then Ok (spelled (request id other body)) else Err cause.OtherMethod
+request_in kind (Ok (response id other body)) = Err cause.WrongRole
+request_in kind (Ok (success id)) = Err cause.WrongRole
+request_in kind (Ok (failure id)) = Err cause.WrongRole
 
 -- the octets of the Response of this Type with which octets begin, or why they are discarded
-abbrev pub responded : ℕ → Result PacketValue Cause → Result (List ℕ) Cause
-responded kind (Err c) = Err c
-responded kind (Ok (request id other body)) = Err cause.WrongRole
-responded kind (Ok (response id other body)) = if other == kind then Ok (spelled (response id other body)) else Err cause.WrongMethod
-responded kind (Ok (success id)) = Err cause.WrongRole
-responded kind (Ok (failure id)) = Err cause.WrongRole
+abbrev pub response_in : ℕ → Result PacketValue Cause → Result (List ℕ) Cause
+response_in kind (Err c) = Err c
+response_in kind (Ok (request id other body)) = Err cause.WrongRole
+response_in kind (Ok (response id other body)) = if other == kind then Ok (spelled (response id other body)) else Err cause.WrongMethod
+response_in kind (Ok (success id)) = Err cause.WrongRole
+response_in kind (Ok (failure id)) = Err cause.WrongRole
 
 -- whether the session has a peer's method; a server's method
 abbrev pub is_peer_method : End → Bool

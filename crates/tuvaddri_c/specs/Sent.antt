@@ -9,12 +9,12 @@ abbrev pub none_sent : Sent
 none_sent = record { packet = []; fresh = false }
 
 -- a turn that sends nothing leaves the packet that was sent last
-abbrev pub rested : Sent → Sent
-rested before = record before { fresh = false }
+abbrev pub after_silence : Sent → Sent
+after_silence before = record before { fresh = false }
 
 -- after a turn that sends this, or nothing
 abbrev pub after_turn : Option (List ℕ) → Sent → Sent
-after_turn None before = rested before
+after_turn None before = after_silence before
 after_turn (Some octets) before = record { packet = octets; fresh = true }
 
 -- the packet of the last turn; no octets if it sent none
@@ -22,9 +22,9 @@ abbrev pub turn_packet : Sent → List ℕ
 turn_packet sent = if sent.fresh then sent.packet else []
 
 -- a session without an end
-abbrev pub closed : Session
-closed = record { end = Closed; sent = none_sent }
+abbrev pub no_end : Session
+no_end = record { end = Closed; sent = none_sent }
 
 -- the session after a call that changes nothing, and sends nothing
-abbrev pub untouched : Session → Session
-untouched before = record before { sent = rested before.sent }
+abbrev pub session_after_silence : Session → Session
+session_after_silence before = record before { sent = after_silence before.sent }

@@ -19,7 +19,7 @@ use Rattle.end_objects.specs.declared.objects.ServerObject.{ServerObject}
 use Rattle.tuvaddri_c.specs.declared.session.Sent.{Sent}
 use Rattle.tuvaddri_c.specs.declared.session.Session.{Session}
 use Rattle.tuvaddri_c.specs.declared.turn.TuvTurn.{TuvTurn}
-use Rattle.tuvaddri_c.specs.Sent.{after_turn, untouched}
+use Rattle.tuvaddri_c.specs.Sent.{after_turn, session_after_silence}
 
 -- the number of a cause, in the order of its declaration
 unfoldable pub cause_number : Cause → ℕ
@@ -106,7 +106,7 @@ no_turn = record { sends = false; discards = false; misplaced = true; cause = 0;
 -- a call that has no place says so, and changes nothing
 pub record IsMisplaced (before : Session) (turn : TuvTurn) (after : Session) : Type 0 where
   pub turn_is : turn ≡ no_turn
-  pub same : after ≡ untouched before
+  pub same : after ≡ session_after_silence before
 
 -- the result of a step, as the machine says it
 abbrev pub turn_of : brief.Step → State → TuvTurn
@@ -114,25 +114,25 @@ turn_of step s =
     record { sends = step.sends; discards = is_some step.cause; misplaced = false; cause = number_of_cause step.cause; state = state_number s }
 
 -- the result of a step of a table
-abbrev pub told : Step → State → TuvTurn
-told step s =
+abbrev pub turn_of_table : Step → State → TuvTurn
+turn_of_table step s =
     record { sends = is_some step.sent; discards = is_some step.cause; misplaced = false; cause = number_of_cause step.cause; state = state_number s }
 
 -- the call answers what the peer's table says, sends the packet that it says, and leaves the machine after it
 pub record PeerDoes (row : PeerAnswer) (before : Sent) (turn : TuvTurn) (sent : Sent) (after : PeerValue PeerObject) : Type 0 where
-  pub turn_is : turn ≡ told row.step row.after.vars.state
+  pub turn_is : turn ≡ turn_of_table row.step row.after.vars.state
   pub sent_is : sent ≡ after_turn row.step.sent before
   pub machine : row.after ≡ peer.now_of peer_object_shown after
 
 -- the same of a server's
 pub record ServerDoes (row : ServerAnswer) (before : Sent) (turn : TuvTurn) (sent : Sent) (after : ServerValue ServerObject) : Type 0 where
-  pub turn_is : turn ≡ told row.step row.after.vars.state
+  pub turn_is : turn ≡ turn_of_table row.step row.after.vars.state
   pub sent_is : sent ≡ after_turn row.step.sent before
   pub machine : row.after ≡ server.now_of server_object_shown after
 
 -- the result of a step of the pass-through, whichever side it sends to
 abbrev pub pass_told : PassStep → State → TuvTurn
-pass_told step s = told (record { path = step.path; cause = step.cause; sent = step.sent; tags = no_tags }) s
+pass_told step s = turn_of_table (record { path = step.path; cause = step.cause; sent = step.sent; tags = no_tags }) s
 
 -- the same of a pass-through's
 pub record PassDoes (row : PassAnswer) (before : Sent) (turn : TuvTurn) (sent : Sent) (after : PassVariables) : Type 0 where

@@ -3,7 +3,7 @@
 ghost use Rattle.std.specs.Prelude.{◌≡◌, IsTrue};
 ghost use Rattle.tuvaddri_c.specs.declared.session.Session.{Session};
 ghost use Rattle.tuvaddri_c.specs.Rooms.{IsCopied};
-ghost use Rattle.tuvaddri_c.specs.Sent.{closed, turn_packet};
+ghost use Rattle.tuvaddri_c.specs.Sent.{no_end, turn_packet};
 
 use crate::session::{End, Sent, Session};
 use std::alloc::Global;
@@ -76,7 +76,7 @@ pub extern "C" fn tuv_end_size() -> usize {
 /// Drops the end and what it has, and its last packet. A handle that is closed stays so.
 #[unsafe(no_mangle)]
 pub extern "C" fn tuv_end_close(end: &mut TuvEnd)
-    ensures { end.new.value ≡ closed }
+    ensures { end.new.value ≡ no_end }
 {
     let session = end.session();
     session.end = End::Closed;

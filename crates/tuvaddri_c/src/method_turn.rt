@@ -1,7 +1,7 @@
 //! The result of a call of a method alone, as numbers.
 
 ghost use Rattle.std.specs.Prelude.{◌≡◌};
-ghost use Rattle.tuvaddri_c.specs.Sent.{rested};
+ghost use Rattle.tuvaddri_c.specs.Sent.{after_silence};
 ghost use Rattle.tuvaddri_c.specs.Methods.{no_method_turn, discarding, method_done, peer_brief, server_brief, method_number, decision_number};
 
 use crate::session::Sent;
@@ -31,7 +31,7 @@ impl TuvMethodTurn {
     /// A call that has no place; it sends nothing.
     pub fn none(sent: &mut Sent) -> TuvMethodTurn
         ensures turn { result ≡ no_method_turn }
-        ensures sent { sent.new ≡ rested sent.old }
+        ensures sent { sent.new ≡ after_silence sent.old }
     {
         sent.rest();
         TuvMethodTurn {
@@ -47,7 +47,7 @@ impl TuvMethodTurn {
     /// What came is discarded, and nothing is sent.
     pub fn discard(cause: Cause, sent: &mut Sent) -> TuvMethodTurn
         ensures turn { result ≡ discarding cause }
-        ensures sent { sent.new ≡ rested sent.old }
+        ensures sent { sent.new ≡ after_silence sent.old }
     {
         sent.rest();
         TuvMethodTurn::discarding(cause)

@@ -11,7 +11,7 @@ ghost use Rattle.end_objects.specs.Settings.{settings_of, first_kind, users_of, 
 ghost use Rattle.tuvaddri_c.specs.Answers.{begun, refusal_number};
 ghost use Rattle.tuvaddri_c.specs.Sent.{none_sent};
 ghost use Rattle.tuvaddri_c.specs.declared.session.End.TheVariants as ends;
-ghost use Rattle.tuvaddri_c.specs.Methods.{IfPeerMethod, AsPeerMethod, IfServerMethod, AsServerMethod, PeerTurns, ServerTurns, requested, responded, peer_fresh, server_fresh, is_peer_method, is_server_method, IsMisplaced, IsDiscarded};
+ghost use Rattle.tuvaddri_c.specs.Methods.{IfPeerMethod, AsPeerMethod, IfServerMethod, AsServerMethod, PeerTurns, ServerTurns, request_in, response_in, peer_fresh, server_fresh, is_peer_method, is_server_method, IsMisplaced, IsDiscarded};
 
 use crate::answers::{BEGUN, number_of_refusal};
 use crate::handle::TuvEnd;
@@ -62,8 +62,8 @@ pub extern "C" fn tuv_peer_method_begin(end: &mut TuvEnd, settings: &Settings, n
 /// The Request of this Type with which the octets begin.
 #[tactic(auto, using(peer_machine::proofs::Requests::is_request))]
 fn request_of<'a>(octets: &'a [u8], kind: u8) -> Result<&'a [u8], Cause>
-    ensures found { IfOk result (λ whole. requested kind (packet_of octets.now) ≡ Ok whole.now) }
-    ensures none { IfErr result (λ cause. requested kind (packet_of octets.now) ≡ Err cause) }
+    ensures found { IfOk result (λ whole. request_in kind (packet_of octets.now) ≡ Ok whole.now) }
+    ensures none { IfErr result (λ cause. request_in kind (packet_of octets.now) ≡ Err cause) }
     ensures request { IfOk result (λ whole. IsRequest kind whole.now) }
 {
     match decode(octets) {
@@ -86,10 +86,10 @@ fn request_of<'a>(octets: &'a [u8], kind: u8) -> Result<&'a [u8], Cause>
 #[unsafe(no_mangle)]
 #[tactic(auto, using(crate::proofs::Does::peer_turns))]
 pub extern "C" fn tuv_peer_method_handle(end: &mut TuvEnd, octets: &[u8]) -> TuvMethodTurn
-    ensures turn { IfPeerMethod end.old.value.end (λ o key. IfOk (requested (peer_kind (peer_object_shown o)) (packet_of octets.now)) (λ whole.
+    ensures turn { IfPeerMethod end.old.value.end (λ o key. IfOk (request_in (peer_kind (peer_object_shown o)) (packet_of octets.now)) (λ whole.
         AsPeerMethod end.new.value.end (λ n after. (after ≡ key)
         × PeerTurns (peer_step (peer_object_shown o) whole) end.old.value.sent result end.new.value.sent n))) }
-    ensures discarded { IfPeerMethod end.old.value.end (λ o key. IfErr (requested (peer_kind (peer_object_shown o)) (packet_of octets.now)) (λ cause.
+    ensures discarded { IfPeerMethod end.old.value.end (λ o key. IfErr (request_in (peer_kind (peer_object_shown o)) (packet_of octets.now)) (λ cause.
         IsDiscarded cause end.old.value result end.new.value)) }
     ensures misplaced { is_peer_method end.old.value.end ≡ false → IsMisplaced end.old.value result end.new.value }
 {
@@ -153,8 +153,8 @@ pub extern "C" fn tuv_server_method_begin(
 /// The Response of this Type with which the octets begin.
 #[tactic(auto, using(server_machine::proofs::Responses::is_response))]
 fn response_of<'a>(octets: &'a [u8], kind: u8) -> Result<&'a [u8], Cause>
-    ensures found { IfOk result (λ whole. responded kind (packet_of octets.now) ≡ Ok whole.now) }
-    ensures none { IfErr result (λ cause. responded kind (packet_of octets.now) ≡ Err cause) }
+    ensures found { IfOk result (λ whole. response_in kind (packet_of octets.now) ≡ Ok whole.now) }
+    ensures none { IfErr result (λ cause. response_in kind (packet_of octets.now) ≡ Err cause) }
     ensures response { IfOk result (λ whole. IsResponse kind whole.now) }
 {
     match decode(octets) {
@@ -181,10 +181,10 @@ pub extern "C" fn tuv_server_method_handle(
     octets: &[u8],
     next_id: u8,
 ) -> TuvMethodTurn
-    ensures turn { IfServerMethod end.old.value.end (λ o known. IfOk (responded (server_kind (server_object_shown o)) (packet_of octets.now)) (λ whole.
+    ensures turn { IfServerMethod end.old.value.end (λ o known. IfOk (response_in (server_kind (server_object_shown o)) (packet_of octets.now)) (λ whole.
         AsServerMethod end.new.value.end (λ n after. (after.users ≡ known.users)
         × ServerTurns (server_step known.users next_id (server_object_shown o) whole) end.old.value.sent result end.new.value.sent n))) }
-    ensures discarded { IfServerMethod end.old.value.end (λ o known. IfErr (responded (server_kind (server_object_shown o)) (packet_of octets.now)) (λ cause.
+    ensures discarded { IfServerMethod end.old.value.end (λ o known. IfErr (response_in (server_kind (server_object_shown o)) (packet_of octets.now)) (λ cause.
         IsDiscarded cause end.old.value result end.new.value)) }
     ensures misplaced { is_server_method end.old.value.end ≡ false → IsMisplaced end.old.value result end.new.value }
 {

@@ -47,7 +47,7 @@ pub struct Sent {
 
 impl Sent {
     ghost use Rattle.std.specs.Prelude.{◌≡◌, if◌then◌else◌, Some, None};
-    ghost use Rattle.tuvaddri_c.specs.Sent.{none_sent, rested, after_turn};
+    ghost use Rattle.tuvaddri_c.specs.Sent.{none_sent, after_silence, after_turn};
 
     /// Nothing.
     pub fn none() -> Sent
@@ -69,7 +69,7 @@ impl Sent {
 
     /// A turn sends nothing.
     pub fn rest(&mut self)
-        ensures { self.new ≡ rested self.old }
+        ensures { self.new ≡ after_silence self.old }
     {
         self.fresh = false;
     }
@@ -94,11 +94,11 @@ pub struct Session {
 
 impl Session {
     ghost use Rattle.std.specs.Prelude.{◌≡◌};
-    ghost use Rattle.tuvaddri_c.specs.Sent.{closed};
+    ghost use Rattle.tuvaddri_c.specs.Sent.{no_end};
 
     /// No end.
     pub fn closed() -> Session
-        ensures { result ≡ closed }
+        ensures { result ≡ no_end }
     {
         Session {
             end: End::Closed,

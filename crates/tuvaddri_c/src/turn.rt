@@ -1,7 +1,7 @@
 //! The result of a call, as numbers.
 
 ghost use Rattle.std.specs.Prelude.{◌≡◌, if◌then◌else◌, Some, None};
-ghost use Rattle.tuvaddri_c.specs.Sent.{rested, after_turn};
+ghost use Rattle.tuvaddri_c.specs.Sent.{after_silence, after_turn};
 ghost use Rattle.tuvaddri_c.specs.Turns.{turn_of, no_turn, cause_number, state_number};
 
 use crate::session::Sent;
@@ -29,7 +29,7 @@ impl TuvTurn {
     /// A call that has no place; it sends nothing.
     pub fn none(sent: &mut Sent) -> TuvTurn
         ensures turn { result ≡ no_turn }
-        ensures sent { sent.new ≡ rested sent.old }
+        ensures sent { sent.new ≡ after_silence sent.old }
     {
         sent.rest();
         TuvTurn {

@@ -16,14 +16,14 @@ use Rattle.text_tables.specs.declared.phase.Phase.TheVariants as phase
 use Rattle.scenario_text.proofs.Telling.{scenarios_are_read, goes, both}
 use Rattle.world_commands.specs.Replay.{max_events}
 use Rattle.world_commands.specs.Scenario.{whole, Scenario, stops, adds, is_event, too_much_at, finish_outcome, read_after, events_after, with_line, scenario_from, scenario_of}
-use Rattle.world_commands.specs.Whole.{listed, IsInputOf, IsReadWhole, InputsAreScenarios}
+use Rattle.world_commands.specs.Whole.{lines_of, IsInputOf, IsReadWhole, InputsAreScenarios}
 
 -- these lines, and then those
 abbrev lines_then : List (List ℕ) → Lines → Lines
 lines_then [] ending = ending
 lines_then (l ∷ rest) ending = line l (lines_then rest ending)
 
-listed-lines : (list : List (List ℕ)) → whole_lines list (last_line (last_of list)) ≡ lines_then (listed list) ended
+listed-lines : (list : List (List ℕ)) → whole_lines list (last_line (last_of list)) ≡ lines_then (lines_of list) ended
 listed-lines [] = refl
 listed-lines ([] ∷ []) = refl
 listed-lines ((octet ∷ rest) ∷ []) = refl
@@ -149,23 +149,23 @@ never-whole (piece ∷ next ∷ rest) n k r b h =
 abbrev unread : Reading
 unread = record { phase = phase.Unread; settings = no_settings }
 
-of-pieces : (octets : List ℕ) → is_within octets ≡ true → scenario_of octets ≡ scenario_from 0 0 unread (lines_then (listed (pieces octets)) ended)
+of-pieces : (octets : List ℕ) → is_within octets ≡ true → scenario_of octets ≡ scenario_from 0 0 unread (lines_then (lines_of (pieces octets)) ended)
 of-pieces octets h = ap (scenario_from 0 0 unread) (lines_are_the_pieces octets h ∙ listed-lines (pieces octets))
 
 inputs-taken : (octets : List ℕ) (setup : Setup) (events : List Event) → IsInputOf octets setup events →
     scenario_of octets ≡ record { setup = Some setup; events = events; outcome = whole }
 inputs-taken octets setup events h =
     of-pieces octets (h.within)
-    ∙ reads-whole (listed (pieces octets)) 0 0 unread (record { setup = Some setup; events = events })
-    (scenarios_are_read.taken (listed (pieces octets)) setup events (h.scenario)) (omega (arith, h.few))
+    ∙ reads-whole (lines_of (pieces octets)) 0 0 unread (record { setup = Some setup; events = events })
+    (scenarios_are_read.taken (lines_of (pieces octets)) setup events (h.scenario)) (omega (arith, h.few))
 
 inputs-only : (octets : List ℕ) → (scenario_of octets).outcome ≡ whole → IsReadWhole octets
 inputs-only octets h =
     elim (cases_Bool (is_within octets)) [
       | inl e ↦
           let is = of-pieces octets e in
-          let i = whole-reads (listed (pieces octets)) 0 0 unread (omega arith) (subst (λ s. s.outcome ≡ whole) is h) in
-          let s = scenarios_are_read.only (listed (pieces octets)) (i.script) (i.read) in
+          let i = whole-reads (lines_of (pieces octets)) 0 0 unread (omega arith) (subst (λ s. s.outcome ≡ whole) is h) in
+          let s = scenarios_are_read.only (lines_of (pieces octets)) (i.script) (i.read) in
           let reads : scenario_of octets ≡ read_as (i.script) = is ∙ i.is in
           record {
             setup = s.setup;

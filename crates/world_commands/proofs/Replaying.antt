@@ -5,7 +5,7 @@ use Rattle.octet_io.specs.Lines.{Lines, ended, too_long, too_much, line}
 use Rattle.login_setup.specs.declared.event.Event.{Event}
 use Rattle.eap_world.specs.World.{WorldNow, world_made, world_start, world_step, run_after, outcomes_after}
 use Rattle.world_commands.proofs.Runs.{world_step_events}
-use Rattle.scenario_text.specs.Reading.{Reading, ReadLine, said, with_setting, begun, read_line, finish_of}
+use Rattle.scenario_text.specs.Reading.{Reading, ReadLine, line_of, with_setting, settings_of_version, read_line, finish_of}
 use Rattle.text_tables.specs.declared.fault.LineFault.{LineFault}
 use Rattle.scenario_text.specs.Items as item
 use Rattle.text_tables.specs.declared.phase.Phase.{Phase}
@@ -85,7 +85,7 @@ module _ (c : ReplayNow) where
   line_at_events n s r w rest ih _ (NewEvent e) = event_in_world n s w rest e ih (nat_le max_events w.counts.events)
   line_at_events n s r w rest ih _ AllRead = ih (record { phase = phase.Ended; settings = s }) w (AtEnded refl)
 
-  line_at_end : (n : ℕ) (r : Reading) (w : WorldNow) (rest : Lines) → Continues (n + 1) rest → (out : ReadLine) → out ≡ said item.Nothing phase.Ended r.settings
+  line_at_end : (n : ℕ) (r : Reading) (w : WorldNow) (rest : Lines) → Continues (n + 1) rest → (out : ReadLine) → out ≡ line_of item.Nothing phase.Ended r.settings
       → line_answer n (in_world c r w) rest (Ok out) ≡ run_scenario w (line_scenario n w.counts.events r rest (Ok out))
   line_at_end n r w rest ih out e =
       let P : ReadLine → Type 0 = λ o. line_answer n (in_world c r w) rest (Ok o) ≡ run_scenario w (line_scenario n w.counts.events r rest (Ok o)) in
@@ -129,7 +129,7 @@ module _ (c : ReplayNow) where
       → line_answer n (in_none c r) rest (Ok out) ≡ scenario_answer c.names (line_scenario n 0 r rest (Ok out))
   line_at_first n r l rest ih out starts =
       let P : ReadLine → Type 0 = λ o. line_answer n (in_none c r) rest (Ok o) ≡ scenario_answer c.names (line_scenario n 0 r rest (Ok o)) in
-      subst P (sym starts.out_is) (ih (record { phase = phase.Settings; settings = begun starts.version }) (AtSettings refl))
+      subst P (sym starts.out_is) (ih (record { phase = phase.Settings; settings = settings_of_version starts.version }) (AtSettings refl))
 
   line_before : (n : ℕ) (r : Reading) (l : List ℕ) (rest : Lines) → BeforeRun r.phase → Waits (n + 1) rest → (x : Result ReadLine LineFault) → read_line r l ≡ x
       → line_answer n (in_none c r) rest x ≡ scenario_answer c.names (line_scenario n 0 r rest x)
@@ -162,7 +162,7 @@ module _ (c : ReplayNow) where
       → line_lacks (in_none c r) rest (Ok out) ≡ true → is_some (line_scenario n 0 r rest (Ok out)).setup ≡ true
   lacks_at_first n r l rest ih out starts =
       let P : ReadLine → Type 0 = λ o. line_lacks (in_none c r) rest (Ok o) ≡ true → is_some (line_scenario n 0 r rest (Ok o)).setup ≡ true in
-      subst P (sym starts.out_is) (ih (record { phase = phase.Settings; settings = begun starts.version }) (AtSettings refl))
+      subst P (sym starts.out_is) (ih (record { phase = phase.Settings; settings = settings_of_version starts.version }) (AtSettings refl))
 
   lacks_before : (n : ℕ) (r : Reading) (l : List ℕ) (rest : Lines) → BeforeRun r.phase → Lacks (n + 1) rest → (x : Result ReadLine LineFault) → read_line r l ≡ x
       → line_lacks (in_none c r) rest x ≡ true → is_some (line_scenario n 0 r rest x).setup ≡ true

@@ -4,12 +4,12 @@ use Rattle.login_setup.specs.declared.event.Event.{Event}
 use Rattle.login_setup.specs.declared.setup.Port.{Port}
 use Rattle.login_setup.specs.declared.setup.Setup.{Setup}
 use Rattle.eap_world.specs.Run.{run_of}
-use Rattle.eap_world.specs.World.{Action, Called, Skipped, WorldNow, WorldOutcome, counted, sent_to, sent_by, called, start_call, act}
+use Rattle.eap_world.specs.World.{Action, Called, Skipped, WorldNow, WorldOutcome, counts_after, sent_to, sent_by, act_of_call, start_call, act}
 use Rattle.eap_world.specs.World.{world_made, world_start, world_step, world_outcome, run_after}
 use Rattle.eap_world.specs.declared.told.Counts.{Counts}
 use Rattle.eap_world.specs.declared.told.Told.{Told}
 
-counted-events : (c : Counts) (a : Action) → (counted c a).events ≡ c.events + 1
+counted-events : (c : Counts) (a : Action) → (counts_after c a).events ≡ c.events + 1
 counted-events c (Skipped skip) = refl
 counted-events c (Called did) = refl
 
@@ -55,7 +55,7 @@ run_sends w (e ∷ rest) h = run_sends (world_step w e).after rest (step_sends w
 
 start_sends : (setup : Setup) → length (world_start (world_made setup)).after.sent ≤ (world_start (world_made setup)).after.counts.events + 1
 unfolding world_start
-start_sends setup = one_by (called (world_made setup).parties (start_call setup.mode)).action
+start_sends setup = one_by (act_of_call (world_made setup).parties (start_call setup.mode)).action
 
 pub few_packets : (setup : Setup) (events : List Event) → length (run_of setup events).sent ≤ (run_of setup events).counts.events + 1
 few_packets setup events = run_sends (world_start (world_made setup)).after events (start_sends setup)

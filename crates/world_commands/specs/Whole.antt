@@ -10,16 +10,16 @@ use Rattle.world_commands.specs.Scenario.{whole, scenario_of}
 
 -- a line for each piece that an LF ends, without the CR directly before the LF; the last piece as it is, if it
 -- isn't empty
-abbrev pub listed : List (List ℕ) → List (List ℕ)
-listed [] = []
-listed ([] ∷ []) = []
-listed ((octet ∷ rest) ∷ []) = (octet ∷ rest) ∷ []
-listed (piece ∷ next ∷ rest) = without_cr piece ∷ listed (next ∷ rest)
+abbrev pub lines_of : List (List ℕ) → List (List ℕ)
+lines_of [] = []
+lines_of ([] ∷ []) = []
+lines_of ((octet ∷ rest) ∷ []) = (octet ∷ rest) ∷ []
+lines_of (piece ∷ next ∷ rest) = without_cr piece ∷ lines_of (next ∷ rest)
 
 -- an input within the limits, whose lines are a scenario of at most 10,000 events
 pub record IsInputOf (octets : List ℕ) (setup : Setup) (events : List Event) : Type 0 where
   pub within : is_within octets ≡ true
-  pub scenario : IsScenario (listed (pieces octets)) setup events
+  pub scenario : IsScenario (lines_of (pieces octets)) setup events
   pub few : length events ≤ max_events
 
 -- what was read of an input is that of the scenario that it is

@@ -13,7 +13,7 @@ use Rattle.server_machine.specs.Inputs as server_inputs
 use Rattle.server_machine.specs.Inputs.{ServerInput, start}
 use Rattle.pass_through.specs.Inputs as pass_inputs
 use Rattle.eap_world.specs.Conversations.{Conversations, begins, peer_begins, server_begins}
-use Rattle.eap_world.specs.World.{Acted, Call, Skipped, WorldNow, WorldOutcome, act, call_at, call_octets, call_of, call_with, called, called_unless, conversed, conversed_by, conversed_unless, counted, first_skip, heard_in, held_anew, held_before, held_unless, next_call, restart_call, run_after, skip_table, skipped, timer_call, to_pass, to_peer, to_server, told_of, world_acted, world_outcome, world_step}
+use Rattle.eap_world.specs.World.{Acted, Call, Skipped, WorldNow, WorldOutcome, act, call_at, call_octets, call_of, call_with, act_of_call, called_unless, conversations_after, conversed_by, conversed_unless, counts_after, first_skip, heard_in, held_anew, held_before, held_unless, next_call, restart_call, run_after, skip_table, act_of_skip, timer_call, to_pass, to_peer, to_server, told_of, world_acted, world_outcome, world_step}
 use Rattle.eap_world.specs.Sent.{Sent, packet_numbered}
 use Rattle.tag_book.specs.declared.book.End.TheVariants as end
 use Rattle.eap_world.specs.declared.conversations.Waiting.{Waiting}
@@ -22,7 +22,7 @@ use Rattle.eap_world.specs.declared.world.Held.{Held}
 
 -- what comes of the next event: what the parties did, where these ends had held a report and the conversations are these
 abbrev pub counted_acted : WorldNow → Held → Conversations → Acted → WorldOutcome
-counted_acted w held conversations out = world_acted w (w.counts.events + 1) (counted w.counts out.action) held conversations out
+counted_acted w held conversations out = world_acted w (w.counts.events + 1) (counts_after w.counts out.action) held conversations out
 
 -- a call in which an end begins a new conversation
 abbrev pub begins_anew : Call → Bool
@@ -36,15 +36,15 @@ pub data Steps (w : WorldNow) : WorldOutcome → Type 0 where
   skips : (skip : Skip) → Steps w (world_outcome (told_of (w.counts.events + 1) (length w.sent + 1) None (Skipped skip))
       (record w { counts = record w.counts { events = w.counts.events + 1 }; started = true }))
   calls : (call : Call) (later : call ≡ to_server start → ⊥) (same : begins_anew call ≡ false)
-      → Steps w (counted_acted w w.held (heard_in w.conversations (call_octets call)) (called w.parties call))
+      → Steps w (counted_acted w w.held (heard_in w.conversations (call_octets call)) (act_of_call w.parties call))
   peer_restarts : (one : Waiting) (left : List Waiting) (next : w.conversations.peer_left ≡ one ∷ left)
       → Steps w
       (counted_acted w (record w.held { peer = false }) (begins (w.counts.events + 1) end.Peer one (record w.conversations { peer_left = left }))
-      (called w.parties (to_peer (peer_inputs.restart one.nonce))))
+      (act_of_call w.parties (to_peer (peer_inputs.restart one.nonce))))
   server_restarts : (one : Waiting) (left : List Waiting) (next : w.conversations.server_left ≡ one ∷ left)
       → Steps w
       (counted_acted w (record w.held { server = false }) (begins (w.counts.events + 1) end.Server one (record w.conversations { server_left = left }))
-      (called w.parties (to_server (server_inputs.restart one.nonce))))
+      (act_of_call w.parties (to_server (server_inputs.restart one.nonce))))
 
 -- ---- the call that an event is
 
@@ -124,7 +124,7 @@ module _ (conversations : Conversations) where
 module _ (w : WorldNow) where
   -- what comes of a call
   abbrev CallSteps : Call → Type 0
-  CallSteps call = Steps w (counted_acted w (held_anew w.held call) (conversed (w.counts.events + 1) w.conversations call) (called w.parties call))
+  CallSteps call = Steps w (counted_acted w (held_anew w.held call) (conversations_after (w.counts.events + 1) w.conversations call) (act_of_call w.parties call))
 
   on_steps : (call : Call) → (call ≡ to_server start → ⊥) → begins_anew call ≡ false → CallSteps call
   on_steps (to_peer (peer_inputs.octets bytes)) later same = calls _ later same
@@ -144,16 +144,16 @@ module _ (w : WorldNow) where
       subst
       (λ (all : List Waiting). Steps w
       (counted_acted w (record w.held { peer = false }) (peer_begins (w.counts.events + 1) w.conversations all)
-      (called w.parties (to_peer (peer_inputs.restart one.nonce)))))
+      (act_of_call w.parties (to_peer (peer_inputs.restart one.nonce)))))
       (sym next) (peer_restarts one left next)
   call_steps _ (server_next one left next) =
       subst
       (λ (all : List Waiting). Steps w
       (counted_acted w (record w.held { server = false }) (server_begins (w.counts.events + 1) w.conversations all)
-      (called w.parties (to_server (server_inputs.restart one.nonce)))))
+      (act_of_call w.parties (to_server (server_inputs.restart one.nonce)))))
       (sym next) (server_restarts one left next)
 
-  skip_steps : (skip : Skip) → Steps w (counted_acted w w.held w.conversations (skipped w.parties skip))
+  skip_steps : (skip : Skip) → Steps w (counted_acted w w.held w.conversations (act_of_skip w.parties skip))
   skip_steps skip = rw (append-nil w.sent, append-nil w.book) (skips skip)
 
   unless_steps : (skip : Option Skip) (call : Option Call) → ((one : Call) → call ≡ Some one → IsNext w.conversations one)

@@ -26,12 +26,12 @@ use Rattle.server_machine.specs.ServerTable as servers
 use Rattle.server_machine.specs.ServerTable.{ServerNow, ServerAnswer, answer, is_backend, made_again, server_restart, server_start}
 use Rattle.eap_world.specs.Run.{run_of}
 use Rattle.world_laws.specs.Agreement.{IsWhole}
-use Rattle.eap_world.specs.Conversations.{Conversations, begins, begun, front, hears, since_from, since_of, waiting}
+use Rattle.eap_world.specs.Conversations.{Conversations, begins, beginning, front, hears, since_from, since_of, waiting}
 use Rattle.world_laws.specs.Foreign.{peer_foreign, server_foreign}
 use Rattle.world_laws.specs.PeerStands.{PeerStands}
 use Rattle.world_laws.specs.Records.{tags_by}
 use Rattle.world_laws.specs.ServerStands.{ServerStands}
-use Rattle.eap_world.specs.World.{Acted, WorldNow, WorldOutcome, booked_by, called, heard_in, pass_octets, peer_octets, server_octets, start_call, to_pass, to_peer, to_server, world_made, world_start}
+use Rattle.eap_world.specs.World.{Acted, WorldNow, WorldOutcome, booked_by, act_of_call, heard_in, pass_octets, peer_octets, server_octets, start_call, to_pass, to_peer, to_server, world_made, world_start}
 use Rattle.tag_book.specs.declared.book.End.TheVariants as end
 use Rattle.tag_book.specs.declared.book.Use.TheVariants.{Accepted, Made}
 use Rattle.eap_world.specs.declared.conversations.Waiting.{Waiting}
@@ -193,7 +193,7 @@ module _ (setup : Setup) where
   }
 
   peer_called : (w : WorldNow) (held : Held) (input : PeerInput) → ((nonce : List ℕ) → input ≡ peer_inputs.restart nonce → ⊥) → BothConverse setup w
-      → BothConverse setup (counted_acted w held (heard_in w.conversations (peer_octets input)) (called w.parties (to_peer input))).after
+      → BothConverse setup (counted_acted w held (heard_in w.conversations (peer_octets input)) (act_of_call w.parties (to_peer input))).after
   peer_called w held input no_restart h =
       let own = peers.own_nonce setup.peer h.peer_nonce in
       let now = w.parties.peer in
@@ -225,7 +225,7 @@ module _ (setup : Setup) where
 
   server_called : (w : WorldNow) (held : Held) (input : ServerInput) → (input ≡ server_inputs.start → ⊥)
       → ((nonce : List ℕ) → input ≡ server_inputs.restart nonce → ⊥) → BothConverse setup w
-      → BothConverse setup (counted_acted w held (heard_in w.conversations (server_octets input)) (called w.parties (to_server input))).after
+      → BothConverse setup (counted_acted w held (heard_in w.conversations (server_octets input)) (act_of_call w.parties (to_server input))).after
   server_called w held input later no_restart h =
       let own = servers.own_nonce setup.server h.server_nonce in
       let now = w.parties.server in
@@ -285,7 +285,7 @@ module _ (setup : Setup) where
       → v.conversations ≡ begins (w.counts.events + 1) end.Peer one (record w.conversations { peer_left = left }) → BothConverse setup v
   peer_anew w one left is_left h v peer server book events conversations =
       let all = w.conversations in
-      let b = begun (w.counts.events + 1) end.Peer one.nonce in
+      let b = beginning (w.counts.events + 1) end.Peer one.nonce in
       let sized : LeftSized (one ∷ left) = subst LeftSized is_left h.sized.peer in
       let after = (peer_takes w.parties.peer (peer_inputs.restart one.nonce)).after in
       let is = peer_is_anew h.peer_nonce one.nonce w.parties.peer h.peer.now.stands.own in
@@ -349,7 +349,7 @@ module _ (setup : Setup) where
       → v.conversations ≡ begins (w.counts.events + 1) end.Server one (record w.conversations { server_left = left }) → BothConverse setup v
   server_anew w one left is_left h v server peer book events conversations =
       let all = w.conversations in
-      let b = begun (w.counts.events + 1) end.Server one.nonce in
+      let b = beginning (w.counts.events + 1) end.Server one.nonce in
       let sized : LeftSized (one ∷ left) = subst LeftSized is_left h.sized.server in
       let after = (server_takes w.parties.server (server_inputs.restart one.nonce)).after in
       let is = server_is_anew h.server_nonce one.nonce w.parties.server h.server.now.stands.own in
@@ -422,7 +422,7 @@ pub record StartIs (setup : Setup) (out : Acted) : Type 0 where
   pub server : ServerIs setup.server setup.server.nonce out.after.server None [] []
   pub book : booked_by 0 out.action ≡ []
 
-pub starts_so : (runs : Mode) (setup : Setup) → (let w = world_made setup in StartIs setup (called w.parties (start_call runs)))
+pub starts_so : (runs : Mode) (setup : Setup) → (let w = world_made setup in StartIs setup (act_of_call w.parties (start_call runs)))
 unfolding server_start
 starts_so mode.Alone setup = record {
   peer = record { stands = peer_begins setup.peer; held_is = refl };
@@ -444,7 +444,7 @@ begun_itself nonce = (bytes_eq-Decides nonce nonce).1 refl
 pub start_converses : (setup : Setup) → IsWhole setup → BothConverse setup (world_start (world_made setup)).after
 unfolding world_start since_from tags_by
 start_converses setup whole =
-    let out = called (world_made setup).parties (start_call setup.mode) in
+    let out = act_of_call (world_made setup).parties (start_call setup.mode) in
     let begins_so = starts_so setup.mode setup in
     record {
       peer_nonce = setup.peer.nonce;

@@ -9,8 +9,8 @@ use Rattle.eap_method.specs.declared.tags.TagRecord.{TagRecord}
 use Rattle.eap_method.specs.declared.tags.Tags.{Tags}
 use Rattle.peer_machine.specs.Inputs.{peer_takes}
 use Rattle.server_machine.specs.Inputs.{server_takes}
-use Rattle.tag_book.specs.Book.{booked, entry, same_end}
-use Rattle.eap_world.specs.Conversations.{begun, since_from, since_of}
+use Rattle.tag_book.specs.Book.{entries_of, entry, same_end}
+use Rattle.eap_world.specs.Conversations.{beginning, since_from, since_of}
 use Rattle.world_laws.specs.Records.{is_after, since}
 use Rattle.eap_world.specs.World.{WorldNow, WorldOutcome, call_octets, to_pass, to_peer, to_server}
 use Rattle.tag_book.specs.declared.book.End.{End}
@@ -33,7 +33,7 @@ mapped_of event of how [] = All-nil (IsOf event)
 mapped_of event of how (tag ∷ rest) = All-cons (IsOf event) _ _ refl (mapped_of event of how rest)
 
 -- what is booked in an event is of it
-pub booked_of_event : (event : ℕ) (of : End) (tags : Tags) → All (IsOf event) (booked event of tags)
+pub booked_of_event : (event : ℕ) (of : End) (tags : Tags) → All (IsOf event) (entries_of event of tags)
 booked_of_event event of tags =
     All-append (IsOf event) (map (entry event of Accepted) tags.accepted) (map (entry event of Made) tags.made)
     (mapped_of event of Accepted tags.accepted) (mapped_of event of Made tags.made)
@@ -94,10 +94,10 @@ pub data Books (w after : WorldNow) : Type 0 where
   books_more : (more : List Entry) (are : All (IsOf (w.counts.events + 1)) more) (counts : after.counts.events ≡ w.counts.events + 1)
       (book : after.book ≡ w.book ++ more) (same : after.conversations.begun ≡ w.conversations.begun) → Books w after
   begins_one : (own : End) (nonce : List ℕ) (counts : after.counts.events ≡ w.counts.events + 1) (book : after.book ≡ w.book)
-      (longer : after.conversations.begun ≡ w.conversations.begun ++ begun (w.counts.events + 1) own nonce ∷ []) → Books w after
+      (longer : after.conversations.begun ≡ w.conversations.begun ++ beginning (w.counts.events + 1) own nonce ∷ []) → Books w after
 
-pub untagged : (book : List Entry) (event : ℕ) (of : End) (tags : Tags) → tags ≡ no_tags → book ++ booked event of tags ≡ book
-untagged book event of tags none = ap (λ (t : Tags). book ++ booked event of t) none ∙ append-nil book
+pub untagged : (book : List Entry) (event : ℕ) (of : End) (tags : Tags) → tags ≡ no_tags → book ++ entries_of event of tags ≡ book
+untagged book event of tags none = ap (λ (t : Tags). book ++ entries_of event of t) none ∙ append-nil book
 
 pub steps_book : (w : WorldNow) (out : WorldOutcome) → Steps w out → Books w out.after
 steps_book w _ (skips skip) = books_more [] (All-nil (IsOf (w.counts.events + 1))) refl (sym (append-nil w.book)) refl
@@ -138,9 +138,9 @@ module _ (w after : WorldNow) (was : Dates w) where
 
   -- an end begins a new one
   module _ (own : End) (nonce : List ℕ) (counts : after.counts.events ≡ w.counts.events + 1) (book : after.book ≡ w.book)
-      (longer : after.conversations.begun ≡ w.conversations.begun ++ begun (w.counts.events + 1) own nonce ∷ []) where
+      (longer : after.conversations.begun ≡ w.conversations.begun ++ beginning (w.counts.events + 1) own nonce ∷ []) where
     since_is : (of : End) → since_of of after.conversations.begun ≡ (if same_end own of then w.counts.events + 1 else since_of of w.conversations.begun)
-    since_is of = ap (since_of of) longer ∙ since_begun 0 of w.conversations.begun (begun (w.counts.events + 1) own nonce)
+    since_is of = ap (since_of of) longer ∙ since_begun 0 of w.conversations.begun (beginning (w.counts.events + 1) own nonce)
 
     -- of which there is nothing yet
     pub present_anew : (of : End) → present of after ≡ (if same_end own of then [] else present of w)
@@ -151,7 +151,7 @@ module _ (w after : WorldNow) (was : Dates w) where
         (All-weaker (IsDated w.counts.events) (λ (e : Entry). e.event ≤ w.counts.events + 1) (λ e d. omega (arith, d.past)) w.book was.dated))
 
     pub one_longer : length after.conversations.begun ≡ length w.conversations.begun + 1
-    one_longer = ap length longer ∙ length-append w.conversations.begun (begun (w.counts.events + 1) own nonce ∷ [])
+    one_longer = ap length longer ∙ length-append w.conversations.begun (beginning (w.counts.events + 1) own nonce ∷ [])
 
     dates_anew : Dates after
     dates_anew = record {

@@ -20,7 +20,7 @@ use Rattle.pass_through.specs.Inputs.{pass_takes}
 use Rattle.pass_through.proofs.Carrying as pass_discards
 use Rattle.eap_world.specs.Conversations.{Conversations}
 use Rattle.world_laws.specs.Laws.{HasToldReports, KeepsBothEnds, DiscardsKeep, RunsTellReports}
-use Rattle.eap_world.specs.World.{Call, Called, Did, Parties, WorldNow, WorldOutcome, acted, booked_of, called, did_by, did_pass, end_of, first_report, has_held, held_after, held_by, is_delivery, named_by, report_of, sent_to, start_call, to_pass, to_peer, to_server, world_made, world_start, world_step}
+use Rattle.eap_world.specs.World.{Call, Called, Did, Parties, WorldNow, WorldOutcome, act_with, booked_of, act_of_call, did_by, did_pass, end_of, first_report, has_held, held_after, held_by, is_delivery, named_by, report_of, sent_to, start_call, to_pass, to_peer, to_server, world_made, world_start, world_step}
 use Rattle.tag_book.specs.declared.book.End.{End}
 use Rattle.eap_world.specs.declared.world.Held.{Held}
 use Rattle.world_laws.proofs.Acting.{Steps, skips, calls, peer_restarts, server_restarts, counted_acted, run_keeps, step_steps}
@@ -37,7 +37,7 @@ none_booked event (Some end) = refl
 
 -- a call that leaves the parties as they were, with nothing to send and no tag
 call_keeps : (w : WorldNow) (conversations : Conversations) (did : Did) (after : Parties) → after ≡ w.parties → did.step.sent ≡ None → did.step.tags ≡ no_tags
-    → KeepsBothEnds w (counted_acted w w.held conversations (acted (Called did) after)).after
+    → KeepsBothEnds w (counted_acted w w.held conversations (act_with (Called did) after)).after
 call_keeps w conversations did after same unsent untagged = record {
   parties = same;
   sent = ap (λ sent. w.sent ++ sent_to did.port sent) unsent ∙ append-nil w.sent;
@@ -102,7 +102,7 @@ names held false of None same own is = cc is
 names held false of (Some report) same own is = own
 
 each_told : (held : Held) (parties : Parties) (call : Call) → HasToldReports held parties → (of : Party)
-    → (let out = called parties call in IsSome (report_of out.after of) → has_held (held_after held (named_by held out.after out.action)) of ≡ true)
+    → (let out = act_of_call parties call in IsSome (report_of out.after of) → has_held (held_after held (named_by held out.after out.action)) of ≡ true)
 each_told held parties (to_peer input) told party.Peer is = names held _ party.Peer _ refl refl is
 each_told held parties (to_peer input) told party.Pass is = cc is
 each_told held parties (to_peer input) told party.Server is = stays held _ party.Peer party.Server _ (told.each party.Server is)
@@ -115,24 +115,24 @@ each_told held parties (to_pass input) told party.Server is = told.each party.Se
 
 -- an end that holds none in its new conversation, which is seen from the first
 peer_told : (held : Held) (parties : Parties) (input : PeerInput) → HasToldReports held parties → (of : Party)
-    → (let anew = record held { peer = false } in let out = called parties (to_peer input) in
+    → (let anew = record held { peer = false } in let out = act_of_call parties (to_peer input) in
     IsSome (report_of out.after of) → has_held (held_after anew (named_by anew out.after out.action)) of ≡ true)
 peer_told held parties input told party.Peer is =
-    names (record held { peer = false }) false party.Peer (report_of (called parties (to_peer input)).after party.Peer) refl refl is
+    names (record held { peer = false }) false party.Peer (report_of (act_of_call parties (to_peer input)).after party.Peer) refl refl is
 peer_told held parties input told party.Pass is = cc is
 peer_told held parties input told party.Server is =
-    stays (record held { peer = false }) false party.Peer party.Server (report_of (called parties (to_peer input)).after party.Peer)
+    stays (record held { peer = false }) false party.Peer party.Server (report_of (act_of_call parties (to_peer input)).after party.Peer)
     (told.each party.Server is)
 
 server_told : (held : Held) (parties : Parties) (input : ServerInput) → HasToldReports held parties → (of : Party)
-    → (let anew = record held { server = false } in let out = called parties (to_server input) in
+    → (let anew = record held { server = false } in let out = act_of_call parties (to_server input) in
     IsSome (report_of out.after of) → has_held (held_after anew (named_by anew out.after out.action)) of ≡ true)
 server_told held parties input told party.Peer is =
-    stays (record held { server = false }) false party.Server party.Peer (report_of (called parties (to_server input)).after party.Server)
+    stays (record held { server = false }) false party.Server party.Peer (report_of (act_of_call parties (to_server input)).after party.Server)
     (told.each party.Peer is)
 server_told held parties input told party.Pass is = cc is
 server_told held parties input told party.Server is =
-    names (record held { server = false }) false party.Server (report_of (called parties (to_server input)).after party.Server) refl refl is
+    names (record held { server = false }) false party.Server (report_of (act_of_call parties (to_server input)).after party.Server) refl refl is
 
 -- the held reports of both ends stay told of
 steps_tell : (w : WorldNow) (out : WorldOutcome) → Steps w out → HasToldReports w.held w.parties → HasToldReports out.after.held out.after.parties

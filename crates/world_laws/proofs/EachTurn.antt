@@ -15,12 +15,12 @@ use Rattle.server_machine.specs.Inputs as server_inputs
 use Rattle.server_machine.specs.Inputs.{server_takes}
 use Rattle.server_machine.specs.ServerTable as servers
 use Rattle.server_machine.specs.ServerTable.{ServerNow}
-use Rattle.tag_book.specs.Book.{booked, same_end}
-use Rattle.eap_world.specs.Conversations.{Conversations, begins, begun, begun_by, is_used, one_of}
+use Rattle.tag_book.specs.Book.{entries_of, same_end}
+use Rattle.eap_world.specs.Conversations.{Conversations, begins, beginning, begun_by, is_used, one_of}
 use Rattle.world_laws.specs.EachConversation.{begins_another, nonces_of, peer_at, server_at}
 use Rattle.world_laws.specs.PeerStands.{PeerStands}
 use Rattle.world_laws.specs.ServerStands.{ServerStands}
-use Rattle.eap_world.specs.World.{Call, WorldNow, WorldOutcome, call_octets, called, heard_in, to_pass, to_peer, to_server, world_step}
+use Rattle.eap_world.specs.World.{Call, WorldNow, WorldOutcome, call_octets, act_of_call, heard_in, to_pass, to_peer, to_server, world_step}
 use Rattle.tag_book.specs.declared.book.End.{End}
 use Rattle.tag_book.specs.declared.book.End.TheVariants as end
 use Rattle.eap_world.specs.declared.conversations.Begun.{Begun}
@@ -95,17 +95,17 @@ abbrev after_skip : WorldNow → WorldNow
 after_skip w = record w { counts = record w.counts { events = w.counts.events + 1 }; started = true }
 
 abbrev after_call : WorldNow → Call → WorldNow
-after_call w call = (counted_acted w w.held (heard_in w.conversations (call_octets call)) (called w.parties call)).after
+after_call w call = (counted_acted w w.held (heard_in w.conversations (call_octets call)) (act_of_call w.parties call)).after
 
 abbrev after_peer_restart : WorldNow → Waiting → List Waiting → WorldNow
 after_peer_restart w one left =
     (counted_acted w (record w.held { peer = false }) (begins (w.counts.events + 1) end.Peer one (record w.conversations { peer_left = left }))
-    (called w.parties (to_peer (peer_inputs.restart one.nonce)))).after
+    (act_of_call w.parties (to_peer (peer_inputs.restart one.nonce)))).after
 
 abbrev after_server_restart : WorldNow → Waiting → List Waiting → WorldNow
 after_server_restart w one left =
     (counted_acted w (record w.held { server = false }) (begins (w.counts.events + 1) end.Server one (record w.conversations { server_left = left }))
-    (called w.parties (to_server (server_inputs.restart one.nonce)))).after
+    (act_of_call w.parties (to_server (server_inputs.restart one.nonce)))).after
 
 grows_same : (before after : Conversations) → after.begun ≡ before.begun → after.fresh ≡ before.fresh → Grows before after
 grows_same before after begun_is fresh_is = record {
@@ -118,11 +118,11 @@ steps_grow w _ (skips skip) = grows_same w.conversations _ refl refl
 steps_grow w _ (calls call later same) =
     grows_same w.conversations _ (still_begun w.conversations (call_octets call)) (heard_fresh w.conversations (call_octets call))
 steps_grow w _ (peer_restarts one left next) = record {
-  used = λ n was. still_used w.conversations.begun (begun (w.counts.events + 1) end.Peer one.nonce) n was;
+  used = λ n was. still_used w.conversations.begun (beginning (w.counts.events + 1) end.Peer one.nonce) n was;
   fresh = λ f. (new_is w.conversations.fresh w.conversations.begun one f).was;
 }
 steps_grow w _ (server_restarts one left next) = record {
-  used = λ n was. still_used w.conversations.begun (begun (w.counts.events + 1) end.Server one.nonce) n was;
+  used = λ n was. still_used w.conversations.begun (beginning (w.counts.events + 1) end.Server one.nonce) n was;
   fresh = λ f. (new_is w.conversations.fresh w.conversations.begun one f).was;
 }
 
@@ -170,7 +170,7 @@ module _ (setup : Setup) where
       let after = (peer_keeps (peers.own_nonce setup.peer h.peer_nonce) now h.peer.accepted h.peer.made input no_restart h.peer.now.stands).own in
       let also = same_begun end.Peer w (after_call w (to_peer input)) (still_begun w.conversations (call_octets (to_peer input))) in
       peer_goes w (after_call w (to_peer input)) also.count
-      (goes (booked (w.counts.events + 1) end.Peer out.step.tags) refl
+      (goes (entries_of (w.counts.events + 1) end.Peer out.step.tags) refl
       (λ part well.
       record {
         nonce = well.nonce;
@@ -184,7 +184,7 @@ module _ (setup : Setup) where
       let out = server_takes w.parties.server input in
       let also = same_begun end.Peer w (after_call w (to_server input)) (still_begun w.conversations (call_octets (to_server input))) in
       peer_goes w (after_call w (to_server input)) also.count
-      (goes (booked (w.counts.events + 1) end.Server out.step.tags) refl
+      (goes (entries_of (w.counts.events + 1) end.Server out.step.tags) refl
       (λ part well.
       record {
         nonce = well.nonce;
@@ -201,7 +201,7 @@ module _ (setup : Setup) where
       let stands = peer_stands_anew (peers.own_nonce setup.peer h.peer_nonce) now one.nonce h.peer.now.stands.own in
       let nonce : peer_nonce_of after ≡ one.nonce = ap (λ (s : PeerSetup). s.nonce) stands.own in
       let sized : LeftSized (one ∷ left) = subst LeftSized next h.sized.peer in
-      let more = own end.Peer w (after_peer_restart w one left) (begun (w.counts.events + 1) end.Peer one.nonce) refl refl in
+      let more = own end.Peer w (after_peer_restart w one left) (beginning (w.counts.events + 1) end.Peer one.nonce) refl refl in
       subst (PeerTurnsBy w (after_peer_restart w one left)) (sym more.count)
       (begins_next (untagged w.book (w.counts.events + 1) end.Peer _ (peer_tags_none now one.nonce))
       (record { nonce = one.nonce; size = sized.0; stands = stands })
@@ -209,7 +209,7 @@ module _ (setup : Setup) where
       (more.nonces ∙ ap (λ (n : List ℕ). nonces_of end.Peer w.conversations.begun ++ n ∷ []) (sym nonce)))
   peer_steps w _ h (server_restarts one left next) =
       peer_rests w (after_server_restart w one left) (untagged w.book (w.counts.events + 1) end.Server _ (server_tags_none w.parties.server one.nonce)) refl
-      (beside end.Peer w (after_server_restart w one left) (begun (w.counts.events + 1) end.Server one.nonce) refl refl)
+      (beside end.Peer w (after_server_restart w one left) (beginning (w.counts.events + 1) end.Server one.nonce) refl refl)
 
   pub peer_turns : (w : WorldNow) (e : Event) → BothConverse setup w → PeerTurns w (world_step w e).after
   peer_turns w e h = peer_steps w (world_step w e) h (step_steps w e)
@@ -255,7 +255,7 @@ module _ (setup : Setup) where
       let after = (server_keeps h_own now h.server.accepted h.server.made input not_start no_restart h.server.now.stands).own in
       let also = same_begun end.Server w (after_call w (to_server input)) (still_begun w.conversations (call_octets (to_server input))) in
       server_goes w (after_call w (to_server input)) also.count
-      (goes (booked (w.counts.events + 1) end.Server out.step.tags) refl
+      (goes (entries_of (w.counts.events + 1) end.Server out.step.tags) refl
       (λ part well.
       record {
         nonce = well.nonce;
@@ -269,7 +269,7 @@ module _ (setup : Setup) where
       let out = peer_takes w.parties.peer input in
       let also = same_begun end.Server w (after_call w (to_peer input)) (still_begun w.conversations (call_octets (to_peer input))) in
       server_goes w (after_call w (to_peer input)) also.count
-      (goes (booked (w.counts.events + 1) end.Peer out.step.tags) refl
+      (goes (entries_of (w.counts.events + 1) end.Peer out.step.tags) refl
       (λ part well.
       record {
         nonce = well.nonce;
@@ -286,7 +286,7 @@ module _ (setup : Setup) where
       let stands = server_stands_anew (servers.own_nonce setup.server h.server_nonce) now one.nonce h.server.now.stands.own in
       let nonce : server_nonce_of after ≡ one.nonce = ap (λ (s : ServerSetup). s.nonce) stands.own in
       let sized : LeftSized (one ∷ left) = subst LeftSized next h.sized.server in
-      let more = own end.Server w (after_server_restart w one left) (begun (w.counts.events + 1) end.Server one.nonce) refl refl in
+      let more = own end.Server w (after_server_restart w one left) (beginning (w.counts.events + 1) end.Server one.nonce) refl refl in
       subst (ServerTurnsBy w (after_server_restart w one left)) (sym more.count)
       (begins_next (untagged w.book (w.counts.events + 1) end.Server _ (server_tags_none now one.nonce))
       (record { nonce = one.nonce; size = sized.0; stands = stands })
@@ -294,7 +294,7 @@ module _ (setup : Setup) where
       (more.nonces ∙ ap (λ (n : List ℕ). nonces_of end.Server w.conversations.begun ++ n ∷ []) (sym nonce)))
   server_steps w _ h (peer_restarts one left next) =
       server_rests w (after_peer_restart w one left) (untagged w.book (w.counts.events + 1) end.Peer _ (peer_tags_none w.parties.peer one.nonce)) refl
-      (beside end.Server w (after_peer_restart w one left) (begun (w.counts.events + 1) end.Peer one.nonce) refl refl)
+      (beside end.Server w (after_peer_restart w one left) (beginning (w.counts.events + 1) end.Peer one.nonce) refl refl)
 
   pub server_turns : (w : WorldNow) (e : Event) → BothConverse setup w → ServerTurns w (world_step w e).after
   server_turns w e h = server_steps w (world_step w e) h (step_steps w e)

@@ -19,13 +19,13 @@ use Rattle.server_machine.specs.Inputs.{ServerInput, server_takes, start}
 use Rattle.server_machine.specs.ServerTable as servers
 use Rattle.server_machine.specs.ServerTable.{ServerNow, server_start}
 use Rattle.eap_world.specs.Run.{run_of}
-use Rattle.tag_book.specs.Book.{booked, same_end}
-use Rattle.eap_world.specs.Conversations.{begun, since_from, since_of}
+use Rattle.tag_book.specs.Book.{entries_of, same_end}
+use Rattle.eap_world.specs.Conversations.{beginning, since_from, since_of}
 use Rattle.world_laws.specs.EndsStand.{BothStand, EndsStand}
 use Rattle.world_laws.specs.PeerStands.{PeerStands}
 use Rattle.world_laws.specs.Records.{since, tags_by}
 use Rattle.world_laws.specs.ServerStands.{ServerStands}
-use Rattle.eap_world.specs.World.{Parties, WorldNow, WorldOutcome, call_octets, called, start_call, to_pass, to_peer, to_server, world_acted, world_made, world_start}
+use Rattle.eap_world.specs.World.{Parties, WorldNow, WorldOutcome, call_octets, act_of_call, start_call, to_pass, to_peer, to_server, world_acted, world_made, world_start}
 use Rattle.tag_book.specs.declared.book.End.{End}
 use Rattle.tag_book.specs.declared.book.End.TheVariants as end
 use Rattle.tag_book.specs.declared.book.Entry.{Entry}
@@ -58,7 +58,7 @@ own_server setup nonce now accepted made stands =
     subst (λ (n : List ℕ). ServerStands (servers.own_nonce setup n) now accepted made) (sym (ap (λ (s : ServerSetup). s.nonce) stands.own)) stands
 
 module _ (setup : PeerSetup) (now : PeerNow) (entries : List Entry) (stands : PeerAt setup now entries) (event : ℕ) where
-  peer_rests : (tags : Tags) → PeerAt setup now (entries ++ booked event end.Server tags)
+  peer_rests : (tags : Tags) → PeerAt setup now (entries ++ entries_of event end.Server tags)
   peer_rests tags = rests end.Peer (PeerStands (peers.own_nonce setup now.vars.setup.nonce) now) entries event tags stands
 
   module _ (input : PeerInput) (same : (nonce : List ℕ) → input ≡ peer_inputs.restart nonce → ⊥) where
@@ -66,7 +66,7 @@ module _ (setup : PeerSetup) (now : PeerNow) (entries : List Entry) (stands : Pe
         (tags_by end.Peer Accepted entries ++ out.step.tags.accepted) (tags_by end.Peer Made entries ++ out.step.tags.made))
     peer_kept = peer_calls.peer_keeps (peers.own_nonce setup now.vars.setup.nonce) now _ _ input same stands
 
-    peer_goes : (let out = peer_takes now input in PeerAt setup out.after (entries ++ booked event end.Peer out.step.tags))
+    peer_goes : (let out = peer_takes now input in PeerAt setup out.after (entries ++ entries_of event end.Peer out.step.tags))
     peer_goes = let out = peer_takes now input in
         own_peer setup now.vars.setup.nonce out.after _ _
         (grows end.Peer (PeerStands (peers.own_nonce setup now.vars.setup.nonce) out.after) entries event out.step.tags peer_kept)
@@ -80,7 +80,7 @@ module _ (setup : PeerSetup) (now : PeerNow) (entries : List Entry) (stands : Pe
       own_peer setup nonce _ [] [] (peer_calls.peer_stands_anew (peers.own_nonce setup now.vars.setup.nonce) now nonce stands.own)
 
 module _ (setup : ServerSetup) (now : ServerNow) (entries : List Entry) (stands : ServerAt setup now entries) (event : ℕ) where
-  server_rests : (tags : Tags) → ServerAt setup now (entries ++ booked event end.Peer tags)
+  server_rests : (tags : Tags) → ServerAt setup now (entries ++ entries_of event end.Peer tags)
   server_rests tags = rests end.Server (ServerStands (servers.own_nonce setup now.vars.setup.nonce) now) entries event tags stands
 
   module _ (input : ServerInput) (later : input ≡ start → ⊥) (same : (nonce : List ℕ) → input ≡ server_inputs.restart nonce → ⊥) where
@@ -88,7 +88,7 @@ module _ (setup : ServerSetup) (now : ServerNow) (entries : List Entry) (stands 
         (tags_by end.Server Accepted entries ++ out.step.tags.accepted) (tags_by end.Server Made entries ++ out.step.tags.made))
     server_kept = server_calls.server_keeps (servers.own_nonce setup now.vars.setup.nonce) now _ _ input later same stands
 
-    server_goes : (let out = server_takes now input in ServerAt setup out.after (entries ++ booked event end.Server out.step.tags))
+    server_goes : (let out = server_takes now input in ServerAt setup out.after (entries ++ entries_of event end.Server out.step.tags))
     server_goes = let out = server_takes now input in
         own_server setup now.vars.setup.nonce out.after _ _
         (grows end.Server (ServerStands (servers.own_nonce setup now.vars.setup.nonce) out.after) entries event out.step.tags server_kept)
@@ -147,7 +147,7 @@ module _ (setup : Setup) (w after : WorldNow) (so : StandsSoFar setup w) where
 
   -- an end begins a new one
   begins_so : (own : End) (nonce : List ℕ) (counts : after.counts.events ≡ w.counts.events + 1) (book : after.book ≡ w.book)
-      (longer : after.conversations.begun ≡ w.conversations.begun ++ begun (w.counts.events + 1) own nonce ∷ []) → Dates after
+      (longer : after.conversations.begun ≡ w.conversations.begun ++ beginning (w.counts.events + 1) own nonce ∷ []) → Dates after
       → PeerAt setup.peer after.parties.peer (if same_end own end.Peer then [] else present end.Peer w)
       → ServerAt setup.server after.parties.server (if same_end own end.Server then [] else present end.Server w)
       → StandsSoFar setup after
@@ -195,14 +195,14 @@ step_stands setup w out steps so = steps_stand setup w out steps so (books_date 
 
 -- ---- every run
 
-first_since : (of : End) (peer server : List ℕ) → since_of of (begun 0 end.Peer peer ∷ begun 0 end.Server server ∷ []) ≡ 0
+first_since : (of : End) (peer server : List ℕ) → since_of of (beginning 0 end.Peer peer ∷ beginning 0 end.Server server ∷ []) ≡ 0
 unfolding since_from
 first_since end.Peer peer server = refl
 first_since end.Server peer server = refl
 
 -- the start makes no tag: the server starts, or the pass-through in its place
 start_in : (runs : Mode) (setup : Setup) → setup.mode ≡ runs
-    → (let w = world_made setup in StandsSoFar setup (world_acted w 0 w.counts w.held w.conversations (called w.parties (start_call runs))).after)
+    → (let w = world_made setup in StandsSoFar setup (world_acted w 0 w.counts w.held w.conversations (act_of_call w.parties (start_call runs))).after)
 unfolding server_start tags_by
 start_in mode.Alone setup is = record {
   dates = record { dated = All-nil (IsDated 0); begun = λ of. omega (arith, first_since of setup.peer.nonce setup.server.nonce); many = omega arith };

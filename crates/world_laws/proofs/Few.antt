@@ -16,10 +16,10 @@ use Rattle.tag_book.specs.declared.book.Use.TheVariants.{Accepted, Made}
 use Rattle.eap_world.specs.declared.conversations.Begun.{Begun}
 use Rattle.eap_world.specs.Run.{run_of}
 use Rattle.world_laws.specs.Agreement.{FewPackets, FewTags}
-use Rattle.eap_world.specs.Conversations.{begun, begun_by, one_of}
+use Rattle.eap_world.specs.Conversations.{beginning, begun_by, one_of}
 use Rattle.world_laws.specs.EndsStand.{BothStand}
 use Rattle.world_laws.specs.Records.{same_use, tags_by}
-use Rattle.eap_world.specs.World.{Action, Called, Skipped, WorldNow, WorldOutcome, act, called, run_after, sent_by, sent_to, start_call}
+use Rattle.eap_world.specs.World.{Action, Called, Skipped, WorldNow, WorldOutcome, act, act_of_call, run_after, sent_by, sent_to, start_call}
 use Rattle.eap_world.specs.World.{world_acted, world_made, world_start, world_step}
 use Rattle.world_laws.proofs.Acting.{Steps, run_keeps}
 use Rattle.world_laws.proofs.Dates.{Books, Dates, begins_one, books_more, present, present_anew, present_more, steps_book}
@@ -59,7 +59,7 @@ unfolding begun_by
 begun_more end [] b = omega arith
 begun_more end (first ∷ rest) b = omega (arith, begun_more end rest b)
 
-one_end : (end : End) (event : ℕ) (nonce : List ℕ) → one_of Peer (begun event end nonce) + one_of Server (begun event end nonce) ≡ 1
+one_end : (end : End) (event : ℕ) (nonce : List ℕ) → one_of Peer (beginning event end nonce) + one_of Server (beginning event end nonce) ≡ 1
 one_end Peer event nonce = refl
 one_end Server event nonce = refl
 
@@ -104,7 +104,7 @@ books_few w after dates few (books_more more are counts book same) was end how =
 books_few w after dates few (begins_one own nonce counts book longer) was end how =
     let all = ap (λ (entries : List Entry). length (tags_by end how entries)) book in
     let now = ap (λ (entries : List Entry). length (tags_by end how entries)) (present_anew w after dates own nonce counts book longer end) in
-    let many = ap (begun_by end) longer ∙ begun_more end w.conversations.begun (begun (w.counts.events + 1) own nonce) in
+    let many = ap (begun_by end) longer ∙ begun_more end w.conversations.begun (beginning (w.counts.events + 1) own nonce) in
     let anew = anew_few (same_end own end) end how (present end w) (length (tags_by end how w.book)) (begun_by end w.conversations.begun)
     (few end how) (was end how) in
     omega (arith, anew, all, now, many)
@@ -115,13 +115,13 @@ steps_few setup w out steps was = record {
   earlier = books_few w out.after was.so.dates (present_few setup w was.so.both) (steps_book w out steps) was.earlier;
 }
 
-first_begun : (end : End) (peer server : List ℕ) → begun_by end (begun 0 Peer peer ∷ begun 0 Server server ∷ []) ≡ 1
+first_begun : (end : End) (peer server : List ℕ) → begun_by end (beginning 0 Peer peer ∷ beginning 0 Server server ∷ []) ≡ 1
 unfolding begun_by
 first_begun Peer peer server = refl
 first_begun Server peer server = refl
 
 start_earlier : (runs : Mode) (setup : Setup)
-    → (let w = world_made setup in Earlier (world_acted w 0 w.counts w.held w.conversations (called w.parties (start_call runs))).after)
+    → (let w = world_made setup in Earlier (world_acted w 0 w.counts w.held w.conversations (act_of_call w.parties (start_call runs))).after)
 unfolding server_start tags_by
 start_earlier mode.Alone setup end how = omega (arith, first_begun end setup.peer.nonce setup.server.nonce)
 start_earlier mode.Through setup end how = omega (arith, first_begun end setup.peer.nonce setup.server.nonce)
@@ -154,7 +154,7 @@ run_few w (e ∷ rest) = omega (arith, step_few w e, run_few (world_step w e).af
 
 start_few : (setup : Setup) → length (world_start (world_made setup)).after.sent ≤ 1
 unfolding world_start
-start_few setup = sent_few (called (world_made setup).parties (start_call setup.mode)).action
+start_few setup = sent_few (act_of_call (world_made setup).parties (start_call setup.mode)).action
 
 pub few_packets : FewPackets
 few_packets setup events = omega (arith, run_few (world_start (world_made setup)).after events, start_few setup)

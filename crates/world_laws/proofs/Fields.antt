@@ -6,10 +6,10 @@ use Rattle.std.proofs.lemmas.Option.{cond_some, same_Some}
 use Rattle.eap_base.specs.declared.suite.Suite.{Suite}
 use Rattle.eap_base.specs.declared.suite.Suite.TheVariants.{Cmac, Hmac}
 use Rattle.eap_base.specs.Suite.{suite_octets}
-use Rattle.gpsk_messages.specs.Message.{Message, gpsk1, gpsk2, gpsk3, gpsk4, fail, protected_fail, sized, list_of}
+use Rattle.gpsk_messages.specs.Message.{Message, gpsk1, gpsk2, gpsk3, gpsk4, fail, protected_fail, field_with_length, list_of}
 use Rattle.eap_packet.specs.declared.cause.Cause.{Cause}
 use Rattle.eap_packet.specs.declared.cause.Cause.TheVariants.{ListTooLong}
-use Rattle.gpsk_messages.specs.Reading.{exact_at, gpsk1_at, gpsk2_at, gpsk3_at, gpsk4_at, fail_at, protected_fail_at, fields_at, with_mac, takes_mac, loose_of, judged, read_of}
+use Rattle.gpsk_messages.specs.Reading.{exact_at, gpsk1_at, gpsk2_at, gpsk3_at, gpsk4_at, fail_at, protected_fail_at, fields_at, with_mac, takes_mac, loose_of, outcome_of, read_of}
 use Rattle.gpsk_messages.proofs.FieldLaws.{step_of}
 
 -- fronts of equal length
@@ -26,7 +26,7 @@ ends n x r y s r_size s_size e =
     fronts (length x) x r y s refl (omega (arith, length-append x r, length-append y s)) e
 
 -- fields behind their lengths
-pub sized_fronts : (x r y s : List ℕ) → sized x ++ r ≡ sized y ++ s → (x ≡ y) × (r ≡ s)
+pub sized_fronts : (x r y s : List ℕ) → field_with_length x ++ r ≡ field_with_length y ++ s → (x ≡ y) × (r ≡ s)
 sized_fronts x r y s e =
     let high : length x / 256 ≡ length y / 256 = cc in
     let low : length x % 256 ≡ length y % 256 = cc in
@@ -147,7 +147,7 @@ loose_rands ks (op ∷ octets) message e =
     let g = cond_some {A = Message} (takes_mac ks fields.0.0 (length fields.0.1)) (with_mac fields.0.0 fields.0.1) message fields.2 in
     subst HasRands g.1 (with_mac_rands fields.0.0 fields.0.1 (fields_rands op octets fields.0 fields.1))
 
-pub judged_loose : (loose : Option Message) (message : Message) → judged loose ≡ Ok message → loose ≡ Some message
+pub judged_loose : (loose : Option Message) (message : Message) → outcome_of loose ≡ Ok message → loose ≡ Some message
 judged_loose None message e = absurd cc
 judged_loose (Some found) message e =
     elim (cases_Bool (leb (length (list_of found)) (6 * 20))) [

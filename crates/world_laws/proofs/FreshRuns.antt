@@ -9,9 +9,9 @@ use Rattle.login_setup.specs.declared.event.Event.{Event}
 use Rattle.login_setup.specs.declared.setup.Setup.{Setup}
 use Rattle.peer_machine.specs.Inputs as peer_inputs
 use Rattle.server_machine.specs.Inputs as server_inputs
-use Rattle.eap_world.specs.Conversations.{Conversations, begins, begun, front, hears, is_new, is_used, stands_in, waiting}
+use Rattle.eap_world.specs.Conversations.{Conversations, begins, beginning, front, hears, is_new, is_used, stands_in, waiting}
 use Rattle.world_laws.specs.Fresh.{Happening, came, began, FreshIsTold, came_of, clashes, happens_at, happens_in, happens_unless, history_after, history_of}
-use Rattle.eap_world.specs.World.{Call, WorldNow, call_octets, call_of, conversed, conversed_by, conversed_unless, first_skip, heard_in, run_after, skip_table, to_pass, to_peer, to_server, world_made, world_start, world_step}
+use Rattle.eap_world.specs.World.{Call, WorldNow, call_octets, call_of, conversations_after, conversed_by, conversed_unless, first_skip, heard_in, run_after, skip_table, to_pass, to_peer, to_server, world_made, world_start, world_step}
 use Rattle.tag_book.specs.declared.book.End.{End}
 use Rattle.tag_book.specs.declared.book.End.TheVariants as end
 use Rattle.eap_world.specs.declared.conversations.Begun.{Begun}
@@ -159,9 +159,9 @@ new_told : (t : Conversations) (all : List Happening) (one : Waiting) → one.he
 new_told t all one heard used = rw (heard, used) (not_either _ _ ∙ ap not (sym (split one.nonce all)))
 
 more_used : (all : List Happening) (begun_so : List Begun) (event : ℕ) (of : End) (one nonce : List ℕ) → is_used begun_so nonce ≡ list_any (used_by nonce) all
-    → is_used (begun_so ++ begun event of one ∷ []) nonce ≡ list_any (used_by nonce) (all ++ began one ∷ [])
+    → is_used (begun_so ++ beginning event of one ∷ []) nonce ≡ list_any (used_by nonce) (all ++ began one ∷ [])
 more_used all begun_so event of one nonce e =
-    list_any-append (λ (b : Begun). bytes_eq (front b.nonce) (front nonce)) begun_so (begun event of one ∷ [])
+    list_any-append (λ (b : Begun). bytes_eq (front b.nonce) (front nonce)) begun_so (beginning event of one ∷ [])
     ∙ (ap (λ (b : Bool). b || (bytes_eq (front one) (front nonce) || false)) e ∙ sym (list_any-append (used_by nonce) all (began one ∷ [])))
 
 more_fresh : (t : Conversations) (all : List Happening) (one : Waiting) → Tells t all → one.heard ≡ list_any (heard_by one.nonce) all
@@ -204,7 +204,7 @@ tells_octets t all (Some octets) w = tells_came t all octets w
 
 -- a call that goes on
 tells_on : (event : ℕ) (t : Conversations) (all : List Happening) (call : Call) → begins_anew call ≡ false → Tells t all
-    → Tells (conversed event t call) (all ++ happens_at call)
+    → Tells (conversations_after event t call) (all ++ happens_at call)
 tells_on event t all (to_peer (peer_inputs.octets octets)) same w = tells_came t all octets w
 tells_on event t all (to_peer peer_inputs.idle) same w = tells_octets t all None w
 tells_on event t all (to_peer peer_inputs.alt_accept) same w = tells_octets t all None w
@@ -217,7 +217,7 @@ tells_on event t all (to_server (server_inputs.restart nonce)) same w = absurd c
 tells_on event t all (to_pass input) same w = tells_octets t all (call_octets (to_pass input)) w
 
 tells_call : (event : ℕ) (t : Conversations) (all : List Happening) (call : Call) → IsNext t call → Tells t all
-    → Tells (conversed event t call) (all ++ happens_at call)
+    → Tells (conversations_after event t call) (all ++ happens_at call)
 tells_call event t all call (goes_on _ later same) w = tells_on event t all call same w
 tells_call event t all _ (peer_next one left next) w = rw next (peer_anew t all event one left next w)
 tells_call event t all _ (server_next one left next) w = rw next (server_anew t all event one left next w)

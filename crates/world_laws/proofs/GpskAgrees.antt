@@ -5,7 +5,7 @@ use Rattle.login_setup.specs.declared.setup.PeerSetup.{PeerSetup}
 use Rattle.login_setup.specs.declared.setup.ServerSetup.{ServerSetup}
 use Rattle.eap_base.specs.Among.{gpsk_kind}
 use Rattle.eap_base.specs.Suite.{suite_octets}
-use Rattle.gpsk_messages.specs.Message.{sized, covered_of}
+use Rattle.gpsk_messages.specs.Message.{field_with_length, covered_of}
 use Rattle.login_policy.proofs.Choices.{picked_is_allowed}
 use Rattle.eap_method.specs.declared.tags.TagRecord.{TagRecord}
 use Rattle.eap_method.specs.declared.values.Report.{Report}
@@ -16,7 +16,7 @@ use Rattle.eap_method.specs.Peer.{peer_report_of}
 use Rattle.eap_method.specs.Server.{server_report_of, gpsk_report}
 use Rattle.peer_machine.specs.PeerTable.{PeerNow, selected_report, peer_reports}
 use Rattle.server_machine.specs.ServerTable.{ServerNow, current_report, server_reports}
-use Rattle.eap_world.specs.Judgement.{judged, peer_agrees, server_agrees, is_welcome}
+use Rattle.eap_world.specs.Judgement.{agreement_of, peer_agrees, server_agrees, is_welcome}
 use Rattle.world_laws.specs.Records.{IsIn}
 use Rattle.world_laws.specs.PeerStands.{GpskBegun, gpsk2_record}
 use Rattle.world_laws.specs.ServerStands.{GpskChecked, gpsk2_taken}
@@ -47,36 +47,36 @@ covers_same p s list pd size_1 size_2 size_3 size_4 psk e =
     record { psk = psk; id_p = t0.0; id_s = t1.0; rand_p = t2.0; rand_s = t3.0; suite = suite_fronts p.suite s.suite _ _ t4.1; offered = t4.0 }
 
 -- what the MAC of GPSK-4 covers is shorter than what that of GPSK-2 covers
-longer : (first second rest : List ℕ) → [] ≡ first ++ (sized second ++ rest) → ⊥
+longer : (first second rest : List ℕ) → [] ≡ first ++ (field_with_length second ++ rest) → ⊥
 longer first second rest e =
-    let sizes : length {A = ℕ} [] ≡ length (first ++ (sized second ++ rest)) = ap length e in
-    absurd (omega (arith, length-append first (sized second ++ rest)))
+    let sizes : length {A = ℕ} [] ≡ length (first ++ (field_with_length second ++ rest)) = ap length e in
+    absurd (omega (arith, length-append first (field_with_length second ++ rest)))
 
 not_gpsk4 : (p : peer.Login) (s : server.Login) (pd : List ℕ) → covered_of (gpsk2_taken s pd) ≡ covered_of (peer.gpsk4_of p) → ⊥
 unfolding covered_of
 not_gpsk4 p s pd e =
-    let rest : s.id_p ++ (sized s.own.id_s ++ (s.rand_p ++ (s.nonce ++ (sized (suite_list s.own.suites) ++ (suite_octets s.suite ++ sized pd))))) ≡ [] = cc in
+    let rest : s.id_p ++ (field_with_length s.own.id_s ++ (s.rand_p ++ (s.nonce ++ (field_with_length (suite_list s.own.suites) ++ (suite_octets s.suite ++ field_with_length pd))))) ≡ [] = cc in
     longer s.id_p s.own.id_s _ (sym rest)
 
 -- what the MAC of GPSK-3 covers is shorter than what that of GPSK-2 with the same names, nonces and suite covers, by
 -- ID_Peer with its length, CSuite_List with its length, and the PD block
 covers_more : (id_p id_s rand_p rand_s list suite pd : List ℕ)
-    → sized id_p ++ (sized id_s ++ (rand_p ++ (rand_s ++ (sized list ++ (suite ++ sized pd))))) ≡ rand_p ++ (rand_s ++ (sized id_s ++ (suite ++ sized []))) → ⊥
+    → field_with_length id_p ++ (field_with_length id_s ++ (rand_p ++ (rand_s ++ (field_with_length list ++ (suite ++ field_with_length pd))))) ≡ rand_p ++ (rand_s ++ (field_with_length id_s ++ (suite ++ field_with_length []))) → ⊥
 covers_more id_p id_s rand_p rand_s list suite pd e =
-    let sizes : length (sized id_p ++ (sized id_s ++ (rand_p ++ (rand_s ++ (sized list ++ (suite ++ sized pd))))))
-    ≡ length (rand_p ++ (rand_s ++ (sized id_s ++ (suite ++ sized [])))) = ap length e in
+    let sizes : length (field_with_length id_p ++ (field_with_length id_s ++ (rand_p ++ (rand_s ++ (field_with_length list ++ (suite ++ field_with_length pd))))))
+    ≡ length (rand_p ++ (rand_s ++ (field_with_length id_s ++ (suite ++ field_with_length [])))) = ap length e in
     absurd (omega (
       arith,
-      length-append id_p (sized id_s ++ (rand_p ++ (rand_s ++ (sized list ++ (suite ++ sized pd))))),
-      length-append id_s (rand_p ++ (rand_s ++ (sized list ++ (suite ++ sized pd)))),
-      length-append rand_p (rand_s ++ (sized list ++ (suite ++ sized pd))),
-      length-append rand_s (sized list ++ (suite ++ sized pd)),
-      length-append list (suite ++ sized pd),
-      length-append suite (sized pd),
-      length-append rand_p (rand_s ++ (sized id_s ++ (suite ++ sized []))),
-      length-append rand_s (sized id_s ++ (suite ++ sized [])),
-      length-append id_s (suite ++ sized []),
-      length-append suite (sized []),
+      length-append id_p (field_with_length id_s ++ (rand_p ++ (rand_s ++ (field_with_length list ++ (suite ++ field_with_length pd))))),
+      length-append id_s (rand_p ++ (rand_s ++ (field_with_length list ++ (suite ++ field_with_length pd)))),
+      length-append rand_p (rand_s ++ (field_with_length list ++ (suite ++ field_with_length pd))),
+      length-append rand_s (field_with_length list ++ (suite ++ field_with_length pd)),
+      length-append list (suite ++ field_with_length pd),
+      length-append suite (field_with_length pd),
+      length-append rand_p (rand_s ++ (field_with_length id_s ++ (suite ++ field_with_length []))),
+      length-append rand_s (field_with_length id_s ++ (suite ++ field_with_length [])),
+      length-append id_s (suite ++ field_with_length []),
+      length-append suite (field_with_length []),
     ))
 
 -- the GPSK-2 that the server accepted isn't the GPSK-3 that it made itself
@@ -123,7 +123,7 @@ module _ (peer_setup : PeerSetup) (server_setup : ServerSetup) (p : peer.Login) 
 
   pub gpsk_agree : (now : PeerNow) (other : ServerNow) → now.vars.selected ≡ Some gpsk_kind → now.views.gpsk ≡ peer.over p true
       → other.vars.current ≡ Some gpsk_kind → other.views.gpsk ≡ Some (server.over s true) → IsSame p list s
-      → judged peer_setup server_setup (peer_reports now) (server_reports other) ≡ true
+      → agreement_of peer_setup server_setup (peer_reports now) (server_reports other) ≡ true
   gpsk_agree now other is_selected in_view is_current in_other same =
       let reports : peer.report_of p ≡ server.report_of s = same_reports p list s same in
       let agreed = reports_agree peer_setup server_setup (peer.report_of p) (server.report_of s) reports

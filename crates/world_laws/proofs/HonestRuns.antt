@@ -7,7 +7,7 @@ use Rattle.login_setup.specs.declared.setup.Setup.{Setup}
 use Rattle.tag_book.specs.Book.{first_broken, tags_verdict, tags_verdict_either}
 use Rattle.tag_book.specs.declared.book.Makers.TheVariants.{Either}
 use Rattle.tag_book.specs.declared.book.TagsVerdict.TheVariants.{Honest}
-use Rattle.eap_world.specs.Judgement.{verdict_of, is_success, judged}
+use Rattle.eap_world.specs.Judgement.{verdict_of, is_success}
 use Rattle.eap_world.specs.declared.verdict.Verdict.{Verdict}
 use Rattle.eap_world.specs.declared.verdict.Verdict.TheVariants.{Agree, Apart, Unfinished}
 use Rattle.eap_world.specs.World.{WorldNow}

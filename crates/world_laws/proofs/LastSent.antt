@@ -19,7 +19,7 @@ use Rattle.pass_through.specs.PassTable as passes
 use Rattle.pass_through.specs.PassTable.{Side, PassAnswer}
 use Rattle.pass_through.specs.declared.variables.PassVariables.{PassVariables}
 use Rattle.eap_world.specs.Sent.{Sent, last_to, or_last, same_port}
-use Rattle.eap_world.specs.World.{Call, Parties, called, goes_to, pass_port, sent_by, sent_to, to_pass, to_peer, to_server}
+use Rattle.eap_world.specs.World.{Call, Parties, act_of_call, goes_to, pass_port, sent_by, sent_to, to_pass, to_peer, to_server}
 use Rattle.world_laws.proofs.OneMethod.{some_same}
 use Rattle.world_laws.proofs.PassSpeaks as passing
 use Rattle.world_laws.proofs.PassSpeaks.{Goes, PassSpeaks, pass_speaks}
@@ -251,7 +251,7 @@ module _ (parties : Parties) (sent : List Sent) (said : HaveSaid parties sent) w
   }
 
   pub call_says : (call : Call) → Fits parties call
-      → (let out = called parties call in HaveSaid out.after (sent ++ sent_by out.action))
+      → (let out = act_of_call parties call in HaveSaid out.after (sent ++ sent_by out.action))
   call_says (to_peer input) fits = record {
     peer = peer_says parties sent said input (peer_speaks parties.peer input);
     server = λ begun going. (let was = server_still parties sent said _ _ (server_apart parties.mode) begun going in

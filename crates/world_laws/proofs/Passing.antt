@@ -18,7 +18,7 @@ use Rattle.pass_through.proofs.Running.{carries_what_came}
 use Rattle.eap_world.specs.Conversations.{Conversations}
 use Rattle.world_laws.specs.Passing.{IsHanded, IsOfEvent, IsPassedOn, PassCarries, PassIsAlone, PassIsHanded, PassLearnsNothing, at_port, came_after, came_by, came_in, came_to_pass, came_unless, delivered, delivered_altered, delivered_cut, if_to_end, injected, of_peer, of_server, passed, passed_after, passed_by, sent_by_pass, silent, to_ends}
 use Rattle.eap_world.specs.Sent.{Sent, packet_numbered}
-use Rattle.eap_world.specs.World.{Acted, Call, Parties, WorldNow, act, altered, call_at, call_of, call_with, called, called_unless, first_skip, next_call, octets_of, pass_port, restart_call, run_after, sent_by, sent_to, skip_table, start_call, timer_call, to_pass, to_peer, to_server, world_made, world_start, world_step}
+use Rattle.eap_world.specs.World.{Acted, Call, Parties, WorldNow, act, alteration, call_at, call_of, call_with, act_of_call, called_unless, first_skip, next_call, octets_of, pass_port, restart_call, run_after, sent_by, sent_to, skip_table, start_call, timer_call, to_pass, to_peer, to_server, world_made, world_start, world_step}
 use Rattle.eap_world.specs.declared.conversations.Waiting.{Waiting}
 use Rattle.eap_world.specs.declared.told.Skip.{Skip}
 
@@ -34,7 +34,7 @@ at_its_port : (to : Side) (sent : Option (List ℕ)) → sent_to (pass_port to) 
 at_its_port to None = refl
 at_its_port to (Some octets) = refl
 
-called_does : (parties : Parties) (call : Call) → Does parties (came_by call) (called parties call)
+called_does : (parties : Parties) (call : Call) → Does parties (came_by call) (act_of_call parties call)
 unfolding pass_after pass_sends
 called_does parties (to_peer input) = record { runs = refl; vars = refl; sent = refl }
 called_does parties (to_server input) = record { runs = refl; vars = refl; sent = refl }
@@ -135,7 +135,7 @@ to_an_end passes.Server None = refl
 to_an_end passes.Server (Some octets) = refl
 
 called_ends : (parties : Parties) (call : Call) → parties.mode ≡ mode.Through
-    → to_ends (sent_by (called parties call).action) ≡ passed_by (called parties call).action
+    → to_ends (sent_by (act_of_call parties call).action) ≡ passed_by (act_of_call parties call).action
 called_ends parties (to_peer input) through = rw through (to_the_pass _)
 called_ends parties (to_server input) through = rw through (to_the_other _)
 called_ends parties (to_pass input) through = to_an_end (pass_takes parties.pass input).step.to (pass_takes parties.pass input).step.sent
@@ -266,7 +266,7 @@ event_brings : (conversations : Conversations) (sent : List Sent) (e : Event) �
 event_brings conversations sent (event.Deliver n) =
     with_brings sent _ (packet_numbered sent n) _ (of_packet sent _ _ (λ (o : List ℕ). o) (λ one is. delivered n one is))
 event_brings conversations sent (event.Alter n place mask) =
-    with_brings sent _ (packet_numbered sent n) _ (of_packet sent _ _ (λ (o : List ℕ). altered o place mask) (λ one is. delivered_altered n place mask one is))
+    with_brings sent _ (packet_numbered sent n) _ (of_packet sent _ _ (λ (o : List ℕ). alteration o place mask) (λ one is. delivered_altered n place mask one is))
 event_brings conversations sent (event.Cut n keep) =
     with_brings sent _ (packet_numbered sent n) _ (of_packet sent _ _ (λ (o : List ℕ). take keep o) (λ one is. delivered_cut n keep one is))
 event_brings conversations sent (event.Inject to octets) = may_bring sent _ _ (at_brings sent _ to octets (injected to octets))

@@ -16,7 +16,7 @@ use Rattle.method_laws.specs.GpskPeerRows as gpsk_row
 use Rattle.method_laws.specs.PskPeerRows as psk_row
 use Rattle.method_laws.proofs.GpskPeerCases.{gpsk_peer_steps_are_rows}
 use Rattle.method_laws.proofs.PskPeerCases.{psk_peer_steps_are_rows}
-use Rattle.peer_machine.specs.Expanded.{expressed}
+use Rattle.peer_machine.specs.Expanded.{expanded_answer}
 use Rattle.peer_machine.specs.Inputs as inputs
 use Rattle.peer_machine.specs.Inputs.{PeerInput, restart, peer_takes}
 use Rattle.peer_machine.specs.PeerTable.{PeerNow, PeerAnswer, peer_deliver}
@@ -164,7 +164,7 @@ module _ (setup : PeerSetup) (now : PeerNow) (accepted made : List TagRecord) (s
       heard_in _ whole _ _ (data_stands bytes whole stands)
       (row_heard (inputs.octets bytes) _ (λ nonce e. cc e) (peer_answers_are_rows now (inputs.octets bytes)))
 
-  expressed_heard : (bytes : List ℕ) (out : PeerAnswer) (sent : Option (List ℕ)) → HeardIn bytes out → HeardIn bytes (expressed out sent)
+  expressed_heard : (bytes : List ℕ) (out : PeerAnswer) (sent : Option (List ℕ)) → HeardIn bytes out → HeardIn bytes (expanded_answer out sent)
   expressed_heard bytes out None heard = heard
   expressed_heard bytes out (Some packet) heard = heard
 

@@ -32,7 +32,7 @@ use Rattle.method_laws.specs.GpskPeerRows as gpsk_row
 use Rattle.method_laws.specs.PskPeerRows as psk_row
 use Rattle.method_laws.proofs.GpskPeerCases.{gpsk_peer_steps_are_rows}
 use Rattle.method_laws.proofs.PskPeerCases.{psk_peer_steps_are_rows}
-use Rattle.peer_machine.specs.Expanded.{expressed}
+use Rattle.peer_machine.specs.Expanded.{expanded_answer}
 use Rattle.peer_machine.specs.Inputs.{PeerInput, restart, peer_answers, peer_takes}
 use Rattle.peer_machine.specs.Inputs as inputs
 use Rattle.peer_machine.specs.PeerTable.{PeerNow, PeerAnswer, with_vars, peer_made, own_nonce, peer_restart, is_fail}
@@ -301,7 +301,7 @@ module _ (setup : PeerSetup) (now : PeerNow) (accepted made : List TagRecord) (s
   of_octets bytes = answer_keeps (inputs.octets bytes) (λ nonce e. cc e)
 
   -- lastRespData alone is another where a Response is expressed
-  expressed_keeps : (out : PeerAnswer) (sent : Option (List ℕ)) → Keeps setup accepted made out → Keeps setup accepted made (expressed out sent)
+  expressed_keeps : (out : PeerAnswer) (sent : Option (List ℕ)) → Keeps setup accepted made out → Keeps setup accepted made (expanded_answer out sent)
   expressed_keeps out None kept = kept
   expressed_keeps out (Some packet) kept =
       let s = kept.stands in record { stands = record { own = s.own; tags = s.tags; decided = s.decided; sure = s.sure } }

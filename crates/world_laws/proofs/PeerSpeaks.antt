@@ -24,7 +24,7 @@ use Rattle.method_laws.specs.GpskPeerRows as gpsk_row
 use Rattle.method_laws.specs.PskPeerRows as psk_row
 use Rattle.method_laws.proofs.GpskPeerCases.{gpsk_peer_steps_are_rows}
 use Rattle.method_laws.proofs.PskPeerCases.{psk_peer_steps_are_rows}
-use Rattle.peer_machine.specs.Expanded.{express, expressed, expanded_nak_response}
+use Rattle.peer_machine.specs.Expanded.{express, expanded_answer, expanded_nak_response}
 use Rattle.peer_machine.specs.Inputs.{PeerInput, octets, restart, peer_answers, peer_takes}
 use Rattle.peer_machine.specs.PeerTable.{PeerNow, PeerAnswer, before_method, is_last_id, peer_restart}
 use Rattle.peer_machine.specs.Rows as rows
@@ -188,11 +188,11 @@ module _ (now : PeerNow) where
         repeats bytes out (was_last ∙ ap (λ (n : ℕ). Some n) same) going sent same_id still
 
     expressed_speaks : is_last_id now.vars.last_id (identifier_of bytes) ≡ false → (out : PeerAnswer) → Speaks (octets plain) out
-        → Speaks (octets bytes) (expressed out out.step.sent)
+        → Speaks (octets bytes) (expanded_answer out out.step.sent)
     expressed_speaks new_id _ (rests _ out unsent same_id still) =
-        subst (λ (sent : Option (List ℕ)). Speaks (octets bytes) (expressed out sent)) (sym unsent) (rests _ out unsent same_id still)
+        subst (λ (sent : Option (List ℕ)). Speaks (octets bytes) (expanded_answer out sent)) (sym unsent) (rests _ out unsent same_id still)
     expressed_speaks new_id _ (answers _ packet out is going sent new last_id last) =
-        subst (λ (sent : Option (List ℕ)). Speaks (octets bytes) (expressed out sent)) (sym sent)
+        subst (λ (sent : Option (List ℕ)). Speaks (octets bytes) (expanded_answer out sent)) (sym sent)
         (answers bytes _ _ (express_is _ _ packet (subst (λ (n : ℕ). IsResponse n packet) same is)) going refl new
         (last_id ∙ ap (λ (n : ℕ). Some n) same) refl)
     expressed_speaks new_id _ (repeats _ out was_last going sent same_id still) =

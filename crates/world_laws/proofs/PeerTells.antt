@@ -3,7 +3,7 @@ use Rattle.std.proofs.Common.{◌≡◌, ℕ, ◌≤◌, List, [], ◌++◌, len
 use Rattle.std.specs.Int.{w32, to_be_bytes}
 use Rattle.login_setup.specs.declared.setup.PeerSetup.{PeerSetup}
 use Rattle.eap_base.specs.Among.{psk_kind, gpsk_kind}
-use Rattle.gpsk_messages.specs.Message.{sized, covered_of}
+use Rattle.gpsk_messages.specs.Message.{field_with_length, covered_of}
 use Rattle.eap_method.specs.declared.tags.Label.TheVariants.{Ak, Tek}
 use Rattle.eap_method.specs.declared.tags.TagRecord.{TagRecord}
 use Rattle.eap_method.specs.GpskPeer as gpsk
@@ -117,14 +117,14 @@ gpsk2_covers s p list pd size_1 size_2 size_3 size_4 e =
 
 -- it has more octets than what the MACs of GPSK-4 and of GPSK-Protected-Fail cover
 pub long : (id_p id_s rand_p rest short : List ℕ) → length rand_p ≡ 32 → length short ≤ 4
-    → sized id_p ++ (sized id_s ++ (rand_p ++ rest)) ≡ short → ⊥
+    → field_with_length id_p ++ (field_with_length id_s ++ (rand_p ++ rest)) ≡ short → ⊥
 long id_p id_s rand_p rest short size few e =
-    let sizes : length (sized id_p ++ (sized id_s ++ (rand_p ++ rest))) ≡ length short = ap length e in
-    absurd (omega (arith, length-append id_p (sized id_s ++ (rand_p ++ rest)), length-append id_s (rand_p ++ rest), length-append rand_p rest, size, few))
+    let sizes : length (field_with_length id_p ++ (field_with_length id_s ++ (rand_p ++ rest))) ≡ length short = ap length e in
+    absurd (omega (arith, length-append id_p (field_with_length id_s ++ (rand_p ++ rest)), length-append id_s (rand_p ++ rest), length-append rand_p rest, size, few))
 
 pub not_gpsk4 : (s : gpsk_server.Login) (p : gpsk.Login) (pd : List ℕ) → length s.rand_p ≡ 32 → covered_of (gpsk2_taken s pd) ≡ covered_of (gpsk.gpsk4_of p) → ⊥
 unfolding covered_of
-not_gpsk4 s p pd size e = long s.id_p s.own.id_s s.rand_p _ (sized []) size (omega arith) e
+not_gpsk4 s p pd size e = long s.id_p s.own.id_s s.rand_p _ (field_with_length []) size (omega arith) e
 
 pub not_fail : (s : gpsk_server.Login) (p : gpsk.Login) (pd : List ℕ) (code : ℕ) → length s.rand_p ≡ 32
     → covered_of (gpsk2_taken s pd) ≡ covered_of (gpsk.protected_fail_of p code) → ⊥

@@ -14,7 +14,7 @@ use Rattle.eap_method.specs.Peer.{peer_report_of}
 use Rattle.eap_method.specs.Server.{server_report_of, psk_report}
 use Rattle.peer_machine.specs.PeerTable.{PeerNow, selected_report, peer_reports}
 use Rattle.server_machine.specs.ServerTable.{ServerNow, current_report, server_reports}
-use Rattle.eap_world.specs.Judgement.{judged, peer_agrees, server_agrees, is_welcome}
+use Rattle.eap_world.specs.Judgement.{agreement_of, peer_agrees, server_agrees, is_welcome}
 use Rattle.world_laws.specs.Records.{IsIn}
 use Rattle.world_laws.specs.PeerStands.{PskBegun}
 use Rattle.world_laws.specs.PeerStands as peer_stands
@@ -128,7 +128,7 @@ module _ (peer_setup : PeerSetup) (server_setup : ServerSetup) (p : peer.Login) 
 
   pub psk_agree : (now : PeerNow) (other : ServerNow) → now.vars.selected ≡ Some psk_kind → now.views.psk ≡ peer.over p true
       → other.vars.current ≡ Some psk_kind → other.views.psk ≡ Some (server.over s true) → s.r ≡ 2 → IsSame p s
-      → judged peer_setup server_setup (peer_reports now) (server_reports other) ≡ true
+      → agreement_of peer_setup server_setup (peer_reports now) (server_reports other) ≡ true
   psk_agree now other is_selected in_view is_current in_other r_sent same =
       let reports : peer.report_of p ≡ server.report_of s = same_reports p s same in
       let agreed = reports_agree peer_setup server_setup (peer.report_of p) (server.report_of s) reports

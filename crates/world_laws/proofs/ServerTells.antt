@@ -5,7 +5,7 @@ use Rattle.std.specs.Int.{w32, to_be_bytes}
 use Rattle.login_setup.specs.declared.setup.PeerSetup.{PeerSetup}
 use Rattle.login_setup.specs.declared.setup.ServerSetup.{ServerSetup}
 use Rattle.eap_base.specs.Among.{psk_kind, gpsk_kind}
-use Rattle.gpsk_messages.specs.Message.{covered_of, sized}
+use Rattle.gpsk_messages.specs.Message.{covered_of, field_with_length}
 use Rattle.eap_method.specs.declared.tags.TagRecord.{TagRecord}
 use Rattle.eap_method.specs.GpskPeer as gpsk_peer
 use Rattle.eap_method.specs.GpskServer as gpsk
@@ -224,22 +224,22 @@ module _ (setup : ServerSetup) (nonce : List ℕ) (login : psk.Login) (facts : P
 gpsk2_longer : (id_p id_s rand_p rand_s list suite pd rand_p' rand_s' suite' : List ℕ) → length rand_p ≡ 32 → length rand_s ≡ 32 → length rand_p' ≡ 32
     → length rand_s' ≡ 32
     → length suite ≡ 6 → length suite' ≡ 6
-    → sized id_p ++ (sized id_s ++ (rand_p ++ (rand_s ++ (sized list ++ (suite ++ sized pd))))) ≡ rand_p' ++ (rand_s' ++ (sized id_s ++ (suite' ++ sized []))) → ⊥
+    → field_with_length id_p ++ (field_with_length id_s ++ (rand_p ++ (rand_s ++ (field_with_length list ++ (suite ++ field_with_length pd))))) ≡ rand_p' ++ (rand_s' ++ (field_with_length id_s ++ (suite' ++ field_with_length []))) → ⊥
 gpsk2_longer id_p id_s rand_p rand_s list suite pd rand_p' rand_s' suite' p s p' s' c c' e =
-    let sizes : length (sized id_p ++ (sized id_s ++ (rand_p ++ (rand_s ++ (sized list ++ (suite ++ sized pd))))))
-    ≡ length (rand_p' ++ (rand_s' ++ (sized id_s ++ (suite' ++ sized [])))) = ap length e in
+    let sizes : length (field_with_length id_p ++ (field_with_length id_s ++ (rand_p ++ (rand_s ++ (field_with_length list ++ (suite ++ field_with_length pd))))))
+    ≡ length (rand_p' ++ (rand_s' ++ (field_with_length id_s ++ (suite' ++ field_with_length [])))) = ap length e in
     absurd (omega (
       arith,
-      length-append id_p (sized id_s ++ (rand_p ++ (rand_s ++ (sized list ++ (suite ++ sized pd))))),
-      length-append id_s (rand_p ++ (rand_s ++ (sized list ++ (suite ++ sized pd)))),
-      length-append rand_p (rand_s ++ (sized list ++ (suite ++ sized pd))),
-      length-append rand_s (sized list ++ (suite ++ sized pd)),
-      length-append list (suite ++ sized pd),
-      length-append suite (sized pd),
-      length-append rand_p' (rand_s' ++ (sized id_s ++ (suite' ++ sized []))),
-      length-append rand_s' (sized id_s ++ (suite' ++ sized [])),
-      length-append id_s (suite' ++ sized []),
-      length-append suite' (sized []),
+      length-append id_p (field_with_length id_s ++ (rand_p ++ (rand_s ++ (field_with_length list ++ (suite ++ field_with_length pd))))),
+      length-append id_s (rand_p ++ (rand_s ++ (field_with_length list ++ (suite ++ field_with_length pd)))),
+      length-append rand_p (rand_s ++ (field_with_length list ++ (suite ++ field_with_length pd))),
+      length-append rand_s (field_with_length list ++ (suite ++ field_with_length pd)),
+      length-append list (suite ++ field_with_length pd),
+      length-append suite (field_with_length pd),
+      length-append rand_p' (rand_s' ++ (field_with_length id_s ++ (suite' ++ field_with_length []))),
+      length-append rand_s' (field_with_length id_s ++ (suite' ++ field_with_length [])),
+      length-append id_s (suite' ++ field_with_length []),
+      length-append suite' (field_with_length []),
       p,
       s,
       p',
@@ -261,7 +261,7 @@ module _ (setup : ServerSetup) (nonce : List ℕ) (login : gpsk.Login) (barred :
       (suite_octets theirs.suite) facts.size size checked.size
       (ap length checked.nonce ∙ other_size) refl refl
       (e
-      ∙ ap (λ (name : List ℕ). theirs.rand_p ++ (theirs.nonce ++ (sized name ++ (suite_octets theirs.suite ++ sized []))))
+      ∙ ap (λ (name : List ℕ). theirs.rand_p ++ (theirs.nonce ++ (field_with_length name ++ (suite_octets theirs.suite ++ field_with_length []))))
       (gpsk_name setup other theirs their_barred checked ∙ sym (gpsk_name setup nonce login barred facts)))
 
   not_their_bars : (theirs : gpsk.Login) → covered_of (gpsk2_taken login pd) ≡ covered_of (gpsk.bars_with theirs) → ⊥

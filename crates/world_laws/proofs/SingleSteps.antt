@@ -36,7 +36,7 @@ use Rattle.eap_world.specs.Judgement.{is_success}
 use Rattle.eap_world.specs.Conversations.{Conversations}
 use Rattle.eap_world.specs.Sent.{Sent, last_to, packet_numbered}
 use Rattle.world_laws.specs.SingleSteps.{identifier_of, handed_in, is_delivery_of, is_restart, Sends, AnswersIt, is_again, CountsOn, has_ended, end_state, StepsAreLawful}
-use Rattle.eap_world.specs.World.{Call, Parties, WorldNow, WorldOutcome, act, call_at, call_of, call_with, called, called_unless, conversed, conversed_by, conversed_unless, first_skip, goes_to, held_anew, held_before, held_unless, is_alone, is_delivery, pass_port, pass_state, restart_call, restart_skips, role_in, run_after, sent_to, skip_table, skipped, start_call, state_of, timer_call, timer_skips, to_pass, to_peer, to_server, world_made, world_start, world_step}
+use Rattle.eap_world.specs.World.{Call, Parties, WorldNow, WorldOutcome, act, call_at, call_of, call_with, act_of_call, called_unless, conversations_after, conversed_by, conversed_unless, first_skip, goes_to, held_anew, held_before, held_unless, is_alone, is_delivery, pass_port, pass_state, restart_call, restart_skips, role_in, run_after, sent_to, skip_table, act_of_skip, start_call, state_of, timer_call, timer_skips, to_pass, to_peer, to_server, world_made, world_start, world_step}
 use Rattle.tag_book.specs.declared.book.End.{End}
 use Rattle.tag_book.specs.declared.book.End.TheVariants as end
 use Rattle.tag_book.specs.declared.book.Use.TheVariants.{Accepted}
@@ -57,10 +57,10 @@ use Rattle.world_laws.proofs.ServerSpeaks.{ServerSpeaks, server_speaks}
 -- ---- a step is a skip, or a call that the event is
 
 pub data StepOf (w : WorldNow) (e : Event) : WorldOutcome → Type 0 where
-  is_skipped : (skip : Skip) → StepOf w e (counted_acted w w.held w.conversations (skipped w.parties skip))
+  is_skipped : (skip : Skip) → StepOf w e (counted_acted w w.held w.conversations (act_of_skip w.parties skip))
   is_called : (call : Call) (unskipped : first_skip (skip_table w.parties w.conversations w.sent e) ≡ None)
       (is_call : call_of w.conversations w.sent e ≡ Some call)
-      → StepOf w e (counted_acted w (held_anew w.held call) (conversed (w.counts.events + 1) w.conversations call) (called w.parties call))
+      → StepOf w e (counted_acted w (held_anew w.held call) (conversations_after (w.counts.events + 1) w.conversations call) (act_of_call w.parties call))
 
 unless_of : (w : WorldNow) (e : Event) (skip : Option Skip) (call : Option Call)
     → first_skip (skip_table w.parties w.conversations w.sent e) ≡ skip → call_of w.conversations w.sent e ≡ call
@@ -201,7 +201,7 @@ alone_begun false begun alone ready = ready
 abbrev is_backend_role : Role → Bool
 is_backend_role of = elim of [ role.Backend ↦ true | role.StandAlone ↦ false ]
 
-call_begun : (parties : Parties) (call : Call) → Begun parties → Begun (called parties call).after
+call_begun : (parties : Parties) (call : Call) → Begun parties → Begun (act_of_call parties call).after
 call_begun parties (to_peer input) was = record { role = was.role; begun = was.begun }
 call_begun parties (to_server input) was =
     let before = parties.server.vars in
@@ -315,7 +315,7 @@ made_said setup = record {
   rests = λ alone. refl;
 }
 
-start_begun : (setup : Setup) (m : Mode) → setup.mode ≡ m → Begun (called (world_made setup).parties (start_call m)).after
+start_begun : (setup : Setup) (m : Mode) → setup.mode ≡ m → Begun (act_of_call (world_made setup).parties (start_call m)).after
 unfolding server_start
 start_begun setup mode.Alone is = record { role = refl; begun = λ alone. refl }
 start_begun setup mode.Through is = record { role = refl; begun = λ alone. absurd (let both : mode.Alone ≡ mode.Through = sym alone ∙ is in cc) }

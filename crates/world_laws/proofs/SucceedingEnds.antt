@@ -13,7 +13,7 @@ use Rattle.eap_method.specs.GpskServer as gpsk_server
 use Rattle.eap_method.specs.GpskTags.{sk_record}
 use Rattle.peer_machine.specs.PeerTable.{PeerNow, peer_reports}
 use Rattle.server_machine.specs.ServerTable.{ServerNow, server_reports}
-use Rattle.eap_world.specs.Judgement.{judged, is_success}
+use Rattle.eap_world.specs.Judgement.{agreement_of, is_success}
 use Rattle.world_laws.specs.Records.{IsIn, AreInEither, here}
 use Rattle.world_laws.specs.PeerStands as peers
 use Rattle.world_laws.specs.PeerStands.{PeerStands}
@@ -173,7 +173,7 @@ ends_succeed peer_setup server_setup p s _ _ _ _ peer_nonce server_nonce p_in s_
 -- what both ends report is judged to agree
 pub both_agree : (peer_setup : PeerSetup) (server_setup : ServerSetup) (p : PeerNow) (s : ServerNow)
     → length peer_setup.nonce ≡ 32 → length server_setup.nonce ≡ 32 → BothSucceed peer_setup server_setup p s
-    → judged peer_setup server_setup (peer_reports p) (server_reports s) ≡ true
+    → agreement_of peer_setup server_setup (peer_reports p) (server_reports s) ≡ true
 both_agree peer_setup server_setup p s peer_nonce server_nonce (by_psk login facts other checked is_selected in_view is_current in_other r_sent same) =
     psk.psk_agree peer_setup server_setup login facts other checked peer_nonce server_nonce p s is_selected in_view is_current in_other r_sent same
 both_agree peer_setup server_setup p s peer_nonce server_nonce (by_gpsk login list facts other pd checked is_selected in_view is_current in_other same) =

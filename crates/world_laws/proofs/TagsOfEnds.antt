@@ -9,7 +9,7 @@ use Rattle.eap_method.specs.declared.tags.Label.{Label}
 use Rattle.eap_method.specs.declared.tags.Label.TheVariants.{Ak, Tek, Sk}
 use Rattle.eap_method.specs.declared.tags.TagRecord.{TagRecord}
 use Rattle.eap_method.specs.declared.tags.Tags.{Tags}
-use Rattle.tag_book.specs.Book.{entry, booked, same_end, same_label, label_number, same_tag, is_accepted, vouches, is_honest, first_broken}
+use Rattle.tag_book.specs.Book.{entry, entries_of, same_end, same_label, label_number, same_tag, is_accepted, vouches, is_honest, first_broken}
 use Rattle.tag_book.specs.declared.book.End.{End}
 use Rattle.tag_book.specs.declared.book.End.TheVariants.{Peer, Server}
 use Rattle.tag_book.specs.declared.book.Use.{Use}
@@ -49,7 +49,7 @@ mapped_tags end other how use_of event (tag ∷ rest) =
 
 -- what an event of an end books
 booked_tags : (end other : End) (how : Use) (event : ℕ) (tags : Tags)
-    → tags_by end how (booked event other tags)
+    → tags_by end how (entries_of event other tags)
     ≡ (if same_end other end && same_use Accepted how then tags.accepted else []) ++ (if same_end other end && same_use Made how then tags.made else [])
 booked_tags end other how event tags =
     tags_append end how (map (entry event other Accepted) tags.accepted) (map (entry event other Made) tags.made)
@@ -76,20 +76,20 @@ of_other Server how tags = refl
 
 -- what holds of the lists of an end holds of them with its own event's tags, and stays at the other's event
 module _ (own : End) (P : List TagRecord → List TagRecord → Type 0) (book : List Entry) (event : ℕ) (tags : Tags) where
-  grown : (how : Use) → tags_by own how (book ++ booked event own tags) ≡ tags_by own how book ++ (elim how [ Accepted ↦ tags.accepted | Made ↦ tags.made ])
+  grown : (how : Use) → tags_by own how (book ++ entries_of event own tags) ≡ tags_by own how book ++ (elim how [ Accepted ↦ tags.accepted | Made ↦ tags.made ])
   grown how = tags_append own how book _ ∙ ap (λ xs. tags_by own how book ++ xs) (booked_tags own own how event tags ∙ of_own own how tags)
 
-  stayed : (how : Use) → tags_by own how (book ++ booked event (other_end own) tags) ≡ tags_by own how book
+  stayed : (how : Use) → tags_by own how (book ++ entries_of event (other_end own) tags) ≡ tags_by own how book
   stayed how =
       tags_append own how book _
       ∙ (ap (λ xs. tags_by own how book ++ xs) (booked_tags own (other_end own) how event tags ∙ of_other own how tags) ∙ append-nil (tags_by own how book))
 
   pub grows : P (tags_by own Accepted book ++ tags.accepted) (tags_by own Made book ++ tags.made)
-      → P (tags_by own Accepted (book ++ booked event own tags)) (tags_by own Made (book ++ booked event own tags))
+      → P (tags_by own Accepted (book ++ entries_of event own tags)) (tags_by own Made (book ++ entries_of event own tags))
   grows stands = rw (grown Accepted, grown Made) stands
 
   pub rests : P (tags_by own Accepted book) (tags_by own Made book)
-      → P (tags_by own Accepted (book ++ booked event (other_end own) tags)) (tags_by own Made (book ++ booked event (other_end own) tags))
+      → P (tags_by own Accepted (book ++ entries_of event (other_end own) tags)) (tags_by own Made (book ++ entries_of event (other_end own) tags))
   rests stands = rw (stayed Accepted, stayed Made) stands
 
 -- ---- honesty

@@ -26,7 +26,7 @@ use Rattle.server_machine.specs.ServerTable.{server_start, server_deliver, selec
 use Rattle.server_machine.specs.declared.variables.Progress.TheVariants.{End}
 use Rattle.server_machine.specs.declared.variables.Role.TheVariants.{StandAlone}
 use Rattle.pass_through.specs.PassTable.{pass_made}
-use Rattle.eap_world.specs.Conversations.{begun}
+use Rattle.eap_world.specs.Conversations.{beginning}
 use Rattle.tag_book.specs.declared.book.End.TheVariants as end
 use Rattle.eap_world.specs.World.{world_made, world_start, act, conversed_by, held_before, world_step, outcomes_after, run_after}
 
@@ -96,7 +96,7 @@ identity_round : run_after (world_start (world_made example_setup)).after three
       conversations = record {
         peer_left = [];
         server_left = [];
-        begun = begun 0 end.Peer (replicate 32 17) ∷ begun 0 end.Server (replicate 32 34) ∷ [];
+        begun = beginning 0 end.Peer (replicate 32 17) ∷ beginning 0 end.Server (replicate 32 34) ∷ [];
         fresh = true;
       };
       version = 1;

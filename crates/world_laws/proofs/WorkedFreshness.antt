@@ -11,7 +11,7 @@ use Rattle.login_setup.specs.declared.setup.Setup.{Setup}
 use Rattle.eap_packet.specs.Fault.{fault, packet_of}
 use Rattle.peer_machine.specs.PeerTable.{peer_restart}
 use Rattle.server_machine.specs.ServerTable.{server_deliver, server_restart, server_start}
-use Rattle.eap_world.specs.Conversations.{begun, hears, is_used, since_from, since_of, stands_in, waiting}
+use Rattle.eap_world.specs.Conversations.{beginning, hears, is_used, since_from, since_of, stands_in, waiting}
 use Rattle.eap_world.specs.Run.{run_of}
 use Rattle.eap_world.specs.World.{act, conversed_by, held_before, run_after, world_start, world_step}
 use Rattle.tag_book.specs.declared.book.End.TheVariants as end
@@ -35,11 +35,11 @@ unfolding stands_in
 not_by_its_end = refl
 
 -- nonces that differ behind their first sixteen octets are one
-used_by_its_front : is_used (begun 0 end.Peer counted ∷ []) (take 16 counted ++ replicate 16 0) ≡ true
+used_by_its_front : is_used (beginning 0 end.Peer counted ∷ []) (take 16 counted ++ replicate 16 0) ≡ true
 used_by_its_front = refl
 
 -- the present conversation of an end is its last
-since_its_last : since_of end.Peer (begun 0 end.Peer [] ∷ begun 0 end.Server [] ∷ begun 4 end.Peer [] ∷ begun 7 end.Server [] ∷ []) ≡ 4
+since_its_last : since_of end.Peer (beginning 0 end.Peer [] ∷ beginning 0 end.Server [] ∷ beginning 4 end.Peer [] ∷ beginning 7 end.Server [] ∷ []) ≡ 4
 unfolding since_from
 since_its_last = refl
 

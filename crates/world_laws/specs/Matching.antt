@@ -15,7 +15,7 @@ use Rattle.world_laws.specs.Alone.{SameKeys}
 use Rattle.tag_book.specs.Book.{tags_verdict, tags_verdict_either}
 use Rattle.eap_world.specs.Conversations.{front}
 use Rattle.world_laws.specs.EachConversation.{AreTwoOf, IsOneOf, OfPeer, OfServer, all_accepted, all_made, last_now, nonces_of, peer_conversations, peer_holds, peer_nonce, server_conversations, server_holds, server_nonce}
-use Rattle.eap_world.specs.Judgement.{is_success, judged}
+use Rattle.eap_world.specs.Judgement.{is_success, agreement_of}
 use Rattle.world_laws.specs.Foreign.{HoldWhole}
 use Rattle.world_laws.specs.Logins.{peer_login, server_login}
 use Rattle.world_laws.specs.PeerStands.{PeerStands}
@@ -48,7 +48,7 @@ pub record HoldNonces (p : OfPeer) (s : OfServer) : Type 0 where
 
 -- both report the same, keys included, and both policies allow it
 abbrev pub ReportsAgree : OfPeer → OfServer → Type 0
-ReportsAgree p s = judged p.now.vars.setup s.now.vars.setup (peer_reports p.now) (server_reports s.now) ≡ true
+ReportsAgree p s = agreement_of p.now.vars.setup s.now.vars.setup (peer_reports p.now) (server_reports s.now) ≡ true
 
 -- the login of a conversation of the peer has the method, the suite, the MSK and the EMSK that one of the server reports
 pub record HasSameKeys (p : OfPeer) (s : OfServer) : Type 0 where

@@ -14,7 +14,7 @@ use Rattle.pass_through.specs.PassTable.{pass_made}
 use Rattle.pass_through.specs.Runs.{IsCarried, SentOn, pass_after, pass_sends}
 use Rattle.eap_world.specs.Run.{run_of}
 use Rattle.eap_world.specs.Sent.{Sent, packet_numbered}
-use Rattle.eap_world.specs.World.{Acted, Action, Call, Called, Skipped, WorldNow, act, altered, call_of, called, first_skip, pass_octets, pass_port, sent_by, skip_table, start_call, to_pass, to_peer, to_server, world_made, world_start, world_step}
+use Rattle.eap_world.specs.World.{Acted, Action, Call, Called, Skipped, WorldNow, act, alteration, call_of, act_of_call, first_skip, pass_octets, pass_port, sent_by, skip_table, start_call, to_pass, to_peer, to_server, world_made, world_start, world_step}
 use Rattle.eap_world.specs.declared.told.Skip.{Skip}
 
 -- ---- read off a run
@@ -57,12 +57,12 @@ unfoldable pub passed_after : WorldNow → List Event → List Sent
 passed_after w [] = []
 passed_after w (e ∷ rest) = passed_by (act w.parties w.conversations w.sent e).action ++ passed_after (world_step w e).after rest
 
-abbrev pub started : Setup → Acted
-started setup = called (world_made setup).parties (start_call setup.mode)
+abbrev pub start_act : Setup → Acted
+start_act setup = act_of_call (world_made setup).parties (start_call setup.mode)
 
 -- in the run of these events, with the port to which each packet goes
 abbrev pub sent_by_pass : Setup → List Event → List Sent
-sent_by_pass setup events = passed_by (started setup).action ++ passed_after (world_start (world_made setup)).after events
+sent_by_pass setup events = passed_by (start_act setup).action ++ passed_after (world_start (world_made setup)).after events
 
 -- the packets of a run to the ports of both ends: all that the ends can get of it
 abbrev pub if_to_end : Port → Sent → List Sent → List Sent
@@ -124,7 +124,7 @@ PassCarries = (setup : Setup) (events : List Event) → setup.mode ≡ mode.Thro
 pub data IsHanded (sent : List Sent) : Event → Port → List ℕ → Type 0 where
   delivered : (n : ℕ) (packet : Sent) (is : packet_numbered sent n ≡ Some packet) → IsHanded sent (event.Deliver n) packet.port packet.octets
   delivered_altered : (n place mask : ℕ) (packet : Sent) (is : packet_numbered sent n ≡ Some packet)
-      → IsHanded sent (event.Alter n place mask) packet.port (altered packet.octets place mask)
+      → IsHanded sent (event.Alter n place mask) packet.port (alteration packet.octets place mask)
   delivered_cut : (n keep : ℕ) (packet : Sent) (is : packet_numbered sent n ≡ Some packet)
       → IsHanded sent (event.Cut n keep) packet.port (take keep packet.octets)
   injected : (to : Port) (octets : List ℕ) → IsHanded sent (event.Inject to octets) to octets

@@ -9,7 +9,7 @@ use Rattle.eax_mode.specs.Eax.{eax_tag}
 use Rattle.login_policy.specs.Policy.{picked_suite}
 use Rattle.eap_method.specs.declared.tags.TagRecord.{TagRecord}
 use Rattle.eap_method.specs.GpskPeer as gpsk
-use Rattle.eap_method.specs.GpskTags.{sk_record, tagged}
+use Rattle.eap_method.specs.GpskTags.{sk_record, message_with_mac}
 use Rattle.eap_method.specs.Peer.{PeerViews, credential_for}
 use Rattle.eap_method.specs.PskPeer as psk
 use Rattle.eap_method.specs.PskTags.{ak_record, channel_nonce, done_success, done_failure}
@@ -66,7 +66,7 @@ gpsk2_record login list = sk_record login.cred.psk (gpsk.gpsk2_of login list)
 
 -- the GPSK-3 that it accepts
 abbrev pub gpsk3_taken : gpsk.Login → List ℕ → Message
-gpsk3_taken login pd = tagged login.suite (gpsk.keys_of login).sk (gpsk3 login.nonce login.rand_s login.id_s login.suite pd [])
+gpsk3_taken login pd = message_with_mac login.suite (gpsk.keys_of login).sk (gpsk3 login.nonce login.rand_s login.id_s login.suite pd [])
 
 -- which tags a view of EAP-GPSK determines; a login that has failed had a GPSK-Fail or a GPSK-Protected-Fail
 pub data GpskPeerTags (setup : PeerSetup) : gpsk.View → List TagRecord → List TagRecord → Type 0 where

@@ -10,7 +10,7 @@ use Rattle.gpsk_messages.specs.Message.{Message, gpsk2, gpsk4}
 use Rattle.eax_mode.specs.Eax.{eax_tag}
 use Rattle.eap_method.specs.declared.tags.TagRecord.{TagRecord}
 use Rattle.eap_method.specs.GpskServer as gpsk
-use Rattle.eap_method.specs.GpskTags.{sk_record, suite_list, tagged}
+use Rattle.eap_method.specs.GpskTags.{sk_record, suite_list, message_with_mac}
 use Rattle.eap_method.specs.PskServer as psk
 use Rattle.eap_method.specs.PskTags.{ak_record, tek_record, channel_nonce, done_success}
 use Rattle.eap_method.specs.Server.{ServerViews, side_of}
@@ -53,11 +53,11 @@ pub data PskServerTags (setup : ServerSetup) : psk.View → List TagRecord → L
 -- the GPSK-2 and the GPSK-4 that it accepts
 abbrev pub gpsk2_taken : gpsk.Login → List ℕ → Message
 gpsk2_taken login pd =
-    tagged login.suite (gpsk.keys_of login).sk
+    message_with_mac login.suite (gpsk.keys_of login).sk
     (gpsk2 login.id_p login.own.id_s login.rand_p login.nonce (suite_list login.own.suites) login.suite pd [])
 
 abbrev pub gpsk4_taken : gpsk.Login → List ℕ → Message
-gpsk4_taken login pd = tagged login.suite (gpsk.keys_of login).sk (gpsk4 pd [])
+gpsk4_taken login pd = message_with_mac login.suite (gpsk.keys_of login).sk (gpsk4 pd [])
 
 -- a login by EAP-GPSK of a user of the setup, barred or not: what the server keeps is its setup's, but for RAND_Peer,
 -- which has 32 octets

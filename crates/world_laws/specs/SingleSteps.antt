@@ -21,7 +21,7 @@ use Rattle.eap_world.specs.Run.{run_of}
 use Rattle.eap_world.specs.Judgement.{is_success}
 use Rattle.world_laws.specs.EndsStand.{present_tags}
 use Rattle.eap_world.specs.Sent.{Sent, last_to, packet_numbered}
-use Rattle.eap_world.specs.World.{Parties, WorldNow, WorldOutcome, altered, octets_of, state_of, world_step}
+use Rattle.eap_world.specs.World.{Parties, WorldNow, WorldOutcome, alteration, octets_of, state_of, world_step}
 
 -- the Identifier (RFC 3748 section 4)
 abbrev pub identifier_of : List ℕ → ℕ
@@ -30,7 +30,7 @@ identifier_of octets = slice_index octets 1
 -- the octets that an event delivers to its party
 abbrev pub handed_in : List Sent → Event → List ℕ
 handed_in sent (event.Deliver n) = octets_of (packet_numbered sent n)
-handed_in sent (event.Alter n place mask) = altered (octets_of (packet_numbered sent n)) place mask
+handed_in sent (event.Alter n place mask) = alteration (octets_of (packet_numbered sent n)) place mask
 handed_in sent (event.Cut n keep) = take keep (octets_of (packet_numbered sent n))
 handed_in sent (event.Inject port octets) = octets
 handed_in sent _ = []

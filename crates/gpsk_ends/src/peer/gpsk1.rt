@@ -6,7 +6,7 @@ ghost use Rattle.eap_packet.specs.Packet.{max_type_data};
 ghost use Rattle.gpsk_messages.specs.Reading.{read_of};
 ghost use Rattle.login_policy.specs.Policy.{picked_suite};
 ghost use Rattle.eap_method.specs.GpskPeer.{picks, fresh_reads};
-ghost use Rattle.gpsk_ends.specs.PeerStage.{offered};
+ghost use Rattle.gpsk_ends.specs.PeerStage.{outcome_of_offer};
 
 use crate::hearing::hear;
 use crate::peer::login::Begun;
@@ -21,7 +21,7 @@ use login_policy::pick_suite;
 fn pick<'a>(own: &Begun, id_s: &'a [u8], rand_s: Nonce, list: &'a [u8]) -> Result<Offer<'a>, Cause>
     requires name { length id_s.now ≤ max_name }
     requires few { length list.now ≤ 120 }
-    ensures { (id : ℕ) → offered own.now.cred own.now.nonce id result
+    ensures { (id : ℕ) → outcome_of_offer own.now.cred own.now.nonce id result
         ≡ picks own.now.cred own.now.nonce id id_s.now rand_s list.now (picked_suite own.now.cred.suites list.now) }
 {
     match pick_suite(&own.cred.suites, list) {
@@ -38,7 +38,7 @@ fn pick<'a>(own: &Begun, id_s: &'a [u8], rand_s: Nonce, list: &'a [u8]) -> Resul
 /// The Type-Data at a peer that has begun. `UnknownServer`: it does not accept the server's name.
 pub fn fresh_reads<'a>(own: &Begun, body: &'a [u8]) -> Result<Offer<'a>, Cause>
     requires { length body.now ≤ max_type_data }
-    ensures { (id : ℕ) → offered own.now.cred own.now.nonce id result ≡ fresh_reads own.now.cred own.now.nonce id (read_of None body.now) }
+    ensures { (id : ℕ) → outcome_of_offer own.now.cred own.now.nonce id result ≡ fresh_reads own.now.cred own.now.nonce id (read_of None body.now) }
 {
     match hear(body, None) {
         Err(cause) => Err(cause),

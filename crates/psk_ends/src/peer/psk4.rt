@@ -5,9 +5,9 @@ ghost use Rattle.eap_packet.specs.declared.cause.Cause.TheVariants.{BadTag};
 ghost use Rattle.psk_messages.specs.Message.{psk4};
 ghost use Rattle.eap_method.specs.Room.{HasRoom, replies};
 ghost use Rattle.eap_method.specs.Turns.{fault_if};
-ghost use Rattle.eap_method.specs.PskTags.{psk_response, blank_tag, opened, result_fault, result_of};
+ghost use Rattle.eap_method.specs.PskTags.{psk_response, blank_tag, hidden_octet, result_fault, result_of};
 ghost use Rattle.eap_method.specs.PskPeer.{keys_of, psk4_of, psk4_record, psk3_records, psk3_fault, are_right, confirms};
-ghost use Rattle.psk_ends.specs.Checks.{checked};
+ghost use Rattle.psk_ends.specs.Checks.{value_unless};
 ghost use Rattle.psk_ends.specs.PeerStage.{in_phase, outcome_with};
 ghost use Rattle.psk_ends.specs.declared.peer.stage.Phase.TheVariants.{Wait};
 
@@ -90,10 +90,10 @@ fn confirm(
 
 /// The octet in PCHANNEL, if both tags are right and it has no fault. `BadTag`: one of them is not.
 fn check_tags(login: &Login, header: &[u8], psk3: &Psk3) -> Result<u8, Cause>
-    ensures { result ≡ checked
+    ensures { result ≡ value_unless
         (fault_if (not (are_right login.now header.now psk3.now.mac psk3.now.tag psk3.now.sealed)) BadTag
-        (result_fault (opened (keys_of login.now).tek 0 psk3.now.sealed)))
-        (opened (keys_of login.now).tek 0 psk3.now.sealed) }
+        (result_fault (hidden_octet (keys_of login.now).tek 0 psk3.now.sealed)))
+        (hidden_octet (keys_of login.now).tek 0 psk3.now.sealed) }
 {
     if !equal_in_full(&login.mac_s(), &psk3.mac) {
         return Err(Cause::BadTag);
@@ -106,9 +106,9 @@ fn check_tags(login: &Login, header: &[u8], psk3: &Psk3) -> Result<u8, Cause>
 
 /// The octet in PCHANNEL, if PSK-3 has no fault; else the first one, in the order of the causes.
 fn check_psk3(login: &Login, header: &[u8], psk3: &Psk3) -> Result<u8, Cause>
-    ensures { result ≡ checked
+    ensures { result ≡ value_unless
         (psk3_fault login.now header.now psk3.now.rand_s psk3.now.mac psk3.now.nonce psk3.now.tag psk3.now.sealed)
-        (opened (keys_of login.now).tek 0 psk3.now.sealed) }
+        (hidden_octet (keys_of login.now).tek 0 psk3.now.sealed) }
 {
     if psk3.rand_s.as_slice() != login.rand_s().as_slice() {
         Err(Cause::FieldMismatch)
@@ -147,7 +147,7 @@ pub fn hears_psk3(
     requires header { length header.now ≤ 22 }
     requires waits { phase.old ≡ Wait }
     ensures turn { outcome_with result packet.new tags.new (in_phase phase.new login.now) ≡ confirms login.now id
-        (result_of (opened (keys_of login.now).tek 0 psk3.now.sealed))
+        (result_of (hidden_octet (keys_of login.now).tek 0 psk3.now.sealed))
         (psk3_records login.now header.now psk3.now.mac psk3.now.tag psk3.now.sealed)
         (psk3_fault login.now header.now psk3.now.rand_s psk3.now.mac psk3.now.nonce psk3.now.tag psk3.now.sealed) }
     ensures room { replies result ≡ true → HasRoom packet.new }

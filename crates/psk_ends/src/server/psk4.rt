@@ -3,9 +3,9 @@
 ghost use Rattle.std.specs.Prelude.{◌≡◌, ℕ, ◌≤◌, List, ◌∷◌, [], length, not};
 ghost use Rattle.eap_packet.specs.declared.cause.Cause.TheVariants.{BadTag};
 ghost use Rattle.eap_method.specs.Turns.{fault_if};
-ghost use Rattle.eap_method.specs.PskTags.{opened, is_sealed, result_fault, result_of, tek_record};
+ghost use Rattle.eap_method.specs.PskTags.{hidden_octet, is_sealed, result_fault, result_of, tek_record};
 ghost use Rattle.eap_method.specs.PskServer.{keys_of, psk4_fault, both_succeed, ends};
-ghost use Rattle.psk_ends.specs.Checks.{checked};
+ghost use Rattle.psk_ends.specs.Checks.{value_unless};
 ghost use Rattle.psk_ends.specs.ServerStage.{in_known, outcome_with};
 ghost use Rattle.psk_ends.specs.declared.server.stage.KnownPhase.TheVariants.{Checked};
 
@@ -27,10 +27,10 @@ pub struct Psk4 {
 
 /// The octet in PCHANNEL, if the tag is right and it has no fault. `BadTag`: the tag is wrong.
 fn check_tag(login: &Login, header: &[u8], psk4: &Psk4) -> Result<u8, Cause>
-    ensures { result ≡ checked
+    ensures { result ≡ value_unless
         (fault_if (not (is_sealed (keys_of login.now).tek 1 header.now psk4.now.sealed psk4.now.tag)) BadTag
-        (result_fault (opened (keys_of login.now).tek 1 psk4.now.sealed)))
-        (opened (keys_of login.now).tek 1 psk4.now.sealed) }
+        (result_fault (hidden_octet (keys_of login.now).tek 1 psk4.now.sealed)))
+        (hidden_octet (keys_of login.now).tek 1 psk4.now.sealed) }
 {
     match open(login.tek(), 1, header, psk4.sealed, &psk4.tag) {
         None => Err(Cause::BadTag),
@@ -40,9 +40,9 @@ fn check_tag(login: &Login, header: &[u8], psk4: &Psk4) -> Result<u8, Cause>
 
 /// The octet in PCHANNEL, if PSK-4 has no fault; else the first one, in the order of the causes.
 fn check_psk4(login: &Login, header: &[u8], psk4: &Psk4) -> Result<u8, Cause>
-    ensures { result ≡ checked
+    ensures { result ≡ value_unless
         (psk4_fault login.now header.now psk4.now.rand_s psk4.now.nonce psk4.now.tag psk4.now.sealed)
-        (opened (keys_of login.now).tek 1 psk4.now.sealed) }
+        (hidden_octet (keys_of login.now).tek 1 psk4.now.sealed) }
 {
     if psk4.rand_s.as_slice() != login.rand_s().as_slice() {
         Err(Cause::FieldMismatch)
@@ -85,7 +85,7 @@ pub fn hears_psk4(
     requires header { length header.now ≤ 22 }
     requires awaits { phase.old ≡ Checked }
     ensures { (packet : List ℕ) → outcome_with result packet tags.new (in_known phase.new login.now) ≡ ends login.now
-        (result_of (opened (keys_of login.now).tek 1 psk4.now.sealed))
+        (result_of (hidden_octet (keys_of login.now).tek 1 psk4.now.sealed))
         (tek_record login.now.psk 1 header.now psk4.now.sealed psk4.now.tag ∷ [])
         (psk4_fault login.now header.now psk4.now.rand_s psk4.now.nonce psk4.now.tag psk4.now.sealed) }
 {
