@@ -94,6 +94,11 @@ item_of key.PeerExpanded ws = Set (setting.PeerExpanded (is_yes (word_in ws 1)))
 item_of key.ServerExpanded ws = Set (setting.ServerExpanded (is_yes (word_in ws 1)))
 item_of key.Restart ws = Happens (event.Restart (party_of (word_in ws 1)))
 
+-- what is said is a setting
+abbrev pub IsSet : Entry → Type 0
+IsSet (Set v) = Unit {0}
+IsSet other = ⊥
+
 -- a line of this version has this fault, whatever came before it
 abbrev pub has_fault : Version → List ℕ → LineFault → Bool
 has_fault version line e = line_has row_of (keywords_in version) line e

@@ -6,7 +6,7 @@ ghost use Rattle.text_tables.specs.Words.{words};
 ghost use Rattle.scenario_text.specs.Contents.{entry_with};
 ghost use Rattle.text_tables.specs.Fits.{Fits};
 ghost use Rattle.scenario_text.specs.Keywords.{row_of};
-ghost use Rattle.scenario_text.specs.Entries.{accepts_of, kinds_of, suites_of, port_of, party_of, is_yes, mode_of, item_of};
+ghost use Rattle.scenario_text.specs.Entries.{accepts_of, kinds_of, suites_of, port_of, party_of, is_yes, mode_of, item_of, IsSet};
 
 use crate::keyword::Keyword;
 use eap_base::{Identity, Kinds, Nonce, Suites};
@@ -52,28 +52,6 @@ pub fn item_of(keyword: Keyword, line: &[u8], event: &mut Event) -> Entry
 {
     let first = word_in(line, 1);
     match keyword {
-        Keyword::Mode => Entry::Set(Setting::Mode(mode_of(first))),
-        Keyword::FirstId => Entry::Set(Setting::FirstId(number(first) as u8)),
-        Keyword::MaxRetrans => Entry::Set(Setting::MaxRetrans(number(first) as u8)),
-        Keyword::PeerName => Entry::Set(Setting::PeerName(name(first))),
-        Keyword::PeerServer => Entry::Set(Setting::PeerServer(accepts_of(first))),
-        Keyword::PeerMethods => Entry::Set(Setting::PeerMethods(kinds_of(line))),
-        Keyword::PeerSuites => Entry::Set(Setting::PeerSuites(suites_of(line))),
-        Keyword::PeerPsk => Entry::Set(Setting::PeerKey(Key {
-            kind: kind_of(first),
-            psk: octets(word_in(line, 2)),
-        })),
-        Keyword::PeerNonce => Entry::Set(Setting::PeerNonce(array(first))),
-        Keyword::ServerName => Entry::Set(Setting::ServerName(name(first))),
-        Keyword::ServerMethods => Entry::Set(Setting::ServerMethods(kinds_of(line))),
-        Keyword::ServerSuites => Entry::Set(Setting::ServerSuites(suites_of(line))),
-        Keyword::ServerNonce => Entry::Set(Setting::ServerNonce(array(first))),
-        Keyword::User => Entry::Set(Setting::User(User {
-            name: name(first),
-            kind: kind_of(word_in(line, 2)),
-            psk: octets(word_in(line, 3)),
-            barred: word_in(line, 4) == b"barred".as_slice(),
-        })),
         Keyword::Events => Entry::Events,
         Keyword::End => Entry::End,
         Keyword::Deliver => {
@@ -94,13 +72,6 @@ pub fn item_of(keyword: Keyword, line: &[u8], event: &mut Event) -> Entry
             *event = Event::Cut {
                 number: number(first),
                 keep: number(word_in(line, 2)) as u16,
-            };
-            Entry::Happens
-        }
-        Keyword::Inject => {
-            *event = Event::Inject {
-                port: port_of(first),
-                octets: octets(word_in(line, 2)),
             };
             Entry::Happens
         }
@@ -130,14 +101,68 @@ pub fn item_of(keyword: Keyword, line: &[u8], event: &mut Event) -> Entry
             *event = Event::AltReject;
             Entry::Happens
         }
-        Keyword::PeerExpanded => Entry::Set(Setting::PeerExpanded(is_yes(first))),
-        Keyword::ServerExpanded => Entry::Set(Setting::ServerExpanded(is_yes(first))),
         Keyword::Restart => {
             *event = Event::Restart {
                 party: party_of(first),
             };
             Entry::Happens
         }
+        Keyword::Inject => {
+            inject(line, event);
+            Entry::Happens
+        }
+        _ => set_by(keyword, line),
+    }
+}
+
+/// Writes the injection that a line gives. (By itself, so that no other line makes room for its octets.)
+#[inline(never)]
+#[tactic(auto, unfolding(crate::specs::Entries::item_of))]
+fn inject(line: &[u8], event: &mut Event)
+    requires { Fits (row_of Keyword.Inject) (words line.now) }
+    ensures { item_of Keyword.Inject (words line.now) ≡ entry_with Entry.Happens event.new }
+{
+    *event = Event::Inject {
+        port: port_of(word_in(line, 1)),
+        octets: octets(word_in(line, 2)),
+    };
+}
+
+/// The setting that a keyword gives with the words of its line, which fit its row. (By itself, so that no event makes
+/// room for it.)
+#[inline(never)]
+#[tactic(auto, unfolding(crate::specs::Entries::item_of))]
+fn set_by(keyword: Keyword, line: &[u8]) -> Entry
+    requires { Fits (row_of keyword) (words line.now) }
+    ensures { (event : Event) → IsSet (item_of keyword (words line.now)) → item_of keyword (words line.now) ≡ entry_with result event }
+{
+    let first = word_in(line, 1);
+    match keyword {
+        Keyword::Mode => Entry::Set(Setting::Mode(mode_of(first))),
+        Keyword::FirstId => Entry::Set(Setting::FirstId(number(first) as u8)),
+        Keyword::MaxRetrans => Entry::Set(Setting::MaxRetrans(number(first) as u8)),
+        Keyword::PeerName => Entry::Set(Setting::PeerName(name(first))),
+        Keyword::PeerServer => Entry::Set(Setting::PeerServer(accepts_of(first))),
+        Keyword::PeerMethods => Entry::Set(Setting::PeerMethods(kinds_of(line))),
+        Keyword::PeerSuites => Entry::Set(Setting::PeerSuites(suites_of(line))),
+        Keyword::PeerPsk => Entry::Set(Setting::PeerKey(Key {
+            kind: kind_of(first),
+            psk: octets(word_in(line, 2)),
+        })),
+        Keyword::PeerNonce => Entry::Set(Setting::PeerNonce(array(first))),
+        Keyword::ServerName => Entry::Set(Setting::ServerName(name(first))),
+        Keyword::ServerMethods => Entry::Set(Setting::ServerMethods(kinds_of(line))),
+        Keyword::ServerSuites => Entry::Set(Setting::ServerSuites(suites_of(line))),
+        Keyword::ServerNonce => Entry::Set(Setting::ServerNonce(array(first))),
+        Keyword::User => Entry::Set(Setting::User(User {
+            name: name(first),
+            kind: kind_of(word_in(line, 2)),
+            psk: octets(word_in(line, 3)),
+            barred: word_in(line, 4) == b"barred".as_slice(),
+        })),
+        Keyword::PeerExpanded => Entry::Set(Setting::PeerExpanded(is_yes(first))),
+        Keyword::ServerExpanded => Entry::Set(Setting::ServerExpanded(is_yes(first))),
+        _ => Entry::End,
     }
 }
 
