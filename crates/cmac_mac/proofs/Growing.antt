@@ -154,3 +154,24 @@ ends_taken value held key text front end octets count size n so_far some within 
     let all : IsTakenIn value held count key (text ++ octets) n = subst P whole so_far in
     let place : n ≡ inner_count (text ++ octets) = omega (arith, all.counted) in
     subst Q place all
+
+-- nothing of a text is in the chain
+pub chained_none : (key : List ℕ) → IsChained (replicate 16 0) key [] 0
+chained_none key = record { same = sym (chain-none key []); whole = refl }
+
+-- a text in one piece, of which all blocks before the last one are in the chain
+pub taken_at_once : (value held key text front end : List ℕ) (blocks : List (List ℕ)) (n : ℕ) → front ≡ take (16 * inner_count text) text
+    → end ≡ drop (16 * inner_count text) text → length front ≡ 16 * inner_count text → blocks ≡ first_chunks 16 (length front / 16) front
+    → IsChained value key (concat blocks) n → held ≡ end ++ replicate (16 - length end) 0 → IsTakenIn value held (length end) key text (inner_count text)
+taken_at_once value held key text front end blocks n is_front is_end size are_chunks before is_held =
+    let so_far = chunks_taken value key [] front blocks n (omega arith) are_chunks before in
+    let count : n ≡ inner_count text = omega (arith, so_far.counted) in
+    let whole : front ++ end ≡ text = pieces [] front end text (16 * inner_count text) is_front is_end in
+    record {
+      chained = so_far.chained
+          ∙ sym (chain-append key front end n (omega (arith, so_far.counted)))
+          ∙ ap (λ (l : List ℕ). chain key l n) whole
+          ∙ ap (chain key text) count;
+      counted = omega (arith, size, ap length whole, length-append front end);
+      rest = is_held ∙ ap (λ (l : List ℕ). l ++ replicate (16 - length end) 0) is_end;
+    }

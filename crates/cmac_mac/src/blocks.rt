@@ -1,9 +1,19 @@
 // Blocks of sixteen octets: their sums and their doubles (RFC 4493, section 2).
 
-ghost use Rattle.std.specs.Prelude.{◌≡◌};
+ghost use Rattle.std.specs.Prelude.{◌≡◌, ◌≤◌, ◌-◌, ◌++◌, length, replicate};
 ghost use Rattle.cmac_mac.specs.Cmac as spec;
 
 use std::simd::prelude::*;
+
+// The octets with zeros at their end, up to a whole block.
+pub(crate) fn filled(octets: &[u8]) -> [u8; 16]
+    requires { length octets.now ≤ 16 }
+    ensures { result ≡ octets.now ++ replicate (16 - length octets.now) 0 }
+{
+    let mut block = [0; 16];
+    block[..octets.len()].copy_from_slice(octets);
+    block
+}
 
 // The sum of two blocks.
 pub(crate) fn xor_blocks(left: &[u8; 16], right: &[u8; 16]) -> [u8; 16]

@@ -6,9 +6,9 @@ ghost use Rattle.cmac_mac.specs.Cmac.{aes_cmac};
 ghost use Rattle.cmac_mac.specs.Cmac as spec;
 ghost use Rattle.cmac_mac.specs.Chained.{IsHeld};
 
-use crate::blocks::{double, xor_blocks};
-use crate::taken::Taken;
-use aes_block::Aes128;
+use crate::blocks::{double, filled, xor_blocks};
+use crate::taken::{Taken, chain_blocks};
+use aes_block::{Aes128, BLOCK_LEN};
 use std::marker::Model;
 
 /// A key of 16 octets, expanded, with its subkeys K1 and K2 (RFC 4493, section 2.3).
@@ -78,6 +78,18 @@ impl CmacKey {
             taken.update(self, piece);
         }
         self.finish(&taken)
+    }
+
+    /// The tag of a text in one piece (RFC 4493, section 2.4).
+    pub fn tag_whole(&self, text: &[u8]) -> [u8; 16]
+        ensures { result ≡ aes_cmac self.now text.now }
+    {
+        let inner = text.len().saturating_sub(1) / BLOCK_LEN;
+        let (front, end) = text.split_at(BLOCK_LEN * inner);
+        let (blocks, _) = front.as_chunks::<16>();
+        let chain = chain_blocks(&self.cipher, [0; 16], blocks);
+        let last = self.last_block(&filled(end), end.len());
+        self.cipher.encrypt(&xor_blocks(&chain, &last))
     }
 
     // The tag of what is taken in.

@@ -72,5 +72,5 @@ impl CmacKey {
 pub fn cmac_whole(key: &[u8; 16], text: &[u8]) -> [u8; 16]
     ensures { result ≡ aes_cmac key.now text.now }
 {
-    CmacKey::new(key).tag(text, &[])
+    CmacKey::new(key).tag_whole(text)
 }

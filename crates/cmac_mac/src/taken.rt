@@ -88,7 +88,7 @@ fn chain_block(cipher: &Aes128, chain: &[u8; 16], block: &[u8; 16]) -> [u8; 16]
 }
 
 // The chain, these blocks on.
-fn chain_blocks(cipher: &Aes128, before: [u8; 16], blocks: &[[u8; 16]]) -> [u8; 16]
+pub(crate) fn chain_blocks(cipher: &Aes128, before: [u8; 16], blocks: &[[u8; 16]]) -> [u8; 16]
     ensures { (text : List ℕ) (n : ℕ) → IsChained before cipher.now text n
         → IsChained result cipher.now (text ++ concat blocks.now) (n + length blocks.now) }
 {

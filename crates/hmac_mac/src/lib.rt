@@ -6,6 +6,7 @@ ghost use Rattle.std.specs.Prelude.{◌≡◌, ℕ, ◌≤◌, List, [], ◌++�
 ghost use Rattle.hmac_mac.specs.Hmac.{block_key, filled, hmac_sha256, padded};
 ghost use Rattle.hmac_mac.specs.Holds.{Holds};
 ghost use Rattle.sha2.specs.Hashers.{Holds256};
+ghost use Rattle.sha2.specs.Sha256.{sha256};
 
 use sha2::{Digest, Sha256};
 use std::simd::prelude::*;
@@ -67,6 +68,19 @@ fn copy_of(hash: &Sha256) -> Sha256
     }
 }
 
+// The digest of what the hash was fed, and then the text.
+fn digest_after(hash: &Sha256, text: &[u8]) -> [u8; 32]
+    ensures { (fed : List ℕ) → Holds256 hash.now fed → result ≡ sha256 (fed ++ text.now) }
+{
+    match hash.clone() {
+        Ok(mut copy) => {
+            copy.update(text);
+            copy.finalize()
+        }
+        Err(_) => unreachable!(),
+    }
+}
+
 /// A key that is made once for many texts (RFC 2104, section 4): the states of the inner and of the
 /// outer hash after the key. The key itself isn't kept.
 ///
@@ -90,6 +104,14 @@ impl HmacKey {
             inner: keyed_hash(&block, INNER_PAD),
             outer: keyed_hash(&block, OUTER_PAD),
         }
+    }
+
+    /// HMAC-SHA256 of a text in one piece.
+    #[tactic(auto, unfolding(crate::specs::Holds::IsKeyOf, crate::specs::Hmac::hmac, crate::specs::Hmac::hmac_sha256))]
+    pub fn tag_whole(&self, text: &[u8]) -> [u8; 32]
+        ensures { (key : List ℕ) → IsKeyOf self.now key → result ≡ hmac_sha256 key text.now }
+    {
+        digest_after(&self.outer, &digest_after(&self.inner, text))
     }
 
     /// An authenticator of the empty text under this key.
@@ -147,7 +169,5 @@ impl Hmac {
 pub fn hmac_whole(key: &[u8], text: &[u8]) -> [u8; 32]
     ensures { result ≡ hmac_sha256 key.now text.now }
 {
-    let mut mac = Hmac::new(key);
-    mac.update(text);
-    mac.finish()
+    HmacKey::new(key).tag_whole(text)
 }

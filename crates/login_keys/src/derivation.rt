@@ -1,6 +1,6 @@
 //! The key derivation function of EAP-GPSK.
 
-ghost use Rattle.std.specs.Prelude.{◌≡◌, ℕ, ◌≤◌, List, length, map};
+ghost use Rattle.std.specs.Prelude.{◌≡◌, ℕ, ◌≤◌, List, ◌++◌, length, map, drop};
 ghost use Rattle.std.specs.List.{concat};
 ghost use Rattle.eap_base.specs.Suite.{ks_of};
 ghost use Rattle.login_keys.specs.Gkdf as spec;
@@ -18,22 +18,39 @@ pub fn two_octets(number: u16) -> [u8; 2]
     octets
 }
 
+// GKDF, as below, where Z is what stands behind the first two octets of `front`, the place of a block's
+// number, and then the pieces.
+pub(crate) fn derive(
+    suite: Suite,
+    size: usize,
+    key: &[u8],
+    front: &mut [u8],
+    pieces: &[&[u8]],
+) -> Octets<192>
+    requires limit { size ≤ 160 }
+    requires key { length key.now ≡ ks_of suite }
+    requires number { 2 ≤ length front.old }
+    ensures derived { (z : List ℕ) → z ≡ drop 2 front.old ++ concat (map (λ p. p.now) pieces.now) → result ≡ spec.gkdf suite size key.now z }
+    ensures size { length result ≡ size }
+{
+    let mut out = Octets::new();
+    let mac = MacKey::new(suite, key);
+    'numbers: for done in 0..size.div_ceil(suite.ks()) {
+        BigEndian::write_u16(front, done as u16 + 1);
+        let block = mac.tag(front, pieces);
+        out.put(block.as_slice());
+    }
+    out.truncate(size);
+    out
+}
+
 /// GKDF-X (Y, Z) of at most 160 octets (RFC 5433, section 7). X is `size`, Y is `key`, of KS octets,
 /// and the pieces joined are Z.
-#[tactic(auto, unfolding(crate::specs::Gkdf::gkdf))]
 pub fn gkdf(suite: Suite, size: usize, key: &[u8], pieces: &[&[u8]]) -> Octets<192>
     requires limit { size ≤ 160 }
     requires key { length key.now ≡ ks_of suite }
     ensures derived { (z : List ℕ) → z ≡ concat (map (λ p. p.now) pieces.now) → result ≡ spec.gkdf suite size key.now z }
     ensures size { length result ≡ size }
 {
-    let mac = MacKey::new(suite, key);
-    let mut out = Octets::new();
-    'numbers: for done in 0..size.div_ceil(suite.ks()) {
-        let number = two_octets(done as u16 + 1);
-        let block = mac.tag(&number, pieces);
-        out.put(block.as_slice());
-    }
-    out.truncate(size);
-    out
+    derive(suite, size, key, &mut [0; 2], pieces)
 }

@@ -1,19 +1,23 @@
 //! The key schedule and the MAC of EAP-GPSK.
 
-ghost use Rattle.std.specs.Prelude.{◌≡◌, ◌≤◌, length};
+ghost use Rattle.std.specs.Prelude.{◌≡◌, ◌+◌, ◌*◌, ◌≤◌, length};
 ghost use Rattle.eap_base.specs.Suite.{ks_of};
 ghost use Rattle.eap_base.specs.Sizes.{max_name};
 ghost use Rattle.login_keys.specs.Gkdf.{gpsk_tag_of};
 ghost use Rattle.login_keys.specs.Gpsk.{gpsk_keys_of, keys_from, pk_size};
 ghost use Rattle.login_keys.specs.Gpsk as spec;
 
-use crate::derivation::{gkdf, two_octets};
+use crate::derivation::{derive, two_octets};
+use crate::mac_key::MacKey;
 use cmac_mac::cmac_whole;
 use eap_base::{MAX_NAME, Octets, Suite, array_of};
 use hmac_mac::hmac_whole;
 
-// The most octets of inputString: two nonces and two names.
-const INPUT_ROOM: usize = 2 * (32 + MAX_NAME);
+// The most octets of a block's number and inputString, of two nonces and two names.
+const FRONT_ROOM: usize = 2 + 2 * (32 + MAX_NAME);
+
+// The most octets from which MK is made: those, and PL, PSK and CSuite_Sel.
+const TEXT_ROOM: usize = FRONT_ROOM + 2 + 64 + 6;
 
 /// The keys of an EAP-GPSK login (RFC 5433, section 4). KS is 16 for suite 1 and 32 for suite 2.
 #[derive(Drop)]
@@ -51,28 +55,34 @@ pub fn gpsk_keys(
     ensures sk_size { length result.sk ≡ ks_of suite }
     ensures pk_size { length result.pk ≡ pk_size suite }
 {
-    let mut input: Octets<INPUT_ROOM> = Octets::new();
-    input.put(rand_p);
-    input.put(id_p);
-    input.put(rand_s);
-    input.put(id_s);
-    let mk = master_key(suite, psk, input.as_slice());
-    let derived = gkdf(suite, 160, mk.as_slice(), &[input.as_slice()]);
+    let mut front: Octets<FRONT_ROOM> = Octets::of(&[0; 2]);
+    front.put(rand_p);
+    front.put(id_p);
+    front.put(rand_s);
+    front.put(id_s);
+    let (_, input) = front.as_slice().split_at(2);
+    let mk = master_key(suite, psk, input);
+    let mut room = [0; FRONT_ROOM];
+    let text = &mut room[..front.len()];
+    text.copy_from_slice(front.as_slice());
+    let derived = derive(suite, 160, mk.as_slice(), text, &[]);
     cut_keys(suite, mk, derived.as_slice())
 }
 
-// The master key MK.
-fn master_key<'a>(suite: Suite, psk: &'a [u8], input: &'a [u8]) -> Octets<32>
+// The master key MK: the first block of its derivation is all of it.
+fn master_key(suite: Suite, psk: &[u8], input: &[u8]) -> Octets<32>
     requires long_enough { 32 ≤ length psk.now }
     requires short_enough { length psk.now ≤ 64 }
+    requires fields { length input.now ≤ 2 * (32 + max_name) }
     ensures key { result ≡ spec.master_key suite psk.now input.now }
     ensures size { length result ≡ ks_of suite }
 {
-    let ks = suite.ks();
-    let psk_len = two_octets(psk.len() as u16);
-    let selected = suite.octets();
-    let mk = gkdf(suite, ks, &psk[..ks], &[&psk_len, psk, &selected, input]);
-    Octets::of(mk.as_slice())
+    let mut text: Octets<TEXT_ROOM> = Octets::of(&two_octets(1));
+    text.put(&two_octets(psk.len() as u16));
+    text.put(psk);
+    text.put(&suite.octets());
+    text.put(input);
+    MacKey::new(suite, &psk[..suite.ks()]).tag_whole(text.as_slice())
 }
 
 // The keys that are cut from the octets derived from the master key.

@@ -42,6 +42,9 @@ impl MacKey {
         ensures { (suite : Suite) (key : List ℕ) → IsMacKey self.now suite key
             → result ≡ gpsk_tag_of suite key (front.now ++ concat (map (λ p. p.now) pieces.now)) }
     {
+        if pieces.is_empty() {
+            return self.tag_whole(front);
+        }
         match self {
             MacKey::Cmac(key) => Octets::of(&key.tag(front, pieces)),
             MacKey::Hmac(key) => Octets::of(&hmac_tag(key, front, pieces)),
@@ -55,8 +58,8 @@ impl MacKey {
         ensures size { (suite : Suite) (key : List ℕ) → IsMacKey self.now suite key → length result ≡ ks_of suite }
     {
         match self {
-            MacKey::Cmac(key) => Octets::of(&key.tag(text, &[])),
-            MacKey::Hmac(key) => Octets::of(&hmac_tag(key, text, &[])),
+            MacKey::Cmac(key) => Octets::of(&key.tag_whole(text)),
+            MacKey::Hmac(key) => Octets::of(&key.tag_whole(text)),
         }
     }
 }

@@ -1,14 +1,34 @@
-use Rattle.std.proofs.Common.{ℕ, List, ◌++◌, length, take, refl, ap, ◌∙◌, append-nil}
-use Rattle.eap_base.specs.Suite.{suite_octets}
-use Rattle.login_keys.specs.Gkdf.{gkdf, two_octets}
+use Rattle.std.proofs.Common.{◌≡◌, ℕ, List, [], ◌++◌, length, take, ap, sym, ◌∙◌, arith, append-nil, append_assoc}
+use Rattle.std.proofs.lemmas.List.{take_all}
+use Rattle.eap_base.specs.Suite.{ks_of, suite_octets}
+use Rattle.eap_base.specs.declared.suite.Suite.{Suite}
+use Rattle.eap_base.specs.declared.suite.Suite.TheVariants.{Cmac, Hmac}
+use Rattle.login_keys.specs.Gkdf.{gkdf, gkdf_block, gkdf_blocks, gpsk_tag_of, two_octets}
 use Rattle.login_keys.specs.Gpsk.{master_key}
+use Rattle.login_keys.proofs.Laws.{length_gpsk_tag_of}
 use Rattle.login_keys.proofs.gpsk.master_key.Goals as goal
+
+whole_block : (tag : List ℕ) (n : ℕ) → length tag ≡ n → take n (tag ++ []) ≡ tag
+whole_block tag n e = rw append-nil (take_all n tag (omega arith))
+
+-- KS octets are the first block
+one_block : (suite : Suite) (y z : List ℕ) → gkdf suite (ks_of suite) y z ≡ gpsk_tag_of suite y (two_octets 1 ++ z)
+unfolding gkdf gkdf_blocks gkdf_block
+one_block Cmac y z = whole_block _ 16 (length_gpsk_tag_of Cmac y (two_octets 1 ++ z))
+one_block Hmac y z = whole_block _ 32 (length_gpsk_tag_of Hmac y (two_octets 1 ++ z))
 
 pub returns-clause-key : goal.returns-clause-key
 unfolding master_key
 returns-clause-key c =
-    let z : List ℕ = two_octets (length c.args.psk.now) ++ (c.args.psk.now ++ (suite_octets c.args.suite ++ c.args.input.now)) in
-    c.of.ensures
-    ∙ c.as_slice.ensures.same
-    ∙ c.gkdf-mk.ensures.derived z (rw (c.two_octets-psk_len.ensures, c.octets-selected.ensures, append-nil) refl)
-    ∙ ap (λ (k : ℕ). gkdf c.args.suite k (take k c.args.psk.now) z) c.ks-ks.ensures
+    let suite : Suite = c.args.suite in
+    let z : List ℕ = two_octets (length c.args.psk.now) ++ (c.args.psk.now ++ (suite_octets suite ++ c.args.input.now)) in
+    let is_text : c.as_slice.result.now ≡ two_octets 1 ++ z =
+    rw (c.as_slice.ensures.same, c.put-4.ensures, c.put-3.ensures, c.put-2.ensures, c.put.ensures, c.of-text.ensures, c.two_octets.ensures, c.two_octets-2.ensures, c.octets.ensures)
+    (ap (λ (l : List ℕ). two_octets 1 ++ (two_octets (length c.args.psk.now) ++ l)) (append_assoc c.args.psk.now (suite_octets suite) c.args.input.now)) in
+    c.tag_whole.ensures.tag suite (take c.ks.result c.args.psk.now) c.new.ensures
+    ∙ ap (gpsk_tag_of suite (take c.ks.result c.args.psk.now)) is_text
+    ∙ ap (λ (k : ℕ). gpsk_tag_of suite (take k c.args.psk.now) (two_octets 1 ++ z)) c.ks.ensures
+    ∙ sym (one_block suite (take (ks_of suite) c.args.psk.now) z)
+
+pub returns-clause-size : goal.returns-clause-size
+returns-clause-size c = c.tag_whole.ensures.size c.args.suite _ c.new.ensures
