@@ -26,14 +26,11 @@ for crate in $(sed -n 's/^\([a-z_]*\):.*/\1/p' "$work/crates.txt"); do
     done
 done
 (cd "$work" && rt new crates/login_count start_io >/dev/null 2>&1)
-echo 'login_count: eap_base login_setup eap_method psk_ends gpsk_ends eap_world scenario_text world_commands' >>"$work/crates.txt"
+echo 'login_count: login_setup eap_method end_objects eap_world scenario_text world_commands' >>"$work/crates.txt"
 crate="$work/crates/login_count"
 rm -rf "$crate/proofs" "$crate/specs" "$crate/src" "$crate/stdin" "$crate/stdout" "$crate/BUILD.bazel"
-mkdir -p "$crate/src" "$crate/proofs/login_of"
+mkdir "$crate/src"
 echo 0 >"$crate/stdout"
-# (that a box shows its object's Type is said as where the program makes them)
-sed '/^-- what holds of the words/,$d; s/login_run\.proofs\.program\.answer/login_count.proofs.login_of/; s/ g c =$/ c =/' \
-    "$here/crates/login_run/proofs/program/answer/Answers.antt" >"$crate/proofs/login_of/Answers.antt"
 cat >"$crate/src/main.rt" <<'END'
 //! Runs a login so often, both ends, without text.
 #![tactic(auto)]
@@ -45,13 +42,12 @@ ghost use Rattle.world_commands.specs.Replay.{HasBoth};
 
 use eap_method::{PeerMethod, ServerMethod};
 use eap_world::{MAX_EVENTS, Methods, Verdict, World};
-use gpsk_ends::{GpskPeer, GpskServer};
+use end_objects::{all_peers, all_servers};
 use login_setup::{Event, Setup};
-use psk_ends::{PskPeer, PskServer};
 use scenario_text::{Item, ScenarioReader};
 use std::alloc::Global;
 use std::{env, io};
-use world_commands::{both_peers, both_servers, world_of};
+use world_commands::world_of;
 
 const SCENARIO: &str = "\
 eap-scenario 1
@@ -127,13 +123,8 @@ fn agrees<P: PeerMethod, S: ServerMethod>(alloc: Global, setup: Setup, methods: 
 fn login_of(alloc: Global, setup: &Setup) -> io::Result<bool>
     requires { IsValidSetup setup.now }
 {
-    let psk_peer: Box<dyn PeerMethod> = Box::new(alloc, PskPeer::new())?;
-    let gpsk_peer: Box<dyn PeerMethod> = Box::new(alloc, GpskPeer::new())?;
-    let psk_server: Box<dyn ServerMethod> = Box::new(alloc, PskServer::new())?;
-    let gpsk_server: Box<dyn ServerMethod> = Box::new(alloc, GpskServer::new())?;
-    let peer = both_peers(alloc, psk_peer, gpsk_peer)?;
-    let server = both_servers(alloc, psk_server, gpsk_server)?;
-    Ok(agrees(alloc, setup.copy(), Methods { peer, server }))
+    let methods = Methods { peer: all_peers(alloc)?, server: all_servers(alloc)? };
+    Ok(agrees(alloc, setup.copy(), methods))
 }
 
 /// So many logins; how many of them agreed.

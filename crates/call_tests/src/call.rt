@@ -1,28 +1,38 @@
 //! The one call, and the world of a scenario, over objects of both methods.
 
+ghost use Rattle.std.specs.Prelude.{IfOk};
+ghost use Rattle.end_objects.specs.Objects.{peer_object_shown, server_object_shown};
 ghost use Rattle.scenario_text.specs.Valid.{IsValidSetup};
+ghost use Rattle.world_commands.specs.Replay.{HasBoth};
 
 pub(crate) use command_driver::Status;
-use eap_base::{GPSK_KIND, PSK_KIND};
 use eap_world::{Methods, World};
-use end_objects::{PeerObject, ServerObject, peer_object, server_object};
+use end_objects::{PeerObject, ServerObject, all_peers, all_servers};
 use login_call::eap_login;
 use login_setup::Setup;
 use octet_io::{MemSink, MemSource};
 use std::alloc::Global;
 use std::io;
-use world_commands::{both_peers, both_servers, world_of};
+use world_commands::world_of;
 
 /// A world over objects of both methods.
 pub(crate) type ObjectWorld = World<PeerObject, ServerObject>;
+
+/// An object of each method, for each end.
+fn methods(alloc: Global) -> io::Result<Methods<PeerObject, ServerObject>>
+    ensures { IfOk result (HasBoth peer_object_shown server_object_shown) }
+{
+    Ok(Methods {
+        peer: all_peers(alloc)?,
+        server: all_servers(alloc)?,
+    })
+}
 
 /// The world of these settings.
 pub(crate) fn world(alloc: Global, setup: Setup) -> io::Result<ObjectWorld>
     requires { IsValidSetup setup }
 {
-    let peer = both_peers(alloc, peer_object(PSK_KIND), peer_object(GPSK_KIND))?;
-    let server = both_servers(alloc, server_object(PSK_KIND), server_object(GPSK_KIND))?;
-    Ok(world_of(alloc, setup, Methods { peer, server }))
+    Ok(world_of(alloc, setup, methods(alloc)?))
 }
 
 /// The words of a command, which a space parts; none if the text is empty.
@@ -44,10 +54,7 @@ pub(crate) fn answered(
     mut sink: MemSink,
 ) -> io::Result<(Status, MemSink)> {
     let words = words_of(alloc, command)?;
-    let peer = both_peers(alloc, peer_object(PSK_KIND), peer_object(GPSK_KIND))?;
-    let server = both_servers(alloc, server_object(PSK_KIND), server_object(GPSK_KIND))?;
-    let methods = Methods { peer, server };
-    let status = eap_login(alloc, &words, &mut source, &mut sink, methods);
+    let status = eap_login(alloc, &words, &mut source, &mut sink, methods(alloc)?);
     Ok((status, sink))
 }
 

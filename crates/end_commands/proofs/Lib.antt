@@ -2,7 +2,5 @@
 mod Answering
 -- No line of `peer` or `server` begins as the line of the result does.
 pub mod EndQuiet
--- Where an end has an object of both methods, it has one of each method that its settings name.
-mod Objects
 -- Answering line by line is the text of the end's run.
 mod Scripted

@@ -1,3 +1,5 @@
+-- Where there is an object of both methods, there is one of each method that settings can name.
+pub mod AllKinds
 -- The objects that are made one after the other are of the Types that are wanted, in their order.
 pub mod MadeObjects
 -- Users pass their test exactly where each is of one of the two methods and has a key that fits it.

@@ -10,16 +10,13 @@ ghost use Rattle.login_run.specs.Runs.{after_name, Answers, Exits};
 use crate::exit::{exit_number, failure_number};
 use crate::words::words_after_name;
 use command_driver::Status;
-use eap_method::{PeerMethod, ServerMethod};
 use eap_world::Methods;
-use gpsk_ends::{GpskPeer, GpskServer};
+use end_objects::{all_peers, all_servers};
 use login_call::eap_login;
 use octet_io::{Sink, Source};
-use psk_ends::{PskPeer, PskServer};
 use std::alloc::Global;
 use std::env::Args;
 use std::io;
-use world_commands::{both_peers, both_servers};
 
 /// Answers to the arguments that the program was started with, of which the first is its name, over `source`
 /// and `sink`, and gives the exit status: the number of the status that the words are answered with, 5 if
@@ -44,7 +41,7 @@ pub fn run<S: Source, W: Sink>(
     }
 }
 
-/// Makes the objects of both methods for both ends, and answers to the words after the program's name. An
+/// Makes the objects of all methods for both ends, and answers to the words after the program's name. An
 /// error comes only for want of memory, before anything is read or written.
 fn answer<S: Source, W: Sink>(
     alloc: Global,
@@ -59,12 +56,9 @@ fn answer<S: Source, W: Sink>(
     ensures unwritten { OnErr result (sink.new ≡ sink.old) }
 {
     let words = words_after_name(alloc, args)?;
-    let psk_peer: Box<dyn PeerMethod> = Box::new(alloc, PskPeer::new())?;
-    let gpsk_peer: Box<dyn PeerMethod> = Box::new(alloc, GpskPeer::new())?;
-    let psk_server: Box<dyn ServerMethod> = Box::new(alloc, PskServer::new())?;
-    let gpsk_server: Box<dyn ServerMethod> = Box::new(alloc, GpskServer::new())?;
-    let peer = both_peers(alloc, psk_peer, gpsk_peer)?;
-    let server = both_servers(alloc, psk_server, gpsk_server)?;
-    let methods = Methods { peer, server };
+    let methods = Methods {
+        peer: all_peers(alloc)?,
+        server: all_servers(alloc)?,
+    };
     Ok(eap_login(alloc, &words, source, sink, methods))
 }

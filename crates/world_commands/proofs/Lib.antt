@@ -6,7 +6,7 @@ pub mod Headline
 pub mod Inputs
 -- No trace with status 0 has both the line of honest tags and the line of ends that are apart.
 pub mod NeverReplayed
--- Where each end has an object of both methods, it has one of each method that a setup names.
+-- The methods are there until the world begins, which has an object of each that its setup names.
 pub mod Ready
 -- Replaying line by line answers what the scenario's run says.
 pub mod Replaying

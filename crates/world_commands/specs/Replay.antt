@@ -1,8 +1,8 @@
 -- The command replay: a scenario is read line by line, and each event is run as it comes.
-use Rattle.std.specs.Prelude.{◌≡◌, ℕ, List, [], ◌∷◌, Bool, true, false, nat_le, if◌then◌else◌, Option, Some, None, Result, Ok, Err, codes, map, option_map, IfSome}
+use Rattle.std.specs.Prelude.{◌≡◌, ℕ, List, [], Bool, true, false, nat_le, if◌then◌else◌, Option, Some, None, Result, Ok, Err, codes, map, option_map, IfSome, IsTrue}
 use Rattle.login_setup.specs.declared.event.Event.{Event}
+use Rattle.login_setup.specs.Setup.{are_kinds}
 use Rattle.login_setup.specs.declared.setup.Setup.{Setup}
-use Rattle.eap_base.specs.Among.{psk_kind, gpsk_kind}
 use Rattle.eap_method.specs.Peer.{PeerShown, peer_kinds, have_each}
 use Rattle.eap_method.specs.Server.{ServerShown, server_kinds}
 use Rattle.eap_world.specs.World.{HasObjects, WorldNow, now_of, world_made, world_start, world_step}
@@ -32,10 +32,10 @@ module _ {P S : Type 0} (peer_shown : P → PeerShown) (server_shown : S → Ser
   abbrev pub seen_of : Replay P S → ReplayNow
   seen_of c = record { names = c.names; reader = c.reader; world = option_map (now_of peer_shown server_shown) c.world }
 
-  -- each end has an object of each method
+  -- each end has an object of each method that settings can name
   pub record HasBoth (methods : Methods P S) : Type 0 where
-    pub peer : have_each (peer_kinds (map peer_shown methods.peer.items)) (psk_kind ∷ gpsk_kind ∷ []) ≡ true
-    pub server : have_each (server_kinds (map server_shown methods.server.items)) (psk_kind ∷ gpsk_kind ∷ []) ≡ true
+    pub peer : (kinds : List ℕ) → IsTrue (are_kinds kinds) → have_each (peer_kinds (map peer_shown methods.peer.items)) kinds ≡ true
+    pub server : (kinds : List ℕ) → IsTrue (are_kinds kinds) → have_each (server_kinds (map server_shown methods.server.items)) kinds ≡ true
 
   abbrev pub AreThere : Option (Methods P S) → Type 0
   AreThere None = ⊥

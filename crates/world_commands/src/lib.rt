@@ -5,11 +5,9 @@
 mod beginning;
 mod bulk;
 mod laws;
-mod objects;
 mod replay;
 
 pub use beginning::world_of;
 pub use bulk::{Bulk, bulk_of, run_bulk};
 pub use laws::{inputs_are_scenarios, smooth_traces_agree};
-pub use objects::{both_peers, both_servers};
 pub use replay::replay_scenario;
