@@ -3,7 +3,7 @@ use Rattle.std.proofs.Common.{◌≡◌, ℕ, ◌≤◌, List, [], ◌∷◌, le
 use Rattle.eap_packet.specs.declared.packet.Code.{Code}
 use Rattle.eap_packet.specs.declared.packet.Code.TheVariants as code
 use Rattle.eap_packet.specs.Packet.{request, response, spelled, has_type, value_with}
-use Rattle.eap_method.specs.declared.tags.Tags.{Tags}
+use Rattle.eap_method.specs.Tags.{Tags}
 use Rattle.eap_method.specs.declared.turn.ServerTurn as brief
 use Rattle.eap_method.specs.declared.turn.ServerTurn.TheVariants as turn
 use Rattle.eap_method.specs.ServerTurn.{ServerTurn, server_turn_with}

@@ -1,12 +1,11 @@
 -- A peer's whole answer to a Request of its method, with what it writes.
 use Rattle.std.specs.Prelude.{ℕ, List}
 use Rattle.eap_packet.specs.declared.cause.Cause.{Cause}
-use Rattle.eap_method.specs.declared.tags.Tags.{Tags}
+use Rattle.eap_method.specs.Tags.{Tags, no_tags}
 use Rattle.eap_method.specs.declared.turn.PeerTurn as brief
 use Rattle.eap_method.specs.declared.turn.PeerTurn.TheVariants as answer
 use Rattle.eap_method.specs.declared.values.MethodState.{MethodState}
 use Rattle.eap_method.specs.declared.values.Decision.{Decision}
-use Rattle.eap_method.specs.Tags.{no_tags}
 
 -- a discard; or a Response, the methodState and the decision after it, and the records of the tags
 -- accepted and made

@@ -1,10 +1,9 @@
 -- A server's whole answer to a Response of its method, with what it writes.
 use Rattle.std.specs.Prelude.{ℕ, List, Bool}
 use Rattle.eap_packet.specs.declared.cause.Cause.{Cause}
-use Rattle.eap_method.specs.declared.tags.Tags.{Tags}
+use Rattle.eap_method.specs.Tags.{Tags, no_tags}
 use Rattle.eap_method.specs.declared.turn.ServerTurn as brief
 use Rattle.eap_method.specs.declared.turn.ServerTurn.TheVariants as answer
-use Rattle.eap_method.specs.Tags.{no_tags}
 
 -- a discard; the next Request; or the end of the method, with success or not; with the records of the
 -- tags accepted and made

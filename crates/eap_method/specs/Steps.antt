@@ -4,8 +4,7 @@ use Rattle.eap_packet.specs.declared.cause.Cause.{Cause}
 use Rattle.eap_packet.specs.declared.state.State.{State}
 use Rattle.eap_packet.specs.declared.state.State.TheVariants as state
 use Rattle.eap_method.specs.declared.step.Step as brief
-use Rattle.eap_method.specs.declared.tags.Tags.{Tags}
-use Rattle.eap_method.specs.Tags.{no_tags}
+use Rattle.eap_method.specs.Tags.{Tags, no_tags}
 
 -- what one call does, with what it writes: the states that it enters, the cause of a discard, the packet
 -- that it sends, the records of the tags accepted and made

@@ -2,9 +2,11 @@
 //! into a login and gets from it, its turn for each packet, and the records of its tags.
 #![tactic(auto)]
 
+mod note;
 mod peer;
 mod peer_objects;
 mod psk_macs;
+mod records;
 mod server;
 mod server_objects;
 mod step;
@@ -15,9 +17,10 @@ mod values;
 pub use peer::PeerMethod;
 pub use peer_objects::{begin_peers, hand_to_peer, peer_report};
 pub use psk_macs::{mac_p, mac_s};
+pub use records::{Kept, NoRecords, Records};
 pub use server::ServerMethod;
 pub use server_objects::{begin_servers, hand_to_server, offer_method, server_report};
 pub use step::{Step, has_ended};
-pub use tags::{Label, TagList, TagRecord, Tags};
+pub use tags::{Covering, Label, TagList, TagRecord, Tags};
 pub use turn::{PeerTurn, ServerTurn};
 pub use values::{Credential, Decision, MethodState, Report, ServerSide};

@@ -6,6 +6,7 @@ ghost use Rattle.eap_method.specs.Peer.{peer_kind, peer_begun, peer_step, peer_r
 ghost use Rattle.eap_method.specs.PeerTurn.{peer_turn_with, peer_tags};
 ghost use Rattle.eap_method.specs.Room.{HasRoom, replies};
 
+use crate::records::Records;
 use crate::tags::Tags;
 use crate::turn::PeerTurn;
 use crate::values::{Credential, Report};
@@ -32,7 +33,12 @@ pub trait PeerMethod: Drop {
     /// `packet` in place of what was there, the records of its tags into `tags`. It leaves room for an
     /// Expanded Type: it has at most 1,493 octets. A discard leaves no record, and `packet` is then
     /// unspecified.
-    fn handle(&mut self, request: &[u8], packet: &mut Packet, tags: &mut Tags) -> PeerTurn
+    fn handle<R: Records>(
+        &mut self,
+        request: &[u8],
+        packet: &mut Packet,
+        tags: &mut Tags<R>,
+    ) -> PeerTurn
         requires { IsRequest (peer_kind (peer_shown self.old)) request.now }
         ensures turn { peer_step (peer_shown self.old) request.now
             ≡ record { turn = peer_turn_with result packet.new tags.new; after = peer_shown self.new } }
@@ -42,24 +48,4 @@ pub trait PeerMethod: Drop {
     /// What the peer has after a login that succeeded; None before and after any other.
     fn report(&self) -> Option<Report>
         ensures { result ≡ peer_report (peer_shown self.now) };
-}
-
-impl PeerMethod for Box<dyn PeerMethod> {
-    ghost peer_shown = { λ b. (PeerMethod-box b).peer_shown b.value };
-
-    fn kind(&self) -> u8 {
-        (**self).kind()
-    }
-
-    fn begin(&mut self, cred: &Credential, nonce: &Nonce) {
-        (**self).begin(cred, nonce)
-    }
-
-    fn handle(&mut self, request: &[u8], packet: &mut Packet, tags: &mut Tags) -> PeerTurn {
-        (**self).handle(request, packet, tags)
-    }
-
-    fn report(&self) -> Option<Report> {
-        (**self).report()
-    }
 }

@@ -10,6 +10,7 @@ ghost use Rattle.eap_method.specs.PeerTurn.{peer_turn_with, peer_tags};
 ghost use Rattle.eap_method.specs.Room.{HasRoom, replies};
 
 use crate::peer::PeerMethod;
+use crate::records::Records;
 use crate::tags::Tags;
 use crate::turn::PeerTurn;
 use crate::values::{Credential, Report};
@@ -35,12 +36,12 @@ pub fn begin_peers<M: PeerMethod>(methods: &mut [M], setup: &PeerSetup)
 /// its Length: its Response is written into `packet`, with room for an Expanded Type, the records of its
 /// tags into `tags`. If there is no such object, the Request is discarded as one that no method
 /// awaits. The objects of other methods stay as they are.
-pub fn hand_to_peer<M: PeerMethod>(
+pub fn hand_to_peer<M: PeerMethod, R: Records>(
     methods: &mut [M],
     kind: u8,
     request: &[u8],
     packet: &mut Packet,
-    tags: &mut Tags,
+    tags: &mut Tags<R>,
 ) -> PeerTurn
     requires { IsRequest kind request.now }
     ensures turn { (allowed : List ℕ) → is_among allowed kind ≡ true → peer_turn kind (peer_views allowed (map M.peer_shown methods.old)) request.now

@@ -6,6 +6,7 @@ ghost use Rattle.eap_method.specs.Server.{server_kind, server_begun, has_begun, 
 ghost use Rattle.eap_method.specs.Room.{HasRoom, requests};
 ghost use Rattle.eap_method.specs.ServerTurn.{server_turn_with, server_tags};
 
+use crate::records::Records;
 use crate::tags::Tags;
 use crate::turn::ServerTurn;
 use crate::values::{Report, ServerSide};
@@ -40,13 +41,13 @@ pub trait ServerMethod: Drop {
     /// the turn's tags into `tags`. It leaves room for an Expanded Type: it has at most 1,493 octets. A
     /// discard leaves no record; without a Request `packet` is unspecified. The users' keys have 16
     /// octets for EAP-PSK, 32 to 64 for EAP-GPSK.
-    fn handle(
+    fn handle<R: Records>(
         &mut self,
         response: &[u8],
         next_id: u8,
         users: &Users,
         packet: &mut Packet,
-        tags: &mut Tags,
+        tags: &mut Tags<R>,
     ) -> ServerTurn
         requires response { IsResponse (server_kind (server_shown self.old)) response.now }
         requires keys { All (λ user. IsTrue (fits_kind user.kind user.psk)) users.now }
@@ -58,35 +59,4 @@ pub trait ServerMethod: Drop {
     /// What the server has after a login that succeeded; None before and after any other.
     fn report(&self) -> Option<Report>
         ensures { result ≡ server_report (server_shown self.now) };
-}
-
-impl ServerMethod for Box<dyn ServerMethod> {
-    ghost server_shown = { λ b. (ServerMethod-box b).server_shown b.value };
-
-    fn kind(&self) -> u8 {
-        (**self).kind()
-    }
-
-    fn begin(&mut self, own: &ServerSide, nonce: &Nonce) {
-        (**self).begin(own, nonce)
-    }
-
-    fn first(&mut self, id: u8, packet: &mut Packet) {
-        (**self).first(id, packet)
-    }
-
-    fn handle(
-        &mut self,
-        response: &[u8],
-        next_id: u8,
-        users: &Users,
-        packet: &mut Packet,
-        tags: &mut Tags,
-    ) -> ServerTurn {
-        (**self).handle(response, next_id, users, packet, tags)
-    }
-
-    fn report(&self) -> Option<Report> {
-        (**self).report()
-    }
 }

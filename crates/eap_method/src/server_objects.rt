@@ -10,6 +10,7 @@ ghost use Rattle.eap_method.specs.ServerTurn.{server_turn_with, server_tags};
 ghost use Rattle.eap_method.specs.Server.{server_kinds, server_views, server_offer, server_turn, IsResponse, server_report_of, side_of, views_begun};
 ghost use Rattle.eap_method.specs.Unnamed.{servers_unnamed};
 
+use crate::records::Records;
 use crate::server::ServerMethod;
 use crate::tags::Tags;
 use crate::turn::ServerTurn;
@@ -67,14 +68,14 @@ pub fn offer_method<M: ServerMethod>(
 /// past its Length: a Request that follows has the Identifier `next_id` and is written into `packet`,
 /// the records of the turn's tags into `tags`. If there is no such object, the Response is discarded
 /// as one that no method awaits. The objects of other methods stay as they are.
-pub fn hand_to_server<M: ServerMethod>(
+pub fn hand_to_server<M: ServerMethod, R: Records>(
     methods: &mut [M],
     kind: u8,
     response: &[u8],
     next_id: u8,
     users: &Users,
     packet: &mut Packet,
-    tags: &mut Tags,
+    tags: &mut Tags<R>,
 ) -> ServerTurn
     requires response { IsResponse kind response.now }
     requires keys { All (λ user. IsTrue (fits_kind user.kind user.psk)) users.now }

@@ -5,6 +5,8 @@ ghost use Rattle.std.specs.List.{concat};
 ghost use Rattle.eap_base.specs.Sizes.{max_packet};
 ghost use Rattle.eap_method.specs.Tags.{no_tags};
 
+use crate::note::Note;
+use crate::records::{Kept, Records};
 use eap_base::{Octets, Packet, Secret};
 use std::marker::Model;
 
@@ -49,18 +51,40 @@ impl TagRecord {
     }
 
     /// Writes this record in place of what was there.
-    fn write(&mut self, method: u8, label: Label, psk: &Secret, covered: &[&[u8]], tag: &[u8])
-        requires covered { length (concat (map (λ p. p.now) covered.now)) ≤ max_packet }
-        requires tag { length tag.now ≤ 32 }
-        ensures { self.new ≡ record { method = method; label = label; psk = psk.now; octets = concat (map (λ p. p.now) covered.now); tag = tag.now } }
+    pub(crate) fn write(&mut self, tag: &Covering)
+        ensures { self.new ≡ tag.now }
     {
-        self.method = method;
-        self.label = label;
-        self.psk.set(psk.as_slice());
+        self.method = tag.method;
+        self.label = tag.label;
+        self.psk.set(tag.psk.as_slice());
         self.octets.clear();
-        append_each(&mut self.octets, covered);
-        self.tag.set(tag);
+        append_each(&mut self.octets, tag.covered);
+        self.tag.set(tag.tag);
     }
+}
+
+/// A tag as the code has it: the octets that it covers in pieces, together at most 1,500, and its own, at most 32.
+/// Contracts see its record.
+#[derive(Drop)]
+pub struct Covering<'a> {
+    pub(crate) method: u8,
+    pub(crate) label: Label,
+    pub(crate) psk: &'a Secret,
+    pub(crate) covered: &'a [&'a [u8]],
+    pub(crate) tag: &'a [u8],
+}
+
+impl<'a> Model for Covering<'a> {
+    ghost use Rattle.std.specs.Prelude.{map, length, ◌≤◌};
+    ghost use Rattle.std.specs.List.{concat};
+    ghost use Rattle.eap_base.specs.Sizes.{max_packet};
+    ghost use Rattle.eap_method.specs.declared.tags.TagRecord.{TagRecord};
+
+    ghost Value = { TagRecord };
+
+    ghost view = { λ c. record { method = c.method; label = c.label; psk = c.psk.now; octets = concat (map (λ p. p.now) c.covered.now); tag = c.tag.now } };
+
+    ghost invariant = { λ c. (length (concat (map (λ p. p.now) c.covered.now)) ≤ max_packet) × (length c.tag.now ≤ 32) };
 }
 
 /// Appends the pieces, which fit.
@@ -75,32 +99,35 @@ fn append_each(octets: &mut Packet, pieces: &[&[u8]])
     }
 }
 
-/// At most 2 records, in the order of the message's tags. Contracts see the list of the records.
+/// At most 2 records, in the order of the message's tags. Contracts see the list of the records, whether there is room
+/// for them or not.
 #[derive(Drop)]
-pub struct TagList {
-    records: [TagRecord; 2],
+pub struct TagList<R: Records> {
+    room: R,
     count: usize,
+    note: Note,
 }
 
-impl Model for TagList {
-    ghost use Rattle.std.specs.Prelude.{List, take, length, ◌≡◌, ◌≤◌};
+impl<R: Records> Model for TagList<R> {
+    ghost use Rattle.std.specs.Prelude.{List, length, ◌≡◌, ◌≤◌};
     ghost use Rattle.eap_method.specs.declared.tags.TagRecord.{TagRecord};
 
     ghost Value = { List TagRecord };
 
-    ghost view = { λ l. take l.count l.records };
+    ghost view = { λ l. l.note.records };
 
-    ghost invariant = { λ l. (l.count ≤ 2) × (length l.records ≡ 2) };
+    ghost invariant = { λ l. (l.count ≤ 2) × (l.count ≡ length l.note.records) × R.keeps l.room l.note.records };
 }
 
-impl TagList {
+impl<R: Records> TagList<R> {
     /// No records.
-    pub fn new() -> TagList
+    pub fn new() -> TagList<R>
         ensures { result ≡ [] }
     {
         TagList {
-            records: [TagRecord::default(), TagRecord::default()],
+            room: R::new(),
             count: 0,
+            note: Note::none(),
         }
     }
 
@@ -108,7 +135,9 @@ impl TagList {
     pub fn clear(&mut self)
         ensures { self.new ≡ [] }
     {
+        self.room.clear();
         self.count = 0;
+        self.note = Note::none();
     }
 
     /// Appends a record and answers true. If 2 records are there it answers false and changes
@@ -138,31 +167,49 @@ impl TagList {
         if self.count >= 2 {
             return false;
         }
-        self.records[self.count].write(method, label, psk, covered, tag);
+        let tag = Covering {
+            method,
+            label,
+            psk,
+            covered,
+            tag,
+        };
+        self.room.put(&tag);
         self.count += 1;
+        self.note = self.note.and(&tag);
         true
     }
+}
 
+impl TagList<Kept> {
     /// The records in order.
     pub fn as_slice(&self) -> &[TagRecord]
         ensures same { result.now ≡ self.now }
         ensures fits { length result.now ≤ 2 }
     {
-        &self.records[..self.count]
+        self.room.as_slice()
     }
 }
 
 /// The records of a turn: of the tags accepted in the message received, and of those made for the
 /// message sent.
 #[derive(Drop)]
-pub struct Tags {
-    pub accepted: TagList,
-    pub made: TagList,
+pub struct Tags<R: Records> {
+    pub accepted: TagList<R>,
+    pub made: TagList<R>,
 }
 
-impl Tags {
+impl<R: Records> Model for Tags<R> {
+    ghost use Rattle.eap_method.specs.Tags.{Tags};
+
+    ghost Value = { Tags };
+
+    ghost view = { λ t. record { accepted = t.accepted; made = t.made } };
+}
+
+impl<R: Records> Tags<R> {
     /// No records.
-    pub fn new() -> Tags
+    pub fn new() -> Tags<R>
         ensures { result ≡ no_tags }
     {
         Tags {

@@ -5,7 +5,7 @@ ghost use Rattle.eap_base.specs.Sizes.{max_packet};
 ghost use Rattle.eap_method.specs.Steps.{is_end, step_with};
 ghost use Rattle.pass_through.specs.PassTable as passes;
 ghost use Rattle.server_machine.specs.ServerTable as servers;
-ghost use Rattle.eap_method.specs.declared.tags.Tags.{Tags};
+ghost use Rattle.eap_method.specs.Tags as records;
 ghost use Rattle.eap_world.specs.Store.{sent_of_slot};
 ghost use Rattle.eap_world.specs.World.{Does, DoesCall, HaveObjects, IsServing, aaa_skips, act, action_with, alteration, call_at, call_with, act_of_call};
 ghost use Rattle.eap_world.specs.World.{conversed_by, did_at, did_by, first_skip, goes_to, is_absent, octets_of, packet_skips, parties_of};
@@ -19,7 +19,7 @@ use crate::conversations::Conversations;
 use crate::store::{Store, Stored};
 use crate::told::Skip;
 use eap_base::Packet;
-use eap_method::{PeerMethod, ServerMethod, Step, Tags};
+use eap_method::{Kept, PeerMethod, ServerMethod, Step, Tags};
 use login_setup::{Event, Mode, Party, Port};
 use pass_through::PassThrough;
 use peer_machine::PeerMachine;
@@ -58,7 +58,7 @@ pub struct Machines<P, S> {
     /// Where a machine writes the packet that it sends, before it is stored.
     pub packet: Packet,
     /// Where a machine writes the records of its tags, before they are booked.
-    pub tags: Tags,
+    pub tags: Tags<Kept>,
 }
 
 impl<P: PeerMethod, S: ServerMethod> Machines<P, S> {
@@ -383,7 +383,7 @@ impl<P: PeerMethod, S: ServerMethod> Machines<P, S> {
 
 /// What a party's call did.
 fn action_of(mode: Mode, party: Party, is_delivery: bool, step: Step) -> Action
-    ensures { (packet : List ℕ) (tags : Tags)
+    ensures { (packet : List ℕ) (tags : records.Tags)
         → action_with result packet tags ≡ worlds.Called (did_by mode party is_delivery (step_with step packet tags)) }
 {
     action_to(party, goes_to(party, mode), is_delivery, step)
@@ -391,7 +391,7 @@ fn action_of(mode: Mode, party: Party, is_delivery: bool, step: Step) -> Action
 
 /// What a call of a party did whose packet goes to this port.
 fn action_to(party: Party, port: Port, is_delivery: bool, step: Step) -> Action
-    ensures { (packet : List ℕ) (tags : Tags)
+    ensures { (packet : List ℕ) (tags : records.Tags)
         → action_with result packet tags ≡ worlds.Called (did_at party port is_delivery (step_with step packet tags)) }
 {
     Action::Called(Did {

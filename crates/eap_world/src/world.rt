@@ -5,7 +5,7 @@ ghost use Rattle.std.specs.Prelude.{Bool, MatchResult, IfOk, None, option_copied
 ghost use Rattle.eap_base.specs.Sizes.{max_packet};
 ghost use Rattle.login_setup.specs.Setup.{IsSoundPeer, IsSoundServer, HasKeys};
 ghost use Rattle.login_setup.specs.declared.event.Event.TheVariants.{Restart};
-ghost use Rattle.eap_method.specs.declared.tags.Tags.{Tags};
+ghost use Rattle.eap_method.specs.Tags as records;
 ghost use Rattle.eap_method.specs.Steps.{step_with};
 ghost use Rattle.eap_world.specs.World.{Called, Skipped, action_with, parties_of, sent_by, booked_by, counts_after, end_of, has_held};
 ghost use Rattle.eap_world.specs.World.{Parties, first_report, held_before, held_by, held_after, held_with, report_of, role_in, told_of, told_with};
@@ -17,7 +17,7 @@ use crate::store::Store;
 use crate::told::{Counts, Named, SentPacket, Skip, Told};
 use crate::verdict::{Verdict, judge_reports};
 use eap_base::Packet;
-use eap_method::{PeerMethod, Report, ServerMethod, Step, Tags};
+use eap_method::{Kept, PeerMethod, Report, ServerMethod, Step, Tags};
 use eap_packet::{Path, State};
 use login_setup::{Event, Mode, Party, Port, Setup};
 use pass_through::PassThrough;
@@ -596,7 +596,7 @@ fn with_party(held: Held, party: Party) -> Held
 }
 
 /// Writes the tags of an action into the book, for which there is room.
-fn keep_tags(book: &mut Vec<Entry>, event: u32, action: &Action, tags: &Tags)
+fn keep_tags(book: &mut Vec<Entry>, event: u32, action: &Action, tags: &Tags<Kept>)
     requires { vec_len book.old + 4 ≤ vec_capacity book.old }
     ensures kept { (packet : List ℕ) → book.new.items ≡ book.old.items ++ booked_by event (action_with action.now packet tags.now) }
     ensures few { vec_len book.new ≤ vec_len book.old + 4 }
@@ -630,7 +630,7 @@ fn next_number(sent: usize) -> u32
 /// Stores what an action sends, for which there is room.
 fn keep_sent(sent: &mut Store, action: &Action, packet: &Packet)
     requires room { (max_packet ≤ sent.old.octets_room) × (1 ≤ sent.old.packets_room) }
-    ensures kept { (tags : Tags) → sent.new.packets ≡ sent.old.packets ++ sent_by (action_with action.now packet.now tags) }
+    ensures kept { (tags : records.Tags) → sent.new.packets ≡ sent.old.packets ++ sent_by (action_with action.now packet.now tags) }
     ensures few { length sent.new.packets ≤ length sent.old.packets + 1 }
 {
     if let Action::Called(did) = action {
@@ -645,7 +645,7 @@ fn count(counts: Counts, action: &Action) -> Counts
     requires room { counts.events < 2 ^ 31 }
     requires deliveries { counts.deliveries ≤ counts.events }
     requires discards { counts.discards ≤ counts.events }
-    ensures value { (packet : List ℕ) (tags : Tags) → result ≡ counts_after counts (action_with action.now packet tags) }
+    ensures value { (packet : List ℕ) (tags : records.Tags) → result ≡ counts_after counts (action_with action.now packet tags) }
     ensures events { result.events ≡ counts.events + 1 }
     ensures few_deliveries { result.deliveries ≤ counts.deliveries + 1 }
     ensures few_discards { result.discards ≤ counts.discards + 1 }
@@ -680,7 +680,7 @@ fn tell_skip(event: u32, skip: Skip) -> Told
 
 /// The result of a call, but for a report: the number of its event, and that of the packet that it sends.
 fn tell(event: u32, number: u32, party: Party, port: Port, step: Step) -> Told
-    ensures told { (is_delivery : Bool) (packet : List ℕ) (tags : Tags)
+    ensures told { (is_delivery : Bool) (packet : List ℕ) (tags : records.Tags)
         → result ≡ told_of event number None
         (Called (record { party = party; is_delivery = is_delivery; port = port; step = step_with step packet tags })) }
     ensures unnamed { result.named ≡ None }

@@ -10,7 +10,7 @@ ghost use Rattle.end_commands.specs.EndText.{told_text};
 use crate::lines::{write_last, write_step};
 use command_driver::{Close, Command, Next, Status, Trouble};
 use eap_base::Packet;
-use eap_method::Tags;
+use eap_method::{Kept, Tags};
 use end_pipe::{EndInput, EndItem, EndPipe, EndReader, EndStep, Machine, Role};
 use octet_io::{Failed, Sink};
 
@@ -29,7 +29,7 @@ pub struct End<M, E> {
     /// The packet that the end sends.
     pub(crate) packet: Packet,
     /// The records of its tags.
-    pub(crate) tags: Tags,
+    pub(crate) tags: Tags<Kept>,
 }
 
 /// How an end begins.
@@ -151,7 +151,7 @@ fn tell<E: Machine, W: Sink>(
     number: u32,
     input: &EndInput,
     packet: &mut Packet,
-    tags: &mut Tags,
+    tags: &mut Tags<Kept>,
 ) -> Result<(), Failed>
     requires { E.is_going pipe.old.machine }
     ensures going { E.is_going pipe.new.machine }

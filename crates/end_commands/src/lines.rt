@@ -2,7 +2,7 @@
 //! the lines was then appended.
 
 ghost use Rattle.std.specs.Prelude.{Some, None, if◌then◌else◌};
-ghost use Rattle.eap_method.specs.declared.tags.Tags.{Tags};
+ghost use Rattle.eap_method.specs.Tags.{Tags};
 ghost use Rattle.answer_text.specs.Writes.{Appends};
 ghost use Rattle.end_pipe.specs.EndRun.{told_with};
 ghost use Rattle.end_commands.specs.EndText.{acted_text, keys_line, keys_text, last_text, send_text, skip_line, told_text};

@@ -4,7 +4,7 @@ ghost use Rattle.std.specs.Prelude.{◌≡◌};
 
 use eap_base::{Nonce, Octets, Packet};
 use eap_method::{
-    Credential, PeerMethod, PeerTurn, Report, ServerMethod, ServerSide, ServerTurn, Tags,
+    Credential, PeerMethod, PeerTurn, Records, Report, ServerMethod, ServerSide, ServerTurn, Tags,
 };
 use gpsk_ends::{GpskPeer, GpskServer};
 use login_setup::Users;
@@ -100,7 +100,12 @@ impl PeerMethod for PeerObject {
         }
     }
 
-    fn handle(&mut self, request: &[u8], packet: &mut Packet, tags: &mut Tags) -> PeerTurn {
+    fn handle<R: Records>(
+        &mut self,
+        request: &[u8],
+        packet: &mut Packet,
+        tags: &mut Tags<R>,
+    ) -> PeerTurn {
         match self {
             PeerObject::Psk(peer) => peer.handle(request, packet, tags),
             PeerObject::Gpsk(peer) => peer.handle(request, packet, tags),
@@ -193,13 +198,13 @@ impl ServerMethod for ServerObject {
         }
     }
 
-    fn handle(
+    fn handle<R: Records>(
         &mut self,
         response: &[u8],
         next_id: u8,
         users: &Users,
         packet: &mut Packet,
-        tags: &mut Tags,
+        tags: &mut Tags<R>,
     ) -> ServerTurn {
         match self {
             ServerObject::Psk(server) => server.handle(response, next_id, users, packet, tags),

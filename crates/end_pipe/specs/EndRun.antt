@@ -6,8 +6,7 @@ use Rattle.eap_packet.specs.declared.state.State.{State}
 use Rattle.eap_method.specs.Peer.{PeerShown}
 use Rattle.eap_method.specs.Server.{ServerShown}
 use Rattle.eap_method.specs.Steps.{Step, enters, step_with}
-use Rattle.eap_method.specs.Tags.{no_tags}
-use Rattle.eap_method.specs.declared.tags.Tags.{Tags}
+use Rattle.eap_method.specs.Tags.{Tags, no_tags}
 use Rattle.eap_method.specs.declared.values.Report.{Report}
 use Rattle.peer_machine.specs.Inputs.{PeerInput, peer_takes}
 use Rattle.peer_machine.specs.PeerTable as peers

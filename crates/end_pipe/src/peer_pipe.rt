@@ -8,7 +8,7 @@ ghost use Rattle.end_pipe.specs.EndRun.{PeerStandsFor, peer_begun, peer_end};
 use crate::input::EndInput;
 use crate::pipe::{EndPipe, Machine};
 use eap_base::Packet;
-use eap_method::{PeerMethod, Report, Step, Tags};
+use eap_method::{Kept, PeerMethod, Report, Step, Tags};
 use eap_packet::State;
 use login_setup::PeerSetup;
 use peer_machine::PeerMachine;
@@ -45,7 +45,7 @@ impl<M: PeerMethod> Machine for PeerMachine<M> {
 
     ghost is_going = { λ machine. Unit {0} };
 
-    fn take(&mut self, input: &EndInput, packet: &mut Packet, tags: &mut Tags) -> Step {
+    fn take(&mut self, input: &EndInput, packet: &mut Packet, tags: &mut Tags<Kept>) -> Step {
         packet.clear();
         tags.clear();
         match input {

@@ -9,7 +9,7 @@ ghost use Rattle.end_pipe.specs.declared.input.EndInput.{EndInput};
 use crate::input::EndInput;
 use crate::told::EndStep;
 use eap_base::Packet;
-use eap_method::{Report, Step, Tags, has_ended};
+use eap_method::{Kept, Report, Step, Tags, has_ended};
 use eap_packet::State;
 use std::marker::Model;
 
@@ -31,7 +31,7 @@ pub trait Machine: Drop {
 
     /// Takes an input that isn't skipped. The packet that is sent is written into `packet`, the records of the tags into
     /// `tags`, in place of what was there.
-    fn take(&mut self, input: &EndInput, packet: &mut Packet, tags: &mut Tags) -> Step
+    fn take(&mut self, input: &EndInput, packet: &mut Packet, tags: &mut Tags<Kept>) -> Step
         requires going { is_going self.old }
         requires heard { is_skipped (table.state (shown self.old)) input.now ≡ false }
         ensures step { table.moves (shown self.old) input.now
@@ -67,7 +67,7 @@ impl<E: Machine> EndPipe<E> {
     /// records of the tags into `tags`, in place of what was there; without a packet that is sent, `packet` is
     /// unspecified. The end of a timer and a report of the lower layer are skipped after the end. The end of a timer is
     /// none of the peer's inputs, a report of the lower layer none of the server's: it does nothing.
-    pub fn step(&mut self, input: &EndInput, packet: &mut Packet, tags: &mut Tags) -> EndStep
+    pub fn step(&mut self, input: &EndInput, packet: &mut Packet, tags: &mut Tags<Kept>) -> EndStep
         requires { E.is_going self.old.machine }
         ensures step { end_step E.table (end_now E.shown self.old) input.now
             ≡ outcome (told_with result packet.new tags.new) (end_now E.shown self.new) }
@@ -90,7 +90,12 @@ impl<E: Machine> EndPipe<E> {
 
     /// The same as `step`, without the clause that follows from the others.
     #[tactic(auto, unfolding(crate::specs::EndRun::end_step))]
-    fn step_by_table(&mut self, input: &EndInput, packet: &mut Packet, tags: &mut Tags) -> EndStep
+    fn step_by_table(
+        &mut self,
+        input: &EndInput,
+        packet: &mut Packet,
+        tags: &mut Tags<Kept>,
+    ) -> EndStep
         requires { E.is_going self.old.machine }
         ensures step { end_step E.table (end_now E.shown self.old) input.now
             ≡ outcome (told_with result packet.new tags.new) (end_now E.shown self.new) }

@@ -12,7 +12,7 @@ use crate::input::EndInput;
 use crate::pipe::{EndPipe, Machine, first_report};
 use crate::told::EndStep;
 use eap_base::Packet;
-use eap_method::{Report, ServerMethod, Step, Tags};
+use eap_method::{Kept, Report, ServerMethod, Step, Tags};
 use eap_packet::State;
 use login_setup::ServerSetup;
 use server_machine::ServerMachine;
@@ -57,7 +57,7 @@ impl<M: ServerMethod> ServerPipe<M> {
     }
 
     /// The server, which hasn't started, starts: it asks for the peer's identity, in `packet`.
-    pub fn start(&mut self, packet: &mut Packet, tags: &mut Tags) -> EndStep
+    pub fn start(&mut self, packet: &mut Packet, tags: &mut Tags<Kept>) -> EndStep
         requires { is_started self.old.machine.vars ≡ false }
         ensures start { server_starts (server_end M.server_shown self.old)
             ≡ outcome (told_with result packet.new tags.new) (server_end M.server_shown self.new) }
@@ -79,7 +79,7 @@ impl<M: ServerMethod> ServerPipe<M> {
 
     /// The same as `start`, without the clause that follows from the others.
     #[tactic(auto, unfolding(crate::specs::EndRun::server_starts))]
-    fn start_by_table(&mut self, packet: &mut Packet, tags: &mut Tags) -> EndStep
+    fn start_by_table(&mut self, packet: &mut Packet, tags: &mut Tags<Kept>) -> EndStep
         requires { is_started self.old.machine.vars ≡ false }
         ensures start { server_starts (server_end M.server_shown self.old)
             ≡ outcome (told_with result packet.new tags.new) (server_end M.server_shown self.new) }
@@ -110,7 +110,7 @@ impl<M: ServerMethod> Machine for StandAloneServer<M> {
 
     ghost is_going = { λ machine. is_started machine.vars ≡ true };
 
-    fn take(&mut self, input: &EndInput, packet: &mut Packet, tags: &mut Tags) -> Step {
+    fn take(&mut self, input: &EndInput, packet: &mut Packet, tags: &mut Tags<Kept>) -> Step {
         packet.clear();
         tags.clear();
         match input {

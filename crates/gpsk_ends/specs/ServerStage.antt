@@ -2,7 +2,7 @@
 use Rattle.std.specs.Prelude.{ℕ, List, Bool, true, false, Result}
 use Rattle.eap_packet.specs.declared.cause.Cause.{Cause}
 use Rattle.gpsk_messages.specs.Message.{Message}
-use Rattle.eap_method.specs.declared.tags.Tags.{Tags}
+use Rattle.eap_method.specs.Tags.{Tags}
 use Rattle.eap_method.specs.declared.turn.ServerTurn as brief
 use Rattle.eap_method.specs.declared.turn.ServerTurn.TheVariants as turn
 use Rattle.eap_method.specs.declared.values.ServerSide.{ServerSide}

@@ -11,7 +11,7 @@ ghost use Rattle.gpsk_ends.specs.Sealed.{packet_of, record_of};
 use crate::records::set_alone;
 use crate::sealing::{BEFORE_COVERED, write_front};
 use eap_base::{Nonce, Packet, Secret, Suite, equal_in_full};
-use eap_method::TagList;
+use eap_method::{Records, TagList};
 use eap_packet::Code;
 use gpsk_messages::{GpskView, covered_part, mac_part};
 use login_keys::{GpskKeys, MacKey, gpsk_keys};
@@ -94,14 +94,14 @@ impl Keys {
 
     /// Writes the packet of a message whose MAC is yet to come, with the MAC of its covered octets under
     /// SK, and leaves that MAC's record alone in `made`. `psk` is the shared key from which SK comes.
-    pub(crate) fn seal(
+    pub(crate) fn seal<R: Records>(
         &self,
         view: &GpskView,
         code: Code,
         id: u8,
         psk: &Secret,
         packet: &mut Packet,
-        made: &mut TagList,
+        made: &mut TagList<R>,
     )
         requires typed { IsTrue (has_type code) }
         requires fits { size_of (message_of view.now) + 5 ≤ 1493 }

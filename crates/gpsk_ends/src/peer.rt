@@ -14,7 +14,7 @@ use crate::peer::login::Begun;
 use crate::peer::stage::{Phase, Stage};
 use crate::peer::turns::hears_request;
 use eap_base::{GPSK_KIND, Nonce, Packet};
-use eap_method::{Credential, PeerMethod, PeerTurn, Report, Tags};
+use eap_method::{Credential, PeerMethod, PeerTurn, Records, Report, Tags};
 use std::marker::Model;
 
 /// A peer of EAP-GPSK. Contracts see its state. It derives its keys once a login, and allocates no
@@ -93,7 +93,12 @@ impl PeerMethod for GpskPeer {
     }
 
     #[tactic(auto, unfolding(eap_method::specs::Peer::peer_step))]
-    fn handle(&mut self, request: &[u8], packet: &mut Packet, tags: &mut Tags) -> PeerTurn {
+    fn handle<R: Records>(
+        &mut self,
+        request: &[u8],
+        packet: &mut Packet,
+        tags: &mut Tags<R>,
+    ) -> PeerTurn {
         match hears_request(&mut self.stage, request, packet, tags) {
             PeerTurn::Discard(cause) => {
                 tags.clear();

@@ -8,12 +8,12 @@ ghost use Rattle.eap_method.specs.GpskTags.{sk_record};
 ghost use Rattle.gpsk_ends.specs.Heard.{IsHeard};
 
 use eap_base::{GPSK_KIND, Secret};
-use eap_method::{Label, TagList};
+use eap_method::{Label, Records, TagList};
 use gpsk_messages::{GpskView, covered_part, mac_part};
 
 /// Leaves the record of this MAC of these octets alone in the list.
 #[tactic(auto, using(crate::proofs::Pieces::one_piece))]
-pub(crate) fn set_alone(list: &mut TagList, psk: &Secret, covered: &[u8], mac: &[u8])
+pub(crate) fn set_alone<R: Records>(list: &mut TagList<R>, psk: &Secret, covered: &[u8], mac: &[u8])
     requires covered { length covered.now ≤ max_packet }
     requires mac { length mac.now ≤ 32 }
     ensures { list.new ≡ record { method = 51; label = Sk; psk = psk.now; octets = covered.now; tag = mac.now } ∷ [] }
@@ -23,7 +23,7 @@ pub(crate) fn set_alone(list: &mut TagList, psk: &Secret, covered: &[u8], mac: &
 }
 
 /// Leaves the record of the MAC of a message, which the Type-Data encodes, alone in the list.
-pub(crate) fn record(list: &mut TagList, view: &GpskView, body: &[u8], psk: &Secret)
+pub(crate) fn record<R: Records>(list: &mut TagList<R>, view: &GpskView, body: &[u8], psk: &Secret)
     requires { IsHeard (message_of view.now) body.now }
     ensures { list.new ≡ sk_record psk.now (message_of view.now) ∷ [] }
 {

@@ -13,7 +13,7 @@ use crate::server::login::Begun;
 use crate::server::stage::{Alone, Phase, Stage};
 use crate::server::turns::{ask, hears_response};
 use eap_base::{GPSK_KIND, Nonce, Packet};
-use eap_method::{Report, ServerMethod, ServerSide, ServerTurn, Tags};
+use eap_method::{Records, Report, ServerMethod, ServerSide, ServerTurn, Tags};
 use login_setup::Users;
 use std::marker::Model;
 
@@ -112,13 +112,13 @@ impl ServerMethod for GpskServer {
     }
 
     #[tactic(auto, unfolding(eap_method::specs::Server::server_step))]
-    fn handle(
+    fn handle<R: Records>(
         &mut self,
         response: &[u8],
         next_id: u8,
         users: &Users,
         packet: &mut Packet,
-        tags: &mut Tags,
+        tags: &mut Tags<R>,
     ) -> ServerTurn {
         match hears_response(&mut self.stage, response, next_id, users, packet, tags) {
             ServerTurn::Discard(cause) => {

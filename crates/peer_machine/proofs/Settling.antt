@@ -1,7 +1,7 @@
 -- A method's turn, settled in the variables, is METHOD's row.
 use Rattle.std.proofs.Common.{◌≡◌, ℕ, List, Bool, refl, ap, ◌∙◌, sym}
 use Rattle.eap_method.specs.declared.step.Step as brief
-use Rattle.eap_method.specs.declared.tags.Tags.{Tags}
+use Rattle.eap_method.specs.Tags.{Tags}
 use Rattle.eap_method.specs.declared.turn.PeerTurn as short
 use Rattle.eap_method.specs.Steps.{step_with}
 use Rattle.eap_method.specs.PeerTurn.{PeerTurn}

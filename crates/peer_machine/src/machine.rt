@@ -12,6 +12,7 @@ ghost use Rattle.eap_method.specs.Plain.{plain_octets};
 ghost use Rattle.eap_method.specs.Room.{HasRoom, replies};
 ghost use Rattle.eap_method.specs.Steps.{step_with};
 ghost use Rattle.eap_method.specs.Tags.{no_tags};
+ghost use Rattle.eap_method.specs.Tags as records;
 ghost use Rattle.eap_method.specs.Unnamed.{KeepsPeers};
 ghost use Rattle.peer_machine.specs.Expanded.{express};
 ghost use Rattle.peer_machine.specs.PeerTable.{before_method, method_answers, views_after, answer, is_allowed, first_of, selected_shown, selected_view};
@@ -20,8 +21,8 @@ ghost use Rattle.eap_method.specs.Peer.{IsRequest, PeerShown, PeerViews, have_ea
 use crate::variables::PeerVariables;
 use eap_base::{EXPANDED, IDENTITY, IETF, NAK, NOTIFICATION, Nonce, Packet, VENDOR_SIZE};
 use eap_method::{
-    Decision, MethodState, PeerMethod, PeerTurn, Report, Step, Tags, begin_peers, hand_to_peer,
-    has_ended, peer_report,
+    Decision, MethodState, PeerMethod, PeerTurn, Records, Report, Step, Tags, begin_peers,
+    hand_to_peer, has_ended, peer_report,
 };
 use eap_packet::{
     Cause, Code, PacketView, State, begin_into, decode, encode_into, is_bad_expanded, wrap,
@@ -117,7 +118,12 @@ impl<M: PeerMethod> PeerMachine<M> {
     /// silently discarded for BadExpanded, unless the peer has ended: one with under 7 octets of
     /// Type-Data, or an Expanded Nak. What isn't a Request of Type 254 is handled as without `expanded`.
     #[tactic(auto, unfolding(crate::specs::Expanded::peer_hears))]
-    pub fn deliver(&mut self, octets: &[u8], packet: &mut Packet, tags: &mut Tags) -> Step
+    pub fn deliver<R: Records>(
+        &mut self,
+        octets: &[u8],
+        packet: &mut Packet,
+        tags: &mut Tags<R>,
+    ) -> Step
         ensures step { peer_hears (now_of M.peer_shown self.old) octets.now ≡ answer (step_with result packet.new tags.new) (now_of M.peer_shown self.new) }
         ensures kept { KeepsPeers self.old.vars.setup.methods (map M.peer_shown self.old.methods) (map M.peer_shown self.new.methods) }
         ensures setup { self.new.vars.setup ≡ self.old.vars.setup }
@@ -237,7 +243,7 @@ impl<M: PeerMethod> PeerMachine<M> {
     /// that the packets of the functions below widen no frame of a peer that doesn't.
     #[inline(never)]
     #[tactic(auto, unfolding(crate::specs::Expanded::peer_hears))]
-    fn read(&mut self, octets: &[u8], packet: &mut Packet, tags: &mut Tags) -> Step
+    fn read<R: Records>(&mut self, octets: &[u8], packet: &mut Packet, tags: &mut Tags<R>) -> Step
         requires expanded { self.old.vars.setup.expanded ≡ true }
         requires tags { tags.old ≡ no_tags }
         ensures step { peer_hears (now_of M.peer_shown self.old) octets.now ≡ answer (step_with result packet.new tags.new) (now_of M.peer_shown self.new) }
@@ -254,12 +260,12 @@ impl<M: PeerMethod> PeerMachine<M> {
 
     /// A Request that the octets begin with, to a peer that reads Expanded Types and has not ended;
     /// `tags` has no record yet.
-    fn read_request(
+    fn read_request<R: Records>(
         &mut self,
         view: &PacketView,
         octets: &[u8],
         packet: &mut Packet,
-        tags: &mut Tags,
+        tags: &mut Tags<R>,
     ) -> Step
         requires request { view.now.code ≡ Code.Request }
         requires packet { packet_of octets.now ≡ Ok (value_of view.now) }
@@ -281,12 +287,12 @@ impl<M: PeerMethod> PeerMachine<M> {
 
     /// A Request of Type 254 is handled in its plain form, and what is sent of that is expressed in Type 254,
     /// but for what RETRANSMIT sends. `tags` has no record yet.
-    fn take_expanded(
+    fn take_expanded<R: Records>(
         &mut self,
         view: &PacketView,
         octets: &[u8],
         packet: &mut Packet,
-        tags: &mut Tags,
+        tags: &mut Tags<R>,
     ) -> Step
         requires request { view.now.code ≡ Code.Request }
         requires packet { packet_of octets.now ≡ Ok (value_of view.now) }
@@ -309,12 +315,12 @@ impl<M: PeerMethod> PeerMachine<M> {
     /// The packet that the octets begin with is handled in its plain form, by the table; `tags` has no
     /// record yet.
     #[tactic(auto, using(crate::proofs::Identifiers::second_is_id, crate::proofs::Identifiers::plain_second_is_id))]
-    fn take_plain(
+    fn take_plain<R: Records>(
         &mut self,
         view: &PacketView,
         octets: &[u8],
         packet: &mut Packet,
-        tags: &mut Tags,
+        tags: &mut Tags<R>,
     ) -> Step
         requires packet { packet_of octets.now ≡ Ok (value_of view.now) }
         requires size { length view.now.body.now ≤ max_type_data }
@@ -336,7 +342,12 @@ impl<M: PeerMethod> PeerMachine<M> {
     /// A delivery, by the table alone, which handles Type 254 like any other Type. What it sends has room
     /// for an Expanded Type, but for what RETRANSMIT sends. `tags` has no record yet.
     #[tactic(auto, unfolding(crate::specs::PeerTable::peer_deliver), using(crate::proofs::Identifiers::second_is_id))]
-    fn take_octets(&mut self, octets: &[u8], packet: &mut Packet, tags: &mut Tags) -> Step
+    fn take_octets<R: Records>(
+        &mut self,
+        octets: &[u8],
+        packet: &mut Packet,
+        tags: &mut Tags<R>,
+    ) -> Step
         requires tags { tags.old ≡ no_tags }
         ensures step { peer_deliver (now_of M.peer_shown self.old) octets.now ≡ answer (step_with result packet.new tags.new) (now_of M.peer_shown self.new) }
         ensures kept { KeepsPeers self.old.vars.setup.methods (map M.peer_shown self.old.methods) (map M.peer_shown self.new.methods) }
@@ -354,7 +365,12 @@ impl<M: PeerMethod> PeerMachine<M> {
 
     /// RECEIVED, of a packet; `tags` has no record yet.
     #[tactic(auto, using(crate::proofs::Requests::is_request))]
-    fn take(&mut self, view: &PacketView, packet: &mut Packet, tags: &mut Tags) -> Step
+    fn take<R: Records>(
+        &mut self,
+        view: &PacketView,
+        packet: &mut Packet,
+        tags: &mut Tags<R>,
+    ) -> Step
         requires packet { IsPacket (value_of view.now) }
         requires whole { view.now.whole.now ≡ spelled (value_of view.now) }
         requires tags { tags.old ≡ no_tags }
@@ -424,13 +440,13 @@ impl<M: PeerMethod> PeerMachine<M> {
     }
 
     /// A Request with another Identifier than lastId; `tags` has no record yet.
-    fn new_request(
+    fn new_request<R: Records>(
         &mut self,
         id: u8,
         kind: u8,
         request: &[u8],
         packet: &mut Packet,
-        tags: &mut Tags,
+        tags: &mut Tags<R>,
     ) -> Step
         requires request { IsRequest kind request.now }
         requires tags { tags.old ≡ no_tags }
@@ -460,13 +476,13 @@ impl<M: PeerMethod> PeerMachine<M> {
     /// policy allows handles the Request; any other is answered by a Nak (RFC 3748 section 5.3.1). `tags`
     /// has no record yet.
     #[tactic(auto, using(login_policy::proofs::Choices::nak_lists_some))]
-    fn first_request(
+    fn first_request<R: Records>(
         &mut self,
         id: u8,
         kind: u8,
         request: &[u8],
         packet: &mut Packet,
-        tags: &mut Tags,
+        tags: &mut Tags<R>,
     ) -> Step
         requires request { IsRequest kind request.now }
         requires tags { tags.old ≡ no_tags }
@@ -493,14 +509,14 @@ impl<M: PeerMethod> PeerMachine<M> {
     /// METHOD: the object of this Type, which the policy allows, handles the whole packet. Nothing is
     /// written into the variables before its turn is known to be a reply.
     #[tactic(auto, unfolding(crate::specs::PeerTable::peer_method))]
-    fn method(
+    fn method<R: Records>(
         &mut self,
         selects: bool,
         kind: u8,
         id: u8,
         request: &[u8],
         packet: &mut Packet,
-        tags: &mut Tags,
+        tags: &mut Tags<R>,
     ) -> Step
         requires request { IsRequest kind request.now }
         requires allowed { is_among self.old.vars.setup.methods kind ≡ true }
@@ -611,12 +627,12 @@ fn end_received(vars: &mut PeerVariables, state: State) -> Step
 }
 
 /// The turn of the object of this Type.
-fn hand<M: PeerMethod>(
+fn hand<M: PeerMethod, R: Records>(
     methods: &mut Vec<M>,
     kind: u8,
     request: &[u8],
     packet: &mut Packet,
-    tags: &mut Tags,
+    tags: &mut Tags<R>,
 ) -> PeerTurn
     requires { IsRequest kind request.now }
     ensures turn { (allowed : List ℕ) → is_among allowed kind ≡ true
@@ -639,7 +655,7 @@ fn settle(
     turn: PeerTurn,
     packet: &Packet,
 ) -> Step
-    ensures step { (before after : PeerViews) (tags : Tags) → let whole = peer_turn_with turn packet.now tags in
+    ensures step { (before after : PeerViews) (tags : records.Tags) → let whole = peer_turn_with turn packet.now tags in
         method_answers selects (record { vars = vars.old; views = before }) kind id after whole
         ≡ answer (step_with result packet.now (peer_tags whole)) (record { vars = vars.new; views = views_after before after whole }) }
     ensures setup { vars.new.setup ≡ vars.old.setup }

@@ -1,7 +1,7 @@
 -- The state of a peer of EAP-PSK, and its state after a call, as its definition says it.
 use Rattle.std.specs.Prelude.{ℕ, List, Result, Ok, Err}
 use Rattle.eap_packet.specs.declared.cause.Cause.{Cause}
-use Rattle.eap_method.specs.declared.tags.Tags.{Tags}
+use Rattle.eap_method.specs.Tags.{Tags}
 use Rattle.eap_method.specs.declared.turn.PeerTurn as brief
 use Rattle.eap_method.specs.PeerTurn.{peer_turn_with}
 use Rattle.eap_method.specs.PskPeer.{View, Login, unset, fresh, wait, over, answers}

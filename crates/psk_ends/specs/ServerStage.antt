@@ -1,7 +1,7 @@
 -- The state of a server of EAP-PSK, and its state after a call, as its definition says it.
 use Rattle.std.specs.Prelude.{ℕ, List, [], false, Option, Some, None, Result, Ok, Err}
 use Rattle.eap_packet.specs.declared.cause.Cause.{Cause}
-use Rattle.eap_method.specs.declared.tags.Tags.{Tags}
+use Rattle.eap_method.specs.Tags.{Tags}
 use Rattle.eap_method.specs.declared.turn.ServerTurn as brief
 use Rattle.eap_method.specs.ServerTurn.{server_turn_with}
 use Rattle.eap_method.specs.PskServer.{View, Login, unset, begun, asked, checked, refused, over, r_for, answers}

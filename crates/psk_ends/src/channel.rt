@@ -8,7 +8,7 @@ use crate::octets::header_of;
 use crate::records::add_channel;
 use cmac_mac::CmacKey;
 use eap_base::{Packet, Secret};
-use eap_method::TagList;
+use eap_method::{Records, TagList};
 use eap_packet::Cause;
 use eax_mode::{eax_seal_with, eax_unseal_with};
 
@@ -66,13 +66,13 @@ fn put_last(packet: &mut Packet, channel: &Sealed)
 
 /// Seals R, without E, into the packet, whose PCHANNEL is at its end and is still blank, and adds
 /// the record of its tag.
-pub fn seal_in(
+pub fn seal_in<R: Records>(
     packet: &mut Packet,
     tek: &CmacKey,
     psk: &Secret,
     number: u32,
     r: u8,
-    made: &mut TagList,
+    made: &mut TagList<R>,
 )
     requires blank { 17 ≤ length packet.old }
     requires two_bits { r < 4 }

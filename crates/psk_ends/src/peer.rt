@@ -13,7 +13,7 @@ use crate::peer::login::Begun;
 use crate::peer::stage::{Phase, Stage};
 use crate::peer::turns::hears_request;
 use eap_base::{Nonce, PSK_KIND, Packet};
-use eap_method::{Credential, PeerMethod, PeerTurn, Report, Tags};
+use eap_method::{Credential, PeerMethod, PeerTurn, Records, Report, Tags};
 use std::marker::Model;
 
 /// A peer of EAP-PSK. Contracts see its state.
@@ -91,7 +91,12 @@ impl PeerMethod for PskPeer {
     }
 
     #[tactic(auto, unfolding(eap_method::specs::Peer::peer_step))]
-    fn handle(&mut self, request: &[u8], packet: &mut Packet, tags: &mut Tags) -> PeerTurn {
+    fn handle<R: Records>(
+        &mut self,
+        request: &[u8],
+        packet: &mut Packet,
+        tags: &mut Tags<R>,
+    ) -> PeerTurn {
         match hears_request(&mut self.stage, request, packet, tags) {
             PeerTurn::Discard(cause) => {
                 tags.clear();

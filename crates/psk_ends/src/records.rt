@@ -8,12 +8,12 @@ ghost use Rattle.eap_method.specs.PskTags.{mac_p_octets, mac_s_octets, ak_record
 
 use crate::channel::{Sealed, channel_nonce};
 use eap_base::{PSK_KIND, Secret};
-use eap_method::{Label, TagList};
+use eap_method::{Label, Records, TagList};
 
 /// Adds the record of MAC_P.
 #[tactic(auto, using(eap_method::proofs::PskMacs::mac_p_joined))]
-pub fn add_mac_p<'a>(
-    list: &mut TagList,
+pub fn add_mac_p<'a, R: Records>(
+    list: &mut TagList<R>,
     psk: &Secret,
     id_p: &'a [u8],
     id_s: &'a [u8],
@@ -31,8 +31,8 @@ pub fn add_mac_p<'a>(
 
 /// Adds the record of MAC_S.
 #[tactic(auto, using(eap_method::proofs::PskMacs::mac_s_joined))]
-pub fn add_mac_s<'a>(
-    list: &mut TagList,
+pub fn add_mac_s<'a, R: Records>(
+    list: &mut TagList<R>,
     psk: &Secret,
     id_s: &'a [u8],
     rand_p: &'a [u8; 16],
@@ -47,7 +47,13 @@ pub fn add_mac_s<'a>(
 
 /// Adds the record of PCHANNEL's tag: it covers the nonce for EAX, the header and the sealed octet.
 #[tactic(auto, unfolding(eap_method::specs::PskTags::channel_octets))]
-pub fn add_channel(list: &mut TagList, psk: &Secret, number: u32, header: &[u8], channel: &Sealed)
+pub fn add_channel<R: Records>(
+    list: &mut TagList<R>,
+    psk: &Secret,
+    number: u32,
+    header: &[u8],
+    channel: &Sealed,
+)
     requires room { length list.old < 2 }
     requires header { length header.now ≤ 22 }
     ensures { list.new ≡ list.old ++ tek_record psk.now number header.now channel.now.octet channel.now.tag ∷ [] }
@@ -57,8 +63,8 @@ pub fn add_channel(list: &mut TagList, psk: &Secret, number: u32, header: &[u8],
 }
 
 /// The same, of pieces that live as long.
-fn add_pieces<'a>(
-    list: &mut TagList,
+fn add_pieces<'a, R: Records>(
+    list: &mut TagList<R>,
     psk: &Secret,
     nonce: &'a [u8; 16],
     header: &'a [u8],

@@ -14,7 +14,7 @@ use crate::server::login::Begun;
 use crate::server::stage::{EarlyPhase, KnownPhase, Stage};
 use crate::server::turns::{ask, hears_response};
 use eap_base::{Nonce, PSK_KIND, Packet};
-use eap_method::{Report, ServerMethod, ServerSide, ServerTurn, Tags};
+use eap_method::{Records, Report, ServerMethod, ServerSide, ServerTurn, Tags};
 use login_setup::Users;
 use std::marker::Model;
 
@@ -113,13 +113,13 @@ impl ServerMethod for PskServer {
     }
 
     #[tactic(auto, unfolding(eap_method::specs::Server::server_step))]
-    fn handle(
+    fn handle<R: Records>(
         &mut self,
         response: &[u8],
         next_id: u8,
         users: &Users,
         packet: &mut Packet,
-        tags: &mut Tags,
+        tags: &mut Tags<R>,
     ) -> ServerTurn {
         match hears_response(&mut self.stage, response, next_id, users, packet, tags) {
             ServerTurn::Discard(cause) => {

@@ -3,13 +3,12 @@ use Rattle.std.proofs.Common.{◌≡◌, ℕ, List, Option, Some, None, refl, ap
 use Rattle.eap_packet.specs.declared.state.State.{State}
 use Rattle.login_policy.specs.Policy.{next_kind}
 use Rattle.eap_method.specs.declared.step.Step as brief
-use Rattle.eap_method.specs.declared.tags.Tags.{Tags}
+use Rattle.eap_method.specs.Tags.{Tags, no_tags}
 use Rattle.eap_method.specs.declared.turn.ServerTurn as short
 use Rattle.eap_method.specs.Steps.{Step, step_with}
 use Rattle.eap_method.specs.ServerTurn.{ServerTurn}
 use Rattle.eap_method.specs.ServerTurn.{Discard, Request, Done, server_turn_with, server_tags}
 use Rattle.eap_method.specs.Server.{ServerShown, ServerViews, server_views, server_turn, server_offer, side_of, server_report_of}
-use Rattle.eap_method.specs.Tags.{no_tags}
 use Rattle.eap_method.proofs.Discards.{server_turn_keeps}
 use Rattle.server_machine.specs.ServerTable.{ServerNow, answer, method_answers, views_after, server_method, select_action, offers, ends_badly, next_id}
 use Rattle.server_machine.specs.declared.variables.ServerVariables.{ServerVariables}

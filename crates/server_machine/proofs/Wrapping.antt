@@ -9,7 +9,7 @@ use Rattle.eap_packet.specs.declared.packet.Code.TheVariants.{Request, Response,
 use Rattle.eap_method.specs.Server.{ServerShown, ServerViews, server_views}
 use Rattle.eap_method.specs.Steps.{step_with}
 use Rattle.eap_method.specs.declared.step.Step as brief
-use Rattle.eap_method.specs.declared.tags.Tags.{Tags}
+use Rattle.eap_method.specs.Tags.{Tags}
 use Rattle.server_machine.specs.Expanded.{response_octets, reads_response, wraps}
 use Rattle.server_machine.specs.ServerTable.{ServerNow, answer, server_deliver}
 use Rattle.server_machine.specs.declared.variables.ServerVariables.{ServerVariables}

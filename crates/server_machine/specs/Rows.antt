@@ -8,12 +8,11 @@ use Rattle.eap_packet.specs.declared.cause.Cause.TheVariants as cause
 use Rattle.eap_packet.specs.declared.state.State.{State}
 use Rattle.eap_packet.specs.declared.state.State.TheVariants as state
 use Rattle.login_policy.specs.Policy.{next_kind}
-use Rattle.eap_method.specs.declared.tags.Tags.{Tags}
+use Rattle.eap_method.specs.Tags.{Tags, no_tags}
 use Rattle.eap_method.specs.ServerTurn.{ServerTurn}
 use Rattle.eap_method.specs.ServerTurn as turn
 use Rattle.eap_method.specs.Server.{ServerViews, Offer, side_of, server_offer, server_turn}
 use Rattle.eap_method.specs.Steps.{sends, enters, discards, is_end}
-use Rattle.eap_method.specs.Tags.{no_tags}
 use Rattle.server_machine.specs.Inputs.{ServerInput, start, timeout, octets, restart, server_rests, server_answers}
 use Rattle.server_machine.specs.ServerTable.{ServerNow, ServerAnswer, answer, next_id, identity_request, success_packet, failure_packet, before_proposal, is_awaited, is_proposed, is_started, awaits_first, picked_up, server_restart}
 use Rattle.server_machine.specs.declared.variables.Progress.TheVariants as progress

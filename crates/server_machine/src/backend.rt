@@ -14,7 +14,7 @@ ghost use Rattle.server_machine.specs.Expanded.{server_hears};
 use crate::machine::ServerMachine;
 use crate::variables::Role;
 use eap_base::{Nonce, Packet};
-use eap_method::{Report, ServerMethod, Step, Tags};
+use eap_method::{Records, Report, ServerMethod, Step, Tags};
 use eap_packet::State;
 use login_setup::{ServerSetup, Users};
 use std::marker::Model;
@@ -63,7 +63,12 @@ impl<M: ServerMethod> Backend<M> {
     /// If the settings say `expanded`, Expanded Types (RFC 3748 section 5.7) are read and sent as that call does;
     /// before the first Response a BadExpanded too has an empty path, and an Expanded Nak may be the first.
     #[tactic(auto, using(crate::proofs::Starting::backend_is_ready))]
-    pub fn deliver(&mut self, octets: &[u8], packet: &mut Packet, tags: &mut Tags) -> Step
+    pub fn deliver<R: Records>(
+        &mut self,
+        octets: &[u8],
+        packet: &mut Packet,
+        tags: &mut Tags<R>,
+    ) -> Step
         ensures step { server_hears (now_of M.server_shown self.old) octets.now
             ≡ answer (step_with result packet.new tags.new) (now_of M.server_shown self.new) }
         ensures kept { KeepsServers self.old.vars.setup.methods (map M.server_shown self.old.methods) (map M.server_shown self.new.methods) }

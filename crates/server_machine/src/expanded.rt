@@ -9,7 +9,7 @@ ghost use Rattle.login_policy.specs.Expanded.{expanded_kinds};
 ghost use Rattle.eap_method.specs.Server.{ServerViews};
 ghost use Rattle.eap_method.specs.Steps.{step_with};
 ghost use Rattle.eap_method.specs.declared.step.Step as brief;
-ghost use Rattle.eap_method.specs.declared.tags.Tags as records;
+ghost use Rattle.eap_method.specs.Tags as records;
 ghost use Rattle.server_machine.specs.Expanded.{MayWrap, response_octets, takes_nak, wraps};
 ghost use Rattle.server_machine.specs.ServerTable.{AreInOrder, answer, awaits_first};
 

@@ -23,8 +23,8 @@ use crate::outcome::{end_badly, next_id, settle, settle_offer};
 use crate::variables::{Progress, Role, ServerVariables, Way};
 use eap_base::{IDENTITY, Kinds, NAK, Nonce, Packet};
 use eap_method::{
-    Report, ServerMethod, ServerSide, ServerTurn, Step, Tags, begin_servers, hand_to_server,
-    has_ended, offer_method, server_report,
+    Records, Report, ServerMethod, ServerSide, ServerTurn, Step, Tags, begin_servers,
+    hand_to_server, has_ended, offer_method, server_report,
 };
 use eap_packet::{Cause, Code, PacketView, State, decode, encode_into, is_bad_expanded};
 use login_policy::next_method;
@@ -194,7 +194,12 @@ impl<M: ServerMethod> ServerMachine<M> {
     /// 7 octets longer, at most 1,500 in all, and again so by the timer; the Identity Request, a Success and a Failure
     /// are sent as they are.
     #[tactic(auto, unfolding(crate::specs::Expanded::server_hears))]
-    pub fn deliver(&mut self, octets: &[u8], packet: &mut Packet, tags: &mut Tags) -> Step
+    pub fn deliver<R: Records>(
+        &mut self,
+        octets: &[u8],
+        packet: &mut Packet,
+        tags: &mut Tags<R>,
+    ) -> Step
         requires ready { is_ready self.old.vars ≡ true }
         ensures step { server_hears (now_of M.server_shown self.old) octets.now
             ≡ answer (step_with result packet.new tags.new) (now_of M.server_shown self.new) }
@@ -211,7 +216,7 @@ impl<M: ServerMethod> ServerMachine<M> {
     /// Octets arrive at a server that reads Expanded Types and has not ended. It isn't inlined, so that no other
     /// server has the octets of a plain form on its stack.
     #[inline(never)]
-    fn read(&mut self, octets: &[u8], packet: &mut Packet, tags: &mut Tags) -> Step
+    fn read<R: Records>(&mut self, octets: &[u8], packet: &mut Packet, tags: &mut Tags<R>) -> Step
         requires ready { is_ready self.old.vars ≡ true }
         ensures step { server_reads (now_of M.server_shown self.old) octets.now (packet_of octets.now)
             ≡ answer (step_with result packet.new tags.new) (now_of M.server_shown self.new) }
@@ -230,12 +235,12 @@ impl<M: ServerMethod> ServerMachine<M> {
     }
 
     /// These octets begin with a Response, which is handled in its plain form; a Request that is sent is wrapped.
-    fn read_response(
+    fn read_response<R: Records>(
         &mut self,
         octets: &[u8],
         view: &PacketView,
         packet: &mut Packet,
-        tags: &mut Tags,
+        tags: &mut Tags<R>,
     ) -> Step
         requires ready { is_ready self.old.vars ≡ true }
         requires response { view.now.code ≡ Code.Response }
@@ -265,7 +270,12 @@ impl<M: ServerMethod> ServerMachine<M> {
     /// Octets arrive, and are handled by the transitions of RFC 4137 alone, which know of no Expanded Type. A Request
     /// that is sent has room for one.
     #[tactic(auto, unfolding(crate::specs::ServerTable::server_deliver))]
-    fn deliver_plain(&mut self, octets: &[u8], packet: &mut Packet, tags: &mut Tags) -> Step
+    fn deliver_plain<R: Records>(
+        &mut self,
+        octets: &[u8],
+        packet: &mut Packet,
+        tags: &mut Tags<R>,
+    ) -> Step
         requires ready { is_ready self.old.vars ≡ true }
         ensures step { server_deliver (now_of M.server_shown self.old) octets.now
             ≡ answer (step_with result packet.new tags.new) (now_of M.server_shown self.new) }
@@ -462,7 +472,12 @@ impl<M: ServerMethod> ServerMachine<M> {
 
     /// RECEIVED, of a packet; `tags` has no record yet.
     #[tactic(auto, using(crate::proofs::Responses::is_response))]
-    fn take(&mut self, view: &PacketView, packet: &mut Packet, tags: &mut Tags) -> Step
+    fn take<R: Records>(
+        &mut self,
+        view: &PacketView,
+        packet: &mut Packet,
+        tags: &mut Tags<R>,
+    ) -> Step
         requires packet { IsPacket (value_of view.now) }
         requires whole { view.now.whole.now ≡ spelled (value_of view.now) }
         requires tags { tags.old ≡ no_tags }
@@ -486,7 +501,12 @@ impl<M: ServerMethod> ServerMachine<M> {
 
     /// A Response with currentId; `tags` has no record yet. With the identity the Identity round is over,
     /// and the first method is proposed.
-    fn take_current(&mut self, view: &PacketView, packet: &mut Packet, tags: &mut Tags) -> Step
+    fn take_current<R: Records>(
+        &mut self,
+        view: &PacketView,
+        packet: &mut Packet,
+        tags: &mut Tags<R>,
+    ) -> Step
         requires response { IsResponse view.now.kind view.now.whole.now }
         requires whole { view.now.whole.now ≡ spelled (packets.response view.now.id view.now.kind view.now.body.now) }
         requires tags { tags.old ≡ no_tags }
@@ -529,13 +549,13 @@ impl<M: ServerMethod> ServerMachine<M> {
 
     /// INTEGRITY_CHECK: the object of the current method checks the whole packet. Nothing is written
     /// into the variables before its turn is known not to be a discard.
-    fn method(
+    fn method<R: Records>(
         &mut self,
         id: u8,
         kind: u8,
         response: &[u8],
         packet: &mut Packet,
-        tags: &mut Tags,
+        tags: &mut Tags<R>,
     ) -> Step
         requires response { IsResponse kind response.now }
         requires ordered { is_among self.old.vars.setup.methods kind ≡ true }
@@ -603,13 +623,13 @@ fn write_first<M: ServerMethod>(
 }
 
 /// The turn of the object of this Type.
-fn turn_of<M: ServerMethod>(
+fn turn_of<M: ServerMethod, R: Records>(
     methods: &mut Vec<M>,
     vars: &ServerVariables,
     kind: u8,
     response: &[u8],
     packet: &mut Packet,
-    tags: &mut Tags,
+    tags: &mut Tags<R>,
 ) -> ServerTurn
     requires response { IsResponse kind response.now }
     requires ordered { is_among vars.now.setup.methods kind ≡ true }

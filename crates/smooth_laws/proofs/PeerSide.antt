@@ -9,7 +9,7 @@ use Rattle.eap_packet.specs.Fault.{packet_of}
 use Rattle.eap_packet.specs.Expanded.{has_plain_form, is_bad_expanded, expanded_form}
 use Rattle.eap_packet.specs.declared.state.State.{State}
 use Rattle.eap_packet.specs.declared.state.State.TheVariants as state
-use Rattle.eap_method.specs.declared.tags.Tags.{Tags}
+use Rattle.eap_method.specs.Tags.{Tags, no_tags}
 use Rattle.eap_method.specs.declared.values.MethodState.{MethodState}
 use Rattle.eap_method.specs.declared.values.MethodState.TheVariants as method
 use Rattle.eap_method.specs.declared.values.Decision.{Decision}
@@ -18,7 +18,6 @@ use Rattle.eap_method.specs.Peer.{PeerViews, peer_turn, views_begun}
 use Rattle.eap_method.specs.PeerTurn.{Reply}
 use Rattle.eap_method.specs.Plain.{plain_octets}
 use Rattle.eap_method.specs.Steps.{sends, is_end}
-use Rattle.eap_method.specs.Tags.{no_tags}
 use Rattle.eap_method.specs.Turns.{PeerOutcome}
 use Rattle.peer_machine.specs.Expanded.{expanded_nak_response, keeps_sent, expanded_answer, expressed_unless, peer_reads, peer_hears}
 use Rattle.peer_machine.specs.PeerTable.{PeerNow, PeerAnswer, answer, is_last_id, peer_made, peer_row, method_answers, peer_deliver, peer_method, identity_response}

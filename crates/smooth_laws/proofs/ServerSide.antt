@@ -10,11 +10,10 @@ use Rattle.eap_packet.specs.Expanded.{is_ietf, is_nak_body, has_plain_form, is_b
 use Rattle.eap_packet.specs.declared.state.State.{State}
 use Rattle.eap_packet.specs.declared.state.State.TheVariants as state
 use Rattle.login_policy.specs.Policy.{next_kind, nak_of}
-use Rattle.eap_method.specs.declared.tags.Tags.{Tags}
+use Rattle.eap_method.specs.Tags.{Tags, no_tags}
 use Rattle.eap_method.specs.Server.{ServerViews, Offer, server_offer, server_turn, side_of, views_begun}
 use Rattle.eap_method.specs.ServerTurn as turn
 use Rattle.eap_method.specs.Steps.{sends, is_end}
-use Rattle.eap_method.specs.Tags.{no_tags}
 use Rattle.eap_method.specs.Turns.{ServerOutcome}
 use Rattle.server_machine.specs.Expanded.{takes_nak, response_octets, wraps, server_reads, server_hears}
 use Rattle.server_machine.specs.ServerTable.{ServerNow, ServerAnswer, answer, server_made, vars_made, success_packet, select_action}

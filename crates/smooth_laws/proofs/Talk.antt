@@ -11,7 +11,7 @@ use Rattle.eap_method.specs.PeerTurn.{Reply}
 use Rattle.eap_method.specs.Server.{ServerViews, server_turn}
 use Rattle.eap_method.specs.ServerTurn.{Request, Done}
 use Rattle.eap_method.specs.declared.tags.TagRecord.{TagRecord}
-use Rattle.eap_method.specs.declared.tags.Tags.{Tags}
+use Rattle.eap_method.specs.Tags.{Tags}
 use Rattle.eap_method.specs.declared.values.Decision.{Decision}
 use Rattle.eap_method.specs.declared.values.Decision.TheVariants as decision
 use Rattle.eap_method.specs.declared.values.MethodState.TheVariants as method

@@ -6,7 +6,7 @@ use Rattle.std.specs.List.{list_any}
 use Rattle.eap_method.specs.declared.tags.Label.{Label}
 use Rattle.eap_method.specs.declared.tags.Label.TheVariants.{Ak, Tek, Sk}
 use Rattle.eap_method.specs.declared.tags.TagRecord.{TagRecord}
-use Rattle.eap_method.specs.declared.tags.Tags.{Tags}
+use Rattle.eap_method.specs.Tags.{Tags}
 use Rattle.tag_book.specs.declared.book.End.{End}
 use Rattle.tag_book.specs.declared.book.End.TheVariants.{Peer, Server}
 use Rattle.tag_book.specs.declared.book.Use.{Use}

@@ -4,7 +4,7 @@ ghost use Rattle.std.specs.Prelude.{◌≡◌, ◌≤◌, ◌+◌, ◌++◌, ◌
 ghost use Rattle.std.specs.List.{list_any};
 ghost use Rattle.tag_book.specs.Book.{entry, entries_of, first_broken, verdict_on, is_honest, may_make, vouches, same_tag};
 
-use eap_method::{TagList, TagRecord, Tags};
+use eap_method::{Kept, TagList, TagRecord, Tags};
 
 /// One of the two ends of a login.
 #[derive(Clone, Copy, PartialEq, Eq, Debug, Default)]
@@ -52,7 +52,7 @@ pub enum TagsVerdict {
 }
 
 /// Writes the tags of an event into the book, the accepted ones before those made. There is room.
-pub fn book_tags(book: &mut Vec<Entry>, event: u32, end: End, tags: &Tags)
+pub fn book_tags(book: &mut Vec<Entry>, event: u32, end: End, tags: &Tags<Kept>)
     requires { vec_len book.old + 4 ≤ vec_capacity book.old }
     ensures items { book.new.items ≡ book.old.items ++ entries_of event end tags.now }
     ensures few { vec_len book.new ≤ vec_len book.old + 4 }
@@ -62,7 +62,7 @@ pub fn book_tags(book: &mut Vec<Entry>, event: u32, end: End, tags: &Tags)
 }
 
 /// Writes these tags into the book. There is room.
-fn book_each(book: &mut Vec<Entry>, event: u32, end: End, used: Use, tags: &TagList)
+fn book_each(book: &mut Vec<Entry>, event: u32, end: End, used: Use, tags: &TagList<Kept>)
     requires { vec_len book.old + 2 ≤ vec_capacity book.old }
     ensures items { book.new.items ≡ book.old.items ++ map (entry event end used) tags.now }
     ensures few { vec_len book.new ≤ vec_len book.old + 2 }

@@ -4,7 +4,7 @@ use Rattle.std.specs.Prelude.{if◌then◌else◌, Some}
 use Rattle.eap_packet.specs.declared.state.State.{State}
 use Rattle.eap_method.specs.Steps.{step_with}
 use Rattle.eap_method.specs.declared.step.Step as brief
-use Rattle.eap_method.specs.declared.tags.Tags.{Tags}
+use Rattle.eap_method.specs.Tags.{Tags}
 use Rattle.peer_machine.specs.PeerTable.{PeerValue, PeerAnswer}
 use Rattle.peer_machine.specs.PeerTable as peer
 use Rattle.server_machine.specs.ServerTable.{ServerValue, ServerAnswer}

@@ -14,7 +14,7 @@ use crate::handle::TuvEnd;
 use crate::session::End;
 use crate::turn::TuvTurn;
 use eap_base::Packet;
-use eap_method::Tags;
+use eap_method::{NoRecords, Tags};
 
 /// Octets arrive at a peer, a stand-alone server that has started, or a backend.
 #[unsafe(no_mangle)]
@@ -31,7 +31,7 @@ pub extern "C" fn tuv_end_deliver(end: &mut TuvEnd, octets: &[u8]) -> TuvTurn
 {
     let session = end.session();
     let mut packet = Packet::new();
-    let mut tags = Tags::new();
+    let mut tags: Tags<NoRecords> = Tags::new();
     match &mut session.end {
         End::Peer(machine) => {
             let step = machine.deliver(octets, &mut packet, &mut tags);

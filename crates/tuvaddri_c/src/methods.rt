@@ -18,7 +18,7 @@ use crate::handle::TuvEnd;
 use crate::method_turn::TuvMethodTurn;
 use crate::session::{End, Known};
 use eap_base::{Nonce, Packet, Secret};
-use eap_method::{PeerMethod, ServerMethod, Tags};
+use eap_method::{NoRecords, PeerMethod, ServerMethod, Tags};
 use eap_packet::{Cause, Code, decode};
 use end_objects::{
     PeerObject, ServerObject, Settings, credential, first_kind, peer_object, peer_refusal,
@@ -99,7 +99,7 @@ pub extern "C" fn tuv_peer_method_handle(end: &mut TuvEnd, octets: &[u8]) -> Tuv
             Err(cause) => TuvMethodTurn::discard(cause, &mut session.sent),
             Ok(whole) => {
                 let mut packet = Packet::new();
-                let mut tags = Tags::new();
+                let mut tags: Tags<NoRecords> = Tags::new();
                 let turn = TuvMethodTurn::of_peer(object.handle(whole, &mut packet, &mut tags));
                 session.sent.take(turn.sends, &packet);
                 turn
@@ -194,7 +194,7 @@ pub extern "C" fn tuv_server_method_handle(
             Err(cause) => TuvMethodTurn::discard(cause, &mut session.sent),
             Ok(whole) => {
                 let mut packet = Packet::new();
-                let mut tags = Tags::new();
+                let mut tags: Tags<NoRecords> = Tags::new();
                 let turn = object.handle(whole, next_id, &known.users, &mut packet, &mut tags);
                 let turn = TuvMethodTurn::of_server(turn);
                 session.sent.take(turn.sends, &packet);

@@ -4,9 +4,8 @@ use Rattle.std.proofs.Common.{◌≡◌, ◌≤◌, ◌<◌, ◌+◌, ℕ, Bool,
 use Rattle.std.specs.Prelude.{if◌then◌else◌, nat_lt}
 use Rattle.std.proofs.lemmas.Bool.{cond-true, cond-false, lt-ltb, le-ltb}
 use Rattle.std.proofs.lemmas.List.Elements.{All-nil, All-cons, All-head, All-tail, All-weaker, All-append, filter-append}
-use Rattle.eap_method.specs.Tags.{no_tags}
+use Rattle.eap_method.specs.Tags.{Tags, no_tags}
 use Rattle.eap_method.specs.declared.tags.TagRecord.{TagRecord}
-use Rattle.eap_method.specs.declared.tags.Tags.{Tags}
 use Rattle.peer_machine.specs.Inputs.{peer_takes}
 use Rattle.server_machine.specs.Inputs.{server_takes}
 use Rattle.tag_book.specs.Book.{entries_of, entry, same_end}

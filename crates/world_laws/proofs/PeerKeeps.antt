@@ -16,7 +16,7 @@ use Rattle.eax_mode.specs.Eax.{eax_tag}
 use Rattle.login_keys.specs.Gkdf.{gpsk_tag_of}
 use Rattle.login_policy.specs.Policy.{picked_suite}
 use Rattle.eap_method.specs.declared.tags.TagRecord.{TagRecord}
-use Rattle.eap_method.specs.declared.tags.Tags.{Tags}
+use Rattle.eap_method.specs.Tags.{Tags, no_tags}
 use Rattle.eap_method.specs.PeerTurn.{Reply}
 use Rattle.eap_method.specs.declared.values.Credential.{Credential}
 use Rattle.eap_method.specs.declared.values.Decision.{Decision}
@@ -26,7 +26,6 @@ use Rattle.eap_method.specs.GpskTags.{sk_record}
 use Rattle.eap_method.specs.Peer.{PeerViews, credential_for, views_begun, psk_turn, gpsk_turn, peer_turn}
 use Rattle.eap_method.specs.PskPeer as psk
 use Rattle.eap_method.specs.PskTags.{channel_nonce}
-use Rattle.eap_method.specs.Tags.{no_tags}
 use Rattle.eap_method.specs.Turns.{PeerOutcome, discarded}
 use Rattle.method_laws.specs.GpskPeerRows as gpsk_row
 use Rattle.method_laws.specs.PskPeerRows as psk_row

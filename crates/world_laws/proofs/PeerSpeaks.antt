@@ -10,7 +10,7 @@ use Rattle.eap_packet.specs.Packet.{request, response, spelled}
 use Rattle.eap_packet.specs.declared.packet.Code.TheVariants.{Request}
 use Rattle.eap_packet.specs.declared.cause.Cause.{Cause}
 use Rattle.eap_packet.specs.declared.state.State.{State}
-use Rattle.eap_method.specs.declared.tags.Tags.{Tags}
+use Rattle.eap_method.specs.Tags.{Tags}
 use Rattle.eap_method.specs.declared.values.Decision.{Decision}
 use Rattle.eap_method.specs.declared.values.MethodState.{MethodState}
 use Rattle.eap_method.specs.GpskPeer as gpsk

@@ -21,7 +21,7 @@ use Rattle.eax_mode.specs.Eax.{eax_tag}
 use Rattle.login_keys.specs.Gkdf.{gpsk_tag_of}
 use Rattle.login_policy.proofs.Choices.{next_is_ordered}
 use Rattle.eap_method.specs.declared.tags.TagRecord.{TagRecord}
-use Rattle.eap_method.specs.declared.tags.Tags.{Tags}
+use Rattle.eap_method.specs.Tags.{Tags, no_tags}
 use Rattle.eap_method.specs.ServerTurn.{ServerTurn}
 use Rattle.eap_method.specs.ServerTurn as turn
 use Rattle.eap_method.specs.declared.values.ServerSide.{ServerSide}
@@ -30,7 +30,6 @@ use Rattle.eap_method.specs.GpskTags.{sk_record, suite_list}
 use Rattle.eap_method.specs.PskServer as psk
 use Rattle.eap_method.specs.PskTags.{ak_record, tek_record, channel_nonce}
 use Rattle.eap_method.specs.Server.{ServerViews, side_of, server_offer, Offer, server_turn, psk_hears, gpsk_hears, psk_offer, gpsk_offer}
-use Rattle.eap_method.specs.Tags.{no_tags}
 use Rattle.eap_method.specs.Turns.{ServerOutcome, dropped}
 use Rattle.method_laws.specs.GpskServerRows as gpsk_row
 use Rattle.method_laws.specs.PskServerRows as psk_row

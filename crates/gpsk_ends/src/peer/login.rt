@@ -15,7 +15,7 @@ use crate::peer::offer::Offer;
 use crate::records::record;
 use crate::sealing::mac_place;
 use eap_base::{GPSK_KIND, Identity, Nonce, Octets, Packet, Suite};
-use eap_method::{Credential, Report, TagList};
+use eap_method::{Credential, Records, Report, TagList};
 use eap_packet::Code;
 use gpsk_messages::GpskView;
 use std::marker::Model;
@@ -104,7 +104,7 @@ impl Login {
     }
 
     /// Leaves the record of the MAC of a message, which the Type-Data encodes, alone in `accepted`.
-    pub fn accept(&self, view: &GpskView, body: &[u8], accepted: &mut TagList)
+    pub fn accept<R: Records>(&self, view: &GpskView, body: &[u8], accepted: &mut TagList<R>)
         requires { IsHeard (message_of view.now) body.now }
         ensures { accepted.new ≡ sk_record self.now.cred.psk (message_of view.now) ∷ [] }
     {
@@ -112,7 +112,7 @@ impl Login {
     }
 
     /// Writes the Response with a message whose MAC is yet to come, with the MAC of the login.
-    fn seal(&self, view: &GpskView, id: u8, packet: &mut Packet, made: &mut TagList)
+    fn seal<R: Records>(&self, view: &GpskView, id: u8, packet: &mut Packet, made: &mut TagList<R>)
         requires fits { size_of (message_of view.now) + 5 ≤ 1493 }
         requires mac { length (mac_of (message_of view.now)) ≡ ks_of self.now.suite }
         ensures packet { packet.new ≡ packet_of code.Response id self.now.suite (keys_of self.now).sk (without_mac (message_of view.now)) }
@@ -125,7 +125,7 @@ impl Login {
 
     /// Writes GPSK-2 with its MAC, whose record is then alone in `made`. `list` is the CSuite_List of
     /// GPSK-1.
-    pub fn gpsk2(&self, id: u8, list: &[u8], packet: &mut Packet, made: &mut TagList)
+    pub fn gpsk2<R: Records>(&self, id: u8, list: &[u8], packet: &mut Packet, made: &mut TagList<R>)
         requires { length list.now ≤ 120 }
         ensures packet { packet.new ≡ gpsk_response id (gpsk2_of self.now list.now) }
         ensures record { made.new ≡ sk_record self.now.cred.psk (gpsk2_of self.now list.now) ∷ [] }
@@ -146,7 +146,7 @@ impl Login {
     }
 
     /// Writes GPSK-4 with its MAC, whose record is then alone in `made`.
-    pub fn gpsk4(&self, id: u8, packet: &mut Packet, made: &mut TagList)
+    pub fn gpsk4<R: Records>(&self, id: u8, packet: &mut Packet, made: &mut TagList<R>)
         ensures packet { packet.new ≡ gpsk_response id (gpsk4_of self.now) }
         ensures record { made.new ≡ sk_record self.now.cred.psk (gpsk4_of self.now) ∷ [] }
         ensures room { HasRoom packet.new }
@@ -159,7 +159,13 @@ impl Login {
     }
 
     /// Writes GPSK-Protected-Fail with its MAC, whose record is then alone in `made`.
-    pub fn protected_fail(&self, id: u8, code: u32, packet: &mut Packet, made: &mut TagList)
+    pub fn protected_fail<R: Records>(
+        &self,
+        id: u8,
+        code: u32,
+        packet: &mut Packet,
+        made: &mut TagList<R>,
+    )
         ensures packet { packet.new ≡ gpsk_response id (protected_fail_of self.now code) }
         ensures record { made.new ≡ sk_record self.now.cred.psk (protected_fail_of self.now code) ∷ [] }
         ensures room { HasRoom packet.new }

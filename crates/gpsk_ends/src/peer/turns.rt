@@ -24,13 +24,19 @@ use crate::peer::login::{Begun, Login};
 use crate::peer::offer::Offer;
 use crate::peer::stage::{Phase, Stage};
 use eap_base::Packet;
-use eap_method::{Decision, MethodState, PeerTurn, Tags};
+use eap_method::{Decision, MethodState, PeerTurn, Records, Tags};
 use eap_packet::{Cause, Code};
 use gpsk_messages::{GpskView, write_gpsk_into};
 
 /// GPSK-1 is answered by GPSK-2, and the login begins.
 #[tactic(auto, unfolding(eap_method::specs::GpskPeer::answers))]
-fn answer(own: &Begun, offer: &Offer, id: u8, packet: &mut Packet, tags: &mut Tags) -> Login
+fn answer<R: Records>(
+    own: &Begun,
+    offer: &Offer,
+    id: u8,
+    packet: &mut Packet,
+    tags: &mut Tags<R>,
+) -> Login
     ensures login { result ≡ login_with own.now.cred own.now.nonce offer.now }
     ensures turn { outcome_with (Reply Cont Fail) packet.new tags.new (view_in result Wait)
         ≡ answers (login_with own.now.cred own.now.nonce offer.now) id offer.now.list.now }
@@ -45,14 +51,14 @@ fn answer(own: &Begun, offer: &Offer, id: u8, packet: &mut Packet, tags: &mut Ta
 /// GPSK-3 that repeats the fields of the login is answered by GPSK-4, and the login has succeeded.
 /// `BadTag`: its MAC is wrong.
 #[tactic(auto, unfolding(eap_method::specs::GpskPeer::confirms))]
-fn confirm(
+fn confirm<R: Records>(
     login: &Login,
     phase: &mut Phase,
     id: u8,
     view: &GpskView,
     body: &[u8],
     packet: &mut Packet,
-    tags: &mut Tags,
+    tags: &mut Tags<R>,
 ) -> PeerTurn
     requires heard { IsHeard (message_of view.now) body.now }
     requires waits { phase.old ≡ Wait }
@@ -73,13 +79,13 @@ fn confirm(
 }
 
 /// GPSK-Fail is answered by itself, and the login is over.
-fn repeat_fail(
+fn repeat_fail<R: Records>(
     login: &Login,
     phase: &mut Phase,
     id: u8,
     code: u32,
     packet: &mut Packet,
-    tags: &mut Tags,
+    tags: &mut Tags<R>,
 ) -> PeerTurn
     ensures turn { outcome_with result packet.new tags.new (view_in login.now phase.new) ≡ repeats_fail login.now id code }
     ensures room { HasRoom packet.new }
@@ -96,7 +102,7 @@ fn repeat_fail(
 /// GPSK-Protected-Fail is answered by one with the same code, and the login is over. `BadTag`: its MAC
 /// is wrong.
 #[tactic(auto, unfolding(eap_method::specs::GpskPeer::repeats_protected))]
-fn repeat_protected(
+fn repeat_protected<R: Records>(
     login: &Login,
     phase: &mut Phase,
     id: u8,
@@ -104,7 +110,7 @@ fn repeat_protected(
     view: &GpskView,
     body: &[u8],
     packet: &mut Packet,
-    tags: &mut Tags,
+    tags: &mut Tags<R>,
 ) -> PeerTurn
     requires heard { IsHeard (message_of view.now) body.now }
     requires waits { phase.old ≡ Wait }
@@ -127,13 +133,13 @@ fn repeat_protected(
 /// The Type-Data at a peer that has sent GPSK-2. `FieldMismatch`: GPSK-3 does not repeat the fields of
 /// the login.
 #[tactic(auto, unfolding(eap_method::specs::GpskPeer::confirms))]
-fn wait_reads(
+fn wait_reads<R: Records>(
     login: &Login,
     phase: &mut Phase,
     id: u8,
     body: &[u8],
     packet: &mut Packet,
-    tags: &mut Tags,
+    tags: &mut Tags<R>,
 ) -> PeerTurn
     requires size { length body.now ≤ max_type_data }
     requires waits { phase.old ≡ Wait }
@@ -179,11 +185,11 @@ fn over_cause(login: &Login, good: bool, body: &[u8]) -> Cause
 
 /// The turn for the octets of a Request of Type 51. After a discard `packet` and `tags` are unspecified.
 #[tactic(auto, unfolding(eap_method::specs::GpskPeer::step))]
-pub fn hears_request(
+pub fn hears_request<R: Records>(
     stage: &mut Stage,
     request: &[u8],
     packet: &mut Packet,
-    tags: &mut Tags,
+    tags: &mut Tags<R>,
 ) -> PeerTurn
     requires header { 5 ≤ length request.now }
     requires size { length request.now ≤ max_packet }

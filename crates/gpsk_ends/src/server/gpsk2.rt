@@ -17,7 +17,7 @@ use crate::hearing::hear;
 use crate::server::login::{Begun, Login};
 use crate::server::stage::{Answered, Phase};
 use eap_base::{GPSK_KIND, Packet};
-use eap_method::Tags;
+use eap_method::{Records, Tags};
 use eap_packet::{Cause, Code};
 use gpsk_messages::{GpskView, write_gpsk_into};
 use login_setup::{User, Users};
@@ -27,7 +27,7 @@ pub const PSK_NOT_FOUND: u32 = 1;
 
 /// GPSK-2 of a user that the server doesn't know is answered by GPSK-Fail.
 #[tactic(auto, unfolding(eap_method::specs::GpskServer::refuses))]
-fn refuse(own: &Begun, next_id: u8, packet: &mut Packet, tags: &mut Tags) -> Answered
+fn refuse<R: Records>(own: &Begun, next_id: u8, packet: &mut Packet, tags: &mut Tags<R>) -> Answered
     ensures turn { answered_with result packet.new tags.new own.now.side own.now.nonce ≡ refuses own.now.side own.now.nonce next_id }
     ensures room { HasRoom packet.new }
 {
@@ -41,14 +41,14 @@ fn refuse(own: &Begun, next_id: u8, packet: &mut Packet, tags: &mut Tags) -> Ans
 
 /// GPSK-2 with its MAC is answered by GPSK-3, that of a barred user by GPSK-Protected-Fail.
 #[tactic(auto, unfolding(eap_method::specs::GpskServer::answers))]
-fn answer(
+fn answer<R: Records>(
     login: &Login,
     barred: bool,
     next_id: u8,
     view: &GpskView,
     body: &[u8],
     packet: &mut Packet,
-    tags: &mut Tags,
+    tags: &mut Tags<R>,
 ) -> Phase
     requires { IsHeard (message_of view.now) body.now }
     ensures turn { outcome_with Request packet.new tags.new (view_in login.now result) ≡ answers login.now barred next_id (message_of view.now) }
@@ -65,14 +65,14 @@ fn answer(
 }
 
 /// GPSK-2 of a known user. `BadTag`: its MAC is wrong. The keys that were derived for it are dropped.
-fn check(
+fn check<R: Records>(
     login: Login,
     barred: bool,
     next_id: u8,
     view: &GpskView,
     body: &[u8],
     packet: &mut Packet,
-    tags: &mut Tags,
+    tags: &mut Tags<R>,
 ) -> Answered
     requires { IsHeard (message_of view.now) body.now }
     ensures turn { answered_with result packet.new tags.new login.own login.nonce ≡ checks login barred next_id (message_of view.now) }
@@ -98,14 +98,14 @@ fn find_user<'a>(users: &'a Users, id_p: &[u8]) -> Option<&'a User>
 
 /// A message at a server that has sent GPSK-1. `FieldMismatch`: GPSK-2 does not repeat what GPSK-1 said.
 /// `SuiteNotOffered`: it names a suite that was not offered.
-fn asked_hears(
+fn asked_hears<R: Records>(
     own: &Begun,
     next_id: u8,
     view: &GpskView,
     body: &[u8],
     users: &Users,
     packet: &mut Packet,
-    tags: &mut Tags,
+    tags: &mut Tags<R>,
 ) -> Answered
     requires heard { IsHeard (message_of view.now) body.now }
     requires keys { All (λ user. IsTrue (fits_kind user.kind user.psk)) users.now }
@@ -142,13 +142,13 @@ fn asked_hears(
 }
 
 /// The Type-Data at a server that has sent GPSK-1.
-pub fn asked_reads(
+pub fn asked_reads<R: Records>(
     own: &Begun,
     next_id: u8,
     body: &[u8],
     users: &Users,
     packet: &mut Packet,
-    tags: &mut Tags,
+    tags: &mut Tags<R>,
 ) -> Answered
     requires size { length body.now ≤ max_type_data }
     requires keys { All (λ user. IsTrue (fits_kind user.kind user.psk)) users.now }

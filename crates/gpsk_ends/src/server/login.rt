@@ -16,7 +16,7 @@ use crate::nonces::Nonces;
 use crate::records::record;
 use crate::sealing::mac_place;
 use eap_base::{GPSK_KIND, Identity, Nonce, Octets, Packet, Secret, Suite};
-use eap_method::{Report, ServerSide, TagList};
+use eap_method::{Records, Report, ServerSide, TagList};
 use eap_packet::Code;
 use gpsk_messages::{GpskView, write_gpsk_into};
 use login_setup::User;
@@ -150,7 +150,7 @@ impl Login {
     }
 
     /// Leaves the record of the MAC of a message, which the Type-Data encodes, alone in `accepted`.
-    pub fn accept(&self, view: &GpskView, body: &[u8], accepted: &mut TagList)
+    pub fn accept<R: Records>(&self, view: &GpskView, body: &[u8], accepted: &mut TagList<R>)
         requires { IsHeard (message_of view.now) body.now }
         ensures { accepted.new ≡ sk_record self.now.psk (message_of view.now) ∷ [] }
     {
@@ -158,7 +158,7 @@ impl Login {
     }
 
     /// Writes the Request with a message whose MAC is yet to come, with the MAC of the login.
-    fn seal(&self, view: &GpskView, id: u8, packet: &mut Packet, made: &mut TagList)
+    fn seal<R: Records>(&self, view: &GpskView, id: u8, packet: &mut Packet, made: &mut TagList<R>)
         requires fits { size_of (message_of view.now) + 5 ≤ 1493 }
         requires mac { length (mac_of (message_of view.now)) ≡ ks_of self.now.suite }
         ensures packet { packet.new ≡ packet_of code.Request id self.now.suite (keys_of self.now).sk (without_mac (message_of view.now)) }
@@ -170,7 +170,7 @@ impl Login {
     }
 
     /// Writes GPSK-3 with its MAC, whose record is then alone in `made`.
-    pub fn gpsk3(&self, id: u8, packet: &mut Packet, made: &mut TagList)
+    pub fn gpsk3<R: Records>(&self, id: u8, packet: &mut Packet, made: &mut TagList<R>)
         ensures packet { packet.new ≡ gpsk_request id (gpsk3_of self.now) }
         ensures record { made.new ≡ sk_record self.now.psk (gpsk3_of self.now) ∷ [] }
         ensures room { HasRoom packet.new }
@@ -188,7 +188,7 @@ impl Login {
     }
 
     /// Writes GPSK-Protected-Fail for a barred user, with its MAC, whose record is then alone in `made`.
-    pub fn protected_fail(&self, id: u8, packet: &mut Packet, made: &mut TagList)
+    pub fn protected_fail<R: Records>(&self, id: u8, packet: &mut Packet, made: &mut TagList<R>)
         ensures packet { packet.new ≡ gpsk_request id (bars_with self.now) }
         ensures record { made.new ≡ sk_record self.now.psk (bars_with self.now) ∷ [] }
         ensures room { HasRoom packet.new }

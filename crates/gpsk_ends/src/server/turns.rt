@@ -23,7 +23,7 @@ use crate::server::gpsk2::{PSK_NOT_FOUND, asked_reads};
 use crate::server::login::{AUTHORIZATION_FAILURE, Login};
 use crate::server::stage::{Alone, Answered, Phase, Stage};
 use eap_base::{Packet, Suite};
-use eap_method::{ServerTurn, Tags};
+use eap_method::{Records, ServerTurn, Tags};
 use eap_packet::Cause;
 use gpsk_messages::GpskView;
 use login_setup::Users;
@@ -48,7 +48,7 @@ pub fn ask(stage: &mut Stage, id: u8, packet: &mut Packet)
 
 /// The Type-Data at a server that has sent GPSK-Fail: the same failure ends the method. `FieldMismatch`:
 /// it is another.
-fn refusing_reads(body: &[u8], phase: &mut Alone, tags: &mut Tags) -> ServerTurn
+fn refusing_reads<R: Records>(body: &[u8], phase: &mut Alone, tags: &mut Tags<R>) -> ServerTurn
     requires size { length body.now ≤ max_type_data }
     requires awaits { phase.old ≡ Refusing }
     ensures { (own : ServerSide) (nonce packet : List ℕ) →
@@ -70,13 +70,13 @@ fn refusing_reads(body: &[u8], phase: &mut Alone, tags: &mut Tags) -> ServerTurn
 }
 
 /// A message with the MAC of the login ends it.
-fn end(
+fn end<R: Records>(
     login: &Login,
     phase: &mut Phase,
     success: bool,
     view: &GpskView,
     body: &[u8],
-    tags: &mut Tags,
+    tags: &mut Tags<R>,
 ) -> ServerTurn
     requires { IsHeard (message_of view.now) body.now }
     ensures { (packet : List ℕ) →
@@ -92,7 +92,12 @@ fn end(
 /// The Type-Data at a server that has sent GPSK-Protected-Fail: the same failure ends the method.
 /// `FieldMismatch`: it is another. `BadTag`: its MAC is wrong.
 #[tactic(auto, unfolding(eap_method::specs::GpskServer::ends))]
-fn barring_reads(login: &Login, phase: &mut Phase, body: &[u8], tags: &mut Tags) -> ServerTurn
+fn barring_reads<R: Records>(
+    login: &Login,
+    phase: &mut Phase,
+    body: &[u8],
+    tags: &mut Tags<R>,
+) -> ServerTurn
     requires size { length body.now ≤ max_type_data }
     requires awaits { phase.old ≡ Barring }
     ensures { (packet : List ℕ) →
@@ -118,7 +123,12 @@ fn barring_reads(login: &Login, phase: &mut Phase, body: &[u8], tags: &mut Tags)
 /// The Type-Data at a server that has sent GPSK-3: GPSK-4 ends the method with success. `BadTag`: its MAC
 /// is wrong.
 #[tactic(auto, unfolding(eap_method::specs::GpskServer::ends))]
-fn checked_reads(login: &Login, phase: &mut Phase, body: &[u8], tags: &mut Tags) -> ServerTurn
+fn checked_reads<R: Records>(
+    login: &Login,
+    phase: &mut Phase,
+    body: &[u8],
+    tags: &mut Tags<R>,
+) -> ServerTurn
     requires size { length body.now ≤ max_type_data }
     requires awaits { phase.old ≡ Checked }
     ensures { (packet : List ℕ) →
@@ -151,7 +161,12 @@ fn idle_cause(suite: Option<Suite>, body: &[u8]) -> Cause
 }
 
 /// The Type-Data at a server in a login.
-fn login_reads(login: &Login, phase: &mut Phase, body: &[u8], tags: &mut Tags) -> ServerTurn
+fn login_reads<R: Records>(
+    login: &Login,
+    phase: &mut Phase,
+    body: &[u8],
+    tags: &mut Tags<R>,
+) -> ServerTurn
     requires { length body.now ≤ max_type_data }
     ensures { (packet : List ℕ) →
         outcome_with result packet tags.new (view_in login.now phase.new)
@@ -166,13 +181,13 @@ fn login_reads(login: &Login, phase: &mut Phase, body: &[u8], tags: &mut Tags) -
 
 /// The turn for the octets of a Response of Type 51. After a discard `packet` and `tags` are unspecified.
 #[tactic(auto, unfolding(eap_method::specs::GpskServer::step))]
-pub fn hears_response(
+pub fn hears_response<R: Records>(
     stage: &mut Stage,
     response: &[u8],
     next_id: u8,
     users: &Users,
     packet: &mut Packet,
-    tags: &mut Tags,
+    tags: &mut Tags<R>,
 ) -> ServerTurn
     requires header { 5 ≤ length response.now }
     requires size { length response.now ≤ max_packet }

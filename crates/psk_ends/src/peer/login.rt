@@ -9,7 +9,7 @@ use crate::octets::rand_of;
 use crate::records::{add_mac_p, add_mac_s};
 use cmac_mac::CmacKey;
 use eap_base::{Identity, Nonce, Octets, PSK_KIND, Secret};
-use eap_method::{Credential, Report, TagList, mac_p, mac_s};
+use eap_method::{Credential, Records, Report, TagList, mac_p, mac_s};
 use login_keys::{PskKeys, PskLong, psk_session};
 use std::marker::Model;
 
@@ -147,7 +147,7 @@ impl Login {
 
     /// Adds the record of this MAC_P.
     #[tactic(auto, unfolding(eap_method::specs::PskPeer::mac_p_covers))]
-    pub fn add_mac_p(&self, made: &mut TagList, mac: &[u8; 16])
+    pub fn add_mac_p<R: Records>(&self, made: &mut TagList<R>, mac: &[u8; 16])
         requires { length made.old < 2 }
         ensures { made.new ≡ made.old ++ ak_record self.now.cred.psk (mac_p_covers self.now) mac.now ∷ [] }
     {
@@ -165,7 +165,7 @@ impl Login {
 
     /// Adds the record of this MAC_S.
     #[tactic(auto, unfolding(eap_method::specs::PskPeer::mac_s_covers))]
-    pub fn add_mac_s(&self, accepted: &mut TagList, mac: &[u8; 16])
+    pub fn add_mac_s<R: Records>(&self, accepted: &mut TagList<R>, mac: &[u8; 16])
         requires { length accepted.old < 2 }
         ensures { accepted.new ≡ accepted.old ++ ak_record self.now.cred.psk (mac_s_covers self.now) mac.now ∷ [] }
     {

@@ -16,7 +16,7 @@ use crate::peer::login::Login;
 use crate::peer::stage::Phase;
 use crate::records::add_channel;
 use eap_base::{Packet, equal_in_full};
-use eap_method::{Decision, MethodState, PeerTurn, TagList, Tags};
+use eap_method::{Decision, MethodState, PeerTurn, Records, TagList, Tags};
 use eap_packet::{Cause, Code};
 use psk_messages::{PskView, write_psk_into};
 
@@ -46,7 +46,7 @@ fn write_psk4(login: &Login, id: u8, packet: &mut Packet)
 
 /// PSK-4 with this R, and the record of its tag.
 #[tactic(auto, using(crate::proofs::Filled::room4, crate::proofs::Filled::filled4), unfolding(eap_method::specs::PskPeer::psk4_header, eap_method::specs::PskPeer::psk4_sealed))]
-fn psk4(login: &Login, id: u8, r: u8, packet: &mut Packet, made: &mut TagList)
+fn psk4<R: Records>(login: &Login, id: u8, r: u8, packet: &mut Packet, made: &mut TagList<R>)
     requires two_bits { r < 4 }
     requires none { made.old ≡ [] }
     ensures packet { packet.new ≡ psk_response id (psk4_of login.now id r) }
@@ -59,13 +59,13 @@ fn psk4(login: &Login, id: u8, r: u8, packet: &mut Packet, made: &mut TagList)
 
 /// A PSK-3 without a fault is answered by PSK-4, with its R, and the login is over.
 #[tactic(auto, unfolding(eap_method::specs::PskPeer::confirms))]
-fn confirm(
+fn confirm<R: Records>(
     login: &Login,
     phase: &mut Phase,
     id: u8,
     octet: u8,
     packet: &mut Packet,
-    tags: &mut Tags,
+    tags: &mut Tags<R>,
 ) -> PeerTurn
     requires { tags.old.made ≡ [] }
     ensures turn { outcome_with result packet.new tags.new (in_phase phase.new login.now) ≡ confirms login.now id (result_of octet) tags.old.accepted None }
@@ -120,7 +120,7 @@ fn check_psk3(login: &Login, header: &[u8], psk3: &Psk3) -> Result<u8, Cause>
 }
 
 /// Adds the records of PSK-3's tags.
-fn add_psk3(login: &Login, header: &[u8], psk3: &Psk3, accepted: &mut TagList)
+fn add_psk3<R: Records>(login: &Login, header: &[u8], psk3: &Psk3, accepted: &mut TagList<R>)
     requires none { accepted.old ≡ [] }
     requires header { length header.now ≤ 22 }
     ensures { accepted.new ≡ psk3_records login.now header.now psk3.now.mac psk3.now.tag psk3.now.sealed }
@@ -135,14 +135,14 @@ fn add_psk3(login: &Login, header: &[u8], psk3: &Psk3, accepted: &mut TagList)
 
 /// PSK-3, with this Identifier and this header: it is answered, if it has no fault.
 #[tactic(auto, using(crate::proofs::PeerChecks::is_confirmed))]
-pub fn hears_psk3(
+pub fn hears_psk3<R: Records>(
     login: &Login,
     phase: &mut Phase,
     id: u8,
     header: &[u8],
     psk3: &Psk3,
     packet: &mut Packet,
-    tags: &mut Tags,
+    tags: &mut Tags<R>,
 ) -> PeerTurn
     requires header { length header.now ≤ 22 }
     requires waits { phase.old ≡ Wait }

@@ -18,7 +18,7 @@ use crate::peer::login::{Begun, Login, Psk1};
 use crate::peer::psk4::{Psk3, hears_psk3};
 use crate::peer::stage::{Phase, Stage};
 use eap_base::Packet;
-use eap_method::{Decision, MethodState, PeerTurn, Tags};
+use eap_method::{Decision, MethodState, PeerTurn, Records, Tags};
 use eap_packet::{Cause, Code};
 use psk_messages::{PskView, write_psk_into};
 
@@ -58,7 +58,13 @@ fn write_psk2(login: &Login, id: u8, mac: &[u8; 16], packet: &mut Packet)
 
 /// PSK-1 is answered by PSK-2, and the login begins.
 #[tactic(auto, unfolding(eap_method::specs::PskPeer::answers))]
-fn answer(own: &Begun, psk1: &Psk1, id: u8, packet: &mut Packet, tags: &mut Tags) -> Login
+fn answer<R: Records>(
+    own: &Begun,
+    psk1: &Psk1,
+    id: u8,
+    packet: &mut Packet,
+    tags: &mut Tags<R>,
+) -> Login
     ensures login { result ≡ login_with own.now psk1.now }
     ensures turn { outcome_with (Reply Cont Fail) packet.new tags.new (wait result) ≡ answers (login_with own.now psk1.now) id }
     ensures room { HasRoom packet.new }
@@ -72,12 +78,12 @@ fn answer(own: &Begun, psk1: &Psk1, id: u8, packet: &mut Packet, tags: &mut Tags
 }
 
 /// A Request at a peer that has sent PSK-2.
-fn wait_reads(
+fn wait_reads<R: Records>(
     login: &Login,
     phase: &mut Phase,
     request: &[u8],
     packet: &mut Packet,
-    tags: &mut Tags,
+    tags: &mut Tags<R>,
 ) -> PeerTurn
     requires size { 5 ≤ length request.now }
     requires waits { phase.old ≡ Wait }
@@ -119,11 +125,11 @@ fn wait_reads(
 
 /// The turn for the octets of a Request of Type 47. After a discard `packet` and `tags` are unspecified.
 #[tactic(auto, unfolding(eap_method::specs::PskPeer::step))]
-pub fn hears_request(
+pub fn hears_request<R: Records>(
     stage: &mut Stage,
     request: &[u8],
     packet: &mut Packet,
-    tags: &mut Tags,
+    tags: &mut Tags<R>,
 ) -> PeerTurn
     requires { 5 ≤ length request.now }
     ensures turn { outcome_with result packet.new tags.new (view_of stage.new) ≡ step (view_of stage.old) request.now }

@@ -13,7 +13,7 @@ use crate::octets::rand_of;
 use crate::records::{add_mac_p, add_mac_s};
 use cmac_mac::CmacKey;
 use eap_base::{Identity, Nonce, Octets, PSK_KIND, Secret};
-use eap_method::{Report, ServerSide, TagList, mac_p, mac_s};
+use eap_method::{Records, Report, ServerSide, TagList, mac_p, mac_s};
 use login_keys::{PskKeys, psk_session};
 use login_setup::User;
 use std::marker::Model;
@@ -157,7 +157,7 @@ impl Login {
 
     /// Adds the record of this MAC_P.
     #[tactic(auto, unfolding(eap_method::specs::PskServer::mac_p_covers))]
-    pub fn add_mac_p(&self, accepted: &mut TagList, mac: &[u8; 16])
+    pub fn add_mac_p<R: Records>(&self, accepted: &mut TagList<R>, mac: &[u8; 16])
         requires { length accepted.old < 2 }
         ensures { accepted.new ≡ accepted.old ++ ak_record self.now.psk (mac_p_covers self.now) mac.now ∷ [] }
     {
@@ -175,7 +175,7 @@ impl Login {
 
     /// Adds the record of this MAC_S.
     #[tactic(auto, unfolding(eap_method::specs::PskServer::mac_s_covers))]
-    pub fn add_mac_s(&self, made: &mut TagList, mac: &[u8; 16])
+    pub fn add_mac_s<R: Records>(&self, made: &mut TagList<R>, mac: &[u8; 16])
         requires { length made.old < 2 }
         ensures { made.new ≡ made.old ++ ak_record self.now.psk (mac_s_covers self.now) mac.now ∷ [] }
     {

@@ -20,7 +20,7 @@ use crate::octets::{message_in, rand_of};
 use crate::server::login::{Begun, Login, Psk2};
 use cmac_mac::CmacKey;
 use eap_base::{PSK_KIND, Packet, equal_in_full};
-use eap_method::{TagList, Tags};
+use eap_method::{Records, TagList, Tags};
 use eap_packet::{Cause, Code};
 use login_keys::PskLong;
 use login_setup::{User, Users};
@@ -43,7 +43,7 @@ fn write_psk3(login: &Login, id: u8, mac: &[u8; 16], packet: &mut Packet)
 
 /// PSK-3, and the records of its tags.
 #[tactic(auto, using(crate::proofs::Filled::room3, crate::proofs::Filled::filled3), unfolding(eap_method::specs::PskServer::psk3_header, eap_method::specs::PskServer::psk3_sealed))]
-fn psk3(login: &Login, id: u8, packet: &mut Packet, made: &mut TagList)
+fn psk3<R: Records>(login: &Login, id: u8, packet: &mut Packet, made: &mut TagList<R>)
     requires { made.old ≡ [] }
     ensures packet { packet.new ≡ psk_request id (psk3_of login.now id) }
     ensures made { made.new ≡ psk3_records login.now id }
@@ -57,7 +57,13 @@ fn psk3(login: &Login, id: u8, packet: &mut Packet, made: &mut TagList)
 
 /// PSK-2 is answered by PSK-3, and the login begins.
 #[tactic(auto, unfolding(eap_method::specs::PskServer::answers))]
-pub fn answer(own: &Begun, psk2: Psk2, next_id: u8, packet: &mut Packet, tags: &mut Tags) -> Login
+pub fn answer<R: Records>(
+    own: &Begun,
+    psk2: Psk2,
+    next_id: u8,
+    packet: &mut Packet,
+    tags: &mut Tags<R>,
+) -> Login
     ensures login { result ≡ login_with own.now psk2.entry }
     ensures turn { outcome_with Request packet.new tags.new (checked result) ≡ answers (login_with own.now psk2.entry) next_id psk2.entry.mac }
     ensures room { HasRoom packet.new }

@@ -13,7 +13,7 @@ use crate::channel::{DONE_SUCCESS, Sealed, check_result, open};
 use crate::records::add_channel;
 use crate::server::login::Login;
 use crate::server::stage::KnownPhase;
-use eap_method::{ServerTurn, TagList, Tags};
+use eap_method::{Records, ServerTurn, TagList, Tags};
 use eap_packet::Cause;
 
 /// The fields of PSK-4.
@@ -61,7 +61,7 @@ fn end(login: &Login, octet: u8) -> bool
 }
 
 /// Adds the record of PSK-4's tag.
-fn add_psk4(login: &Login, header: &[u8], psk4: &Psk4, accepted: &mut TagList)
+fn add_psk4<R: Records>(login: &Login, header: &[u8], psk4: &Psk4, accepted: &mut TagList<R>)
     requires none { accepted.old ≡ [] }
     requires header { length header.now ≤ 22 }
     ensures { accepted.new ≡ tek_record login.now.psk 1 header.now psk4.now.sealed psk4.now.tag ∷ [] }
@@ -75,12 +75,12 @@ fn add_psk4(login: &Login, header: &[u8], psk4: &Psk4, accepted: &mut TagList)
 
 /// PSK-4, with this header: it ends the login, if it has no fault.
 #[tactic(auto, using(crate::proofs::ServerChecks::is_end))]
-pub fn hears_psk4(
+pub fn hears_psk4<R: Records>(
     login: &Login,
     phase: &mut KnownPhase,
     header: &[u8],
     psk4: &Psk4,
-    tags: &mut Tags,
+    tags: &mut Tags<R>,
 ) -> ServerTurn
     requires header { length header.now ≤ 22 }
     requires awaits { phase.old ≡ Checked }

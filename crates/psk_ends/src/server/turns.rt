@@ -16,7 +16,7 @@ use crate::server::psk3::{answer, asked_reads};
 use crate::server::psk4::{Psk4, hears_psk4};
 use crate::server::stage::{EarlyPhase, KnownPhase, Stage};
 use eap_base::Packet;
-use eap_method::{ServerTurn, Tags};
+use eap_method::{Records, ServerTurn, Tags};
 use eap_packet::{Cause, Code};
 use login_setup::Users;
 use psk_messages::{PskView, write_psk_into};
@@ -54,11 +54,11 @@ pub fn ask(stage: &mut Stage, id: u8, packet: &mut Packet)
 }
 
 /// A Response at a server that has sent PSK-3.
-fn checked_reads(
+fn checked_reads<R: Records>(
     login: &Login,
     phase: &mut KnownPhase,
     response: &[u8],
-    tags: &mut Tags,
+    tags: &mut Tags<R>,
 ) -> ServerTurn
     requires size { 5 ≤ length response.now }
     requires awaits { phase.old ≡ Checked }
@@ -89,13 +89,13 @@ fn checked_reads(
 
 /// The turn for the octets of a Response of Type 47. After a discard `packet` and `tags` are unspecified.
 #[tactic(auto, unfolding(eap_method::specs::PskServer::step))]
-pub fn hears_response(
+pub fn hears_response<R: Records>(
     stage: &mut Stage,
     response: &[u8],
     next_id: u8,
     users: &Users,
     packet: &mut Packet,
-    tags: &mut Tags,
+    tags: &mut Tags<R>,
 ) -> ServerTurn
     requires size { 5 ≤ length response.now }
     requires keys { All (λ user. IsTrue (fits_kind user.kind user.psk)) users.now }

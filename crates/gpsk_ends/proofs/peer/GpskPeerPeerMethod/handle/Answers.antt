@@ -3,7 +3,7 @@ use Rattle.gpsk_ends.proofs.Requests.{holds_a_type, request_fits}
 use Rattle.gpsk_ends.proofs.peer.GpskPeerPeerMethod.handle.Goals as goal
 
 pub hears_request-requires-clause-header : goal.hears_request-requires-clause-header
-hears_request-requires-clause-header c = holds_a_type gpsk_kind c.args.request.now c.requires
+hears_request-requires-clause-header g c = holds_a_type gpsk_kind c.args.request.now c.requires
 
 pub hears_request-requires-clause-size : goal.hears_request-requires-clause-size
-hears_request-requires-clause-size c = request_fits gpsk_kind c.args.request.now c.requires
+hears_request-requires-clause-size g c = request_fits gpsk_kind c.args.request.now c.requires

@@ -5,5 +5,5 @@ use Rattle.gpsk_ends.proofs.Rooms.{message_has_room}
 use Rattle.gpsk_ends.proofs.peer.turns.repeat_fail.Goals as goal
 
 pub returns-clause-room : goal.returns-clause-room
-returns-clause-room c =
+returns-clause-room g c =
     message_has_room code.Response c.args.id (fail c.args.code) c.write_gpsk_into.new.packet refl (omega arith) c.write_gpsk_into.ensures

@@ -6,5 +6,5 @@ use Rattle.gpsk_ends.proofs.Rooms.{message_has_room}
 use Rattle.gpsk_ends.proofs.server.gpsk2.refuse.Goals as goal
 
 pub returns-clause-room : goal.returns-clause-room
-returns-clause-room c =
+returns-clause-room g c =
     message_has_room code.Request c.args.next_id (fail psk_not_found) c.write_gpsk_into.new.packet refl (omega arith) c.write_gpsk_into.ensures

@@ -3,4 +3,4 @@ use Rattle.psk_ends.proofs.Requests.{holds_a_type}
 use Rattle.psk_ends.proofs.peer.PskPeerPeerMethod.handle.Goals as goal
 
 pub hears_request-requires : goal.hears_request-requires
-hears_request-requires c = holds_a_type psk_kind c.args.request.now c.requires
+hears_request-requires g c = holds_a_type psk_kind c.args.request.now c.requires

@@ -3,4 +3,4 @@ use Rattle.psk_ends.proofs.Requests.{response_holds_a_type}
 use Rattle.psk_ends.proofs.server.PskServerServerMethod.handle.Goals as goal
 
 pub hears_response-requires-clause-size : goal.hears_response-requires-clause-size
-hears_response-requires-clause-size c = response_holds_a_type psk_kind c.args.response.now c.requires.response
+hears_response-requires-clause-size g c = response_holds_a_type psk_kind c.args.response.now c.requires.response

@@ -5,36 +5,36 @@ use Rattle.psk_ends.proofs.server.turns.hears_response.Goals as goal
 
 pub returns-in-Err-clause-turn : goal.returns-in-Err-clause-turn
 unfolding step
-returns-in-Err-clause-turn c = rw (c.in-Early.is, c.in-Asked.is) (c.in-Err.ensures c.args.next_id)
+returns-in-Err-clause-turn g c = rw (c.in-Early.is, c.in-Asked.is) (c.in-Err.ensures c.args.next_id)
 
 pub returns-in-Ok-None-clause-turn : goal.returns-in-Ok-None-clause-turn
 unfolding step
-returns-in-Ok-None-clause-turn c =
+returns-in-Ok-None-clause-turn g c =
     rw (c.in-Early.is, c.in-Asked.is) (rw c.clear.ensures (rw c.in-Ok-None.field-0-is at (c.in-Ok-None.ensures c.args.next_id)))
 
 pub returns-in-Ok-Some-clause-turn : goal.returns-in-Ok-Some-clause-turn
 unfolding step
-returns-in-Ok-Some-clause-turn c =
+returns-in-Ok-Some-clause-turn g c =
     rw (c.in-Early.is, c.in-Asked.is)
     (c.answer-login.ensures.turn ∙ (rw c.in-Ok-Some.field-0-is at (c.in-Ok-Some.ensures c.args.next_id)))
 
 pub returns-in-Begun-clause-turn : goal.returns-in-Begun-clause-turn
 unfolding step
-returns-in-Begun-clause-turn c =
+returns-in-Begun-clause-turn g c =
     rw (c.in-Early.is, c.in-Begun.is) (c.idle_cause.ensures.server (begun c.in-Early.own.side c.in-Early.own.nonce))
 
 pub returns-in-Refused-clause-turn : goal.returns-in-Refused-clause-turn
 unfolding step
-returns-in-Refused-clause-turn c =
+returns-in-Refused-clause-turn g c =
     rw (c.in-Early.is, c.in-Refused.is) (c.idle_cause-in-Refused.ensures.server (refused c.in-Early.own.side c.in-Early.own.nonce))
 
 pub returns-in-Checked-clause-room : goal.returns-in-Checked-clause-room
-returns-in-Checked-clause-room c = λ sent.
+returns-in-Checked-clause-room g c = λ sent.
     let reads = c.checked_reads in
     let none = sends_nothing reads.result reads.new.tags _ (λ packet. ap (λ out. out.turn) (reads.ensures packet)) in
     cc
 
 pub returns-in-Over-clause-turn : goal.returns-in-Over-clause-turn
 unfolding step
-returns-in-Over-clause-turn c =
+returns-in-Over-clause-turn g c =
     rw (c.in-Known.is, c.in-Over.is) (c.idle_cause-in-Over.ensures.server (over c.in-Known.login c.in-Over.success))
