@@ -16,12 +16,16 @@ use Rattle.eap_world.specs.Sent.{Sent, packet_numbered}
 use Rattle.eap_world.specs.World.{octets_of}
 use Rattle.bulk_run.specs.Draws.{octet_at, octets_after}
 
+-- the method that both ends allow
+abbrev pub login_methods : List ℕ
+login_methods = gpsk_kind ∷ []
+
 -- alice logs in at the server srv by EAP-GPSK, with these nonces and this key (RFC 5433)
 abbrev pub alice : List ℕ → List ℕ → PeerSetup
 alice nonce key = record {
   name = codes "alice";
   accepts = One (codes "srv");
-  methods = gpsk_kind ∷ [];
+  methods = login_methods;
   suites = 1 ∷ 2 ∷ [];
   keys = record { kind = gpsk_kind; psk = key } ∷ [];
   nonce = nonce;
@@ -36,7 +40,7 @@ known_with key = record { name = codes "alice"; kind = gpsk_kind; psk = key; bar
 abbrev pub srv : List ℕ → List ℕ → ServerSetup
 srv nonce key = record {
   name = codes "srv";
-  methods = gpsk_kind ∷ [];
+  methods = login_methods;
   suites = 1 ∷ 2 ∷ [];
   users = known_with key ∷ [];
   nonce = nonce;

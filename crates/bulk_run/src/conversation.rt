@@ -1,14 +1,13 @@
 //! One conversation, from octets that are drawn.
 
-ghost use Rattle.std.specs.Prelude.{◌≡◌, ◌+◌, ◌∷◌, ℕ, [], length, map, true, false, IfOk};
-ghost use Rattle.eap_base.specs.Among.{gpsk_kind};
+ghost use Rattle.std.specs.Prelude.{◌≡◌, ◌+◌, ℕ, [], length, map, true, false, IfOk};
 ghost use Rattle.login_setup.specs.declared.setup.Setup.{Setup};
 ghost use Rattle.eap_method.specs.Peer.{peer_kinds, have_each};
 ghost use Rattle.eap_method.specs.Server.{server_kinds};
 ghost use Rattle.eap_world.specs.Run.{run_of};
 ghost use Rattle.eap_world.specs.World.{HasObjects, now_of, world_made};
 ghost use Rattle.bulk_run.specs.Kinds.{KeepsKinds, HaveSameKinds};
-ghost use Rattle.bulk_run.specs.Conversation.{alice, known_with, deliveries, chances};
+ghost use Rattle.bulk_run.specs.Conversation.{login_methods, alice, known_with, deliveries, chances};
 ghost use Rattle.bulk_run.specs.Draws.{state_at};
 ghost use Rattle.bulk_run.specs.Going.{AreFew};
 ghost use Rattle.bulk_run.specs.Summing.{counts_of, drawn_each, drawn_for_events, ended_at, events_of, IsAtMost};
@@ -40,8 +39,8 @@ pub fn converse<P: PeerMethod, S: ServerMethod>(
     methods: Methods<P, S>,
     counts: &mut Summary,
 ) -> Result<Methods<P, S>, Memory>
-    requires peer_objects { have_each (peer_kinds (map P.peer_shown methods.peer.items)) (gpsk_kind ∷ []) ≡ true }
-    requires server_objects { have_each (server_kinds (map S.server_shown methods.server.items)) (gpsk_kind ∷ []) ≡ true }
+    requires peer_objects { have_each (peer_kinds (map P.peer_shown methods.peer.items)) login_methods ≡ true }
+    requires server_objects { have_each (server_kinds (map S.server_shown methods.server.items)) login_methods ≡ true }
     ensures counts { IfOk result (λ after. (place : ℕ) → draws.old.state ≡ state_at number place → counts.new ≡ counts_of (ended_at number place)) }
     ensures small { IfOk result (λ after. IsAtMost counts.new 40) }
     ensures stands { IfOk result (λ after. (place : ℕ) → draws.old.state ≡ state_at number place

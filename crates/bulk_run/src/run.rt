@@ -1,9 +1,9 @@
 //! All conversations of a number.
 
-ghost use Rattle.std.specs.Prelude.{◌≡◌, ◌≤◌, ◌∷◌, [], map, true, IfOk};
-ghost use Rattle.eap_base.specs.Among.{gpsk_kind};
+ghost use Rattle.std.specs.Prelude.{◌≡◌, ◌≤◌, map, true, IfOk};
 ghost use Rattle.eap_method.specs.Peer.{peer_kinds, have_each};
 ghost use Rattle.eap_method.specs.Server.{server_kinds};
+ghost use Rattle.bulk_run.specs.Conversation.{login_methods};
 ghost use Rattle.bulk_run.specs.Summing.{summary_of};
 
 use crate::conversation::converse;
@@ -25,8 +25,8 @@ pub fn run_all<P: PeerMethod, S: ServerMethod>(
     methods: Methods<P, S>,
 ) -> Result<Summary, Memory>
     requires few { count ≤ 1000 }
-    requires peer_objects { have_each (peer_kinds (map P.peer_shown methods.peer.items)) (gpsk_kind ∷ []) ≡ true }
-    requires server_objects { have_each (server_kinds (map S.server_shown methods.server.items)) (gpsk_kind ∷ []) ≡ true }
+    requires peer_objects { have_each (peer_kinds (map P.peer_shown methods.peer.items)) login_methods ≡ true }
+    requires server_objects { have_each (server_kinds (map S.server_shown methods.server.items)) login_methods ≡ true }
     ensures { IfOk result (λ summary. summary ≡ summary_of number count) }
 {
     let mut draws = Draws::new(number);

@@ -1,6 +1,6 @@
-use Rattle.std.proofs.Common.{◌+◌, ◌*◌, ◌∷◌, [], ap, ◌∙◌, arith}
-use Rattle.eap_base.specs.Among.{gpsk_kind}
+use Rattle.std.proofs.Common.{◌+◌, ◌*◌, ap, ◌∙◌, arith}
 use Rattle.eap_method.specs.Peer.{have_each}
+use Rattle.bulk_run.specs.Conversation.{login_methods}
 use Rattle.bulk_run.specs.Kinds.{Kinds}
 use Rattle.bulk_run.specs.Summing.{drawn_each}
 use Rattle.bulk_run.proofs.Conversing.{none_summed, one_summed, nothing_small, at_most_more, next_place}
@@ -27,6 +27,6 @@ loop-preserved g c =
       sum = c.plus-summary.ensures.value
           ∙ one_summed number count _ _ c.loop.invariant.sum (c.in_ok-methods.ensures.counts (count * each) c.loop.invariant.stands);
       small = at_most_more _ (40 * count + 40) (40 * (count + 1)) (c.plus-summary.ensures.small (40 * count) c.loop.invariant.small) (omega arith);
-      peer = ap (λ (k : Kinds). have_each k.peer (gpsk_kind ∷ [])) c.in_ok-methods.ensures.kinds ∙ c.loop.invariant.peer;
-      server = ap (λ (k : Kinds). have_each k.server (gpsk_kind ∷ [])) c.in_ok-methods.ensures.kinds ∙ c.loop.invariant.server;
+      peer = ap (λ (k : Kinds). have_each k.peer login_methods) c.in_ok-methods.ensures.kinds ∙ c.loop.invariant.peer;
+      server = ap (λ (k : Kinds). have_each k.server login_methods) c.in_ok-methods.ensures.kinds ∙ c.loop.invariant.server;
     }
