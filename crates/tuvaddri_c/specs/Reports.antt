@@ -3,7 +3,10 @@ use Rattle.std.specs.Prelude.{◌≡◌, ◌++◌, ◌==◌, ℕ, List, ◌∷�
 use Rattle.eap_base.specs.Among.{psk_kind, gpsk_kind}
 use Rattle.eap_base.specs.Suite.{ks_of, suite_octets, suite_numbered}
 use Rattle.eap_base.specs.declared.suite.Suite.{Suite}
+use Rattle.eap_method.specs.Peer.{PeerShown, peer_report}
+use Rattle.eap_method.specs.Server.{ServerShown, server_report}
 use Rattle.eap_method.specs.declared.values.Report.{Report}
+use Rattle.end_objects.specs.Nonces.{peer_nonces, server_nonces}
 use Rattle.end_objects.specs.declared.objects.Nonces.{Nonces}
 use Rattle.login_keys.specs.Gkdf.{gkdf}
 use Rattle.login_keys.specs.Gpsk.{input_string}
@@ -24,6 +27,15 @@ abbrev pub both : Option Report → Option Nonces → Option Held
 both None rands = None
 both (Some report) None = None
 both (Some report) (Some rands) = Some (record { report = report; nonces = rands })
+
+-- what the object of a peer's selected method has; that of a server's current one
+abbrev pub peer_held : Option PeerShown → Option Held
+peer_held None = None
+peer_held (Some shown) = both (peer_report shown) (peer_nonces shown)
+
+abbrev pub server_held : Option ServerShown → Option Held
+server_held None = None
+server_held (Some shown) = both (server_report shown) (server_nonces shown)
 
 abbrev pub end_held : End → Option Held
 end_held e = both (end_reports e) (end_nonces e)
