@@ -2,9 +2,10 @@
  *
  * Runs logins by METHOD (47 or 51) and SUITE (1 or 2; 0 for 47) in every way
  * that a key can go: alone, again by a restart, with altered packets, with other
- * keys, of unknown and barred users, after a Nak, through a pass-through, by the
- * methods alone, refused, and cut off.  Standard input has 128 octets: the keys
- * of EAP-PSK and of EAP-GPSK that both ends share, 16 and 48, and two others.
+ * keys, of unknown and barred users, after a Nak, in Expanded Types, through a
+ * pass-through, by the methods alone, refused, and cut off.  Standard input has
+ * 128 octets: the keys of EAP-PSK and of EAP-GPSK that both ends share, 16 and
+ * 48, and two others.
  * Each packet is written as `packet HEX`, and after a login that succeeds both
  * Session-Ids.
  *
@@ -214,6 +215,9 @@ static void logins(void)
 	of_server.methods[1] = method;
 	take_keys(&of_server, &shared, 1);
 	expect(log_in(), "a login after a Nak");
+	set_up();
+	of_peer.expanded = of_server.expanded = 1;
+	expect(log_in(), "a login in Expanded Types");
 }
 
 static void failures(void)

@@ -153,6 +153,8 @@ def field(packet, at):
 def conversations(method, packets):
     """What the keys are derived from, of each conversation whose first Response was sent."""
     for packet in packets:
+        if packet[4:11] == bytes([254, 0, 0, 0, 0, 0, 0]):  # a Type of the IETF's as an Expanded Type
+            packet = packet[:4] + packet[11:]
         if len(packet) < 6 or packet[0] != 2 or packet[4] != method:
             continue
         if method == 51 and packet[5] == 2:
