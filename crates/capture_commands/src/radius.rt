@@ -193,7 +193,7 @@ impl Radius {
     #[tactic(auto, unfolding(crate::specs::Radius::judgement_of, crate::specs::Radius::kept_after, radius_carry::specs::Tags::is_good_request, radius_carry::specs::Fault::value_of))]
     fn judge(&mut self, view: &RadiusView) -> Judgement
         requires { IsRadius (value_of view.now) view.now.whole.now }
-        ensures judgement_of { result ≡ judgement_of self.old.secret self.old.asked (value_of view.now) }
+        ensures judged { result ≡ judgement_of self.old.secret self.old.asked (value_of view.now) }
         ensures kept { self.new ≡ record self.old { asked = kept_after self.old.secret self.old.asked (value_of view.now) } }
     {
         match view.kind {
