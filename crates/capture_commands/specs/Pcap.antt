@@ -96,7 +96,9 @@ record_told users f (eap octets) =
 -- the answer to what a file is
 unfoldable pub answer_to : List User → PcapNow → Contents → Answer
 answer_to users f (ends begun a) = file_end (f.records + begun) (length f.before) f.findings a
-answer_to users f (record_of frame rest) = after_text (record_told users f (contents_of frame)).text (answer_to users (record_told users f (contents_of frame)).after rest)
+answer_to users f (record_of frame rest) =
+    after_text (record_told users f (contents_of frame)).text
+    (answer_to users (record_told users f (contents_of frame)).after rest)
 
 abbrev pub nothing_recorded : PcapNow
 nothing_recorded = record { records = 0; before = []; findings = 0 }

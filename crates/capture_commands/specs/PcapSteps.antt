@@ -35,7 +35,8 @@ record_step users f number (eap octets) =
 unfoldable pub answer_from : List User → ℕ → Found → Contents → Answer
 answer_from users number f (ends begun a) = file_end (number + begun) f.packets f.findings a
 answer_from users number f (record_of frame rest) =
-    after_text (record_step users f (number + 1) (contents_of frame)).text (answer_from users (number + 1) (record_step users f (number + 1) (contents_of frame)).after rest)
+    after_text (record_step users f (number + 1) (contents_of frame)).text
+    (answer_from users (number + 1) (record_step users f (number + 1) (contents_of frame)).after rest)
 
 abbrev pub nothing_found : Found
 nothing_found = record { checker = nothing_kept; packets = 0; findings = 0 }

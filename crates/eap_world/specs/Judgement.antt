@@ -59,5 +59,6 @@ is_success s = elim s [ state.Success ↦ true | _ ↦ false ]
 unfoldable pub verdict_of : WorldNow → Verdict
 verdict_of w =
     if is_success w.parties.peer.vars.state && is_success w.parties.server.vars.state
-    then (if agreement_of w.parties.peer.vars.setup w.parties.server.vars.setup (peer_reports w.parties.peer) (server_reports w.parties.server) then Agree else Apart)
+    then (if agreement_of w.parties.peer.vars.setup w.parties.server.vars.setup
+    (peer_reports w.parties.peer) (server_reports w.parties.server) then Agree else Apart)
     else Unfinished

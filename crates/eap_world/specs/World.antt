@@ -131,7 +131,8 @@ pub record NamesAlike {P S : Type 0} (before after : WorldValue P S) : Type 0 wh
   pub server_named : after.server.vars.setup.methods ≡ before.server.vars.setup.methods
 
 -- each method that an end's settings name has an object
-pub record HaveObjects {P S : Type 0} (peer_shown : P → PeerShown) (server_shown : S → ServerShown) (of_peer : PeerValue P) (of_server : ServerValue S) : Type 0 where
+pub record HaveObjects {P S : Type 0} (peer_shown : P → PeerShown) (server_shown : S → ServerShown)
+    (of_peer : PeerValue P) (of_server : ServerValue S) : Type 0 where
   pub peer : have_each (peer_kinds (map peer_shown of_peer.methods)) of_peer.vars.setup.methods ≡ true
   pub server : have_each (server_kinds (map server_shown of_server.methods)) of_server.vars.setup.methods ≡ true
 

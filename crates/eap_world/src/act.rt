@@ -122,7 +122,8 @@ impl<P: PeerMethod, S: ServerMethod> Machines<P, S> {
     fn deliver(&mut self, packet: Option<Stored>) -> Action
         requires serving { IsServing self.old.mode self.old.server.vars }
         ensures { DoesCall P.peer_shown S.server_shown self.old result self.new
-            (first_skip (packet_skips self.old.mode (sent_of_slot packet.entry) false)) (call_with (sent_of_slot packet.entry) (octets_of (sent_of_slot packet.entry))) }
+            (first_skip (packet_skips self.old.mode (sent_of_slot packet.entry) false))
+            (call_with (sent_of_slot packet.entry) (octets_of (sent_of_slot packet.entry))) }
     {
         self.hand_part(packet, false, octets_of(packet))
     }
@@ -323,7 +324,8 @@ impl<P: PeerMethod, S: ServerMethod> Machines<P, S> {
     fn restart(&mut self, party: Party) -> Action
         requires objects { HaveObjects P.peer_shown S.server_shown self.old.peer self.old.server }
         ensures { DoesCall P.peer_shown S.server_shown self.old result self.new
-            (first_skip (restart_skips (parties_of P.peer_shown S.server_shown self.old) self.old.conversations party)) (restart_call self.old.conversations party) }
+            (first_skip (restart_skips (parties_of P.peer_shown S.server_shown self.old) self.old.conversations party))
+            (restart_call self.old.conversations party) }
     {
         match party {
             Party::Peer => self.restart_peer(),
@@ -336,7 +338,8 @@ impl<P: PeerMethod, S: ServerMethod> Machines<P, S> {
     fn restart_peer(&mut self) -> Action
         requires objects { HaveObjects P.peer_shown S.server_shown self.old.peer self.old.server }
         ensures { DoesCall P.peer_shown S.server_shown self.old result self.new
-            (first_skip (restart_skips (parties_of P.peer_shown S.server_shown self.old) self.old.conversations Peer)) (restart_call self.old.conversations Peer) }
+            (first_skip (restart_skips (parties_of P.peer_shown S.server_shown self.old) self.old.conversations Peer))
+            (restart_call self.old.conversations Peer) }
     {
         self.packet.clear();
         self.tags.clear();
@@ -353,7 +356,8 @@ impl<P: PeerMethod, S: ServerMethod> Machines<P, S> {
     fn restart_server(&mut self) -> Action
         requires objects { HaveObjects P.peer_shown S.server_shown self.old.peer self.old.server }
         ensures { DoesCall P.peer_shown S.server_shown self.old result self.new
-            (first_skip (restart_skips (parties_of P.peer_shown S.server_shown self.old) self.old.conversations Server)) (restart_call self.old.conversations Server) }
+            (first_skip (restart_skips (parties_of P.peer_shown S.server_shown self.old) self.old.conversations Server))
+            (restart_call self.old.conversations Server) }
     {
         self.tags.clear();
         match self.conversations.begin_server(self.event) {
@@ -368,7 +372,8 @@ impl<P: PeerMethod, S: ServerMethod> Machines<P, S> {
     /// The pass-through restarts, if it is there.
     fn restart_pass(&mut self) -> Action
         ensures { DoesCall P.peer_shown S.server_shown self.old result self.new
-            (first_skip (restart_skips (parties_of P.peer_shown S.server_shown self.old) self.old.conversations Pass)) (restart_call self.old.conversations Pass) }
+            (first_skip (restart_skips (parties_of P.peer_shown S.server_shown self.old) self.old.conversations Pass))
+            (restart_call self.old.conversations Pass) }
     {
         self.tags.clear();
         match self.mode {

@@ -509,7 +509,8 @@ fn keep<P: PeerMethod, S: ServerMethod>(
     requires book_room { vec_len book.old + 4 ≤ vec_capacity book.old }
     requires few { length sent.old.packets < 2 ^ 32 - 1 }
     ensures told { result
-        ≡ told_with P.peer_shown S.server_shown held.old machines.now event (length sent.old.packets + 1) (action_with action machines.now.packet machines.now.tags) }
+        ≡ told_with P.peer_shown S.server_shown held.old machines.now event (length sent.old.packets + 1)
+        (action_with action machines.now.packet machines.now.tags) }
     ensures sent { sent.new.packets ≡ sent.old.packets ++ sent_by (action_with action machines.now.packet machines.now.tags) }
     ensures book { book.new.items ≡ book.old.items ++ booked_by event (action_with action machines.now.packet machines.now.tags) }
     ensures held { held.new ≡ held_with P.peer_shown S.server_shown held.old machines.now (action_with action machines.now.packet machines.now.tags) }

@@ -93,7 +93,8 @@ module _ {N : Type 0} (table : MachineTable N) where
 
   -- the answer from an end on that has taken so many inputs: the results of the inputs to come, and the ending
   abbrev pub run_answer : ℕ → EndNow N → List EndInput → Ending → Answer
-  run_answer taken e inputs ending = after_text (tolds_text taken (told_of (end_step table) e inputs)) (ending_answer (end_after (end_step table) e inputs) ending)
+  run_answer taken e inputs ending =
+      after_text (tolds_text taken (told_of (end_step table) e inputs)) (ending_answer (end_after (end_step table) e inputs) ending)
 
   abbrev pub begun_answer : Result (Begun N) LineFault → List EndInput → Ending → Answer
   begun_answer (Err fault) inputs ending = unset_answer ending

@@ -71,7 +71,9 @@ HasSetup other after = Unit {0}
 
 -- line 1
 abbrev pub reading_after_header : Role → List ℕ → Option EndReading
-reading_after_header role line = if bytes_eq line (codes "eap-end 1") then Some (record { role = role; phase = phase.Settings; settings = no_settings }) else None
+reading_after_header role line =
+    if bytes_eq line (codes "eap-end 1") then Some (record { role = role; phase = phase.Settings; settings = no_settings })
+    else None
 
 -- settings come before the line `events`, inputs and the line `end` after it
 abbrev pub part_of : Entry → Part

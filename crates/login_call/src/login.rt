@@ -81,7 +81,8 @@ pub fn eap_login<P: PeerMethod, M: ServerMethod, S: Source, W: Sink>(
 
     // On octets alone: no text written with status 0 has the lines `tags honest` and `result apart`, and either the
     // line `fresh yes` or no line that begins with `fresh`.
-    ensures never_both { (octets : List ℕ) → S.shown.octets source.old ≡ Some octets → WritesNeverBoth result (W.shown.octets sink.old) (W.shown.octets sink.new) }
+    ensures never_both { (octets : List ℕ) → S.shown.octets source.old ≡ Some octets
+        → WritesNeverBoth result (W.shown.octets sink.old) (W.shown.octets sink.new) }
 
     // If the source shows its octets and neither a read nor a write failed, the status is the answer's, or memory was
     // wanting if it may be.
