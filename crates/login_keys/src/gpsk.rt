@@ -8,7 +8,6 @@ ghost use Rattle.login_keys.specs.Gpsk.{gpsk_keys_of, keys_from, pk_size};
 ghost use Rattle.login_keys.specs.Gpsk as spec;
 
 use crate::derivation::{derive, two_octets};
-use crate::mac_key::MacKey;
 use cmac_mac::cmac_whole;
 use eap_base::{MAX_NAME, Octets, Suite, array_of};
 use hmac_mac::hmac_whole;
@@ -82,7 +81,7 @@ fn master_key(suite: Suite, psk: &[u8], input: &[u8]) -> Octets<32>
     text.put(psk);
     text.put(&suite.octets());
     text.put(input);
-    MacKey::new(suite, &psk[..suite.ks()]).tag_whole(text.as_slice())
+    gpsk_tag(suite, &psk[..suite.ks()], text.as_slice())
 }
 
 // The keys that are cut from the octets derived from the master key.

@@ -25,10 +25,7 @@ returns-clause-key c =
     let is_text : c.as_slice.result.now ≡ two_octets 1 ++ z =
     rw (c.as_slice.ensures.same, c.put-4.ensures, c.put-3.ensures, c.put-2.ensures, c.put.ensures, c.of-text.ensures, c.two_octets.ensures, c.two_octets-2.ensures, c.octets.ensures)
     (ap (λ (l : List ℕ). two_octets 1 ++ (two_octets (length c.args.psk.now) ++ l)) (append_assoc c.args.psk.now (suite_octets suite) c.args.input.now)) in
-    c.tag_whole.ensures.tag suite (take c.ks.result c.args.psk.now) c.new.ensures
+    c.gpsk_tag.ensures.tag
     ∙ ap (gpsk_tag_of suite (take c.ks.result c.args.psk.now)) is_text
     ∙ ap (λ (k : ℕ). gpsk_tag_of suite (take k c.args.psk.now) (two_octets 1 ++ z)) c.ks.ensures
     ∙ sym (one_block suite (take (ks_of suite) c.args.psk.now) z)
-
-pub returns-clause-size : goal.returns-clause-size
-returns-clause-size c = c.tag_whole.ensures.size c.args.suite _ c.new.ensures
