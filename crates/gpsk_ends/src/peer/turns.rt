@@ -28,24 +28,25 @@ use eap_method::{Decision, MethodState, PeerTurn, Records, Tags};
 use eap_packet::{Cause, Code};
 use gpsk_messages::{GpskView, write_gpsk_into};
 
-/// GPSK-1 is answered by GPSK-2, and the login begins.
+/// The login's GPSK-1 is answered by GPSK-2. `list` is the CSuite_List of GPSK-1.
 #[tactic(auto, unfolding(eap_method::specs::GpskPeer::answers))]
 fn answer<R: Records>(
-    own: &Begun,
-    offer: &Offer,
+    login: &Login,
     id: u8,
+    list: &[u8],
     packet: &mut Packet,
     tags: &mut Tags<R>,
-) -> Login
-    ensures login { result ≡ login_with own.now.cred own.now.nonce offer.now }
-    ensures turn { outcome_with (Reply Cont Fail) packet.new tags.new (view_in result Wait)
-        ≡ answers (login_with own.now.cred own.now.nonce offer.now) id offer.now.list.now }
+) -> PeerTurn
+    requires { length list.now ≤ 120 }
+    ensures turn { outcome_with result packet.new tags.new (view_in login.now Wait) ≡ answers login.now id list.now }
     ensures room { HasRoom packet.new }
 {
-    let login = Login::new(own, offer);
     tags.accepted.clear();
-    login.gpsk2(id, offer.list, packet, &mut tags.made);
-    login
+    login.gpsk2(id, list, packet, &mut tags.made);
+    PeerTurn::Reply {
+        state: MethodState::Cont,
+        decision: Decision::Fail,
+    }
 }
 
 /// GPSK-3 that repeats the fields of the login is answered by GPSK-4, and the login has succeeded.
@@ -203,13 +204,11 @@ pub fn hears_request<R: Records>(
         Stage::Fresh { own } => match fresh_reads(own, body) {
             Err(cause) => PeerTurn::Discard(cause),
             Ok(offer) => {
-                let login = answer(own, &offer, id, packet, tags);
+                let login = Login::new(own, &offer);
+                let turn = answer(&login, id, offer.list, packet, tags);
                 let phase = Phase::Wait;
                 *stage = Stage::Login { login, phase };
-                PeerTurn::Reply {
-                    state: MethodState::Cont,
-                    decision: Decision::Fail,
-                }
+                turn
             }
         },
         Stage::Login { login, phase } => match phase {

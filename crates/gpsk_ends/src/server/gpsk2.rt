@@ -64,28 +64,6 @@ fn answer<R: Records>(
     }
 }
 
-/// GPSK-2 of a known user. `BadTag`: its MAC is wrong. The keys that were derived for it are dropped.
-fn check<R: Records>(
-    login: Login,
-    barred: bool,
-    next_id: u8,
-    view: &GpskView,
-    body: &[u8],
-    packet: &mut Packet,
-    tags: &mut Tags<R>,
-) -> Answered
-    requires { IsHeard (message_of view.now) body.now }
-    ensures turn { answered_with result packet.new tags.new login.own login.nonce ≡ checks login barred next_id (message_of view.now) }
-    ensures room { is_answered result ≡ true → HasRoom packet.new }
-{
-    if login.is_tagged(view, body) {
-        let phase = answer(&login, barred, next_id, view, body, packet, tags);
-        Answered::Known { login, phase }
-    } else {
-        Answered::Dropped(Cause::BadTag)
-    }
-}
-
 /// The user of this name, with a key for EAP-GPSK.
 #[tactic(auto, using(crate::proofs::UserKeys::key_is_long))]
 fn find_user<'a>(users: &'a Users, id_p: &[u8]) -> Option<&'a User>
@@ -97,7 +75,8 @@ fn find_user<'a>(users: &'a Users, id_p: &[u8]) -> Option<&'a User>
 }
 
 /// A message at a server that has sent GPSK-1. `FieldMismatch`: GPSK-2 does not repeat what GPSK-1 said.
-/// `SuiteNotOffered`: it names a suite that was not offered.
+/// `SuiteNotOffered`: it names a suite that was not offered. `BadTag`: its MAC is wrong; the keys that were
+/// derived for it are dropped.
 fn asked_hears<R: Records>(
     own: &Begun,
     next_id: u8,
@@ -113,32 +92,33 @@ fn asked_hears<R: Records>(
         ≡ asked_hears users.now own.now.side own.now.nonce next_id (message_of view.now) }
     ensures room { is_answered result ≡ true → HasRoom packet.new }
 {
-    match view {
-        GpskView::M2 {
-            id_p,
-            id_s,
-            rand_p,
-            rand_s,
-            list,
-            suite,
-            ..
-        } => {
-            if !own.repeats(id_s, rand_s, list) {
-                Answered::Dropped(Cause::FieldMismatch)
-            } else if !own.offers(*suite) {
-                Answered::Dropped(Cause::SuiteNotOffered)
-            } else {
-                match find_user(users, id_p) {
-                    None => refuse(own, next_id, packet, tags),
-                    Some(user) => {
-                        let login = Login::new(own, id_p, user, rand_p, *suite);
-                        check(login, user.barred, next_id, view, body, packet, tags)
-                    }
-                }
-            }
-        }
-        _ => Answered::Dropped(Cause::WrongOp),
+    let GpskView::M2 {
+        id_p,
+        id_s,
+        rand_p,
+        rand_s,
+        list,
+        suite,
+        ..
+    } = view
+    else {
+        return Answered::Dropped(Cause::WrongOp);
+    };
+    if !own.repeats(id_s, rand_s, list) {
+        return Answered::Dropped(Cause::FieldMismatch);
     }
+    if !own.offers(*suite) {
+        return Answered::Dropped(Cause::SuiteNotOffered);
+    }
+    let Some(user) = find_user(users, id_p) else {
+        return refuse(own, next_id, packet, tags);
+    };
+    let login = Login::new(own, id_p, user, rand_p, *suite);
+    if !login.is_tagged(view, body) {
+        return Answered::Dropped(Cause::BadTag);
+    }
+    let phase = answer(&login, user.barred, next_id, view, body, packet, tags);
+    Answered::Known { login, phase }
 }
 
 /// The Type-Data at a server that has sent GPSK-1.
