@@ -110,12 +110,13 @@ impl PeerMethod for GpskPeer {
 
     #[tactic(auto, unfolding(eap_method::specs::Peer::peer_report))]
     fn report(&self) -> Option<Report> {
-        match &self.stage {
-            Stage::Login {
-                login,
-                phase: Phase::Over { good: true },
-            } => Some(login.report()),
-            _ => None,
-        }
+        let Stage::Login {
+            login,
+            phase: Phase::Over { good: true },
+        } = &self.stage
+        else {
+            return None;
+        };
+        Some(login.report())
     }
 }

@@ -132,12 +132,13 @@ impl ServerMethod for GpskServer {
 
     #[tactic(auto, unfolding(eap_method::specs::Server::server_report))]
     fn report(&self) -> Option<Report> {
-        match &self.stage {
-            Stage::Login {
-                login,
-                phase: Phase::Over { good: true },
-            } => Some(login.report()),
-            _ => None,
-        }
+        let Stage::Login {
+            login,
+            phase: Phase::Over { good: true },
+        } = &self.stage
+        else {
+            return None;
+        };
+        Some(login.report())
     }
 }

@@ -108,12 +108,13 @@ impl PeerMethod for PskPeer {
 
     #[tactic(auto, unfolding(eap_method::specs::Peer::peer_report))]
     fn report(&self) -> Option<Report> {
-        match &self.stage {
-            Stage::Known {
-                login,
-                phase: Phase::Over { good: true },
-            } => Some(login.report()),
-            _ => None,
-        }
+        let Stage::Known {
+            login,
+            phase: Phase::Over { good: true },
+        } = &self.stage
+        else {
+            return None;
+        };
+        Some(login.report())
     }
 }

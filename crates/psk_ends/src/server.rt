@@ -133,12 +133,13 @@ impl ServerMethod for PskServer {
 
     #[tactic(auto, unfolding(eap_method::specs::Server::server_report))]
     fn report(&self) -> Option<Report> {
-        match &self.stage {
-            Stage::Known {
-                login,
-                phase: KnownPhase::Over { success: true },
-            } => Some(login.report()),
-            _ => None,
-        }
+        let Stage::Known {
+            login,
+            phase: KnownPhase::Over { success: true },
+        } = &self.stage
+        else {
+            return None;
+        };
+        Some(login.report())
     }
 }
