@@ -1,22 +1,19 @@
 -- The state of a server of EAP-GPSK, and its state after a call, as its definition says it.
-use Rattle.std.specs.Prelude.{ℕ, List, Bool, true, false, Result}
+use Rattle.std.specs.Prelude.{ℕ, List, Result}
 use Rattle.eap_packet.specs.declared.cause.Cause.{Cause}
 use Rattle.gpsk_messages.specs.Message.{Message}
 use Rattle.eap_method.specs.Tags.{Tags}
 use Rattle.eap_method.specs.declared.turn.ServerTurn as brief
-use Rattle.eap_method.specs.declared.turn.ServerTurn.TheVariants as turn
 use Rattle.eap_method.specs.declared.values.ServerSide.{ServerSide}
 use Rattle.eap_method.specs.GpskServer.{Login, View, unset, begun, asked, refusing, barring, checked, refused, over, barring_reads, checked_reads, idle_reads}
 use Rattle.eap_method.specs.ServerTurn.{server_turn_with}
-use Rattle.eap_method.specs.Turns.{ServerOutcome, dropped}
+use Rattle.eap_method.specs.Turns.{ServerOutcome}
 use Rattle.gpsk_ends.specs.declared.server.stage.Alone.{Alone}
 use Rattle.gpsk_ends.specs.declared.server.stage.Alone.TheVariants as alone
 use Rattle.gpsk_ends.specs.declared.server.stage.Phase.{Phase}
 use Rattle.gpsk_ends.specs.declared.server.stage.Phase.TheVariants as phase
 use Rattle.gpsk_ends.specs.declared.server.stage.Stage.{Stage}
 use Rattle.gpsk_ends.specs.declared.server.stage.Stage.TheVariants as stage
-use Rattle.gpsk_ends.specs.declared.server.stage.Answered.{Answered}
-use Rattle.gpsk_ends.specs.declared.server.stage.Answered.TheVariants as answered
 
 -- the server's state without a login
 abbrev pub view_alone : ServerSide → List ℕ → Alone → View
@@ -40,18 +37,6 @@ view_of (stage.Login login phase) = view_in login phase
 -- a turn with what it wrote, and the server's state after it
 abbrev pub outcome_with : brief.ServerTurn → List ℕ → Tags → View → ServerOutcome View
 outcome_with turn packet tags after = record { turn = server_turn_with turn packet tags; after = after }
-
--- what GPSK-2 leaves, with what was written
-abbrev pub answered_with : Answered → List ℕ → Tags → ServerSide → List ℕ → ServerOutcome View
-answered_with (answered.Dropped cause) packet tags own nonce = dropped (asked own nonce) cause
-answered_with answered.Refused packet tags own nonce = outcome_with turn.Request packet tags (refusing own nonce)
-answered_with (answered.Known login phase) packet tags own nonce = outcome_with turn.Request packet tags (view_in login phase)
-
--- whether GPSK-2 is answered
-abbrev pub is_answered : Answered → Bool
-is_answered (answered.Dropped cause) = false
-is_answered answered.Refused = true
-is_answered (answered.Known login phase) = true
 
 -- the Type-Data at a server in a login
 abbrev pub reads_in : Login → Phase → Result Message Cause → ServerOutcome View

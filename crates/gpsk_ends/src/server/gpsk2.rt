@@ -1,23 +1,24 @@
 //! Checking and answering GPSK-2 (RFC 5433 section 10).
 
-ghost use Rattle.std.specs.Prelude.{◌≡◌, ◌≤◌, length, true, All, IsTrue, IfSome, None, option_copied};
+ghost use Rattle.std.specs.Prelude.{◌≡◌, ◌≤◌, ℕ, List, length, true, All, IsTrue, IfSome, None, option_copied};
 ghost use Rattle.eap_base.specs.Among.{gpsk_kind};
 ghost use Rattle.eap_packet.specs.Packet.{max_type_data};
 ghost use Rattle.login_setup.specs.Setup.{fits_kind};
 ghost use Rattle.login_setup.specs.Users.{user_of};
 ghost use Rattle.gpsk_messages.specs.Message.{message_of};
 ghost use Rattle.gpsk_messages.specs.Reading.{read_of};
-ghost use Rattle.eap_method.specs.GpskServer.{refuses, answers, checks, asked_hears, asked_reads};
-ghost use Rattle.eap_method.specs.Room.{HasRoom};
+ghost use Rattle.eap_method.specs.GpskServer.{asked, refusing, refuses, answers, asked_hears, asked_reads};
+ghost use Rattle.eap_method.specs.declared.values.ServerSide.{ServerSide};
+ghost use Rattle.eap_method.specs.Room.{HasRoom, requests};
 ghost use Rattle.gpsk_ends.specs.Heard.{IsHeard};
-ghost use Rattle.gpsk_ends.specs.ServerStage.{answered_with, is_answered, outcome_with, view_in};
+ghost use Rattle.gpsk_ends.specs.ServerStage.{outcome_with, view_in, view_of};
 ghost use Rattle.eap_method.specs.declared.turn.ServerTurn.TheVariants.{Request};
 
 use crate::hearing::hear;
-use crate::server::login::{Begun, Login};
-use crate::server::stage::{Answered, Phase};
+use crate::server::login::Login;
+use crate::server::stage::{Alone, Phase, Stage};
 use eap_base::{GPSK_KIND, Packet};
-use eap_method::{Records, Tags};
+use eap_method::{Records, ServerTurn, Tags};
 use eap_packet::{Cause, Code};
 use gpsk_messages::{GpskView, write_gpsk_into};
 use login_setup::{User, Users};
@@ -27,8 +28,9 @@ pub const PSK_NOT_FOUND: u32 = 1;
 
 /// GPSK-2 of a user that the server doesn't know is answered by GPSK-Fail.
 #[tactic(auto, unfolding(eap_method::specs::GpskServer::refuses))]
-fn refuse<R: Records>(own: &Begun, next_id: u8, packet: &mut Packet, tags: &mut Tags<R>) -> Answered
-    ensures turn { answered_with result packet.new tags.new own.now.side own.now.nonce ≡ refuses own.now.side own.now.nonce next_id }
+fn refuse<R: Records>(next_id: u8, packet: &mut Packet, tags: &mut Tags<R>)
+    ensures turn { (own : ServerSide) (nonce : List ℕ) →
+        outcome_with Request packet.new tags.new (refusing own nonce) ≡ refuses own nonce next_id }
     ensures room { HasRoom packet.new }
 {
     let message = GpskView::Fail {
@@ -36,7 +38,6 @@ fn refuse<R: Records>(own: &Begun, next_id: u8, packet: &mut Packet, tags: &mut 
     };
     write_gpsk_into(packet, &message, Code::Request, next_id);
     tags.clear();
-    Answered::Refused
 }
 
 /// GPSK-2 with its MAC is answered by GPSK-3, that of a barred user by GPSK-Protected-Fail.
@@ -78,20 +79,23 @@ fn find_user<'a>(users: &'a Users, id_p: &[u8]) -> Option<&'a User>
 /// `SuiteNotOffered`: it names a suite that was not offered. `BadTag`: its MAC is wrong; the keys that were
 /// derived for it are dropped.
 fn asked_hears<R: Records>(
-    own: &Begun,
+    stage: &mut Stage,
     next_id: u8,
     view: &GpskView,
     body: &[u8],
     users: &Users,
     packet: &mut Packet,
     tags: &mut Tags<R>,
-) -> Answered
+) -> ServerTurn
     requires heard { IsHeard (message_of view.now) body.now }
     requires keys { All (λ user. IsTrue (fits_kind user.kind user.psk)) users.now }
-    ensures turn { answered_with result packet.new tags.new own.now.side own.now.nonce
-        ≡ asked_hears users.now own.now.side own.now.nonce next_id (message_of view.now) }
-    ensures room { is_answered result ≡ true → HasRoom packet.new }
+    ensures turn { (own : ServerSide) (nonce : List ℕ) → view_of stage.old ≡ asked own nonce
+        → outcome_with result packet.new tags.new (view_of stage.new) ≡ asked_hears users.now own nonce next_id (message_of view.now) }
+    ensures room { requests result ≡ true → HasRoom packet.new }
 {
+    let Stage::Alone { own, phase } = stage else {
+        return ServerTurn::Discard(Cause::WrongOp);
+    };
     let GpskView::M2 {
         id_p,
         id_s,
@@ -102,42 +106,45 @@ fn asked_hears<R: Records>(
         ..
     } = view
     else {
-        return Answered::Dropped(Cause::WrongOp);
+        return ServerTurn::Discard(Cause::WrongOp);
     };
     if !own.repeats(id_s, rand_s, list) {
-        return Answered::Dropped(Cause::FieldMismatch);
+        return ServerTurn::Discard(Cause::FieldMismatch);
     }
     if !own.offers(*suite) {
-        return Answered::Dropped(Cause::SuiteNotOffered);
+        return ServerTurn::Discard(Cause::SuiteNotOffered);
     }
     let Some(user) = find_user(users, id_p) else {
-        return refuse(own, next_id, packet, tags);
+        refuse(next_id, packet, tags);
+        *phase = Alone::Refusing;
+        return ServerTurn::Request;
     };
     let login = Login::new(own, id_p, user, rand_p, *suite);
     if !login.is_tagged(view, body) {
-        return Answered::Dropped(Cause::BadTag);
+        return ServerTurn::Discard(Cause::BadTag);
     }
     let phase = answer(&login, user.barred, next_id, view, body, packet, tags);
-    Answered::Known { login, phase }
+    *stage = Stage::Login { login, phase };
+    ServerTurn::Request
 }
 
 /// The Type-Data at a server that has sent GPSK-1.
 pub fn asked_reads<R: Records>(
-    own: &Begun,
+    stage: &mut Stage,
     next_id: u8,
     body: &[u8],
     users: &Users,
     packet: &mut Packet,
     tags: &mut Tags<R>,
-) -> Answered
+) -> ServerTurn
     requires size { length body.now ≤ max_type_data }
     requires keys { All (λ user. IsTrue (fits_kind user.kind user.psk)) users.now }
-    ensures turn { answered_with result packet.new tags.new own.now.side own.now.nonce
-        ≡ asked_reads users.now own.now.side own.now.nonce next_id (read_of None body.now) }
-    ensures room { is_answered result ≡ true → HasRoom packet.new }
+    ensures turn { (own : ServerSide) (nonce : List ℕ) → view_of stage.old ≡ asked own nonce
+        → outcome_with result packet.new tags.new (view_of stage.new) ≡ asked_reads users.now own nonce next_id (read_of None body.now) }
+    ensures room { requests result ≡ true → HasRoom packet.new }
 {
     match hear(body, None) {
-        Err(cause) => Answered::Dropped(cause),
-        Ok(view) => asked_hears(own, next_id, &view, body, users, packet, tags),
+        Err(cause) => ServerTurn::Discard(cause),
+        Ok(view) => asked_hears(stage, next_id, &view, body, users, packet, tags),
     }
 }

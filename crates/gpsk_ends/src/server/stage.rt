@@ -1,7 +1,6 @@
 //! The state of a server of EAP-GPSK.
 
 use crate::server::login::{Begun, Login};
-use eap_packet::Cause;
 
 /// The state of a server that has no login.
 #[derive(Drop)]
@@ -36,16 +35,4 @@ pub enum Stage {
     Alone { own: Begun, phase: Alone },
     /// It has accepted GPSK-2.
     Login { login: Login, phase: Phase },
-}
-
-/// The result of reading the Type-Data at a server that has sent GPSK-1. If it isn't discarded, the next
-/// Request is written.
-#[derive(Drop)]
-pub enum Answered {
-    /// It is discarded.
-    Dropped(Cause),
-    /// The user isn't known.
-    Refused,
-    /// It is GPSK-2 with its MAC.
-    Known { login: Login, phase: Phase },
 }

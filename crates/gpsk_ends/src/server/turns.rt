@@ -21,7 +21,7 @@ ghost use Rattle.gpsk_ends.specs.declared.server.stage.Phase.TheVariants.{Barrin
 use crate::hearing::hear;
 use crate::server::gpsk2::{PSK_NOT_FOUND, asked_reads};
 use crate::server::login::{AUTHORIZATION_FAILURE, Login};
-use crate::server::stage::{Alone, Answered, Phase, Stage};
+use crate::server::stage::{Alone, Phase, Stage};
 use eap_base::{Packet, Suite};
 use eap_method::{Records, ServerTurn, Tags};
 use eap_packet::Cause;
@@ -198,18 +198,8 @@ pub fn hears_response<R: Records>(
     let body = &response[5..];
     match stage {
         Stage::Unset => ServerTurn::Discard(Cause::WrongOp),
-        Stage::Alone { own, phase } => match phase {
-            Alone::Asked => match asked_reads(own, next_id, body, users, packet, tags) {
-                Answered::Dropped(cause) => ServerTurn::Discard(cause),
-                Answered::Refused => {
-                    *phase = Alone::Refusing;
-                    ServerTurn::Request
-                }
-                Answered::Known { login, phase } => {
-                    *stage = Stage::Login { login, phase };
-                    ServerTurn::Request
-                }
-            },
+        Stage::Alone { phase, .. } => match phase {
+            Alone::Asked => asked_reads(stage, next_id, body, users, packet, tags),
             Alone::Refusing => refusing_reads(body, phase, tags),
             Alone::Begun | Alone::Refused => ServerTurn::Discard(idle_cause(None, body)),
         },
