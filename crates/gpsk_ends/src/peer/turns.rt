@@ -12,7 +12,7 @@ ghost use Rattle.eap_method.specs.GpskPeer.{answers, over, over_reads, step};
 ghost use Rattle.eap_method.specs.GpskPeer.{confirms, repeats_fail, repeats_protected, is_tagged_by, wait_reads};
 ghost use Rattle.eap_method.specs.Room.{HasRoom, replies};
 ghost use Rattle.gpsk_ends.specs.Heard.{IsHeard};
-ghost use Rattle.gpsk_ends.specs.PeerStage.{view_in, view_of, outcome_with, login_with};
+ghost use Rattle.gpsk_ends.specs.PeerStage.{view_in, view_of, outcome_with};
 ghost use Rattle.gpsk_ends.specs.declared.peer.stage.Phase.TheVariants.{Wait};
 ghost use Rattle.eap_method.specs.declared.turn.PeerTurn.TheVariants.{Reply};
 ghost use Rattle.eap_method.specs.declared.values.MethodState.TheVariants.{Cont};
@@ -20,8 +20,7 @@ ghost use Rattle.eap_method.specs.declared.values.Decision.TheVariants.{Fail};
 
 use crate::hearing::hear;
 use crate::peer::gpsk1::fresh_reads;
-use crate::peer::login::{Begun, Login};
-use crate::peer::offer::Offer;
+use crate::peer::login::Login;
 use crate::peer::stage::{Phase, Stage};
 use eap_base::Packet;
 use eap_method::{Decision, MethodState, PeerTurn, Records, Tags};
