@@ -10,7 +10,7 @@ ghost use Rattle.eap_method.specs.declared.values.Decision.TheVariants.{Fail};
 ghost use Rattle.eap_method.specs.Turns.{id_of, body_of};
 ghost use Rattle.eap_method.specs.PskTags.{psk_response, header_of};
 ghost use Rattle.eap_method.specs.PskPeer.{wait, rand_p_of, answers, fresh_reads, wait_reads, step};
-ghost use Rattle.psk_ends.specs.PeerStage.{in_phase, view_of, outcome_with, login_with, fresh_with};
+ghost use Rattle.psk_ends.specs.PeerStage.{in_phase, view_of, outcome_with, fresh_with};
 ghost use Rattle.psk_ends.specs.declared.peer.stage.Phase.TheVariants.{Wait};
 
 use crate::octets::{header_of, idle_cause, message_in};
@@ -56,25 +56,20 @@ fn write_psk2(login: &Login, id: u8, mac: &[u8; 16], packet: &mut Packet)
     write_psk_into(packet, &message, Code::Response, id);
 }
 
-/// PSK-1 is answered by PSK-2, and the login begins.
+/// The login's PSK-1 is answered by PSK-2.
 #[tactic(auto, unfolding(eap_method::specs::PskPeer::answers))]
-fn answer<R: Records>(
-    own: &Begun,
-    psk1: &Psk1,
-    id: u8,
-    packet: &mut Packet,
-    tags: &mut Tags<R>,
-) -> Login
-    ensures login { result ≡ login_with own.now psk1.now }
-    ensures turn { outcome_with (Reply Cont Fail) packet.new tags.new (wait result) ≡ answers (login_with own.now psk1.now) id }
+fn answer<R: Records>(login: &Login, id: u8, packet: &mut Packet, tags: &mut Tags<R>) -> PeerTurn
+    ensures turn { outcome_with result packet.new tags.new (wait login.now) ≡ answers login.now id }
     ensures room { HasRoom packet.new }
 {
-    let login = Login::new(own, psk1);
     let mac = login.mac_p();
-    write_psk2(&login, id, &mac, packet);
+    write_psk2(login, id, &mac, packet);
     tags.clear();
     login.add_mac_p(&mut tags.made, &mac);
-    login
+    PeerTurn::Reply {
+        state: MethodState::Cont,
+        decision: Decision::Fail,
+    }
 }
 
 /// A Request at a peer that has sent PSK-2.
@@ -140,13 +135,11 @@ pub fn hears_request<R: Records>(
         Stage::Fresh { own } => match fresh_reads(own, request) {
             Err(cause) => PeerTurn::Discard(cause),
             Ok(psk1) => {
-                let login = answer(own, &psk1, request[1], packet, tags);
+                let login = Login::new(own, &psk1);
+                let turn = answer(&login, request[1], packet, tags);
                 let phase = Phase::Wait;
                 *stage = Stage::Known { login, phase };
-                PeerTurn::Reply {
-                    state: MethodState::Cont,
-                    decision: Decision::Fail,
-                }
+                turn
             }
         },
         Stage::Known { login, phase } => match phase {

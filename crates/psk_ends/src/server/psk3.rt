@@ -12,7 +12,7 @@ ghost use Rattle.eap_method.specs.Room.{HasRoom};
 ghost use Rattle.eap_method.specs.Turns.{body_of};
 ghost use Rattle.eap_method.specs.PskTags.{psk_request, blank_tag};
 ghost use Rattle.eap_method.specs.PskServer.{checked, rand_s_of, psk3_of, psk3_records, answers, finds, asked_reads};
-ghost use Rattle.psk_ends.specs.ServerStage.{outcome_with, login_with, asked_with};
+ghost use Rattle.psk_ends.specs.ServerStage.{outcome_with, asked_with};
 
 use crate::channel::seal_in;
 use crate::keys::long_keys;
@@ -55,25 +55,21 @@ fn psk3<R: Records>(login: &Login, id: u8, packet: &mut Packet, made: &mut TagLi
     seal_in(packet, login.tek(), login.psk(), 0, login.r(), made);
 }
 
-/// PSK-2 is answered by PSK-3, and the login begins.
+/// The login's PSK-2, with this MAC_P, is answered by PSK-3.
 #[tactic(auto, unfolding(eap_method::specs::PskServer::answers))]
 pub fn answer<R: Records>(
-    own: &Begun,
-    psk2: Psk2,
+    login: &Login,
+    mac: &[u8; 16],
     next_id: u8,
     packet: &mut Packet,
     tags: &mut Tags<R>,
-) -> Login
-    ensures login { result ≡ login_with own.now psk2.entry }
-    ensures turn { outcome_with Request packet.new tags.new (checked result) ≡ answers (login_with own.now psk2.entry) next_id psk2.entry.mac }
+)
+    ensures turn { outcome_with Request packet.new tags.new (checked login.now) ≡ answers login.now next_id mac.now }
     ensures room { HasRoom packet.new }
 {
-    let mac = psk2.mac;
-    let login = Login::new(own, psk2);
     tags.clear();
-    login.add_mac_p(&mut tags.accepted, &mac);
-    psk3(&login, next_id, packet, &mut tags.made);
-    login
+    login.add_mac_p(&mut tags.accepted, mac);
+    psk3(login, next_id, packet, &mut tags.made);
 }
 
 /// A PSK-2 of this user, under this name. `BadTag`: MAC_P is wrong.

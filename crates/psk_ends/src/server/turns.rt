@@ -113,7 +113,9 @@ pub fn hears_response<R: Records>(
                     ServerTurn::Done { success: false }
                 }
                 Ok(Some(psk2)) => {
-                    let login = answer(own, psk2, next_id, packet, tags);
+                    let mac = psk2.mac;
+                    let login = Login::new(own, psk2);
+                    answer(&login, &mac, next_id, packet, tags);
                     let phase = KnownPhase::Checked;
                     *stage = Stage::Known { login, phase };
                     ServerTurn::Request

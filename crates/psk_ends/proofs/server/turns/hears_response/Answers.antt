@@ -16,7 +16,7 @@ pub returns-in-Ok-Some-clause-turn : goal.returns-in-Ok-Some-clause-turn
 unfolding step
 returns-in-Ok-Some-clause-turn g c =
     rw (c.in-Early.is, c.in-Asked.is)
-    (c.answer-login.ensures.turn ∙ (rw c.in-Ok-Some.field-0-is at (c.in-Ok-Some.ensures c.args.next_id)))
+    (c.answer.ensures.turn ∙ rw c.new-login.ensures (rw c.in-Ok-Some.field-0-is at (c.in-Ok-Some.ensures c.args.next_id)))
 
 pub returns-in-Begun-clause-turn : goal.returns-in-Begun-clause-turn
 unfolding step
