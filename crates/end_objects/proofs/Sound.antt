@@ -34,7 +34,7 @@ one_of_both true gpsk short wide fits = refl
 one_of_both false true short wide fits = refl
 one_of_both false false short wide fits = absurd (cc fits)
 
-kind_of_key : (kind : ℕ) (key : List ℕ) → fits_kind kind key ≡ true → is_kind kind ≡ true
+pub kind_of_key : (kind : ℕ) (key : List ℕ) → fits_kind kind key ≡ true → is_kind kind ≡ true
 kind_of_key kind key fits =
     one_of_both (kind == psk_kind) (kind == gpsk_kind) (length key == 16) (nat_le 32 (length key) && nat_le (length key) 64) fits
 

@@ -2,7 +2,7 @@
 use Rattle.std.proofs.Common.{◌≡◌, ℕ, ◌<◌, ◌≤◌, List, [], ◌∷◌, length, map, Bool, true, false, Option, Some, None, IsTrue, refl, sym, ◌∙◌, arith, eq-eqb}
 use Rattle.std.specs.Prelude.{◌&&◌, ◌||◌, not, ◌==◌, if◌then◌else◌, slice_index, IsSome, All}
 use Rattle.std.specs.List.{list_all}
-use Rattle.std.proofs.lemmas.List.Elements.{All-map}
+use Rattle.std.proofs.lemmas.List.Elements.{All-map, All-nil}
 use Rattle.std.proofs.lemmas.List.Folds.{list_all-append, list_all-map}
 use Rattle.std.proofs.lemmas.List.Sums.{AllPass-from_list_all}
 use Rattle.eap_base.specs.Among.{psk_kind, gpsk_kind, is_kind, is_among, are_distinct, is_filled}
@@ -17,7 +17,7 @@ use Rattle.eap_method.proofs.Amongs.{each_one}
 use Rattle.end_objects.specs.Soundness.{is_sound_user}
 use Rattle.end_objects.specs.declared.refusals.Refusal.{Refusal}
 use Rattle.end_objects.specs.declared.refusals.Refusal.TheVariants as refusal
-use Rattle.end_objects.proofs.Sound.{have_keys, have_kinds}
+use Rattle.end_objects.proofs.Sound.{have_keys, have_kinds, kind_of_key}
 
 -- ---- tests
 
@@ -241,11 +241,17 @@ user_other told none =
       keys = first_is_so (has_keys [] told) (is_filled (keyed_kinds told)) (is_so (has_keys [] told && is_filled (keyed_kinds told)) p.1);
     }
 
-pub psk_key_size : (told : SettingsValue) → IsSoundOther told → length told.psk_key ≤ 64
-psk_key_size told other = (key_sizes [] told other.keys).0
+-- the user of a method for which there is a key
+pub user_key_fits : (told : SettingsValue) (kind : ℕ) → IsSoundOther told → is_among (keyed_kinds told) kind ≡ true
+    → fits_kind kind (key_for told kind) ≡ true
+user_key_fits told kind other is = each_one (key_fits told) (keyed_kinds told) kind (keys_fit [] told other.keys) is
 
-pub gpsk_key_size : (told : SettingsValue) → IsSoundOther told → length told.gpsk_key ≤ 64
-gpsk_key_size told other = (key_sizes [] told other.keys).1
+pub user_key_size : (told : SettingsValue) (kind : ℕ) → IsSoundOther told → is_among (keyed_kinds told) kind ≡ true
+    → length (key_for told kind) ≤ 64
+user_key_size told kind other is = fitting_size kind (key_for told kind) (user_key_fits told kind other is)
+
+pub user_is_known : (told : SettingsValue) (kind : ℕ) → IsSoundOther told → is_among (keyed_kinds told) kind ≡ true → is_kind kind ≡ true
+user_is_known told kind other is = kind_of_key kind (key_for told kind) (user_key_fits told kind other is)
 
 sound_if : (there : Bool) (users : List User) → list_all is_sound_user users ≡ true → list_all is_sound_user (if there then users else []) ≡ true
 sound_if true users h = h
@@ -263,11 +269,12 @@ users_have_keys told other = have_keys (users_of told) (users_are_sound told oth
 pub users_have_kinds : (told : SettingsValue) → IsSoundOther told → All (λ user. IsTrue (is_kind user.kind)) (users_of told)
 users_have_kinds told other = have_kinds (users_of told) (users_are_sound told other)
 
-pub server_is_sound : (told : SettingsValue) (nonce : List ℕ) → server_refusal told ≡ None → IsSoundServer (server_setup_of told nonce)
+pub alone_is_sound : (told : SettingsValue) (nonce : List ℕ) → server_refusal told ≡ None
+    → IsSoundServer (record (server_setup_of told nonce) { users = [] })
 unfolding server_setup_of
-server_is_sound told nonce none = let p = server_passes told none in let other = server_other told none in record {
+alone_is_sound told nonce none = let p = server_passes told none in record {
   methods = p.kinds;
   suites = p.suites;
-  kinds = users_have_kinds told other;
-  keys = users_have_keys told other;
+  kinds = All-nil (λ (user : User). IsTrue (is_kind user.kind));
+  keys = All-nil (λ (user : User). IsTrue (fits_kind user.kind user.psk));
 }

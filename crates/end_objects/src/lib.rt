@@ -16,6 +16,6 @@ pub use refusals::{
 };
 pub use settings::{
     SETTINGS_SIZE, Settings, credential, first_kind, key_for, keyed_kinds, kinds_of, peer_setup,
-    server_setup, server_side, suites_of, users_of,
+    server_alone, server_side, suites_of, user_of, users_of,
 };
 pub use soundness::{is_sound_peer, is_sound_server};

@@ -173,6 +173,7 @@ pub fn retry_refusal(max_retrans: u8) -> Option<Refusal>
 pub fn stand_alone_refusal(settings: &Settings, max_retrans: u8) -> Option<Refusal>
     ensures refused { result ≡ stand_alone_refusal (settings_of settings.now) max_retrans }
     ensures taken { result ≡ None → server_refusal (settings_of settings.now) ≡ None }
+    ensures other { result ≡ None → IsSoundOther (settings_of settings.now) }
     ensures kinds { result ≡ None → IsTrue (are_kinds (kinds_of (settings_of settings.now))) }
     ensures few { result ≡ None → max_retrans ≤ 10 }
 {

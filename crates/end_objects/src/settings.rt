@@ -1,10 +1,9 @@
 //! The settings of an end, as a program gives them: octets and numbers.
 
-ghost use Rattle.std.specs.Prelude.{◌≡◌, ◌≤◌, ◌++◌, ◌∷◌, [], length, map, true, None, All, IsTrue};
-ghost use Rattle.eap_base.specs.Among.{is_kind};
+ghost use Rattle.std.specs.Prelude.{◌≡◌, ◌≤◌, [], length, map, true, None, All, IsTrue};
+ghost use Rattle.eap_base.specs.Among.{is_among, is_kind};
 ghost use Rattle.eap_base.specs.Sizes.{max_name};
 ghost use Rattle.login_setup.specs.Setup.{are_kinds, fits_kind, IsSoundPeer, HasKeys, IsSoundServer};
-ghost use Rattle.login_setup.specs.Users.{HasRoom};
 ghost use Rattle.end_objects.specs.Settings.{settings_of, or_else, numbers_of, keyed_kinds, named_kinds, kinds_of, first_kind, suites_of, key_for, key_with, accepts_of, peer_setup_of, user_with, users_of, server_setup_of, credential_of, side_of};
 ghost use Rattle.end_objects.specs.Refusals.{peer_refusal, server_refusal, IsSoundOther};
 
@@ -187,19 +186,21 @@ fn peer_setup_from(settings: &Settings, nonce: &Nonce) -> PeerSetup
     }
 }
 
-/// Adds the other end as a user of this method.
-fn add_user(users: &mut Users, settings: &Settings, kind: u8)
-    requires room { HasRoom users.old (user_with (settings_of settings.now) kind) }
-    requires name { length settings.now.other.now ≤ max_name }
-    requires key { length (key_for (settings_of settings.now) kind) ≤ 64 }
-    ensures { users.new ≡ users.old ++ user_with (settings_of settings.now) kind ∷ [] }
+/// The other end as a user of this method, for which there is a key.
+#[tactic(auto, using(crate::proofs::Taken::user_is_known))]
+pub fn user_of(settings: &Settings, kind: u8) -> User
+    requires other { IsSoundOther (settings_of settings.now) }
+    requires keyed { is_among (keyed_kinds (settings_of settings.now)) kind ≡ true }
+    ensures made { result ≡ user_with (settings_of settings.now) kind }
+    ensures kind { is_kind kind ≡ true }
+    ensures key { fits_kind kind (key_for (settings_of settings.now) kind) ≡ true }
 {
-    users.add(User {
+    User {
         name: Identity::of(settings.other),
         kind,
         psk: Secret::of(key_for(settings, kind)),
         barred: settings.barred != 0,
-    });
+    }
 }
 
 /// Adds the other end as a user of each method for which there is a key, if there are no users.
@@ -211,11 +212,15 @@ fn add_keyed(users: &mut Users, settings: &Settings)
 {
     match (settings.gpsk_key, settings.psk_key) {
         ([], []) => {}
-        ([], [_, ..]) => add_user(users, settings, PSK_KIND),
-        ([_, ..], []) => add_user(users, settings, GPSK_KIND),
+        ([], [_, ..]) => {
+            users.add(user_of(settings, PSK_KIND));
+        }
+        ([_, ..], []) => {
+            users.add(user_of(settings, GPSK_KIND));
+        }
         ([_, ..], [_, ..]) => {
-            add_user(users, settings, GPSK_KIND);
-            add_user(users, settings, PSK_KIND);
+            users.add(user_of(settings, GPSK_KIND));
+            users.add(user_of(settings, PSK_KIND));
         }
     }
 }
@@ -247,22 +252,21 @@ pub fn users_of(settings: &Settings) -> Users
     users
 }
 
-/// The settings of a server.
-pub fn server_setup(settings: &Settings, nonce: &Nonce) -> ServerSetup
+/// The settings of a server, but for its users: none.
+#[inline(always)]
+pub fn server_alone(settings: &Settings, nonce: &Nonce) -> ServerSetup
     requires taken { server_refusal (settings_of settings.now) ≡ None }
-    ensures made { result ≡ server_setup_of (settings_of settings.now) nonce.now }
+    ensures made { result ≡ record (server_setup_of (settings_of settings.now) nonce.now) { users = [] } }
     ensures sound { IsSoundServer result }
 {
-    let mut setup = ServerSetup {
+    ServerSetup {
         name: Identity::of(settings.name),
         methods: kinds_of(settings),
         suites: suites_of(settings),
         users: Users::new(),
         nonce: *nonce,
         expanded: settings.expanded != 0,
-    };
-    add_users(&mut setup.users, settings);
-    setup
+    }
 }
 
 /// What a peer brings into its first method, for a method alone.

@@ -1,5 +1,6 @@
--- The settings with another nonce, or with other users whose keys fit, are sound.
-use Rattle.std.proofs.Common.{List, ℕ}
+-- The settings with another nonce, with other users whose keys fit, or with one more, are sound.
+use Rattle.std.proofs.Common.{◌≡◌, List, [], ◌∷◌, ◌++◌, ℕ, true}
+use Rattle.std.proofs.lemmas.List.Elements.{All-push}
 use Rattle.std.specs.Prelude.{All, IsTrue}
 use Rattle.eap_base.specs.Among.{is_kind}
 use Rattle.login_setup.specs.Setup.{IsSoundServer, fits_kind}
@@ -13,3 +14,12 @@ still_sound setup nonce is = record { methods = is.methods; suites = is.suites; 
 pub sound_with_users : (setup : ServerSetup) (users : List User) → IsSoundServer setup → All (λ user. IsTrue (is_kind user.kind)) users
     → All (λ user. IsTrue (fits_kind user.kind user.psk)) users → IsSoundServer (own_users setup users)
 sound_with_users setup users is kinds keys = record { methods = is.methods; suites = is.suites; kinds = kinds; keys = keys }
+
+pub sound_with_user : (setup : ServerSetup) (user : User) → IsSoundServer setup → is_kind user.kind ≡ true → fits_kind user.kind user.psk ≡ true
+    → IsSoundServer (own_users setup (setup.users ++ user ∷ []))
+sound_with_user setup user is kind key = record {
+  methods = is.methods;
+  suites = is.suites;
+  kinds = All-push (λ (other : User). IsTrue (is_kind other.kind)) setup.users user is.kinds kind;
+  keys = All-push (λ (other : User). IsTrue (fits_kind other.kind other.psk)) setup.users user is.keys key;
+}

@@ -1,22 +1,24 @@
 //! The backend of RFC 4137 section 6 over the objects of its methods.
 
-ghost use Rattle.std.specs.Prelude.{◌≡◌, [], map, true, option_map, All, IsTrue};
+ghost use Rattle.std.specs.Prelude.{◌≡◌, [], ◌∷◌, ◌++◌, map, true, option_map, All, IsTrue};
 ghost use Rattle.eap_base.specs.Among.{is_kind};
 ghost use Rattle.login_setup.specs.Setup.{IsSoundServer, fits_kind};
+ghost use Rattle.login_setup.specs.Users as users;
 ghost use Rattle.eap_method.specs.Peer.{have_each};
 ghost use Rattle.eap_method.specs.Server.{server_kinds};
 ghost use Rattle.eap_method.specs.Steps.{is_end, step_with};
 ghost use Rattle.eap_method.specs.Tags.{no_tags};
 ghost use Rattle.eap_method.specs.Unnamed.{KeepsServers};
-ghost use Rattle.server_machine.specs.ServerTable.{answer, backend_made, current_view, now_of, own_nonce, server_reports, server_restart, with_users};
+ghost use Rattle.server_machine.specs.ServerTable.{answer, backend_made, current_view, made_again, now_of, own_nonce, server_reports, server_restart, vars_made, with_users};
 ghost use Rattle.server_machine.specs.Expanded.{server_hears};
+ghost use Rattle.server_machine.specs.declared.variables.Role.TheVariants as role;
 
 use crate::machine::ServerMachine;
 use crate::variables::Role;
 use eap_base::{Nonce, Packet};
 use eap_method::{Records, Report, ServerMethod, Step, Tags};
 use eap_packet::State;
-use login_setup::{ServerSetup, Users};
+use login_setup::{ServerSetup, User, Users};
 use std::marker::Model;
 
 /// The backend authenticator of RFC 4137 section 6: a login server behind a pass-through, which asks for
@@ -51,6 +53,19 @@ impl<M: ServerMethod> Backend<M> {
     {
         Backend {
             machine: ServerMachine::in_role(Role::Backend, setup, 0, 0, methods),
+        }
+    }
+
+    /// The variables of a backend as INITIALIZE sets them, over objects that have not begun: for a caller that begins them by
+    /// [`Backend::make_again`], where the backend stays.
+    #[inline(always)]
+    pub fn unbegun(setup: ServerSetup, methods: Vec<M>) -> Backend<M>
+        requires sound { IsSoundServer setup }
+        ensures vars { result.vars ≡ vars_made role.Backend setup 0 0 }
+        ensures methods { result.methods ≡ methods.items }
+    {
+        Backend {
+            machine: ServerMachine::unbegun(Role::Backend, setup, 0, 0, methods),
         }
     }
 
@@ -90,6 +105,16 @@ impl<M: ServerMethod> Backend<M> {
     {
         self.machine.make_again(nonce);
         Step::entering(&[State::Initialize])
+    }
+
+    /// Sets the variables and begins the objects as INITIALIZE does, as [`ServerMachine::make_again`].
+    pub fn make_again(&mut self, nonce: &Nonce)
+        requires objects { have_each (server_kinds (map M.server_shown self.old.methods)) self.old.vars.setup.methods ≡ true }
+        ensures made { made_again (now_of M.server_shown self.old) nonce.now ≡ now_of M.server_shown self.new }
+        ensures kept { KeepsServers self.old.vars.setup.methods (map M.server_shown self.old.methods) (map M.server_shown self.new.methods) }
+        ensures setup { self.new.vars.setup ≡ own_nonce self.old.vars.setup nonce.now }
+    {
+        self.machine.make_again(nonce)
     }
 
     /// The backend's settings.
@@ -136,6 +161,16 @@ impl<M: ServerMethod> Backend<M> {
         ensures { self.new ≡ with_users self.old users }
     {
         self.machine.set_users(users)
+    }
+
+    /// The backend knows this user too from now on, as [`ServerMachine::add_user`].
+    pub fn add_user(&mut self, user: User)
+        requires room { users.HasRoom self.old.vars.setup.users user }
+        requires kind { is_kind user.kind ≡ true }
+        requires key { fits_kind user.kind user.psk ≡ true }
+        ensures { self.new ≡ with_users self.old (self.old.vars.setup.users ++ user ∷ []) }
+    {
+        self.machine.add_user(user)
     }
 
     /// Whether each method that the settings name has an object: the condition of [`restart`](Backend::restart).

@@ -1,9 +1,10 @@
 //! The server of RFC 4137 over the objects of its methods: stand-alone (section 5), or a backend (section
 //! 6).
 
-ghost use Rattle.std.specs.Prelude.{◌≡◌, ◌≤◌, [], ◌∷◌, true, false, map, length, Some, None, Ok, option_copied, option_map, All, IsTrue, if◌then◌else◌};
+ghost use Rattle.std.specs.Prelude.{◌≡◌, ◌≤◌, [], ◌∷◌, ◌++◌, true, false, map, length, Some, None, Ok, option_copied, option_map, All, IsTrue, if◌then◌else◌};
 ghost use Rattle.eap_base.specs.Among.{is_among, is_kind};
 ghost use Rattle.login_setup.specs.Setup.{IsSoundServer, are_suites, fits_kind};
+ghost use Rattle.login_setup.specs.Users as users;
 ghost use Rattle.eap_packet.specs.Packet.{spelled, value_of, IsPacket, max_type_data};
 ghost use Rattle.eap_packet.specs.Packet as packets;
 ghost use Rattle.eap_packet.specs.Fault.{packet_of};
@@ -28,13 +29,14 @@ use eap_method::{
 };
 use eap_packet::{Cause, Code, PacketView, State, decode, encode_into, is_bad_expanded};
 use login_policy::next_method;
-use login_setup::{ServerSetup, Users};
+use login_setup::{ServerSetup, User, Users};
 use std::marker::Model;
 
 /// The server of RFC 4137, stand-alone (section 5) or, for a world with a pass-through, in the role of the
 /// backend (section 6): its variables, and the objects of its methods. Contracts see both; what an object
-/// shows is its ghost member `server_shown`. No call changes the settings but [`restart`](ServerMachine::restart) their nonce
-/// and [`set_users`](ServerMachine::set_users) their users, nor the view of an object whose method they don't name. If
+/// shows is its ghost member `server_shown`. No call changes the settings but [`restart`](ServerMachine::restart) and
+/// [`make_again`](ServerMachine::make_again) their nonce, and [`set_users`](ServerMachine::set_users) and
+/// [`add_user`](ServerMachine::add_user) their users, nor the view of an object whose method they don't name. If
 /// the settings say `expanded`, it reads Expanded Types (RFC 3748 section 5.7) and asks in them.
 /// [`Backend`](crate::Backend) is the backend by itself.
 #[derive(Drop)]
@@ -55,7 +57,7 @@ impl<M> Model for ServerMachine<M> {
 
 impl<M: ServerMethod> ServerMachine<M> {
     ghost use Rattle.eap_method.specs.Steps.{is_end};
-    ghost use Rattle.server_machine.specs.ServerTable.{now_of, made_again, own_nonce, server_made, server_restart, server_start, server_deliver, server_timeout, server_reports, is_started, server_row, select_action, server_method, current_response};
+    ghost use Rattle.server_machine.specs.ServerTable.{now_of, made_again, own_nonce, vars_made, server_made, server_restart, server_start, server_deliver, server_timeout, server_reports, is_started, server_row, select_action, server_method, current_response};
     ghost use Rattle.server_machine.specs.ServerTable.{current_view, first_response, has_timer, is_backend, is_ready, pick_up, with_users};
     ghost use Rattle.server_machine.specs.Expanded.{server_hears, server_reads};
     ghost use Rattle.server_machine.specs.declared.variables.Role.TheVariants.{StandAlone};
@@ -94,6 +96,24 @@ impl<M: ServerMethod> ServerMachine<M> {
     {
         let mut methods = methods;
         begin_servers(methods.as_mut_slice(), &setup);
+        ServerMachine::unbegun(role, setup, first_id, max_retrans, methods)
+    }
+
+    /// The variables of a server in either role as INITIALIZE sets them, over objects that have not begun: for a caller that
+    /// begins them by [`ServerMachine::make_again`], where the server stays.
+    #[inline(always)]
+    pub fn unbegun(
+        role: Role,
+        setup: ServerSetup,
+        first_id: u8,
+        max_retrans: u8,
+        methods: Vec<M>,
+    ) -> ServerMachine<M>
+        requires sound { IsSoundServer setup }
+        requires few { max_retrans ≤ 10 }
+        ensures vars { result.vars ≡ vars_made role setup first_id max_retrans }
+        ensures methods { result.methods ≡ methods.items }
+    {
         ServerMachine {
             vars: ServerVariables {
                 role,
@@ -161,7 +181,7 @@ impl<M: ServerMethod> ServerMachine<M> {
 
     /// Sets the variables and begins the objects as INITIALIZE does, with this nonce. Each of the methods has an object.
     #[tactic(auto, using(crate::proofs::Restarting::still_sound))]
-    pub(crate) fn make_again(&mut self, nonce: &Nonce)
+    pub fn make_again(&mut self, nonce: &Nonce)
         requires objects { have_each (server_kinds (map M.server_shown self.old.methods)) self.old.vars.setup.methods ≡ true }
         ensures made { made_again (now_of M.server_shown self.old) nonce.now ≡ now_of M.server_shown self.new }
         ensures kept { KeepsServers self.old.vars.setup.methods (map M.server_shown self.old.methods) (map M.server_shown self.new.methods) }
@@ -415,6 +435,18 @@ impl<M: ServerMethod> ServerMachine<M> {
         ensures { self.new ≡ with_users self.old users }
     {
         self.vars.setup.users = users;
+    }
+
+    /// The server knows this user too from now on, in any state; nothing else changes. There is room for the user, who has a
+    /// key for one of the two methods, of the size that the method requires.
+    #[tactic(auto, using(crate::proofs::Restarting::sound_with_user))]
+    pub fn add_user(&mut self, user: User)
+        requires room { users.HasRoom self.old.vars.setup.users user }
+        requires kind { is_kind user.kind ≡ true }
+        requires key { fits_kind user.kind user.psk ≡ true }
+        ensures { self.new ≡ with_users self.old (self.old.vars.setup.users ++ user ∷ []) }
+    {
+        self.vars.setup.users.add(user);
     }
 
     /// Whether each method that the settings name has an object: the condition of [`restart`](ServerMachine::restart).

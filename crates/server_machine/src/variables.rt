@@ -40,10 +40,10 @@ pub enum Way {
 /// The server's variables (RFC 4137 sections 5.3 and 6.3).
 #[derive(Drop)]
 pub struct ServerVariables {
-    /// Which server this is.
-    pub role: Role,
     /// The server's settings, its policy among them.
     pub setup: ServerSetup,
+    /// Which server this is.
+    pub role: Role,
     /// The Identifier of the first Request of a stand-alone server; a backend goes on from that of the first
     /// Response.
     pub first_id: u8,
@@ -61,8 +61,8 @@ pub struct ServerVariables {
     pub progress: Progress,
     /// retransCount: how often the Request was sent again.
     pub retrans_count: u8,
-    /// lastReqData: the Request that was sent last, empty before the first.
-    pub last_request: Packet,
     /// The methods already proposed.
     pub proposed: Kinds,
+    /// lastReqData: the Request that was sent last, empty before the first.
+    pub last_request: Packet,
 }

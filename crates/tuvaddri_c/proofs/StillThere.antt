@@ -1,16 +1,17 @@
 -- An end that has just been made has its objects, and each call leaves it those that it had.
-use Rattle.std.proofs.Common.{◌≡◌, List, ℕ, true, map, ap}
+use Rattle.std.proofs.Common.{◌≡◌, List, [], ℕ, true, map, ap, sym, ◌∙◌}
 use Rattle.login_setup.specs.declared.setup.PeerSetup.{PeerSetup}
 use Rattle.login_setup.specs.declared.setup.ServerSetup.{ServerSetup}
 use Rattle.eap_method.specs.Peer.{have_each, peer_kinds}
-use Rattle.eap_method.specs.Server.{server_kinds}
 use Rattle.eap_method.specs.Unnamed.{KeepsPeers, KeepsServers}
 use Rattle.peer_machine.specs.PeerTable as peers
 use Rattle.peer_machine.specs.PeerTable.{PeerNow, PeerValue, peer_made}
 use Rattle.server_machine.specs.ServerTable as servers
-use Rattle.server_machine.specs.ServerTable.{ServerNow, ServerValue, server_made}
+use Rattle.server_machine.specs.ServerTable.{ServerNow, ServerValue, vars_made, server_made, made_again, own_nonce, own_users, with_users}
 use Rattle.server_machine.specs.declared.variables.Role.{Role}
+use Rattle.server_machine.specs.declared.variables.ServerVariables.{ServerVariables}
 use Rattle.end_objects.specs.Objects.{peer_object_shown, server_object_shown}
+use Rattle.end_objects.specs.Settings.{SettingsValue, server_setup_of, users_of}
 use Rattle.end_objects.specs.declared.objects.PeerObject.{PeerObject}
 use Rattle.end_objects.specs.declared.objects.ServerObject.{ServerObject}
 use Rattle.tuvaddri_c.specs.Ends.{peer_has_objects, server_has_objects}
@@ -22,13 +23,17 @@ peer_made_with setup objects m made kept has =
     let named : m.vars.setup.methods ≡ setup.methods = ap (λ (now : PeerNow). now.vars.setup.methods) made in
     rw (kept.kinds, named) has
 
-pub server_made_with : (of : Role) (setup : ServerSetup) (first_id max_retrans : ℕ) (objects : List ServerObject) (m : ServerValue ServerObject)
-    → servers.now_of server_object_shown m ≡ server_made of setup first_id max_retrans
-    → KeepsServers setup.methods (map server_object_shown objects) (map server_object_shown m.methods)
-    → have_each (server_kinds (map server_object_shown objects)) setup.methods ≡ true → server_has_objects m ≡ true
-server_made_with of setup first_id max_retrans objects m made kept has =
-    let named : m.vars.setup.methods ≡ setup.methods = ap (λ (now : ServerNow). now.vars.setup.methods) made in
-    rw (kept.kinds, named) has
+-- the variables of a server without users, which then has those of the settings, and begins
+pub server_begun_with : (of : Role) (told : SettingsValue) (nonce : List ℕ) (setup : ServerSetup) (first_id max_retrans : ℕ)
+    (alone m : ServerValue ServerObject) (after : ServerNow) → setup ≡ record (server_setup_of told nonce) { users = [] }
+    → alone.vars ≡ vars_made of setup first_id max_retrans → m ≡ with_users alone (users_of told)
+    → made_again (servers.now_of server_object_shown m) nonce ≡ after → after ≡ server_made of (server_setup_of told nonce) first_id max_retrans
+unfolding server_setup_of
+server_begun_with of told nonce setup first_id max_retrans alone m after is vars given made =
+    let filled : ServerSetup → ServerSetup = λ (s : ServerSetup). own_nonce (own_users s (users_of told)) nonce in
+    sym made ∙ (ap (λ (v : ServerValue ServerObject). made_again (servers.now_of server_object_shown v) nonce) given
+    ∙ (ap (λ (v : ServerVariables). server_made v.role (filled v.setup) v.first_id v.max_retrans) vars
+    ∙ ap (λ (s : ServerSetup). server_made of (filled s) first_id max_retrans) is))
 
 pub peer_still_has : (m after : PeerValue PeerObject) → KeepsPeers m.vars.setup.methods (map peer_object_shown m.methods) (map peer_object_shown after.methods)
     → after.vars.setup.methods ≡ m.vars.setup.methods → peer_has_objects m ≡ true → peer_has_objects after ≡ true

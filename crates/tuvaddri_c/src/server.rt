@@ -1,12 +1,14 @@
 //! The stand-alone server of RFC 4137 section 5, and the backend of section 6.
 
-ghost use Rattle.std.specs.Prelude.{◌≡◌, true, false, None, IfSome};
-ghost use Rattle.server_machine.specs.ServerTable.{server_start, server_timeout, server_made, backend_made, is_started, is_backend, has_timer};
+ghost use Rattle.std.specs.Prelude.{◌≡◌, ◌≤◌, [], true, false, map, None, IfSome};
+ghost use Rattle.eap_method.specs.Peer.{have_each};
+ghost use Rattle.eap_method.specs.Server.{server_kinds};
+ghost use Rattle.server_machine.specs.ServerTable.{server_start, server_timeout, server_made, backend_made, is_started, is_backend, has_timer, with_users};
 ghost use Rattle.server_machine.specs.ServerTable as server;
 ghost use Rattle.server_machine.specs.declared.variables.Role.TheVariants.{StandAlone};
 ghost use Rattle.end_objects.specs.Objects.{server_object_shown};
-ghost use Rattle.end_objects.specs.Refusals.{server_refusal, stand_alone_refusal};
-ghost use Rattle.end_objects.specs.Settings.{settings_of, server_setup_of};
+ghost use Rattle.end_objects.specs.Refusals.{IsSoundOther, server_refusal, stand_alone_refusal};
+ghost use Rattle.end_objects.specs.Settings.{settings_of, kinds_of, server_setup_of, users_of};
 ghost use Rattle.tuvaddri_c.specs.Answers.{begun, no_memory, refusal_number};
 ghost use Rattle.tuvaddri_c.specs.Ends.{IfServer, AsServer, AsBackend, can_restart};
 ghost use Rattle.tuvaddri_c.specs.Ends as ends;
@@ -17,17 +19,71 @@ use crate::answers::{BEGUN, NO_MEMORY, number_of_refusal};
 use crate::handle::TuvEnd;
 use crate::session::End;
 use crate::turn::TuvTurn;
-use eap_base::{Nonce, Packet};
+use eap_base::{GPSK_KIND, Nonce, PSK_KIND, Packet};
 use end_objects::{
-    Settings, kinds_of, server_objects, server_refusal, server_setup, stand_alone_refusal,
+    ServerObject, Settings, kinds_of, server_alone, server_objects, server_refusal,
+    stand_alone_refusal, user_of,
 };
-use server_machine::{Backend, ServerMachine};
+use server_machine::{Backend, Role, ServerMachine};
 use std::alloc::Global;
+
+/// Adds the users of its settings to a server without users.
+#[tactic(auto, unfolding(end_objects::specs::Settings::users_of, end_objects::specs::Settings::keyed_kinds))]
+fn add_users(machine: &mut ServerMachine<ServerObject>, settings: &Settings)
+    requires none { machine.old.vars.setup.users ≡ [] }
+    requires other { IsSoundOther (settings_of settings.now) }
+    ensures { machine.new ≡ with_users machine.old (users_of (settings_of settings.now)) }
+{
+    match (settings.other, settings.gpsk_key, settings.psk_key) {
+        ([], _, _) => {}
+        ([_, ..], [], []) => {}
+        ([_, ..], [], [_, ..]) => machine.add_user(user_of(settings, PSK_KIND)),
+        ([_, ..], [_, ..], []) => machine.add_user(user_of(settings, GPSK_KIND)),
+        ([_, ..], [_, ..], [_, ..]) => {
+            machine.add_user(user_of(settings, GPSK_KIND));
+            machine.add_user(user_of(settings, PSK_KIND));
+        }
+    }
+}
+
+/// Makes the end a stand-alone server with these settings. (It is built where it stays, and nothing of it is copied.)
+#[tactic(auto, using(crate::proofs::StillThere::server_begun_with, crate::proofs::StillThere::server_still_has), unfolding(end_objects::specs::Settings::server_setup_of))]
+fn hold(
+    end: &mut End,
+    settings: &Settings,
+    nonce: &Nonce,
+    first_id: u8,
+    max_retrans: u8,
+    methods: Vec<ServerObject>,
+)
+    requires taken { server_refusal (settings_of settings.now) ≡ None }
+    requires other { IsSoundOther (settings_of settings.now) }
+    requires few { max_retrans ≤ 10 }
+    requires objects { have_each (server_kinds (map server_object_shown methods.items)) (kinds_of (settings_of settings.now)) ≡ true }
+    ensures made { AsServer end.new (λ n. server.now_of server_object_shown n
+        ≡ server_made StandAlone (server_setup_of (settings_of settings.now) nonce.now) first_id max_retrans) }
+    ensures objects { can_restart end.new ≡ true }
+{
+    let role = Role::StandAlone;
+    *end = End::Server(ServerMachine::unbegun(
+        role,
+        server_alone(settings, nonce),
+        first_id,
+        max_retrans,
+        methods,
+    ));
+    match end {
+        End::Server(machine) => {
+            add_users(machine, settings);
+            machine.make_again(nonce);
+        }
+        _ => {}
+    }
+}
 
 /// Makes the end a stand-alone server that has not started, and answers 0. Its first Request has the Identifier
 /// `first_id`; a Request is sent again at most `max_retrans` times, at most 10. Else it answers as `tuv_peer_begin`.
 #[unsafe(no_mangle)]
-#[tactic(auto, using(crate::proofs::StillThere::server_made_with), unfolding(end_objects::specs::Settings::server_setup_of))]
 pub extern "C" fn tuv_server_begin(
     alloc: Global,
     end: &mut TuvEnd,
@@ -51,14 +107,15 @@ pub extern "C" fn tuv_server_begin(
             match server_objects(alloc, kinds.as_slice()) {
                 Err(_) => NO_MEMORY,
                 Ok(methods) => {
-                    let setup = server_setup(settings, nonce);
                     let session = end.session();
-                    session.end = End::Server(ServerMachine::new(
-                        setup,
+                    hold(
+                        &mut session.end,
+                        settings,
+                        nonce,
                         first_id,
                         max_retrans,
                         methods,
-                    ));
+                    );
                     session.sent.clear();
                     BEGUN
                 }
@@ -67,9 +124,46 @@ pub extern "C" fn tuv_server_begin(
     }
 }
 
+/// Adds the users of its settings to a backend without users.
+#[tactic(auto, unfolding(end_objects::specs::Settings::users_of, end_objects::specs::Settings::keyed_kinds))]
+fn add_users_behind(machine: &mut Backend<ServerObject>, settings: &Settings)
+    requires none { machine.old.vars.setup.users ≡ [] }
+    requires other { IsSoundOther (settings_of settings.now) }
+    ensures { machine.new ≡ with_users machine.old (users_of (settings_of settings.now)) }
+{
+    match (settings.other, settings.gpsk_key, settings.psk_key) {
+        ([], _, _) => {}
+        ([_, ..], [], []) => {}
+        ([_, ..], [], [_, ..]) => machine.add_user(user_of(settings, PSK_KIND)),
+        ([_, ..], [_, ..], []) => machine.add_user(user_of(settings, GPSK_KIND)),
+        ([_, ..], [_, ..], [_, ..]) => {
+            machine.add_user(user_of(settings, GPSK_KIND));
+            machine.add_user(user_of(settings, PSK_KIND));
+        }
+    }
+}
+
+/// Makes the end a backend with these settings, likewise.
+#[tactic(auto, using(crate::proofs::StillThere::server_begun_with, crate::proofs::StillThere::server_still_has), unfolding(end_objects::specs::Settings::server_setup_of))]
+fn hold_backend(end: &mut End, settings: &Settings, nonce: &Nonce, methods: Vec<ServerObject>)
+    requires taken { server_refusal (settings_of settings.now) ≡ None }
+    requires other { IsSoundOther (settings_of settings.now) }
+    requires objects { have_each (server_kinds (map server_object_shown methods.items)) (kinds_of (settings_of settings.now)) ≡ true }
+    ensures made { AsBackend end.new (λ n. server.now_of server_object_shown n ≡ backend_made (server_setup_of (settings_of settings.now) nonce.now)) }
+    ensures objects { can_restart end.new ≡ true }
+{
+    *end = End::Backend(Backend::unbegun(server_alone(settings, nonce), methods));
+    match end {
+        End::Backend(machine) => {
+            add_users_behind(machine, settings);
+            machine.make_again(nonce);
+        }
+        _ => {}
+    }
+}
+
 /// Makes the end a backend that waits for its first Response, and answers 0. Else it answers as `tuv_peer_begin`.
 #[unsafe(no_mangle)]
-#[tactic(auto, using(crate::proofs::StillThere::server_made_with), unfolding(end_objects::specs::Settings::server_setup_of))]
 pub extern "C" fn tuv_backend_begin(
     alloc: Global,
     end: &mut TuvEnd,
@@ -91,9 +185,8 @@ pub extern "C" fn tuv_backend_begin(
             match server_objects(alloc, kinds.as_slice()) {
                 Err(_) => NO_MEMORY,
                 Ok(methods) => {
-                    let setup = server_setup(settings, nonce);
                     let session = end.session();
-                    session.end = End::Backend(Backend::new(setup, methods));
+                    hold_backend(&mut session.end, settings, nonce, methods);
                     session.sent.clear();
                     BEGUN
                 }
