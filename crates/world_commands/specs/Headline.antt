@@ -13,7 +13,7 @@ use Rattle.tag_book.specs.declared.book.TagsVerdict.TheVariants.{Honest}
 use Rattle.world_laws.specs.EachConversation.{peer_conversations, server_conversations}
 use Rattle.world_laws.specs.Matching.{AreAll, Match}
 use Rattle.world_laws.specs.Passing.{Carries, IsAlone}
-use Rattle.world_laws.specs.Reflected.{AgreesReflected}
+use Rattle.world_laws.specs.PskReflected.{AgreesReflected}
 use Rattle.eap_world.specs.World.{WorldNow}
 use Rattle.answer_text.specs.Lines.{HasLine}
 use Rattle.world_commands.specs.Scenario.{scenario_of}

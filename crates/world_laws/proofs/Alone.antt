@@ -13,8 +13,9 @@ use Rattle.world_laws.specs.Agreement.{IsWhole}
 use Rattle.world_laws.specs.Alone.{OneEndTells, PeerIsHeard, PeerKnows, PeersConversation, ServerHears, ServersConversation}
 use Rattle.tag_book.specs.Book.{first_broken, tags_verdict, tags_verdict_either}
 use Rattle.eap_world.specs.Conversations.{Conversations, front}
-use Rattle.world_laws.specs.Foreign.{HoldWhole, server_foreign}
 use Rattle.eap_world.specs.Judgement.{is_success}
+use Rattle.world_laws.specs.ByMethod.{server_foreign}
+use Rattle.world_laws.specs.GpskLogins.{HoldWhole}
 use Rattle.world_laws.specs.Records.{IsIn, tags_by}
 use Rattle.world_laws.specs.ToldTags.{MadeByPeer, NotByServer, PeerTold, ServerTold}
 use Rattle.eap_world.specs.World.{WorldNow}
@@ -22,6 +23,8 @@ use Rattle.tag_book.specs.declared.book.End.TheVariants as end
 use Rattle.tag_book.specs.declared.book.Makers.TheVariants.{Other}
 use Rattle.tag_book.specs.declared.book.TagsVerdict.TheVariants.{Honest}
 use Rattle.tag_book.specs.declared.book.Use.TheVariants.{Accepted, Made}
+use Rattle.world_laws.proofs.Asks.{AsksPeer, AsksServer}
+use Rattle.world_laws.proofs.AsksByMethod.{peer_asks, server_asks}
 use Rattle.world_laws.proofs.Conversing.{BothConverse, peer_moment, run_converses, server_moment}
 use Rattle.world_laws.proofs.EndsStand.{BothStandFirst, every_run_so_far, stand_first}
 use Rattle.world_laws.proofs.FreshAgree.{peer_won, server_holds, server_won}
@@ -31,7 +34,6 @@ use Rattle.world_laws.proofs.OneLogin.{first_is_in, peer_now}
 use Rattle.world_laws.proofs.PastConversations.{MadeIn, accepted_now, made_in}
 use Rattle.world_laws.proofs.Reflected.{asks_present, of_peer, of_server}
 use Rattle.world_laws.proofs.SameLogins.{peers_login, servers_login, whole_login}
-use Rattle.world_laws.proofs.ServerTells.{AsksPeer, AsksServer, peer_asks, server_asks}
 use Rattle.world_laws.proofs.SucceedingEnds.{first_in, server_succeeds}
 use Rattle.world_laws.proofs.WholeNonces as whole
 

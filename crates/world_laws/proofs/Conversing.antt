@@ -27,7 +27,7 @@ use Rattle.server_machine.specs.ServerTable.{ServerNow, ServerAnswer, answer, is
 use Rattle.eap_world.specs.Run.{run_of}
 use Rattle.world_laws.specs.Agreement.{IsWhole}
 use Rattle.eap_world.specs.Conversations.{Conversations, begins, beginning, front, hears, since_from, since_of, waiting}
-use Rattle.world_laws.specs.Foreign.{peer_foreign, server_foreign}
+use Rattle.world_laws.specs.ByMethod.{peer_foreign, server_foreign}
 use Rattle.world_laws.specs.PeerStands.{PeerStands}
 use Rattle.world_laws.specs.Records.{tags_by}
 use Rattle.world_laws.specs.ServerStands.{ServerStands}

@@ -10,13 +10,15 @@ use Rattle.peer_machine.specs.PeerTable as peers
 use Rattle.server_machine.specs.ServerTable as servers
 use Rattle.server_machine.specs.ServerTable.{ServerNow}
 use Rattle.eap_world.specs.Run.{run_of}
-use Rattle.world_laws.specs.Agreement.{IsWhole}
+use Rattle.world_laws.specs.Agreement.{AgreeAnew, IsWhole}
 use Rattle.tag_book.specs.Book.{first_broken, tags_verdict}
 use Rattle.eap_world.specs.Conversations.{front}
-use Rattle.world_laws.specs.Foreign.{HoldWhole, server_foreign, psk_rand_p_in, gpsk_rand_p_in}
 use Rattle.eap_world.specs.Judgement.{is_success, verdict_of}
+use Rattle.world_laws.specs.ByMethod.{server_foreign}
+use Rattle.world_laws.specs.GpskLogins.{HoldWhole}
+use Rattle.world_laws.specs.GpskServerStands.{gpsk_rand_p_in}
+use Rattle.world_laws.specs.PskServerStands.{psk_rand_p_in}
 use Rattle.world_laws.specs.Records.{IsIn, tags_by}
-use Rattle.world_laws.specs.Reflected.{AgreeAnew}
 use Rattle.eap_world.specs.World.{WorldNow}
 use Rattle.tag_book.specs.declared.book.End.TheVariants as end
 use Rattle.tag_book.specs.declared.book.Makers.TheVariants.{Other}
@@ -24,12 +26,13 @@ use Rattle.tag_book.specs.declared.book.TagsVerdict.TheVariants.{Honest}
 use Rattle.tag_book.specs.declared.book.Use.TheVariants.{Accepted, Made}
 use Rattle.eap_world.specs.declared.verdict.Verdict.{Verdict}
 use Rattle.eap_world.specs.declared.verdict.Verdict.TheVariants.{Agree, Apart, Unfinished}
+use Rattle.world_laws.proofs.Asks.{AsksServer}
+use Rattle.world_laws.proofs.AsksByMethod.{peer_asks, server_asks}
 use Rattle.world_laws.proofs.Conversing.{BothConverse, run_converses}
 use Rattle.world_laws.proofs.HonestOfEither.{none_if_honest}
 use Rattle.world_laws.proofs.HonestOther.{honest_other}
 use Rattle.world_laws.proofs.OneLogin.{first_is_in, in_one}
 use Rattle.world_laws.proofs.PastConversations.{accepted_now}
-use Rattle.world_laws.proofs.ServerTells.{AsksServer, peer_asks, server_asks}
 use Rattle.world_laws.proofs.SucceedingEnds.{FirstIn, PeerSucceeds, ServerSucceeds, both_agree, both_succeed, first_in, of_gpsk, of_psk, peer_succeeds, server_succeeds}
 use Rattle.world_laws.proofs.Theirs.{own_theirs}
 use Rattle.world_laws.proofs.WholeNonces as whole

@@ -17,9 +17,9 @@ use Rattle.eap_method.specs.Server.{server_report_of, gpsk_report}
 use Rattle.peer_machine.specs.PeerTable.{PeerNow, selected_report, peer_reports}
 use Rattle.server_machine.specs.ServerTable.{ServerNow, current_report, server_reports}
 use Rattle.eap_world.specs.Judgement.{agreement_of, peer_agrees, server_agrees, is_welcome}
+use Rattle.world_laws.specs.GpskPeerStands.{GpskBegun, gpsk2_record}
+use Rattle.world_laws.specs.GpskServerStands.{GpskChecked, gpsk2_taken}
 use Rattle.world_laws.specs.Records.{IsIn}
-use Rattle.world_laws.specs.PeerStands.{GpskBegun, gpsk2_record}
-use Rattle.world_laws.specs.ServerStands.{GpskChecked, gpsk2_taken}
 use Rattle.world_laws.proofs.Fields.{fronts, sized_fronts, suite_fronts}
 use Rattle.world_laws.proofs.Among.{among_one, among_two}
 use Rattle.world_laws.proofs.EqualReports.{reports_agree}

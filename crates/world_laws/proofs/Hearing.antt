@@ -1,6 +1,5 @@
 -- What an end holds of the other's nonce after a call: what it held before, or what came in it.
-use Rattle.std.proofs.Common.{◌≡◌, List, ℕ, Bool, true, false, ◌||◌, Option, Some, refl, subst}
-use Rattle.world_laws.specs.Foreign.{by_kind}
+use Rattle.std.proofs.Common.{◌≡◌, List, ℕ, Option, Some, refl, subst}
 use Rattle.world_laws.proofs.StandsIn.{StandsIn, within}
 
 pub data Hears (came : Option (List ℕ)) (before after : Option (List ℕ)) : Type 0 where
@@ -12,9 +11,3 @@ pub heard_in : (part whole : List ℕ) (before after : Option (List ℕ)) → St
 heard_in part whole before after stands (as_before same) = as_before same
 heard_in part whole before after stands (hears_now octets x is_came is_after came) =
     hears_now whole x refl is_after (within x part whole (subst (StandsIn x) (let same : octets ≡ part = cc in same) came) stands)
-
--- a nonce is held by a method
-pub method_holds : (a b : Bool) (psk gpsk : Option (List ℕ)) (x : List ℕ) → by_kind a b psk gpsk ≡ Some x → (a || b) ≡ true
-method_holds true b psk gpsk x e = refl
-method_holds false true psk gpsk x e = refl
-method_holds false false psk gpsk x e = cc e

@@ -24,9 +24,11 @@ use Rattle.world_laws.proofs.OneMethod.{some_same}
 use Rattle.world_laws.proofs.PassSpeaks as passing
 use Rattle.world_laws.proofs.PassSpeaks.{Goes, PassSpeaks, pass_speaks}
 use Rattle.world_laws.proofs.PeerSpeaks as peering
-use Rattle.world_laws.proofs.PeerSpeaks.{IsResponse, PeerSpeaks, peer_speaks}
+use Rattle.world_laws.proofs.PeerSpeaks.{PeerSpeaks, peer_speaks}
+use Rattle.world_laws.proofs.PeerTurns.{IsResponse}
 use Rattle.world_laws.proofs.ServerSpeaks as serving
-use Rattle.world_laws.proofs.ServerSpeaks.{IsRequest, ServerSpeaks, server_speaks}
+use Rattle.world_laws.proofs.ServerSpeaks.{ServerSpeaks, server_speaks}
+use Rattle.world_laws.proofs.ServerTurns.{IsRequest}
 
 -- ---- the last packet to a port, with one more
 

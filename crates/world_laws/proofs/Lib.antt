@@ -4,6 +4,10 @@ pub mod Acting
 pub mod Alone
 -- Which record of a short list it is.
 pub mod Among
+-- What each end asks of the other by the first tag that it accepts.
+pub mod Asks
+-- An end asks so of the other by either method; and an end in SUCCESS has accepted a tag.
+pub mod AsksByMethod
 -- An end that has no later nonces never begins a second conversation.
 pub mod BeginsOnce
 -- In every run the conversations of both ends are as told.
@@ -32,6 +36,14 @@ pub mod FreshRuns
 pub mod GpskAgrees
 -- The nonces of GPSK-1 and GPSK-2 stand in their octets.
 pub mod GpskNonces
+-- What a tag that the peer made by EAP-GPSK tells of the conversation in which it did: both nonces, whole.
+pub mod GpskPeerTells
+-- Each turn of a peer's method EAP-GPSK: of what came it holds RAND_Server alone, it answers the Request, and its view tells the tags.
+pub mod GpskPeerTurns
+-- What a tag that the server made by EAP-GPSK tells of the conversation in which it did; and what each end asks by its first tag.
+pub mod GpskServerTells
+-- Each turn of a server's method EAP-GPSK: of what came it holds RAND_Peer alone, it asks with the next Identifier, and its view tells the tags.
+pub mod GpskServerTurns
 -- What an end holds of the other's nonce after a call: what it held before, or what came in it.
 pub mod Hearing
 -- A book that is honest by the other end's tags alone is honest by those of either end.
@@ -58,14 +70,16 @@ pub mod PassSpeaks
 pub mod Passing
 -- What holds of the conversations of an end, past and present.
 pub mod PastConversations
+-- The peer by the method of a Type: what holds of the turns, the nonce and the tags of each method holds of a Type's.
+pub mod PeerByMethod
 -- What the peer hears of the server's nonce stands in what came.
 pub mod PeerHears
 -- Every input of the peer keeps what stands of it, but for the begin of a new conversation.
 pub mod PeerKeeps
 -- What the peer sends: a Response to what came, new or as it was sent before.
 pub mod PeerSpeaks
--- What a tag that the peer made tells of the conversation in which it did: both nonces.
-pub mod PeerTells
+-- What is asked of a turn of a peer's method: each Response has the Identifier of the Request, and the view after it tells the tags.
+pub mod PeerTurns
 -- Two ends that have succeeded by EAP-PSK agree.
 pub mod PskAgrees
 -- The PSK-4 that a server accepts tells which conversation of the peer made it: that has accepted PSK-3.
@@ -76,20 +90,30 @@ pub mod PskFields
 pub mod PskHeaders
 -- The nonces of PSK-1 and PSK-2 stand in their octets.
 pub mod PskNonces
+-- What a tag that the peer made by EAP-PSK tells of the conversation in which it did: both nonces.
+pub mod PskPeerTells
+-- Each turn of a peer's method EAP-PSK: of what came it holds RAND_S alone, it answers the Request, and its view tells the tags.
+pub mod PskPeerTurns
+-- What a tag that the server made by EAP-PSK tells of the conversation in which it did; and what each end asks by its first tag.
+pub mod PskServerTells
+-- Each turn of a server's method EAP-PSK: of what came it holds RAND_P alone, it asks with the next Identifier, and its view tells the tags.
+pub mod PskServerTurns
 -- No end takes its own tags for the other's, in whichever conversation it made them, where the peer succeeds by EAP-PSK.
 pub mod Reflected
 -- The login of an end that has succeeded is that of the other end's conversation on whose tags it rests.
 pub mod SameLogins
 -- A conversation of the peer on which one of the server in SUCCESS rests leads to what that reports.
 pub mod SameReports
+-- The server by the method of a Type: what holds of the turns, the offer, the nonce and the tags of each method holds of a Type's.
+pub mod ServerByMethod
 -- What the server hears of the peer's nonce stands in what came.
 pub mod ServerHears
 -- Every input of the server after its start keeps what stands of it, but for the begin of a new conversation.
 pub mod ServerKeeps
 -- What the server sends: a Request with the next Identifier, the last one again, or its end.
 pub mod ServerSpeaks
--- What a tag that the server made tells of the conversation in which it did; and what each end asks of the other.
-pub mod ServerTells
+-- What is asked of a turn of a server's method: each Request has the next Identifier, and the view after it tells the tags.
+pub mod ServerTurns
 -- Each step of a run is lawful.
 pub mod SingleSteps
 -- An event that is skipped changes nothing but the number of events.

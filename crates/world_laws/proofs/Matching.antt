@@ -15,13 +15,13 @@ use Rattle.eap_world.specs.Run.{run_of}
 use Rattle.world_laws.specs.Agreement.{IsWhole}
 use Rattle.tag_book.specs.Book.{first_broken, tags_verdict, tags_verdict_either}
 use Rattle.eap_world.specs.Conversations.{front}
+use Rattle.world_laws.specs.ByMethod.{peer_login, server_login, ServerHasSucceeded, gpsk_server_succeeded, psk_server_succeeded}
 use Rattle.world_laws.specs.EachConversation.{AreTwoOf, IsOneOf, OfPeer, OfServer, all_made, nonces_of, peer_at, peer_conversations, peer_holds, peer_nonce, server_at, server_conversations, server_holds, server_nonce}
 use Rattle.eap_world.specs.Judgement.{is_success}
-use Rattle.world_laws.specs.Logins.{peer_login, server_login}
 use Rattle.world_laws.specs.Matching.{AreAll, AreOfOne, ConversationsAreAll, ConversationsMatch, HasSameKeys, HoldNonces, Match, NoTwoAlike, PeerMatches, PeerRests, ReportsAgree, RestsOn, ServerMatches, ServerRests}
 use Rattle.world_laws.specs.PeerStands.{PeerStands}
 use Rattle.world_laws.specs.Records.{IsIn, tags_by}
-use Rattle.world_laws.specs.ServerStands.{HasSucceeded, ServerStands, gpsk_succeeded, psk_succeeded}
+use Rattle.world_laws.specs.ServerStands.{ServerStands}
 use Rattle.world_laws.specs.ToldTags.{MadeByPeer, MadeByServer, NotByServer, PeerTold, ServerTold}
 use Rattle.eap_world.specs.World.{WorldNow, world_made, world_start}
 use Rattle.tag_book.specs.declared.book.End.TheVariants as end
@@ -29,6 +29,8 @@ use Rattle.tag_book.specs.declared.book.Entry.{Entry}
 use Rattle.tag_book.specs.declared.book.Makers.TheVariants.{Either, Other}
 use Rattle.tag_book.specs.declared.book.TagsVerdict.TheVariants.{Honest}
 use Rattle.tag_book.specs.declared.book.Use.TheVariants.{Accepted, Made}
+use Rattle.world_laws.proofs.Asks.{AsksPeer, AsksServer}
+use Rattle.world_laws.proofs.AsksByMethod.{peer_asks, server_asks}
 use Rattle.world_laws.proofs.Conversing.{BothConverse, start_converses, starts_so}
 use Rattle.world_laws.proofs.EachOf.{Told, walk}
 use Rattle.world_laws.proofs.EachTurn.{PeerWell, ServerWell, converses_on, grow, peer_nonce_of, peer_turns, peer_used, server_nonce_of, server_turns, server_used}
@@ -43,8 +45,8 @@ use Rattle.world_laws.proofs.PskAnswered.{HasAsked, HasPsk4, has_asked, psk4_tak
 use Rattle.world_laws.proofs.Reflected.{AsksAnother, asks_another}
 use Rattle.world_laws.proofs.SameLogins as logins
 use Rattle.world_laws.proofs.SameReports.{same_report}
-use Rattle.world_laws.proofs.ServerKeeps.{server_few, told_by_psk}
-use Rattle.world_laws.proofs.ServerTells.{AsksPeer, AsksServer, peer_asks, server_asks}
+use Rattle.world_laws.proofs.ServerByMethod.{told_by_psk}
+use Rattle.world_laws.proofs.ServerKeeps.{server_few}
 use Rattle.world_laws.proofs.SucceedingEnds.{PeerSucceeds, ServerSucceeds, both_agree, both_succeed, first_in, peer_succeeds, server_succeeds}
 use Rattle.world_laws.proofs.TagsOfEnds.{honest_tags}
 use Rattle.world_laws.proofs.WholeNonces as whole
@@ -169,12 +171,12 @@ module _ (setup : Setup) where
       → HasPsk4 (server_nonce s) s.accepted
   psk4_in s known s_in by_psk = of_success (known.stands.sure s_in)
     where
-      of_success : HasSucceeded s.now.vars.current s.now.views → HasPsk4 (server_nonce s) s.accepted
-      of_success (psk_succeeded login is_current in_view) =
+      of_success : ServerHasSucceeded s.now.vars.current s.now.views → HasPsk4 (server_nonce s) s.accepted
+      of_success (psk_server_succeeded login is_current in_view) =
           psk4_taken setup.server (server_nonce s) login true s.accepted s.made
           (told_by_psk (servers.own_nonce setup.server (server_nonce s)) s.now.vars.current s.now.views _ s.accepted s.made is_current in_view
           known.stands.tags)
-      of_success (gpsk_succeeded login is_current in_view) = apart_kinds s.now.vars.current gpsk_kind psk_kind refl is_current by_psk
+      of_success (gpsk_server_succeeded login is_current in_view) = apart_kinds s.now.vars.current gpsk_kind psk_kind refl is_current by_psk
 
   -- ---- all of them
 

@@ -7,9 +7,10 @@ use Rattle.login_setup.specs.declared.setup.ServerSetup.{ServerSetup}
 use Rattle.eap_method.specs.declared.tags.TagRecord.{TagRecord}
 use Rattle.world_laws.specs.Records.{IsIn, here}
 use Rattle.eap_world.specs.Conversations.{front}
+use Rattle.world_laws.proofs.Asks.{AsksPeer, AsksServer, some_is}
+use Rattle.world_laws.proofs.AsksByMethod.{server_asks}
 use Rattle.world_laws.proofs.PastConversations.{Moment, PastConversation, Past, Conversed, FromPast, where_made, accepted_now, accepted_before}
 use Rattle.world_laws.specs.ToldTags.{PeerTold, MadeByPeer, NotByServer, ServerTold}
-use Rattle.world_laws.proofs.ServerTells.{AsksPeer, AsksServer, server_asks, some_is}
 
 pub one_held : (held : Option (List ℕ)) (x y : List ℕ) → held ≡ Some x → held ≡ Some y → x ≡ y
 one_held held x y a b = some_is x y (sym a ∙ b)

@@ -3,27 +3,19 @@ use Rattle.std.proofs.Common.{◌≡◌, ℕ, List, ◌++◌, Bool, true, false,
 use Rattle.std.specs.Prelude.{◌==◌}
 use Rattle.std.specs.List.{list_any}
 use Rattle.std.proofs.lemmas.Bool.{cond_both, eqb-true, eq-eqb, false≢true}
-use Rattle.eap_base.specs.Among.{psk_kind, gpsk_kind}
-use Rattle.eap_packet.specs.Fault.{code_of, type_of, packet_of}
+use Rattle.eap_packet.specs.Fault.{type_of, packet_of}
 use Rattle.eap_packet.specs.Expanded.{is_wrapped}
-use Rattle.eap_packet.specs.Packet.{request, response, spelled}
+use Rattle.eap_packet.specs.Packet.{request, spelled}
 use Rattle.eap_packet.specs.declared.packet.Code.TheVariants.{Request}
-use Rattle.eap_packet.specs.declared.cause.Cause.{Cause}
 use Rattle.eap_packet.specs.declared.state.State.{State}
 use Rattle.eap_method.specs.Tags.{Tags}
 use Rattle.eap_method.specs.declared.values.Decision.{Decision}
 use Rattle.eap_method.specs.declared.values.MethodState.{MethodState}
-use Rattle.eap_method.specs.GpskPeer as gpsk
-use Rattle.eap_method.specs.PskPeer as psk
 use Rattle.eap_method.specs.Peer.{PeerViews, peer_turn}
 use Rattle.eap_method.specs.Plain.{plain_octets}
 use Rattle.eap_method.specs.Steps.{is_end}
-use Rattle.eap_method.specs.PeerTurn.{PeerTurn, Discard, Reply}
+use Rattle.eap_method.specs.PeerTurn.{Reply}
 use Rattle.eap_method.specs.Turns.{PeerOutcome}
-use Rattle.method_laws.specs.GpskPeerRows as gpsk_row
-use Rattle.method_laws.specs.PskPeerRows as psk_row
-use Rattle.method_laws.proofs.GpskPeerCases.{gpsk_peer_steps_are_rows}
-use Rattle.method_laws.proofs.PskPeerCases.{psk_peer_steps_are_rows}
 use Rattle.peer_machine.specs.Expanded.{express, expanded_answer, expanded_nak_response}
 use Rattle.peer_machine.specs.Inputs.{PeerInput, octets, restart, peer_answers, peer_takes}
 use Rattle.peer_machine.specs.PeerTable.{PeerNow, PeerAnswer, before_method, is_last_id, peer_restart}
@@ -32,6 +24,8 @@ use Rattle.peer_machine.proofs.Hearing.{PeerHearing, as_it_is, bad, again, expre
 use Rattle.peer_machine.proofs.Identifiers.{plain_second_is_id, second_is_id}
 use Rattle.peer_machine.proofs.PeerRows.{peer_answers_are_rows}
 use Rattle.world_laws.specs.SingleSteps.{identifier_of, is_again}
+use Rattle.world_laws.proofs.PeerByMethod.{turn_answers, turn_of}
+use Rattle.world_laws.proofs.PeerTurns.{IsResponse, response_is}
 use Rattle.world_laws.proofs.Taking.{peer_taken}
 
 -- ---- the Identifier of a packet
@@ -43,59 +37,18 @@ last_is : (held : Option ℕ) (id : ℕ) → is_last_id held id ≡ true → hel
 last_is None id e = cc e
 last_is (Some last) id e = ap (λ (n : ℕ). Some n) (eqb-true last id e)
 
--- ---- a Response with an Identifier
-
-pub record IsResponse (id : ℕ) (packet : List ℕ) : Type 0 where
-  pub code : code_of packet ≡ 2
-  pub same : identifier_of packet ≡ id
-
-response_is : (id kind : ℕ) (body : List ℕ) → IsResponse id (spelled (response id kind body))
-unfolding spelled
-response_is id kind body = record { code = refl; same = refl }
+-- ---- the method's Response
 
 request_id : (id kind : ℕ) (body : List ℕ) → identifier_of (spelled (request id kind body)) ≡ id
 unfolding spelled
 request_id id kind body = refl
 
--- each Response of a turn has the Identifier of the Request
-record Answers (id : ℕ) (turn : PeerTurn) : Type 0 where
-  pub each : (packet : List ℕ) (m : MethodState) (d : Decision) (tags : Tags) → turn ≡ Reply packet m d tags → IsResponse id packet
-
-discards_none : (id : ℕ) (c : Cause) → Answers id (Discard c)
-discards_none id c = record { each = λ packet m d tags e. cc e }
-
-replies_one : (id kind : ℕ) (body : List ℕ) (m : MethodState) (d : Decision) (tags : Tags) → Answers id (Reply (spelled (response id kind body)) m d tags)
-replies_one id kind body m d tags = record {
-  each = λ packet m' d' tags' e.
-      let same : spelled (response id kind body) ≡ packet = cc in subst (IsResponse id) same (response_is id kind body);
-}
-
-psk_answers : (view : psk.View) (bytes : List ℕ) (out : PeerOutcome psk.View) → psk_row.PskPeerRow view bytes out → Answers (identifier_of bytes) out.turn
-psk_answers view bytes _ (psk_row.drops c) = discards_none _ c
-psk_answers view bytes _ (psk_row.answers _ _ _ _ _ _ _) = replies_one _ _ _ _ _ _
-psk_answers view bytes _ (psk_row.confirms_success _ _ _ _ _ _ _ _ _ _ _ _ _ _ _ _) = replies_one _ _ _ _ _ _
-psk_answers view bytes _ (psk_row.confirms_failure _ _ _ _ _ _ _ _ _ _ _ _ _ _ _ _ _ _) = replies_one _ _ _ _ _ _
-
-gpsk_answers : (view : gpsk.View) (bytes : List ℕ) (out : PeerOutcome gpsk.View) → gpsk_row.GpskPeerRow view bytes out → Answers (identifier_of bytes) out.turn
-gpsk_answers view bytes _ (gpsk_row.drops c) = discards_none _ c
-gpsk_answers view bytes _ (gpsk_row.answers _ _ _ _ _ _ _ _ _ _) = replies_one _ _ _ _ _ _
-gpsk_answers view bytes _ (gpsk_row.confirms _ _ _ _ _ _ _ _ _ _ _ _ _ _ _ _) = replies_one _ _ _ _ _ _
-gpsk_answers view bytes _ (gpsk_row.repeats_fail _ _ _ _) = replies_one _ _ _ _ _ _
-gpsk_answers view bytes _ (gpsk_row.repeats_protected _ _ _ _ _ _ _) = replies_one _ _ _ _ _ _
-
-turn_answers : (kind : ℕ) (views : PeerViews) (bytes : List ℕ) → Answers (identifier_of bytes) (peer_turn kind views bytes).turn
-unfolding peer_turn
-turn_answers kind views bytes =
-    let Fits : PeerOutcome PeerViews → Type 0 = λ out. Answers (identifier_of bytes) out.turn in
-    cond_both (kind == psk_kind) _ _ Fits (λ _. psk_answers views.psk bytes _ (psk_peer_steps_are_rows views.psk bytes))
-    (λ _. cond_both (kind == gpsk_kind) _ _ Fits (λ _. gpsk_answers views.gpsk bytes _ (gpsk_peer_steps_are_rows views.gpsk bytes))
-    (λ _. discards_none _ _))
-
 method_answers : (id kind : ℕ) (body packet : List ℕ) (m : MethodState) (d : Decision) (tags : Tags) (views after : PeerViews)
     → peer_turn kind views (spelled (request id kind body)) ≡ record { turn = Reply packet m d tags; after = after } → IsResponse id packet
 method_answers id kind body packet m d tags views after turned =
     subst (λ (n : ℕ). IsResponse n packet) (request_id id kind body)
-    ((turn_answers kind views (spelled (request id kind body))).each packet m d tags (ap (λ (out : PeerOutcome PeerViews). out.turn) turned))
+    ((turn_answers kind views (spelled (request id kind body)) _ (turn_of kind views (spelled (request id kind body)))).each packet m d tags
+    (ap (λ (out : PeerOutcome PeerViews). out.turn) turned))
 
 -- ---- the rows
 

@@ -15,11 +15,11 @@ use Rattle.eap_method.specs.Server.{server_report_of, psk_report}
 use Rattle.peer_machine.specs.PeerTable.{PeerNow, selected_report, peer_reports}
 use Rattle.server_machine.specs.ServerTable.{ServerNow, current_report, server_reports}
 use Rattle.eap_world.specs.Judgement.{agreement_of, peer_agrees, server_agrees, is_welcome}
+use Rattle.world_laws.specs.PskPeerStands as psk_peer_stands
+use Rattle.world_laws.specs.PskPeerStands.{PskBegun}
+use Rattle.world_laws.specs.PskServerStands as psk_server_stands
+use Rattle.world_laws.specs.PskServerStands.{PskChecked}
 use Rattle.world_laws.specs.Records.{IsIn}
-use Rattle.world_laws.specs.PeerStands.{PskBegun}
-use Rattle.world_laws.specs.PeerStands as peer_stands
-use Rattle.world_laws.specs.ServerStands.{PskChecked}
-use Rattle.world_laws.specs.ServerStands as server_stands
 use Rattle.world_laws.proofs.Fields.{ends}
 use Rattle.world_laws.proofs.PskFields.{front_size}
 use Rattle.world_laws.proofs.Among.{among_two}
@@ -61,7 +61,7 @@ covers_more id_p id_s rand_s rand_p size e =
 
 -- the MAC_S that the peer accepted is none of the tags that it made itself
 pub peer_not_own : (setup : PeerSetup) (p : peer.Login) → PskBegun setup p → (id : ℕ)
-    → IsIn (ak_record p.cred.psk (peer.mac_s_covers p) (peer.mac_s_of p)) (peer_stands.psk2_record p ∷ peer.psk4_record p id 2) → ⊥
+    → IsIn (ak_record p.cred.psk (peer.mac_s_covers p) (peer.mac_s_of p)) (psk_peer_stands.psk2_record p ∷ peer.psk4_record p id 2) → ⊥
 unfolding peer.mac_p_covers peer.mac_s_covers
 peer_not_own setup p begun id is_in =
     elim (among_two _ _ _ is_in) [
@@ -72,7 +72,7 @@ peer_not_own setup p begun id is_in =
 
 -- the MAC_P that the server accepted is none of the tags that it made itself
 pub server_not_own : (setup : ServerSetup) (s : server.Login) → PskChecked setup s → length setup.nonce ≡ 32 → (id : ℕ)
-    → IsIn (server_stands.psk2_record s) (server.psk3_records s id) → ⊥
+    → IsIn (psk_server_stands.psk2_record s) (server.psk3_records s id) → ⊥
 unfolding server.mac_p_covers server.mac_s_covers
 server_not_own setup s checked nonce id is_in =
     elim (among_two _ _ _ is_in) [
@@ -112,7 +112,7 @@ module _ (peer_setup : PeerSetup) (server_setup : ServerSetup) (p : peer.Login) 
   -- the MAC_P that the server accepted is one that the peer made, the MAC_S that the peer accepted one
   -- that the server made
   pub same_login : (peer_id server_id : ℕ)
-      → IsIn (server_stands.psk2_record s) (peer_stands.psk2_record p ∷ peer.psk4_record p peer_id 2)
+      → IsIn (psk_server_stands.psk2_record s) (psk_peer_stands.psk2_record p ∷ peer.psk4_record p peer_id 2)
       → IsIn (ak_record p.cred.psk (peer.mac_s_covers p) (peer.mac_s_of p)) (server.psk3_records s server_id) → IsSame p s
   same_login peer_id server_id first second =
       elim (among_two _ _ _ first) [

@@ -11,17 +11,20 @@ use Rattle.eap_method.specs.PskTags.{ak_record, rand_of, tek_record}
 use Rattle.peer_machine.specs.PeerTable as peers
 use Rattle.server_machine.specs.ServerTable as servers
 use Rattle.eap_world.specs.Conversations.{front}
-use Rattle.world_laws.specs.Foreign.{peer_foreign, psk_rand_s}
-use Rattle.world_laws.specs.PeerStands.{PskPeerTags, psk_unset, psk_fresh, psk_waits, PeerTags, none_selected, psk_selected, gpsk_selected}
-use Rattle.world_laws.specs.PeerStands as peer_stands
+use Rattle.world_laws.specs.ByMethod.{peer_foreign, PeerTags, none_selected, psk_selected, gpsk_selected}
+use Rattle.world_laws.specs.PskPeerStands as psk_peer_stands
+use Rattle.world_laws.specs.PskPeerStands.{psk_rand_s, PskPeerTags, psk_unset, psk_fresh, psk_waits}
+use Rattle.world_laws.specs.PskServerStands.{PskServerTags, psk_over}
 use Rattle.world_laws.specs.Records.{IsIn, here, later}
-use Rattle.world_laws.specs.ServerStands.{PskServerTags, psk_over}
 use Rattle.world_laws.specs.ToldTags.{MadeByServer}
 use Rattle.world_laws.proofs.Among.{among_one, among_two}
-use Rattle.world_laws.proofs.PeerTells.{gpsk_method, kinds_apart, labels_apart}
+use Rattle.world_laws.proofs.Asks.{AsksServer}
+use Rattle.world_laws.proofs.GpskPeerTurns.{gpsk_method}
+use Rattle.world_laws.proofs.PeerByMethod.{kinds_apart}
 use Rattle.world_laws.proofs.PskFields.{front_size}
 use Rattle.world_laws.proofs.PskHeaders.{header_made, same_header}
-use Rattle.world_laws.proofs.ServerTells.{AsksServer, mac_s_made}
+use Rattle.world_laws.proofs.PskPeerTells.{labels_apart}
+use Rattle.world_laws.proofs.PskServerTells.{mac_s_made}
 
 -- a conversation of the server with this nonce has accepted a PSK-4, whose header ends in its RAND_S
 pub record HasPsk4 (nonce : List ℕ) (accepted : List TagRecord) : Type 0 where
@@ -59,7 +62,7 @@ module _ (psk header : List ℕ) (sealed : ℕ) (tag rand_s : List ℕ) (rand_in
   view_asked _ _ _ psk_unset is = elim is [ ]
   view_asked _ _ _ (psk_fresh allowed) is = elim is [ ]
   view_asked _ _ _ (psk_waits login facts) is = labels_apart (sym (ap (λ (r : TagRecord). r.label) (among_one _ _ is)))
-  view_asked _ _ _ (peer_stands.psk_over login good their_header their_sealed id facts) is =
+  view_asked _ _ _ (psk_peer_stands.psk_over login good their_header their_sealed id facts) is =
       elim (among_two _ _ _ is) [
         | inl e ↦ labels_apart (sym (ap (λ (r : TagRecord). r.label) e))
         | inr e ↦

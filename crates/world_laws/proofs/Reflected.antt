@@ -14,9 +14,11 @@ use Rattle.eap_world.specs.Run.{run_of}
 use Rattle.tag_book.specs.Book.{first_broken, tags_verdict_either}
 use Rattle.eap_world.specs.Conversations.{front}
 use Rattle.eap_world.specs.Judgement.{is_success}
-use Rattle.world_laws.specs.PeerStands.{PskPeerTags, psk_unset, psk_fresh, psk_waits, psk_over, PeerTags, none_selected, psk_selected, gpsk_selected, PskBegun, psk2_record}
+use Rattle.world_laws.specs.Agreement.{AgreeAnew}
+use Rattle.world_laws.specs.ByMethod.{PeerTags, none_selected, psk_selected, gpsk_selected}
+use Rattle.world_laws.specs.PskPeerStands.{PskPeerTags, psk_unset, psk_fresh, psk_waits, psk_over, PskBegun, psk2_record}
+use Rattle.world_laws.specs.PskReflected.{ReflectedEndsAgree}
 use Rattle.world_laws.specs.Records.{IsIn, tags_by}
-use Rattle.world_laws.specs.Reflected.{AgreeAnew, ReflectedEndsAgree}
 use Rattle.world_laws.specs.ToldTags.{MadeByServer, NotByServer, PeerTold, ServerTold}
 use Rattle.eap_world.specs.World.{WorldNow}
 use Rattle.tag_book.specs.declared.book.End.TheVariants as end
@@ -24,16 +26,19 @@ use Rattle.tag_book.specs.declared.book.Makers.TheVariants.{Either}
 use Rattle.tag_book.specs.declared.book.TagsVerdict.TheVariants.{Honest}
 use Rattle.tag_book.specs.declared.book.Use.TheVariants.{Accepted, Made}
 use Rattle.world_laws.proofs.Among.{among_one, among_two}
+use Rattle.world_laws.proofs.Asks.{AsksServer}
 use Rattle.world_laws.proofs.Conversing.{BothConverse, run_converses}
 use Rattle.world_laws.proofs.Fields.{ends}
 use Rattle.world_laws.proofs.FreshAgree.{agree_anew, peer_won}
+use Rattle.world_laws.proofs.GpskPeerTurns.{gpsk_method}
 use Rattle.world_laws.proofs.HonestOfEither.{none_if_honest}
 use Rattle.world_laws.proofs.OneLogin.{first_is_in}
 use Rattle.world_laws.proofs.PastConversations.{accepted_now, where_made}
-use Rattle.world_laws.proofs.PeerTells.{gpsk_method, kinds_apart, labels_apart}
+use Rattle.world_laws.proofs.PeerByMethod.{kinds_apart}
 use Rattle.world_laws.proofs.PskAgrees as psk_agrees
 use Rattle.world_laws.proofs.PskFields.{front_size}
-use Rattle.world_laws.proofs.ServerTells.{AsksServer, mac_s_made}
+use Rattle.world_laws.proofs.PskPeerTells.{labels_apart}
+use Rattle.world_laws.proofs.PskServerTells.{mac_s_made}
 use Rattle.world_laws.proofs.SucceedingEnds.{PeerSucceeds, with_psk, with_gpsk}
 use Rattle.world_laws.proofs.TagsOfEnds.{honest_tags}
 

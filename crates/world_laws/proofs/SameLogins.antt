@@ -19,21 +19,30 @@ use Rattle.eap_method.specs.Server.{ServerViews, side_of}
 use Rattle.peer_machine.specs.PeerTable.{PeerNow, peer_reports}
 use Rattle.server_machine.specs.ServerTable.{ServerNow, server_reports}
 use Rattle.world_laws.specs.Alone.{SameKeys}
-use Rattle.world_laws.specs.Logins.{peer_login, psk_peer_login, gpsk_peer_login, server_login, psk_server_login, gpsk_server_login}
-use Rattle.world_laws.specs.PeerStands as peer_stands
-use Rattle.world_laws.specs.PeerStands.{PeerTags, PskPeerTags, GpskPeerTags, PskBegun, GpskBegun, gpsk2_record, gpsk3_taken}
+use Rattle.world_laws.specs.ByMethod as by_method
+use Rattle.world_laws.specs.ByMethod.{peer_login, server_login, PeerTags, ServerTags}
+use Rattle.world_laws.specs.GpskPeerStands as gpsk_peer_stands
+use Rattle.world_laws.specs.GpskPeerStands.{gpsk_peer_login, GpskPeerTags, GpskBegun, gpsk2_record, gpsk3_taken}
+use Rattle.world_laws.specs.GpskServerStands as gpsk_server_stands
+use Rattle.world_laws.specs.GpskServerStands.{gpsk_server_login, GpskServerTags, GpskChecked, gpsk2_taken}
+use Rattle.world_laws.specs.PskPeerStands as psk_peer_stands
+use Rattle.world_laws.specs.PskPeerStands.{psk_peer_login, PskPeerTags, PskBegun}
+use Rattle.world_laws.specs.PskServerStands as psk_server_stands
+use Rattle.world_laws.specs.PskServerStands.{psk_server_login, PskServerTags, PskChecked}
 use Rattle.world_laws.specs.Records.{IsIn, here, later}
-use Rattle.world_laws.specs.ServerStands as server_stands
-use Rattle.world_laws.specs.ServerStands.{ServerTags, PskServerTags, GpskServerTags, PskChecked, GpskChecked, gpsk2_taken}
 use Rattle.world_laws.proofs.Among.{among_one, among_two}
 use Rattle.world_laws.proofs.Fields.{ends}
 use Rattle.world_laws.proofs.GpskAgrees as gpsk
-use Rattle.world_laws.proofs.PeerTells as peer_tells
-use Rattle.world_laws.proofs.PeerTells.{kinds_apart, labels_apart, not_fail, not_gpsk4}
+use Rattle.world_laws.proofs.GpskPeerTells.{not_fail, not_gpsk4}
+use Rattle.world_laws.proofs.GpskPeerTurns as gpsk_peer_turns
+use Rattle.world_laws.proofs.GpskServerTells.{not_bars}
+use Rattle.world_laws.proofs.GpskServerTurns as gpsk_server_turns
+use Rattle.world_laws.proofs.PeerByMethod.{kinds_apart}
 use Rattle.world_laws.proofs.PskAgrees as psk
 use Rattle.world_laws.proofs.PskFields.{front_size}
-use Rattle.world_laws.proofs.ServerTells as server_tells
-use Rattle.world_laws.proofs.ServerTells.{not_bars}
+use Rattle.world_laws.proofs.PskPeerTells.{labels_apart}
+use Rattle.world_laws.proofs.PskPeerTurns as psk_peer_turns
+use Rattle.world_laws.proofs.PskServerTurns as psk_server_turns
 use Rattle.world_laws.proofs.Theirs.{own_key, own_name}
 use Rattle.world_laws.proofs.SucceedingEnds.{FirstIn, PeerSucceeds, ServerSucceeds, with_psk, with_gpsk, of_psk, of_gpsk}
 
@@ -58,13 +67,13 @@ module _ (peer_setup : PeerSetup) (server_setup : ServerSetup) (peer_nonce : len
     mac_s = ak_record login.cred.psk (psk_peer.mac_s_covers login) (psk_peer.mac_s_of login)
 
     abbrev psk_made : List TagRecord
-    psk_made = peer_stands.psk2_record login ∷ psk_peer.psk4_record login id 2
+    psk_made = psk_peer_stands.psk2_record login ∷ psk_peer.psk4_record login id 2
 
     abbrev PskLogin : Option Report → Type 0
     PskLogin o = LoginOf server_setup o (psk_peer.report_of login) login.cred.psk
 
     psk_checked : (other : psk_server.Login) (other_id : ℕ) → PskChecked server_setup other → IsIn mac_s (psk_server.psk3_records other other_id)
-        → IsIn (server_stands.psk2_record other) psk_made → PskLogin (Some (psk_server.report_of other))
+        → IsIn (psk_server_stands.psk2_record other) psk_made → PskLogin (Some (psk_server.report_of other))
     unfolding psk_peer.report_of side_of
     psk_checked other other_id checked is first =
         let same = psk.same_login peer_setup server_setup login facts other checked peer_nonce server_nonce id other_id first is in
@@ -78,21 +87,21 @@ module _ (peer_setup : PeerSetup) (server_setup : ServerSetup) (peer_nonce : len
 
     psk_view : (view : psk_server.View) (accepted made : List TagRecord) → PskServerTags server_setup view accepted made → IsIn mac_s made
         → FirstIn accepted psk_made → PskLogin (psk_server_login (Some view))
-    psk_view _ _ _ (server_stands.psk_asked ordered) is first = elim is [ ]
-    psk_view _ _ _ (server_stands.psk_checked other other_id checked) is first = psk_checked other other_id checked is (first.is _ _ refl)
-    psk_view _ _ _ server_stands.psk_refused is first = elim is [ ]
-    psk_view _ _ _ (server_stands.psk_over other good header sealed other_id checked r_sent rand_in) is first =
+    psk_view _ _ _ (psk_server_stands.psk_asked ordered) is first = elim is [ ]
+    psk_view _ _ _ (psk_server_stands.psk_checked other other_id checked) is first = psk_checked other other_id checked is (first.is _ _ refl)
+    psk_view _ _ _ psk_server_stands.psk_refused is first = elim is [ ]
+    psk_view _ _ _ (psk_server_stands.psk_over other good header sealed other_id checked r_sent rand_in) is first =
         psk_checked other other_id checked is (first.is _ _ refl)
 
     psk_tags : (current : Option ℕ) (views : ServerViews) (accepted made : List TagRecord) → ServerTags server_setup current views accepted made
         → IsIn mac_s made → FirstIn accepted psk_made → PskLogin (server_login current views)
-    psk_tags current views _ _ (server_stands.none_current none) is first = elim is [ ]
-    psk_tags current views _ _ (server_stands.identity_current is_current) is first = elim is [ ]
-    psk_tags current views _ _ (server_stands.psk_current view accepted made is_current in_view told) is first =
+    psk_tags current views _ _ (by_method.none_current none) is first = elim is [ ]
+    psk_tags current views _ _ (by_method.identity_current is_current) is first = elim is [ ]
+    psk_tags current views _ _ (by_method.psk_current view accepted made is_current in_view told) is first =
         login_too server_setup _ _ _ _ (ap (λ (o : Option ℕ). server_login o views) is_current ∙ ap psk_server_login in_view)
         (psk_view view accepted made told is first)
-    psk_tags current views _ _ (server_stands.gpsk_current view accepted made is_current in_view told) is first =
-        kinds_apart psk_kind refl (server_tells.gpsk_method server_setup view accepted made mac_s told is)
+    psk_tags current views _ _ (by_method.gpsk_current view accepted made is_current in_view told) is first =
+        kinds_apart psk_kind refl (gpsk_server_turns.gpsk_method server_setup view accepted made mac_s told is)
 
   -- by EAP-GPSK
   module _ (login : gpsk_peer.Login) (list pd : List ℕ) (facts : GpskBegun peer_setup login list) where
@@ -123,21 +132,21 @@ module _ (peer_setup : PeerSetup) (server_setup : ServerSetup) (peer_nonce : len
 
     gpsk_view : (view : gpsk_server.View) (accepted made : List TagRecord) → GpskServerTags server_setup view accepted made → IsIn gpsk3 made
         → FirstIn accepted gpsk_made → GpskLogin (gpsk_server_login (Some view))
-    gpsk_view _ _ _ (server_stands.gpsk_asked ordered) is first = elim is [ ]
-    gpsk_view _ _ _ server_stands.gpsk_refusing is first = elim is [ ]
-    gpsk_view _ _ _ server_stands.gpsk_refused is first = elim is [ ]
-    gpsk_view _ _ _ (server_stands.gpsk_barring other their_pd checked) is first = no_bars other is
-    gpsk_view _ _ _ (server_stands.gpsk_checked other their_pd checked) is first = gpsk_checked other their_pd checked (first.is _ _ refl)
-    gpsk_view _ _ _ (server_stands.gpsk_barred other their_pd checked) is first = no_bars other is
-    gpsk_view _ _ _ (server_stands.gpsk_confirmed other their_pd last_pd checked) is first = gpsk_checked other their_pd checked (first.is _ _ refl)
+    gpsk_view _ _ _ (gpsk_server_stands.gpsk_asked ordered) is first = elim is [ ]
+    gpsk_view _ _ _ gpsk_server_stands.gpsk_refusing is first = elim is [ ]
+    gpsk_view _ _ _ gpsk_server_stands.gpsk_refused is first = elim is [ ]
+    gpsk_view _ _ _ (gpsk_server_stands.gpsk_barring other their_pd checked) is first = no_bars other is
+    gpsk_view _ _ _ (gpsk_server_stands.gpsk_checked other their_pd checked) is first = gpsk_checked other their_pd checked (first.is _ _ refl)
+    gpsk_view _ _ _ (gpsk_server_stands.gpsk_barred other their_pd checked) is first = no_bars other is
+    gpsk_view _ _ _ (gpsk_server_stands.gpsk_confirmed other their_pd last_pd checked) is first = gpsk_checked other their_pd checked (first.is _ _ refl)
 
     gpsk_tags : (current : Option ℕ) (views : ServerViews) (accepted made : List TagRecord) → ServerTags server_setup current views accepted made
         → IsIn gpsk3 made → FirstIn accepted gpsk_made → GpskLogin (server_login current views)
-    gpsk_tags current views _ _ (server_stands.none_current none) is first = elim is [ ]
-    gpsk_tags current views _ _ (server_stands.identity_current is_current) is first = elim is [ ]
-    gpsk_tags current views _ _ (server_stands.psk_current view accepted made is_current in_view told) is first =
-        kinds_apart gpsk_kind (server_tells.psk_method server_setup view accepted made gpsk3 told is) refl
-    gpsk_tags current views _ _ (server_stands.gpsk_current view accepted made is_current in_view told) is first =
+    gpsk_tags current views _ _ (by_method.none_current none) is first = elim is [ ]
+    gpsk_tags current views _ _ (by_method.identity_current is_current) is first = elim is [ ]
+    gpsk_tags current views _ _ (by_method.psk_current view accepted made is_current in_view told) is first =
+        kinds_apart gpsk_kind (psk_server_turns.psk_method server_setup view accepted made gpsk3 told is) refl
+    gpsk_tags current views _ _ (by_method.gpsk_current view accepted made is_current in_view told) is first =
         login_too server_setup _ _ _ _ (ap (λ (o : Option ℕ). server_login o views) is_current ∙ ap gpsk_server_login in_view)
         (gpsk_view view accepted made told is first)
 
@@ -234,9 +243,9 @@ module _ (peer_setup : PeerSetup) (server_setup : ServerSetup) (peer_nonce : len
   -- by EAP-PSK
   module _ (login : psk_server.Login) (checked : PskChecked server_setup login) where
     abbrev mac_p : TagRecord
-    mac_p = server_stands.psk2_record login
+    mac_p = psk_server_stands.psk2_record login
 
-    by_psk2 : (other : psk_peer.Login) → PskBegun peer_setup other → mac_p ≡ peer_stands.psk2_record other
+    by_psk2 : (other : psk_peer.Login) → PskBegun peer_setup other → mac_p ≡ psk_peer_stands.psk2_record other
         → LeadsTo peer_setup (Some (psk_peer.report_of other)) (psk_server.report_of login) login.psk
     unfolding psk_peer.report_of psk_server.report_of
     by_psk2 other facts e = record {
@@ -252,19 +261,19 @@ module _ (peer_setup : PeerSetup) (server_setup : ServerSetup) (peer_nonce : len
 
     psk_of_view : (view : psk_peer.View) (accepted made : List TagRecord) → PskPeerTags peer_setup view accepted made → IsIn mac_p made
         → LeadsTo peer_setup (psk_peer_login view) (psk_server.report_of login) login.psk
-    psk_of_view _ _ _ peer_stands.psk_unset is = elim is [ ]
-    psk_of_view _ _ _ (peer_stands.psk_fresh allowed) is = elim is [ ]
-    psk_of_view _ _ _ (peer_stands.psk_waits other facts) is = by_psk2 other facts (among_one _ _ is)
-    psk_of_view _ _ _ (peer_stands.psk_over other good header sealed id facts) is =
+    psk_of_view _ _ _ psk_peer_stands.psk_unset is = elim is [ ]
+    psk_of_view _ _ _ (psk_peer_stands.psk_fresh allowed) is = elim is [ ]
+    psk_of_view _ _ _ (psk_peer_stands.psk_waits other facts) is = by_psk2 other facts (among_one _ _ is)
+    psk_of_view _ _ _ (psk_peer_stands.psk_over other good header sealed id facts) is =
         elim (among_two _ _ _ is) [ inl e ↦ by_psk2 other facts e | inr e ↦ labels_apart (ap (λ (r : TagRecord). r.label) e) ]
 
     psk_of_tags : (selected : Option ℕ) (views : PeerViews) (accepted made : List TagRecord) → PeerTags peer_setup selected views accepted made
         → IsIn mac_p made → LeadsTo peer_setup (peer_login selected views) (psk_server.report_of login) login.psk
-    psk_of_tags selected views _ _ (peer_stands.none_selected unselected psk_told gpsk_told) is = elim is [ ]
-    psk_of_tags selected views _ _ (peer_stands.psk_selected accepted made is_selected told) is =
+    psk_of_tags selected views _ _ (by_method.none_selected unselected psk_told gpsk_told) is = elim is [ ]
+    psk_of_tags selected views _ _ (by_method.psk_selected accepted made is_selected told) is =
         leads_too peer_setup _ _ _ _ (ap (λ (o : Option ℕ). peer_login o views) is_selected) (psk_of_view views.psk accepted made told is)
-    psk_of_tags selected views _ _ (peer_stands.gpsk_selected accepted made is_selected told) is =
-        kinds_apart psk_kind refl (peer_tells.gpsk_method peer_setup views.gpsk accepted made mac_p told is)
+    psk_of_tags selected views _ _ (by_method.gpsk_selected accepted made is_selected told) is =
+        kinds_apart psk_kind refl (gpsk_peer_turns.gpsk_method peer_setup views.gpsk accepted made mac_p told is)
 
   -- by EAP-GPSK
   module _ (login : gpsk_server.Login) (pd : List ℕ) (checked : GpskChecked server_setup login false) where
@@ -287,16 +296,16 @@ module _ (peer_setup : PeerSetup) (server_setup : ServerSetup) (peer_nonce : len
 
     gpsk_of_view : (view : gpsk_peer.View) (accepted made : List TagRecord) → GpskPeerTags peer_setup view accepted made → IsIn gpsk2 made
         → LeadsTo peer_setup (gpsk_peer_login view) (gpsk_server.report_of login) login.psk
-    gpsk_of_view _ _ _ peer_stands.gpsk_unset is = elim is [ ]
-    gpsk_of_view _ _ _ (peer_stands.gpsk_fresh allowed) is = elim is [ ]
-    gpsk_of_view _ _ _ (peer_stands.gpsk_waits other list facts) is = by_gpsk2 other list facts (among_one _ _ is)
-    gpsk_of_view _ _ _ (peer_stands.gpsk_confirmed other list _ facts) is =
+    gpsk_of_view _ _ _ gpsk_peer_stands.gpsk_unset is = elim is [ ]
+    gpsk_of_view _ _ _ (gpsk_peer_stands.gpsk_fresh allowed) is = elim is [ ]
+    gpsk_of_view _ _ _ (gpsk_peer_stands.gpsk_waits other list facts) is = by_gpsk2 other list facts (among_one _ _ is)
+    gpsk_of_view _ _ _ (gpsk_peer_stands.gpsk_confirmed other list _ facts) is =
         elim (among_two _ _ _ is) [
           | inl e ↦ by_gpsk2 other list facts e
           | inr e ↦ absurd (not_gpsk4 login other pd checked.size (ap (λ (r : TagRecord). r.octets) e))
         ]
-    gpsk_of_view _ _ _ (peer_stands.gpsk_failed other list facts) is = by_gpsk2 other list facts (among_one _ _ is)
-    gpsk_of_view _ _ _ (peer_stands.gpsk_barred other list code facts) is =
+    gpsk_of_view _ _ _ (gpsk_peer_stands.gpsk_failed other list facts) is = by_gpsk2 other list facts (among_one _ _ is)
+    gpsk_of_view _ _ _ (gpsk_peer_stands.gpsk_barred other list code facts) is =
         elim (among_two _ _ _ is) [
           | inl e ↦ by_gpsk2 other list facts e
           | inr e ↦ absurd (not_fail login other pd code checked.size (ap (λ (r : TagRecord). r.octets) e))
@@ -304,10 +313,10 @@ module _ (peer_setup : PeerSetup) (server_setup : ServerSetup) (peer_nonce : len
 
     pub gpsk_of_tags : (selected : Option ℕ) (views : PeerViews) (accepted made : List TagRecord) → PeerTags peer_setup selected views accepted made
         → IsIn gpsk2 made → LeadsTo peer_setup (peer_login selected views) (gpsk_server.report_of login) login.psk
-    gpsk_of_tags selected views _ _ (peer_stands.none_selected unselected psk_told gpsk_told) is = elim is [ ]
-    gpsk_of_tags selected views _ _ (peer_stands.psk_selected accepted made is_selected told) is =
-        kinds_apart gpsk_kind (peer_tells.psk_method peer_setup views.psk accepted made gpsk2 told is) refl
-    gpsk_of_tags selected views _ _ (peer_stands.gpsk_selected accepted made is_selected told) is =
+    gpsk_of_tags selected views _ _ (by_method.none_selected unselected psk_told gpsk_told) is = elim is [ ]
+    gpsk_of_tags selected views _ _ (by_method.psk_selected accepted made is_selected told) is =
+        kinds_apart gpsk_kind (psk_peer_turns.psk_method peer_setup views.psk accepted made gpsk2 told is) refl
+    gpsk_of_tags selected views _ _ (by_method.gpsk_selected accepted made is_selected told) is =
         leads_too peer_setup _ _ _ _ (ap (λ (o : Option ℕ). peer_login o views) is_selected) (gpsk_of_view views.gpsk accepted made told is)
 
   -- what the server reports has the keys to which that conversation's login leads
@@ -360,7 +369,7 @@ module _ (peer_setup : PeerSetup) (server_setup : ServerSetup) (peer_nonce : len
     abbrev PskWhole : Option Report → Type 0
     PskWhole o = o ≡ Some (psk_server.report_of login)
 
-    pub psk_over : (other : psk_peer.Login) → PskBegun peer_setup other → server_stands.psk2_record login ≡ peer_stands.psk2_record other
+    pub psk_over : (other : psk_peer.Login) → PskBegun peer_setup other → psk_server_stands.psk2_record login ≡ psk_peer_stands.psk2_record other
         → IsIn (ak_record other.cred.psk (psk_peer.mac_s_covers other) (psk_peer.mac_s_of other)) (psk_server.psk3_records login id)
         → PskWhole (Some (psk_peer.report_of other))
     psk_over other facts e is =
@@ -373,25 +382,25 @@ module _ (peer_setup : PeerSetup) (server_setup : ServerSetup) (peer_nonce : len
         ]
 
     whole_view : (view : psk_peer.View) (accepted made : List TagRecord) → PskPeerTags peer_setup view accepted made
-        → IsIn (server_stands.psk2_record login) made → IsIn (server_stands.psk4_taken login header sealed) made
+        → IsIn (psk_server_stands.psk2_record login) made → IsIn (psk_server_stands.psk4_taken login header sealed) made
         → ((t : TagRecord) → IsIn t accepted → IsIn t (psk_server.psk3_records login id)) → PskWhole (psk_peer_login view)
-    whole_view _ _ _ peer_stands.psk_unset is last back = elim is [ ]
-    whole_view _ _ _ (peer_stands.psk_fresh allowed) is last back = elim is [ ]
-    whole_view _ _ _ (peer_stands.psk_waits other facts) is last back = labels_apart (sym (ap (λ (r : TagRecord). r.label) (among_one _ _ last)))
-    whole_view _ _ _ (peer_stands.psk_over other good their_header their_sealed their_id facts) is last back =
+    whole_view _ _ _ psk_peer_stands.psk_unset is last back = elim is [ ]
+    whole_view _ _ _ (psk_peer_stands.psk_fresh allowed) is last back = elim is [ ]
+    whole_view _ _ _ (psk_peer_stands.psk_waits other facts) is last back = labels_apart (sym (ap (λ (r : TagRecord). r.label) (among_one _ _ last)))
+    whole_view _ _ _ (psk_peer_stands.psk_over other good their_header their_sealed their_id facts) is last back =
         elim (among_two _ _ _ is) [
           | inl e ↦ psk_over other facts e (back _ (here _))
           | inr e ↦ labels_apart (ap (λ (r : TagRecord). r.label) e)
         ]
 
     whole_tags : (selected : Option ℕ) (views : PeerViews) (accepted made : List TagRecord) → PeerTags peer_setup selected views accepted made
-        → IsIn (server_stands.psk2_record login) made → IsIn (server_stands.psk4_taken login header sealed) made
+        → IsIn (psk_server_stands.psk2_record login) made → IsIn (psk_server_stands.psk4_taken login header sealed) made
         → ((t : TagRecord) → IsIn t accepted → IsIn t (psk_server.psk3_records login id)) → PskWhole (peer_login selected views)
-    whole_tags selected views _ _ (peer_stands.none_selected unselected psk_told gpsk_told) is last back = elim is [ ]
-    whole_tags selected views _ _ (peer_stands.psk_selected accepted made is_selected told) is last back =
+    whole_tags selected views _ _ (by_method.none_selected unselected psk_told gpsk_told) is last back = elim is [ ]
+    whole_tags selected views _ _ (by_method.psk_selected accepted made is_selected told) is last back =
         ap (λ (o : Option ℕ). peer_login o views) is_selected ∙ whole_view views.psk accepted made told is last back
-    whole_tags selected views _ _ (peer_stands.gpsk_selected accepted made is_selected told) is last back =
-        kinds_apart psk_kind refl (peer_tells.gpsk_method peer_setup views.gpsk accepted made (server_stands.psk2_record login) told is)
+    whole_tags selected views _ _ (by_method.gpsk_selected accepted made is_selected told) is last back =
+        kinds_apart psk_kind refl (gpsk_peer_turns.gpsk_method peer_setup views.gpsk accepted made (psk_server_stands.psk2_record login) told is)
 
   pub whole_gpsk : (login : gpsk_server.Login) (theirs : Option Report) → LeadsTo peer_setup theirs (gpsk_server.report_of login) login.psk
       → theirs ≡ Some (gpsk_server.report_of login)

@@ -9,16 +9,18 @@ use Rattle.eap_method.specs.Peer.{PeerViews}
 use Rattle.eap_method.specs.PskPeer as psk_peer
 use Rattle.eap_method.specs.PskServer as psk_server
 use Rattle.server_machine.specs.ServerTable.{ServerNow, server_reports}
-use Rattle.world_laws.specs.Logins.{peer_login, psk_peer_login}
+use Rattle.world_laws.specs.ByMethod.{peer_login, PeerTags, none_selected, psk_selected, gpsk_selected}
 use Rattle.world_laws.specs.Matching.{RestsOn}
-use Rattle.world_laws.specs.PeerStands.{PeerTags, none_selected, psk_selected, gpsk_selected, PskPeerTags, psk_unset, psk_fresh, psk_waits, psk_over}
+use Rattle.world_laws.specs.PskPeerStands.{psk_peer_login, PskPeerTags, psk_unset, psk_fresh, psk_waits, psk_over}
+use Rattle.world_laws.specs.PskServerStands as psk_server_stands
+use Rattle.world_laws.specs.PskServerStands.{PskChecked}
 use Rattle.world_laws.specs.Records.{IsIn}
-use Rattle.world_laws.specs.ServerStands as server_stands
-use Rattle.world_laws.specs.ServerStands.{PskChecked}
 use Rattle.world_laws.proofs.Among.{among_two}
 use Rattle.world_laws.proofs.GpskAgrees as gpsk
-use Rattle.world_laws.proofs.PeerTells.{gpsk_method, kinds_apart, labels_apart}
+use Rattle.world_laws.proofs.GpskPeerTurns.{gpsk_method}
+use Rattle.world_laws.proofs.PeerByMethod.{kinds_apart}
 use Rattle.world_laws.proofs.PskAgrees as psk
+use Rattle.world_laws.proofs.PskPeerTells.{labels_apart}
 use Rattle.world_laws.proofs.SameLogins as logins
 use Rattle.world_laws.proofs.SucceedingEnds.{ServerSucceeds, first_in, of_gpsk, of_psk}
 
@@ -28,7 +30,7 @@ no_tag tag more e = cc
 module _ (peer_setup : PeerSetup) (server_setup : ServerSetup) (peer_nonce : length peer_setup.nonce ≡ 32) (server_nonce : length server_setup.nonce ≡ 32) where
   module _ (login : psk_server.Login) (checked : PskChecked server_setup login) (header : List ℕ) (sealed id : ℕ) where
     view_leads : (view : psk_peer.View) (accepted made : List TagRecord) → PskPeerTags peer_setup view accepted made
-        → IsIn (server_stands.psk2_record login) made → RestsOn accepted (psk_server.psk3_records login id)
+        → IsIn (psk_server_stands.psk2_record login) made → RestsOn accepted (psk_server.psk3_records login id)
         → psk_peer_login view ≡ Some (psk_server.report_of login)
     view_leads _ _ _ psk_unset is back = elim is [ ]
     view_leads _ _ _ (psk_fresh allowed) is back = elim is [ ]
@@ -41,13 +43,13 @@ module _ (peer_setup : PeerSetup) (server_setup : ServerSetup) (peer_nonce : len
         ]
 
     tags_lead : (selected : Option ℕ) (views : PeerViews) (accepted made : List TagRecord) → PeerTags peer_setup selected views accepted made
-        → IsIn (server_stands.psk2_record login) made → RestsOn accepted (psk_server.psk3_records login id)
+        → IsIn (psk_server_stands.psk2_record login) made → RestsOn accepted (psk_server.psk3_records login id)
         → peer_login selected views ≡ Some (psk_server.report_of login)
     tags_lead selected views _ _ (none_selected unselected psk_told gpsk_told) is back = elim is [ ]
     tags_lead selected views _ _ (psk_selected accepted made is_selected told) is back =
         ap (λ (o : Option ℕ). peer_login o views) is_selected ∙ view_leads views.psk accepted made told is back
     tags_lead selected views _ _ (gpsk_selected accepted made is_selected told) is back =
-        kinds_apart psk_kind refl (gpsk_method peer_setup views.gpsk accepted made (server_stands.psk2_record login) told is)
+        kinds_apart psk_kind refl (gpsk_method peer_setup views.gpsk accepted made (psk_server_stands.psk2_record login) told is)
 
   pub same_report : (now : ServerNow) (accepted made : List TagRecord) → ServerSucceeds server_setup now accepted made
       → (selected : Option ℕ) (views : PeerViews) (their_accepted their_made : List TagRecord) → PeerTags peer_setup selected views their_accepted their_made

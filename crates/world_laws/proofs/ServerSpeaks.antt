@@ -1,28 +1,15 @@
 -- What the server sends: a Request with the next Identifier, the last one again, or its end.
-use Rattle.std.proofs.Common.{◌≡◌, ℕ, ◌+◌, List, ◌++◌, Bool, true, false, Option, Some, None, refl, sym, ap, subst, ◌∙◌}
+use Rattle.std.proofs.Common.{◌≡◌, ℕ, ◌+◌, List, ◌++◌, true, false, Option, Some, None, refl, sym, ap, subst, ◌∙◌}
 use Rattle.std.specs.Prelude.{◌==◌, ◌%◌, not}
 use Rattle.std.specs.List.{list_any}
 use Rattle.std.proofs.lemmas.Bool.{and_parts, cond_both, eqb-true, false≢true}
-use Rattle.eap_base.specs.Among.{psk_kind, gpsk_kind}
-use Rattle.login_setup.specs.declared.users.User.{User}
 use Rattle.eap_packet.specs.Fault.{code_of}
-use Rattle.eap_packet.specs.Packet.{request, success, failure, spelled}
-use Rattle.eap_packet.specs.declared.cause.Cause.{Cause}
+use Rattle.eap_packet.specs.Packet.{response, success, failure, spelled}
 use Rattle.eap_packet.specs.declared.state.State.{State}
 use Rattle.eap_packet.specs.declared.state.State.TheVariants as state
-use Rattle.eap_method.specs.Tags.{Tags}
-use Rattle.eap_method.specs.declared.values.ServerSide.{ServerSide}
-use Rattle.eap_method.specs.GpskServer as gpsk
-use Rattle.eap_method.specs.PskServer as psk
-use Rattle.eap_method.specs.Server.{Offer, ServerViews, server_offer, server_turn, psk_offer, gpsk_offer, psk_hears, gpsk_hears}
-use Rattle.eap_method.specs.ServerTurn.{ServerTurn}
-use Rattle.eap_method.specs.ServerTurn as turn
+use Rattle.eap_method.specs.Server.{Offer, ServerViews, side_of}
 use Rattle.eap_method.specs.Steps.{is_end}
 use Rattle.eap_method.specs.Turns.{ServerOutcome}
-use Rattle.method_laws.specs.GpskServerRows as gpsk_row
-use Rattle.method_laws.specs.PskServerRows as psk_row
-use Rattle.method_laws.proofs.GpskServerCases.{gpsk_server_steps_are_rows}
-use Rattle.method_laws.proofs.PskServerCases.{psk_server_steps_are_rows}
 use Rattle.server_machine.specs.Expanded.{response_octets, discards_bad, wraps, wraps_sent}
 use Rattle.server_machine.specs.Inputs.{ServerInput, start, timeout, octets, restart, server_answers, server_takes}
 use Rattle.server_machine.specs.Rows as rows
@@ -31,18 +18,12 @@ use Rattle.server_machine.specs.ServerTable.{ServerNow, ServerAnswer, is_started
 use Rattle.server_machine.specs.declared.variables.ServerVariables.{ServerVariables}
 use Rattle.server_machine.proofs.Hearing.{ServerHearing, as_it_is, bad, wrapping}
 use Rattle.server_machine.proofs.ServerRows.{server_answers_are_rows}
-use Rattle.world_laws.specs.SingleSteps.{identifier_of, is_again}
+use Rattle.world_laws.specs.SingleSteps.{is_again}
+use Rattle.world_laws.proofs.ServerByMethod.{offer_asks, offer_of, turn_asks, turn_of}
+use Rattle.world_laws.proofs.ServerTurns.{IsRequest, request_is}
 use Rattle.world_laws.proofs.Taking.{server_taken}
 
--- ---- a Request with an Identifier
-
-pub record IsRequest (id : ℕ) (packet : List ℕ) : Type 0 where
-  pub code : code_of packet ≡ 1
-  pub same : identifier_of packet ≡ id
-
-request_is : (id kind : ℕ) (body : List ℕ) → IsRequest id (spelled (request id kind body))
-unfolding spelled
-request_is id kind body = record { code = refl; same = refl }
+-- ---- a Success or a Failure
 
 pub record IsEnd (packet : List ℕ) : Type 0 where
   pub code : code_of packet ≡ 1 → ⊥
@@ -54,82 +35,6 @@ success_is id = record { code = λ e. cc e }
 failure_is : (id : ℕ) → IsEnd (spelled (failure id))
 unfolding spelled
 failure_is id = record { code = λ e. cc e }
-
--- each Request of a turn has the next Identifier
-record Asks (id : ℕ) (answered : ServerTurn) : Type 0 where
-  pub each : (packet : List ℕ) (tags : Tags) → answered ≡ turn.Request packet tags → IsRequest id packet
-
-asks_none : (id : ℕ) (c : Cause) → Asks id (turn.Discard c)
-asks_none id c = record { each = λ packet tags e. cc e }
-
-asks_no_more : (id : ℕ) (good : Bool) (tags : Tags) → Asks id (turn.Done good tags)
-asks_no_more id good tags = record { each = λ packet tags' e. cc e }
-
-asks_one : (id kind : ℕ) (body : List ℕ) (tags : Tags) → Asks id (turn.Request (spelled (request id kind body)) tags)
-asks_one id kind body tags = record {
-  each = λ packet tags' e. let same : spelled (request id kind body) ≡ packet = cc in subst (IsRequest id) same (request_is id kind body);
-}
-
-module _ (users : List User) (id : ℕ) (bytes : List ℕ) where
-  psk_asks : (view : psk.View) (out : ServerOutcome psk.View) → psk_row.PskServerRow users id view bytes out → Asks id out.turn
-  psk_asks view _ (psk_row.drops c) = asks_none id c
-  psk_asks view _ (psk_row.refuses _ _ _ _ _ _ _ _ _ _) = asks_no_more id _ _
-  psk_asks view _ (psk_row.answers _ _ _ _ _ _ _ _ _ _ _ _) = asks_one id _ _ _
-  psk_asks view _ (psk_row.ends_success _ _ _ _ _ _ _ _ _ _ _ _ _ _ _) = asks_no_more id _ _
-  psk_asks view _ (psk_row.ends_failure _ _ _ _ _ _ _ _ _ _ _ _ _ _ _) = asks_no_more id _ _
-
-  gpsk_asks : (view : gpsk.View) (out : ServerOutcome gpsk.View) → gpsk_row.GpskServerRow users id view bytes out → Asks id out.turn
-  gpsk_asks view _ (gpsk_row.drops c) = asks_none id c
-  gpsk_asks view _ (gpsk_row.refuses _ _ _ _ _ _ _ _ _ _ _ _ _ _ _ _ _ _) = asks_one id _ _ _
-  gpsk_asks view _ (gpsk_row.bars _ _ _ _ _ _ _ _ _ _ _ _ _ _ _ _ _ _ _ _ _ _) = asks_one id _ _ _
-  gpsk_asks view _ (gpsk_row.checks _ _ _ _ _ _ _ _ _ _ _ _ _ _ _ _ _ _ _ _ _ _) = asks_one id _ _ _
-  gpsk_asks view _ (gpsk_row.ends_refusing _ _ _ _ _ _) = asks_no_more id _ _
-  gpsk_asks view _ (gpsk_row.ends_barring _ _ _ _ _ _ _ _) = asks_no_more id _ _
-  gpsk_asks view _ (gpsk_row.ends_checked _ _ _ _ _ _ _) = asks_no_more id _ _
-
-  psk_has : (views : ServerViews) (view : Option psk.View) → Asks id (psk_hears users id views bytes view).turn
-  psk_has views None = asks_none id _
-  psk_has views (Some view) = psk_asks view _ (psk_server_steps_are_rows users id view bytes)
-
-  gpsk_has : (views : ServerViews) (view : Option gpsk.View) → Asks id (gpsk_hears users id views bytes view).turn
-  gpsk_has views None = asks_none id _
-  gpsk_has views (Some view) = gpsk_asks view _ (gpsk_server_steps_are_rows users id view bytes)
-
-  turn_asks : (kind : ℕ) (views : ServerViews) → Asks id (server_turn users id kind views bytes).turn
-  unfolding server_turn
-  turn_asks kind views =
-      let Fits : ServerOutcome ServerViews → Type 0 = λ out. Asks id out.turn in
-      cond_both (kind == psk_kind) _ _ Fits (λ _. psk_has views views.psk)
-      (λ _. cond_both (kind == gpsk_kind) _ _ Fits (λ _. gpsk_has views views.gpsk) (λ _. asks_none id _))
-
--- the offer of a method is a Request with its Identifier
-record Offers (id : ℕ) (first : Option (List ℕ)) : Type 0 where
-  pub each : (packet : List ℕ) → first ≡ Some packet → IsRequest id packet
-
-offers_none : (id : ℕ) → Offers id None
-offers_none id = record { each = λ packet e. cc e }
-
-offers_one : (id kind : ℕ) (body : List ℕ) → Offers id (Some (spelled (request id kind body)))
-offers_one id kind body = record {
-  each = λ packet e. let same : spelled (request id kind body) ≡ packet = cc in subst (IsRequest id) same (request_is id kind body);
-}
-
-module _ (own : ServerSide) (nonce : List ℕ) (id : ℕ) (views : ServerViews) where
-  psk_first : (view : Option psk.View) → Offers id (psk_offer own nonce id views view).packet
-  unfolding psk.first
-  psk_first None = offers_none id
-  psk_first (Some view) = offers_one id _ _
-
-  gpsk_first : (view : Option gpsk.View) → Offers id (gpsk_offer own nonce id views view).packet
-  unfolding gpsk.first
-  gpsk_first None = offers_none id
-  gpsk_first (Some view) = offers_one id _ _
-
-  offer_asks : (kind : ℕ) → Offers id (server_offer own nonce kind id views).packet
-  unfolding server_offer
-  offer_asks kind =
-      cond_both (kind == psk_kind) _ _ (λ (offer : Offer). Offers id offer.packet) (λ _. psk_first views.psk)
-      (λ _. cond_both (kind == gpsk_kind) _ _ (λ (offer : Offer). Offers id offer.packet) (λ _. gpsk_first views.gpsk) (λ _. offers_none id))
 
 -- ---- the rows
 
@@ -212,7 +117,9 @@ module _ (now : ServerNow) where
   row_speaks _ _ (rows.resends going in_time) = repeats refl going refl refl refl refl
   row_speaks _ _ (rows.times_out going late) = gives_up going refl refl
   row_speaks _ _ (rows.proposes bytes id kind body entered vars desired next packet views heard selects next_is) =
-      asks packet (next_id vars) ((offer_asks _ _ (next_id vars) now.views next).each packet (ap (λ (offer : Offer). offer.packet) next_is.is_offer))
+      asks packet (next_id vars)
+      (offer_asks (side_of vars.setup) vars.setup.nonce next (next_id vars) now.views _
+      (offer_of (side_of vars.setup) vars.setup.nonce next (next_id vars) now.views) packet (ap (λ (offer : Offer). offer.packet) next_is.is_offer))
       heard.going refl (selects_new id kind body entered vars desired _ selects refl) refl refl
       (λ alone _. selects_next id kind body entered vars desired selects alone)
   row_speaks _ _ (rows.proposes_without bytes id kind body entered vars desired next views heard selects next_is) =
@@ -221,7 +128,8 @@ module _ (now : ServerNow) where
       ends heard.going refl (selects_new id kind body entered vars desired _ selects refl) (one_end _ (failure_is id))
   row_speaks _ _ (rows.requests bytes id kind body packet tags views heard turned) =
       asks packet (next_id now.vars)
-      ((turn_asks now.vars.setup.users (next_id now.vars) _ kind now.views).each packet tags
+      ((turn_asks now.vars.setup.users (next_id now.vars) kind now.views _ _
+      (turn_of now.vars.setup.users (next_id now.vars) kind now.views (spelled (response id kind body)))).each packet tags
       (ap (λ (out : ServerOutcome ServerViews). out.turn) turned.is_turn))
       heard.going refl refl refl refl (λ _ _. follows_id id turned.is_id)
   row_speaks _ _ (rows.succeeds bytes id kind body tags views heard turned) = ends heard.going refl refl (one_end _ (success_is id))

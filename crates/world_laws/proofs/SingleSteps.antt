@@ -1,5 +1,5 @@
 -- Each step of a run is lawful.
-use Rattle.std.proofs.Common.{◌≡◌, ◌≤◌, ℕ, ◌+◌, List, [], ◌∷◌, ◌++◌, length, Bool, true, false, Option, Some, None, refl, sym, ap, subst, ◌∙◌, arith, append-nil}
+use Rattle.std.proofs.Common.{◌≡◌, ◌≤◌, ℕ, ◌+◌, List, [], ◌∷◌, ◌++◌, length, Bool, true, false, Option, Some, None, refl, sym, ap, subst, ◌∙◌, append-nil}
 use Rattle.std.specs.Prelude.{◌||◌, ◌%◌, not}
 use Rattle.std.specs.List.{list_any}
 use Rattle.std.proofs.lemmas.Bool.{false≢true, or_right}
@@ -11,21 +11,17 @@ use Rattle.login_setup.specs.declared.setup.Party.{Party}
 use Rattle.login_setup.specs.declared.setup.Party.TheVariants as party
 use Rattle.login_setup.specs.declared.setup.Port.{Port}
 use Rattle.login_setup.specs.declared.setup.Port.TheVariants as port
-use Rattle.login_setup.specs.declared.setup.PeerSetup.{PeerSetup}
-use Rattle.login_setup.specs.declared.setup.ServerSetup.{ServerSetup}
 use Rattle.login_setup.specs.declared.setup.Setup.{Setup}
 use Rattle.eap_packet.specs.Fault.{code_of}
 use Rattle.eap_packet.specs.declared.state.State.{State}
-use Rattle.eap_method.specs.declared.tags.TagRecord.{TagRecord}
 use Rattle.eap_method.specs.Steps.{is_end}
 use Rattle.peer_machine.specs.PeerTable as peers
-use Rattle.peer_machine.specs.PeerTable.{PeerNow}
 use Rattle.peer_machine.specs.Inputs as peer_inputs
 use Rattle.peer_machine.specs.Inputs.{PeerInput, peer_takes}
 use Rattle.server_machine.specs.Inputs as server_inputs
 use Rattle.server_machine.specs.Inputs.{ServerInput, server_takes}
 use Rattle.server_machine.specs.ServerTable as servers
-use Rattle.server_machine.specs.ServerTable.{ServerNow, is_backend, is_started, server_start}
+use Rattle.server_machine.specs.ServerTable.{is_backend, is_started, server_start}
 use Rattle.server_machine.specs.declared.variables.Role.{Role}
 use Rattle.server_machine.specs.declared.variables.Role.TheVariants as role
 use Rattle.server_machine.proofs.Starting.{stays_as_it_is}
@@ -43,9 +39,10 @@ use Rattle.tag_book.specs.declared.book.Use.TheVariants.{Accepted}
 use Rattle.eap_world.specs.declared.told.Skip.{Skip}
 use Rattle.world_laws.specs.EndsStand.{BothStand, present_tags}
 use Rattle.world_laws.proofs.Acting.{counted_acted, next_is, restart_is, some_call, step_steps}
+use Rattle.world_laws.proofs.AsksByMethod.{peer_accepted, server_accepted}
 use Rattle.world_laws.proofs.EndsStand.{every_run_so_far, step_stands}
 use Rattle.world_laws.proofs.OneMethod.{some_same}
-use Rattle.world_laws.proofs.SucceedingEnds.{PeerSucceeds, ServerSucceeds, of_gpsk, of_psk, peer_succeeds, server_succeeds, with_gpsk, with_psk}
+use Rattle.world_laws.proofs.SucceedingEnds.{peer_succeeds, server_succeeds}
 use Rattle.world_laws.proofs.LastSent.{Fits, HaveSaid, call_says, is_begin, starts_pass}
 use Rattle.world_laws.proofs.PassSpeaks as passing
 use Rattle.world_laws.proofs.PassSpeaks.{PassSpeaks, pass_speaks}
@@ -508,14 +505,6 @@ module _ (w : WorldNow) (e : Event) (holds : Holds w) where
   silent_law _ (is_called (to_pass input) unskipped is_call) goes_on party.Server s stands over packet sends = let other = sends.acts in cc other
 
 -- an end in SUCCESS has accepted a tag
-peer_accepted : (setup : PeerSetup) (now : PeerNow) (accepted made : List TagRecord) → PeerSucceeds setup now accepted made → 1 ≤ length accepted
-peer_accepted setup now _ _ (with_psk login header sealed id is_selected in_view facts) = omega arith
-peer_accepted setup now _ _ (with_gpsk login list pd is_selected in_view facts) = omega arith
-
-server_accepted : (setup : ServerSetup) (now : ServerNow) (accepted made : List TagRecord) → ServerSucceeds setup now accepted made → 1 ≤ length accepted
-server_accepted setup now _ _ (of_psk login header sealed id is_current in_view facts r_sent) = omega arith
-server_accepted setup now _ _ (of_gpsk login pd last_pd is_current in_view facts) = omega arith
-
 one_at_least : (setup : Setup) (w : WorldNow) → BothStand setup w → (of : End) → is_success (end_state w.parties of) ≡ true
     → 1 ≤ length (present_tags of Accepted w)
 one_at_least setup w both end.Peer sure =

@@ -14,17 +14,20 @@ use Rattle.eap_method.specs.GpskTags.{sk_record}
 use Rattle.peer_machine.specs.PeerTable.{PeerNow, peer_reports}
 use Rattle.server_machine.specs.ServerTable.{ServerNow, server_reports}
 use Rattle.eap_world.specs.Judgement.{agreement_of, is_success}
+use Rattle.world_laws.specs.ByMethod as by_method
+use Rattle.world_laws.specs.GpskPeerStands as gpsk_peer_stands
+use Rattle.world_laws.specs.GpskServerStands as gpsk_server_stands
+use Rattle.world_laws.specs.PskPeerStands as psk_peer_stands
+use Rattle.world_laws.specs.PskServerStands as psk_server_stands
 use Rattle.world_laws.specs.Records.{IsIn, AreInEither, here}
-use Rattle.world_laws.specs.PeerStands as peers
 use Rattle.world_laws.specs.PeerStands.{PeerStands}
-use Rattle.world_laws.specs.ServerStands as servers
 use Rattle.world_laws.specs.ServerStands.{ServerStands}
 use Rattle.world_laws.proofs.Among.{among_two}
 use Rattle.world_laws.proofs.GpskAgrees as gpsk
 use Rattle.world_laws.proofs.OneMethod.{apart as one_method}
-use Rattle.world_laws.proofs.PeerKeeps as peer_calls
-use Rattle.world_laws.proofs.ServerKeeps as server_calls
+use Rattle.world_laws.proofs.PeerByMethod as peer_by_method
 use Rattle.world_laws.proofs.PskAgrees as psk
+use Rattle.world_laws.proofs.ServerByMethod as server_by_method
 
 -- a record of a method isn't among two of the other
 apart : psk_kind ≡ gpsk_kind → ⊥
@@ -44,12 +47,12 @@ of_other tag others own (inr is_in) not_own = absurd (not_own is_in)
 
 -- both ends have succeeded by one method, and speak of the same login
 pub data BothSucceed (peer_setup : PeerSetup) (server_setup : ServerSetup) (p : PeerNow) (s : ServerNow) : Type 0 where
-  by_psk : (login : psk_peer.Login) (facts : peers.PskBegun peer_setup login) (other : psk_server.Login) (checked : servers.PskChecked server_setup other)
+  by_psk : (login : psk_peer.Login) (facts : psk_peer_stands.PskBegun peer_setup login) (other : psk_server.Login) (checked : psk_server_stands.PskChecked server_setup other)
       (is_selected : p.vars.selected ≡ Some psk_kind) (in_view : p.views.psk ≡ psk_peer.over login true)
       (is_current : s.vars.current ≡ Some psk_kind) (in_other : s.views.psk ≡ Some (psk_server.over other true)) (r_sent : other.r ≡ 2)
       (same : psk.IsSame login other) → BothSucceed peer_setup server_setup p s
-  by_gpsk : (login : gpsk_peer.Login) (list : List ℕ) (facts : peers.GpskBegun peer_setup login list)
-      (other : gpsk_server.Login) (pd : List ℕ) (checked : servers.GpskChecked server_setup other false)
+  by_gpsk : (login : gpsk_peer.Login) (list : List ℕ) (facts : gpsk_peer_stands.GpskBegun peer_setup login list)
+      (other : gpsk_server.Login) (pd : List ℕ) (checked : gpsk_server_stands.GpskChecked server_setup other false)
       (is_selected : p.vars.selected ≡ Some gpsk_kind) (in_view : p.views.gpsk ≡ gpsk_peer.over login true)
       (is_current : s.vars.current ≡ Some gpsk_kind) (in_other : s.views.gpsk ≡ Some (gpsk_server.over other true))
       (same : gpsk.IsSame login list other) → BothSucceed peer_setup server_setup p s
@@ -57,59 +60,59 @@ pub data BothSucceed (peer_setup : PeerSetup) (server_setup : ServerSetup) (p : 
 -- a peer, or a server, that has succeeded, with its tags
 pub data PeerSucceeds (setup : PeerSetup) (now : PeerNow) : List TagRecord → List TagRecord → Type 0 where
   with_psk : (login : psk_peer.Login) (header : List ℕ) (sealed id : ℕ)
-      (is_selected : now.vars.selected ≡ Some psk_kind) (in_view : now.views.psk ≡ psk_peer.over login true) (facts : peers.PskBegun setup login)
-      → PeerSucceeds setup now (peers.psk3_taken login header sealed) (peers.psk2_record login ∷ psk_peer.psk4_record login id 2)
+      (is_selected : now.vars.selected ≡ Some psk_kind) (in_view : now.views.psk ≡ psk_peer.over login true) (facts : psk_peer_stands.PskBegun setup login)
+      → PeerSucceeds setup now (psk_peer_stands.psk3_taken login header sealed) (psk_peer_stands.psk2_record login ∷ psk_peer.psk4_record login id 2)
   with_gpsk : (login : gpsk_peer.Login) (list pd : List ℕ)
-      (is_selected : now.vars.selected ≡ Some gpsk_kind) (in_view : now.views.gpsk ≡ gpsk_peer.over login true) (facts : peers.GpskBegun setup login list)
-      → PeerSucceeds setup now (sk_record login.cred.psk (peers.gpsk3_taken login pd) ∷ [])
-      (peers.gpsk2_record login list ∷ sk_record login.cred.psk (gpsk_peer.gpsk4_of login) ∷ [])
+      (is_selected : now.vars.selected ≡ Some gpsk_kind) (in_view : now.views.gpsk ≡ gpsk_peer.over login true) (facts : gpsk_peer_stands.GpskBegun setup login list)
+      → PeerSucceeds setup now (sk_record login.cred.psk (gpsk_peer_stands.gpsk3_taken login pd) ∷ [])
+      (gpsk_peer_stands.gpsk2_record login list ∷ sk_record login.cred.psk (gpsk_peer.gpsk4_of login) ∷ [])
 
 pub data ServerSucceeds (setup : ServerSetup) (now : ServerNow) : List TagRecord → List TagRecord → Type 0 where
   of_psk : (login : psk_server.Login) (header : List ℕ) (sealed id : ℕ) (is_current : now.vars.current ≡ Some psk_kind)
-      (in_view : now.views.psk ≡ Some (psk_server.over login true)) (facts : servers.PskChecked setup login) (r_sent : login.r ≡ 2)
-      → ServerSucceeds setup now (servers.psk2_record login ∷ servers.psk4_taken login header sealed ∷ []) (psk_server.psk3_records login id)
+      (in_view : now.views.psk ≡ Some (psk_server.over login true)) (facts : psk_server_stands.PskChecked setup login) (r_sent : login.r ≡ 2)
+      → ServerSucceeds setup now (psk_server_stands.psk2_record login ∷ psk_server_stands.psk4_taken login header sealed ∷ []) (psk_server.psk3_records login id)
   of_gpsk : (login : gpsk_server.Login) (pd last_pd : List ℕ) (is_current : now.vars.current ≡ Some gpsk_kind)
-      (in_view : now.views.gpsk ≡ Some (gpsk_server.over login true)) (facts : servers.GpskChecked setup login false)
-      → ServerSucceeds setup now (sk_record login.psk (servers.gpsk2_taken login pd) ∷ sk_record login.psk (servers.gpsk4_taken login last_pd) ∷ [])
+      (in_view : now.views.gpsk ≡ Some (gpsk_server.over login true)) (facts : gpsk_server_stands.GpskChecked setup login false)
+      → ServerSucceeds setup now (sk_record login.psk (gpsk_server_stands.gpsk2_taken login pd) ∷ sk_record login.psk (gpsk_server_stands.gpsk4_taken login last_pd) ∷ [])
       (sk_record login.psk (gpsk_server.gpsk3_of login) ∷ [])
 
 module _ (setup : PeerSetup) (now : PeerNow) where
   peer_psk : (login : psk_peer.Login) → now.vars.selected ≡ Some psk_kind → now.views.psk ≡ psk_peer.over login true
-      → (accepted made : List TagRecord) → peers.PskPeerTags setup (psk_peer.over login true) accepted made → PeerSucceeds setup now accepted made
-  peer_psk login is_selected in_view _ _ (peers.psk_over _ _ header sealed id facts) = with_psk login header sealed id is_selected in_view facts
+      → (accepted made : List TagRecord) → psk_peer_stands.PskPeerTags setup (psk_peer.over login true) accepted made → PeerSucceeds setup now accepted made
+  peer_psk login is_selected in_view _ _ (psk_peer_stands.psk_over _ _ header sealed id facts) = with_psk login header sealed id is_selected in_view facts
 
   peer_gpsk : (login : gpsk_peer.Login) → now.vars.selected ≡ Some gpsk_kind → now.views.gpsk ≡ gpsk_peer.over login true
-      → (accepted made : List TagRecord) → peers.GpskPeerTags setup (gpsk_peer.over login true) accepted made → PeerSucceeds setup now accepted made
-  peer_gpsk login is_selected in_view _ _ (peers.gpsk_confirmed _ list pd facts) = with_gpsk login list pd is_selected in_view facts
+      → (accepted made : List TagRecord) → gpsk_peer_stands.GpskPeerTags setup (gpsk_peer.over login true) accepted made → PeerSucceeds setup now accepted made
+  peer_gpsk login is_selected in_view _ _ (gpsk_peer_stands.gpsk_confirmed _ list pd facts) = with_gpsk login list pd is_selected in_view facts
 
-  pub peer_succeeds : (accepted made : List TagRecord) → peers.PeerTags setup now.vars.selected now.views accepted made
-      → peers.HasSucceeded now.vars.selected now.views → PeerSucceeds setup now accepted made
-  peer_succeeds accepted made tags (peers.psk_succeeded login is_selected in_view) =
+  pub peer_succeeds : (accepted made : List TagRecord) → by_method.PeerTags setup now.vars.selected now.views accepted made
+      → by_method.PeerHasSucceeded now.vars.selected now.views → PeerSucceeds setup now accepted made
+  peer_succeeds accepted made tags (by_method.psk_peer_succeeded login is_selected in_view) =
       peer_psk login is_selected in_view accepted made
-      (subst (λ (v : psk_peer.View). peers.PskPeerTags setup v accepted made) in_view
-      (peer_calls.told_by_psk setup now.vars.selected now.views accepted made (one_method now.vars.selected psk_kind gpsk_kind refl is_selected) tags))
-  peer_succeeds accepted made tags (peers.gpsk_succeeded login is_selected in_view) =
+      (subst (λ (v : psk_peer.View). psk_peer_stands.PskPeerTags setup v accepted made) in_view
+      (peer_by_method.told_by_psk setup now.vars.selected now.views accepted made (one_method now.vars.selected psk_kind gpsk_kind refl is_selected) tags))
+  peer_succeeds accepted made tags (by_method.gpsk_peer_succeeded login is_selected in_view) =
       peer_gpsk login is_selected in_view accepted made
-      (subst (λ (v : gpsk_peer.View). peers.GpskPeerTags setup v accepted made) in_view
-      (peer_calls.told_by_gpsk setup now.vars.selected now.views accepted made (one_method now.vars.selected gpsk_kind psk_kind refl is_selected) tags))
+      (subst (λ (v : gpsk_peer.View). gpsk_peer_stands.GpskPeerTags setup v accepted made) in_view
+      (peer_by_method.told_by_gpsk setup now.vars.selected now.views accepted made (one_method now.vars.selected gpsk_kind psk_kind refl is_selected) tags))
 
 module _ (setup : ServerSetup) (now : ServerNow) where
   server_psk : (login : psk_server.Login) → now.vars.current ≡ Some psk_kind → now.views.psk ≡ Some (psk_server.over login true)
-      → (accepted made : List TagRecord) → servers.PskServerTags setup (psk_server.over login true) accepted made → ServerSucceeds setup now accepted made
-  server_psk login is_current in_view _ _ (servers.psk_over _ _ header sealed id facts r_sent rand_in) =
+      → (accepted made : List TagRecord) → psk_server_stands.PskServerTags setup (psk_server.over login true) accepted made → ServerSucceeds setup now accepted made
+  server_psk login is_current in_view _ _ (psk_server_stands.psk_over _ _ header sealed id facts r_sent rand_in) =
       of_psk login header sealed id is_current in_view facts (r_sent refl)
 
   server_gpsk : (login : gpsk_server.Login) → now.vars.current ≡ Some gpsk_kind → now.views.gpsk ≡ Some (gpsk_server.over login true)
-      → (accepted made : List TagRecord) → servers.GpskServerTags setup (gpsk_server.over login true) accepted made → ServerSucceeds setup now accepted made
-  server_gpsk login is_current in_view _ _ (servers.gpsk_confirmed _ pd last_pd facts) =
+      → (accepted made : List TagRecord) → gpsk_server_stands.GpskServerTags setup (gpsk_server.over login true) accepted made → ServerSucceeds setup now accepted made
+  server_gpsk login is_current in_view _ _ (gpsk_server_stands.gpsk_confirmed _ pd last_pd facts) =
       of_gpsk login pd last_pd is_current in_view facts
 
-  pub server_succeeds : (accepted made : List TagRecord) → servers.ServerTags setup now.vars.current now.views accepted made
-      → servers.HasSucceeded now.vars.current now.views → ServerSucceeds setup now accepted made
-  server_succeeds accepted made tags (servers.psk_succeeded login is_current in_view) =
-      server_psk login is_current in_view accepted made (server_calls.told_by_psk setup now.vars.current now.views _ accepted made is_current in_view tags)
-  server_succeeds accepted made tags (servers.gpsk_succeeded login is_current in_view) =
-      server_gpsk login is_current in_view accepted made (server_calls.told_by_gpsk setup now.vars.current now.views _ accepted made is_current in_view tags)
+  pub server_succeeds : (accepted made : List TagRecord) → by_method.ServerTags setup now.vars.current now.views accepted made
+      → by_method.ServerHasSucceeded now.vars.current now.views → ServerSucceeds setup now accepted made
+  server_succeeds accepted made tags (by_method.psk_server_succeeded login is_current in_view) =
+      server_psk login is_current in_view accepted made (server_by_method.told_by_psk setup now.vars.current now.views _ accepted made is_current in_view tags)
+  server_succeeds accepted made tags (by_method.gpsk_server_succeeded login is_current in_view) =
+      server_gpsk login is_current in_view accepted made (server_by_method.told_by_gpsk setup now.vars.current now.views _ accepted made is_current in_view tags)
 
 -- the first tag that an end accepted is among these
 pub record FirstIn (accepted others : List TagRecord) : Type 0 where

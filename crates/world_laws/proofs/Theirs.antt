@@ -16,9 +16,12 @@ use Rattle.eap_method.specs.Server.{side_of}
 use Rattle.peer_machine.specs.PeerTable as peers
 use Rattle.server_machine.specs.ServerTable as servers
 use Rattle.eap_world.specs.World.{WorldNow}
-use Rattle.world_laws.specs.Agreement.{AreTheirs, TakesFirstSuite}
-use Rattle.world_laws.specs.PeerStands.{PskBegun, GpskBegun}
-use Rattle.world_laws.specs.ServerStands.{PskChecked, GpskChecked}
+use Rattle.world_laws.specs.Agreement.{AreTheirs}
+use Rattle.world_laws.specs.GpskLogins.{TakesFirstSuite}
+use Rattle.world_laws.specs.GpskPeerStands.{GpskBegun}
+use Rattle.world_laws.specs.GpskServerStands.{GpskChecked}
+use Rattle.world_laws.specs.PskPeerStands.{PskBegun}
+use Rattle.world_laws.specs.PskServerStands.{PskChecked}
 use Rattle.world_laws.proofs.SucceedingEnds.{BothSucceed, by_psk, by_gpsk}
 use Rattle.world_laws.proofs.GpskAgrees as gpsk
 use Rattle.world_laws.proofs.PskAgrees as psk

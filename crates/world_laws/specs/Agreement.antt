@@ -2,15 +2,10 @@
 use Rattle.std.specs.Prelude.{◌≡◌, ◌≤◌, ◌⊎◌, ◌+◌, ◌*◌, List, [], length, true, false, Some, All}
 use Rattle.login_setup.specs.declared.event.Event.{Event}
 use Rattle.login_setup.specs.declared.setup.Setup.{Setup}
-use Rattle.eap_base.specs.declared.suite.Suite.{Suite}
 use Rattle.login_setup.specs.declared.users.User.{User}
-use Rattle.eap_base.specs.Among.{gpsk_kind}
 use Rattle.login_setup.specs.Setup.{IsSoundPeer, IsSoundServer, HasKeys}
-use Rattle.eap_base.specs.Suite.{suite_number}
 use Rattle.login_setup.specs.Users.{user_of}
-use Rattle.login_policy.specs.Policy.{picked_suite}
 use Rattle.eap_method.specs.declared.values.Report.{Report}
-use Rattle.eap_method.specs.GpskTags.{suite_list}
 use Rattle.eap_method.specs.Peer.{key_for}
 use Rattle.peer_machine.specs.PeerTable.{PeerNow, peer_reports}
 use Rattle.server_machine.specs.ServerTable.{ServerNow, server_reports}
@@ -21,7 +16,8 @@ use Rattle.tag_book.specs.declared.book.Entry.{Entry}
 use Rattle.eap_world.specs.declared.conversations.Begun.{Begun}
 use Rattle.tag_book.specs.declared.book.Use.{Use}
 use Rattle.eap_world.specs.Conversations.{Conversations, begun_by, front}
-use Rattle.world_laws.specs.Foreign.{HoldWhole, peer_foreign, server_foreign}
+use Rattle.world_laws.specs.ByMethod.{peer_foreign, server_foreign}
+use Rattle.world_laws.specs.GpskLogins.{HasFirstSuite, HoldAllOctets}
 use Rattle.eap_world.specs.Judgement.{verdict_of, is_success}
 use Rattle.eap_world.specs.declared.verdict.Verdict.TheVariants.{Agree, Apart}
 use Rattle.eap_world.specs.Run.{run_of}
@@ -51,8 +47,8 @@ AreApart all = (length all.begun ≡ 2) ⊎ (all.fresh ≡ true)
 pub record HoldEachOther (w : WorldNow) : Type 0 where
   pub rand_s : peer_foreign w.parties.peer.vars.selected w.parties.peer.views ≡ Some (front w.parties.server.vars.setup.nonce)
   pub rand_p : server_foreign w.parties.server.vars.current w.parties.server.views ≡ Some (front w.parties.peer.vars.setup.nonce)
-  pub whole : w.parties.peer.vars.selected ≡ Some gpsk_kind
-      → HoldWhole w.parties.peer.views w.parties.peer.vars.setup.nonce w.parties.server.views w.parties.server.vars.setup.nonce
+  pub whole : HoldAllOctets w.parties.peer.vars.selected w.parties.peer.views w.parties.peer.vars.setup.nonce
+      w.parties.server.views w.parties.server.vars.setup.nonce
 
 -- two ends that are both in SUCCESS in their present conversations agree, and the verdict is never that they don't
 pub record AgreesWhereHonest (w : WorldNow) : Type 0 where
@@ -79,12 +75,6 @@ abbrev pub BeginsOnce : Type 0
 BeginsOnce = (setup : Setup) (events : List Event) → setup.later.peer ≡ [] → setup.later.server ≡ []
     → length (run_of setup events).conversations.begun ≡ 2
 
--- the reported suite is the first of the server's own list that the peer allows
-pub record TakesFirstSuite (setup : Setup) (report : Report) : Type 0 where
-  pub suite : Suite
-  pub picked : picked_suite setup.peer.suites (suite_list setup.server.suites) ≡ Some suite
-  pub is_suite : report.suite ≡ suite_number suite
-
 -- both ends have one report, whose names are those of both setups; the server knows the peer by its name, with
 -- the peer's own key, and lets it in; by EAP-GPSK the suite is the one picked of the server's own list
 pub record AreTheirs (setup : Setup) (peer : PeerNow) (server : ServerNow) : Type 0 where
@@ -97,7 +87,13 @@ pub record AreTheirs (setup : Setup) (peer : PeerNow) (server : ServerNow) : Typ
   pub known : user_of setup.server.users setup.peer.name report.method ≡ Some user
   pub key : user.psk ≡ key_for setup.peer report.method
   pub welcome : user.barred ≡ false
-  pub first_suite : report.method ≡ gpsk_kind → TakesFirstSuite setup report
+  pub first_suite : HasFirstSuite setup report
+
+-- two ends agree on names, key and suite that are their own, and each has the nonce of the other's present conversation
+pub record AgreeAnew (setup : Setup) (w : WorldNow) : Type 0 where
+  pub agree : verdict_of w ≡ Agree
+  pub hold : HoldEachOther w
+  pub theirs : AreTheirs setup w.parties.peer w.parties.server
 
 -- what two ends that are both in SUCCESS report in their present conversations is their own
 pub record TheirsWhereHonest (setup : Setup) (w : WorldNow) : Type 0 where

@@ -3,7 +3,7 @@ use Rattle.std.specs.Prelude.{◌≡◌, ℕ, List, ◌++◌, length, true, Opti
 use Rattle.login_setup.specs.declared.event.Event.{Event}
 use Rattle.login_setup.specs.declared.setup.Setup.{Setup}
 use Rattle.login_setup.specs.declared.users.User.{User}
-use Rattle.eap_base.specs.Among.{gpsk_kind, psk_kind}
+use Rattle.eap_base.specs.Among.{psk_kind}
 use Rattle.login_setup.specs.Users.{user_of}
 use Rattle.eap_method.specs.declared.tags.TagRecord.{TagRecord}
 use Rattle.eap_method.specs.declared.values.Report.{Report}
@@ -14,9 +14,9 @@ use Rattle.eap_world.specs.Run.{run_of}
 use Rattle.world_laws.specs.Agreement.{IsWhole}
 use Rattle.tag_book.specs.Book.{tags_verdict, tags_verdict_either}
 use Rattle.eap_world.specs.Conversations.{front, has_begun}
-use Rattle.world_laws.specs.Foreign.{HoldWhole, peer_foreign, server_foreign}
+use Rattle.world_laws.specs.ByMethod.{peer_foreign, peer_login, server_foreign, server_login}
+use Rattle.world_laws.specs.GpskLogins.{HaveSameNames, HoldAllOctets}
 use Rattle.eap_world.specs.Judgement.{is_success}
-use Rattle.world_laws.specs.Logins.{peer_login, server_login}
 use Rattle.world_laws.specs.Records.{IsIn, tags_by}
 use Rattle.world_laws.specs.ToldTags.{MadeByPeer, PeerTold, ServerTold}
 use Rattle.eap_world.specs.World.{WorldNow}
@@ -55,7 +55,7 @@ pub record SameKeys (one other : Report) : Type 0 where
   pub msk : one.msk ≡ other.msk
   pub emsk : one.emsk ≡ other.emsk
   pub joined : one.id_p ++ one.id_s ≡ other.id_p ++ other.id_s
-  pub whole : one.method ≡ gpsk_kind → one ≡ other
+  pub whole : HaveSameNames one other
 
 -- a report has the server's own name, and the server has a user of its other name and that method with the peer's own key
 pub record HasPeersKey (setup : Setup) (report : Report) : Type 0 where
@@ -70,7 +70,7 @@ pub record PeerIsHeard (setup : Setup) (w : WorldNow) : Type 0 where
   pub by : ServersConversation setup w
   pub rand_s : peer_foreign w.parties.peer.vars.selected w.parties.peer.views ≡ Some (front by.nonce)
   pub rand_p : by.held ≡ Some (front w.parties.peer.vars.setup.nonce)
-  pub whole : w.parties.peer.vars.selected ≡ Some gpsk_kind → HoldWhole w.parties.peer.views w.parties.peer.vars.setup.nonce by.told.views by.nonce
+  pub whole : HoldAllOctets w.parties.peer.vars.selected w.parties.peer.views w.parties.peer.vars.setup.nonce by.told.views by.nonce
   pub tag : TagRecord
   pub accepted : IsIn tag by.accepted
   pub made : IsIn tag (tags_by end.Peer Made w.book)
@@ -88,7 +88,7 @@ pub record ServerHears (setup : Setup) (w : WorldNow) : Type 0 where
   pub of : PeersConversation setup w
   pub rand_p : server_foreign w.parties.server.vars.current w.parties.server.views ≡ Some (front of.nonce)
   pub rand_s : of.held ≡ Some (front w.parties.server.vars.setup.nonce)
-  pub whole : w.parties.server.vars.current ≡ Some gpsk_kind → HoldWhole of.told.views of.nonce w.parties.server.views w.parties.server.vars.setup.nonce
+  pub whole : HoldAllOctets w.parties.server.vars.current of.told.views of.nonce w.parties.server.views w.parties.server.vars.setup.nonce
   pub tag : TagRecord
   pub made : IsIn tag of.made
   pub accepted : IsIn tag (tags_by end.Server Accepted w.book)

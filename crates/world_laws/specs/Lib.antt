@@ -1,4 +1,9 @@
-pub mod Foreign
+pub mod PskPeerStands
+pub mod PskServerStands
+pub mod GpskPeerStands
+pub mod GpskServerStands
+pub mod GpskLogins
+pub mod ByMethod
 pub mod Laws
 pub mod Records
 pub mod PeerStands
@@ -8,9 +13,8 @@ pub mod Agreement
 pub mod EndsStand
 pub mod SingleSteps
 pub mod Fresh
-pub mod Logins
 pub mod Alone
-pub mod Reflected
+pub mod PskReflected
 pub mod EachConversation
 pub mod Matching
 pub mod Passing

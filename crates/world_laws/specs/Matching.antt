@@ -1,6 +1,6 @@
 -- Matching conversations: each one in SUCCESS, present or past, rests on one of the other end, and no two of an end on the same.
 use Rattle.std.specs.Prelude.{◌≡◌, List, ◌∷◌, map, true, None, Some}
-use Rattle.eap_base.specs.Among.{gpsk_kind, psk_kind}
+use Rattle.eap_base.specs.Among.{psk_kind}
 use Rattle.login_setup.specs.declared.event.Event.{Event}
 use Rattle.login_setup.specs.declared.setup.Setup.{Setup}
 use Rattle.eap_method.specs.declared.tags.TagRecord.{TagRecord}
@@ -16,8 +16,8 @@ use Rattle.tag_book.specs.Book.{tags_verdict, tags_verdict_either}
 use Rattle.eap_world.specs.Conversations.{front}
 use Rattle.world_laws.specs.EachConversation.{AreTwoOf, IsOneOf, OfPeer, OfServer, all_accepted, all_made, last_now, nonces_of, peer_conversations, peer_holds, peer_nonce, server_conversations, server_holds, server_nonce}
 use Rattle.eap_world.specs.Judgement.{is_success, agreement_of}
-use Rattle.world_laws.specs.Foreign.{HoldWhole}
-use Rattle.world_laws.specs.Logins.{peer_login, server_login}
+use Rattle.world_laws.specs.ByMethod.{peer_login, server_login}
+use Rattle.world_laws.specs.GpskLogins.{HoldAllOctets}
 use Rattle.world_laws.specs.PeerStands.{PeerStands}
 use Rattle.world_laws.specs.Records.{AreFew, IsIn, tags_by}
 use Rattle.world_laws.specs.ServerStands.{ServerStands}
@@ -38,7 +38,7 @@ pub record RestsOn (accepted made : List TagRecord) : Type 0 where
 -- a peer's and a server's conversation have one method; by EAP-GPSK they have all 32 octets of each other's nonces
 pub record AreOfOne (p : OfPeer) (s : OfServer) : Type 0 where
   pub method : p.now.vars.selected ≡ s.now.vars.current
-  pub whole : p.now.vars.selected ≡ Some gpsk_kind → HoldWhole p.now.views (peer_nonce p) s.now.views (server_nonce s)
+  pub whole : HoldAllOctets p.now.vars.selected p.now.views (peer_nonce p) s.now.views (server_nonce s)
 
 -- they have each other's nonces, whose prefixes are all that EAP-PSK has of them (RFC 4764 section 3.2)
 pub record HoldNonces (p : OfPeer) (s : OfServer) : Type 0 where

@@ -7,7 +7,7 @@ ghost use Rattle.world_laws.specs.Fresh.{FreshIsTold};
 ghost use Rattle.world_laws.specs.Laws.{DiscardsKeep, RunsTellReports, SkipsKeep};
 ghost use Rattle.world_laws.specs.Matching.{ConversationsAreAll, ConversationsMatch};
 ghost use Rattle.world_laws.specs.Passing.{PassCarries, PassIsAlone, PassIsHanded, PassLearnsNothing};
-ghost use Rattle.world_laws.specs.Reflected.{ReflectedEndsAgree};
+ghost use Rattle.world_laws.specs.PskReflected.{ReflectedEndsAgree};
 ghost use Rattle.world_laws.specs.SingleSteps.{StepsAreLawful};
 
 /// An event that an end discards changes nothing but the counts and which of the nonces that are left have been seen in

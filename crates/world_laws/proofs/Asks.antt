@@ -1,0 +1,24 @@
+-- What each end asks of the other by the first tag that it accepts.
+use Rattle.std.proofs.Common.{◌≡◌, ℕ, List, ◌∷◌, Some}
+use Rattle.login_setup.specs.declared.setup.ServerSetup.{ServerSetup}
+use Rattle.eap_method.specs.declared.tags.TagRecord.{TagRecord}
+use Rattle.eap_world.specs.Conversations.{front}
+use Rattle.world_laws.specs.ToldTags.{MadeByPeer, MadeByServer, NotByServer}
+
+pub some_is : (x y : List ℕ) → Some x ≡ Some y → x ≡ y
+some_is x y e = cc
+
+-- a server that holds a nonce of the peer has accepted a tag that only a conversation of that nonce, which holds the server's, can have made
+pub record AsksPeer (setup : ServerSetup) (nonce foreign : List ℕ) (accepted : List TagRecord) : Type 0 where
+  pub tag : TagRecord
+  pub rest : List TagRecord
+  pub first : accepted ≡ tag ∷ rest
+  pub made : MadeByPeer tag foreign (front nonce)
+  pub alien : NotByServer setup tag
+
+-- a peer that has succeeded has accepted a tag that only a server which holds the peer's nonce can have made
+pub record AsksServer (nonce : List ℕ) (accepted : List TagRecord) : Type 0 where
+  pub tag : TagRecord
+  pub rest : List TagRecord
+  pub first : accepted ≡ tag ∷ rest
+  pub made : MadeByServer tag (front nonce)

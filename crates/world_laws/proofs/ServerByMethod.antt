@@ -1,0 +1,224 @@
+-- The server by the method of a Type: what holds of the turns, the offer, the nonce and the tags of each method holds of a Type's.
+use Rattle.std.proofs.Common.{◌≡◌, ℕ, List, [], true, Option, Some, None, refl, ap, sym, subst, ◌∙◌, arith}
+use Rattle.std.specs.Prelude.{◌==◌}
+use Rattle.std.proofs.lemmas.Bool.{cond_both, eqb-true}
+use Rattle.login_setup.specs.declared.setup.ServerSetup.{ServerSetup}
+use Rattle.login_setup.specs.declared.users.User.{User}
+use Rattle.eap_base.specs.Among.{psk_kind, gpsk_kind, is_among, identity_kind}
+use Rattle.eap_packet.specs.declared.cause.Cause.{Cause}
+use Rattle.login_policy.proofs.Choices.{next_is_ordered}
+use Rattle.eap_method.specs.declared.tags.TagRecord.{TagRecord}
+use Rattle.eap_method.specs.declared.values.ServerSide.{ServerSide}
+use Rattle.eap_method.specs.GpskServer as gpsk
+use Rattle.eap_method.specs.PskServer as psk
+use Rattle.eap_method.specs.Server.{ServerViews, Offer, side_of, server_offer, psk_offer, gpsk_offer, psk_turn, gpsk_turn, psk_hears, gpsk_hears, server_turn}
+use Rattle.eap_method.specs.Turns.{ServerOutcome, body_of, dropped}
+use Rattle.method_laws.specs.GpskServerRows.{GpskServerRow}
+use Rattle.method_laws.specs.PskServerRows.{PskServerRow}
+use Rattle.method_laws.proofs.GpskServerCases.{gpsk_server_steps_are_rows}
+use Rattle.method_laws.proofs.PskServerCases.{psk_server_steps_are_rows}
+use Rattle.server_machine.specs.Rows.{Proposes}
+use Rattle.server_machine.specs.ServerTable.{ServerNow, next_id}
+use Rattle.server_machine.specs.declared.variables.ServerVariables.{ServerVariables}
+use Rattle.world_laws.specs.ByMethod.{ServerHasSucceeded, ServerTags, gpsk_current, gpsk_server_succeeded, identity_current, none_current, psk_current, psk_server_succeeded, server_foreign, server_foreign_of}
+use Rattle.world_laws.specs.GpskServerStands.{GpskServerTags, gpsk_asked, gpsk_rand_p, gpsk_rand_p_in}
+use Rattle.world_laws.specs.PskServerStands.{PskServerTags, psk_asked, psk_rand_p, psk_rand_p_in}
+use Rattle.world_laws.specs.Records.{AreFew, AreNone, IsIn, untagged}
+use Rattle.world_laws.proofs.GpskServerTurns.{gpsk_asks, gpsk_few, gpsk_first, gpsk_heard, gpsk_method, gpsk_none, gpsk_turned}
+use Rattle.world_laws.proofs.Hearing.{Hears, as_before}
+use Rattle.world_laws.proofs.OneMethod.{apart}
+use Rattle.world_laws.proofs.PeerByMethod.{kinds_apart}
+use Rattle.world_laws.proofs.PskServerTurns.{psk_asks, psk_few, psk_first, psk_heard, psk_method, psk_none, psk_turned}
+use Rattle.world_laws.proofs.ServerTurns.{Asks, IsRequest, Offers, Turned, asks, asks_none, carried, drops, lacks}
+
+-- ---- the turn of a Type
+
+-- it is that of its method
+pub data TurnOf (users : List User) (id kind : ℕ) (views : ServerViews) (octets : List ℕ) : ServerOutcome ServerViews → Type 0 where
+  of_psk : (same : kind ≡ psk_kind) (view : psk.View) (at_view : views.psk ≡ Some view) (out : ServerOutcome psk.View)
+      (row : PskServerRow users id view octets out) → TurnOf users id kind views octets (psk_turn views out)
+  of_gpsk : (same : kind ≡ gpsk_kind) (view : gpsk.View) (at_view : views.gpsk ≡ Some view) (out : ServerOutcome gpsk.View)
+      (row : GpskServerRow users id view octets out) → TurnOf users id kind views octets (gpsk_turn views out)
+  of_none : (c : Cause) → TurnOf users id kind views octets (dropped views c)
+
+module _ (users : List User) (id kind : ℕ) (views : ServerViews) (octets : List ℕ) where
+  psk_has : kind ≡ psk_kind → (view : Option psk.View) → views.psk ≡ view → TurnOf users id kind views octets (psk_hears users id views octets view)
+  psk_has same None at_view = of_none _
+  psk_has same (Some view) at_view = of_psk same view at_view _ (psk_server_steps_are_rows users id view octets)
+
+  gpsk_has : kind ≡ gpsk_kind → (view : Option gpsk.View) → views.gpsk ≡ view → TurnOf users id kind views octets (gpsk_hears users id views octets view)
+  gpsk_has same None at_view = of_none _
+  gpsk_has same (Some view) at_view = of_gpsk same view at_view _ (gpsk_server_steps_are_rows users id view octets)
+
+  pub turn_of : TurnOf users id kind views octets (server_turn users id kind views octets)
+  unfolding server_turn
+  turn_of =
+      cond_both (kind == psk_kind) _ _ (TurnOf users id kind views octets) (λ is. psk_has (eqb-true _ _ is) views.psk refl)
+      (λ _. cond_both (kind == gpsk_kind) _ _ (TurnOf users id kind views octets) (λ is. gpsk_has (eqb-true _ _ is) views.gpsk refl) (λ _. of_none _))
+
+  -- each Request has the next Identifier
+  pub turn_asks : (out : ServerOutcome ServerViews) → TurnOf users id kind views octets out → Asks id out.turn
+  turn_asks _ (of_psk same view at_view out row) = psk_asks users id octets view out row
+  turn_asks _ (of_gpsk same view at_view out row) = gpsk_asks users id octets view out row
+  turn_asks _ (of_none c) = asks_none id c
+
+  -- of the nonce it holds what it held, or what came
+  pub turn_heard : (out : ServerOutcome ServerViews) → TurnOf users id kind views octets out
+      → Hears (Some (body_of octets)) (server_foreign_of views kind) (server_foreign_of out.after kind)
+  turn_heard _ (of_psk same view at_view out row) =
+      subst (λ (k : ℕ). Hears (Some (body_of octets)) (server_foreign_of views k) (server_foreign_of (psk_turn views out).after k)) (sym same)
+      (subst (λ (o : Option psk.View). Hears (Some (body_of octets)) (psk_rand_p_in o) (psk_rand_p out.after)) (sym at_view) (psk_heard users id octets view out row))
+  turn_heard _ (of_gpsk same view at_view out row) =
+      subst (λ (k : ℕ). Hears (Some (body_of octets)) (server_foreign_of views k) (server_foreign_of (gpsk_turn views out).after k)) (sym same)
+      (subst (λ (o : Option gpsk.View). Hears (Some (body_of octets)) (gpsk_rand_p_in o) (gpsk_rand_p out.after)) (sym at_view) (gpsk_heard users id octets view out row))
+  turn_heard _ (of_none c) = as_before refl
+
+-- ---- the tags
+
+one_view : {V : Type 0} (held : Option V) (one other : V) → held ≡ Some one → held ≡ Some other → other ≡ one
+one_view held one other is_one is_other = cc
+
+-- what the current method tells
+module _ (setup : ServerSetup) (current : Option ℕ) (views : ServerViews) where
+  pub told_by_psk : (view : psk.View) (accepted made : List TagRecord) → current ≡ Some psk_kind → views.psk ≡ Some view
+      → ServerTags setup current views accepted made → PskServerTags setup view accepted made
+  told_by_psk view _ _ is_psk at_view (none_current none) = absurd cc
+  told_by_psk view _ _ is_psk at_view (identity_current is_current) = apart current identity_kind psk_kind refl is_current is_psk
+  told_by_psk view _ _ is_psk at_view (psk_current other accepted made is_current in_view told) =
+      subst (λ (v : psk.View). PskServerTags setup v accepted made) (one_view views.psk view other at_view in_view) told
+  told_by_psk view _ _ is_psk at_view (gpsk_current other accepted made is_current in_view told) = apart current gpsk_kind psk_kind refl is_current is_psk
+
+  pub told_by_gpsk : (view : gpsk.View) (accepted made : List TagRecord) → current ≡ Some gpsk_kind → views.gpsk ≡ Some view
+      → ServerTags setup current views accepted made → GpskServerTags setup view accepted made
+  told_by_gpsk view _ _ is_gpsk at_view (none_current none) = absurd cc
+  told_by_gpsk view _ _ is_gpsk at_view (identity_current is_current) = apart current identity_kind gpsk_kind refl is_current is_gpsk
+  told_by_gpsk view _ _ is_gpsk at_view (psk_current other accepted made is_current in_view told) = apart current psk_kind gpsk_kind refl is_current is_gpsk
+  told_by_gpsk view _ _ is_gpsk at_view (gpsk_current other accepted made is_current in_view told) =
+      subst (λ (v : gpsk.View). GpskServerTags setup v accepted made) (one_view views.gpsk view other at_view in_view) told
+
+  -- the Identity round has no tags
+  pub in_identity : (accepted made : List TagRecord) → current ≡ Some identity_kind → ServerTags setup current views accepted made → AreNone accepted made
+  in_identity _ _ is_identity (none_current none) = untagged
+  in_identity _ _ is_identity (identity_current is_current) = untagged
+  in_identity _ _ is_identity (psk_current view accepted made is_current in_view told) = apart current psk_kind identity_kind refl is_current is_identity
+  in_identity _ _ is_identity (gpsk_current view accepted made is_current in_view told) = apart current gpsk_kind identity_kind refl is_current is_identity
+
+  -- nor has a server without a current method
+  pub in_none : (accepted made : List TagRecord) → current ≡ None → ServerTags setup current views accepted made → AreNone accepted made
+  in_none _ _ none (none_current _) = untagged
+  in_none _ _ none (identity_current is_current) = untagged
+  in_none _ _ none (psk_current view accepted made is_current in_view told) = absurd cc
+  in_none _ _ none (gpsk_current view accepted made is_current in_view told) = absurd cc
+
+-- what the method of a tag tells
+pub record PskMade (setup : ServerSetup) (current : Option ℕ) (views : ServerViews) (accepted made : List TagRecord) : Type 0 where
+  pub view : psk.View
+  pub is_current : current ≡ Some psk_kind
+  pub in_view : views.psk ≡ Some view
+  pub told : PskServerTags setup view accepted made
+
+pub record GpskMade (setup : ServerSetup) (current : Option ℕ) (views : ServerViews) (accepted made : List TagRecord) : Type 0 where
+  pub view : gpsk.View
+  pub is_current : current ≡ Some gpsk_kind
+  pub in_view : views.gpsk ≡ Some view
+  pub told : GpskServerTags setup view accepted made
+
+module _ (setup : ServerSetup) (current : Option ℕ) (views : ServerViews) where
+  pub made_by_psk : (accepted made : List TagRecord) (t : TagRecord) → ServerTags setup current views accepted made → IsIn t made → t.method ≡ psk_kind
+      → PskMade setup current views accepted made
+  made_by_psk _ _ t (none_current none) is same = elim is [ ]
+  made_by_psk _ _ t (identity_current is_current) is same = elim is [ ]
+  made_by_psk _ _ t (psk_current view accepted made is_current in_view told) is same =
+      record { view = view; is_current = is_current; in_view = in_view; told = told }
+  made_by_psk _ _ t (gpsk_current view accepted made is_current in_view told) is same = kinds_apart t.method same (gpsk_method setup view accepted made t told is)
+
+  pub made_by_gpsk : (accepted made : List TagRecord) (t : TagRecord) → ServerTags setup current views accepted made → IsIn t made → t.method ≡ gpsk_kind
+      → GpskMade setup current views accepted made
+  made_by_gpsk _ _ t (none_current none) is same = elim is [ ]
+  made_by_gpsk _ _ t (identity_current is_current) is same = elim is [ ]
+  made_by_gpsk _ _ t (psk_current view accepted made is_current in_view told) is same = kinds_apart t.method (psk_method setup view accepted made t told is) same
+  made_by_gpsk _ _ t (gpsk_current view accepted made is_current in_view told) is same =
+      record { view = view; is_current = is_current; in_view = in_view; told = told }
+
+-- where no tag is accepted no nonce is held
+pub untagged_none : (setup : ServerSetup) (current : Option ℕ) (views : ServerViews) (accepted made : List TagRecord)
+    → ServerTags setup current views accepted made → accepted ≡ [] → server_foreign current views ≡ None
+untagged_none setup current views _ _ (none_current none) e = ap (λ (o : Option ℕ). server_foreign o views) none
+untagged_none setup current views _ _ (identity_current is_current) e = ap (λ (o : Option ℕ). server_foreign o views) is_current
+untagged_none setup current views _ _ (psk_current view accepted made is_current in_view told) e =
+    ap (λ (o : Option ℕ). server_foreign o views) is_current ∙ (ap psk_rand_p_in in_view ∙ psk_none setup view accepted made told e)
+untagged_none setup current views _ _ (gpsk_current view accepted made is_current in_view told) e =
+    ap (λ (o : Option ℕ). server_foreign o views) is_current ∙ (ap gpsk_rand_p_in in_view ∙ gpsk_none setup view accepted made told e)
+
+pub tags_few : (setup : ServerSetup) (current : Option ℕ) (views : ServerViews) (accepted made : List TagRecord)
+    → ServerTags setup current views accepted made → AreFew accepted made
+tags_few setup current views _ _ (none_current none) = record { few_accepted = omega arith; few_made = omega arith }
+tags_few setup current views _ _ (identity_current is_current) = record { few_accepted = omega arith; few_made = omega arith }
+tags_few setup current views _ _ (psk_current view accepted made is_current in_view told) = psk_few setup view accepted made told
+tags_few setup current views _ _ (gpsk_current view accepted made is_current in_view told) = gpsk_few setup view accepted made told
+
+-- the current method has its turn
+abbrev pub MethodTurned : ServerSetup → Option ℕ → List TagRecord → List TagRecord → ServerOutcome ServerViews → Type 0
+MethodTurned setup current accepted made out = Turned ServerViews (ServerTags setup current) (ServerHasSucceeded current) accepted made out
+
+pub method_turned : (setup : ServerSetup) (current : Option ℕ) (views : ServerViews) (accepted made : List TagRecord)
+    → ServerTags setup current views accepted made → (id kind : ℕ) (octets : List ℕ) (out : ServerOutcome ServerViews) → current ≡ Some kind
+    → TurnOf setup.users id kind views octets out → MethodTurned setup current accepted made out
+method_turned setup current views accepted made tags id kind octets _ is_current (of_psk same view at_view out row) =
+    let is : current ≡ Some psk_kind = is_current ∙ ap (λ (k : ℕ). Some k) same in
+    carried (λ (v : psk.View). record views { psk = Some v }) (λ v a m told. psk_current v a m is refl told)
+    (λ v well. psk_server_succeeded well.0 is (ap (λ (v : psk.View). Some v) well.1)) out
+    (psk_turned setup id octets accepted made view out (told_by_psk setup current views view accepted made is at_view tags) row)
+method_turned setup current views accepted made tags id kind octets _ is_current (of_gpsk same view at_view out row) =
+    let is : current ≡ Some gpsk_kind = is_current ∙ ap (λ (k : ℕ). Some k) same in
+    carried (λ (v : gpsk.View). record views { gpsk = Some v }) (λ v a m told. gpsk_current v a m is refl told)
+    (λ v well. gpsk_server_succeeded well.0 is (ap (λ (v : gpsk.View). Some v) well.1)) out
+    (gpsk_turned setup id octets accepted made view out (told_by_gpsk setup current views view accepted made is at_view tags) row)
+method_turned setup current views accepted made tags id kind octets _ is_current (of_none c) = drops views c
+
+-- ---- the offer of a Type
+
+-- it is that of its method, if there is an object of it
+pub data OfferOf (own : ServerSide) (nonce : List ℕ) (kind id : ℕ) (views : ServerViews) : Offer → Type 0 where
+  by_psk : (same : kind ≡ psk_kind)
+      → OfferOf own nonce kind id views (record { packet = Some (psk.first own nonce id); after = record views { psk = Some (psk.asked own nonce) } })
+  by_gpsk : (same : kind ≡ gpsk_kind)
+      → OfferOf own nonce kind id views (record { packet = Some (gpsk.first own nonce id); after = record views { gpsk = Some (gpsk.asked own nonce) } })
+  by_none : OfferOf own nonce kind id views (record { packet = None; after = views })
+
+module _ (own : ServerSide) (nonce : List ℕ) (kind id : ℕ) (views : ServerViews) where
+  psk_offered : kind ≡ psk_kind → (view : Option psk.View) → OfferOf own nonce kind id views (psk_offer own nonce id views view)
+  psk_offered same None = by_none
+  psk_offered same (Some view) = by_psk same
+
+  gpsk_offered : kind ≡ gpsk_kind → (view : Option gpsk.View) → OfferOf own nonce kind id views (gpsk_offer own nonce id views view)
+  gpsk_offered same None = by_none
+  gpsk_offered same (Some view) = by_gpsk same
+
+  pub offer_of : OfferOf own nonce kind id views (server_offer own nonce kind id views)
+  unfolding server_offer
+  offer_of =
+      cond_both (kind == psk_kind) _ _ (OfferOf own nonce kind id views) (λ is. psk_offered (eqb-true _ _ is) views.psk)
+      (λ _. cond_both (kind == gpsk_kind) _ _ (OfferOf own nonce kind id views) (λ is. gpsk_offered (eqb-true _ _ is) views.gpsk) (λ _. by_none))
+
+  -- it is a Request with its Identifier
+  pub offer_asks : (offer : Offer) → OfferOf own nonce kind id views offer → (packet : List ℕ) → offer.packet ≡ Some packet → IsRequest id packet
+  offer_asks _ (by_psk same) packet e = let is : psk.first own nonce id ≡ packet = cc in subst (IsRequest id) is (psk_first own nonce id)
+  offer_asks _ (by_gpsk same) packet e = let is : gpsk.first own nonce id ≡ packet = cc in subst (IsRequest id) is (gpsk_first own nonce id)
+  offer_asks _ by_none packet e = cc e
+
+offers_so : (setup : ServerSetup) (kind id : ℕ) (views : ServerViews) → is_among setup.methods kind ≡ true → (offer : Offer)
+    → OfferOf (side_of setup) setup.nonce kind id views offer → Offers setup kind views offer
+offers_so setup kind id views ordered _ (by_psk same) =
+    asks _ _ (psk_current _ _ _ (ap (λ (k : ℕ). Some k) same) refl (psk_asked (subst (λ (k : ℕ). is_among setup.methods k ≡ true) same ordered)))
+offers_so setup kind id views ordered _ (by_gpsk same) =
+    asks _ _ (gpsk_current _ _ _ (ap (λ (k : ℕ). Some k) same) refl (gpsk_asked (subst (λ (k : ℕ). is_among setup.methods k ≡ true) same ordered)))
+offers_so setup kind id views ordered _ by_none = lacks
+
+pub proposes_own : (setup : ServerSetup) (now : ServerNow) (vars : ServerVariables) (desired : Option (List ℕ)) (kind : ℕ) (offer : Offer)
+    → vars.setup ≡ setup → Proposes now vars desired kind offer → Offers setup kind now.views offer
+proposes_own setup now vars desired kind offer own next =
+    subst (λ (s : ServerSetup). Offers s kind now.views offer) own
+    (offers_so vars.setup kind (next_id vars) now.views (next_is_ordered vars.setup.methods vars.proposed desired kind next.is_next) offer
+    (subst (OfferOf (side_of vars.setup) vars.setup.nonce kind (next_id vars) now.views) next.is_offer
+    (offer_of (side_of vars.setup) vars.setup.nonce kind (next_id vars) now.views)))
