@@ -5,13 +5,12 @@ use Rattle.login_setup.specs.declared.event.Event.{Event}
 use Rattle.login_setup.specs.declared.setup.Setup.{Setup}
 use Rattle.octet_io.specs.Lines.{Lines, ended, too_long, too_much, line, lines}
 use Rattle.world_laws.specs.Agreement.{IsWhole}
-use Rattle.world_laws.proofs.Alone.{one_end_tells}
+use Rattle.world_laws.proofs.Conversations.{conversations_are_all, conversations_match, one_end_tells}
+use Rattle.world_laws.proofs.Few.{few_tags}
 use Rattle.world_laws.proofs.HonestOfEither.{honest_of_either}
 use Rattle.world_laws.proofs.HonestRuns.{honest_ends_agree}
-use Rattle.world_laws.proofs.Few.{few_tags}
-use Rattle.world_laws.proofs.Matching.{conversations_are_all, conversations_match}
 use Rattle.world_laws.proofs.Passing.{pass_carries, pass_is_alone}
-use Rattle.world_laws.proofs.Reflected.{reflected_ends_agree}
+use Rattle.world_laws.proofs.PskReflected.{reflected_ends_agree}
 use Rattle.world_laws.proofs.Whose.{honest_names_are_theirs}
 use Rattle.scenario_text.specs.Reading.{Reading, ReadLine, no_settings, read_line}
 use Rattle.scenario_text.specs.Valid.{AreValid, IsValidSetup, IsValidItem, IsValidReadLine}

@@ -3,39 +3,36 @@ use Rattle.std.proofs.Common.{Option, ◌≡◌, List, ℕ, [], true, Some, sym,
 use Rattle.login_setup.specs.declared.setup.PeerSetup.{PeerSetup}
 use Rattle.login_setup.specs.declared.setup.ServerSetup.{ServerSetup}
 use Rattle.login_setup.specs.declared.setup.Setup.{Setup}
-use Rattle.eap_base.specs.Among.{psk_kind}
 use Rattle.eap_method.specs.declared.tags.TagRecord.{TagRecord}
 use Rattle.eap_method.specs.declared.values.Report.{Report}
 use Rattle.peer_machine.specs.PeerTable as peers
 use Rattle.server_machine.specs.ServerTable as servers
-use Rattle.eap_world.specs.Run.{run_of}
 use Rattle.world_laws.specs.Agreement.{IsWhole}
-use Rattle.world_laws.specs.Alone.{OneEndTells, PeerIsHeard, PeerKnows, PeersConversation, ServerHears, ServersConversation}
+use Rattle.world_laws.specs.Alone.{PeerIsHeard, PeerKnows, PeersConversation, ServerHears, ServersConversation}
+use Rattle.world_laws.specs.ByMethod.{server_foreign}
+use Rattle.world_laws.specs.Records.{IsIn, tags_by}
+use Rattle.world_laws.specs.ToldTags.{MadeByPeer, NotByServer, PeerTold, ServerTold}
+use Rattle.world_laws.proofs.Asks.{AsksPeer, AsksServer}
+use Rattle.world_laws.proofs.AsksByMethod.{peer_asks, server_asks}
+use Rattle.world_laws.proofs.Conversing.{BothConverse, peer_moment, server_moment}
+use Rattle.world_laws.proofs.EndsStand.{BothStandFirst}
+use Rattle.world_laws.proofs.FreshAgree.{peer_won, server_won}
+use Rattle.world_laws.proofs.HonestOfEither.{none_if_honest}
+use Rattle.world_laws.proofs.HonestOther.{honest_other}
+use Rattle.world_laws.proofs.OneLogin.{first_is_in, peer_now}
+use Rattle.world_laws.proofs.PastConversations.{MadeIn, accepted_now, made_in}
+use Rattle.world_laws.proofs.Reflected.{of_peer}
+use Rattle.world_laws.proofs.Resting.{AreOne, peers_login, servers_login, whole_login}
+use Rattle.world_laws.proofs.Resting as resting
+use Rattle.world_laws.proofs.SucceedingEnds.{first_in, server_holds, server_succeeds}
 use Rattle.tag_book.specs.Book.{first_broken, tags_verdict, tags_verdict_either}
 use Rattle.eap_world.specs.Conversations.{Conversations, front}
 use Rattle.eap_world.specs.Judgement.{is_success}
-use Rattle.world_laws.specs.ByMethod.{server_foreign}
-use Rattle.world_laws.specs.GpskLogins.{HoldWhole}
-use Rattle.world_laws.specs.Records.{IsIn, tags_by}
-use Rattle.world_laws.specs.ToldTags.{MadeByPeer, NotByServer, PeerTold, ServerTold}
 use Rattle.eap_world.specs.World.{WorldNow}
 use Rattle.tag_book.specs.declared.book.End.TheVariants as end
 use Rattle.tag_book.specs.declared.book.Makers.TheVariants.{Other}
 use Rattle.tag_book.specs.declared.book.TagsVerdict.TheVariants.{Honest}
 use Rattle.tag_book.specs.declared.book.Use.TheVariants.{Accepted, Made}
-use Rattle.world_laws.proofs.Asks.{AsksPeer, AsksServer}
-use Rattle.world_laws.proofs.AsksByMethod.{peer_asks, server_asks}
-use Rattle.world_laws.proofs.Conversing.{BothConverse, peer_moment, run_converses, server_moment}
-use Rattle.world_laws.proofs.EndsStand.{BothStandFirst, every_run_so_far, stand_first}
-use Rattle.world_laws.proofs.FreshAgree.{peer_won, server_holds, server_won}
-use Rattle.world_laws.proofs.HonestOfEither.{none_if_honest}
-use Rattle.world_laws.proofs.HonestOther.{honest_other}
-use Rattle.world_laws.proofs.OneLogin.{first_is_in, peer_now}
-use Rattle.world_laws.proofs.PastConversations.{MadeIn, accepted_now, made_in}
-use Rattle.world_laws.proofs.Reflected.{asks_present, of_peer, of_server}
-use Rattle.world_laws.proofs.SameLogins.{peers_login, servers_login, whole_login}
-use Rattle.world_laws.proofs.SucceedingEnds.{first_in, server_succeeds}
-use Rattle.world_laws.proofs.WholeNonces as whole
 
 module _ (setup : Setup) (w : WorldNow) (h : BothConverse setup w) where
   -- the tags that each end has accepted and made
@@ -95,13 +92,15 @@ module _ (setup : Setup) (w : WorldNow) (h : BothConverse setup w) where
       (peer_won setup w h p_in) by.told.current by.told.views by.accepted by.made by.told.tags
       (first_in h.peer.accepted by.made asked.tag asked.rest asked.first by.is_made)
       (first_in by.accepted h.peer.made asks.tag asks.rest asks.first answered.0) in
-      let are = whole.server_on setup.peer setup.server h.peer_nonce by.nonce h.peer.size by.size w.parties.peer.vars.selected w.parties.peer.views
+      let are = resting.server_on setup.peer setup.server h.peer_nonce by.nonce h.peer.size by.size w.parties.peer.vars.selected w.parties.peer.views
       by.told.current by.told.views _ _ by.told.tags _ _ h.peer.now.stands.tags asks.tag asks.rest asks.first answered.0 in
+      let are_own = subst (λ (s : PeerSetup). AreOne w.parties.peer.vars.selected w.parties.peer.views s.nonce by.told.current by.told.views by.nonce)
+      (sym own) are in
       record {
         by = servers_own asked.tag by;
         rand_s = h.peer.now.held_is ∙ answered.1;
         rand_p = rand_p ∙ ap (λ (s : PeerSetup). Some (front s.nonce)) (sym own);
-        whole = λ by_gpsk. subst (λ (s : PeerSetup). HoldWhole w.parties.peer.views s.nonce by.told.views by.nonce) (sym own) (are.whole by_gpsk);
+        whole = are_own.whole;
         tag = asks.tag;
         accepted = first_is_in asks.tag asks.rest by.accepted asks.first;
         made = made;
@@ -113,7 +112,7 @@ module _ (setup : Setup) (w : WorldNow) (h : BothConverse setup w) where
         id_p = login.id_p;
       }
 
-  heard_by : ((t : TagRecord) → IsIn t server_accepted → NotByServer setup.server t → IsIn t peer_made) → w.conversations.fresh ≡ true
+  pub heard_by : ((t : TagRecord) → IsIn t server_accepted → NotByServer setup.server t → IsIn t peer_made) → w.conversations.fresh ≡ true
       → is_success w.parties.peer.vars.state ≡ true
       → (asked : AsksServer h.peer_nonce h.peer.accepted) → OfServer asked.tag → PeerIsHeard setup w
   heard_by server_honest fresh p_in asked by =
@@ -129,17 +128,18 @@ module _ (setup : Setup) (w : WorldNow) (h : BothConverse setup w) where
   hears_of s_in foreign holds asks accepted of =
       let own = h.server.now.stands.own in
       let tells = asks.made.tells setup.peer of.nonce of.held of.accepted of.made of.size of.told of.is_made in
-      let login = servers_login (peers.own_nonce setup.peer of.nonce) (servers.own_nonce setup.server h.server_nonce) of.size h.server.size w.parties.server _ _
-      (server_won setup w h s_in) of.told.selected of.told.views of.accepted of.made of.told.tags
+      let login = servers_login (peers.own_nonce setup.peer of.nonce) (servers.own_nonce setup.server h.server_nonce) of.size h.server.size
+      of.told.selected of.told.views of.accepted of.made of.told.tags w.parties.server _ _ (server_won setup w h s_in)
       (first_in h.server.accepted of.made asks.tag asks.rest asks.first of.is_made) in
-      let are = whole.server_on setup.peer setup.server of.nonce h.server_nonce of.size h.server.size of.told.selected of.told.views
+      let are = resting.server_on setup.peer setup.server of.nonce h.server_nonce of.size h.server.size of.told.selected of.told.views
       w.parties.server.vars.current w.parties.server.views _ _ h.server.now.stands.tags _ _ of.told.tags asks.tag asks.rest asks.first of.is_made in
+      let are_own = subst (λ (s : ServerSetup). AreOne of.told.selected of.told.views of.nonce w.parties.server.vars.current w.parties.server.views s.nonce)
+      (sym own) are in
       record {
         of = peers_own asks.tag of;
         rand_p = holds ∙ ap (λ (x : List ℕ). Some x) (sym tells.0);
         rand_s = tells.1 ∙ ap (λ (s : ServerSetup). Some (front s.nonce)) (sym own);
-        whole = λ by_gpsk. subst (λ (s : ServerSetup). HoldWhole of.told.views of.nonce w.parties.server.views s.nonce) (sym own)
-            (are.whole (are.method ∙ by_gpsk));
+        whole = are_own.whole_too;
         tag = asks.tag;
         made = of.is_made;
         accepted = accepted;
@@ -154,7 +154,7 @@ module _ (setup : Setup) (w : WorldNow) (h : BothConverse setup w) where
         id_p = login.leads_to.id_p;
       }
 
-  heard : tags_verdict w.book ≡ Honest → w.conversations.fresh ≡ true → is_success w.parties.peer.vars.state ≡ true → PeerIsHeard setup w
+  pub heard : tags_verdict w.book ≡ Honest → w.conversations.fresh ≡ true → is_success w.parties.peer.vars.state ≡ true → PeerIsHeard setup w
   heard honest fresh p_in =
       let none = none_if_honest (first_broken Other [] w.book) honest in
       let asked = peer_asks setup.peer h.peer_nonce w.parties.peer h.peer.accepted h.peer.made h.peer.size (peer_won setup w h p_in) in
@@ -163,14 +163,7 @@ module _ (setup : Setup) (w : WorldNow) (h : BothConverse setup w) where
       (honest_other end.Peer w.book none asked.tag
       (accepted_now (PeerTold setup.peer) _ _ _ _ h.peer asked.tag (first_is_in asked.tag asked.rest h.peer.accepted asked.first))))
 
-  heard_psk : tags_verdict_either w.book ≡ Honest → w.conversations.fresh ≡ true → is_success w.parties.peer.vars.state ≡ true
-      → w.parties.peer.vars.selected ≡ Some psk_kind → PeerIsHeard setup w
-  heard_psk honest fresh p_in by_psk =
-      let asked = asks_present setup w h p_in by_psk in
-      heard_by (of_peer setup w h honest) fresh p_in asked.asks
-      (made_in (ServerTold setup.server) _ _ _ _ h.server asked.asks.tag (of_server setup w h honest fresh asked))
-
-  hears : tags_verdict_either w.book ≡ Honest → is_success w.parties.server.vars.state ≡ true → ServerHears setup w
+  pub hears : tags_verdict_either w.book ≡ Honest → is_success w.parties.server.vars.state ≡ true → ServerHears setup w
   hears honest s_in =
       let holds = server_holds (servers.own_nonce setup.server h.server_nonce) w.parties.server _ _ (server_won setup w h s_in) in
       let asks = server_asks setup.server h.server_nonce holds.foreign h.server.size h.server.held h.server.accepted h.server.made h.server.told
@@ -184,7 +177,7 @@ module _ (setup : Setup) (w : WorldNow) (h : BothConverse setup w) where
 same_report : (one other : Option Report) (x y : Report) → one ≡ other → one ≡ Some x → other ≡ Some y → x ≡ y
 same_report one other x y e a b = cc
 
-knows : (setup : Setup) → IsWhole setup → (w : WorldNow) → BothStandFirst setup w.parties w.book → tags_verdict w.book ≡ Honest
+pub knows : (setup : Setup) → IsWhole setup → (w : WorldNow) → BothStandFirst setup w.parties w.book → tags_verdict w.book ≡ Honest
     → is_success w.parties.server.vars.state ≡ true → PeerKnows setup w
 knows setup whole w both honest s_in =
     let none = none_if_honest (first_broken Other [] w.book) honest in
@@ -192,9 +185,9 @@ knows setup whole w both honest s_in =
     let s = w.parties.server in
     let stands = both.server_stands in
     let won = server_succeeds setup.server s _ _ stands.tags (stands.sure s_in) in
-    let login = servers_login setup.peer setup.server whole.peer_nonce whole.server_nonce s _ _ won p.vars.selected p.views _ _ both.peer_stands.tags
+    let login = servers_login setup.peer setup.server whole.peer_nonce whole.server_nonce p.vars.selected p.views _ _ both.peer_stands.tags s _ _ won
     (record { is = λ t rest first. honest_other end.Server w.book none t (first_is_in t rest _ first) }) in
-    let same = whole_login setup.peer setup.server whole.peer_nonce whole.server_nonce s _ _ won p.vars.selected p.views _ _ both.peer_stands.tags
+    let same = whole_login setup.peer setup.server whole.peer_nonce whole.server_nonce p.vars.selected p.views _ _ both.peer_stands.tags s _ _ won
     (honest_other end.Server w.book none) (honest_other end.Peer w.book none) in
     let one = same_report _ _ login.leads_to.theirs login.report same login.leads_to.leads login.holds in
     record {
@@ -203,15 +196,4 @@ knows setup whole w both honest s_in =
       same = same ∙ login.holds;
       keyed = record { id_s = login.id_s; user = login.user; known = login.known; key = login.leads_to.key };
       id_p = ap (λ (r : Report). r.id_p) (sym one) ∙ login.leads_to.id_p;
-    }
-
-pub one_end_tells : OneEndTells
-one_end_tells setup events whole =
-    let w = run_of setup events in
-    let h = run_converses setup events whole in
-    record {
-      by_peer = λ honest fresh p_in. heard setup w h honest fresh p_in;
-      by_psk_peer = λ honest fresh p_in by_psk. heard_psk setup w h honest fresh p_in by_psk;
-      by_server = λ honest s_in. hears setup w h honest s_in;
-      by_server_once = λ honest two s_in. knows setup whole w (stand_first setup w (every_run_so_far setup events) two) honest s_in;
     }

@@ -1,5 +1,5 @@
 -- Over an honest book and fresh nonces two ends that both stand in SUCCESS agree, and hold each other's present nonces.
-use Rattle.std.proofs.Common.{◌≡◌, ℕ, Bool, true, List, [], Option, Some, refl, sym, ap, subst, ◌∙◌}
+use Rattle.std.proofs.Common.{◌≡◌, Bool, true, List, [], Some, refl, sym, ap, subst, ◌∙◌}
 use Rattle.std.specs.Prelude.{◌&&◌, if◌then◌else◌}
 use Rattle.login_setup.specs.declared.event.Event.{Event}
 use Rattle.login_setup.specs.declared.setup.PeerSetup.{PeerSetup}
@@ -8,24 +8,10 @@ use Rattle.login_setup.specs.declared.setup.Setup.{Setup}
 use Rattle.eap_method.specs.declared.tags.TagRecord.{TagRecord}
 use Rattle.peer_machine.specs.PeerTable as peers
 use Rattle.server_machine.specs.ServerTable as servers
-use Rattle.server_machine.specs.ServerTable.{ServerNow}
 use Rattle.eap_world.specs.Run.{run_of}
-use Rattle.world_laws.specs.Agreement.{AgreeAnew, IsWhole}
-use Rattle.tag_book.specs.Book.{first_broken, tags_verdict}
-use Rattle.eap_world.specs.Conversations.{front}
-use Rattle.eap_world.specs.Judgement.{is_success, verdict_of}
-use Rattle.world_laws.specs.ByMethod.{server_foreign}
-use Rattle.world_laws.specs.GpskLogins.{HoldWhole}
-use Rattle.world_laws.specs.GpskServerStands.{gpsk_rand_p_in}
-use Rattle.world_laws.specs.PskServerStands.{psk_rand_p_in}
+use Rattle.world_laws.specs.Agreement.{IsWhole, AgreeAnew}
 use Rattle.world_laws.specs.Records.{IsIn, tags_by}
-use Rattle.eap_world.specs.World.{WorldNow}
-use Rattle.tag_book.specs.declared.book.End.TheVariants as end
-use Rattle.tag_book.specs.declared.book.Makers.TheVariants.{Other}
-use Rattle.tag_book.specs.declared.book.TagsVerdict.TheVariants.{Honest}
-use Rattle.tag_book.specs.declared.book.Use.TheVariants.{Accepted, Made}
-use Rattle.eap_world.specs.declared.verdict.Verdict.{Verdict}
-use Rattle.eap_world.specs.declared.verdict.Verdict.TheVariants.{Agree, Apart, Unfinished}
+use Rattle.world_laws.specs.ToldTags.{NotByServer, PeerTold}
 use Rattle.world_laws.proofs.Asks.{AsksServer}
 use Rattle.world_laws.proofs.AsksByMethod.{peer_asks, server_asks}
 use Rattle.world_laws.proofs.Conversing.{BothConverse, run_converses}
@@ -33,22 +19,19 @@ use Rattle.world_laws.proofs.HonestOfEither.{none_if_honest}
 use Rattle.world_laws.proofs.HonestOther.{honest_other}
 use Rattle.world_laws.proofs.OneLogin.{first_is_in, in_one}
 use Rattle.world_laws.proofs.PastConversations.{accepted_now}
-use Rattle.world_laws.proofs.SucceedingEnds.{FirstIn, PeerSucceeds, ServerSucceeds, both_agree, both_succeed, first_in, of_gpsk, of_psk, peer_succeeds, server_succeeds}
-use Rattle.world_laws.proofs.Theirs.{own_theirs}
-use Rattle.world_laws.proofs.WholeNonces as whole
-use Rattle.world_laws.specs.ToldTags.{NotByServer, PeerTold}
-
--- a server that has succeeded holds a nonce of the peer
-pub record Holds (o : Option (List ℕ)) : Type 0 where
-  pub foreign : List ℕ
-  pub is : o ≡ Some foreign
-
-pub server_holds : (setup : ServerSetup) (now : ServerNow) (accepted made : List TagRecord) → ServerSucceeds setup now accepted made
-    → Holds (server_foreign now.vars.current now.views)
-server_holds setup now _ _ (of_psk login header sealed id is_current in_view facts r_sent) =
-    record { foreign = _; is = ap (λ (o : Option ℕ). server_foreign o now.views) is_current ∙ ap psk_rand_p_in in_view }
-server_holds setup now _ _ (of_gpsk login pd last_pd is_current in_view facts) =
-    record { foreign = _; is = ap (λ (o : Option ℕ). server_foreign o now.views) is_current ∙ ap gpsk_rand_p_in in_view }
+use Rattle.world_laws.proofs.Resting.{AreOne}
+use Rattle.world_laws.proofs.Resting as resting
+use Rattle.world_laws.proofs.SucceedingEnds.{FirstIn, PeerSucceeds, ServerSucceeds, both_agree, both_succeed, first_in, own_theirs, peer_succeeds, server_holds, server_succeeds}
+use Rattle.tag_book.specs.Book.{first_broken, tags_verdict}
+use Rattle.eap_world.specs.Conversations.{front}
+use Rattle.eap_world.specs.Judgement.{is_success, verdict_of}
+use Rattle.eap_world.specs.World.{WorldNow}
+use Rattle.tag_book.specs.declared.book.End.TheVariants as end
+use Rattle.tag_book.specs.declared.book.Makers.TheVariants.{Other}
+use Rattle.tag_book.specs.declared.book.TagsVerdict.TheVariants.{Honest}
+use Rattle.tag_book.specs.declared.book.Use.TheVariants.{Accepted, Made}
+use Rattle.eap_world.specs.declared.verdict.Verdict.{Verdict}
+use Rattle.eap_world.specs.declared.verdict.Verdict.TheVariants.{Agree, Apart, Unfinished}
 
 pub agree_if : (one other same : Bool) → one ≡ true → other ≡ true → same ≡ true
     → (let verdict : Verdict = if one && other then (if same then Agree else Apart) else Unfinished in verdict) ≡ Agree
@@ -90,18 +73,19 @@ agree_anew setup w h fresh p_in s_in p_asks p_made server_honest =
     let one = in_one setup.peer setup.server _ _ _ _ _ _ _ _ h.peer h.server refl refl refl refl fresh fresh
     server_honest holds.foreign s_held s_asks p_asks p_made in
     let of_peer : FirstIn h.peer.accepted h.server.made = first_in h.peer.accepted h.server.made p_asks.tag p_asks.rest p_asks.first one.peer_tag in
-    let succeed = both_succeed peer_setup server_setup p s h.peer.size h.server.size _ _ _ _ p_won s_won (λ is_psk. of_peer)
+    let succeed = both_succeed peer_setup server_setup p s h.peer.size h.server.size _ _ _ _ p_won s_won (λ _. of_peer)
     (first_in h.server.accepted h.peer.made s_asks.tag s_asks.rest s_asks.first one.server_tag) in
     let same = both_agree peer_setup server_setup p s h.peer.size h.server.size succeed in
-    let are = whole.server_on setup.peer setup.server h.peer_nonce h.server_nonce h.peer.size h.server.size p.vars.selected p.views s.vars.current s.views
+    let are = resting.server_on setup.peer setup.server h.peer_nonce h.server_nonce h.peer.size h.server.size p.vars.selected p.views s.vars.current s.views
     _ _ s_stands.tags _ _ p_stands.tags s_asks.tag s_asks.rest s_asks.first one.server_tag in
+    let are_own = subst (λ (x : PeerSetup). AreOne p.vars.selected p.views x.nonce s.vars.current s.views s.vars.setup.nonce) (sym p_stands.own)
+    (subst (λ (x : ServerSetup). AreOne p.vars.selected p.views h.peer_nonce s.vars.current s.views x.nonce) (sym s_stands.own) are) in
     record {
       agree = agree_if (is_success p.vars.state) (is_success s.vars.state) _ p_in s_in (rw (p_stands.own, s_stands.own) same);
       hold = record {
         rand_s = h.peer.now.held_is ∙ (one.peer_holds ∙ ap (λ (x : ServerSetup). Some (front x.nonce)) (sym s_stands.own));
         rand_p = h.server.now.held_is ∙ (one.server_holds ∙ ap (λ (x : PeerSetup). Some (front x.nonce)) (sym p_stands.own));
-        whole = λ by_gpsk. subst (λ (x : PeerSetup). HoldWhole p.views x.nonce s.views s.vars.setup.nonce) (sym p_stands.own)
-            (subst (λ (x : ServerSetup). HoldWhole p.views h.peer_nonce s.views x.nonce) (sym s_stands.own) (are.whole by_gpsk));
+        whole = are_own.whole;
       };
       theirs = own_theirs setup w h.peer_nonce h.server_nonce succeed;
     }

@@ -1,28 +1,35 @@
--- Two ends that have succeeded by EAP-GPSK agree.
+-- Two ends that have succeeded by EAP-GPSK agree, and what they report is their own.
 use Rattle.std.proofs.Common.{◌≡◌, ℕ, true, false, List, [], ◌∷◌, ◌++◌, length, Some, refl, sym, ap, subst, ◌∙◌, length-append, arith, inl, inr}
 use Rattle.std.proofs.lemmas.Bool.{and_from, not_from_false}
 use Rattle.login_setup.specs.declared.setup.PeerSetup.{PeerSetup}
 use Rattle.login_setup.specs.declared.setup.ServerSetup.{ServerSetup}
+use Rattle.login_setup.specs.declared.setup.Setup.{Setup}
 use Rattle.eap_base.specs.Among.{gpsk_kind}
 use Rattle.eap_base.specs.Suite.{suite_octets}
 use Rattle.gpsk_messages.specs.Message.{field_with_length, covered_of}
+use Rattle.login_setup.specs.Users.{user_of}
 use Rattle.login_policy.proofs.Choices.{picked_is_allowed}
+use Rattle.login_policy.specs.Policy.{picked_suite}
 use Rattle.eap_method.specs.declared.tags.TagRecord.{TagRecord}
 use Rattle.eap_method.specs.declared.values.Report.{Report}
 use Rattle.eap_method.specs.GpskPeer as peer
 use Rattle.eap_method.specs.GpskServer as server
 use Rattle.eap_method.specs.GpskTags.{sk_record, suite_list}
 use Rattle.eap_method.specs.Peer.{peer_report_of}
-use Rattle.eap_method.specs.Server.{server_report_of, gpsk_report}
+use Rattle.eap_method.specs.Server.{server_report_of, side_of, gpsk_report}
 use Rattle.peer_machine.specs.PeerTable.{PeerNow, selected_report, peer_reports}
 use Rattle.server_machine.specs.ServerTable.{ServerNow, current_report, server_reports}
 use Rattle.eap_world.specs.Judgement.{agreement_of, peer_agrees, server_agrees, is_welcome}
+use Rattle.eap_world.specs.World.{WorldNow}
+use Rattle.world_laws.specs.Agreement.{AreTheirs}
+use Rattle.world_laws.specs.GpskLogins.{TakesFirstSuite}
 use Rattle.world_laws.specs.GpskPeerStands.{GpskBegun, gpsk2_record}
 use Rattle.world_laws.specs.GpskServerStands.{GpskChecked, gpsk2_taken}
 use Rattle.world_laws.specs.Records.{IsIn}
-use Rattle.world_laws.proofs.Fields.{fronts, sized_fronts, suite_fronts}
 use Rattle.world_laws.proofs.Among.{among_one, among_two}
 use Rattle.world_laws.proofs.EqualReports.{reports_agree}
+use Rattle.world_laws.proofs.Fields.{fronts, sized_fronts, suite_fronts}
+use Rattle.world_laws.proofs.Leads.{own_key, own_name}
 
 -- both ends speak of the same login
 pub record IsSame (p : peer.Login) (list : List ℕ) (s : server.Login) : Type 0 where
@@ -130,3 +137,41 @@ module _ (peer_setup : PeerSetup) (server_setup : ServerSetup) (p : peer.Login) 
       (by_peer peer_setup p list begun)
       (subst (λ (report : Report). server_agrees server_setup report ≡ true) (sym reports) (by_server server_setup s checked)) in
       rw (peer_reported peer_setup p list begun now is_selected in_view, server_reported server_setup s checked other is_current in_other) agreed
+
+-- what both report is their own: names, key and suite
+module _ (setup : Setup) (w : WorldNow) (login : peer.Login) (list : List ℕ) (facts : GpskBegun setup.peer login list)
+    (other : server.Login) (pd : List ℕ) (checked : GpskChecked setup.server other false) (same : IsSame login list other) where
+  server_name : login.id_s ≡ setup.server.name
+  unfolding side_of
+  server_name = same.id_s ∙ ap (λ own. own.id_s) checked.own
+
+  -- the list that the peer read is the server's own
+  own_list : list ≡ suite_list setup.server.suites
+  unfolding side_of
+  own_list = same.offered ∙ ap (λ own. suite_list own.suites) checked.own
+
+  gpsk_suite : TakesFirstSuite setup (peer.report_of login)
+  unfolding peer.report_of
+  gpsk_suite = record {
+    suite = login.suite;
+    picked = ap (picked_suite setup.peer.suites) (sym own_list) ∙ facts.picked;
+    is_suite = refl;
+  }
+
+  pub gpsk_theirs : w.parties.peer.vars.selected ≡ Some gpsk_kind → w.parties.peer.views.gpsk ≡ peer.over login true
+      → w.parties.server.vars.current ≡ Some gpsk_kind → w.parties.server.views.gpsk ≡ Some (server.over other true) → AreTheirs setup w.parties.peer w.parties.server
+  unfolding peer.report_of
+  gpsk_theirs is_selected in_view is_current in_other =
+      let name : login.cred.id_p ≡ setup.peer.name = own_name setup.peer gpsk_kind login.cred facts.cred in
+      record {
+        report = peer.report_of login;
+        holds = peer_reported setup.peer login list facts w.parties.peer is_selected in_view;
+        same = server_reported setup.server other checked w.parties.server is_current in_other ∙ ap Some (sym (same_reports login list other same));
+        id_p = name;
+        id_s = server_name;
+        user = checked.user;
+        known = ap (λ (id : List ℕ). user_of setup.server.users id gpsk_kind) (sym name ∙ same.id_p) ∙ checked.known;
+        key = sym checked.key ∙ (sym same.psk ∙ own_key setup.peer gpsk_kind login.cred facts.cred);
+        welcome = checked.standing;
+        first_suite = λ e. gpsk_suite;
+      }

@@ -5,7 +5,7 @@ use Rattle.std.proofs.lemmas.Option.{cond_some, same_Some}
 use Rattle.gpsk_messages.specs.Message.{Message, gpsk1, gpsk2, gpsk3, gpsk4, fail, protected_fail}
 use Rattle.gpsk_messages.specs.Reading.{exact_at, sized_at, identity_at, gpsk1_at, gpsk2_at, gpsk3_at, gpsk4_at, fail_at, protected_fail_at, fields_at, with_mac, takes_mac, loose_of, read_of}
 use Rattle.gpsk_messages.proofs.FieldLaws.{step_of}
-use Rattle.world_laws.proofs.Fields.{judged_loose, tested}
+use Rattle.world_laws.proofs.GpskFields.{judged_loose, tested}
 use Rattle.world_laws.proofs.StandsIn.{StandsIn, one_more}
 
 record EndsWith (whole rest : List ℕ) : Type 0 where

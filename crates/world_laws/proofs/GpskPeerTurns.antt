@@ -20,7 +20,7 @@ use Rattle.world_laws.specs.GpskPeerStands.{GpskPeerTags, gpsk_unset, gpsk_fresh
 use Rattle.world_laws.specs.Records.{AreFew, IsIn}
 use Rattle.world_laws.specs.SingleSteps.{identifier_of}
 use Rattle.world_laws.proofs.Among.{among_one, among_two}
-use Rattle.world_laws.proofs.Fields.{read_rands}
+use Rattle.world_laws.proofs.GpskFields.{read_rands}
 use Rattle.world_laws.proofs.GpskNonces.{read_stands}
 use Rattle.world_laws.proofs.Hearing.{Hears, as_before, hears_now}
 use Rattle.world_laws.proofs.PeerTurns.{Answers, Turned, discards_none, drops, replies, replies_one}

@@ -20,7 +20,7 @@ use Rattle.method_laws.specs.GpskServerRows as gpsk_row
 use Rattle.world_laws.specs.GpskServerStands.{GpskChecked, GpskServerTags, gpsk_asked, gpsk_refusing, gpsk_refused, gpsk_barring, gpsk_checked, gpsk_barred, gpsk_confirmed, gpsk2_taken, gpsk_rand_p}
 use Rattle.world_laws.specs.Records.{AreFew, IsIn}
 use Rattle.world_laws.proofs.Among.{among_one}
-use Rattle.world_laws.proofs.Fields.{read_rands}
+use Rattle.world_laws.proofs.GpskFields.{read_rands}
 use Rattle.world_laws.proofs.GpskNonces.{read_stands}
 use Rattle.world_laws.proofs.Hearing.{Hears, as_before, hears_now}
 use Rattle.world_laws.proofs.ServerTurns.{Asks, IsRequest, Turned, asks_no_more, asks_none, asks_one, drops, ends, request_is, requests}

@@ -10,6 +10,8 @@ pub mod Asks
 pub mod AsksByMethod
 -- An end that has no later nonces never begins a second conversation.
 pub mod BeginsOnce
+-- The conversations of every run match, and the success of one end tells of the other.
+pub mod Conversations
 -- In every run the conversations of both ends are as told.
 pub mod Conversing
 -- Each entry of the book is of an event that has been, and which are of an end's present conversation.
@@ -26,14 +28,18 @@ pub mod EndsStand
 pub mod EqualReports
 -- Every run sends few packets, and its book holds few tags.
 pub mod Few
--- Two joins that are equal, cut into their parts; and the sizes of the nonces that a reader gives.
+-- Two joins that are equal, cut into their parts.
 pub mod Fields
 -- Over an honest book and fresh nonces two ends that both stand in SUCCESS agree.
 pub mod FreshAgree
 -- The world tells whether a run is fresh.
 pub mod FreshRuns
--- Two ends that have succeeded by EAP-GPSK agree.
+-- Two ends that have succeeded by EAP-GPSK agree, and what they report is their own.
 pub mod GpskAgrees
+-- The sizes of the nonces that a reader of EAP-GPSK gives.
+pub mod GpskFields
+-- The login of an end that has succeeded by EAP-GPSK is that of the other end's conversation on whose tags it rests.
+pub mod GpskLogins
 -- The nonces of GPSK-1 and GPSK-2 stand in their octets.
 pub mod GpskNonces
 -- What a tag that the peer made by EAP-GPSK tells of the conversation in which it did: both nonces, whole.
@@ -44,6 +50,8 @@ pub mod GpskPeerTurns
 pub mod GpskServerTells
 -- Each turn of a server's method EAP-GPSK: of what came it holds RAND_Peer alone, it asks with the next Identifier, and its view tells the tags.
 pub mod GpskServerTurns
+-- By EAP-GPSK two conversations of which one rests on the other hold the whole of each other's nonces.
+pub mod GpskWhole
 -- What an end holds of the other's nonce after a call: what it held before, or what came in it.
 pub mod Hearing
 -- A book that is honest by the other end's tags alone is honest by those of either end.
@@ -54,6 +62,8 @@ pub mod HonestOther
 pub mod HonestRuns
 -- What each party sent last is the last packet to the port where its packets go.
 pub mod LastSent
+-- To what the login of a conversation leads, beside what the other end reports.
+pub mod Leads
 -- Each conversation in SUCCESS rests on one of the other end, and no two of an end on the same.
 pub mod Matching
 -- The nonces that an end has left, those with which conversations have begun, and which nonce is new.
@@ -80,7 +90,7 @@ pub mod PeerKeeps
 pub mod PeerSpeaks
 -- What is asked of a turn of a peer's method: each Response has the Identifier of the Request, and the view after it tells the tags.
 pub mod PeerTurns
--- Two ends that have succeeded by EAP-PSK agree.
+-- Two ends that have succeeded by EAP-PSK agree, and what they report is their own.
 pub mod PskAgrees
 -- The PSK-4 that a server accepts tells which conversation of the peer made it: that has accepted PSK-3.
 pub mod PskAnswered
@@ -88,22 +98,26 @@ pub mod PskAnswered
 pub mod PskFields
 -- The header that EAX covers of an EAP-PSK message ends in RAND_S.
 pub mod PskHeaders
+-- The login of an end that has succeeded by EAP-PSK is that of the other end's conversation on whose tags it rests.
+pub mod PskLogins
+-- Matching conversations by EAP-PSK.
+pub mod PskMatching
 -- The nonces of PSK-1 and PSK-2 stand in their octets.
 pub mod PskNonces
 -- What a tag that the peer made by EAP-PSK tells of the conversation in which it did: both nonces.
 pub mod PskPeerTells
 -- Each turn of a peer's method EAP-PSK: of what came it holds RAND_S alone, it answers the Request, and its view tells the tags.
 pub mod PskPeerTurns
+-- No end takes its own tags for the other's, in whichever conversation it made them, where the peer succeeds by EAP-PSK.
+pub mod PskReflected
 -- What a tag that the server made by EAP-PSK tells of the conversation in which it did; and what each end asks by its first tag.
 pub mod PskServerTells
 -- Each turn of a server's method EAP-PSK: of what came it holds RAND_P alone, it asks with the next Identifier, and its view tells the tags.
 pub mod PskServerTurns
--- No end takes its own tags for the other's, in whichever conversation it made them, where the peer succeeds by EAP-PSK.
+-- A tag that the server accepted and can't have made is the peer's.
 pub mod Reflected
--- The login of an end that has succeeded is that of the other end's conversation on whose tags it rests.
-pub mod SameLogins
--- A conversation of the peer on which one of the server in SUCCESS rests leads to what that reports.
-pub mod SameReports
+-- Two conversations of which one rests on the other are of one method, and their logins lead to the same.
+pub mod Resting
 -- The server by the method of a Type: what holds of the turns, the offer, the nonce and the tags of each method holds of a Type's.
 pub mod ServerByMethod
 -- What the server hears of the peer's nonce stands in what came.
@@ -120,21 +134,17 @@ pub mod SingleSteps
 pub mod Skips
 -- Octets that stand in others, one after the other.
 pub mod StandsIn
--- Two ends in SUCCESS agree, where each accepted tag is one that either end made: an end in SUCCESS can't have made
--- the tag itself that the login rests on.
+-- Two ends in SUCCESS agree, and what they report is their own, where each accepted tag is one that either end made: an end in
+-- SUCCESS can't have made the tag itself that the login rests on.
 pub mod SucceedingEnds
 -- The tags of each end in a book that grows, and what its honesty says of them.
 pub mod TagsOfEnds
 -- What holds of each answer of a table, and of each delivery as it is heard, holds of all that an end takes.
 pub mod Taking
--- What two ends that have succeeded in one login report is their own.
-pub mod Theirs
 -- The Type-Data of a packet stands in the octets that begin with it.
 pub mod TypeData
 -- The version of a scenario's text stays in its world.
 pub mod Versions
--- Two conversations of which one rests on the other are of one method, and by EAP-GPSK hold the whole of each other's nonces.
-pub mod WholeNonces
 -- In every run, what two ends that both stand in SUCCESS report over an honest book is their own: names, key and suite.
 pub mod Whose
 -- The Identity round (RFC 3748 section 2), computed from the definitions alone.

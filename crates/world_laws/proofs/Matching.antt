@@ -1,55 +1,37 @@
 -- Matching conversations: each one in SUCCESS rests on one of the other end, and no two of an end on the same.
-use Rattle.std.proofs.Common.{◌≡◌, ℕ, true, List, [], ◌∷◌, length, Some, None, refl, sym, ap, subst, ◌∙◌, inl, inr}
-use Rattle.login_setup.specs.declared.event.Event.{Event}
+use Rattle.std.proofs.Common.{◌≡◌, ℕ, true, List, [], ◌∷◌, length, Some, refl, sym, ap, subst, ◌∙◌, inl, inr}
 use Rattle.login_setup.specs.declared.setup.PeerSetup.{PeerSetup}
 use Rattle.login_setup.specs.declared.setup.ServerSetup.{ServerSetup}
 use Rattle.login_setup.specs.declared.setup.Setup.{Setup}
-use Rattle.eap_base.specs.Among.{gpsk_kind, psk_kind}
 use Rattle.eap_method.specs.declared.tags.TagRecord.{TagRecord}
-use Rattle.eap_method.specs.PskTags.{tek_record}
 use Rattle.peer_machine.specs.PeerTable as peers
 use Rattle.server_machine.specs.ServerTable as servers
 use Rattle.peer_machine.specs.PeerTable.{peer_reports}
-use Rattle.server_machine.specs.ServerTable.{server_reports}
-use Rattle.eap_world.specs.Run.{run_of}
-use Rattle.world_laws.specs.Agreement.{IsWhole}
 use Rattle.tag_book.specs.Book.{first_broken, tags_verdict, tags_verdict_either}
 use Rattle.eap_world.specs.Conversations.{front}
-use Rattle.world_laws.specs.ByMethod.{peer_login, server_login, ServerHasSucceeded, gpsk_server_succeeded, psk_server_succeeded}
-use Rattle.world_laws.specs.EachConversation.{AreTwoOf, IsOneOf, OfPeer, OfServer, all_made, nonces_of, peer_at, peer_conversations, peer_holds, peer_nonce, server_at, server_conversations, server_holds, server_nonce}
-use Rattle.eap_world.specs.Judgement.{is_success}
-use Rattle.world_laws.specs.Matching.{AreAll, AreOfOne, ConversationsAreAll, ConversationsMatch, HasSameKeys, HoldNonces, Match, NoTwoAlike, PeerMatches, PeerRests, ReportsAgree, RestsOn, ServerMatches, ServerRests}
+use Rattle.world_laws.specs.ByMethod.{server_login}
+use Rattle.world_laws.specs.EachConversation.{AreTwoOf, IsOneOf, OfPeer, OfServer, all_made, peer_holds, peer_nonce, server_holds, server_nonce}
+use Rattle.world_laws.specs.Matching.{AreAll, AreOfOne, HasSameKeys, HoldNonces, NoTwoAlike, PeerMatches, PeerRests, ReportsAgree, RestsOn, ServerMatches, ServerRests}
 use Rattle.world_laws.specs.PeerStands.{PeerStands}
 use Rattle.world_laws.specs.Records.{IsIn, tags_by}
 use Rattle.world_laws.specs.ServerStands.{ServerStands}
 use Rattle.world_laws.specs.ToldTags.{MadeByPeer, MadeByServer, NotByServer, PeerTold, ServerTold}
-use Rattle.eap_world.specs.World.{WorldNow, world_made, world_start}
-use Rattle.tag_book.specs.declared.book.End.TheVariants as end
-use Rattle.tag_book.specs.declared.book.Entry.{Entry}
-use Rattle.tag_book.specs.declared.book.Makers.TheVariants.{Either, Other}
-use Rattle.tag_book.specs.declared.book.TagsVerdict.TheVariants.{Honest}
-use Rattle.tag_book.specs.declared.book.Use.TheVariants.{Accepted, Made}
 use Rattle.world_laws.proofs.Asks.{AsksPeer, AsksServer}
 use Rattle.world_laws.proofs.AsksByMethod.{peer_asks, server_asks}
-use Rattle.world_laws.proofs.Conversing.{BothConverse, start_converses, starts_so}
-use Rattle.world_laws.proofs.EachOf.{Told, walk}
-use Rattle.world_laws.proofs.EachTurn.{PeerWell, ServerWell, converses_on, grow, peer_nonce_of, peer_turns, peer_used, server_nonce_of, server_turns, server_used}
-use Rattle.world_laws.proofs.FreshAgree as succeeds
 use Rattle.world_laws.proofs.HonestOfEither.{honest_of_either, none_if_honest}
 use Rattle.world_laws.proofs.HonestOther.{honest_other}
 use Rattle.world_laws.proofs.OneLogin.{first_is_in, one_held}
 use Rattle.world_laws.proofs.OneOf.{accepted_in, first_of, made_in, same_or_two, second_of}
-use Rattle.world_laws.proofs.OneMethod.{apart as apart_kinds}
-use Rattle.world_laws.proofs.PeerKeeps.{peer_few}
-use Rattle.world_laws.proofs.PskAnswered.{HasAsked, HasPsk4, has_asked, psk4_taken}
-use Rattle.world_laws.proofs.Reflected.{AsksAnother, asks_another}
-use Rattle.world_laws.proofs.SameLogins as logins
-use Rattle.world_laws.proofs.SameReports.{same_report}
-use Rattle.world_laws.proofs.ServerByMethod.{told_by_psk}
-use Rattle.world_laws.proofs.ServerKeeps.{server_few}
+use Rattle.world_laws.proofs.Resting as resting
 use Rattle.world_laws.proofs.SucceedingEnds.{PeerSucceeds, ServerSucceeds, both_agree, both_succeed, first_in, peer_succeeds, server_succeeds}
+use Rattle.world_laws.proofs.SucceedingEnds as success
 use Rattle.world_laws.proofs.TagsOfEnds.{honest_tags}
-use Rattle.world_laws.proofs.WholeNonces as whole
+use Rattle.eap_world.specs.Judgement.{is_success}
+use Rattle.eap_world.specs.World.{WorldNow}
+use Rattle.tag_book.specs.declared.book.End.TheVariants as end
+use Rattle.tag_book.specs.declared.book.Makers.TheVariants.{Either, Other}
+use Rattle.tag_book.specs.declared.book.TagsVerdict.TheVariants.{Honest}
+use Rattle.tag_book.specs.declared.book.Use.TheVariants.{Accepted, Made}
 
 -- ---- one conversation
 
@@ -60,22 +42,6 @@ pub record PeerKnown (setup : PeerSetup) (p : OfPeer) : Type 0 where
 pub record ServerKnown (setup : ServerSetup) (s : OfServer) : Type 0 where
   pub size : length (server_nonce s) ≡ 32
   pub stands : ServerStands (servers.own_nonce setup (server_nonce s)) s.now s.accepted s.made
-
-peer_is_known : (setup : PeerSetup) (p : OfPeer) → PeerWell setup p.now p.accepted p.made → PeerKnown setup p
-peer_is_known setup p well =
-    let same : peer_nonce p ≡ well.nonce = ap (λ (s : PeerSetup). s.nonce) well.stands.own in
-    record {
-      size = ap length same ∙ well.size;
-      stands = subst (λ (n : List ℕ). PeerStands (peers.own_nonce setup n) p.now p.accepted p.made) (sym same) well.stands;
-    }
-
-server_is_known : (setup : ServerSetup) (s : OfServer) → ServerWell setup s.now s.accepted s.made → ServerKnown setup s
-server_is_known setup s well =
-    let same : server_nonce s ≡ well.nonce = ap (λ (x : ServerSetup). x.nonce) well.stands.own in
-    record {
-      size = ap length same ∙ well.size;
-      stands = subst (λ (n : List ℕ). ServerStands (servers.own_nonce setup n) s.now s.accepted s.made) (sym same) well.stands;
-    }
 
 -- ---- what a conversation that rests on another tells of it
 
@@ -90,18 +56,18 @@ pub record Asking (setup : ServerSetup) (s : OfServer) : Type 0 where
   pub asks : AsksPeer setup (server_nonce s) foreign s.accepted
 
 module _ (setup : Setup) where
-  peer_told : (p : OfPeer) → PeerKnown setup.peer p → PeerTold setup.peer (peer_nonce p) (peer_holds p) p.accepted p.made
+  pub peer_told : (p : OfPeer) → PeerKnown setup.peer p → PeerTold setup.peer (peer_nonce p) (peer_holds p) p.accepted p.made
   peer_told p known = record { selected = p.now.vars.selected; views = p.now.views; tags = known.stands.tags; held_is = refl }
 
   server_told : (s : OfServer) → ServerKnown setup.server s → ServerTold setup.server (server_nonce s) (server_holds s) s.accepted s.made
   server_told s known = record { current = s.now.vars.current; views = s.now.views; tags = known.stands.tags; held_is = refl }
 
-  peer_won : (p : OfPeer) → PeerKnown setup.peer p → is_success p.now.vars.state ≡ true
+  pub peer_won : (p : OfPeer) → PeerKnown setup.peer p → is_success p.now.vars.state ≡ true
       → PeerSucceeds (peers.own_nonce setup.peer (peer_nonce p)) p.now p.accepted p.made
   peer_won p known p_in =
       peer_succeeds (peers.own_nonce setup.peer (peer_nonce p)) p.now p.accepted p.made known.stands.tags (known.stands.decided (known.stands.sure p_in))
 
-  server_won : (s : OfServer) → ServerKnown setup.server s → is_success s.now.vars.state ≡ true
+  pub server_won : (s : OfServer) → ServerKnown setup.server s → is_success s.now.vars.state ≡ true
       → ServerSucceeds (servers.own_nonce setup.server (server_nonce s)) s.now s.accepted s.made
   server_won s known s_in = server_succeeds (servers.own_nonce setup.server (server_nonce s)) s.now s.accepted s.made known.stands.tags (known.stands.sure s_in)
 
@@ -111,9 +77,9 @@ module _ (setup : Setup) where
   server_asking s known foreign holds =
       server_asks setup.server (server_nonce s) foreign known.size (server_holds s) s.accepted s.made (server_told s known) holds
 
-  server_in : (s : OfServer) → ServerKnown setup.server s → is_success s.now.vars.state ≡ true → Asking setup.server s
+  pub server_in : (s : OfServer) → ServerKnown setup.server s → is_success s.now.vars.state ≡ true → Asking setup.server s
   server_in s known s_in =
-      let held = succeeds.server_holds (servers.own_nonce setup.server (server_nonce s)) s.now s.accepted s.made (server_won s known s_in) in
+      let held = success.server_holds (servers.own_nonce setup.server (server_nonce s)) s.now s.accepted s.made (server_won s known s_in) in
       record { foreign = held.foreign; holds = held.is; asks = server_asking s known held.foreign held.is }
 
   peer_in : (p : OfPeer) → PeerKnown setup.peer p → is_success p.now.vars.state ≡ true → AsksServer (peer_nonce p) p.accepted
@@ -129,7 +95,7 @@ module _ (setup : Setup) where
   made_at s known t foreign made is = made.tells setup.server (server_nonce s) (server_holds s) s.accepted s.made (server_told s known) is
 
   -- one of the server in SUCCESS that rests on one of the peer
-  server_on : (s : OfServer) (known : ServerKnown setup.server s) → (s_in : is_success s.now.vars.state ≡ true) → (p : OfPeer) → PeerKnown setup.peer p
+  pub server_on : (s : OfServer) (known : ServerKnown setup.server s) → (s_in : is_success s.now.vars.state ≡ true) → (p : OfPeer) → PeerKnown setup.peer p
       → RestsOn s.accepted p.made → (front (peer_nonce p) ≡ (server_in s known s_in).foreign) × (peer_holds p ≡ Some (front (server_nonce s)))
   server_on s known s_in p p_known r =
       let a = server_in s known s_in in
@@ -145,14 +111,14 @@ module _ (setup : Setup) where
   -- one of the server that rests on one of the peer; and one of the peer in SUCCESS that rests on one of the server
   server_one : (s : OfServer) → ServerKnown setup.server s → (p : OfPeer) → PeerKnown setup.peer p → RestsOn s.accepted p.made → AreOfOne p s
   server_one s known p p_known r =
-      let are = whole.server_on setup.peer setup.server (peer_nonce p) (server_nonce s) p_known.size known.size p.now.vars.selected p.now.views
+      let are = resting.server_on setup.peer setup.server (peer_nonce p) (server_nonce s) p_known.size known.size p.now.vars.selected p.now.views
       s.now.vars.current s.now.views _ _ known.stands.tags _ _ p_known.stands.tags r.tag r.more r.first r.is_made in
       record { method = are.method; whole = are.whole }
 
   peer_one : (p : OfPeer) → PeerKnown setup.peer p → is_success p.now.vars.state ≡ true → (s : OfServer) → ServerKnown setup.server s
       → RestsOn p.accepted s.made → AreOfOne p s
   peer_one p known p_in s s_known r =
-      let are = whole.peer_on setup.peer setup.server (peer_nonce p) (server_nonce s) known.size s_known.size p.now s.now.vars.current s.now.views
+      let are = resting.peer_on setup.peer setup.server (peer_nonce p) (server_nonce s) known.size s_known.size p.now s.now.vars.current s.now.views
       _ _ (peer_won p known p_in) _ _ s_known.stands.tags r.tag r.more r.first r.is_made in
       record { method = are.method; whole = are.whole }
 
@@ -163,396 +129,224 @@ module _ (setup : Setup) where
       let peer_setup = peers.own_nonce setup.peer (peer_nonce p) in
       let server_setup = servers.own_nonce setup.server (server_nonce s) in
       let succeed = both_succeed peer_setup server_setup p.now s.now known.size s_known.size _ _ _ _ (peer_won p known p_in) (server_won s s_known s_in)
-      (λ is_psk. first_in p.accepted s.made on.tag on.more on.first on.is_made) (first_in s.accepted p.made back.tag back.more back.first back.is_made) in
+      (λ _. first_in p.accepted s.made on.tag on.more on.first on.is_made) (first_in s.accepted p.made back.tag back.more back.first back.is_made) in
       rw (known.stands.own, s_known.stands.own) (both_agree peer_setup server_setup p.now s.now known.size s_known.size succeed)
 
-  -- one in SUCCESS by EAP-PSK has accepted PSK-4
-  psk4_in : (s : OfServer) → ServerKnown setup.server s → is_success s.now.vars.state ≡ true → s.now.vars.current ≡ Some psk_kind
-      → HasPsk4 (server_nonce s) s.accepted
-  psk4_in s known s_in by_psk = of_success (known.stands.sure s_in)
-    where
-      of_success : ServerHasSucceeded s.now.vars.current s.now.views → HasPsk4 (server_nonce s) s.accepted
-      of_success (psk_server_succeeded login is_current in_view) =
-          psk4_taken setup.server (server_nonce s) login true s.accepted s.made
-          (told_by_psk (servers.own_nonce setup.server (server_nonce s)) s.now.vars.current s.now.views _ s.accepted s.made is_current in_view
-          known.stands.tags)
-      of_success (gpsk_server_succeeded login is_current in_view) = apart_kinds s.now.vars.current gpsk_kind psk_kind refl is_current by_psk
+-- ---- all of them
 
-  -- ---- all of them
+-- what is known of all conversations of a run that ends in a world
+pub record AllKnown (setup : Setup) (last : WorldNow) (ps : List OfPeer) (ss : List OfServer) : Type 0 where
+  pub peers : (p : OfPeer) → IsOneOf p ps → PeerKnown setup.peer p
+  pub servers : (s : OfServer) → IsOneOf s ss → ServerKnown setup.server s
+  pub peers_two : last.conversations.fresh ≡ true → (p q : OfPeer) → AreTwoOf p q ps → front (peer_nonce p) ≡ front (peer_nonce q) → ⊥
+  pub servers_two : last.conversations.fresh ≡ true → (s t : OfServer) → AreTwoOf s t ss → front (server_nonce s) ≡ front (server_nonce t) → ⊥
+  pub are : AreAll setup last ps ss
 
-  module _ (last : WorldNow) (ps : List OfPeer) (ss : List OfServer)
-      (ps_known : (p : OfPeer) → IsOneOf p ps → PeerKnown setup.peer p) (ss_known : (s : OfServer) → IsOneOf s ss → ServerKnown setup.server s)
-      (ps_two : last.conversations.fresh ≡ true → (p q : OfPeer) → AreTwoOf p q ps → front (peer_nonce p) ≡ front (peer_nonce q) → ⊥)
-      (ss_two : last.conversations.fresh ≡ true → (s t : OfServer) → AreTwoOf s t ss → front (server_nonce s) ≡ front (server_nonce t) → ⊥)
-      (all : AreAll setup last ps ss) where
-    apart : last.conversations.fresh ≡ true → NoTwoAlike ps ss
-    apart fresh = record {
-      peer_nonces = ps_two fresh;
-      server_nonces = ss_two fresh;
-      peers_apart = λ p q are p_in q_in s is_one on also.
-          (let known = ss_known s is_one in
-          ps_two fresh p q are
-          (one_held (server_holds s) _ _ (peer_on p (ps_known p (first_of p q ps are)) p_in s known on)
-          (peer_on q (ps_known q (second_of p q ps are)) q_in s known also)));
-      servers_apart = λ s t are s_in t_in p is_one on also.
-          (let known = ps_known p is_one in
-          ss_two fresh s t are
-          (one_held (peer_holds p) _ _ (server_on s (ss_known s (first_of s t ss are)) s_in p known on).1
-          (server_on t (ss_known t (second_of s t ss are)) t_in p known also).1));
-      server_on_one = λ s is_one s_in p q are on also.
-          (let known = ss_known s is_one in
-          ps_two fresh p q are
-          ((server_on s known s_in p (ps_known p (first_of p q ps are)) on).0 ∙ sym (server_on s known s_in q (ps_known q (second_of p q ps are)) also).0));
-    }
+module _ (setup : Setup) (last : WorldNow) (ps : List OfPeer) (ss : List OfServer) (all : AllKnown setup last ps ss) where
+  pub apart : last.conversations.fresh ≡ true → NoTwoAlike ps ss
+  apart fresh = record {
+    peer_nonces = all.peers_two fresh;
+    server_nonces = all.servers_two fresh;
+    peers_apart = λ p q are p_in q_in s is_one on also.
+        (let known = all.servers s is_one in
+        all.peers_two fresh p q are
+        (one_held (server_holds s) _ _ (peer_on setup p (all.peers p (first_of p q ps are)) p_in s known on)
+        (peer_on setup q (all.peers q (second_of p q ps are)) q_in s known also)));
+    servers_apart = λ s t are s_in t_in p is_one on also.
+        (let known = all.peers p is_one in
+        all.servers_two fresh s t are
+        (one_held (peer_holds p) _ _ (server_on setup s (all.servers s (first_of s t ss are)) s_in p known on).1
+        (server_on setup t (all.servers t (second_of s t ss are)) t_in p known also).1));
+    server_on_one = λ s is_one s_in p q are on also.
+        (let known = all.servers s is_one in
+        all.peers_two fresh p q are
+        ((server_on setup s known s_in p (all.peers p (first_of p q ps are)) on).0 ∙ sym (server_on setup s known s_in q (all.peers q (second_of p q ps are)) also).0));
+  }
 
-    -- two of an end whose nonces have the same front are the same
-    the_same : last.conversations.fresh ≡ true → (p q : OfPeer) → IsOneOf p ps → IsOneOf q ps → front (peer_nonce p) ≡ front (peer_nonce q) → p ≡ q
-    the_same fresh p q is other e =
-        elim (same_or_two p q ps is other) [
-          | inl same ↦ same
-          | inr two ↦ elim two [ inl are ↦ absurd (ps_two fresh p q are e) | inr are ↦ absurd (ps_two fresh q p are (sym e)) ]
-        ]
+  -- two of an end whose nonces have the same front are the same
+  pub the_same : last.conversations.fresh ≡ true → (p q : OfPeer) → IsOneOf p ps → IsOneOf q ps → front (peer_nonce p) ≡ front (peer_nonce q) → p ≡ q
+  the_same fresh p q is other e =
+      elim (same_or_two p q ps is other) [
+        | inl same ↦ same
+        | inr two ↦ elim two [ inl are ↦ absurd (all.peers_two fresh p q are e) | inr are ↦ absurd (all.peers_two fresh q p are (sym e)) ]
+      ]
 
-    the_same_server : last.conversations.fresh ≡ true → (s t : OfServer) → IsOneOf s ss → IsOneOf t ss → front (server_nonce s) ≡ front (server_nonce t) → s ≡ t
-    the_same_server fresh s t is other e =
-        elim (same_or_two s t ss is other) [
-          | inl same ↦ same
-          | inr two ↦ elim two [ inl are ↦ absurd (ss_two fresh s t are e) | inr are ↦ absurd (ss_two fresh t s are (sym e)) ]
-        ]
+  pub the_same_server : last.conversations.fresh ≡ true → (s t : OfServer) → IsOneOf s ss → IsOneOf t ss → front (server_nonce s) ≡ front (server_nonce t) → s ≡ t
+  the_same_server fresh s t is other e =
+      elim (same_or_two s t ss is other) [
+        | inl same ↦ same
+        | inr two ↦ elim two [ inl are ↦ absurd (all.servers_two fresh s t are e) | inr are ↦ absurd (all.servers_two fresh t s are (sym e)) ]
+      ]
 
-    -- ---- the server's
+  -- ---- the server's
 
-    -- a tag that no conversation of the server can have made is none that it made
-    not_servers : (t : TagRecord) → NotByServer setup.server t → IsIn t (tags_by end.Server Made last.book) → ⊥
-    not_servers t alien is =
-        let m = made_in t ss (subst (λ (l : List TagRecord). IsIn t l) all.server_made is) in
-        let known = ss_known m.by m.is_one in
-        alien.none (server_nonce m.by) (server_holds m.by) m.by.accepted m.by.made known.size (server_told m.by known) m.is_in
+  -- a tag that no conversation of the server can have made is none that it made
+  not_servers : (t : TagRecord) → NotByServer setup.server t → IsIn t (tags_by end.Server Made last.book) → ⊥
+  not_servers t alien is =
+      let m = made_in t ss (subst (λ (l : List TagRecord). IsIn t l) all.are.server_made is) in
+      let known = all.servers m.by m.is_one in
+      alien.none (server_nonce m.by) (server_holds m.by) m.by.accepted m.by.made known.size (server_told setup m.by known) m.is_in
 
-    by_peer : tags_verdict_either last.book ≡ Honest → (t : TagRecord) → NotByServer setup.server t → IsIn t (tags_by end.Server Accepted last.book)
-        → IsIn t (all_made ps)
-    by_peer honest t alien is =
-        elim ((honest_tags end.Server last.book (none_if_honest (first_broken Either [] last.book) honest)).each t is) [
-          | inl made ↦ subst (λ (l : List TagRecord). IsIn t l) all.peer_made made
-          | inr own ↦ absurd (not_servers t alien own)
-        ]
+  by_peer : tags_verdict_either last.book ≡ Honest → (t : TagRecord) → NotByServer setup.server t → IsIn t (tags_by end.Server Accepted last.book)
+      → IsIn t (all_made ps)
+  by_peer honest t alien is =
+      elim ((honest_tags end.Server last.book (none_if_honest (first_broken Either [] last.book) honest)).each t is) [
+        | inl made ↦ subst (λ (l : List TagRecord). IsIn t l) all.are.peer_made made
+        | inr own ↦ absurd (not_servers t alien own)
+      ]
 
-    -- one of the server that holds a nonce rests on one of the peer
-    answered : tags_verdict_either last.book ≡ Honest → (s : OfServer) → IsOneOf s ss → (foreign : List ℕ) → server_holds s ≡ Some foreign → ServerRests ps s
-    answered honest s is_one foreign holds =
-        let asks = server_asking s (ss_known s is_one) foreign holds in
-        let listed : IsIn asks.tag (tags_by end.Server Accepted last.book) =
-        subst (λ (l : List TagRecord). IsIn asks.tag l) (sym all.server_accepted)
-        (accepted_in asks.tag s ss is_one (first_is_in asks.tag asks.rest s.accepted asks.first)) in
-        let m = made_in asks.tag ps (by_peer honest asks.tag asks.alien listed) in
-        let known = ps_known m.by m.is_one in
-        let told = made_by m.by known asks.tag foreign (front (server_nonce s)) asks.made m.is_in in
-        let rests : RestsOn s.accepted m.by.made = record { tag = asks.tag; more = asks.rest; first = asks.first; is_made = m.is_in } in
+  -- one of the server that holds a nonce rests on one of the peer
+  answered : tags_verdict_either last.book ≡ Honest → (s : OfServer) → IsOneOf s ss → (foreign : List ℕ) → server_holds s ≡ Some foreign → ServerRests ps s
+  answered honest s is_one foreign holds =
+      let asks = server_asking setup s (all.servers s is_one) foreign holds in
+      let listed : IsIn asks.tag (tags_by end.Server Accepted last.book) =
+      subst (λ (l : List TagRecord). IsIn asks.tag l) (sym all.are.server_accepted)
+      (accepted_in asks.tag s ss is_one (first_is_in asks.tag asks.rest s.accepted asks.first)) in
+      let m = made_in asks.tag ps (by_peer honest asks.tag asks.alien listed) in
+      let known = all.peers m.by m.is_one in
+      let told = made_by setup m.by known asks.tag foreign (front (server_nonce s)) asks.made m.is_in in
+      let rests : RestsOn s.accepted m.by.made = record { tag = asks.tag; more = asks.rest; first = asks.first; is_made = m.is_in } in
+      record {
+        on = m.by;
+        is_one = m.is_one;
+        rests = rests;
+        hold = record {
+          rand_s = told.1;
+          rand_p = holds ∙ ap (λ (x : List ℕ). Some x) (sym told.0);
+          one = server_one setup s (all.servers s is_one) m.by known rests;
+        };
+      }
+
+  pub servers_rest : tags_verdict_either last.book ≡ Honest → (s : OfServer) → IsOneOf s ss → is_success s.now.vars.state ≡ true → ServerRests ps s
+  servers_rest honest s is_one s_in = let a = server_in setup s (all.servers s is_one) s_in in answered honest s is_one a.foreign a.holds
+
+  pub servers_match : tags_verdict_either last.book ≡ Honest → last.conversations.fresh ≡ true → (s : OfServer) → IsOneOf s ss
+      → is_success s.now.vars.state ≡ true → ServerMatches ps ss s
+  servers_match honest fresh s is_one s_in =
+      let r = servers_rest honest s is_one s_in in
+      let known = all.servers s is_one in
+      let on_known = all.peers r.on r.is_one in
+      record {
+        on = r.on;
+        is_one = r.is_one;
+        rests = r.rests;
+        hold = r.hold;
+        no_other = λ p p_is rests.
+            (the_same fresh p r.on p_is r.is_one
+            ((server_on setup s known s_in p (all.peers p p_is) rests).0 ∙ sym (server_on setup s known s_in r.on on_known r.rests).0));
+        by_no_other = λ t t_is t_in rests.
+            (the_same_server fresh t s t_is is_one
+            (one_held (peer_holds r.on) _ _ (server_on setup t (all.servers t t_is) t_in r.on on_known rests).1 r.hold.rand_s));
+      }
+
+  -- ---- the peer's
+
+  -- one of the peer rests on the one of the server that made its first tag
+  pub record RestsSo (p : OfPeer) : Type 0 where
+    pub on : OfServer
+    pub is_one : IsOneOf on ss
+    pub rests : RestsOn p.accepted on.made
+    pub rand_p : server_holds on ≡ Some (front (peer_nonce p))
+
+  pub rests_on : (p : OfPeer) → IsOneOf p ps → (asks : AsksServer (peer_nonce p) p.accepted) → IsIn asks.tag (all_made ss) → RestsSo p
+  rests_on p is_one asks is =
+      let m = made_in asks.tag ss is in
+      record {
+        on = m.by;
+        is_one = m.is_one;
+        rests = record { tag = asks.tag; more = asks.rest; first = asks.first; is_made = m.is_in };
+        rand_p = made_at setup m.by (all.servers m.by m.is_one) asks.tag (front (peer_nonce p)) asks.made m.is_in;
+      }
+
+  -- and where it is in SUCCESS, both are of one method
+  pub in_one : (p : OfPeer) → IsOneOf p ps → is_success p.now.vars.state ≡ true → RestsSo p → PeerRests ss p
+  in_one p is_one p_in r = record {
+    on = r.on;
+    is_one = r.is_one;
+    rests = r.rests;
+    rand_p = r.rand_p;
+    one = peer_one setup p (all.peers p is_one) p_in r.on (all.servers r.on r.is_one) r.rests;
+  }
+
+  pub listed_peer : (p : OfPeer) → IsOneOf p ps → (asks : AsksServer (peer_nonce p) p.accepted) → IsIn asks.tag (tags_by end.Peer Accepted last.book)
+  listed_peer p is_one asks =
+      subst (λ (l : List TagRecord). IsIn asks.tag l) (sym all.are.peer_accepted)
+      (accepted_in asks.tag p ps is_one (first_is_in asks.tag asks.rest p.accepted asks.first))
+
+  pub by_server : (t : TagRecord) → IsIn t (tags_by end.Server Made last.book) → IsIn t (all_made ss)
+  by_server t is = subst (λ (l : List TagRecord). IsIn t l) all.are.server_made is
+
+  pub peers_rest : tags_verdict last.book ≡ Honest → (p : OfPeer) → IsOneOf p ps → is_success p.now.vars.state ≡ true → PeerRests ss p
+  peers_rest honest p is_one p_in =
+      let asks = peer_in setup p (all.peers p is_one) p_in in
+      in_one p is_one p_in
+      (rests_on p is_one asks
+      (by_server asks.tag (honest_other end.Peer last.book (none_if_honest (first_broken Other [] last.book) honest) asks.tag (listed_peer p is_one asks))))
+
+  module _ (honest : tags_verdict_either last.book ≡ Honest) (fresh : last.conversations.fresh ≡ true) (p : OfPeer) (is_one : IsOneOf p ps) where
+    -- one of the server that holds the nonce of one of the peer rests on that one, which holds its nonce
+    pub record Back (s : OfServer) : Type 0 where
+      pub back : RestsOn s.accepted p.made
+      pub hold : HoldNonces p s
+
+    pub back_on : (s : OfServer) → IsOneOf s ss → server_holds s ≡ Some (front (peer_nonce p)) → Back s
+    back_on s is rand_p =
+        let r = answered honest s is (front (peer_nonce p)) rand_p in
+        let same = the_same fresh r.on p r.is_one is_one (one_held (server_holds s) _ _ r.hold.rand_p rand_p) in
         record {
-          on = m.by;
-          is_one = m.is_one;
-          rests = rests;
-          hold = record {
-            rand_s = told.1;
-            rand_p = holds ∙ ap (λ (x : List ℕ). Some x) (sym told.0);
-            one = server_one s (ss_known s is_one) m.by known rests;
-          };
+          back = subst (λ (q : OfPeer). RestsOn s.accepted q.made) same r.rests;
+          hold = subst (λ (q : OfPeer). HoldNonces q s) same r.hold;
         }
 
-    servers_rest : tags_verdict_either last.book ≡ Honest → (s : OfServer) → IsOneOf s ss → is_success s.now.vars.state ≡ true → ServerRests ps s
-    servers_rest honest s is_one s_in = let a = server_in s (ss_known s is_one) s_in in answered honest s is_one a.foreign a.holds
-
-    servers_match : tags_verdict_either last.book ≡ Honest → last.conversations.fresh ≡ true → (s : OfServer) → IsOneOf s ss
-        → is_success s.now.vars.state ≡ true → ServerMatches ps ss s
-    servers_match honest fresh s is_one s_in =
-        let r = servers_rest honest s is_one s_in in
-        let known = ss_known s is_one in
-        let on_known = ps_known r.on r.is_one in
+    pub peer_matches : is_success p.now.vars.state ≡ true → PeerRests ss p → PeerMatches ps ss p
+    peer_matches p_in r =
+        let known = all.peers p is_one in
+        let on_known = all.servers r.on r.is_one in
+        let b = back_on r.on r.is_one r.rand_p in
         record {
           on = r.on;
           is_one = r.is_one;
           rests = r.rests;
-          hold = r.hold;
-          no_other = λ p p_is rests.
-              (the_same fresh p r.on p_is r.is_one
-              ((server_on s known s_in p (ps_known p p_is) rests).0 ∙ sym (server_on s known s_in r.on on_known r.rests).0));
-          by_no_other = λ t t_is t_in rests.
-              (the_same_server fresh t s t_is is_one
-              (one_held (peer_holds r.on) _ _ (server_on t (ss_known t t_is) t_in r.on on_known rests).1 r.hold.rand_s));
+          back = b.back;
+          hold = b.hold;
+          no_other = λ s s_is rests.
+              (the_same_server fresh s r.on s_is r.is_one
+              (one_held (peer_holds p) _ _ (back_on s s_is (peer_on setup p known p_in s (all.servers s s_is) rests)).hold.rand_s b.hold.rand_s));
+          by_no_other = λ q q_is q_in rests.
+              (the_same fresh q p q_is is_one (one_held (server_holds r.on) _ _ (peer_on setup q (all.peers q q_is) q_in r.on on_known rests) r.rand_p));
+          back_by_no_other = λ s s_is s_in rests.
+              (the_same_server fresh s r.on s_is r.is_one
+              (one_held (peer_holds p) _ _ (server_on setup s (all.servers s s_is) s_in p known rests).1 b.hold.rand_s));
+          agree = λ s_in. reports_agree setup p known p_in r.on on_known s_in r.rests b.back;
         }
 
-    -- ---- the peer's
+  pub peers_match : tags_verdict last.book ≡ Honest → last.conversations.fresh ≡ true → (p : OfPeer) → IsOneOf p ps → is_success p.now.vars.state ≡ true
+      → PeerMatches ps ss p
+  peers_match honest fresh p is_one p_in = peer_matches (honest_of_either last.book honest) fresh p is_one p_in (peers_rest honest p is_one p_in)
 
-    -- one of the peer rests on the one of the server that made its first tag
-    record RestsSo (p : OfPeer) : Type 0 where
-      pub on : OfServer
-      pub is_one : IsOneOf on ss
-      pub rests : RestsOn p.accepted on.made
-      pub rand_p : server_holds on ≡ Some (front (peer_nonce p))
+  pub agree_both : tags_verdict last.book ≡ Honest → last.conversations.fresh ≡ true → (p : OfPeer) → IsOneOf p ps → is_success p.now.vars.state ≡ true
+      → (s : OfServer) → IsOneOf s ss → is_success s.now.vars.state ≡ true → RestsOn s.accepted p.made → RestsOn p.accepted s.made × ReportsAgree p s
+  agree_both honest fresh p p_is p_in s s_is s_in rests =
+      let m = peers_match honest fresh p p_is p_in in
+      let same = m.back_by_no_other s s_is s_in rests in
+      let on : RestsOn p.accepted s.made = subst (λ (t : OfServer). RestsOn p.accepted t.made) (sym same) m.rests in
+      (on, reports_agree setup p (all.peers p p_is) p_in s (all.servers s s_is) s_in on rests)
 
-    rests_on : (p : OfPeer) → IsOneOf p ps → (asks : AsksServer (peer_nonce p) p.accepted) → IsIn asks.tag (all_made ss) → RestsSo p
-    rests_on p is_one asks is =
-        let m = made_in asks.tag ss is in
-        record {
-          on = m.by;
-          is_one = m.is_one;
-          rests = record { tag = asks.tag; more = asks.rest; first = asks.first; is_made = m.is_in };
-          rand_p = made_at m.by (ss_known m.by m.is_one) asks.tag (front (peer_nonce p)) asks.made m.is_in;
-        }
+  pub servers_lead : (p : OfPeer) → IsOneOf p ps → is_success p.now.vars.state ≡ true → (s : OfServer) → IsOneOf s ss
+      → RestsOn p.accepted s.made → RestsOn s.accepted p.made → server_login s.now.vars.current s.now.views ≡ peer_reports p.now
+  servers_lead p p_is p_in s s_is rests back =
+      let known = all.peers p p_is in
+      let s_known = all.servers s s_is in
+      let led = resting.peers_login (peers.own_nonce setup.peer (peer_nonce p)) (servers.own_nonce setup.server (server_nonce s)) known.size s_known.size
+      p.now p.accepted p.made (peer_won setup p known p_in) s.now.vars.current s.now.views s.accepted s.made s_known.stands.tags
+      (first_in p.accepted s.made rests.tag rests.more rests.first rests.is_made) (first_in s.accepted p.made back.tag back.more back.first back.is_made) in
+      led.login.same ∙ sym led.holds
 
-    -- and where it is in SUCCESS, both are of one method
-    in_one : (p : OfPeer) → IsOneOf p ps → is_success p.now.vars.state ≡ true → RestsSo p → PeerRests ss p
-    in_one p is_one p_in r = record {
-      on = r.on;
-      is_one = r.is_one;
-      rests = r.rests;
-      rand_p = r.rand_p;
-      one = peer_one p (ps_known p is_one) p_in r.on (ss_known r.on r.is_one) r.rests;
-    }
-
-    listed_peer : (p : OfPeer) → IsOneOf p ps → (asks : AsksServer (peer_nonce p) p.accepted) → IsIn asks.tag (tags_by end.Peer Accepted last.book)
-    listed_peer p is_one asks =
-        subst (λ (l : List TagRecord). IsIn asks.tag l) (sym all.peer_accepted)
-        (accepted_in asks.tag p ps is_one (first_is_in asks.tag asks.rest p.accepted asks.first))
-
-    by_server : (t : TagRecord) → IsIn t (tags_by end.Server Made last.book) → IsIn t (all_made ss)
-    by_server t is = subst (λ (l : List TagRecord). IsIn t l) all.server_made is
-
-    peers_rest : tags_verdict last.book ≡ Honest → (p : OfPeer) → IsOneOf p ps → is_success p.now.vars.state ≡ true → PeerRests ss p
-    peers_rest honest p is_one p_in =
-        let asks = peer_in p (ps_known p is_one) p_in in
-        in_one p is_one p_in
-        (rests_on p is_one asks
-        (by_server asks.tag (honest_other end.Peer last.book (none_if_honest (first_broken Other [] last.book) honest) asks.tag (listed_peer p is_one asks))))
-
-    module _ (honest : tags_verdict_either last.book ≡ Honest) (fresh : last.conversations.fresh ≡ true) (p : OfPeer) (is_one : IsOneOf p ps) where
-      -- one of the server that holds the nonce of one of the peer rests on that one, which holds its nonce
-      record Back (s : OfServer) : Type 0 where
-        pub back : RestsOn s.accepted p.made
-        pub hold : HoldNonces p s
-
-      back_on : (s : OfServer) → IsOneOf s ss → server_holds s ≡ Some (front (peer_nonce p)) → Back s
-      back_on s is rand_p =
-          let r = answered honest s is (front (peer_nonce p)) rand_p in
-          let same = the_same fresh r.on p r.is_one is_one (one_held (server_holds s) _ _ r.hold.rand_p rand_p) in
-          record {
-            back = subst (λ (q : OfPeer). RestsOn s.accepted q.made) same r.rests;
-            hold = subst (λ (q : OfPeer). HoldNonces q s) same r.hold;
-          }
-
-      peer_matches : is_success p.now.vars.state ≡ true → PeerRests ss p → PeerMatches ps ss p
-      peer_matches p_in r =
-          let known = ps_known p is_one in
-          let on_known = ss_known r.on r.is_one in
-          let b = back_on r.on r.is_one r.rand_p in
-          record {
-            on = r.on;
-            is_one = r.is_one;
-            rests = r.rests;
-            back = b.back;
-            hold = b.hold;
-            no_other = λ s s_is rests.
-                (the_same_server fresh s r.on s_is r.is_one
-                (one_held (peer_holds p) _ _ (back_on s s_is (peer_on p known p_in s (ss_known s s_is) rests)).hold.rand_s b.hold.rand_s));
-            by_no_other = λ q q_is q_in rests.
-                (the_same fresh q p q_is is_one (one_held (server_holds r.on) _ _ (peer_on q (ps_known q q_is) q_in r.on on_known rests) r.rand_p));
-            back_by_no_other = λ s s_is s_in rests.
-                (the_same_server fresh s r.on s_is r.is_one
-                (one_held (peer_holds p) _ _ (server_on s (ss_known s s_is) s_in p known rests).1 b.hold.rand_s));
-            agree = λ s_in. reports_agree p known p_in r.on on_known s_in r.rests b.back;
-          }
-
-    peers_match : tags_verdict last.book ≡ Honest → last.conversations.fresh ≡ true → (p : OfPeer) → IsOneOf p ps → is_success p.now.vars.state ≡ true
-        → PeerMatches ps ss p
-    peers_match honest fresh p is_one p_in = peer_matches (honest_of_either last.book honest) fresh p is_one p_in (peers_rest honest p is_one p_in)
-
-    agree_both : tags_verdict last.book ≡ Honest → last.conversations.fresh ≡ true → (p : OfPeer) → IsOneOf p ps → is_success p.now.vars.state ≡ true
-        → (s : OfServer) → IsOneOf s ss → is_success s.now.vars.state ≡ true → RestsOn s.accepted p.made → RestsOn p.accepted s.made × ReportsAgree p s
-    agree_both honest fresh p p_is p_in s s_is s_in rests =
-        let m = peers_match honest fresh p p_is p_in in
-        let same = m.back_by_no_other s s_is s_in rests in
-        let on : RestsOn p.accepted s.made = subst (λ (t : OfServer). RestsOn p.accepted t.made) (sym same) m.rests in
-        (on, reports_agree p (ps_known p p_is) p_in s (ss_known s s_is) s_in on rests)
-
-    -- ---- by EAP-PSK the peer has accepted PSK-3, where the server has accepted PSK-4
-
-    -- the conversation that made that PSK-4 rests on this one of the server, and so it is the one on which that rests
-    answered_by : tags_verdict last.book ≡ Honest → last.conversations.fresh ≡ true → (s : OfServer) → IsOneOf s ss
-        → (is : HasPsk4 (server_nonce s) s.accepted) → (q : OfPeer) → IsOneOf q ps → HasAsked (peer_nonce q) (front (server_nonce s)) (peer_holds q) q.accepted
-        → RestsOn q.accepted s.made × (server_holds s ≡ Some (front (peer_nonce q)))
-    answered_by honest fresh s s_is is q q_is h =
-        let either = honest_of_either last.book honest in
-        let r = rests_on q q_is h.asks
-        (by_server h.asks.tag
-        (honest_other end.Peer last.book (none_if_honest (first_broken Other [] last.book) honest) h.asks.tag (listed_peer q q_is h.asks))) in
-        let b = back_on either fresh q q_is r.on r.is_one r.rand_p in
-        let same = the_same_server fresh r.on s r.is_one s_is (one_held (peer_holds q) _ _ b.hold.rand_s h.holds) in
-        (subst (λ (t : OfServer). RestsOn q.accepted t.made) same r.rests, subst (λ (t : OfServer). server_holds t ≡ Some (front (peer_nonce q))) same r.rand_p)
-
-    psk_back : tags_verdict last.book ≡ Honest → last.conversations.fresh ≡ true → (s : OfServer) → IsOneOf s ss → is_success s.now.vars.state ≡ true
-        → HasPsk4 (server_nonce s) s.accepted → (p : OfPeer) → IsOneOf p ps → RestsOn s.accepted p.made → RestsOn p.accepted s.made
-    psk_back honest fresh s s_is s_in is p p_is rests =
-        let listed : IsIn (tek_record is.psk 1 is.header is.sealed is.tag) (tags_by end.Server Accepted last.book) =
-        subst (λ (l : List TagRecord). IsIn (tek_record is.psk 1 is.header is.sealed is.tag) l) (sym all.server_accepted) (accepted_in _ s ss s_is is.is_in) in
-        let made = subst (λ (l : List TagRecord). IsIn (tek_record is.psk 1 is.header is.sealed is.tag) l) all.peer_made
-        (honest_other end.Server last.book (none_if_honest (first_broken Other [] last.book) honest) _ listed) in
-        let m = made_in _ ps made in
-        let known = ps_known m.by m.is_one in
-        let h = has_asked is.psk is.header is.sealed is.tag (front (server_nonce s)) is.rand_in setup.peer (peer_nonce m.by) known.size
-        m.by.now.vars.selected m.by.now.views m.by.accepted m.by.made known.stands.tags m.is_in in
-        let a = answered_by honest fresh s s_is is m.by m.is_one h in
-        let s_known = ss_known s s_is in
-        let asking = server_in s s_known s_in in
-        let same = the_same fresh m.by p m.is_one p_is
-        (one_held (server_holds s) _ _ a.1 asking.holds ∙ sym (server_on s s_known s_in p (ps_known p p_is) rests).0) in
-        subst (λ (q : OfPeer). RestsOn q.accepted s.made) same a.0
-
-    psk_servers_back : tags_verdict last.book ≡ Honest → last.conversations.fresh ≡ true → (s : OfServer) → IsOneOf s ss → is_success s.now.vars.state ≡ true
-        → s.now.vars.current ≡ Some psk_kind → (p : OfPeer) → IsOneOf p ps → RestsOn s.accepted p.made → RestsOn p.accepted s.made
-    psk_servers_back honest fresh s s_is s_in by_psk = psk_back honest fresh s s_is s_in (psk4_in s (ss_known s s_is) s_in by_psk)
-
-    peers_lead : tags_verdict last.book ≡ Honest → last.conversations.fresh ≡ true → (s : OfServer) → IsOneOf s ss → is_success s.now.vars.state ≡ true
-        → (p : OfPeer) → IsOneOf p ps → RestsOn s.accepted p.made → peer_login p.now.vars.selected p.now.views ≡ server_reports s.now
-    peers_lead honest fresh s s_is s_in p p_is rests =
-        let known = ps_known p p_is in
-        let s_known = ss_known s s_is in
-        same_report (peers.own_nonce setup.peer (peer_nonce p)) (servers.own_nonce setup.server (server_nonce s)) known.size s_known.size s.now _ _
-        (server_won s s_known s_in) p.now.vars.selected p.now.views p.accepted p.made known.stands.tags rests
-        (λ by_psk. psk_servers_back honest fresh s s_is s_in by_psk p p_is rests)
-
-    servers_lead : (p : OfPeer) → IsOneOf p ps → is_success p.now.vars.state ≡ true → (s : OfServer) → IsOneOf s ss
-        → RestsOn p.accepted s.made → RestsOn s.accepted p.made → server_login s.now.vars.current s.now.views ≡ peer_reports p.now
-    servers_lead p p_is p_in s s_is rests back =
-        let known = ps_known p p_is in
-        let s_known = ss_known s s_is in
-        let led = logins.peers_login (peers.own_nonce setup.peer (peer_nonce p)) (servers.own_nonce setup.server (server_nonce s)) known.size s_known.size
-        p.now p.accepted p.made (peer_won p known p_in) s.now.vars.current s.now.views s.accepted s.made s_known.stands.tags
-        (first_in p.accepted s.made rests.tag rests.more rests.first rests.is_made) (first_in s.accepted p.made back.tag back.more back.first back.is_made) in
-        led.login.same ∙ sym led.holds
-
-    same_keys : (s : OfServer) → IsOneOf s ss → is_success s.now.vars.state ≡ true → (p : OfPeer) → IsOneOf p ps → RestsOn s.accepted p.made → HasSameKeys p s
-    same_keys s s_is s_in p p_is rests =
-        let known = ps_known p p_is in
-        let s_known = ss_known s s_is in
-        let led = logins.servers_login (peers.own_nonce setup.peer (peer_nonce p)) (servers.own_nonce setup.server (server_nonce s)) known.size s_known.size
-        s.now s.accepted s.made (server_won s s_known s_in) p.now.vars.selected p.now.views p.accepted p.made known.stands.tags
-        (first_in s.accepted p.made rests.tag rests.more rests.first rests.is_made) in
-        record { report = led.report; holds = led.holds; theirs = led.leads_to.theirs; leads = led.leads_to.leads; same = led.leads_to.same }
-
-    -- ---- by EAP-PSK a tag that came back to the peer is none of its own
-
-    not_peers : last.conversations.fresh ≡ true → (p : OfPeer) → IsOneOf p ps → (asked : AsksAnother setup.peer (peer_nonce p) p.accepted p.made)
-        → IsIn asked.asks.tag (tags_by end.Peer Made last.book) → ⊥
-    not_peers fresh p is_one asked is =
-        let m = made_in asked.asks.tag ps (subst (λ (l : List TagRecord). IsIn asked.asks.tag l) all.peer_made is) in
-        let known = ps_known m.by m.is_one in
-        let same = the_same fresh m.by p m.is_one is_one
-        (asked.no_other (peer_nonce m.by) (peer_holds m.by) m.by.accepted m.by.made known.size (peer_told m.by known) m.is_in) in
-        asked.not_own (subst (λ (q : OfPeer). IsIn asked.asks.tag q.made) same m.is_in)
-
-    psk_peers_match : tags_verdict_either last.book ≡ Honest → last.conversations.fresh ≡ true → (p : OfPeer) → IsOneOf p ps
-        → is_success p.now.vars.state ≡ true → p.now.vars.selected ≡ Some psk_kind → PeerMatches ps ss p
-    psk_peers_match honest fresh p is_one p_in selected =
-        let known = ps_known p is_one in
-        let asked = asks_another setup.peer (peer_nonce p) p.now p.accepted p.made known.size (peer_won p known p_in) selected in
-        let none = none_if_honest (first_broken Either [] last.book) honest in
-        let made : IsIn asked.asks.tag (all_made ss) =
-        elim ((honest_tags end.Peer last.book none).each asked.asks.tag (listed_peer p is_one asked.asks)) [
-          | inl made ↦ by_server asked.asks.tag made
-          | inr own ↦ absurd (not_peers fresh p is_one asked own)
-        ] in
-        peer_matches honest fresh p is_one p_in (in_one p is_one p_in (rests_on p is_one asked.asks made))
-
-    they_match : Match last ps ss
-    they_match = record {
-      apart = apart;
-      servers_rest = servers_rest;
-      servers_match = servers_match;
-      peers_rest = peers_rest;
-      peers_match = peers_match;
-      psk_peers_match = psk_peers_match;
-      psk_servers_back = psk_servers_back;
-      peers_lead = peers_lead;
-      servers_lead = servers_lead;
-      same_keys = same_keys;
-      both_agree = agree_both;
-    }
-
--- ---- of a run
-
-module _ (setup : Setup) (events : List Event) (whole : IsWhole setup) where
-  abbrev begun : WorldNow
-  begun = (world_start (world_made setup)).after
-
-  abbrev last : WorldNow
-  last = run_of setup events
-
-  good : BothConverse setup begun
-  good = start_converses setup whole
-
-  book_begun : begun.book ≡ []
-  unfolding world_start
-  book_begun = (starts_so setup.mode setup).book
-
-  peer_begun : PeerWell setup.peer (peer_at begun) (tags_by end.Peer Accepted []) (tags_by end.Peer Made [])
-  unfolding world_start tags_by
-  peer_begun = record { nonce = setup.peer.nonce; size = whole.peer_nonce; stands = (starts_so setup.mode setup).peer.stands }
-
-  server_begun : ServerWell setup.server (server_at begun) (tags_by end.Server Accepted []) (tags_by end.Server Made [])
-  unfolding world_start tags_by
-  server_begun = record { nonce = setup.server.nonce; size = whole.server_nonce; stands = (starts_so setup.mode setup).server.stands }
-
-  peer_first : nonces_of end.Peer begun.conversations.begun ≡ peer_nonce_of (peer_at begun) ∷ []
-  unfolding world_start nonces_of
-  peer_first = ap (λ (s : PeerSetup). s.nonce ∷ []) (sym (starts_so setup.mode setup).peer.stands.own)
-
-  server_first : nonces_of end.Server begun.conversations.begun ≡ server_nonce_of (server_at begun) ∷ []
-  unfolding world_start nonces_of
-  server_first = ap (λ (s : ServerSetup). s.nonce ∷ []) (sym (starts_so setup.mode setup).server.stands.own)
-
-  peers_told : Told peer_at end.Peer peer_nonce_of (PeerWell setup.peer) begun [] last (peer_conversations setup events)
-  peers_told =
-      walk peer_at end.Peer peer_nonce_of (PeerWell setup.peer) (BothConverse setup) (peer_turns setup) grow (converses_on setup) (peer_used setup)
-      begun events 0 [] begun.book good refl refl
-      (subst (λ (l : List Entry). PeerWell setup.peer (peer_at begun) (tags_by end.Peer Accepted l) (tags_by end.Peer Made l)) (sym book_begun) peer_begun)
-
-  servers_told : Told server_at end.Server server_nonce_of (ServerWell setup.server) begun [] last (server_conversations setup events)
-  servers_told =
-      walk server_at end.Server server_nonce_of (ServerWell setup.server) (BothConverse setup) (server_turns setup) grow (converses_on setup)
-      (server_used setup)
-      begun events 0 [] begun.book good refl refl
-      (subst (λ (l : List Entry). ServerWell setup.server (server_at begun) (tags_by end.Server Accepted l) (tags_by end.Server Made l)) (sym book_begun)
-      server_begun)
-
-  peers_known : (p : OfPeer) → IsOneOf p (peer_conversations setup events) → PeerKnown setup.peer p
-  peers_known p is_one = peer_is_known setup.peer p (peers_told.stand p is_one)
-
-  servers_known : (s : OfServer) → IsOneOf s (server_conversations setup events) → ServerKnown setup.server s
-  servers_known s is_one = server_is_known setup.server s (servers_told.stand s is_one)
-
-  all_are : AreAll setup last (peer_conversations setup events) (server_conversations setup events)
-  all_are = record {
-    peer_nonces = peers_told.nonces [] peer_first;
-    server_nonces = servers_told.nonces [] server_first;
-    peer_last = peers_told.ends None;
-    server_last = servers_told.ends None;
-    peer_accepted = ap (tags_by end.Peer Accepted) peers_told.book ∙ peers_told.accepted;
-    peer_made = ap (tags_by end.Peer Made) peers_told.book ∙ peers_told.made;
-    server_accepted = ap (tags_by end.Server Accepted) servers_told.book ∙ servers_told.accepted;
-    server_made = ap (tags_by end.Server Made) servers_told.book ∙ servers_told.made;
-    peer_stands = λ p is_one. (peers_known p is_one).stands;
-    server_stands = λ s is_one. (servers_known s is_one).stands;
-    peer_few = λ p is_one. peer_few _ p.now p.accepted p.made (peers_known p is_one).stands;
-    server_few = λ s is_one. server_few _ s.now s.accepted s.made (servers_known s is_one).stands;
-  }
-
-  run_matches : Match last (peer_conversations setup events) (server_conversations setup events)
-  run_matches =
-      they_match setup last (peer_conversations setup events) (server_conversations setup events) peers_known servers_known
-      peers_told.two servers_told.two all_are
-
-pub conversations_match : ConversationsMatch
-conversations_match = run_matches
-
-pub conversations_are_all : ConversationsAreAll
-conversations_are_all = all_are
+  pub same_keys : (s : OfServer) → IsOneOf s ss → is_success s.now.vars.state ≡ true → (p : OfPeer) → IsOneOf p ps → RestsOn s.accepted p.made → HasSameKeys p s
+  same_keys s s_is s_in p p_is rests =
+      let known = all.peers p p_is in
+      let s_known = all.servers s s_is in
+      let led = resting.servers_login (peers.own_nonce setup.peer (peer_nonce p)) (servers.own_nonce setup.server (server_nonce s)) known.size s_known.size
+      p.now.vars.selected p.now.views p.accepted p.made known.stands.tags s.now s.accepted s.made (server_won setup s s_known s_in)
+      (first_in s.accepted p.made rests.tag rests.more rests.first rests.is_made) in
+      record { report = led.report; holds = led.holds; theirs = led.leads_to.theirs; leads = led.leads_to.leads; same = led.leads_to.same }

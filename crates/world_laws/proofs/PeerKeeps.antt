@@ -19,8 +19,8 @@ use Rattle.peer_machine.specs.Rows.{Calls}
 use Rattle.peer_machine.proofs.Hearing.{PeerHearing, as_it_is, bad, again, expresses}
 use Rattle.peer_machine.proofs.PeerRows.{peer_answers_are_rows}
 use Rattle.eap_world.specs.Judgement.{is_success}
-use Rattle.world_laws.specs.Records.{AreFew}
 use Rattle.world_laws.specs.PeerStands.{PeerStands}
+use Rattle.world_laws.specs.Records.{AreFew}
 use Rattle.world_laws.proofs.OneMethod.{goes_on}
 use Rattle.world_laws.proofs.PeerByMethod.{MethodTurned, begun_tags, method_turned, tags_few, turn_of}
 use Rattle.world_laws.proofs.PeerTurns.{replies}

@@ -1,9 +1,11 @@
--- Two ends that have succeeded by EAP-PSK agree.
+-- Two ends that have succeeded by EAP-PSK agree, and what they report is their own.
 use Rattle.std.proofs.Common.{◌≡◌, ℕ, true, false, Bool, List, ◌∷◌, ◌++◌, length, Some, refl, sym, ap, subst, ◌∙◌, length-append, arith, inl, inr}
 use Rattle.std.proofs.lemmas.Bool.{and_from, not_from_false}
 use Rattle.login_setup.specs.declared.setup.PeerSetup.{PeerSetup}
 use Rattle.login_setup.specs.declared.setup.ServerSetup.{ServerSetup}
-use Rattle.eap_base.specs.Among.{psk_kind}
+use Rattle.login_setup.specs.declared.setup.Setup.{Setup}
+use Rattle.eap_base.specs.Among.{psk_kind, gpsk_kind}
+use Rattle.login_setup.specs.Users.{user_of}
 use Rattle.eap_method.specs.declared.tags.Label.TheVariants.{Ak, Tek}
 use Rattle.eap_method.specs.declared.tags.TagRecord.{TagRecord}
 use Rattle.eap_method.specs.declared.values.Report.{Report}
@@ -11,19 +13,22 @@ use Rattle.eap_method.specs.PskPeer as peer
 use Rattle.eap_method.specs.PskServer as server
 use Rattle.eap_method.specs.PskTags.{ak_record, rand_of, mac_p_octets, mac_s_octets}
 use Rattle.eap_method.specs.Peer.{peer_report_of}
-use Rattle.eap_method.specs.Server.{server_report_of, psk_report}
+use Rattle.eap_method.specs.Server.{server_report_of, side_of, psk_report}
 use Rattle.peer_machine.specs.PeerTable.{PeerNow, selected_report, peer_reports}
 use Rattle.server_machine.specs.ServerTable.{ServerNow, current_report, server_reports}
 use Rattle.eap_world.specs.Judgement.{agreement_of, peer_agrees, server_agrees, is_welcome}
-use Rattle.world_laws.specs.PskPeerStands as psk_peer_stands
+use Rattle.eap_world.specs.World.{WorldNow}
+use Rattle.world_laws.specs.Agreement.{AreTheirs}
 use Rattle.world_laws.specs.PskPeerStands.{PskBegun}
-use Rattle.world_laws.specs.PskServerStands as psk_server_stands
+use Rattle.world_laws.specs.PskPeerStands as psk_peer_stands
 use Rattle.world_laws.specs.PskServerStands.{PskChecked}
+use Rattle.world_laws.specs.PskServerStands as psk_server_stands
 use Rattle.world_laws.specs.Records.{IsIn}
-use Rattle.world_laws.proofs.Fields.{ends}
-use Rattle.world_laws.proofs.PskFields.{front_size}
 use Rattle.world_laws.proofs.Among.{among_two}
 use Rattle.world_laws.proofs.EqualReports.{reports_agree}
+use Rattle.world_laws.proofs.Fields.{ends}
+use Rattle.world_laws.proofs.Leads.{own_key, own_name}
+use Rattle.world_laws.proofs.PskFields.{front_size}
 
 -- both ends speak of the same login
 pub record IsSame (p : peer.Login) (s : server.Login) : Type 0 where
@@ -135,3 +140,28 @@ module _ (peer_setup : PeerSetup) (server_setup : ServerSetup) (p : peer.Login) 
       (by_peer peer_setup p begun)
       (subst (λ (report : Report). server_agrees server_setup report ≡ true) (sym reports) (by_server server_setup s checked r_sent)) in
       rw (peer_reported peer_setup p begun now is_selected in_view, server_reported server_setup s checked r_sent other is_current in_other) agreed
+
+-- what both report is their own: names, key and suite
+module _ (setup : Setup) (w : WorldNow) (login : peer.Login) (facts : PskBegun setup.peer login)
+    (other : server.Login) (checked : PskChecked setup.server other) (same : IsSame login other) where
+  server_name : login.id_s ≡ setup.server.name
+  unfolding side_of
+  server_name = same.id_s ∙ ap (λ own. own.id_s) checked.own
+
+  pub psk_theirs : w.parties.peer.vars.selected ≡ Some psk_kind → w.parties.peer.views.psk ≡ peer.over login true
+      → w.parties.server.vars.current ≡ Some psk_kind → w.parties.server.views.psk ≡ Some (server.over other true) → other.r ≡ 2 → AreTheirs setup w.parties.peer w.parties.server
+  unfolding peer.report_of
+  psk_theirs is_selected in_view is_current in_other r_sent =
+      let name : login.cred.id_p ≡ setup.peer.name = own_name setup.peer psk_kind login.cred facts.cred in
+      record {
+        report = peer.report_of login;
+        holds = peer_reported setup.peer login facts w.parties.peer is_selected in_view;
+        same = server_reported setup.server other checked r_sent w.parties.server is_current in_other ∙ ap Some (sym (same_reports login other same));
+        id_p = name;
+        id_s = server_name;
+        user = checked.user;
+        known = ap (λ (id : List ℕ). user_of setup.server.users id psk_kind) (sym name ∙ same.id_p) ∙ checked.known;
+        key = sym checked.key ∙ (sym same.psk ∙ own_key setup.peer psk_kind login.cred facts.cred);
+        welcome = not_barred checked.user.barred other.r checked.r r_sent;
+        first_suite = λ (e : psk_kind ≡ gpsk_kind). absurd (omega (arith, e));
+      }

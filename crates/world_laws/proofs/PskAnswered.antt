@@ -1,6 +1,5 @@
 -- The PSK-4 that a server accepts tells, by RAND_S in its header, which conversation of the peer made it: that has accepted PSK-3.
 use Rattle.std.proofs.Common.{◌≡◌, ℕ, Bool, List, length, drop, Option, Some, refl, sym, ap, subst, ◌∙◌, arith, inl, inr}
-use Rattle.eap_base.specs.Among.{psk_kind}
 use Rattle.login_setup.specs.declared.setup.PeerSetup.{PeerSetup}
 use Rattle.login_setup.specs.declared.setup.ServerSetup.{ServerSetup}
 use Rattle.eap_method.specs.declared.tags.TagRecord.{TagRecord}
@@ -11,16 +10,15 @@ use Rattle.eap_method.specs.PskTags.{ak_record, rand_of, tek_record}
 use Rattle.peer_machine.specs.PeerTable as peers
 use Rattle.server_machine.specs.ServerTable as servers
 use Rattle.eap_world.specs.Conversations.{front}
-use Rattle.world_laws.specs.ByMethod.{peer_foreign, PeerTags, none_selected, psk_selected, gpsk_selected}
-use Rattle.world_laws.specs.PskPeerStands as psk_peer_stands
+use Rattle.world_laws.specs.ByMethod.{peer_foreign, PeerTags}
 use Rattle.world_laws.specs.PskPeerStands.{psk_rand_s, PskPeerTags, psk_unset, psk_fresh, psk_waits}
+use Rattle.world_laws.specs.PskPeerStands as psk_peer_stands
 use Rattle.world_laws.specs.PskServerStands.{PskServerTags, psk_over}
 use Rattle.world_laws.specs.Records.{IsIn, here, later}
 use Rattle.world_laws.specs.ToldTags.{MadeByServer}
 use Rattle.world_laws.proofs.Among.{among_one, among_two}
 use Rattle.world_laws.proofs.Asks.{AsksServer}
-use Rattle.world_laws.proofs.GpskPeerTurns.{gpsk_method}
-use Rattle.world_laws.proofs.PeerByMethod.{kinds_apart}
+use Rattle.world_laws.proofs.PeerByMethod.{made_by_psk}
 use Rattle.world_laws.proofs.PskFields.{front_size}
 use Rattle.world_laws.proofs.PskHeaders.{header_made, same_header}
 use Rattle.world_laws.proofs.PskPeerTells.{labels_apart}
@@ -83,9 +81,7 @@ module _ (psk header : List ℕ) (sealed : ℕ) (tag rand_s : List ℕ) (rand_in
 
   pub has_asked : (selected : Option ℕ) (views : PeerViews) (accepted made : List TagRecord)
       → PeerTags (peers.own_nonce setup nonce) selected views accepted made → IsIn psk4_tag made → HasAsked nonce rand_s (peer_foreign selected views) accepted
-  has_asked selected views _ _ (none_selected unselected psk_told gpsk_told) is = elim is [ ]
-  has_asked selected views _ _ (psk_selected accepted made is_selected told) is =
-      let h = view_asked views.psk accepted made told is in
-      record { holds = ap (λ (o : Option ℕ). peer_foreign o views) is_selected ∙ h.holds; asks = h.asks }
-  has_asked selected views _ _ (gpsk_selected accepted made is_selected told) is =
-      kinds_apart psk_kind refl (gpsk_method (peers.own_nonce setup nonce) views.gpsk accepted made psk4_tag told is)
+  has_asked selected views accepted made told is =
+      let by = made_by_psk (peers.own_nonce setup nonce) selected views accepted made psk4_tag told is refl in
+      let h = view_asked views.psk accepted made by.1 is in
+      record { holds = ap (λ (o : Option ℕ). peer_foreign o views) by.0 ∙ h.holds; asks = h.asks }

@@ -1,9 +1,10 @@
--- Two ends in SUCCESS agree, where each accepted tag is one that either end made: an end in SUCCESS can't have made
--- the tag itself that the login rests on.
-use Rattle.std.proofs.Common.{◌≡◌, ℕ, true, false, List, [], ◌∷◌, length, Some, refl, sym, ap, subst, arith, inl, inr}
+-- Two ends in SUCCESS agree, and what they report is their own, where each accepted tag is one that either end made: an end in
+-- SUCCESS can't have made the tag itself that the login rests on.
+use Rattle.std.proofs.Common.{◌≡◌, ℕ, true, false, List, [], ◌∷◌, length, Option, Some, refl, sym, ap, subst, ◌∙◌, arith, inl, inr}
 use Rattle.std.specs.Prelude.{◌⊎◌}
 use Rattle.login_setup.specs.declared.setup.PeerSetup.{PeerSetup}
 use Rattle.login_setup.specs.declared.setup.ServerSetup.{ServerSetup}
+use Rattle.login_setup.specs.declared.setup.Setup.{Setup}
 use Rattle.eap_base.specs.Among.{psk_kind, gpsk_kind}
 use Rattle.eap_method.specs.declared.tags.TagRecord.{TagRecord}
 use Rattle.eap_method.specs.PskPeer as psk_peer
@@ -11,18 +12,25 @@ use Rattle.eap_method.specs.PskServer as psk_server
 use Rattle.eap_method.specs.GpskPeer as gpsk_peer
 use Rattle.eap_method.specs.GpskServer as gpsk_server
 use Rattle.eap_method.specs.GpskTags.{sk_record}
+use Rattle.peer_machine.specs.PeerTable as peer_table
 use Rattle.peer_machine.specs.PeerTable.{PeerNow, peer_reports}
+use Rattle.server_machine.specs.ServerTable as server_table
 use Rattle.server_machine.specs.ServerTable.{ServerNow, server_reports}
 use Rattle.eap_world.specs.Judgement.{agreement_of, is_success}
+use Rattle.eap_world.specs.World.{WorldNow}
+use Rattle.world_laws.specs.Agreement.{AreTheirs}
+use Rattle.world_laws.specs.ByMethod.{server_foreign}
 use Rattle.world_laws.specs.ByMethod as by_method
 use Rattle.world_laws.specs.GpskPeerStands as gpsk_peer_stands
+use Rattle.world_laws.specs.GpskServerStands.{gpsk_rand_p_in}
 use Rattle.world_laws.specs.GpskServerStands as gpsk_server_stands
+use Rattle.world_laws.specs.PeerStands.{PeerStands}
 use Rattle.world_laws.specs.PskPeerStands as psk_peer_stands
+use Rattle.world_laws.specs.PskServerStands.{psk_rand_p_in}
 use Rattle.world_laws.specs.PskServerStands as psk_server_stands
 use Rattle.world_laws.specs.Records.{IsIn, AreInEither, here}
-use Rattle.world_laws.specs.PeerStands.{PeerStands}
 use Rattle.world_laws.specs.ServerStands.{ServerStands}
-use Rattle.world_laws.proofs.Among.{among_two}
+use Rattle.world_laws.proofs.Among.{among_two, first_is}
 use Rattle.world_laws.proofs.GpskAgrees as gpsk
 use Rattle.world_laws.proofs.OneMethod.{apart as one_method}
 use Rattle.world_laws.proofs.PeerByMethod as peer_by_method
@@ -40,10 +48,9 @@ other_method tag one other is_in not_one not_other =
       | inr e ↦ not_other (ap (λ (t : TagRecord). t.method) e)
     ]
 
--- a tag that an end didn't make itself is one of the other's
-of_other : (tag : TagRecord) (others own : List TagRecord) → IsIn tag others ⊎ IsIn tag own → (IsIn tag own → ⊥) → IsIn tag others
-of_other tag others own (inl is_in) not_own = is_in
-of_other tag others own (inr is_in) not_own = absurd (not_own is_in)
+pub one_of : {A B : Type 0} → A ⊎ B → (B → ⊥) → A
+one_of (inl a) not_other = a
+one_of (inr b) not_other = absurd (not_other b)
 
 -- both ends have succeeded by one method, and speak of the same login
 pub data BothSucceed (peer_setup : PeerSetup) (server_setup : ServerSetup) (p : PeerNow) (s : ServerNow) : Type 0 where
@@ -118,12 +125,9 @@ module _ (setup : ServerSetup) (now : ServerNow) where
 pub record FirstIn (accepted others : List TagRecord) : Type 0 where
   pub is : (tag : TagRecord) (rest : List TagRecord) → accepted ≡ tag ∷ rest → IsIn tag others
 
-first_same : (one tag : TagRecord) (more rest all : List TagRecord) → all ≡ one ∷ more → all ≡ tag ∷ rest → one ≡ tag
-first_same one tag more rest all e f = cc
-
 pub first_in : (accepted others : List TagRecord) (tag : TagRecord) (more : List TagRecord) → accepted ≡ tag ∷ more → IsIn tag others → FirstIn accepted others
 first_in accepted others tag more first is =
-    record { is = λ t rest e. subst (λ (u : TagRecord). IsIn u others) (first_same tag t more rest accepted first e) is }
+    record { is = λ t rest e. subst (λ (u : TagRecord). IsIn u others) (first_is t tag rest more (sym e ∙ first)) is }
 
 module _ (peer_setup : PeerSetup) (server_setup : ServerSetup) (p : PeerNow) (s : ServerNow)
     (peer_nonce : length peer_setup.nonce ≡ 32) (server_nonce : length server_setup.nonce ≡ 32) where
@@ -148,16 +152,16 @@ module _ (peer_setup : PeerSetup) (server_setup : ServerSetup) (p : PeerNow) (s 
   peer_first : (accepted made others : List TagRecord) → PeerSucceeds peer_setup p accepted made → AreInEither accepted others made
       → p.vars.selected ≡ Some psk_kind → FirstIn accepted others
   peer_first _ _ others (with_psk login header sealed id is_selected in_view facts) of_peer is_psk =
-      first_in _ others _ _ refl (of_other _ _ _ (of_peer.each _ (here _)) (psk.peer_not_own peer_setup login facts id))
+      first_in _ others _ _ refl (one_of (of_peer.each _ (here _)) (psk.peer_not_own peer_setup login facts id))
   peer_first _ _ others (with_gpsk login list pd is_selected in_view facts) of_peer is_psk =
       absurd (one_method p.vars.selected gpsk_kind psk_kind refl is_selected is_psk)
 
   server_first : (accepted made others : List TagRecord) → ServerSucceeds server_setup s accepted made → AreInEither accepted others made
       → FirstIn accepted others
   server_first _ _ others (of_psk login _ _ id is_current in_view checked r_sent) of_server =
-      first_in _ others _ _ refl (of_other _ _ _ (of_server.each _ (here _)) (psk.server_not_own server_setup login checked server_nonce id))
+      first_in _ others _ _ refl (one_of (of_server.each _ (here _)) (psk.server_not_own server_setup login checked server_nonce id))
   server_first _ _ others (of_gpsk login pd _ is_current in_view checked) of_server =
-      first_in _ others _ _ refl (of_other _ _ _ (of_server.each _ (here _)) (gpsk.not_own login pd))
+      first_in _ others _ _ refl (one_of (of_server.each _ (here _)) (gpsk.not_own login pd))
 
 pub ends_succeed : (peer_setup : PeerSetup) (server_setup : ServerSetup) (p : PeerNow) (s : ServerNow)
     (peer_accepted peer_made server_accepted server_made : List TagRecord)
@@ -181,3 +185,41 @@ both_agree peer_setup server_setup p s peer_nonce server_nonce (by_psk login fac
     psk.psk_agree peer_setup server_setup login facts other checked peer_nonce server_nonce p s is_selected in_view is_current in_other r_sent same
 both_agree peer_setup server_setup p s peer_nonce server_nonce (by_gpsk login list facts other pd checked is_selected in_view is_current in_other same) =
     gpsk.gpsk_agree peer_setup server_setup login list facts other pd checked peer_nonce server_nonce p s is_selected in_view is_current in_other same
+
+-- what both ends report is their own
+pub both_theirs : (setup : Setup) (w : WorldNow) → BothSucceed setup.peer setup.server w.parties.peer w.parties.server → AreTheirs setup w.parties.peer w.parties.server
+both_theirs setup w (by_psk login facts other checked is_selected in_view is_current in_other r_sent same) =
+    psk.psk_theirs setup w login facts other checked same is_selected in_view is_current in_other r_sent
+both_theirs setup w (by_gpsk login list facts other pd checked is_selected in_view is_current in_other same) =
+    gpsk.gpsk_theirs setup w login list facts other pd checked same is_selected in_view is_current in_other
+
+-- the nonces of the present conversations change nothing of that
+pub own_theirs : (setup : Setup) (w : WorldNow) (peer_nonce server_nonce : List ℕ)
+    → BothSucceed (peer_table.own_nonce setup.peer peer_nonce) (server_table.own_nonce setup.server server_nonce) w.parties.peer w.parties.server → AreTheirs setup w.parties.peer w.parties.server
+own_theirs setup w peer_nonce server_nonce succeed =
+    let own = record setup { peer = peer_table.own_nonce setup.peer peer_nonce; server = server_table.own_nonce setup.server server_nonce } in
+    let theirs = both_theirs own w succeed in
+    record {
+      report = theirs.report;
+      holds = theirs.holds;
+      same = theirs.same;
+      id_p = theirs.id_p;
+      id_s = theirs.id_s;
+      user = theirs.user;
+      known = theirs.known;
+      key = theirs.key;
+      welcome = theirs.welcome;
+      first_suite = λ is_gpsk. (let taken = theirs.first_suite is_gpsk in record { suite = taken.suite; picked = taken.picked; is_suite = taken.is_suite });
+    }
+
+-- a server that has succeeded holds a nonce of the peer
+pub record Holds (o : Option (List ℕ)) : Type 0 where
+  pub foreign : List ℕ
+  pub is : o ≡ Some foreign
+
+pub server_holds : (setup : ServerSetup) (now : ServerNow) (accepted made : List TagRecord) → ServerSucceeds setup now accepted made
+    → Holds (server_foreign now.vars.current now.views)
+server_holds setup now _ _ (of_psk login header sealed id is_current in_view facts r_sent) =
+    record { foreign = _; is = ap (λ (o : Option ℕ). server_foreign o now.views) is_current ∙ ap psk_rand_p_in in_view }
+server_holds setup now _ _ (of_gpsk login pd last_pd is_current in_view facts) =
+    record { foreign = _; is = ap (λ (o : Option ℕ). server_foreign o now.views) is_current ∙ ap gpsk_rand_p_in in_view }

@@ -12,9 +12,8 @@ use Rattle.world_laws.specs.Agreement.{AreApart, AreTheirs, HonestNamesAreTheirs
 use Rattle.world_laws.proofs.EndsStand.{every_run_so_far, stand_first}
 use Rattle.world_laws.proofs.FreshAgree.{fresh_ends_agree}
 use Rattle.world_laws.proofs.HonestOfEither.{honest_of_either, none_if_honest}
-use Rattle.world_laws.proofs.SucceedingEnds.{ends_succeed}
+use Rattle.world_laws.proofs.SucceedingEnds.{both_theirs, ends_succeed}
 use Rattle.world_laws.proofs.TagsOfEnds.{honest_tags}
-use Rattle.world_laws.proofs.Theirs.{both_theirs}
 
 module _ (setup : Setup) (events : List Event) (whole : IsWhole setup) where
   reflected_theirs : (let w = run_of setup events in tags_verdict_either w.book ≡ Honest → length w.conversations.begun ≡ 2

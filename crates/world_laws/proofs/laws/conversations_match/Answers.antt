@@ -1,4 +1,4 @@
-use Rattle.world_laws.proofs.Matching.{conversations_match}
+use Rattle.world_laws.proofs.Conversations.{conversations_match}
 use Rattle.world_laws.proofs.laws.conversations_match.Goals as goal
 
 pub returns : goal.returns

@@ -1,4 +1,4 @@
-use Rattle.world_laws.proofs.Reflected.{reflected_ends_agree}
+use Rattle.world_laws.proofs.PskReflected.{reflected_ends_agree}
 use Rattle.world_laws.proofs.laws.reflected_ends_agree.Goals as goal
 
 pub returns : goal.returns

@@ -1,0 +1,105 @@
+-- Matching conversations by EAP-PSK: one of the peer on which one of the server in SUCCESS rests does rest on that; and the peer's
+-- match also where tags came back to it.
+use Rattle.std.proofs.Common.{◌≡◌, true, List, [], Some, refl, sym, subst, ◌∙◌, inl, inr}
+use Rattle.login_setup.specs.declared.setup.Setup.{Setup}
+use Rattle.eap_base.specs.Among.{gpsk_kind, psk_kind}
+use Rattle.eap_method.specs.declared.tags.TagRecord.{TagRecord}
+use Rattle.eap_method.specs.PskTags.{tek_record}
+use Rattle.server_machine.specs.ServerTable as servers
+use Rattle.tag_book.specs.Book.{first_broken, tags_verdict, tags_verdict_either}
+use Rattle.eap_world.specs.Conversations.{front}
+use Rattle.world_laws.specs.ByMethod.{ServerHasSucceeded, gpsk_server_succeeded, psk_server_succeeded}
+use Rattle.world_laws.specs.EachConversation.{IsOneOf, OfPeer, OfServer, all_made, peer_holds, peer_nonce, server_holds, server_nonce}
+use Rattle.world_laws.specs.Matching.{PeerMatches, RestsOn}
+use Rattle.world_laws.specs.Records.{IsIn, tags_by}
+use Rattle.world_laws.proofs.HonestOfEither.{honest_of_either, none_if_honest}
+use Rattle.world_laws.proofs.HonestOther.{honest_other}
+use Rattle.world_laws.proofs.Matching.{AllKnown, ServerKnown}
+use Rattle.world_laws.proofs.Matching as matching
+use Rattle.world_laws.proofs.OneLogin.{one_held}
+use Rattle.world_laws.proofs.OneMethod.{apart}
+use Rattle.world_laws.proofs.OneOf.{accepted_in, made_in}
+use Rattle.world_laws.proofs.PskAnswered.{HasAsked, HasPsk4, has_asked, psk4_taken}
+use Rattle.world_laws.proofs.PskReflected.{AsksAnother, asks_another}
+use Rattle.world_laws.proofs.ServerByMethod.{told_by_psk}
+use Rattle.world_laws.proofs.TagsOfEnds.{honest_tags}
+use Rattle.eap_world.specs.Judgement.{is_success}
+use Rattle.eap_world.specs.World.{WorldNow}
+use Rattle.tag_book.specs.declared.book.End.TheVariants as end
+use Rattle.tag_book.specs.declared.book.Makers.TheVariants.{Either, Other}
+use Rattle.tag_book.specs.declared.book.TagsVerdict.TheVariants.{Honest}
+use Rattle.tag_book.specs.declared.book.Use.TheVariants.{Accepted, Made}
+
+module _ (setup : Setup) (last : WorldNow) (ps : List OfPeer) (ss : List OfServer) (all : AllKnown setup last ps ss) where
+  -- one in SUCCESS by EAP-PSK has accepted PSK-4
+  psk4_in : (s : OfServer) → ServerKnown setup.server s → is_success s.now.vars.state ≡ true → s.now.vars.current ≡ Some psk_kind
+      → HasPsk4 (server_nonce s) s.accepted
+  psk4_in s known s_in by_psk = of_success (known.stands.sure s_in)
+    where
+      of_success : ServerHasSucceeded s.now.vars.current s.now.views → HasPsk4 (server_nonce s) s.accepted
+      of_success (psk_server_succeeded login is_current in_view) =
+          psk4_taken setup.server (server_nonce s) login true s.accepted s.made
+          (told_by_psk (servers.own_nonce setup.server (server_nonce s)) s.now.vars.current s.now.views _ s.accepted s.made is_current in_view
+          known.stands.tags)
+      of_success (gpsk_server_succeeded login is_current in_view) = apart s.now.vars.current gpsk_kind psk_kind refl is_current by_psk
+
+  -- ---- by EAP-PSK the peer has accepted PSK-3, where the server has accepted PSK-4
+
+  -- the conversation that made that PSK-4 rests on this one of the server, and so it is the one on which that rests
+  answered_by : tags_verdict last.book ≡ Honest → last.conversations.fresh ≡ true → (s : OfServer) → IsOneOf s ss
+      → (is : HasPsk4 (server_nonce s) s.accepted) → (q : OfPeer) → IsOneOf q ps → HasAsked (peer_nonce q) (front (server_nonce s)) (peer_holds q) q.accepted
+      → RestsOn q.accepted s.made × (server_holds s ≡ Some (front (peer_nonce q)))
+  answered_by honest fresh s s_is is q q_is h =
+      let either = honest_of_either last.book honest in
+      let r = matching.rests_on setup last ps ss all q q_is h.asks
+      (matching.by_server setup last ps ss all h.asks.tag
+      (honest_other end.Peer last.book (none_if_honest (first_broken Other [] last.book) honest) h.asks.tag (matching.listed_peer setup last ps ss all q q_is h.asks))) in
+      let b = matching.back_on setup last ps ss all either fresh q q_is r.on r.is_one r.rand_p in
+      let same = matching.the_same_server setup last ps ss all fresh r.on s r.is_one s_is (one_held (peer_holds q) _ _ b.hold.rand_s h.holds) in
+      (subst (λ (t : OfServer). RestsOn q.accepted t.made) same r.rests, subst (λ (t : OfServer). server_holds t ≡ Some (front (peer_nonce q))) same r.rand_p)
+
+  psk_back : tags_verdict last.book ≡ Honest → last.conversations.fresh ≡ true → (s : OfServer) → IsOneOf s ss → is_success s.now.vars.state ≡ true
+      → HasPsk4 (server_nonce s) s.accepted → (p : OfPeer) → IsOneOf p ps → RestsOn s.accepted p.made → RestsOn p.accepted s.made
+  psk_back honest fresh s s_is s_in is p p_is rests =
+      let listed : IsIn (tek_record is.psk 1 is.header is.sealed is.tag) (tags_by end.Server Accepted last.book) =
+      subst (λ (l : List TagRecord). IsIn (tek_record is.psk 1 is.header is.sealed is.tag) l) (sym all.are.server_accepted) (accepted_in _ s ss s_is is.is_in) in
+      let made = subst (λ (l : List TagRecord). IsIn (tek_record is.psk 1 is.header is.sealed is.tag) l) all.are.peer_made
+      (honest_other end.Server last.book (none_if_honest (first_broken Other [] last.book) honest) _ listed) in
+      let m = made_in _ ps made in
+      let known = all.peers m.by m.is_one in
+      let h = has_asked is.psk is.header is.sealed is.tag (front (server_nonce s)) is.rand_in setup.peer (peer_nonce m.by) known.size
+      m.by.now.vars.selected m.by.now.views m.by.accepted m.by.made known.stands.tags m.is_in in
+      let a = answered_by honest fresh s s_is is m.by m.is_one h in
+      let s_known = all.servers s s_is in
+      let asking = matching.server_in setup s s_known s_in in
+      let same = matching.the_same setup last ps ss all fresh m.by p m.is_one p_is
+      (one_held (server_holds s) _ _ a.1 asking.holds ∙ sym (matching.server_on setup s s_known s_in p (all.peers p p_is) rests).0) in
+      subst (λ (q : OfPeer). RestsOn q.accepted s.made) same a.0
+
+  pub psk_servers_back : tags_verdict last.book ≡ Honest → last.conversations.fresh ≡ true → (s : OfServer) → IsOneOf s ss → is_success s.now.vars.state ≡ true
+      → s.now.vars.current ≡ Some psk_kind → (p : OfPeer) → IsOneOf p ps → RestsOn s.accepted p.made → RestsOn p.accepted s.made
+  psk_servers_back honest fresh s s_is s_in by_psk = psk_back honest fresh s s_is s_in (psk4_in s (all.servers s s_is) s_in by_psk)
+
+  -- ---- by EAP-PSK a tag that came back to the peer is none of its own
+
+  not_peers : last.conversations.fresh ≡ true → (p : OfPeer) → IsOneOf p ps → (asked : AsksAnother setup.peer (peer_nonce p) p.accepted p.made)
+      → IsIn asked.asks.tag (tags_by end.Peer Made last.book) → ⊥
+  not_peers fresh p is_one asked is =
+      let m = made_in asked.asks.tag ps (subst (λ (l : List TagRecord). IsIn asked.asks.tag l) all.are.peer_made is) in
+      let known = all.peers m.by m.is_one in
+      let same = matching.the_same setup last ps ss all fresh m.by p m.is_one is_one
+      (asked.no_other (peer_nonce m.by) (peer_holds m.by) m.by.accepted m.by.made known.size (matching.peer_told setup m.by known) m.is_in) in
+      asked.not_own (subst (λ (q : OfPeer). IsIn asked.asks.tag q.made) same m.is_in)
+
+  pub psk_peers_match : tags_verdict_either last.book ≡ Honest → last.conversations.fresh ≡ true → (p : OfPeer) → IsOneOf p ps
+      → is_success p.now.vars.state ≡ true → p.now.vars.selected ≡ Some psk_kind → PeerMatches ps ss p
+  psk_peers_match honest fresh p is_one p_in selected =
+      let known = all.peers p is_one in
+      let asked = asks_another setup.peer (peer_nonce p) p.now p.accepted p.made known.size (matching.peer_won setup p known p_in) selected in
+      let none = none_if_honest (first_broken Either [] last.book) honest in
+      let made : IsIn asked.asks.tag (all_made ss) =
+      elim ((honest_tags end.Peer last.book none).each asked.asks.tag (matching.listed_peer setup last ps ss all p is_one asked.asks)) [
+        | inl made ↦ matching.by_server setup last ps ss all asked.asks.tag made
+        | inr own ↦ absurd (not_peers fresh p is_one asked own)
+      ] in
+      matching.peer_matches setup last ps ss all honest fresh p is_one p_in (matching.in_one setup last ps ss all p is_one p_in (matching.rests_on setup last ps ss all p is_one asked.asks made))
