@@ -8,8 +8,8 @@ use Rattle.std.proofs.lemmas.Option.{same_Some}
 use Rattle.std.proofs.lemmas.Slice.Eq.{bytes_eq-Decides}
 use Rattle.eap_base.specs.declared.suite.Suite.{Suite}
 use Rattle.eap_base.specs.declared.suite.Suite.TheVariants.{Cmac, Hmac}
-use Rattle.eap_base.specs.Among.{is_among, are_distinct, is_kind, is_filled, psk_kind, gpsk_kind}
-use Rattle.login_setup.specs.Setup.{are_suites, are_kinds}
+use Rattle.eap_base.specs.Among.{is_among, are_distinct, is_filled}
+use Rattle.login_setup.specs.Setup.{are_suites}
 use Rattle.eap_base.specs.Suite.{suite_octets}
 use Rattle.eap_method.specs.GpskTags.{suite_list}
 use Rattle.login_policy.specs.Policy.{is_allowed, picked_suite, nak_of, next_kind}
@@ -28,7 +28,7 @@ three_of_two p q a b c (inr x) (inr y) z ab ac bc = ab (y ∙ sym x)
 three_of_two p q a b c (inr x) (inl y) (inr z) ab ac bc = ac (z ∙ sym x)
 three_of_two p q a b c (inr x) (inl y) (inl z) ab ac bc = bc (z ∙ sym y)
 
-few_of : (p q : ℕ) (xs : List ℕ) → list_all (λ x. (x == p) || (x == q)) xs ≡ true → are_distinct xs ≡ true → length xs ≤ 2
+pub few_of : (p q : ℕ) (xs : List ℕ) → list_all (λ x. (x == p) || (x == q)) xs ≡ true → are_distinct xs ≡ true → length xs ≤ 2
 few_of p q [] all apart = omega arith
 few_of p q (a ∷ []) all apart = omega arith
 few_of p q (a ∷ b ∷ []) all apart = omega arith
@@ -43,9 +43,6 @@ few_of p q (a ∷ b ∷ c ∷ rest) all apart =
     let c_from_b = or_parts (c == b) _ (not-true (is_among (c ∷ rest) b) from_b.0) in
     absurd (three_of_two p q a b c (either p q a is_a.0) (either p q b is_b.0) (either p q c is_c.0)
     (eqb-false b a a_apart.0) (eqb-false c a c_from_a.0) (eqb-false c b c_from_b.0))
-
-pub few_kinds : (kinds : List ℕ) → are_kinds kinds ≡ true → length kinds ≤ 2
-few_kinds kinds h = let both = and_parts (list_all is_kind kinds) (are_distinct kinds) h in few_of psk_kind gpsk_kind kinds both.0 both.1
 
 pub few_suites : (suites : List ℕ) → are_suites suites ≡ true → length suites ≤ 2
 few_suites suites h =

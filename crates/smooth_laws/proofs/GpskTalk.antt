@@ -1,5 +1,5 @@
 -- A login by EAP-GPSK as both machines see it: its four messages and their tags.
-use Rattle.std.proofs.Common.{◌≡◌, ℕ, ◌≤◌, List, [], ◌∷◌, length, true, false, Option, Some, refl, ap, ◌∙◌, arith}
+use Rattle.std.proofs.Common.{◌≡◌, ℕ, ◌*◌, ◌≤◌, List, [], ◌∷◌, length, true, false, Option, Some, refl, ap, ◌∙◌, arith}
 use Rattle.std.proofs.lemmas.Bool.{cond-true}
 use Rattle.login_setup.specs.declared.setup.PeerSetup.{PeerSetup}
 use Rattle.login_setup.specs.declared.setup.ServerSetup.{ServerSetup}
@@ -19,14 +19,13 @@ use Rattle.eap_method.specs.GpskServer as gpsk_server
 use Rattle.eap_method.specs.GpskTags.{gpsk_request, gpsk_response, sk_record, suite_list}
 use Rattle.eap_method.specs.Peer.{PeerViews, gpsk_turn, credential_for, key_for, peer_turn, views_begun}
 use Rattle.eap_method.specs.Server as servers
-use Rattle.eap_method.specs.Server.{ServerViews, gpsk_hears, server_turn, side_of}
+use Rattle.eap_method.specs.Server.{ServerViews, gpsk_hears, gpsk_offer, server_offer, server_turn, side_of}
 use Rattle.eap_method.specs.Turns.{PeerOutcome, ServerOutcome, requested, done}
 use Rattle.eap_method.specs.declared.values.Decision.TheVariants.{CondSucc}
 use Rattle.method_laws.specs.GpskLogin.{Ends, Fit, GoesThrough, peer_login, server_login}
 use Rattle.method_laws.proofs.GpskWhole.{gpsk_logins_go_through}
-use Rattle.smooth_laws.proofs.Offers.{IsShort, length_suite_list, gpsk_fits, gpsk_offered}
-use Rattle.smooth_laws.proofs.ServerSide.{Made, after_id}
-use Rattle.smooth_laws.proofs.Talk.{Talks}
+use Rattle.smooth_laws.proofs.ServerSide.{IsOffer, Made, after_id}
+use Rattle.smooth_laws.proofs.Talk.{IsShort, Talks}
 
 -- both ends have a key in common, accept each other, and there is a suite for both
 pub record Shares (peer : PeerSetup) (server : ServerSetup) (user : User) (suite : Suite) : Type 0 where
@@ -75,6 +74,11 @@ own_suites peer server user suite shares = shares.short.suites
 
 -- ---- the sizes of the messages
 
+length_suite_list : (suites : List ℕ) → length (suite_list suites) ≡ 6 * length suites
+unfolding suite_list
+length_suite_list [] = refl
+length_suite_list (suite ∷ suites) = let rest = length_suite_list suites in omega arith
+
 module _ (ends : Ends) (fit : Fit ends) where
   answers_fit : length ends.own.suites ≤ 2 → length (spelled (gpsk_peer.gpsk2_of (peer_login ends) (suite_list ends.own.suites))) ≤ 1488
   answers_fit few =
@@ -104,6 +108,25 @@ module _ (ends : Ends) (fit : Fit ends) where
       let mac : length (mac_of (gpsk_peer.gpsk4_of (peer_login ends))) ≡ ks_of ends.suite = length_gpsk_tag_of _ _ _ in
       let ks = ks-le ends.suite in
       omega arith
+
+-- ---- the first Request
+
+module _ (made : Made) (short : IsShort made.setup) (id : ℕ) (begun : ServerViews) where
+  pub gpsk_fits : length (spelled (gpsk_server.gpsk1_of (side_of made.setup) made.setup.nonce)) ≤ 1488
+  unfolding side_of
+  gpsk_fits =
+      let size = spellings_are_sized (gpsk_server.gpsk1_of (side_of made.setup) made.setup.nonce) in
+      let list = length_suite_list made.setup.suites in
+      let name = short.name in
+      let nonce = short.nonce in
+      let few = short.suites in
+      omega arith
+
+  pub gpsk_offered : (view : gpsk_server.View) → begun.gpsk ≡ Some view
+      → IsOffer made gpsk_kind id begun (gpsk_request id (gpsk_server.gpsk1_of (side_of made.setup) made.setup.nonce))
+      (record begun { gpsk = Some (gpsk_server.asked (side_of made.setup) made.setup.nonce) })
+  unfolding server_offer gpsk_server.first
+  gpsk_offered view is = record { is = ap (λ (found : Option gpsk_server.View). gpsk_offer (side_of made.setup) made.setup.nonce id begun found) is }
 
 -- ---- the turns at both machines
 

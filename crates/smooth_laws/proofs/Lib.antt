@@ -22,12 +22,12 @@ mod Talk
 mod Opening
 -- What two ends that fit choose: the method, before and after a Nak, and the suite.
 mod Choosing
--- The first Request of each method.
-mod Offers
 -- A login by EAP-GPSK as both machines see it.
 mod GpskTalk
 -- A login by EAP-PSK as both machines see it.
 mod PskTalk
+-- The methods: which a server has, the first Request of each, and its turns where two ends fit by it.
+mod Methods
 -- A smooth login succeeds within its bound.
 pub mod SmoothRuns
 -- Worked values of the definitions.

@@ -1,9 +1,9 @@
 -- An Expanded Nak (RFC 3748 section 5.3.2) is read as the Nak that it was written for.
-use Rattle.std.proofs.Common.{◌≡◌, ℕ, ◌≤◌, List, [], ◌∷◌, ◌++◌, length, Bool, true, false, Ok, inl, inr, refl, sym, ap, subst, arith}
-use Rattle.std.specs.Prelude.{nat_lt, not}
-use Rattle.std.proofs.lemmas.Bool.{and_parts, and_from, and_right}
-use Rattle.std.proofs.lemmas.Bool.Decides.{nat_tests}
-use Rattle.eap_base.specs.Among.{psk_kind, gpsk_kind, is_kind, expanded_kind, ietf}
+use Rattle.std.proofs.Common.{◌≡◌, ℕ, ◌≤◌, List, [], ◌∷◌, ◌++◌, length, Bool, true, false, Ok, refl, sym, ap, ◌∙◌, arith}
+use Rattle.std.specs.Prelude.{◌==◌, ◌||◌, nat_lt, not}
+use Rattle.std.specs.List.{list_all}
+use Rattle.std.proofs.lemmas.Bool.{and_parts, and_from, and_right, or_parts, not-true, cond-true, eqb-false, ne_eqb}
+use Rattle.eap_base.specs.Among.{is_kind, is_among, are_distinct, expanded_kind, ietf}
 use Rattle.login_setup.specs.Setup.{are_kinds}
 use Rattle.eap_packet.specs.Packet.{response}
 use Rattle.eap_packet.specs.Fault.{packet_of}
@@ -14,7 +14,6 @@ use Rattle.peer_machine.specs.PeerTable.{nak_response}
 use Rattle.peer_machine.specs.Expanded.{expanded_nak_response}
 use Rattle.pass_through.specs.PassTable.{without_padding}
 use Rattle.smooth_laws.proofs.Carried.{of_ietf, not_under, or_none}
-use Rattle.smooth_laws.proofs.Choosing.{either}
 use Rattle.smooth_laws.proofs.Packets.{response_read, response_whole}
 
 -- the Nak of a peer that allows these methods, by the form of the Request
@@ -43,53 +42,36 @@ of_none : ReadsBack []
 unfolding nak_of nak_entries kinds_in are_expanded
 of_none = record { entries = refl; back = refl; some = omega arith; few = omega arith; size = omega arith }
 
-of_psk : ReadsBack (47 ∷ [])
-unfolding nak_of nak_entries kinds_in are_expanded
-of_psk = record { entries = refl; back = refl; some = omega arith; few = omega arith; size = omega arith }
-
-of_gpsk : ReadsBack (51 ∷ [])
-unfolding nak_of nak_entries kinds_in are_expanded
-of_gpsk = record { entries = refl; back = refl; some = omega arith; few = omega arith; size = omega arith }
-
-of_psk_first : ReadsBack (47 ∷ 51 ∷ [])
-unfolding nak_of nak_entries kinds_in are_expanded
-of_psk_first = record { entries = refl; back = refl; some = omega arith; few = omega arith; size = omega arith }
-
-of_gpsk_first : ReadsBack (51 ∷ 47 ∷ [])
-unfolding nak_of nak_entries kinds_in are_expanded
-of_gpsk_first = record { entries = refl; back = refl; some = omega arith; few = omega arith; size = omega arith }
-
--- no Type stands twice
-twice : (k : ℕ) → k ≡ k → are_kinds (k ∷ k ∷ []) ≡ true → ⊥
-twice k is h = grind (arith, nat_tests, h)
-
 of_one : (a : ℕ) → is_kind a ≡ true → ReadsBack (a ∷ [])
-of_one a is =
-    elim (either psk_kind gpsk_kind a is) [
-      | inl e ↦ subst (λ (k : ℕ). ReadsBack (k ∷ [])) (sym e) of_psk
-      | inr e ↦ subst (λ (k : ℕ). ReadsBack (k ∷ [])) (sym e) of_gpsk
-    ]
+unfolding nak_of nak_entries kinds_in are_expanded
+of_one a is = record {
+  entries = refl;
+  back = ap nak_of (cond-true _ _ _ (and_from (is_kind a) true is refl));
+  some = omega arith;
+  few = omega arith;
+  size = omega arith;
+}
 
 -- two Types of which each is another
-of_both : (a b : ℕ) → are_kinds (a ∷ b ∷ []) ≡ true → is_kind a ≡ true → is_kind b ≡ true → ReadsBack (a ∷ b ∷ [])
-of_both a b h is_a is_b =
-    elim (either psk_kind gpsk_kind a is_a) [
-      | inl e ↦ elim (either psk_kind gpsk_kind b is_b) [
-        | inl f ↦ absurd (twice 47 refl (subst (λ (k : ℕ). are_kinds (47 ∷ k ∷ []) ≡ true) f (subst (λ (k : ℕ). are_kinds (k ∷ b ∷ []) ≡ true) e h)))
-        | inr f ↦ subst (λ (k : ℕ). ReadsBack (k ∷ b ∷ [])) (sym e) (subst (λ (k : ℕ). ReadsBack (47 ∷ k ∷ [])) (sym f) of_psk_first)
-      ]
-      | inr e ↦ elim (either psk_kind gpsk_kind b is_b) [
-        | inl f ↦ subst (λ (k : ℕ). ReadsBack (k ∷ b ∷ [])) (sym e) (subst (λ (k : ℕ). ReadsBack (51 ∷ k ∷ [])) (sym f) of_gpsk_first)
-        | inr f ↦ absurd (twice 51 refl (subst (λ (k : ℕ). are_kinds (51 ∷ k ∷ []) ≡ true) f (subst (λ (k : ℕ). are_kinds (k ∷ b ∷ []) ≡ true) e h)))
-      ]
-    ]
+of_both : (a b : ℕ) → is_kind a ≡ true → is_kind b ≡ true → (a == b) ≡ false → ReadsBack (a ∷ b ∷ [])
+unfolding nak_of nak_entries kinds_in are_expanded
+of_both a b is_a is_b other = record {
+  entries = refl;
+  back = ap nak_of (cond-true _ _ _ (and_from (is_kind a) true is_a refl)
+      ∙ ap (λ (rest : List ℕ). a ∷ rest) (cond-true _ _ _ (and_from (is_kind b) _ is_b (ap (λ (t : Bool). not (t || false)) other))));
+  some = omega arith;
+  few = omega arith;
+  size = omega arith;
+}
 
 pub reads_back : (methods : List ℕ) → are_kinds methods ≡ true → length methods ≤ 2 → ReadsBack methods
 reads_back [] h few = of_none
 reads_back (a ∷ []) h few = of_one a (and_parts (is_kind a) true (and_parts _ _ h).0).0
 reads_back (a ∷ b ∷ []) h few =
-    let kinds = (and_parts _ _ h).0 in
-    of_both a b h (and_parts (is_kind a) _ kinds).0 (and_parts (is_kind b) true (and_parts (is_kind a) _ kinds).1).0
+    let parts = and_parts (list_all is_kind (a ∷ b ∷ [])) (are_distinct (a ∷ b ∷ [])) h in
+    let kinds = and_parts (is_kind a) _ parts.0 in
+    let apart = or_parts (b == a) false (not-true (is_among (b ∷ []) a) (and_parts _ _ parts.1).0) in
+    of_both a b kinds.0 (and_parts (is_kind b) true kinds.1).0 (ne_eqb a b (λ e. eqb-false b a apart.0 (sym e)))
 reads_back (a ∷ b ∷ c ∷ rest) h few = absurd (omega (arith, few))
 
 -- it is read as what it has, and nothing stands past its Length

@@ -9,22 +9,21 @@ use Rattle.login_setup.specs.declared.users.User.{User}
 use Rattle.eap_base.specs.Among.{psk_kind, is_among}
 use Rattle.login_setup.specs.Setup.{accepts_name}
 use Rattle.login_setup.specs.Users.{user_of}
-use Rattle.psk_messages.specs.Message.{Message, spelled}
+use Rattle.psk_messages.specs.Message.{Message, psk1, spelled}
 use Rattle.psk_messages.proofs.Grammar.{spellings_are_sized}
 use Rattle.eap_method.specs.PskPeer as psk_peer
 use Rattle.eap_method.specs.PskServer as psk_server
 use Rattle.eap_method.specs.PskTags.{psk_request, psk_response, done_success, rand_of}
 use Rattle.eap_method.specs.Peer.{PeerViews, psk_turn, credential_for, key_for, peer_turn, views_begun}
 use Rattle.eap_method.specs.Server as servers
-use Rattle.eap_method.specs.Server.{ServerViews, psk_hears, server_turn, side_of}
+use Rattle.eap_method.specs.Server.{ServerViews, psk_hears, psk_offer, server_offer, server_turn, side_of}
 use Rattle.eap_method.specs.Turns.{PeerOutcome, ServerOutcome}
 use Rattle.eap_method.specs.declared.values.Decision.TheVariants.{UncondSucc}
 use Rattle.method_laws.specs.PskLogin.{Ends, Fit, GoesThrough, peer_login, server_login, psk1_of, psk2_records}
 use Rattle.method_laws.proofs.PskChannel.{length_sealed_tag}
 use Rattle.method_laws.proofs.PskWhole.{psk_logins_go_through}
-use Rattle.smooth_laws.proofs.Offers.{IsShort, psk_fits, psk_offered}
-use Rattle.smooth_laws.proofs.ServerSide.{Made, after_id}
-use Rattle.smooth_laws.proofs.Talk.{Talks}
+use Rattle.smooth_laws.proofs.ServerSide.{IsOffer, Made, after_id}
+use Rattle.smooth_laws.proofs.Talk.{IsShort, Talks}
 
 -- both ends have a key in common and accept each other
 pub record Shares (peer : PeerSetup) (server : ServerSetup) (user : User) : Type 0 where
@@ -105,6 +104,24 @@ module _ (ends : Ends) (fit : Fit ends) where
       let tag = length_psk4_tag (peer_login ends) id done_success in
       let rand_s = length_rand ends.own_nonce fit.server_nonce in
       omega arith
+
+-- ---- the first Request
+
+module _ (made : Made) (short : IsShort made.setup) (id : ℕ) (begun : ServerViews) where
+  pub psk_fits : length (spelled (psk1 (rand_of made.setup.nonce) (side_of made.setup).id_s)) ≤ 1488
+  unfolding side_of
+  psk_fits =
+      let size = spellings_are_sized (psk1 (rand_of made.setup.nonce) made.setup.name) in
+      let name = short.name in
+      let nonce = short.nonce in
+      let rand = length-take-le 16 made.setup.nonce (omega arith) in
+      omega arith
+
+  pub psk_offered : (view : psk_server.View) → begun.psk ≡ Some view
+      → IsOffer made psk_kind id begun (psk_request id (psk1 (rand_of made.setup.nonce) (side_of made.setup).id_s))
+      (record begun { psk = Some (psk_server.asked (side_of made.setup) made.setup.nonce) })
+  unfolding server_offer psk_server.first
+  psk_offered view is = record { is = ap (λ (found : Option psk_server.View). psk_offer (side_of made.setup) made.setup.nonce id begun found) is }
 
 -- ---- the turns at both machines
 

@@ -1,7 +1,7 @@
 -- A smooth login succeeds within its bound.
 use Rattle.std.proofs.Common.{◌≡◌, ℕ, zero, suc, ◌+◌, ◌-◌, ◌≤◌, List, [], ◌∷◌, length, take, Bool, true, false, None, Some, inl, refl, sym, ap, subst, ◌∙◌, arith}
-use Rattle.std.specs.Prelude.{◌==◌, ◌||◌, find}
-use Rattle.std.specs.List.{list_any, list_all}
+use Rattle.std.specs.Prelude.{◌==◌, find}
+use Rattle.std.specs.List.{list_all}
 use Rattle.std.proofs.lemmas.Bool.{and_parts, or_left, eq-eqb}
 use Rattle.std.proofs.lemmas.Option.{none-some}
 use Rattle.login_setup.specs.declared.event.Event.{Event}
@@ -9,12 +9,8 @@ use Rattle.login_setup.specs.declared.event.Event.TheVariants.{Deliver}
 use Rattle.login_setup.specs.declared.setup.Mode.{Mode}
 use Rattle.login_setup.specs.declared.setup.Mode.TheVariants as mode
 use Rattle.login_setup.specs.declared.setup.Setup.{Setup}
-use Rattle.login_setup.specs.declared.users.User.{User}
-use Rattle.eap_base.specs.Among.{gpsk_kind, is_among, is_kind, is_filled, are_distinct}
-use Rattle.login_setup.specs.Setup.{accepts_name}
-use Rattle.login_setup.specs.Users.{user_of}
+use Rattle.eap_base.specs.Among.{is_among, is_kind, are_distinct}
 use Rattle.login_policy.specs.Policy.{next_kind, nak_of}
-use Rattle.eap_method.specs.Peer.{key_for}
 use Rattle.eap_method.specs.Server.{ServerViews, views_begun}
 use Rattle.eap_world.specs.Run.{run_of}
 use Rattle.world_laws.specs.Agreement.{IsWhole}
@@ -24,14 +20,11 @@ use Rattle.eap_world.specs.Judgement.{is_success}
 use Rattle.eap_world.specs.World.{WorldNow, run_after, world_made, world_start}
 use Rattle.world_laws.proofs.HonestRuns.{honest_ends_agree}
 use Rattle.smooth_laws.specs.Smooth.{EndsFit, HasShortNames, IsLoggedIn, SmoothLoginsSucceed, event_bound, bound_in, deliveries, takes_first}
-use Rattle.smooth_laws.proofs.Choosing.{few_kinds, few_suites, some_suites, found_passes, found_among, found_as_all, first_is_next, allowed_is_common}
-use Rattle.smooth_laws.proofs.Choosing.{common_is_next, some_picked}
+use Rattle.smooth_laws.proofs.Choosing.{found_passes, found_among, found_as_all, first_is_next, allowed_is_common, common_is_next}
 use Rattle.smooth_laws.proofs.Exchange.{exchanged, number_after}
-use Rattle.smooth_laws.proofs.GpskTalk.{gpsk_talks}
+use Rattle.smooth_laws.proofs.Methods.{Has, few_kinds, has_each, offers_of, short, talks_of}
 use Rattle.smooth_laws.proofs.Naks.{reads_back}
-use Rattle.smooth_laws.proofs.Offers.{Has, IsShort, has_each, offers_of, psk, gpsk}
 use Rattle.smooth_laws.proofs.Opening.{in_mode, made_in, number_opened, opened, opens, proposes_next, started}
-use Rattle.smooth_laws.proofs.PskTalk.{psk_talks}
 use Rattle.smooth_laws.proofs.ServerSide.{after_id}
 use Rattle.smooth_laws.proofs.Talk.{EndsWell, Talks, ids_differ, last_number, talked, talks_through}
 use Rattle.smooth_laws.proofs.Moves.{BothIn, all_begun, delivered, stay_in}
@@ -48,48 +41,6 @@ take_deliveries first (suc count) zero few = absurd (omega arith)
 take_deliveries first (suc count) (suc more) few = ap (λ (rest : List Event). Deliver first ∷ rest) (take_deliveries (first + 1) count more (omega arith))
 
 module _ (setup : Setup) (whole : IsWhole setup) (names : HasShortNames setup) where
-  short : IsShort setup.server
-  short = record { name = names.server; nonce = whole.server_nonce; suites = few_suites setup.server.suites whole.server.suites }
-
-  known_suites : list_all (λ suite. (suite == 1) || (suite == 2)) setup.server.suites ≡ true
-  known_suites = (and_parts (list_all (λ suite. (suite == 1) || (suite == 2)) setup.server.suites) (are_distinct setup.server.suites)
-      (and_parts (is_filled setup.server.suites) _ whole.server.suites).1).0
-
-  -- the method's turns, where both ends fit by it
-  talks_of : (runs : Mode) (kind id : ℕ) (user : User) → is_among setup.peer.methods kind ≡ true
-      → user_of setup.server.users setup.peer.name kind ≡ Some user → user.barred ≡ false → user.psk ≡ key_for setup.peer kind
-      → accepts_name setup.peer.accepts setup.server.name ≡ true → (kind ≡ gpsk_kind → list_any (is_among setup.peer.suites) setup.server.suites ≡ true)
-      → (begun : ServerViews) → Has begun kind → Talks setup.peer (made_in runs setup) kind id begun
-  talks_of runs kind id user allowed known not_barred one_key accepted suite begun (psk view is) =
-      psk_talks setup.peer (made_in runs setup) user
-      (record {
-        allowed = allowed;
-        known = known;
-        not_barred = not_barred;
-        one_key = one_key;
-        accepted = accepted;
-        peer_name = names.peer;
-        peer_nonce = whole.peer_nonce;
-        short = short;
-      })
-      id begun view is
-  talks_of runs kind id user allowed known not_barred one_key accepted suite begun (gpsk view is) =
-      let picks = some_picked setup.peer.suites setup.server.suites known_suites (suite refl) in
-      gpsk_talks setup.peer (made_in runs setup) user picks.suite
-      (record {
-        allowed = allowed;
-        known = known;
-        not_barred = not_barred;
-        one_key = one_key;
-        accepted = accepted;
-        picked = picks.is;
-        peer_name = names.peer;
-        peer_nonce = whole.peer_nonce;
-        short = short;
-        some_suites = some_suites setup.server.suites whole.server.suites;
-      })
-      id begun view is
-
   module _ (fit : EndsFit setup) where
     -- how a method's packets travel
     abbrev form : Bool
@@ -102,7 +53,7 @@ module _ (setup : Setup) (whole : IsWhole setup) (names : HasShortNames setup) w
     kinds = (and_parts (list_all is_kind setup.server.methods) (are_distinct setup.server.methods) whole.server.methods).0
 
     talks : (runs : Mode) (id : ℕ) (begun : ServerViews) → Has begun fit.kind → Talks setup.peer (made_in runs setup) fit.kind id begun
-    talks runs id begun has = talks_of runs fit.kind id fit.user allowed fit.known fit.not_barred fit.one_key fit.accepted fit.suite begun has
+    talks runs id begun has = talks_of setup whole names runs fit.kind id fit.user allowed fit.known fit.not_barred fit.one_key fit.accepted fit.suite begun has
 
     begins : Has (views_begun setup.server) fit.kind
     begins = has_each setup.server fit.kind (found_as_all (is_among setup.peer.methods) is_kind setup.server.methods fit.kind fit.common kinds)
@@ -138,7 +89,7 @@ module _ (setup : Setup) (whole : IsWhole setup) (names : HasShortNames setup) w
         let w : WorldNow = opened runs (started runs setup) in
         let id : ℕ = after_id setup.first_id in
         let is_first = and_parts (is_kind first) (list_all is_kind rest) (ap (list_all is_kind) (sym order) ∙ kinds) in
-        let offer = offers_of (made_in runs setup) short first id (views_begun setup.server)
+        let offer = offers_of (made_in runs setup) (short setup whole names) first id (views_begun setup.server)
         (has_each setup.server first is_first.0 (ap (λ (methods : List ℕ). is_among methods first) order ∙ or_left (first == first) (is_among rest first)
         (eq-eqb first first refl))) in
         let talk = talks runs (after_id id) offer.asked (offer.keeps fit.kind begins) in

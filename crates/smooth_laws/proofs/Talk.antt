@@ -4,6 +4,7 @@ use Rattle.std.specs.Prelude.{◌==◌}
 use Rattle.std.proofs.lemmas.Bool.{ne_eqb}
 use Rattle.login_setup.specs.declared.setup.Mode.{Mode}
 use Rattle.login_setup.specs.declared.setup.PeerSetup.{PeerSetup}
+use Rattle.login_setup.specs.declared.setup.ServerSetup.{ServerSetup}
 use Rattle.eap_base.specs.Among.{is_among}
 use Rattle.eap_packet.specs.Packet.{request, response, success, spelled}
 use Rattle.eap_method.specs.Peer.{PeerViews, peer_turn, views_begun}
@@ -31,6 +32,12 @@ use Rattle.smooth_laws.proofs.ServerSide.{Made, IsOffer, after_id, server_at, se
 
 abbrev pub tags_of : List TagRecord → List TagRecord → Tags
 tags_of accepted made = record { accepted = accepted; made = made }
+
+-- a server that can be asked: its name, its nonce and its list of suites are short
+pub record IsShort (setup : ServerSetup) : Type 0 where
+  pub name : length setup.name ≤ 253
+  pub nonce : length setup.nonce ≡ 32
+  pub suites : length setup.suites ≤ 2
 
 -- the method's turns at both ends, where its first Request has this Identifier: the Type-Data of its four messages,
 -- what each end keeps, and the tags that each message brings
