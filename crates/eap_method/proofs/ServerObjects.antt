@@ -1,134 +1,200 @@
 -- The first object of a method in a server's list of objects decides what the views of the list do.
-use Rattle.std.proofs.Common.{◌≡◌, ◌≢◌, ℕ, List, [], ◌∷◌, Bool, true, false, Option, Some, None, refl, sym, ◌∙◌, ap}
-use Rattle.std.specs.Prelude.{◌==◌, if◌then◌else◌}
-use Rattle.std.proofs.lemmas.Bool.{ne_eqb}
-use Rattle.eap_base.specs.Among.{psk_kind, gpsk_kind, is_among}
+use Rattle.std.proofs.Common.{◌≡◌, ◌≢◌, ℕ, List, [], ◌∷◌, Bool, true, false, Option, Some, None, map, refl, sym, ◌∙◌, ap, ap₂}
+use Rattle.std.specs.Prelude.{if◌then◌else◌}
+use Rattle.std.proofs.lemmas.Bool.{cond-true, cond_both}
+use Rattle.login_setup.specs.declared.setup.ServerSetup.{ServerSetup}
 use Rattle.login_setup.specs.declared.users.User.{User}
+use Rattle.eap_base.specs.Among.{is_among}
+use Rattle.eap_packet.specs.declared.cause.Cause.{Cause}
 use Rattle.eap_packet.specs.declared.cause.Cause.TheVariants.{WrongOp}
-use Rattle.eap_method.specs.PskServer as psk_server
-use Rattle.eap_method.specs.GpskServer as gpsk_server
+use Rattle.eap_method.specs.declared.values.Report.{Report}
+use Rattle.eap_method.specs.declared.values.ServerSide.{ServerSide}
+use Rattle.eap_method.specs.ServerTurn as answer
 use Rattle.eap_method.specs.ServerTurn.{ServerTurn}
-use Rattle.eap_method.specs.Server.{ServerShown, psk, gpsk, ServerViews, server_kind, server_step, server_turn, psk_hears, gpsk_hears, server_views, views_where}
-use Rattle.eap_method.specs.Turns.{ServerOutcome, dropped}
+use Rattle.eap_method.specs.Server.{ServerShown, ServerViews, Offer, server_kind, server_kinds, server_begun, server_begun_in, server_first_step, server_offer, server_step, server_turn, server_report, server_report_of, server_views, view_of}
+use Rattle.eap_method.specs.Turns.{FirstOutcome, ServerOutcome, dropped}
+use Rattle.eap_method.proofs.Discards.{ServerKeeps, drop-keeps}
+use Rattle.eap_method.proofs.ServerViews.{step-kind, step-keeps, begun-kind, begun-kind-in, first-kind, put, put_found, put_apart, put_again, put_both, found_kind, found_put, offering, offered, offer_at, putting, turned, turn_at, reported, report_at, view_none, views_first}
 
--- whether the views of both methods, of which these are proposed, have that of this object's Type
-abbrev pub has_kind : Bool → Bool → ServerShown → Bool
-has_kind has_psk has_gpsk (psk view) = has_psk
-has_kind has_psk has_gpsk (gpsk view) = has_gpsk
+-- beginning, a first Request and a step keep the Type
+pub begun_kinds : (setup : ServerSetup) (shown : List ServerShown) → server_kinds (map (server_begun_in setup) shown) ≡ server_kinds shown
+begun_kinds setup [] = refl
+begun_kinds setup (s ∷ rest) = ap₂ (λ kind kinds. kind ∷ kinds) (begun-kind-in setup s) (begun_kinds setup rest)
 
-pub is_among_has_kind : (order : List ℕ) (kind : ℕ) (s : ServerShown) → server_kind s ≡ kind → is_among order kind ≡ true
-    → has_kind (is_among order psk_kind) (is_among order gpsk_kind) s ≡ true
-is_among_has_kind order kind (psk view) is_kind has = ap (is_among order) is_kind ∙ has
-is_among_has_kind order kind (gpsk view) is_kind has = ap (is_among order) is_kind ∙ has
+offered-kind : (own : ServerSide) (nonce : List ℕ) (id : ℕ) (s : ServerShown) → server_kind (server_first_step (server_begun own nonce s) id).after ≡ server_kind s
+offered-kind own nonce id s = first-kind (server_begun own nonce s) id ∙ begun-kind own nonce s
 
--- an outcome of the first object, as one of the views
-abbrev with_rest : Bool → Bool → List ServerShown → ServerOutcome ServerShown → ServerOutcome ServerViews
-with_rest has_psk has_gpsk rest out = record { turn = out.turn; after = views_where has_psk has_gpsk (out.after ∷ rest) }
-
--- where the first object is of the method, its step is the turn
-first_turn : (users : List User) (next_id : ℕ) (has_psk has_gpsk : Bool) (s : ServerShown) (rest : List ServerShown) (octets : List ℕ)
-    → has_kind has_psk has_gpsk s ≡ true
-    → server_turn users next_id (server_kind s) (views_where has_psk has_gpsk (s ∷ rest)) octets
-    ≡ with_rest has_psk has_gpsk rest (server_step users next_id s octets)
-unfolding server_turn server_step views_where
-first_turn users next_id true has_gpsk (psk view) rest octets has = refl
-first_turn users next_id false has_gpsk (psk view) rest octets has = cc
-first_turn users next_id has_psk true (gpsk view) rest octets has = refl
-first_turn users next_id has_psk false (gpsk view) rest octets has = cc
-
-pub turn_hit : (users : List User) (next_id : ℕ) (order octets : List ℕ) (kind : ℕ) (s after : ServerShown) (rest : List ServerShown) (turn : ServerTurn)
-    → server_step users next_id s octets ≡ record { turn = turn; after = after } → server_kind s ≡ kind → is_among order kind ≡ true
-    → server_turn users next_id kind (server_views order (s ∷ rest)) octets ≡ record { turn = turn; after = server_views order (after ∷ rest) }
-turn_hit users next_id order octets kind s after rest turn step is_kind is_proposed =
-    rw (← is_kind)
-    (first_turn users next_id (is_among order psk_kind) (is_among order gpsk_kind) s rest octets (is_among_has_kind order kind s is_kind is_proposed)
-    ∙ ap (with_rest (is_among order psk_kind) (is_among order gpsk_kind) rest) step)
-
--- the turn by the tests of its Type
-abbrev turn_by : List User → ℕ → Bool → Bool → ServerViews → List ℕ → ServerOutcome ServerViews
-turn_by users next_id is_psk is_gpsk views octets =
-    if is_psk then psk_hears users next_id views octets views.psk
-    else if is_gpsk then gpsk_hears users next_id views octets views.gpsk
-    else dropped views WrongOp
-
--- what an object adds to the views of the objects after it
-abbrev pub added : Bool → Bool → ServerShown → ServerViews → ServerViews
-added has_psk has_gpsk (psk view) views = record views { psk = if has_psk then Some view else None }
-added has_psk has_gpsk (gpsk view) views = record views { gpsk = if has_gpsk then Some view else None }
-
-abbrev with_added : Bool → Bool → ServerShown → ServerOutcome ServerViews → ServerOutcome ServerViews
-with_added has_psk has_gpsk s out = record { turn = out.turn; after = added has_psk has_gpsk s out.after }
-
-pub views-added : (has_psk has_gpsk : Bool) (s : ServerShown) (rest : List ServerShown) → views_where has_psk has_gpsk (s ∷ rest) ≡ added has_psk has_gpsk s (views_where has_psk has_gpsk rest)
-unfolding views_where
-views-added has_psk has_gpsk (psk view) rest = refl
-views-added has_psk has_gpsk (gpsk view) rest = refl
-
-gpsk_hears_added : (users : List User) (next_id : ℕ) (has_psk has_gpsk : Bool) (view : psk_server.View) (views : ServerViews) (octets : List ℕ) (found : Option gpsk_server.View)
-    → gpsk_hears users next_id (added has_psk has_gpsk (psk view) views) octets found ≡ with_added has_psk has_gpsk (psk view) (gpsk_hears users next_id views octets found)
-gpsk_hears_added users next_id has_psk has_gpsk view views octets None = refl
-gpsk_hears_added users next_id has_psk has_gpsk view views octets (Some other) = refl
-
-psk_hears_added : (users : List User) (next_id : ℕ) (has_psk has_gpsk : Bool) (view : gpsk_server.View) (views : ServerViews) (octets : List ℕ) (found : Option psk_server.View)
-    → psk_hears users next_id (added has_psk has_gpsk (gpsk view) views) octets found ≡ with_added has_psk has_gpsk (gpsk view) (psk_hears users next_id views octets found)
-psk_hears_added users next_id has_psk has_gpsk view views octets None = refl
-psk_hears_added users next_id has_psk has_gpsk view views octets (Some other) = refl
-
--- an object of another Type has no part in the turn
-psk-apart : (users : List User) (next_id : ℕ) (has_psk has_gpsk is_psk is_gpsk : Bool) (view : psk_server.View) (views : ServerViews) (octets : List ℕ) → is_psk ≡ false
-    → turn_by users next_id is_psk is_gpsk (added has_psk has_gpsk (psk view) views) octets ≡ with_added has_psk has_gpsk (psk view) (turn_by users next_id is_psk is_gpsk views octets)
-psk-apart users next_id has_psk has_gpsk true is_gpsk view views octets is_other = cc
-psk-apart users next_id has_psk has_gpsk false true view views octets is_other = gpsk_hears_added users next_id has_psk has_gpsk view views octets views.gpsk
-psk-apart users next_id has_psk has_gpsk false false view views octets is_other = refl
-
-gpsk-apart : (users : List User) (next_id : ℕ) (has_psk has_gpsk is_psk is_gpsk : Bool) (view : gpsk_server.View) (views : ServerViews) (octets : List ℕ) → is_gpsk ≡ false
-    → turn_by users next_id is_psk is_gpsk (added has_psk has_gpsk (gpsk view) views) octets ≡ with_added has_psk has_gpsk (gpsk view) (turn_by users next_id is_psk is_gpsk views octets)
-gpsk-apart users next_id has_psk has_gpsk is_psk true view views octets is_other = cc
-gpsk-apart users next_id has_psk has_gpsk true false view views octets is_other = psk_hears_added users next_id has_psk has_gpsk view views octets views.psk
-gpsk-apart users next_id has_psk has_gpsk false false view views octets is_other = refl
-
-turn-apart : (users : List User) (next_id : ℕ) (has_psk has_gpsk : Bool) (kind : ℕ) (s : ServerShown) (views : ServerViews) (octets : List ℕ) → server_kind s ≢ kind
-    → server_turn users next_id kind (added has_psk has_gpsk s views) octets ≡ with_added has_psk has_gpsk s (server_turn users next_id kind views octets)
-unfolding server_turn
-turn-apart users next_id has_psk has_gpsk kind (psk view) views octets is_other =
-    psk-apart users next_id has_psk has_gpsk (kind == psk_kind) (kind == gpsk_kind) view views octets (ne_eqb kind psk_kind (λ same. is_other (sym same)))
-turn-apart users next_id has_psk has_gpsk kind (gpsk view) views octets is_other =
-    gpsk-apart users next_id has_psk has_gpsk (kind == psk_kind) (kind == gpsk_kind) view views octets (ne_eqb kind gpsk_kind (λ same. is_other (sym same)))
-
--- where the first object is of another Type, the turn is that of the rest
-pub turn_miss : (users : List User) (next_id : ℕ) (order octets : List ℕ) (kind : ℕ) (s : ServerShown) (rest after : List ServerShown) (turn : ServerTurn)
-    → server_kind s ≢ kind
-    → server_turn users next_id kind (server_views order rest) octets ≡ record { turn = turn; after = server_views order after }
-    → server_turn users next_id kind (server_views order (s ∷ rest)) octets ≡ record { turn = turn; after = server_views order (s ∷ after) }
-turn_miss users next_id order octets kind s rest after turn is_other rests =
-    let has_psk : Bool = is_among order psk_kind in
-    let has_gpsk : Bool = is_among order gpsk_kind in
-    rw (views-added has_psk has_gpsk s rest, views-added has_psk has_gpsk s after)
-    (turn-apart users next_id has_psk has_gpsk kind s (views_where has_psk has_gpsk rest) octets is_other ∙ ap (with_added has_psk has_gpsk s) rests)
-
--- where there is no object, the Response is discarded
-nothing-turns : (users : List User) (next_id : ℕ) (has_psk has_gpsk is_psk is_gpsk : Bool) (octets : List ℕ)
-    → turn_by users next_id is_psk is_gpsk (views_where has_psk has_gpsk []) octets ≡ dropped (views_where has_psk has_gpsk []) WrongOp
-unfolding views_where
-nothing-turns users next_id true has_gpsk true is_gpsk octets = refl
-nothing-turns users next_id false has_gpsk true is_gpsk octets = refl
-nothing-turns users next_id has_psk true false true octets = refl
-nothing-turns users next_id has_psk false false true octets = refl
-nothing-turns users next_id has_psk has_gpsk false false octets = refl
-
-pub turn_none : (users : List User) (next_id : ℕ) (order octets : List ℕ) (kind : ℕ)
-    → server_turn users next_id kind (server_views order []) octets ≡ dropped (server_views order []) WrongOp
-unfolding server_turn
-turn_none users next_id order octets kind =
-    nothing-turns users next_id (is_among order psk_kind) (is_among order gpsk_kind) (kind == psk_kind) (kind == gpsk_kind) octets
-
--- a step keeps the Type
-step-kind : (users : List User) (next_id : ℕ) (s : ServerShown) (octets : List ℕ) → server_kind (server_step users next_id s octets).after ≡ server_kind s
-unfolding server_step
-step-kind users next_id (psk view) octets = refl
-step-kind users next_id (gpsk view) octets = refl
+pub offer_kind : (own : ServerSide) (nonce : List ℕ) (id : ℕ) (s begun after : ServerShown) (packet : List ℕ)
+    → begun ≡ server_begun own nonce s → server_first_step begun id ≡ record { packet = packet; after = after } → server_kind after ≡ server_kind s
+offer_kind own nonce id s begun after packet begins makes =
+    ap (λ (out : FirstOutcome ServerShown). server_kind out.after) (sym makes) ∙ (first-kind begun id ∙ (ap server_kind begins ∙ begun-kind own nonce s))
 
 pub step_kind : (users : List User) (next_id : ℕ) (s after : ServerShown) (octets : List ℕ) (turn : ServerTurn)
     → server_step users next_id s octets ≡ record { turn = turn; after = after } → server_kind after ≡ server_kind s
 step_kind users next_id s after octets turn step =
     ap (λ (out : ServerOutcome ServerShown). server_kind out.after) (sym step) ∙ step-kind users next_id s octets
+
+-- ---- the first object is of the method
+
+first_put : (order : List ℕ) (kind : ℕ) (s : ServerShown) (rest : List ServerShown) → server_kind s ≡ kind → is_among order kind ≡ true
+    → server_views order (s ∷ rest) ≡ put s (server_views order rest)
+first_put order kind s rest is_kind is_proposed = views_first order s rest ∙ cond-true _ _ _ (ap (is_among order) is_kind ∙ is_proposed)
+
+put-first : (order : List ℕ) (kind : ℕ) (s after : ServerShown) (rest : List ServerShown) → server_kind after ≡ server_kind s → server_kind s ≡ kind
+    → is_among order kind ≡ true → put after (server_views order (s ∷ rest)) ≡ server_views order (after ∷ rest)
+put-first order kind s after rest same is_kind is_proposed =
+    ap (put after) (first_put order kind s rest is_kind is_proposed)
+    ∙ (put_again s after (server_views order rest) same ∙ sym (first_put order kind after rest (same ∙ is_kind) is_proposed))
+
+-- its view is the one
+pub view_hit : (order : List ℕ) (kind : ℕ) (s : ServerShown) (rest : List ServerShown) → server_kind s ≡ kind → is_among order kind ≡ true
+    → view_of (server_views order (s ∷ rest)) kind ≡ Some s
+view_hit order kind s rest is_kind is_proposed =
+    ap₂ view_of (first_put order kind s rest is_kind is_proposed) (sym is_kind) ∙ put_found s (server_views order rest)
+
+-- its first Request is the offer
+abbrev offers : Option (List ℕ) → ServerViews → Offer
+offers packet after = record { packet = packet; after = after }
+
+pub offer_hit : (own : ServerSide) (nonce : List ℕ) (id : ℕ) (order : List ℕ) (kind : ℕ) (s begun after : ServerShown) (rest : List ServerShown) (packet : List ℕ)
+    → begun ≡ server_begun own nonce s → server_first_step begun id ≡ record { packet = packet; after = after }
+    → server_kind s ≡ kind → is_among order kind ≡ true
+    → server_offer own nonce kind id (server_views order (s ∷ rest)) ≡ record { packet = Some packet; after = server_views order (after ∷ rest) }
+offer_hit own nonce id order kind s begun after rest packet begins makes is_kind is_proposed =
+    let views : ServerViews = server_views order (s ∷ rest) in
+    offer_at own nonce kind id views
+    ∙ (ap (offered own nonce id views) (view_hit order kind s rest is_kind is_proposed)
+    ∙ (ap (offering views) (rw begins at makes)
+    ∙ ap (offers (Some packet)) (put-first order kind s after rest (offer_kind own nonce id s begun after packet begins makes) is_kind is_proposed)))
+
+-- its step is the turn
+abbrev turning : ServerTurn → ServerViews → ServerOutcome ServerViews
+turning turn after = record { turn = turn; after = after }
+
+pub turn_hit : (users : List User) (next_id : ℕ) (order octets : List ℕ) (kind : ℕ) (s after : ServerShown) (rest : List ServerShown) (turn : ServerTurn)
+    → server_step users next_id s octets ≡ record { turn = turn; after = after } → server_kind s ≡ kind → is_among order kind ≡ true
+    → server_turn users next_id kind (server_views order (s ∷ rest)) octets ≡ record { turn = turn; after = server_views order (after ∷ rest) }
+turn_hit users next_id order octets kind s after rest turn step is_kind is_proposed =
+    let views : ServerViews = server_views order (s ∷ rest) in
+    turn_at users next_id kind views octets
+    ∙ (ap (turned users next_id views octets) (view_hit order kind s rest is_kind is_proposed)
+    ∙ (ap (putting views) step
+    ∙ ap (turning turn) (put-first order kind s after rest (step_kind users next_id s after octets turn step) is_kind is_proposed)))
+
+-- its report is the one
+pub report_hit : (order : List ℕ) (kind : ℕ) (s : ServerShown) (rest : List ServerShown) → server_kind s ≡ kind → is_among order kind ≡ true
+    → server_report s ≡ server_report_of kind (server_views order (s ∷ rest))
+report_hit order kind s rest is_kind is_proposed =
+    sym (report_at kind (server_views order (s ∷ rest)) ∙ ap reported (view_hit order kind s rest is_kind is_proposed))
+
+-- ---- it is of another Type
+
+-- the view is that of the rest
+pub view_miss : (order : List ℕ) (kind : ℕ) (s : ServerShown) (rest : List ServerShown) → server_kind s ≢ kind
+    → view_of (server_views order (s ∷ rest)) kind ≡ view_of (server_views order rest) kind
+view_miss order kind s rest is_other =
+    let views : ServerViews = server_views order rest in
+    ap (λ views. view_of views kind) (views_first order s rest)
+    ∙ cond_both (is_among order (server_kind s)) _ _ (λ made. view_of made kind ≡ view_of views kind) (λ _. put_apart s views kind is_other) (λ _. refl)
+
+put-apart : (kind : ℕ) (s : ServerShown) (views : ServerViews) → server_kind s ≢ kind
+    → (t : ServerShown) → view_of views kind ≡ Some t → (after : ServerShown) → server_kind after ≡ server_kind t → put after (put s views) ≡ put s (put after views)
+put-apart kind s views is_other t is after same = put_both s after views (λ e. is_other (e ∙ (same ∙ found_kind views kind t is)))
+
+-- so is the offer
+abbrev keeping_offer : ServerShown → Offer → Offer
+keeping_offer s out = offers out.packet (put s out.after)
+
+offered-apart : (own : ServerSide) (nonce : List ℕ) (id : ℕ) (s : ServerShown) (views : ServerViews) (found : Option ServerShown)
+    → ((t : ServerShown) → found ≡ Some t → (after : ServerShown) → server_kind after ≡ server_kind t → put after (put s views) ≡ put s (put after views))
+    → offered own nonce id (put s views) found ≡ keeping_offer s (offered own nonce id views found)
+offered-apart own nonce id s views None apart = refl
+offered-apart own nonce id s views (Some t) apart =
+    let out = server_first_step (server_begun own nonce t) id in ap (offers (Some out.packet)) (apart t refl out.after (offered-kind own nonce id t))
+
+offer-apart : (own : ServerSide) (nonce : List ℕ) (id : ℕ) (test : Bool) (kind : ℕ) (s : ServerShown) (views after : ServerViews) (packet : Option (List ℕ))
+    → server_kind s ≢ kind → server_offer own nonce kind id views ≡ offers packet after
+    → server_offer own nonce kind id (if test then put s views else views) ≡ offers packet (if test then put s after else after)
+offer-apart own nonce id false kind s views after packet is_other rests = rests
+offer-apart own nonce id true kind s views after packet is_other rests =
+    offer_at own nonce kind id (put s views)
+    ∙ (ap (offered own nonce id (put s views)) (put_apart s views kind is_other)
+    ∙ (offered-apart own nonce id s views (view_of views kind) (put-apart kind s views is_other)
+    ∙ ap (keeping_offer s) (sym (offer_at own nonce kind id views) ∙ rests)))
+
+pub offer_miss : (own : ServerSide) (nonce : List ℕ) (id : ℕ) (order : List ℕ) (kind : ℕ) (s : ServerShown) (rest after : List ServerShown) (packet : Option (List ℕ))
+    → server_kind s ≢ kind
+    → server_offer own nonce kind id (server_views order rest) ≡ record { packet = packet; after = server_views order after }
+    → server_offer own nonce kind id (server_views order (s ∷ rest)) ≡ record { packet = packet; after = server_views order (s ∷ after) }
+offer_miss own nonce id order kind s rest after packet is_other rests =
+    rw (views_first order s rest, views_first order s after)
+    (offer-apart own nonce id (is_among order (server_kind s)) kind s (server_views order rest) (server_views order after) packet is_other rests)
+
+-- so is the turn
+abbrev keeping_turn : ServerShown → ServerOutcome ServerViews → ServerOutcome ServerViews
+keeping_turn s out = turning out.turn (put s out.after)
+
+turned-apart : (users : List User) (next_id : ℕ) (s : ServerShown) (views : ServerViews) (octets : List ℕ) (found : Option ServerShown)
+    → ((t : ServerShown) → found ≡ Some t → (after : ServerShown) → server_kind after ≡ server_kind t → put after (put s views) ≡ put s (put after views))
+    → turned users next_id (put s views) octets found ≡ keeping_turn s (turned users next_id views octets found)
+turned-apart users next_id s views octets None apart = refl
+turned-apart users next_id s views octets (Some t) apart =
+    let out = server_step users next_id t octets in ap (turning out.turn) (apart t refl out.after (step-kind users next_id t octets))
+
+turn-apart : (users : List User) (next_id : ℕ) (test : Bool) (kind : ℕ) (s : ServerShown) (views after : ServerViews) (octets : List ℕ) (turn : ServerTurn)
+    → server_kind s ≢ kind → server_turn users next_id kind views octets ≡ turning turn after
+    → server_turn users next_id kind (if test then put s views else views) octets ≡ turning turn (if test then put s after else after)
+turn-apart users next_id false kind s views after octets turn is_other rests = rests
+turn-apart users next_id true kind s views after octets turn is_other rests =
+    turn_at users next_id kind (put s views) octets
+    ∙ (ap (turned users next_id (put s views) octets) (put_apart s views kind is_other)
+    ∙ (turned-apart users next_id s views octets (view_of views kind) (put-apart kind s views is_other)
+    ∙ ap (keeping_turn s) (sym (turn_at users next_id kind views octets) ∙ rests)))
+
+pub turn_miss : (users : List User) (next_id : ℕ) (order octets : List ℕ) (kind : ℕ) (s : ServerShown) (rest after : List ServerShown) (turn : ServerTurn)
+    → server_kind s ≢ kind
+    → server_turn users next_id kind (server_views order rest) octets ≡ record { turn = turn; after = server_views order after }
+    → server_turn users next_id kind (server_views order (s ∷ rest)) octets ≡ record { turn = turn; after = server_views order (s ∷ after) }
+turn_miss users next_id order octets kind s rest after turn is_other rests =
+    rw (views_first order s rest, views_first order s after)
+    (turn-apart users next_id (is_among order (server_kind s)) kind s (server_views order rest) (server_views order after) octets turn is_other rests)
+
+-- so is the report
+pub report_miss : (order : List ℕ) (kind : ℕ) (s : ServerShown) (rest : List ServerShown) (report : Option Report) → server_kind s ≢ kind
+    → report ≡ server_report_of kind (server_views order rest) → report ≡ server_report_of kind (server_views order (s ∷ rest))
+report_miss order kind s rest report is_other rests =
+    rests ∙ (report_at kind (server_views order rest)
+    ∙ sym (report_at kind (server_views order (s ∷ rest)) ∙ ap reported (view_miss order kind s rest is_other)))
+
+-- ---- there is no object
+
+-- there is no offer
+pub offer_none : (own : ServerSide) (nonce : List ℕ) (id : ℕ) (order : List ℕ) (kind : ℕ)
+    → server_offer own nonce kind id (server_views order []) ≡ offers None (server_views order [])
+offer_none own nonce id order kind = offer_at own nonce kind id (server_views order []) ∙ ap (offered own nonce id (server_views order [])) (view_none order kind)
+
+-- the Response is discarded
+pub turn_none : (users : List User) (next_id : ℕ) (order octets : List ℕ) (kind : ℕ)
+    → server_turn users next_id kind (server_views order []) octets ≡ dropped (server_views order []) WrongOp
+turn_none users next_id order octets kind =
+    turn_at users next_id kind (server_views order []) octets ∙ ap (turned users next_id (server_views order []) octets) (view_none order kind)
+
+-- there is no report
+pub report_none : (order : List ℕ) (kind : ℕ) → None ≡ server_report_of kind (server_views order [])
+report_none order kind = sym (report_at kind (server_views order []) ∙ ap reported (view_none order kind))
+
+-- ---- a discard keeps the views
+
+turned-keeps : (users : List User) (next_id : ℕ) (views : ServerViews) (octets : List ℕ) (found : Option ServerShown)
+    → ((s : ServerShown) → found ≡ Some s → put s views ≡ views) → ServerKeeps views (turned users next_id views octets found)
+turned-keeps users next_id views octets None stands = drop-keeps _ _
+turned-keeps users next_id views octets (Some s) stands =
+    record { keeps = λ cause is_discard. ap (λ s. put s views) ((step-keeps users next_id s octets).keeps cause is_discard) ∙ stands s refl }
+
+pub server_turn_keeps : (users : List User) (next_id kind : ℕ) (views after : ServerViews) (octets : List ℕ) (cause : Cause)
+    → server_turn users next_id kind views octets ≡ record { turn = answer.Discard cause; after = after } → after ≡ views
+server_turn_keeps users next_id kind views after octets cause is_discard =
+    let turned_is = sym (turn_at users next_id kind views octets) ∙ is_discard in
+    sym (ap (λ (out : ServerOutcome ServerViews). out.after) turned_is)
+    ∙ (turned-keeps users next_id views octets (view_of views kind) (found_put views kind)).keeps cause
+    (ap (λ (out : ServerOutcome ServerViews). out.turn) turned_is)

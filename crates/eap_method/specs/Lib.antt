@@ -1,4 +1,3 @@
-pub mod Begun
 pub mod GpskPeer
 pub mod GpskServer
 pub mod GpskTags

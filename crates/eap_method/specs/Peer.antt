@@ -77,6 +77,13 @@ views_where has_psk has_gpsk shown = record {
 abbrev pub peer_views : List ℕ → List PeerShown → PeerViews
 peer_views allowed shown = views_where (is_among allowed psk_kind) (is_among allowed gpsk_kind) shown
 
+-- the view of a method, by its Type
+abbrev pub view_of : PeerViews → ℕ → Option PeerShown
+view_of views kind =
+    if kind == psk_kind then Some (psk views.psk)
+    else if kind == gpsk_kind then Some (gpsk views.gpsk)
+    else None
+
 -- the Types of the objects, in their order
 abbrev pub peer_kinds : List PeerShown → List ℕ
 peer_kinds shown = map peer_kind shown
@@ -102,15 +109,20 @@ peer_report_of kind views =
     else None
 
 -- what the peer of these settings brings into a method: the key is the one for it, or none
-abbrev pub psk_or_none : Option Key → List ℕ
-psk_or_none None = []
-psk_or_none (Some key) = key.psk
+abbrev pub key_or_none : Option Key → List ℕ
+key_or_none None = []
+key_or_none (Some key) = key.psk
 
 abbrev pub key_for : PeerSetup → ℕ → List ℕ
-key_for setup kind = psk_or_none (key_of setup.keys kind)
+key_for setup kind = key_or_none (key_of setup.keys kind)
 
 unfoldable pub credential_for : PeerSetup → ℕ → Credential
 credential_for setup kind = record { id_p = setup.name; accepts = setup.accepts; suites = setup.suites; psk = key_for setup kind }
+
+-- the object after a peer of these settings has begun: one of a method that it doesn't allow stays as it is
+unfoldable pub peer_begun_in : PeerSetup → PeerShown → PeerShown
+peer_begun_in setup (psk view) = psk (if is_among setup.methods psk_kind then psk_peer.fresh (credential_for setup psk_kind) setup.nonce else view)
+peer_begun_in setup (gpsk view) = gpsk (if is_among setup.methods gpsk_kind then gpsk_peer.fresh (credential_for setup gpsk_kind) setup.nonce else view)
 
 -- the views of a peer that begins
 unfoldable pub views_begun : PeerSetup → PeerViews

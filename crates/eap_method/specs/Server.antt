@@ -1,5 +1,5 @@
 -- The server's methods by kind: what an object is, its state, and its calls.
-use Rattle.std.specs.Prelude.{◌≡◌, ℕ, List, [], ◌∷◌, Bool, ◌==◌, if◌then◌else◌, Option, Some, None, map}
+use Rattle.std.specs.Prelude.{◌≡◌, ℕ, List, [], ◌∷◌, Bool, ◌==◌, if◌then◌else◌, Option, Some, None, map, option_map}
 use Rattle.login_setup.specs.declared.setup.ServerSetup.{ServerSetup}
 use Rattle.login_setup.specs.declared.users.User.{User}
 use Rattle.eap_base.specs.Among.{psk_kind, gpsk_kind, is_among}
@@ -85,6 +85,13 @@ views_where has_psk has_gpsk shown = record {
 abbrev pub server_views : List ℕ → List ServerShown → ServerViews
 server_views order shown = views_where (is_among order psk_kind) (is_among order gpsk_kind) shown
 
+-- the view of a method, by its Type, if there is an object of it
+abbrev pub view_of : ServerViews → ℕ → Option ServerShown
+view_of views kind =
+    if kind == psk_kind then option_map psk views.psk
+    else if kind == gpsk_kind then option_map gpsk views.gpsk
+    else None
+
 -- the Types of the objects, in their order
 abbrev pub server_kinds : List ServerShown → List ℕ
 server_kinds shown = map server_kind shown
@@ -151,6 +158,11 @@ server_report_of kind views =
 -- what the server of these settings brings into a method
 unfoldable pub side_of : ServerSetup → ServerSide
 side_of setup = record { id_s = setup.name; suites = setup.suites }
+
+-- the object after a server of these settings has begun: one of a method that it doesn't propose stays as it is
+unfoldable pub server_begun_in : ServerSetup → ServerShown → ServerShown
+server_begun_in setup (psk view) = psk (if is_among setup.methods psk_kind then psk_server.begun (side_of setup) setup.nonce else view)
+server_begun_in setup (gpsk view) = gpsk (if is_among setup.methods gpsk_kind then gpsk_server.begun (side_of setup) setup.nonce else view)
 
 -- the views of a server that begins
 unfoldable pub views_begun : ServerSetup → ServerViews

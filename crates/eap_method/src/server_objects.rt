@@ -3,11 +3,10 @@
 ghost use Rattle.std.specs.Prelude.{◌≡◌, ℕ, List, true, map, IsTrue, All, Some, None, if◌then◌else◌};
 ghost use Rattle.eap_base.specs.Among.{is_among};
 ghost use Rattle.login_setup.specs.Setup.{fits_kind, are_suites};
-ghost use Rattle.eap_method.specs.Begun.{server_begun_in};
 ghost use Rattle.eap_method.specs.Peer.{have_each};
 ghost use Rattle.eap_method.specs.Room.{HasRoom, requests};
 ghost use Rattle.eap_method.specs.ServerTurn.{server_turn_with, server_tags};
-ghost use Rattle.eap_method.specs.Server.{server_kinds, server_views, server_offer, server_turn, IsResponse, server_report_of, side_of, views_begun};
+ghost use Rattle.eap_method.specs.Server.{server_kinds, server_views, server_offer, server_turn, IsResponse, server_report_of, side_of, views_begun, server_begun_in};
 ghost use Rattle.eap_method.specs.Unnamed.{servers_unnamed};
 
 use crate::records::Records;

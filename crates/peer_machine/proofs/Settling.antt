@@ -7,7 +7,7 @@ use Rattle.eap_method.specs.Steps.{step_with}
 use Rattle.eap_method.specs.PeerTurn.{PeerTurn}
 use Rattle.eap_method.specs.PeerTurn.{Discard, Reply, peer_turn_with, peer_tags}
 use Rattle.eap_method.specs.Peer.{PeerShown, PeerViews, peer_views, peer_turn}
-use Rattle.eap_method.proofs.Discards.{peer_turn_keeps}
+use Rattle.eap_method.proofs.PeerObjects.{peer_turn_keeps}
 use Rattle.peer_machine.specs.PeerTable.{PeerNow, answer, method_answers, views_after, peer_method}
 use Rattle.peer_machine.specs.declared.variables.PeerVariables.{PeerVariables}
 

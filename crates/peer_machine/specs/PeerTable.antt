@@ -1,7 +1,7 @@
 -- The peer of RFC 4137 section 4, over the views of its methods: each call as a function.
 use Rattle.std.specs.Prelude.{◌≡◌, ℕ, List, [], ◌∷◌, ◌++◌, Bool, true, false, ◌==◌, ◌&&◌, if◌then◌else◌, Option, Some, None, Result, Ok, Err, map, find}
 use Rattle.login_setup.specs.declared.setup.PeerSetup.{PeerSetup}
-use Rattle.eap_base.specs.Among.{is_among, psk_kind, gpsk_kind, identity_kind, notification_kind, nak_kind}
+use Rattle.eap_base.specs.Among.{is_among, identity_kind, notification_kind, nak_kind}
 use Rattle.login_setup.specs.Setup.{IsSoundPeer, HasKeys}
 use Rattle.eap_packet.specs.Packet.{PacketValue, request, response, success, failure, spelled}
 use Rattle.eap_packet.specs.Fault.{packet_of}
@@ -18,7 +18,7 @@ use Rattle.eap_method.specs.declared.values.MethodState.TheVariants as method
 use Rattle.eap_method.specs.declared.values.Decision.{Decision}
 use Rattle.eap_method.specs.declared.values.Decision.TheVariants as decision
 use Rattle.eap_method.specs.declared.values.Report.{Report}
-use Rattle.eap_method.specs.Peer.{PeerShown, psk, gpsk, peer_kind, PeerViews, peer_views, views_begun, peer_turn, peer_report_of}
+use Rattle.eap_method.specs.Peer.{PeerShown, peer_kind, PeerViews, peer_views, view_of, views_begun, peer_turn, peer_report_of}
 use Rattle.eap_method.specs.Steps.{sends, enters, discards, is_end}
 use Rattle.eap_method.specs.Tags.{no_tags}
 use Rattle.peer_machine.specs.declared.variables.PeerVariables.{PeerVariables}
@@ -226,13 +226,6 @@ first_of kind shown = find (λ s. peer_kind s == kind) shown
 abbrev pub selected_shown : Option ℕ → List PeerShown → Option PeerShown
 selected_shown None shown = None
 selected_shown (Some kind) shown = first_of kind shown
-
--- the view of a method
-abbrev pub view_of : PeerViews → ℕ → Option PeerShown
-view_of views kind =
-    if kind == psk_kind then Some (psk views.psk)
-    else if kind == gpsk_kind then Some (gpsk views.gpsk)
-    else None
 
 -- the view of the selected method
 abbrev pub selected_of : PeerViews → Option ℕ → Option PeerShown

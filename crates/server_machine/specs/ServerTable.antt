@@ -1,9 +1,9 @@
 -- The stand-alone server of RFC 4137 section 5 and the backend of section 6, over the views of their
 -- methods: each call as a function. The backend is the same table, entered by its first Response.
-use Rattle.std.specs.Prelude.{◌≡◌, ◌≤◌, ℕ, ◌+◌, ◌%◌, List, [], ◌∷◌, ◌++◌, Bool, true, false, ◌==◌, ◌&&◌, ◌||◌, not, nat_le, if◌then◌else◌, Option, Some, None, Result, Ok, Err, map, find, option_map}
+use Rattle.std.specs.Prelude.{◌≡◌, ◌≤◌, ℕ, ◌+◌, ◌%◌, List, [], ◌∷◌, ◌++◌, Bool, true, false, ◌==◌, ◌&&◌, ◌||◌, not, nat_le, if◌then◌else◌, Option, Some, None, Result, Ok, Err, map, find}
 use Rattle.login_setup.specs.declared.setup.ServerSetup.{ServerSetup}
 use Rattle.login_setup.specs.declared.users.User.{User}
-use Rattle.eap_base.specs.Among.{is_among, psk_kind, gpsk_kind, identity_kind, nak_kind}
+use Rattle.eap_base.specs.Among.{is_among, identity_kind, nak_kind}
 use Rattle.login_setup.specs.Setup.{are_kinds, IsSoundServer}
 use Rattle.eap_packet.specs.Packet.{PacketValue, request, response, success, failure, spelled}
 use Rattle.eap_packet.specs.Fault.{packet_of}
@@ -17,7 +17,7 @@ use Rattle.eap_method.specs.Tags.{Tags, no_tags}
 use Rattle.eap_method.specs.ServerTurn.{ServerTurn}
 use Rattle.eap_method.specs.ServerTurn as turn
 use Rattle.eap_method.specs.declared.values.Report.{Report}
-use Rattle.eap_method.specs.Server.{ServerShown, psk, gpsk, server_kind, ServerViews, server_views, views_begun, side_of, server_offer, server_turn, server_report_of}
+use Rattle.eap_method.specs.Server.{ServerShown, server_kind, ServerViews, server_views, view_of, views_begun, side_of, server_offer, server_turn, server_report_of}
 use Rattle.eap_method.specs.Steps.{sends, enters, discards, is_end}
 use Rattle.server_machine.specs.declared.variables.ServerVariables.{ServerVariables}
 use Rattle.server_machine.specs.declared.variables.Progress.{Progress}
@@ -307,13 +307,6 @@ server_reports now = current_report now.views now.vars.current
 -- what the first object of a method shows
 abbrev pub first_of : ℕ → List ServerShown → Option ServerShown
 first_of kind shown = find (λ s. server_kind s == kind) shown
-
--- the view of a method, if there is an object of it
-abbrev pub view_of : ServerViews → ℕ → Option ServerShown
-view_of views kind =
-    if kind == psk_kind then option_map psk views.psk
-    else if kind == gpsk_kind then option_map gpsk views.gpsk
-    else None
 
 -- the view of the current method
 abbrev pub current_of : ServerViews → Option ℕ → Option ServerShown

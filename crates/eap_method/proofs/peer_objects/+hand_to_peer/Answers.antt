@@ -1,6 +1,7 @@
 use Rattle.std.proofs.Common.{◌∙◌, sym, refl}
 use Rattle.eap_method.proofs.Lists.{empty_of}
-use Rattle.eap_method.proofs.PeerObjects.{turn_hit, turn_miss, turn_none, step_kind}
+use Rattle.eap_method.proofs.PeerObjects.{turn_hit, turn_miss, step_kind}
+use Rattle.eap_method.proofs.PeerViews.{turn_none}
 use Rattle.eap_method.proofs.Unnamed.{peer_hit, peer_miss}
 use Rattle.eap_method.proofs.peer_objects.+hand_to_peer.Goals as goal
 

@@ -1,6 +1,7 @@
 use Rattle.std.proofs.Common.{◌∙◌, sym}
 use Rattle.eap_method.proofs.Lists.{empty_of}
-use Rattle.eap_method.proofs.PeerReports.{report_hit, report_miss, report_none}
+use Rattle.eap_method.proofs.PeerObjects.{report_hit, report_miss}
+use Rattle.eap_method.proofs.PeerViews.{report_none}
 use Rattle.eap_method.proofs.peer_objects.+peer_report.Goals as goal
 
 pub returns-in-None : goal.returns-in-None

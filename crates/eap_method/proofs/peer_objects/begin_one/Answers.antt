@@ -1,6 +1,7 @@
 use Rattle.std.proofs.Common.{◌∙◌}
 use Rattle.eap_method.specs.Peer.{peer_kind}
-use Rattle.eap_method.proofs.PeerBegins.{credential_fits, begins, stays}
+use Rattle.eap_method.proofs.PeerKeys.{credential_fits}
+use Rattle.eap_method.proofs.PeerViews.{begins, stays}
 use Rattle.eap_method.proofs.peer_objects.begin_one.Goals as goal
 
 pub begin-requires : goal.begin-requires

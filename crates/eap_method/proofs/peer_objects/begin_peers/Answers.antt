@@ -1,4 +1,5 @@
-use Rattle.eap_method.proofs.PeerBegins.{begun_views, begun_kinds}
+use Rattle.eap_method.proofs.PeerObjects.{begun_kinds}
+use Rattle.eap_method.proofs.PeerViews.{begun_views}
 use Rattle.eap_method.proofs.Unnamed.{peers_begun}
 use Rattle.eap_method.proofs.peer_objects.begin_peers.Goals as goal
 

@@ -1,6 +1,6 @@
 use Rattle.std.proofs.Common.{◌∙◌, sym, refl}
 use Rattle.eap_method.proofs.Lists.{empty_of}
-use Rattle.eap_method.proofs.ServerOffers.{offer_hit, offer_miss, offer_none, offer_kind}
+use Rattle.eap_method.proofs.ServerObjects.{offer_hit, offer_miss, offer_none, offer_kind}
 use Rattle.eap_method.proofs.Unnamed.{server_hit, server_miss}
 use Rattle.eap_method.proofs.server_objects.+offer_method.Goals as goal
 

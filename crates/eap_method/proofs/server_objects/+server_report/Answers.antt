@@ -1,6 +1,6 @@
 use Rattle.std.proofs.Common.{◌∙◌, sym}
 use Rattle.eap_method.proofs.Lists.{empty_of}
-use Rattle.eap_method.proofs.ServerReports.{report_hit, report_miss, report_none}
+use Rattle.eap_method.proofs.ServerObjects.{report_hit, report_miss, report_none}
 use Rattle.eap_method.proofs.server_objects.+server_report.Goals as goal
 
 pub returns-in-None : goal.returns-in-None

@@ -1,6 +1,6 @@
 use Rattle.std.proofs.Common.{◌∙◌}
 use Rattle.eap_method.specs.Server.{side_of}
-use Rattle.eap_method.proofs.ServerBegins.{begins, stays}
+use Rattle.eap_method.proofs.ServerViews.{begins, stays}
 use Rattle.eap_method.proofs.server_objects.begin_one.Goals as goal
 
 pub begin-requires : goal.begin-requires

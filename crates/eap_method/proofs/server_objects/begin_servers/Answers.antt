@@ -1,4 +1,5 @@
-use Rattle.eap_method.proofs.ServerBegins.{begun_views, begun_kinds}
+use Rattle.eap_method.proofs.ServerObjects.{begun_kinds}
+use Rattle.eap_method.proofs.ServerViews.{begun_views}
 use Rattle.eap_method.proofs.Unnamed.{servers_begun}
 use Rattle.eap_method.proofs.server_objects.begin_servers.Goals as goal
 
