@@ -10,7 +10,7 @@ use Rattle.eap_packet.specs.Packet as packets
 use Rattle.gpsk_messages.specs.Message.{Message, covered_of, mac_of}
 use Rattle.gpsk_messages.specs.Message as messages
 use Rattle.gpsk_messages.specs.Reading.{with_mac}
-use Rattle.login_keys.specs.Gkdf.{gpsk_tag_of}
+use Rattle.login_keys.specs.Gpsk.{gpsk_tag_of}
 use Rattle.eap_method.specs.declared.tags.Label.TheVariants.{Sk}
 use Rattle.eap_method.specs.declared.tags.TagRecord.{TagRecord}
 

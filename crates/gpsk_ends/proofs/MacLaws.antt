@@ -10,7 +10,7 @@ use Rattle.eap_packet.specs.Packet.{has_type, value_with, number_of, frame_of, t
 use Rattle.eap_packet.specs.Packet as packets
 use Rattle.gpsk_messages.specs.Message.{Message, gpsk1, gpsk2, gpsk3, gpsk4, fail, protected_fail, op_code, covered_of, mac_of, size_of, spelled, without_mac}
 use Rattle.gpsk_messages.specs.Reading.{with_mac}
-use Rattle.login_keys.specs.Gkdf.{gpsk_tag_of}
+use Rattle.login_keys.specs.Gpsk.{gpsk_tag_of}
 use Rattle.eap_method.specs.declared.tags.Label.TheVariants.{Sk}
 use Rattle.eap_method.specs.declared.tags.TagRecord.{TagRecord}
 use Rattle.eap_method.specs.GpskTags.{message_with_mac}

@@ -1,12 +1,8 @@
 -- Blocks of a list that is made block by block.
-use Rattle.std.proofs.Common.{◌≡◌, ℕ, zero, suc, ◌+◌, ◌*◌, ◌<◌, ◌≤◌, List, [], ◌∷◌, ◌++◌, length, sym, ap, subst, ◌∙◌, arith, lit≤, add-one, add-zero, length-append}
-use Rattle.std.specs.Int.{div_ceil}
+use Rattle.std.proofs.Common.{◌≡◌, ℕ, zero, suc, ◌+◌, ◌*◌, List, [], ◌∷◌, ◌++◌, length, sym, ap, ◌∙◌, arith, add-one, add-zero, length-append}
 use Rattle.std.specs.List.{flat_map, range_with_len}
 use Rattle.std.proofs.lemmas.List.{append-nil}
 use Rattle.std.proofs.lemmas.List.Concat.{flat_map-append}
-use Rattle.eap_base.specs.Suite.{ks_of}
-use Rattle.eap_base.specs.declared.suite.Suite.{Suite}
-use Rattle.eap_base.specs.declared.suite.Suite.TheVariants.{Cmac, Hmac}
 
 range_push : (a n : ℕ) → range_with_len a (suc n) ≡ range_with_len a n ++ (a + n) ∷ []
 range_push a zero = ap (λ k. k ∷ []) (sym (add-zero a))
@@ -46,25 +42,3 @@ joined_push f a n size list block after so_far is_block is_whole e = record {
       let sum : length after ≡ n * size + length block = ap length e ∙ length-append list block ∙ ap (λ k. k + length block) so_far.whole in
       sum ∙ ap (λ k. n * size + k) is_whole ∙ sym (mul_more n size);
 }
-
--- KS is at most 32
-pub ks-le : (suite : Suite) → ks_of suite ≤ 32
-ks-le Cmac = lit≤ tt
-ks-le Hmac = lit≤ tt
-
--- while a block is wanted, fewer octets are there than are wanted
-wanted : (suite : Suite) (x n : ℕ) → n < div_ceil x (ks_of suite) → n * ks_of suite < x
-wanted Cmac x n h = omega arith
-wanted Hmac x n h = omega arith
-
-pub before_last : (suite : Suite) (x n ks end : ℕ) → ks ≡ ks_of suite → end ≡ div_ceil x ks → n < end → n * ks_of suite < x
-before_last suite x n ks end same_ks is_end h =
-    wanted suite x n (subst (λ k. n < div_ceil x k) same_ks (subst (λ e. n < e) is_end h))
-
--- all blocks are enough
-enough : (suite : Suite) (x n : ℕ) → n ≡ div_ceil x (ks_of suite) → x ≤ n * ks_of suite
-enough Cmac x n e = omega arith
-enough Hmac x n e = omega arith
-
-pub after_last : (suite : Suite) (x n ks end : ℕ) → ks ≡ ks_of suite → end ≡ div_ceil x ks → n ≡ end → x ≤ n * ks_of suite
-after_last suite x n ks end same_ks is_end e = enough suite x n (e ∙ is_end ∙ ap (div_ceil x) same_ks)

@@ -3,5 +3,5 @@ pub mod Blocks
 -- The definitions computed, with values of an independent program (Python with its hashlib and hmac, and with AES of
 -- the package cryptography).
 pub mod Examples
--- The size of a tag, for those who cut it or send it.
-pub mod Laws
+-- The sizes of an EAP-GPSK ciphersuite: of a tag, and how many of them a key takes.
+pub mod GpskLaws

@@ -1,5 +1,4 @@
-pub mod Gkdf
 pub mod Gpsk
-pub mod MacKey
+pub mod GpskMacKey
 pub mod Psk
 pub mod KeyName

@@ -3,14 +3,18 @@
 ghost use Rattle.std.specs.Prelude.{◌≡◌, ◌+◌, ◌*◌, ◌≤◌, length};
 ghost use Rattle.eap_base.specs.Suite.{ks_of};
 ghost use Rattle.eap_base.specs.Sizes.{max_name};
-ghost use Rattle.login_keys.specs.Gkdf.{gpsk_tag_of};
-ghost use Rattle.login_keys.specs.Gpsk.{gpsk_keys_of, keys_from, pk_size};
+ghost use Rattle.login_keys.specs.Gpsk.{gpsk_keys_of, gpsk_tag_of, keys_from, pk_size};
 ghost use Rattle.login_keys.specs.Gpsk as spec;
 
-use crate::derivation::{derive, two_octets};
+mod derivation;
+mod mac_key;
+
+use crate::gpsk::derivation::{derive, two_octets};
 use cmac_mac::cmac_whole;
+pub use derivation::gkdf;
 use eap_base::{MAX_NAME, Octets, Suite, array_of};
 use hmac_mac::hmac_whole;
+pub use mac_key::MacKey;
 
 // The most octets of a block's number and inputString, of two nonces and two names.
 const FRONT_ROOM: usize = 2 + 2 * (32 + MAX_NAME);
@@ -103,7 +107,7 @@ fn cut_keys(suite: Suite, mk: Octets<32>, derived: &[u8]) -> GpskKeys
 
 /// The MAC of a suite over the octets that a message covers (RFC 5433, sections 8.1.2 and 8.2.2). It has
 /// KS octets, as the session key `sk` has.
-#[tactic(auto, unfolding(crate::specs::Gkdf::gpsk_tag_of))]
+#[tactic(auto, unfolding(crate::specs::Gpsk::gpsk_tag_of))]
 pub fn gpsk_tag(suite: Suite, sk: &[u8], octets: &[u8]) -> Octets<32>
     requires { length sk.now ≡ ks_of suite }
     ensures tag { result ≡ gpsk_tag_of suite sk.now octets.now }

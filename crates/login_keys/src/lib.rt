@@ -3,14 +3,10 @@
 //! call allocates memory.
 #![tactic(auto)]
 
-mod derivation;
 mod gpsk;
-mod mac_key;
 mod naming;
 mod psk;
 
-pub use derivation::gkdf;
-pub use gpsk::{GpskKeys, gpsk_keys, gpsk_tag};
-pub use mac_key::MacKey;
+pub use gpsk::{GpskKeys, MacKey, gkdf, gpsk_keys, gpsk_tag};
 pub use naming::key_name;
 pub use psk::{PskKeys, PskLong, psk_long, psk_session};

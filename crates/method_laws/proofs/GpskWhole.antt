@@ -13,10 +13,9 @@ use Rattle.eap_packet.specs.declared.cause.Cause.TheVariants.{FieldMismatch, Sui
 use Rattle.gpsk_messages.specs.Message.{Message, gpsk2, gpsk3, gpsk4, covered_of, mac_of, spelled, list_of, IsSuiteList, AreFields, HasMac}
 use Rattle.gpsk_messages.specs.Reading.{read_of}
 use Rattle.gpsk_messages.proofs.Grammar.{spellings_are_read}
-use Rattle.login_keys.specs.Gkdf.{gpsk_tag_of}
-use Rattle.login_keys.specs.Gpsk.{gpsk_keys_of}
+use Rattle.login_keys.specs.Gpsk.{gpsk_tag_of, gpsk_keys_of}
 use Rattle.login_keys.specs.declared.gpsk.GpskKeys.{GpskKeys}
-use Rattle.login_keys.proofs.Laws.{length_gpsk_tag_of}
+use Rattle.login_keys.proofs.GpskLaws.{length_gpsk_tag_of}
 use Rattle.login_policy.specs.Policy.{picked_suite, suite_or, is_allowed}
 use Rattle.eap_method.specs.GpskTags.{gpsk_request, gpsk_response, suite_list, is_tagged, message_with_mac, same_suite}
 use Rattle.eap_method.specs.Turns.{body_of}

@@ -5,7 +5,7 @@ use Rattle.eap_base.specs.Suite.{ks_of}
 use Rattle.eap_packet.specs.declared.cause.Cause.{Cause}
 use Rattle.gpsk_messages.specs.Message.{gpsk1, gpsk3, fail, protected_fail, covered_of}
 use Rattle.gpsk_messages.specs.Reading.{read_of}
-use Rattle.login_keys.specs.Gkdf.{gpsk_tag_of}
+use Rattle.login_keys.specs.Gpsk.{gpsk_tag_of}
 use Rattle.login_policy.specs.Policy.{picked_suite}
 use Rattle.eap_method.specs.declared.values.Credential.{Credential}
 use Rattle.eap_method.specs.declared.values.MethodState.TheVariants.{Cont, MayCont, Done}

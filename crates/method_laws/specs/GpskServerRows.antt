@@ -8,7 +8,7 @@ use Rattle.login_setup.specs.Users.{user_of}
 use Rattle.eap_packet.specs.declared.cause.Cause.{Cause}
 use Rattle.gpsk_messages.specs.Message.{gpsk2, gpsk4, fail, protected_fail, covered_of}
 use Rattle.gpsk_messages.specs.Reading.{read_of}
-use Rattle.login_keys.specs.Gkdf.{gpsk_tag_of}
+use Rattle.login_keys.specs.Gpsk.{gpsk_tag_of}
 use Rattle.eap_method.specs.declared.values.ServerSide.{ServerSide}
 use Rattle.eap_method.specs.GpskTags.{gpsk_request, sk_record, suite_list}
 use Rattle.eap_method.specs.Turns.{ServerOutcome, body_of, dropped, requested, done}

@@ -11,8 +11,7 @@ use Rattle.eap_base.specs.Suite.{ks_of}
 use Rattle.login_setup.specs.Users.{user_of}
 use Rattle.gpsk_messages.specs.Message.{Message, mac_of, spelled}
 use Rattle.gpsk_messages.proofs.Grammar.{spellings_are_sized}
-use Rattle.login_keys.proofs.Blocks.{ks-le}
-use Rattle.login_keys.proofs.Laws.{length_gpsk_tag_of}
+use Rattle.login_keys.proofs.GpskLaws.{ks-le, length_gpsk_tag_of}
 use Rattle.login_policy.specs.Policy.{picked_suite}
 use Rattle.eap_method.specs.GpskPeer as gpsk_peer
 use Rattle.eap_method.specs.GpskServer as gpsk_server

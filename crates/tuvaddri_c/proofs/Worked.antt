@@ -5,7 +5,7 @@ use Rattle.eap_packet.specs.Fault.{fault, packet_of}
 use Rattle.eap_packet.specs.Packet.{spelled}
 use Rattle.psk_messages.specs.Reading.{read_of}
 use Rattle.gpsk_messages.specs.Reading as gpsk
-use Rattle.login_keys.specs.Gkdf.{gkdf}
+use Rattle.login_keys.specs.Gpsk.{gkdf}
 use Rattle.eap_method.specs.declared.values.Report.{Report}
 use Rattle.tuvaddri_c.specs.PeerName.{response_name}
 use Rattle.tuvaddri_c.specs.Failures.{sent_code}

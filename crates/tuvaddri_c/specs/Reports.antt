@@ -8,8 +8,7 @@ use Rattle.eap_method.specs.Server.{ServerShown, server_report}
 use Rattle.eap_method.specs.declared.values.Report.{Report}
 use Rattle.end_objects.specs.Nonces.{peer_nonces, server_nonces}
 use Rattle.end_objects.specs.declared.objects.Nonces.{Nonces}
-use Rattle.login_keys.specs.Gkdf.{gkdf}
-use Rattle.login_keys.specs.Gpsk.{input_string}
+use Rattle.login_keys.specs.Gpsk.{gkdf, input_string}
 use Rattle.tuvaddri_c.specs.Ends.{end_reports, end_nonces, end_key}
 use Rattle.tuvaddri_c.specs.declared.report.TuvReport.{TuvReport}
 use Rattle.tuvaddri_c.specs.declared.session.End.{End}

@@ -9,7 +9,7 @@ use Rattle.eap_base.specs.Suite.{suite_number}
 use Rattle.login_setup.specs.Users.{user_of}
 use Rattle.gpsk_messages.specs.Message.{Message, gpsk2, gpsk4, protected_fail, covered_of}
 use Rattle.gpsk_messages.specs.Reading as gpsk_reading
-use Rattle.login_keys.specs.Gkdf.{gpsk_tag_of}
+use Rattle.login_keys.specs.Gpsk.{gpsk_tag_of}
 use Rattle.eap_method.specs.declared.tags.TagRecord.{TagRecord}
 use Rattle.eap_method.specs.declared.values.ServerSide.{ServerSide}
 use Rattle.eap_method.specs.GpskServer as gpsk

@@ -1,6 +1,5 @@
 use Rattle.std.proofs.Common.{◌≡◌, ℕ, List, [], ◌∷◌, ◌++◌, drop, ap, sym, ◌∙◌, append-nil, append_assoc}
-use Rattle.login_keys.specs.Gkdf.{gkdf}
-use Rattle.login_keys.specs.Gpsk.{gpsk_keys_of, input_string, keys_from, master_key}
+use Rattle.login_keys.specs.Gpsk.{gkdf, gpsk_keys_of, input_string, keys_from, master_key}
 use Rattle.login_keys.proofs.gpsk.gpsk_keys.Goals as goal
 
 -- four fields, each appended to what is before it

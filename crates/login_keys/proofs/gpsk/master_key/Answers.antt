@@ -3,9 +3,8 @@ use Rattle.std.proofs.lemmas.List.{take_all}
 use Rattle.eap_base.specs.Suite.{ks_of, suite_octets}
 use Rattle.eap_base.specs.declared.suite.Suite.{Suite}
 use Rattle.eap_base.specs.declared.suite.Suite.TheVariants.{Cmac, Hmac}
-use Rattle.login_keys.specs.Gkdf.{gkdf, gkdf_block, gkdf_blocks, gpsk_tag_of, two_octets}
-use Rattle.login_keys.specs.Gpsk.{master_key}
-use Rattle.login_keys.proofs.Laws.{length_gpsk_tag_of}
+use Rattle.login_keys.specs.Gpsk.{gkdf, gkdf_block, gkdf_blocks, gpsk_tag_of, two_octets, master_key}
+use Rattle.login_keys.proofs.GpskLaws.{length_gpsk_tag_of}
 use Rattle.login_keys.proofs.gpsk.master_key.Goals as goal
 
 whole_block : (tag : List ℕ) (n : ℕ) → length tag ≡ n → take n (tag ++ []) ≡ tag

@@ -7,7 +7,7 @@ use Rattle.eap_packet.specs.Packet as packets
 use Rattle.gpsk_messages.specs.Message.{message_of, mac_of, size_of, covered_of}
 use Rattle.gpsk_messages.specs.Message as messages
 use Rattle.gpsk_messages.specs.Reading.{with_mac}
-use Rattle.login_keys.specs.Gkdf.{gpsk_tag_of}
+use Rattle.login_keys.specs.Gpsk.{gpsk_tag_of}
 use Rattle.eap_method.specs.declared.tags.Label.TheVariants.{Sk}
 use Rattle.eap_method.specs.declared.tags.TagRecord.{TagRecord}
 use Rattle.gpsk_ends.specs.Keys.{SuiteKeys}

@@ -3,8 +3,8 @@ use Rattle.std.specs.Prelude.{◌≡◌, ℕ, List}
 use Rattle.eap_base.specs.declared.suite.Suite.{Suite}
 use Rattle.eap_base.specs.declared.suite.Suite.TheVariants as suite_of
 use Rattle.hmac_mac.specs.Holds.{IsKeyOf}
-use Rattle.login_keys.specs.declared.mac_key.MacKey.{MacKey}
-use Rattle.login_keys.specs.declared.mac_key.MacKey.TheVariants.{Cmac, Hmac}
+use Rattle.login_keys.specs.declared.gpsk.mac_key.MacKey.{MacKey}
+use Rattle.login_keys.specs.declared.gpsk.mac_key.MacKey.TheVariants.{Cmac, Hmac}
 
 -- AES-CMAC with this key for suite 1, HMAC-SHA256 with it for suite 2
 unfoldable pub IsMacKey : MacKey → Suite → List ℕ → Type 0

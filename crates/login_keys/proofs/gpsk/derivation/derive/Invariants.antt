@@ -1,9 +1,9 @@
 use Rattle.std.proofs.Common.{◌≡◌, ◌++◌, drop}
 use Rattle.eap_base.specs.Suite.{ks_of}
-use Rattle.login_keys.specs.Gkdf.{gkdf_block}
+use Rattle.login_keys.specs.Gpsk.{gkdf_block}
 use Rattle.cmac_mac.proofs.Pieces.{joined}
 use Rattle.login_keys.proofs.Blocks.{IsJoined}
-use Rattle.login_keys.proofs.derivation.derive.Given as goal
+use Rattle.login_keys.proofs.gpsk.derivation.derive.Given as goal
 
 abbrev pub invariant-numbers : goal.invariant-numbers
 invariant-numbers l = record {

@@ -2,7 +2,7 @@ use Rattle.std.proofs.Common.{[], ◌++◌, ap, ◌∙◌, take, rules, arith}
 use Rattle.hmac_mac.specs.Holds.{Holds}
 use Rattle.hmac_mac.specs.Hmac.{hmac_sha256}
 use Rattle.cmac_mac.proofs.Pieces.{joined, fed_none, fed_more, fed_all}
-use Rattle.login_keys.proofs.mac_key.hmac_tag.Goals as goal
+use Rattle.login_keys.proofs.gpsk.mac_key.hmac_tag.Goals as goal
 
 pub loop-piece-init : goal.loop-piece-init
 loop-piece-init c = λ octets is_key.

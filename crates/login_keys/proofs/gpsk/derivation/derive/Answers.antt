@@ -3,11 +3,11 @@ use Rattle.std.specs.Int.{div_ceil}
 use Rattle.std.specs.List.{flat_map, range_with_len}
 use Rattle.std.proofs.lemmas.List.{length-take-le}
 use Rattle.eap_base.specs.Suite.{ks_of}
-use Rattle.login_keys.specs.Gkdf.{gkdf, gkdf_block, gkdf_blocks, gpsk_tag_of, two_octets}
-use Rattle.login_keys.proofs.Blocks.{joined_none, joined_push, before_last, after_last, ks-le}
+use Rattle.login_keys.specs.Gpsk.{gkdf, gkdf_block, gkdf_blocks, gpsk_tag_of, two_octets}
+use Rattle.login_keys.proofs.Blocks.{joined_none, joined_push}
 use Rattle.cmac_mac.proofs.Pieces.{joined}
-use Rattle.login_keys.proofs.Laws.{length_gpsk_tag_of}
-use Rattle.login_keys.proofs.derivation.derive.Goals as goal
+use Rattle.login_keys.proofs.GpskLaws.{length_gpsk_tag_of, ks-le, before_last, after_last}
+use Rattle.login_keys.proofs.gpsk.derivation.derive.Goals as goal
 
 -- a number in the first two octets
 numbered : (before text rest z : List ℕ) (n : ℕ) → drop 2 before ++ rest ≡ z → text ≡ two_octets n ++ drop 2 before

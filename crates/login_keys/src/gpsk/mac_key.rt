@@ -6,8 +6,8 @@ ghost use Rattle.hmac_mac.specs.Hmac.{hmac_sha256};
 ghost use Rattle.hmac_mac.specs.Holds.{IsKeyOf};
 ghost use Rattle.eap_base.specs.Suite.{ks_of};
 ghost use Rattle.eap_base.specs.declared.suite.Suite.{Suite};
-ghost use Rattle.login_keys.specs.Gkdf.{gpsk_tag_of};
-ghost use Rattle.login_keys.specs.MacKey.{IsMacKey};
+ghost use Rattle.login_keys.specs.Gpsk.{gpsk_tag_of};
+ghost use Rattle.login_keys.specs.GpskMacKey.{IsMacKey};
 
 use cmac_mac::CmacKey;
 use eap_base::{Octets, Suite, array_of};
@@ -25,7 +25,7 @@ pub enum MacKey {
 
 impl MacKey {
     /// The key of these octets, KS of the suite.
-    #[tactic(auto, unfolding(crate::specs::MacKey::IsMacKey))]
+    #[tactic(auto, unfolding(crate::specs::GpskMacKey::IsMacKey))]
     pub fn new(suite: Suite, key: &[u8]) -> MacKey
         requires { length key.now ≡ ks_of suite }
         ensures { IsMacKey result suite key.now }
@@ -37,7 +37,7 @@ impl MacKey {
     }
 
     /// The MAC of the text that begins with `front` and goes on with the pieces.
-    #[tactic(auto, unfolding(crate::specs::MacKey::IsMacKey, crate::specs::Gkdf::gpsk_tag_of))]
+    #[tactic(auto, unfolding(crate::specs::GpskMacKey::IsMacKey, crate::specs::Gpsk::gpsk_tag_of))]
     pub fn tag(&self, front: &[u8], pieces: &[&[u8]]) -> Octets<32>
         ensures { (suite : Suite) (key : List ℕ) → IsMacKey self.now suite key
             → result ≡ gpsk_tag_of suite key (front.now ++ concat (map (λ p. p.now) pieces.now)) }
@@ -52,7 +52,7 @@ impl MacKey {
     }
 
     /// The MAC of a text in one piece. It has KS octets.
-    #[tactic(auto, unfolding(crate::specs::MacKey::IsMacKey, crate::specs::Gkdf::gpsk_tag_of))]
+    #[tactic(auto, unfolding(crate::specs::GpskMacKey::IsMacKey, crate::specs::Gpsk::gpsk_tag_of))]
     pub fn tag_whole(&self, text: &[u8]) -> Octets<32>
         ensures tag { (suite : Suite) (key : List ℕ) → IsMacKey self.now suite key → result ≡ gpsk_tag_of suite key text.now }
         ensures size { (suite : Suite) (key : List ℕ) → IsMacKey self.now suite key → length result ≡ ks_of suite }

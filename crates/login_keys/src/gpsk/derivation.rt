@@ -3,9 +3,9 @@
 ghost use Rattle.std.specs.Prelude.{◌≡◌, ℕ, ◌≤◌, List, ◌++◌, length, map, drop};
 ghost use Rattle.std.specs.List.{concat};
 ghost use Rattle.eap_base.specs.Suite.{ks_of};
-ghost use Rattle.login_keys.specs.Gkdf as spec;
+ghost use Rattle.login_keys.specs.Gpsk as spec;
 
-use crate::mac_key::MacKey;
+use crate::gpsk::mac_key::MacKey;
 use byteorder::{BigEndian, ByteOrder};
 use eap_base::{Octets, Suite};
 
@@ -20,7 +20,7 @@ pub fn two_octets(number: u16) -> [u8; 2]
 
 // GKDF, as below, where Z is what stands behind the first two octets of `front`, the place of a block's
 // number, and then the pieces.
-pub(crate) fn derive(
+pub fn derive(
     suite: Suite,
     size: usize,
     key: &[u8],

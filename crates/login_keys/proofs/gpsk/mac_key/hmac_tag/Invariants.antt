@@ -1,7 +1,7 @@
 use Rattle.std.proofs.Common.{ℕ, List, ◌++◌, take}
 use Rattle.hmac_mac.specs.Holds.{Holds, IsKeyOf}
 use Rattle.cmac_mac.proofs.Pieces.{joined}
-use Rattle.login_keys.proofs.mac_key.hmac_tag.Given as goal
+use Rattle.login_keys.proofs.gpsk.mac_key.hmac_tag.Given as goal
 
 -- the pieces so far are fed
 abbrev pub invariant-loop-piece : goal.invariant-loop-piece
