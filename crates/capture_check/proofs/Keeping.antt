@@ -1,53 +1,50 @@
--- What is kept of a list of packets and one more.
-use Rattle.std.proofs.Common.{◌≡◌, ℕ, List, [], ◌∷◌, ◌++◌, Option, Some, None, Bool, sym, refl, append_assoc, append-nil}
-use Rattle.std.specs.Option.{option_or}
+-- What is kept of a list of packets and one more, and the names that findings tell, by each method.
+use Rattle.std.proofs.Common.{◌≡◌, ℕ, List, [], ◌∷◌, ◌++◌, Bool, true, false, cond, All, refl}
+use Rattle.std.specs.Prelude.{◌==◌}
+use Rattle.eap_base.specs.Among.{gpsk_kind, psk_kind}
 use Rattle.login_setup.specs.declared.users.User.{User}
-use Rattle.capture_check.specs.Heard.{Captured, heard_of}
-use Rattle.capture_check.specs.Kept.{last_shown, last_psk1, last_gpsk2, last_psk2, kept_of, psk1_in, gpsk2_in, psk2_in}
-use Rattle.capture_check.specs.Steps.{kept_next, nothing_kept}
-
-or_none : {A : Type 0} (x : Option A) → option_or x None ≡ x
-or_none None = refl
-or_none (Some a) = refl
-
-or_assoc : {A : Type 0} (x y z : Option A) → option_or (option_or x y) z ≡ option_or x (option_or y z)
-or_assoc None y z = refl
-or_assoc (Some a) y z = refl
-
--- the last packet shows something, or it is as before
-pub last_of_more : {A : Type 0} (shown : List Captured → Captured → Option A) (before packets : List Captured) (packet : Captured) →
-    last_shown shown before (packets ++ packet ∷ []) ≡ option_or (shown (before ++ packets) packet) (last_shown shown before packets)
-unfolding last_shown
-last_of_more shown before [] packet = rw (append-nil before) (sym (or_none (shown before packet)))
-last_of_more shown before (first ∷ rest) packet =
-    rw (last_of_more shown (before ++ first ∷ []) rest packet, append_assoc before (first ∷ []) rest)
-    (or_assoc (shown (before ++ first ∷ rest) packet) (last_shown shown (before ++ first ∷ []) rest) (shown before first))
-
-psk1_of_more : (packets : List Captured) (packet : Captured) →
-    last_psk1 (packets ++ packet ∷ []) ≡ option_or (psk1_in (heard_of packet.to_peer packet.octets)) (last_psk1 packets)
-unfolding last_psk1
-psk1_of_more packets packet = last_of_more _ [] packets packet
-
-gpsk2_of_more : (users : List User) (packets : List Captured) (packet : Captured) →
-    last_gpsk2 users (packets ++ packet ∷ []) ≡ option_or (gpsk2_in users (heard_of packet.to_peer packet.octets)) (last_gpsk2 users packets)
-unfolding last_gpsk2
-gpsk2_of_more users packets packet = last_of_more _ [] packets packet
-
-psk2_of_more : (users : List User) (packets : List Captured) (packet : Captured) →
-    last_psk2 users (packets ++ packet ∷ [])
-    ≡ option_or (psk2_in users (last_psk1 packets) (heard_of packet.to_peer packet.octets)) (last_psk2 users packets)
-unfolding last_psk2
-psk2_of_more users packets packet = last_of_more _ [] packets packet
+use Rattle.capture_check.specs.Captured.{Captured, last_shown}
+use Rattle.capture_check.specs.Heard.{Heard, heard_of, malformed, plain, typed}
+use Rattle.capture_check.specs.Gpsk.{gpsk_read, last_gpsk2}
+use Rattle.capture_check.specs.Psk.{psk_read, last_psk1, last_psk2}
+use Rattle.capture_check.specs.Kept.{nothing_kept, kept_of}
+use Rattle.capture_check.specs.Finding.{heard_finding, finding_in, kept_next, finding_of}
+use Rattle.capture_check.specs.declared.finding.Finding.{Finding}
+use Rattle.capture_check.specs.declared.finding.Finding.TheVariants.{Good}
+use Rattle.capture_check.proofs.GpskLaws.{gpsk2_of_more, gpsk_named, gpsk2_kept}
+use Rattle.capture_check.proofs.Names.{Names}
+use Rattle.capture_check.proofs.PskLaws.{psk1_of_more, psk2_of_more, psk_named, psk2_kept}
 
 -- what is kept after one packet more
 pub kept_of_next : (users : List User) (packets : List Captured) (to_peer : Bool) (octets : List ℕ) →
     kept_of users (packets ++ (record { to_peer = to_peer; octets = octets }) ∷ []) ≡ kept_next users (kept_of users packets) to_peer octets
 unfolding kept_of kept_next
 kept_of_next users packets to_peer octets =
-    let packet : Captured = record { to_peer = to_peer; octets = octets } in
-    rw (psk1_of_more packets packet, gpsk2_of_more users packets packet, psk2_of_more users packets packet) refl
+    rw (gpsk2_of_more users packets to_peer octets, psk1_of_more packets to_peer octets, psk2_of_more users packets to_peer octets) refl
 
 -- nothing is kept of no packets
 pub kept_of_none : (users : List User) → kept_of users [] ≡ nothing_kept
 unfolding kept_of last_psk1 last_gpsk2 last_psk2 last_shown
 kept_of_none users = refl
+
+module _ (P : List ℕ → Type 0) where
+  either_named : (b c : Bool) (x y : Finding) → Names P x → Names P y → (let finding : Finding = cond b x (cond c y Good) in Names P finding)
+  either_named true c x y h k = h
+  either_named false true x y h k = k
+  either_named false false x y h k = tt
+
+  heard_named : (users : List User) → All (λ (u : User). P u.name) users → (before : List Captured) (octets : List ℕ) (heard : Heard) →
+      Names P (heard_finding users (kept_of users before) octets heard)
+  unfolding kept_of
+  heard_named users all before octets (malformed cause) = tt
+  heard_named users all before octets plain = tt
+  heard_named users all before octets (typed to_peer kind body) =
+      either_named (kind == gpsk_kind) (kind == psk_kind) _ _
+      (gpsk_named P users all (last_gpsk2 users before) (gpsk_read to_peer body) (gpsk2_kept P users all before)).1
+      (psk_named P users all (kept_of users before).psk octets (psk_read to_peer body) (psk2_kept P users all before)).1
+
+  -- the name of a user alone
+  pub finding_names : (users : List User) → All (λ (u : User). P u.name) users → (before : List Captured) (to_peer : Bool) (octets : List ℕ) →
+      Names P (finding_of users before to_peer octets)
+  unfolding finding_of finding_in
+  finding_names users all before to_peer octets = heard_named users all before octets (heard_of to_peer octets)

@@ -1,14 +1,9 @@
--- The keys of the users that are known.
-use Rattle.std.proofs.Common.{◌≡◌, ℕ, ◌≤◌, List, [], ◌∷◌, length, All, IsTrue, Bool, true, false, Option, Some, cond, refl, subst, inl, inr}
+-- What holds of each user that is known holds of one that is found.
+use Rattle.std.proofs.Common.{◌≡◌, List, [], ◌∷◌, All, Bool, true, false, Option, Some, cond, refl, subst, inl, inr}
 use Rattle.std.specs.Prelude.{◌⊎◌}
 use Rattle.std.specs.List.{find}
-use Rattle.std.proofs.lemmas.Bool.{and_parts, eqb-true, leb-true}
 use Rattle.std.proofs.lemmas.List.Elements.{All-head, All-tail}
 use Rattle.std.proofs.lemmas.Option.{same_Some}
-use Rattle.login_setup.specs.declared.users.User.{User}
-use Rattle.eap_base.specs.Among.{gpsk_kind, psk_kind}
-use Rattle.login_setup.specs.Setup.{fits_kind}
-use Rattle.login_setup.specs.Users.{user_of, is_named}
 
 -- what is found stands here, or behind
 found_here : {X : Type 0} (test : Bool) (y x : X) (rest : Option X) → cond test (Some y) rest ≡ Some x → ((test ≡ true) × (y ≡ x)) ⊎ (rest ≡ Some x)
@@ -23,29 +18,3 @@ found_holds p P (y ∷ ys) x all e =
       | inl h ↦ (subst P h.1 (All-head P y ys all), subst (λ z. p z ≡ true) h.1 h.0)
       | inr h ↦ found_holds p P ys x (All-tail P y ys all) h
     ]
-
--- a key for EAP-GPSK has 32 octets or more
-long_key : (kind : ℕ) (key : List ℕ) → kind ≡ 51 → IsTrue (fits_kind kind key) → 32 ≤ length key
-long_key kind key e fits =
-    let at : IsTrue (fits_kind 51 key) = subst (λ k. IsTrue (fits_kind k key)) e fits in
-    leb-true 32 (length key) (and_parts _ _ at).0
-
--- a user of EAP-GPSK has a key of 32 octets or more
-pub key_is_long : (users : List User) (name : List ℕ) (user : User) → All (λ user. IsTrue (fits_kind user.kind user.psk)) users →
-    user_of users name gpsk_kind ≡ Some user → 32 ≤ length user.psk
-key_is_long users name user keys e =
-    let h = found_holds (is_named name gpsk_kind) (λ (u : User). IsTrue (fits_kind u.kind u.psk)) users user keys e in
-    long_key user.kind user.psk (eqb-true user.kind 51 (and_parts _ _ h.1).0) h.0
-
--- a key for EAP-PSK has 16 octets
-short_key : (kind : ℕ) (key : List ℕ) → kind ≡ 47 → IsTrue (fits_kind kind key) → length key ≡ 16
-short_key kind key e fits =
-    let at : IsTrue (fits_kind 47 key) = subst (λ k. IsTrue (fits_kind k key)) e fits in
-    eqb-true (length key) 16 at
-
--- a user of EAP-PSK has a key of 16 octets
-pub key_is_short : (users : List User) (name : List ℕ) (user : User) → All (λ user. IsTrue (fits_kind user.kind user.psk)) users →
-    user_of users name psk_kind ≡ Some user → length user.psk ≡ 16
-key_is_short users name user keys e =
-    let h = found_holds (is_named name psk_kind) (λ (u : User). IsTrue (fits_kind u.kind u.psk)) users user keys e in
-    short_key user.kind user.psk (eqb-true user.kind 47 (and_parts _ _ h.1).0) h.0

@@ -5,9 +5,11 @@ use Rattle.eap_packet.specs.Fault.{fault, packet_of}
 use Rattle.eap_packet.specs.declared.cause.Cause.TheVariants.{Short, WrongRole, WrongOp}
 use Rattle.gpsk_messages.specs.Reading as gpsk
 use Rattle.psk_messages.specs.Reading as psk
-use Rattle.capture_check.specs.Heard.{Captured, heard_of}
-use Rattle.capture_check.specs.Tags.{psk_begins, psk4_follows}
-use Rattle.capture_check.specs.Kept.{last_shown, last_psk1, last_gpsk2, last_psk2, kept_of}
+use Rattle.capture_check.specs.Captured.{Captured, last_shown}
+use Rattle.capture_check.specs.Heard.{heard_of}
+use Rattle.capture_check.specs.Gpsk.{last_gpsk2}
+use Rattle.capture_check.specs.Psk.{psk_begins, psk4_follows, last_psk1, last_psk2}
+use Rattle.capture_check.specs.Kept.{kept_of}
 use Rattle.capture_check.specs.Finding.{finding_in, finding_of}
 use Rattle.capture_check.specs.declared.finding.Finding.TheVariants.{Good, Malformed, NoKey, NoContext}
 

@@ -5,7 +5,6 @@
 mod checker;
 mod finding;
 mod gpsk;
-mod kept;
 mod psk;
 
 pub use checker::Checker;

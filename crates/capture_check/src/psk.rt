@@ -1,28 +1,50 @@
 //! The tags of EAP-PSK (RFC 4764 section 5).
 
-ghost use Rattle.std.specs.Prelude.{◌≡◌, length, All, IsTrue, Some};
+ghost use Rattle.std.specs.Prelude.{◌≡◌, length, All, IsTrue, Some, Ok};
 ghost use Rattle.std.specs.Option.{option_or};
 ghost use Rattle.login_setup.specs.Setup.{fits_kind};
 ghost use Rattle.login_keys.specs.Psk.{psk_long_of};
 ghost use Rattle.psk_messages.specs.Message.{message_of, AreFields};
-ghost use Rattle.eap_method.specs.PskTags.{is_sealed};
-ghost use Rattle.capture_check.specs.Heard.{is_psk_astray};
-ghost use Rattle.capture_check.specs.Tags.{follows_in, psk_begins, psk_login_of, psk3_follows, psk4_follows, user_begins};
-ghost use Rattle.capture_check.specs.Kept.{psk1_of, psk2_of};
-ghost use Rattle.capture_check.specs.Finding.{psk_finding};
+ghost use Rattle.eap_method.specs.PskTags.{header_of, is_sealed};
+ghost use Rattle.capture_check.specs.Psk.{follows_in, is_psk_astray, psk1_of, psk2_of, psk3_follows, psk4_follows, psk_begins, psk_finding, psk_login_of, psk_read, psk_tag_finding, user_begins};
 
 use crate::finding::Finding;
-use crate::kept::{Psk1, PskLogin};
 use cmac_mac::CmacKey;
-use eap_base::{Octets, PSK_KIND, array_of, equal_in_full};
+use eap_base::{Identity, Octets, PSK_KIND, array_of, equal_in_full};
 use eap_method::{mac_p, mac_s};
+use eap_packet::Cause;
 use eax_mode::eax_unseal;
 use login_keys::{PskLong, psk_long, psk_session};
 use login_setup::{User, Users};
-use psk_messages::PskView;
+use psk_messages::{HEADER, PskView, read_psk};
+
+/// What is kept of a PSK-1 (RFC 4764 section 5.1).
+#[derive(Drop)]
+pub struct Psk1 {
+    pub rand_s: [u8; 16],
+    pub id_s: Identity,
+}
+
+/// What is kept of a PSK-2 whose tag is right (RFC 4764 section 5.2).
+#[derive(Drop)]
+pub struct PskLogin {
+    /// The user's name.
+    pub name: Identity,
+    pub rand_s: [u8; 16],
+    /// The MAC_S that belongs to it.
+    pub mac_s: [u8; 16],
+    pub tek: [u8; 16],
+}
+
+/// What is kept of the messages: of each kind the last one.
+#[derive(Drop)]
+pub struct PskKept {
+    pub psk1: Option<Psk1>,
+    pub psk2: Option<PskLogin>,
+}
 
 /// Whether a message goes the wrong way: PSK-1 and PSK-3 go to the peer, PSK-2 and PSK-4 come from it.
-pub fn is_astray(to_peer: bool, view: &PskView) -> bool
+fn is_astray(to_peer: bool, view: &PskView) -> bool
     ensures { result ≡ is_psk_astray to_peer (message_of view.now) }
 {
     match view {
@@ -34,7 +56,7 @@ pub fn is_astray(to_peer: bool, view: &PskView) -> bool
 }
 
 /// The login of a user with the fields of PSK-1 and PSK-2, from AK and KDK of the user's key.
-#[tactic(auto, unfolding(crate::specs::Tags::psk_login_of))]
+#[tactic(auto, unfolding(crate::specs::Psk::psk_login_of))]
 fn login_of(user: &User, ak: &CmacKey, kdk: &[u8; 16], psk1: &Psk1, rand_p: &[u8; 16]) -> PskLogin
     requires ak { ak.now ≡ (psk_long_of user.now.psk).ak }
     requires kdk { kdk.now ≡ (psk_long_of user.now.psk).kdk }
@@ -75,7 +97,7 @@ fn begin_user(
 /// The login that a PSK-2 with the right MAC_P begins, else its finding: `NoContext` if there was no
 /// PSK-1 or its RAND_S is another, `NoKey` if there is no user of its ID_P, `TagBad` if MAC_P is
 /// wrong.
-#[tactic(auto, unfolding(crate::specs::Tags::psk_begins), using(crate::proofs::UserKeys::key_is_short))]
+#[tactic(auto, unfolding(crate::specs::Psk::psk_begins), using(crate::proofs::PskLaws::key_is_short))]
 fn begin(
     users: &Users,
     psk1: &Option<Psk1>,
@@ -125,7 +147,7 @@ fn follow(login: &PskLogin, rand_s: &[u8; 16], right: bool) -> Finding
 }
 
 /// The finding of PSK-3: MAC_S and PCHANNEL's tag are to be right in the last login.
-#[tactic(auto, unfolding(crate::specs::Tags::psk3_follows))]
+#[tactic(auto, unfolding(crate::specs::Psk::psk3_follows))]
 fn follow3(
     login: &Option<PskLogin>,
     header: &[u8],
@@ -148,7 +170,7 @@ fn follow3(
 }
 
 /// The finding of PSK-4: PCHANNEL's tag is to be right in the last login.
-#[tactic(auto, unfolding(crate::specs::Tags::psk4_follows))]
+#[tactic(auto, unfolding(crate::specs::Psk::psk4_follows))]
 fn follow4(
     login: &Option<PskLogin>,
     header: &[u8],
@@ -170,18 +192,12 @@ fn follow4(
 
 /// The finding of a message in a packet with this header. A PSK-1, and a login that PSK-2 begins, are
 /// kept.
-pub fn judge(
-    psk1: &mut Option<Psk1>,
-    login: &mut Option<PskLogin>,
-    users: &Users,
-    header: &[u8],
-    view: &PskView,
-) -> Finding
+fn judge(kept: &mut PskKept, users: &Users, header: &[u8], view: &PskView) -> Finding
     requires keys { All (λ user. IsTrue (fits_kind user.kind user.psk)) users.now }
     requires fields { AreFields (message_of view.now) }
-    ensures finding { result ≡ psk_finding users.now psk1.old login.old header.now (message_of view.now) }
-    ensures first { psk1.new ≡ option_or (psk1_of (message_of view.now)) psk1.old }
-    ensures kept { login.new ≡ option_or (psk2_of users.now psk1.old (message_of view.now)) login.old }
+    ensures finding { result ≡ psk_tag_finding users.now kept.old header.now (message_of view.now) }
+    ensures first { kept.new.psk1 ≡ option_or (psk1_of (Ok (message_of view.now))) kept.old.psk1 }
+    ensures login { kept.new.psk2 ≡ option_or (psk2_of users.now kept.old.psk1 (Ok (message_of view.now))) kept.old.psk2 }
 {
     match view {
         PskView::P1 { rand_s, id_s } => {
@@ -190,7 +206,7 @@ pub fn judge(
                 rand_s,
                 id_s: Octets::of(id_s),
             };
-            *psk1 = Some(first);
+            kept.psk1 = Some(first);
             Finding::Good
         }
         PskView::P2 {
@@ -198,10 +214,10 @@ pub fn judge(
             rand_p,
             mac,
             id_p,
-        } => match begin(users, psk1, rand_s, rand_p, mac, id_p) {
+        } => match begin(users, &kept.psk1, rand_s, rand_p, mac, id_p) {
             Ok(begun) => {
                 let name = begun.name.copy();
-                *login = Some(begun);
+                kept.psk2 = Some(begun);
                 Finding::TagGood(name)
             }
             Err(finding) => finding,
@@ -212,12 +228,44 @@ pub fn judge(
             nonce,
             tag,
             sealed,
-        } => follow3(login, header, rand_s, mac, *nonce, tag, *sealed),
+        } => follow3(&kept.psk2, header, rand_s, mac, *nonce, tag, *sealed),
         PskView::P4 {
             rand_s,
             nonce,
             tag,
             sealed,
-        } => follow4(login, header, rand_s, *nonce, tag, *sealed),
+        } => follow4(&kept.psk2, header, rand_s, *nonce, tag, *sealed),
+    }
+}
+
+/// The header of a packet for PCHANNEL: its first 22 octets (RFC 4764 section 3.3).
+fn header_of<'a>(octets: &'a [u8]) -> &'a [u8]
+    ensures { result.now ≡ header_of octets.now }
+{
+    &octets[..octets.len().min(HEADER)]
+}
+
+/// The finding of Type-Data of a packet with these octets, and what counts of it is kept.
+pub fn judge_body(
+    kept: &mut PskKept,
+    users: &Users,
+    to_peer: bool,
+    octets: &[u8],
+    body: &[u8],
+) -> Finding
+    requires keys { All (λ user. IsTrue (fits_kind user.kind user.psk)) users.now }
+    ensures finding { result ≡ psk_finding users.now kept.old octets.now (psk_read to_peer body.now) }
+    ensures first { kept.new.psk1 ≡ option_or (psk1_of (psk_read to_peer body.now)) kept.old.psk1 }
+    ensures login { kept.new.psk2 ≡ option_or (psk2_of users.now kept.old.psk1 (psk_read to_peer body.now)) kept.old.psk2 }
+{
+    match read_psk(body) {
+        Err(cause) => Finding::Malformed(cause),
+        Ok(view) => {
+            if is_astray(to_peer, &view) {
+                Finding::Malformed(Cause::WrongOp)
+            } else {
+                judge(kept, users, header_of(octets), &view)
+            }
+        }
     }
 }

@@ -10,7 +10,7 @@ use Rattle.request_text.specs.Captures.{Capture, CaptureLine, read_line, finish_
 use Rattle.request_text.specs.declared.capture.CaptureItem.{CaptureItem}
 use Rattle.request_text.specs.declared.capture.CaptureItem.TheVariants as item
 use Rattle.capture_check.specs.Finding.{finding_of}
-use Rattle.capture_check.proofs.Names.{finding_names}
+use Rattle.capture_check.proofs.Keeping.{finding_names}
 use Rattle.answer_text.proofs.Plain.{is_within, plain, skips}
 use Rattle.answer_text.proofs.PlainAnswers.{begins_result, no_result}
 use Rattle.answer_text.proofs.PlainFindings.{finding_plain, findings_plain}

@@ -11,7 +11,7 @@ use Rattle.text_tables.specs.declared.phase.Phase.{Phase}
 use Rattle.text_tables.specs.declared.phase.Phase.TheVariants as phase
 use Rattle.request_text.proofs.CaptureSteps.{Follows, Header, Passed, NewUser, AllUsers, NewPacket, AllPackets, line_follows}
 use Rattle.text_tables.proofs.Adding.{with_user-all}
-use Rattle.capture_check.specs.Heard.{Captured}
+use Rattle.capture_check.specs.Captured.{Captured}
 use Rattle.capture_check.specs.Finding.{finding_of}
 use Rattle.capture_check.specs.Kept.{kept_of}
 use Rattle.capture_check.proofs.Keeping.{kept_of_none, kept_of_next}

@@ -3,7 +3,7 @@ use Rattle.std.proofs.Common.{◌≡◌, ℕ, ◌+◌, List, [], ◌∷◌, refl
 use Rattle.login_setup.specs.declared.users.User.{User}
 use Rattle.eapol_capture.specs.Files.{Contents, ends, record_of, contents}
 use Rattle.eapol_capture.specs.Frames.{Carried, other, cut, eap, contents_of}
-use Rattle.capture_check.specs.Heard.{Captured}
+use Rattle.capture_check.specs.Captured.{Captured}
 use Rattle.capture_check.specs.Finding.{finding_of}
 use Rattle.capture_check.proofs.Keeping.{kept_of_none, kept_of_next}
 use Rattle.command_driver.specs.Answers.{after_text}

@@ -7,7 +7,7 @@ use Rattle.eapol_capture.specs.Frames.{Carried, other, cut, eap, contents_of}
 use Rattle.eapol_capture.specs.declared.reader.NextRecord.{NextRecord}
 use Rattle.eapol_capture.specs.declared.reader.NextRecord.TheVariants as answer
 use Rattle.capture_check.specs.Finding.{finding_of}
-use Rattle.capture_check.proofs.Names.{finding_names}
+use Rattle.capture_check.proofs.Keeping.{finding_names}
 use Rattle.answer_text.proofs.Plain.{is_within, plain, join, through, decimal_within, decimal_first}
 use Rattle.answer_text.proofs.PlainFindings.{finding_plain}
 use Rattle.capture_commands.specs.Pcap.{PcapNow, is_to_peer, cut_text, records_text, file_refusal, file_end, record_told, answer_to, nothing_recorded, pcap_answer}

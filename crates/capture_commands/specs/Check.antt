@@ -7,7 +7,7 @@ use Rattle.request_text.specs.declared.capture.CaptureItem.{CaptureItem}
 use Rattle.request_text.specs.declared.capture.CaptureItem.TheVariants as item
 use Rattle.text_tables.specs.declared.phase.Phase.TheVariants.{Unread}
 use Rattle.text_tables.specs.declared.fault.LineFault.{LineFault}
-use Rattle.capture_check.specs.Heard.{Captured}
+use Rattle.capture_check.specs.Captured.{Captured}
 use Rattle.capture_check.specs.Finding.{finding_of}
 use Rattle.capture_check.specs.declared.finding.Finding.{Finding}
 use Rattle.capture_check.specs.declared.finding.Finding.TheVariants.{Good, Malformed, TagBad, TagGood, NoKey, NoContext}

@@ -6,9 +6,8 @@ use Rattle.request_text.specs.declared.capture.CaptureItem.{CaptureItem}
 use Rattle.request_text.specs.declared.capture.CaptureItem.TheVariants as item
 use Rattle.text_tables.specs.declared.phase.Phase.TheVariants.{Unread}
 use Rattle.text_tables.specs.declared.fault.LineFault.{LineFault}
-use Rattle.capture_check.specs.Finding.{finding_in}
-use Rattle.capture_check.specs.Kept.{kept_of}
-use Rattle.capture_check.specs.Steps.{kept_next, nothing_kept}
+use Rattle.capture_check.specs.Finding.{finding_in, kept_next}
+use Rattle.capture_check.specs.Kept.{kept_of, nothing_kept}
 use Rattle.answer_text.specs.Findings.{finding_text}
 use Rattle.command_driver.specs.Commands.{Took, Closing, goes, refuses}
 use Rattle.capture_commands.specs.Check.{CheckNow, with_finding, check_end}

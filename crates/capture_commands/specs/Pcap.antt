@@ -9,7 +9,7 @@ use Rattle.eapol_capture.specs.Frames.{Carried, other, cut, eap, contents_of}
 use Rattle.eapol_capture.specs.declared.reader.NextRecord.{NextRecord}
 use Rattle.eapol_capture.specs.declared.reader.NextRecord.TheVariants as answer
 use Rattle.text_tables.specs.UserWords.{users_named}
-use Rattle.capture_check.specs.Heard.{Captured}
+use Rattle.capture_check.specs.Captured.{Captured}
 use Rattle.capture_check.specs.Finding.{finding_of}
 use Rattle.answer_text.specs.Findings.{finding_text}
 use Rattle.command_driver.specs.Answers.{Answer, after_text}

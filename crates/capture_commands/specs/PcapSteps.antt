@@ -3,9 +3,8 @@ use Rattle.std.specs.Prelude.{ℕ, ◌+◌, ◌≤◌, List, [], length}
 use Rattle.login_setup.specs.declared.users.User.{User}
 use Rattle.eapol_capture.specs.Files.{Contents, ends, record_of}
 use Rattle.eapol_capture.specs.Frames.{Carried, other, cut, eap, contents_of}
-use Rattle.capture_check.specs.Finding.{finding_in}
-use Rattle.capture_check.specs.Kept.{kept_of}
-use Rattle.capture_check.specs.Steps.{kept_next, nothing_kept}
+use Rattle.capture_check.specs.Finding.{finding_in, kept_next}
+use Rattle.capture_check.specs.Kept.{kept_of, nothing_kept}
 use Rattle.answer_text.specs.Findings.{finding_text}
 use Rattle.command_driver.specs.Answers.{Answer, after_text}
 use Rattle.capture_commands.specs.Check.{with_finding}
