@@ -14,6 +14,11 @@ pub mod Plain
 pub mod PlainWords
 -- Which lines of an end are plain.
 pub mod PlainPaths
+-- No line with a name and octets begins as the line of the verdict does.
+pub mod PlainKeys
+-- The texts of each method stand within a line, or begin none as the line of the verdict does.
+mod PlainGpsk
+mod PlainPsk
 -- No line of `decode` or `keys` begins as the line of the verdict does.
 pub mod PlainAnswers
 -- No line of `check` begins as the line of the verdict does.

@@ -6,7 +6,7 @@ use Rattle.capture_check.specs.declared.finding.Finding.TheVariants.{Good, Malfo
 use Rattle.capture_check.proofs.Names.{Names}
 use Rattle.answer_text.specs.Findings.{finding_text, findings_text}
 use Rattle.answer_text.proofs.Plain.{is_within, plain, through, decimal_within, decimal_first}
-use Rattle.answer_text.proofs.PlainAnswers.{begins_result}
+use Rattle.answer_text.proofs.PlainKeys.{begins_result}
 use Rattle.answer_text.proofs.PlainWords.{cause_within}
 
 -- a line that begins with its number begins with no such octet, where no digit is one

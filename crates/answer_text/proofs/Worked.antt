@@ -3,8 +3,8 @@ use Rattle.std.proofs.Common.{◌≡◌, [], ◌∷◌, refl, sym}
 use Rattle.std.proofs.lemmas.Bool.{true≢false}
 use Rattle.std.specs.Prelude.{codes}
 use Rattle.hex.specs.Hex.{encode_with}
-use Rattle.answer_text.specs.Keys.{hex_line, sealed_text}
-use Rattle.answer_text.specs.Lines.{HasLine, first, later}
+use Rattle.answer_text.specs.Keys.{sealed_text}
+use Rattle.answer_text.specs.Lines.{hex_line, HasLine, first, later}
 use Rattle.answer_text.proofs.Scanning.{found}
 
 -- a key of no octets

@@ -1,8 +1,11 @@
+pub mod Answers
 pub mod Findings
+pub mod Gpsk
 pub mod Keys
 pub mod Lines
 pub mod Packets
 pub mod PacketParts
 pub mod Paths
 pub mod Pieces
+pub mod Psk
 pub mod Writes

@@ -1,10 +1,15 @@
 -- Lines of output.
 use Rattle.std.specs.Prelude.{ℕ, List, [], ◌∷◌, ◌++◌, codes, decimal}
 use Rattle.std.specs.List.{concat}
+use Rattle.answer_text.specs.Pieces.{hex_text}
 
 -- octets and LF
 abbrev pub line_text : List ℕ → List ℕ
 line_text line = concat (line ∷ codes "\n" ∷ [])
+
+-- a name and octets in hex, in one line
+unfoldable pub hex_line : List ℕ → List ℕ → List ℕ
+hex_line name octets = concat (name ∷ codes " " ∷ hex_text octets ∷ codes "\n" ∷ [])
 
 -- a text has the line: at its start or after an LF, and an LF follows
 pub data HasLine (line : List ℕ) : List ℕ → Type 0 where

@@ -1,27 +1,24 @@
 //! Writing what a packet is, in one line.
 
-ghost use Rattle.std.specs.Prelude.{◌≡◌, ◌≤◌, ◌-◌, None, length, [], ◌∷◌, ◌++◌, codes, decimal};
+ghost use Rattle.std.specs.Prelude.{◌≡◌, ◌≤◌, ◌-◌, length, [], ◌∷◌, ◌++◌, codes};
 ghost use Rattle.std.specs.List.{concat};
 ghost use Rattle.eap_base.specs.Sizes.{max_packet};
 ghost use Rattle.eap_base.specs.Among.{expanded_kind};
-ghost use Rattle.psk_messages.specs.Reading as psk_reading;
-ghost use Rattle.gpsk_messages.specs.Reading as gpsk_reading;
 ghost use Rattle.answer_text.specs.Writes.{Appends, Puts};
 ghost use Rattle.answer_text.specs.Pieces.{hex_text};
 ghost use Rattle.eap_packet.specs.Packet.{value_of};
 ghost use Rattle.eap_packet.specs.Expanded.{expanded_of};
-ghost use Rattle.answer_text.specs.Packets.{numbers_text, psk_note, gpsk_note, expanded_note, note_text, typed_text, end_line_text};
+ghost use Rattle.answer_text.specs.Packets.{numbers_text, expanded_note, note_text, typed_text, end_line_text};
 ghost use Rattle.answer_text.specs.Packets.{malformed_text, value_text, packet_text, packets_text};
 ghost use Rattle.answer_text.specs.PacketParts.{nak_word, number_text, head_text, line_end};
 
+use crate::answers::put_message;
 use crate::line_buffer::LineBuffer;
 use crate::pieces::Piece::{Hex, Number, Text};
 use crate::pieces::{put_pieces, send, write_pieces};
-use eap_base::{EXPANDED, GPSK_KIND, IDENTITY, NAK, PSK_KIND};
+use eap_base::{EXPANDED, IDENTITY, NAK};
 use eap_packet::{Cause, Code, PacketView, decode, read_expanded};
-use gpsk_messages::{GpskView, read_gpsk};
 use octet_io::{Failed, Sink};
-use psk_messages::{PskView, read_psk};
 
 /// Puts the identity of an Identity Request or Response.
 fn put_identity<W: Sink>(sink: &mut W, line: &mut LineBuffer, name: &[u8]) -> Result<(), Failed>
@@ -65,61 +62,6 @@ fn put_nak_word<W: Sink>(sink: &mut W, line: &mut LineBuffer) -> Result<(), Fail
     put_pieces(sink, line, &[Text(b"nak")])
 }
 
-/// The name of an EAP-PSK message, or why it is none.
-fn name_of_psk(body: &[u8]) -> &'static str
-    ensures { result.now ≡ psk_note (psk_reading.read_of body.now) }
-{
-    match read_psk(body) {
-        Ok(PskView::P1 { .. }) => "psk-1",
-        Ok(PskView::P2 { .. }) => "psk-2",
-        Ok(PskView::P3 { .. }) => "psk-3",
-        Ok(PskView::P4 { .. }) => "psk-4",
-        Err(cause) => cause.word(),
-    }
-}
-
-fn put_psk_note<W: Sink>(sink: &mut W, line: &mut LineBuffer, body: &[u8]) -> Result<(), Failed>
-    ensures { Puts W.shown result sink.old sink.new line.old line.new (psk_note (psk_reading.read_of body.now)) }
-{
-    put_pieces(sink, line, &[Text(name_of_psk(body).as_bytes())])
-}
-
-/// Puts a name and a number after it.
-fn put_code<W: Sink>(
-    sink: &mut W,
-    line: &mut LineBuffer,
-    name: &str,
-    code: u32,
-) -> Result<(), Failed>
-    ensures { Puts W.shown result sink.old sink.new line.old line.new (concat (name.now ∷ decimal code ∷ [])) }
-{
-    put_pieces(
-        sink,
-        line,
-        &[Text(name.as_bytes()), Number(u64::from(code))],
-    )
-}
-
-/// Puts the name of an EAP-GPSK message, or why it is none.
-fn put_gpsk_note<W: Sink>(sink: &mut W, line: &mut LineBuffer, body: &[u8]) -> Result<(), Failed>
-    ensures { Puts W.shown result sink.old sink.new line.old line.new (gpsk_note (gpsk_reading.read_of None body.now)) }
-{
-    match read_gpsk(body, None) {
-        Ok(GpskView::M1 { .. }) => put_pieces(sink, line, &[Text(b"gpsk-1")]),
-        Ok(GpskView::M2 { .. }) => put_pieces(sink, line, &[Text(b"gpsk-2")]),
-        Ok(GpskView::M3 { .. }) => put_pieces(sink, line, &[Text(b"gpsk-3")]),
-        Ok(GpskView::M4 { .. }) => put_pieces(sink, line, &[Text(b"gpsk-4")]),
-        Ok(GpskView::Fail { code }) => put_code(sink, line, "gpsk-fail ", code),
-        Ok(GpskView::ProtectedFail { code, .. }) => put_code(
-            sink,
-            line,
-            "gpsk-protected-fail ",
-            code,
-        ),
-        Err(cause) => put_pieces(sink, line, &[Text(cause.word().as_bytes())]),
-    }
-}
-
 /// Puts the fields of an Expanded Type, or that it is too short for them.
 fn put_expanded<W: Sink>(
     sink: &mut W,
@@ -155,10 +97,8 @@ fn put_note<W: Sink>(sink: &mut W, line: &mut LineBuffer, view: &PacketView) -> 
     match view.kind {
         IDENTITY => put_identity(sink, line, view.body),
         NAK => put_nak(sink, line, view.body),
-        PSK_KIND => put_psk_note(sink, line, view.body),
-        GPSK_KIND => put_gpsk_note(sink, line, view.body),
         EXPANDED => put_expanded(sink, line, view),
-        _ => put_pieces(sink, line, &[Text(b"-")]),
+        _ => put_message(sink, line, view.kind, view.body),
     }
 }
 

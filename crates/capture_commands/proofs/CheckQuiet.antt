@@ -12,7 +12,7 @@ use Rattle.request_text.specs.declared.capture.CaptureItem.TheVariants as item
 use Rattle.capture_check.specs.Finding.{finding_of}
 use Rattle.capture_check.proofs.Keeping.{finding_names}
 use Rattle.answer_text.proofs.Plain.{is_within, plain, skips}
-use Rattle.answer_text.proofs.PlainAnswers.{begins_result, no_result}
+use Rattle.answer_text.proofs.PlainKeys.{begins_result, no_result}
 use Rattle.answer_text.proofs.PlainFindings.{finding_plain, findings_plain}
 use Rattle.command_driver.proofs.Quiet.{IsQuiet, IsQuietLine, quiet_answer}
 use Rattle.capture_commands.specs.Check.{CheckNow, item_took, line_took, check_took, check_end, check_closing, nothing_checked, check_answer}

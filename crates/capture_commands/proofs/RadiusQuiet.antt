@@ -17,7 +17,7 @@ use Rattle.answer_text.proofs.Plain.{is_within, plain, through, decimal_within}
 use Rattle.answer_text.proofs.PlainWords.{either_within, hex_within}
 use Rattle.command_driver.specs.Commands.{Took}
 use Rattle.command_driver.proofs.Quiet.{IsQuiet, IsQuietLine, quiet_answer}
-use Rattle.answer_text.specs.Keys.{hex_line}
+use Rattle.answer_text.specs.Lines.{hex_line}
 use Rattle.capture_commands.specs.Radius.{word_line, packet_line, read_text, kind_word, judgement_word, judgement_of}
 use Rattle.capture_commands.specs.Radius.{reply_took, read_took, item_took, line_took}
 use Rattle.capture_commands.specs.Radius.{radius_took, radius_end, radius_closing, nothing_asked, radius_answer}

@@ -17,7 +17,7 @@ use Rattle.request_text.specs.declared.radius_line.ReplyKind.{ReplyKind}
 use Rattle.request_text.specs.declared.radius_line.ReplyKind.TheVariants as kind
 use Rattle.request_text.specs.declared.radius_line.RadiusItem.{RadiusItem}
 use Rattle.request_text.specs.declared.radius_line.RadiusItem.TheVariants as item
-use Rattle.answer_text.specs.Keys.{hex_line}
+use Rattle.answer_text.specs.Lines.{hex_line}
 use Rattle.answer_text.specs.Pieces.{hex_text}
 use Rattle.command_driver.specs.Answers.{Answer}
 use Rattle.command_driver.specs.Commands.{Took, Closing, goes, refuses, ends, misses, answer}

@@ -17,7 +17,7 @@ use Rattle.answer_text.specs.Paths.{cause_text, path_text, states_line}
 use Rattle.answer_text.proofs.Plain.{plain, join, through, decimal_first}
 use Rattle.answer_text.proofs.PlainWords.{hex_within, state_within}
 use Rattle.answer_text.proofs.PlainPaths.{cause_plain, path_plain}
-use Rattle.answer_text.proofs.PlainAnswers.{begins_result, no_result}
+use Rattle.answer_text.proofs.PlainKeys.{begins_result, no_result}
 use Rattle.command_driver.specs.Commands.{Took, answer, goes, refuses}
 use Rattle.command_driver.specs.declared.status.Status.TheVariants as status
 use Rattle.command_driver.proofs.Quiet.{IsQuiet, IsQuietLine, quiet_answer}

@@ -8,7 +8,7 @@ use Rattle.std.specs.Prelude.{if◌then◌else◌}
 use Rattle.octet_io.specs.Known.{append_known}
 use Rattle.login_setup.specs.declared.users.User.{User}
 use Rattle.answer_text.proofs.Plain.{none}
-use Rattle.answer_text.proofs.PlainAnswers.{begins_result}
+use Rattle.answer_text.proofs.PlainKeys.{begins_result}
 use Rattle.answer_text.proofs.Scanning.{found}
 use Rattle.command_driver.specs.Answers.{Answer, IsCutShort, by_read, by_write, by_memory, Ends, entire, cut_short}
 use Rattle.command_driver.specs.Responding.{Asked, answer_to}

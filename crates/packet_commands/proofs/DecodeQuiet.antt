@@ -4,7 +4,8 @@ use Rattle.octet_io.specs.Lines.{lines}
 use Rattle.request_text.specs.Packets.{packet_line}
 use Rattle.text_tables.specs.declared.fault.LineFault.{LineFault}
 use Rattle.answer_text.proofs.Plain.{plain}
-use Rattle.answer_text.proofs.PlainAnswers.{begins_result, packet_plain, packets_plain}
+use Rattle.answer_text.proofs.PlainAnswers.{packet_plain, packets_plain}
+use Rattle.answer_text.proofs.PlainKeys.{begins_result}
 use Rattle.command_driver.proofs.Quiet.{IsQuiet, IsQuietLine, quiet_answer}
 use Rattle.packet_commands.specs.Decode.{took_packet, decode_took, decode_closing, nothing_decoded, decode_answer}
 use Rattle.packet_commands.specs.declared.decode.Decode.{Decode}

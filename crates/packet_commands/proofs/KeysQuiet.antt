@@ -5,7 +5,8 @@ use Rattle.request_text.specs.Keys.{key_line}
 use Rattle.request_text.specs.declared.key_line.KeyLine.{KeyLine}
 use Rattle.text_tables.specs.declared.fault.LineFault.{LineFault}
 use Rattle.answer_text.proofs.Plain.{plain}
-use Rattle.answer_text.proofs.PlainAnswers.{begins_result, key_plain}
+use Rattle.answer_text.proofs.PlainAnswers.{key_plain}
+use Rattle.answer_text.proofs.PlainKeys.{begins_result}
 use Rattle.command_driver.proofs.Quiet.{IsQuiet, IsQuietLine, quiet_answer}
 use Rattle.packet_commands.specs.Keys.{Asking, took_request, keys_took, keys_closing, all_asked, keys_answer}
 

@@ -5,7 +5,7 @@ use Rattle.text_tables.specs.Words.{fault_word}
 use Rattle.request_text.specs.Keys.{key_line}
 use Rattle.text_tables.specs.declared.fault.LineFault.{LineFault}
 use Rattle.request_text.specs.declared.key_line.KeyLine.{KeyLine}
-use Rattle.answer_text.specs.Keys.{key_text}
+use Rattle.answer_text.specs.Answers.{key_text}
 use Rattle.command_driver.specs.Answers.{Answer}
 use Rattle.command_driver.specs.Commands.{Took, Closing, goes, refuses, ends, answer}
 use Rattle.command_driver.specs.declared.status.Status.TheVariants as status

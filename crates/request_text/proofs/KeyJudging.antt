@@ -2,7 +2,6 @@
 use Rattle.std.proofs.Common.{◌≡◌, ℕ, List, Option, Some, None, find, Result, Ok, Err, refl, sym, unwrap_or, subst}
 use Rattle.text_tables.specs.Words.{words}
 use Rattle.text_tables.specs.Fields.{◌>>=◌}
-use Rattle.text_tables.specs.Fits.{Fits}
 use Rattle.text_tables.specs.Rows.{faults, unless, fault_of_words, keyword_in, first_word, line_has}
 use Rattle.text_tables.specs.declared.fault.LineFault.{LineFault}
 use Rattle.text_tables.proofs.Fitting.{no_fault, unless-ok, faultless-fits}
@@ -12,11 +11,7 @@ use Rattle.request_text.specs.Laws.{RequestsAreJudged}
 use Rattle.request_text.specs.declared.key_line.KeyLine.{KeyLine}
 use Rattle.request_text.specs.declared.key_line.Request.{Request}
 use Rattle.request_text.specs.declared.key_line.Request.TheVariants as request
-
-pub asked_of_sizes : (r : Request) (ws : List (List ℕ)) → Fits (row_of r) ws → HasSizes (asked_of r ws)
-unfolding asked_of
-asked_of_sizes request.Gpsk ws h = record { psk_low = h.fields.1.0.least; psk_high = h.fields.1.0.most; idp_high = h.fields.1.1.1.0.most; ids_high = h.fields.1.1.1.1.1.0.most }
-asked_of_sizes other ws h = tt
+use Rattle.request_text.proofs.GpskSizes.{asked_of_sizes}
 
 -- what a line asks for, behind its request
 pub asked_by_known : (line : List ℕ) (r : Request) → Begins row_of requests line r → asked_by line ≡ unless (fault_of_words (row_of r).least (row_of r).fields (words line)) (asked_of r (words line))

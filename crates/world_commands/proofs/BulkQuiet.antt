@@ -2,7 +2,7 @@
 use Rattle.std.proofs.Common.{◌≡◌, ℕ, true, refl, decimal}
 use Rattle.bulk_run.specs.declared.summary.Summary.{Summary}
 use Rattle.answer_text.proofs.Plain.{plain, through, decimal_within}
-use Rattle.answer_text.proofs.PlainAnswers.{begins_result}
+use Rattle.answer_text.proofs.PlainKeys.{begins_result}
 use Rattle.command_driver.proofs.Quiet.{IsQuiet}
 use Rattle.world_commands.specs.Bulk.{bulk_text, bulk_answer}
 use Rattle.world_commands.specs.declared.bulk.Bulk.{Bulk}
