@@ -27,7 +27,7 @@ fn put_code<W: Sink>(
     put_pieces(
         sink,
         line,
-        &[Text(name.as_bytes()), Number(u64::from(code))],
+        &[Text(name.as_bytes()), Number(b"", u64::from(code))],
     )
 }
 

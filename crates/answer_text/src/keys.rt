@@ -23,13 +23,7 @@ fn write_tagged<'a, W: Sink>(
 {
     write_pieces(
         sink,
-        &[
-            Text(b"eax "),
-            Hex(ciphertext),
-            Text(b" "),
-            Hex(tag),
-            Text(b"\n"),
-        ],
+        &[Hex(b"eax ", ciphertext), Hex(b" ", tag), Text(b"\n")],
     )
 }
 

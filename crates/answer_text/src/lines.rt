@@ -22,7 +22,7 @@ pub fn write_hex<'a, W: Sink>(sink: &mut W, name: &'a str, octets: &'a [u8]) -> 
 {
     write_pieces(
         sink,
-        &[Text(name.as_bytes()), Text(b" "), Hex(octets), Text(b"\n")],
+        &[Text(name.as_bytes()), Hex(b" ", octets), Text(b"\n")],
     )
 }
 
@@ -34,8 +34,7 @@ pub fn write_refused<W: Sink>(sink: &mut W, line: u32, word: &str) -> Result<(),
     write_pieces(
         sink,
         &[
-            Text(b"refused line "),
-            Number(u64::from(line)),
+            Number(b"refused line ", u64::from(line)),
             Text(b" "),
             Text(word.as_bytes()),
             Text(b"\n"),

@@ -14,7 +14,7 @@ ghost use Rattle.answer_text.specs.PacketParts.{nak_word, number_text, head_text
 
 use crate::answers::put_message;
 use crate::line_buffer::LineBuffer;
-use crate::pieces::Piece::{Hex, Number, Text};
+use crate::pieces::Piece::{Hex, Line, Number, Text};
 use crate::pieces::{put_pieces, send, write_pieces};
 use eap_base::{EXPANDED, IDENTITY, NAK};
 use eap_packet::{Cause, Code, PacketView, decode, read_expanded};
@@ -25,7 +25,7 @@ fn put_identity<W: Sink>(sink: &mut W, line: &mut LineBuffer, name: &[u8]) -> Re
     ensures { Puts W.shown result sink.old sink.new line.old line.new
         (concat (codes "identity " ∷ hex_text name.now ∷ [])) }
 {
-    put_pieces(sink, line, &[Text(b"identity "), Hex(name)])
+    put_pieces(sink, line, &[Hex(b"identity ", name)])
 }
 
 /// Puts an octet as a decimal number, after a space.
@@ -33,7 +33,7 @@ fn put_identity<W: Sink>(sink: &mut W, line: &mut LineBuffer, name: &[u8]) -> Re
 fn put_octet<W: Sink>(sink: &mut W, line: &mut LineBuffer, octet: u8) -> Result<(), Failed>
     ensures { Puts W.shown result sink.old sink.new line.old line.new (number_text octet) }
 {
-    put_pieces(sink, line, &[Text(b" "), Number(u64::from(octet))])
+    put_pieces(sink, line, &[Number(b" ", u64::from(octet))])
 }
 
 /// Puts octets as decimal numbers, each after a space.
@@ -77,12 +77,9 @@ fn put_expanded<W: Sink>(
             sink,
             line,
             &[
-                Text(b"expanded "),
-                Number(u64::from(fields.vendor)),
-                Text(b" "),
-                Number(u64::from(fields.vendor_type)),
-                Text(b" "),
-                Hex(fields.rest),
+                Number(b"expanded ", u64::from(fields.vendor)),
+                Number(b" ", u64::from(fields.vendor_type)),
+                Hex(b" ", fields.rest),
             ],
         ),
     }
@@ -120,17 +117,13 @@ fn put_head<W: Sink>(
         sink,
         line,
         &[
-            Number(u64::from(number)),
+            Number(b"", u64::from(number)),
             Text(b" "),
             Text(code.as_bytes()),
-            Text(b" "),
-            Number(u64::from(view.id)),
-            Text(b" type "),
-            Number(u64::from(view.kind)),
-            Text(b" length "),
-            Number(view.whole.len() as u64),
-            Text(b" padding "),
-            Number((octets - view.whole.len()) as u64),
+            Number(b" ", u64::from(view.id)),
+            Number(b" type ", u64::from(view.kind)),
+            Number(b" length ", view.whole.len() as u64),
+            Number(b" padding ", (octets - view.whole.len()) as u64),
             Text(b" "),
         ],
     )
@@ -198,16 +191,12 @@ fn put_end_line<W: Sink>(
         sink,
         line,
         &[
-            Number(u64::from(number)),
+            Number(b"", u64::from(number)),
             Text(b" "),
             Text(code.as_bytes()),
-            Text(b" "),
-            Number(u64::from(view.id)),
-            Text(b" length "),
-            Number(view.whole.len() as u64),
-            Text(b" padding "),
-            Number((octets - view.whole.len()) as u64),
-            Text(b"\n"),
+            Number(b" ", u64::from(view.id)),
+            Number(b" length ", view.whole.len() as u64),
+            Line(b" padding ", (octets - view.whole.len()) as u64),
         ],
     )
 }
@@ -225,7 +214,7 @@ fn put_malformed<W: Sink>(
         sink,
         line,
         &[
-            Number(u64::from(number)),
+            Number(b"", u64::from(number)),
             Text(b" malformed "),
             Text(cause.word().as_bytes()),
             Text(b"\n"),
@@ -292,11 +281,8 @@ pub fn write_packet_counts<W: Sink>(
     write_pieces(
         sink,
         &[
-            Text(b"packets "),
-            Number(u64::from(packets)),
-            Text(b" malformed "),
-            Number(u64::from(malformed)),
-            Text(b"\n"),
+            Number(b"packets ", u64::from(packets)),
+            Line(b" malformed ", u64::from(malformed)),
         ],
     )
 }

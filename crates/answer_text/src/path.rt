@@ -75,7 +75,7 @@ pub fn write_cause<W: Sink>(sink: &mut W, event: u32, cause: Option<Cause>) -> R
         Some(cause) => write_pieces(
             sink,
             &[
-                Number(u64::from(event)),
+                Number(b"", u64::from(event)),
                 Text(b" cause "),
                 Text(cause.word().as_bytes()),
                 Text(b"\n"),

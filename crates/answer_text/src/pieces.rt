@@ -1,7 +1,7 @@
 //! Pieces of a text to a sink: each line of them is one write, and a longer one takes a write for each
 //! 1,024 octets.
 
-ghost use Rattle.std.specs.Prelude.{◌≡◌, ◌≤◌, ◌+◌, List, ℕ, [], length, decimal, OnOk};
+ghost use Rattle.std.specs.Prelude.{◌≡◌, ◌≤◌, ◌+◌, ◌++◌, List, ℕ, [], length, codes, decimal, OnOk};
 ghost use Rattle.hex.specs.Hex.{encode_lower};
 ghost use Rattle.answer_text.specs.Writes.{Appends, Puts};
 ghost use Rattle.answer_text.specs.Pieces.{text_of, text_of_pieces, hex_text};
@@ -15,10 +15,12 @@ use octet_io::{Failed, LF, Sink};
 pub enum Piece<'a> {
     /// These octets.
     Text(&'a [u8]),
-    /// These octets in hex, `-` if there are none.
-    Hex(&'a [u8]),
-    /// A decimal number.
-    Number(u64),
+    /// The first octets, and the others in hex, `-` if there are none.
+    Hex(&'a [u8], &'a [u8]),
+    /// These octets, and a decimal number.
+    Number(&'a [u8], u64),
+    /// These octets, a decimal number, and the end of the line.
+    Line(&'a [u8], u64),
 }
 
 /// How many octets are spelled in hex at a time.
@@ -122,8 +124,22 @@ fn put_digits<W: Sink>(sink: &mut W, line: &mut LineBuffer, octets: &[u8]) -> Re
     Ok(())
 }
 
+/// Appends octets to a line, and others in hex, `-` if there are none.
+#[tactic(auto, using(crate::proofs::Putting::puts_both, crate::proofs::Putting::puts_front))]
+fn put_hex<W: Sink>(
+    sink: &mut W,
+    line: &mut LineBuffer,
+    front: &[u8],
+    octets: &[u8],
+) -> Result<(), Failed>
+    ensures { Puts W.shown result sink.old sink.new line.old line.new (front.now ++ hex_text octets.now) }
+{
+    put_short(sink, line, front)?;
+    put_hex_text(sink, line, octets)
+}
+
 /// Appends octets in hex to a line, `-` if there are none.
-fn put_hex<W: Sink>(sink: &mut W, line: &mut LineBuffer, octets: &[u8]) -> Result<(), Failed>
+fn put_hex_text<W: Sink>(sink: &mut W, line: &mut LineBuffer, octets: &[u8]) -> Result<(), Failed>
     ensures { Puts W.shown result sink.old sink.new line.old line.new (hex_text octets.now) }
 {
     if octets.is_empty() {
@@ -141,14 +157,43 @@ pub fn put_number<W: Sink>(sink: &mut W, line: &mut LineBuffer, number: u64) -> 
     put_short(sink, line, buffer.format(number).as_bytes())
 }
 
+/// Appends octets to a line, and a decimal number.
+#[tactic(auto, using(crate::proofs::Putting::puts_both, crate::proofs::Putting::puts_front))]
+fn put_numbered<W: Sink>(
+    sink: &mut W,
+    line: &mut LineBuffer,
+    front: &[u8],
+    number: u64,
+) -> Result<(), Failed>
+    ensures { Puts W.shown result sink.old sink.new line.old line.new (front.now ++ decimal number) }
+{
+    put_short(sink, line, front)?;
+    put_number(sink, line, number)
+}
+
+/// Appends octets to a line, and a decimal number that ends it.
+#[tactic(auto, using(crate::proofs::Putting::puts_both, crate::proofs::Putting::puts_front))]
+fn put_last<W: Sink>(
+    sink: &mut W,
+    line: &mut LineBuffer,
+    front: &[u8],
+    number: u64,
+) -> Result<(), Failed>
+    ensures { Puts W.shown result sink.old sink.new line.old line.new ((front.now ++ decimal number) ++ codes "\n") }
+{
+    put_numbered(sink, line, front, number)?;
+    put_text(sink, line, b"\n")
+}
+
 /// Appends a piece to a line, and writes it if the piece ends it.
 fn put_piece<W: Sink>(sink: &mut W, line: &mut LineBuffer, piece: Piece) -> Result<(), Failed>
     ensures { Puts W.shown result sink.old sink.new line.old line.new (text_of piece.entry) }
 {
     match piece {
         Piece::Text(octets) => put_text(sink, line, octets),
-        Piece::Hex(octets) => put_hex(sink, line, octets),
-        Piece::Number(number) => put_number(sink, line, number),
+        Piece::Hex(front, octets) => put_hex(sink, line, front, octets),
+        Piece::Number(front, number) => put_numbered(sink, line, front, number),
+        Piece::Line(front, number) => put_last(sink, line, front, number),
     }
 }
 

@@ -12,7 +12,7 @@ ghost use Rattle.capture_commands.specs.Pcap.{file_word, file_status, file_refus
 ghost use Rattle.answer_text.specs.Writes.{Appends};
 
 use crate::check::is_counted;
-use answer_text::Piece::{Number, Text};
+use answer_text::Piece::{Line, Number, Text};
 use answer_text::{write_finding, write_pieces};
 use capture_check::Checker;
 use command_driver::Status;
@@ -142,7 +142,10 @@ impl Found {
 fn write_cut<W: Sink>(sink: &mut W, number: u32) -> Result<(), Failed>
     ensures { Appends W.shown result sink.old sink.new (cut_text number) }
 {
-    write_pieces(sink, &[Number(u64::from(number)), Text(b" eapol-cut\n")])
+    write_pieces(
+        sink,
+        &[Number(b"", u64::from(number)), Text(b" eapol-cut\n")],
+    )
 }
 
 /// Writes the last line.
@@ -158,13 +161,9 @@ fn write_records<W: Sink>(
     write_pieces(
         sink,
         &[
-            Text(b"records "),
-            Number(u64::from(records)),
-            Text(b" eap "),
-            Number(u64::from(packets)),
-            Text(b" findings "),
-            Number(u64::from(findings)),
-            Text(b"\n"),
+            Number(b"records ", u64::from(records)),
+            Number(b" eap ", u64::from(packets)),
+            Line(b" findings ", u64::from(findings)),
         ],
     )
 }
@@ -216,8 +215,7 @@ fn write_refused_record<W: Sink>(sink: &mut W, number: u32, word: &str) -> Resul
     write_pieces(
         sink,
         &[
-            Text(b"refused record "),
-            Number(u64::from(number)),
+            Number(b"refused record ", u64::from(number)),
             Text(b" "),
             Text(word.as_bytes()),
             Text(b"\n"),

@@ -92,10 +92,8 @@ fn write_read<'a, W: Sink>(
         &[
             Text(b"read "),
             Text(kind),
-            Text(b" id "),
-            Number(u64::from(id)),
-            Text(b" eap "),
-            Hex(eap),
+            Number(b" id ", u64::from(id)),
+            Hex(b" eap ", eap),
             Text(b" "),
             Text(found),
             Text(b"\n"),

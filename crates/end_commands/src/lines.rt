@@ -53,7 +53,10 @@ pub fn write_last<W: Sink>(sink: &mut W, state: State) -> Result<(), Failed>
 fn write_skip<W: Sink>(sink: &mut W, number: u32) -> Result<(), Failed>
     ensures { Appends W.shown result sink.old sink.new (skip_line number) }
 {
-    write_pieces(sink, &[Number(u64::from(number)), Text(b" skip Ended\n")])
+    write_pieces(
+        sink,
+        &[Number(b"", u64::from(number)), Text(b" skip Ended\n")],
+    )
 }
 
 /// Writes the lines of what an end does at an input that isn't skipped.
@@ -81,9 +84,8 @@ fn write_sent<W: Sink>(sink: &mut W, number: u32, octets: &[u8], sends: bool) ->
         write_pieces(
             sink,
             &[
-                Number(u64::from(number)),
-                Text(b" send "),
-                Hex(octets),
+                Number(b"", u64::from(number)),
+                Hex(b" send ", octets),
                 Text(b"\n"),
             ],
         )
@@ -118,11 +120,9 @@ fn write_key_names<'a, W: Sink>(
     write_pieces(
         sink,
         &[
-            Number(u64::from(number)),
-            Text(b" keys msk "),
-            Hex(msk),
-            Text(b" emsk "),
-            Hex(emsk),
+            Number(b"", u64::from(number)),
+            Hex(b" keys msk ", msk),
+            Hex(b" emsk ", emsk),
             Text(b"\n"),
         ],
     )

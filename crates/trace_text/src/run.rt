@@ -10,7 +10,7 @@ ghost use Rattle.trace_text.specs.Run.{told_text, peer_start_text, server_start_
 ghost use Rattle.trace_text.specs.Run.{result_text, end_text_of, end_text, pass_state_line, state_line};
 ghost use Rattle.eap_world.specs.World.{now_of};
 
-use answer_text::Piece::{Hex, Number, Text};
+use answer_text::Piece::{Hex, Line, Number, Text};
 use answer_text::{
     LineBuffer, put_path, put_pieces, send, write_cause, write_nothing, write_pieces,
 };
@@ -102,7 +102,7 @@ fn put_head<W: Sink>(
         sink,
         line,
         &[
-            Number(u64::from(event)),
+            Number(b"", u64::from(event)),
             Text(b" "),
             Text(name_of_party(party).as_bytes()),
         ],
@@ -173,24 +173,20 @@ fn write_packet_line<W: Sink>(
     write_pieces(
         sink,
         &[
-            Number(u64::from(event)),
-            Text(b" sent "),
-            Number(u64::from(sent.number)),
+            Number(b"", u64::from(event)),
+            Number(b" sent ", u64::from(sent.number)),
             Text(b" to "),
             Text(name_of_port(sent.port).as_bytes()),
             Text(b" "),
             Text(name_of_code(code).as_bytes()),
-            Text(b" "),
-            Number(u64::from(octet_at(octets, 1))),
+            Number(b" ", u64::from(octet_at(octets, 1))),
             Text(if has_type { b" type " } else { b"" }),
             if has_type {
-                Number(u64::from(kind))
+                Number(b"", u64::from(kind))
             } else {
                 Text(b"")
             },
-            Text(b" length "),
-            Number(octets.len() as u64),
-            Text(b"\n"),
+            Line(b" length ", octets.len() as u64),
         ],
     )
 }
@@ -209,9 +205,8 @@ fn write_octets<W: Sink>(
         Some(_) if names => write_pieces(
             sink,
             &[
-                Number(u64::from(event)),
-                Text(b" octets "),
-                Hex(octets),
+                Number(b"", u64::from(event)),
+                Hex(b" octets ", octets),
                 Text(b"\n"),
             ],
         ),
@@ -241,13 +236,11 @@ fn write_key_names<'a, W: Sink>(
     write_pieces(
         sink,
         &[
-            Number(u64::from(event)),
+            Number(b"", u64::from(event)),
             Text(b" keys "),
             Text(party.as_bytes()),
-            Text(b" msk "),
-            Hex(msk),
-            Text(b" emsk "),
-            Hex(emsk),
+            Hex(b" msk ", msk),
+            Hex(b" emsk ", emsk),
             Text(b"\n"),
         ],
     )
@@ -286,7 +279,7 @@ pub fn write_told<W: Sink>(
         Some(skip) => write_pieces(
             sink,
             &[
-                Number(u64::from(told.event)),
+                Number(b"", u64::from(told.event)),
                 Text(b" skip "),
                 Text(name_of_skip(skip).as_bytes()),
                 Text(b"\n"),
@@ -412,14 +405,11 @@ fn write_counts<W: Sink>(sink: &mut W, counts: Counts) -> Result<(), Failed>
     write_pieces(
         sink,
         &[
-            Text(b"events "),
-            Number(u64::from(counts.events)),
+            Number(b"events ", u64::from(counts.events)),
             Text(b"\n"),
-            Text(b"deliveries "),
-            Number(u64::from(counts.deliveries)),
+            Number(b"deliveries ", u64::from(counts.deliveries)),
             Text(b"\n"),
-            Text(b"discards "),
-            Number(u64::from(counts.discards)),
+            Number(b"discards ", u64::from(counts.discards)),
             Text(b"\n"),
         ],
     )
@@ -458,7 +448,7 @@ fn write_tags<W: Sink>(sink: &mut W, tags: TagsVerdict) -> Result<(), Failed>
         TagsVerdict::Honest => write_pieces(sink, &[Text(b"tags honest\n")]),
         TagsVerdict::Broken(event) => write_pieces(
             sink,
-            &[Text(b"tags broken "), Number(u64::from(event)), Text(b"\n")],
+            &[Line(b"tags broken ", u64::from(event))],
         ),
     }
 }
