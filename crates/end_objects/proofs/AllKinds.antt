@@ -1,27 +1,63 @@
--- Where there is an object of both methods, there is one of each method that settings can name.
-use Rattle.std.proofs.Common.{◌≡◌, ℕ, List, [], ◌∷◌, true, eqb, refl, subst, sym, inl, inr}
-use Rattle.std.specs.Prelude.{IsTrue}
+-- What holds of the methods that there are, one by one.
+use Rattle.std.proofs.Common.{◌≡◌, ℕ, ◌≤◌, List, [], ◌∷◌, length, Bool, true, false, eqb, refl, subst, sym, ◌∙◌, inl, inr, arith}
+use Rattle.std.specs.Prelude.{IsTrue, ◌&&◌, ◌||◌, ◌==◌, if◌then◌else◌, nat_le}
 use Rattle.std.specs.List.{list_all}
 use Rattle.std.proofs.lemmas.Bool.{or_cases, eqb-true, and_parts, and_from}
+use Rattle.std.proofs.lemmas.List.Folds.{list_all-append}
 use Rattle.eap_base.specs.Among.{psk_kind, gpsk_kind, is_kind, is_among, are_distinct}
-use Rattle.login_setup.specs.Setup.{are_kinds}
+use Rattle.login_setup.specs.Setup.{are_kinds, fits_kind}
 use Rattle.eap_method.specs.Peer.{have_each}
+use Rattle.end_objects.specs.Settings.{SettingsValue, all_kinds, kind_if, keyed_kinds, key_for}
 
-is_listed : (kind : ℕ) → is_kind kind ≡ true → is_among (psk_kind ∷ gpsk_kind ∷ []) kind ≡ true
+-- ---- where there is an object of each of them, there is one of each method that settings can name
+
+is_listed : (kind : ℕ) → is_kind kind ≡ true → is_among all_kinds kind ≡ true
 is_listed kind known =
     elim (or_cases (eqb kind psk_kind) (eqb kind gpsk_kind) known) [
-      | inl is_psk ↦ subst (λ k. is_among (psk_kind ∷ gpsk_kind ∷ []) k ≡ true) (sym (eqb-true kind psk_kind is_psk)) refl
-      | inr is_gpsk ↦ subst (λ k. is_among (psk_kind ∷ gpsk_kind ∷ []) k ≡ true) (sym (eqb-true kind gpsk_kind is_gpsk)) refl
+      | inl is_psk ↦ subst (λ k. is_among all_kinds k ≡ true) (sym (eqb-true kind psk_kind is_psk)) refl
+      | inr is_gpsk ↦ subst (λ k. is_among all_kinds k ≡ true) (sym (eqb-true kind gpsk_kind is_gpsk)) refl
     ]
 
-are_listed : (kinds : List ℕ) → list_all is_kind kinds ≡ true → have_each (psk_kind ∷ gpsk_kind ∷ []) kinds ≡ true
+are_listed : (kinds : List ℕ) → list_all is_kind kinds ≡ true → have_each all_kinds kinds ≡ true
 are_listed [] known = refl
 are_listed (kind ∷ rest) known =
     let parts = and_parts (is_kind kind) (list_all is_kind rest) known in
-    and_from (is_among (psk_kind ∷ gpsk_kind ∷ []) kind) (list_all (is_among (psk_kind ∷ gpsk_kind ∷ [])) rest)
-    (is_listed kind parts.0) (are_listed rest parts.1)
+    and_from (is_among all_kinds kind) (list_all (is_among all_kinds) rest) (is_listed kind parts.0) (are_listed rest parts.1)
 
-pub all_have : (methods : List ℕ) → methods ≡ psk_kind ∷ gpsk_kind ∷ []
-    → (kinds : List ℕ) → IsTrue (are_kinds kinds) → have_each methods kinds ≡ true
-all_have methods both kinds sound =
-    rw both (are_listed kinds (and_parts (list_all is_kind kinds) (are_distinct kinds) sound).0)
+pub all_have : (methods : List ℕ) → methods ≡ all_kinds → (kinds : List ℕ) → IsTrue (are_kinds kinds) → have_each methods kinds ≡ true
+all_have methods all kinds sound =
+    rw all (are_listed kinds (and_parts (list_all is_kind kinds) (are_distinct kinds) sound).0)
+
+-- ---- a key that fits is of one of them
+
+one_of_both : (psk gpsk short wide : Bool) → (if psk then short else (gpsk && wide)) ≡ true → (psk || gpsk) ≡ true
+one_of_both true gpsk short wide fits = refl
+one_of_both false true short wide fits = refl
+one_of_both false false short wide fits = absurd (cc fits)
+
+pub kind_of_key : (kind : ℕ) (key : List ℕ) → fits_kind kind key ≡ true → is_kind kind ≡ true
+kind_of_key kind key fits =
+    one_of_both (kind == psk_kind) (kind == gpsk_kind) (length key == 16) (nat_le 32 (length key) && nat_le (length key) 64) fits
+
+-- ---- where each key that there is fits its method, none is longer than a key may be
+
+fitting_size : (kind : ℕ) (key : List ℕ) → fits_kind kind key ≡ true → length key ≤ 64
+fitting_size kind key h = grind arith
+
+keyed_size : (fits : ℕ → Bool) (kind : ℕ) (key : List ℕ) → fits kind ≡ fits_kind kind key → list_all fits (kind_if key kind) ≡ true → length key ≤ 64
+keyed_size fits kind [] is h = omega arith
+keyed_size fits kind (octet ∷ rest) is h = fitting_size kind (octet ∷ rest) (sym is ∙ (and_parts (fits kind) true h).0)
+
+size_of_either : (is_psk : Bool) (psk gpsk : List ℕ) → length psk ≤ 64 → length gpsk ≤ 64 → length (if is_psk then psk else gpsk) ≤ 64
+size_of_either true psk gpsk short wide = short
+size_of_either false psk gpsk short wide = wide
+
+pub key_size : (told : SettingsValue) (kind : ℕ) → list_all (λ kind. fits_kind kind (key_for told kind)) (keyed_kinds told) ≡ true
+    → length (key_for told kind) ≤ 64
+unfolding keyed_kinds
+key_size told kind fit =
+    let gpsk = kind_if told.gpsk_key gpsk_kind in let psk = kind_if told.psk_key psk_kind in
+    let p : ℕ → Bool = λ kind. fits_kind kind (key_for told kind) in
+    let each = and_parts (list_all p gpsk) (list_all p psk) (sym (list_all-append p gpsk psk) ∙ fit) in
+    size_of_either (kind == psk_kind) told.psk_key told.gpsk_key
+    (keyed_size p psk_kind told.psk_key refl each.1) (keyed_size p gpsk_kind told.gpsk_key refl each.0)

@@ -1,4 +1,4 @@
--- Where there is an object of both methods, there is one of each method that settings can name.
+-- What holds of the methods that there are, one by one.
 pub mod AllKinds
 -- The objects that are made one after the other are of the Types that are wanted, in their order.
 pub mod MadeObjects

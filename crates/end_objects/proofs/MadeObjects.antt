@@ -1,7 +1,8 @@
 -- The objects that are made one after the other are of the Types that are wanted, in their order.
-use Rattle.std.proofs.Common.{◌≡◌, ℕ, List, [], ◌∷◌, ◌++◌, map, Bool, true, false, refl, ap, eq-eqb}
-use Rattle.std.specs.Prelude.{◌==◌, ◌||◌, ◌&&◌}
+use Rattle.std.proofs.Common.{◌≡◌, ℕ, List, [], ◌∷◌, ◌++◌, map, true, refl, ap, eq-eqb}
+use Rattle.std.specs.Prelude.{◌==◌}
 use Rattle.std.specs.List.{list_all}
+use Rattle.std.proofs.lemmas.Bool.{and_parts, and_from, or_left, or_right}
 use Rattle.eap_base.specs.Among.{is_among}
 use Rattle.eap_method.specs.Peer.{peer_kind, peer_kinds, have_each}
 use Rattle.eap_method.specs.Server.{server_kind, server_kinds}
@@ -19,38 +20,18 @@ pub one_more_server : (before : List ServerObject) (object : ServerObject) (rest
 one_more_server [] object rest = refl
 one_more_server (first ∷ more) object rest = ap (λ kinds. server_kind (server_object_shown first) ∷ kinds) (one_more_server more object rest)
 
-or_true : (a b : Bool) → b ≡ true → (a || b) ≡ true
-or_true true b h = refl
-or_true false b h = h
-
-both_true : (a b : Bool) → a ≡ true → b ≡ true → (a && b) ≡ true
-both_true true b h k = k
-both_true false b h k = h
-
-first_of_both : (a b : Bool) → (a && b) ≡ true → a ≡ true
-first_of_both true b h = refl
-first_of_both false b h = absurd (cc h)
-
-second_of_both : (a b : Bool) → (a && b) ≡ true → b ≡ true
-second_of_both true b h = h
-second_of_both false b h = absurd (cc h)
-
-either_true : (a b : Bool) → a ≡ true → (a || b) ≡ true
-either_true true b h = refl
-either_true false b h = absurd (cc h)
-
 -- those that stand among some stand among one more
 still_among : (kinds : List ℕ) (kind : ℕ) (wanted : List ℕ) → list_all (is_among kinds) wanted ≡ true → list_all (is_among (kind ∷ kinds)) wanted ≡ true
 still_among kinds kind [] h = refl
 still_among kinds kind (first ∷ rest) h =
-    both_true (is_among (kind ∷ kinds) first) (list_all (is_among (kind ∷ kinds)) rest)
-    (or_true (kind == first) (is_among kinds first) (first_of_both (is_among kinds first) (list_all (is_among kinds) rest) h))
-    (still_among kinds kind rest (second_of_both (is_among kinds first) (list_all (is_among kinds) rest) h))
+    let parts = and_parts (is_among kinds first) (list_all (is_among kinds) rest) h in
+    and_from (is_among (kind ∷ kinds) first) (list_all (is_among (kind ∷ kinds)) rest)
+    (or_right (kind == first) (is_among kinds first) parts.0) (still_among kinds kind rest parts.1)
 
 -- of each Type that stands among some there is one
 pub each_of_its_own : (kinds : List ℕ) → have_each kinds kinds ≡ true
 each_of_its_own [] = refl
 each_of_its_own (kind ∷ rest) =
-    both_true (is_among (kind ∷ rest) kind) (list_all (is_among (kind ∷ rest)) rest)
-    (either_true (kind == kind) (is_among rest kind) (eq-eqb kind kind refl))
+    and_from (is_among (kind ∷ rest) kind) (list_all (is_among (kind ∷ rest)) rest)
+    (or_left (kind == kind) (is_among rest kind) (eq-eqb kind kind refl))
     (still_among rest kind rest (each_of_its_own rest))

@@ -1,17 +1,18 @@
 -- A peer's keys pass their tests exactly where each fits its method and there is one for each method that is allowed.
 -- Users pass theirs exactly where each is of one of the two methods and has a key that fits it.
-use Rattle.std.proofs.Common.{◌≡◌, ℕ, List, Bool, true, false, IsTrue, length, slice_index_or, refl, eq-eqb}
-use Rattle.std.specs.Prelude.{◌&&◌, ◌||◌, if◌then◌else◌, nat_le, ◌==◌, IsSome, All}
+use Rattle.std.proofs.Common.{◌≡◌, ℕ, List, true, IsTrue, slice_index_or, refl, eq-eqb}
+use Rattle.std.specs.Prelude.{◌==◌, IsSome, All}
 use Rattle.std.specs.List.{list_all}
 use Rattle.std.proofs.lemmas.List.Folds.{list_any_at}
 use Rattle.std.proofs.lemmas.List.Sums.{AllPass-from_list_all, list_all-from_AllPass}
 use Rattle.login_setup.specs.Keys.{key_of}
 use Rattle.login_setup.specs.declared.keys.Key.{Key}
 use Rattle.login_setup.specs.declared.users.User.{User}
-use Rattle.eap_base.specs.Among.{psk_kind, gpsk_kind, is_kind, is_among}
+use Rattle.eap_base.specs.Among.{is_kind, is_among}
 use Rattle.login_setup.specs.Setup.{fits_kind}
 use Rattle.eap_method.proofs.Amongs.{each_one}
 use Rattle.end_objects.specs.Soundness.{is_sound_key, has_key, is_sound_user}
+use Rattle.end_objects.proofs.AllKinds.{kind_of_key}
 
 pub keys_fit : (keys : List Key) → list_all is_sound_key keys ≡ true → All (λ key. IsTrue (fits_kind key.kind key.psk)) keys
 keys_fit keys ok = AllPass-from_list_all is_sound_key keys ok
@@ -27,16 +28,6 @@ pub all_have : (keys : List Key) (allowed : List ℕ) → ((kind : ℕ) → is_a
     → list_all (has_key keys) allowed ≡ true
 all_have keys allowed each = list_all-from_AllPass (has_key keys) allowed (λ k d below.
     let kind = slice_index_or allowed k d in each kind (list_any_at (λ other. other == kind) allowed k d below (eq-eqb kind kind refl)))
-
--- a key that fits is of one of the two methods
-one_of_both : (psk gpsk short wide : Bool) → (if psk then short else (gpsk && wide)) ≡ true → (psk || gpsk) ≡ true
-one_of_both true gpsk short wide fits = refl
-one_of_both false true short wide fits = refl
-one_of_both false false short wide fits = absurd (cc fits)
-
-pub kind_of_key : (kind : ℕ) (key : List ℕ) → fits_kind kind key ≡ true → is_kind kind ≡ true
-kind_of_key kind key fits =
-    one_of_both (kind == psk_kind) (kind == gpsk_kind) (length key == 16) (nat_le 32 (length key) && nat_le (length key) 64) fits
 
 -- where users pass, each has a key that fits, and is so of one of the two methods
 pub have_keys : (users : List User) → list_all is_sound_user users ≡ true → All (λ user. IsTrue (fits_kind user.kind user.psk)) users

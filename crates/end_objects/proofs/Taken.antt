@@ -1,23 +1,25 @@
 -- What is known of settings that aren't refused.
-use Rattle.std.proofs.Common.{◌≡◌, ℕ, ◌<◌, ◌≤◌, List, [], ◌∷◌, length, map, Bool, true, false, Option, Some, None, IsTrue, refl, sym, ◌∙◌, arith, eq-eqb}
+use Rattle.std.proofs.Common.{◌≡◌, ℕ, ◌<◌, ◌≤◌, List, [], ◌∷◌, length, map, Bool, true, false, Option, Some, None, IsTrue, refl, ◌∙◌, arith, eq-eqb}
 use Rattle.std.specs.Prelude.{◌&&◌, ◌||◌, not, ◌==◌, if◌then◌else◌, slice_index, IsSome, All}
 use Rattle.std.specs.List.{list_all}
+use Rattle.std.proofs.lemmas.Bool.{and_parts, or_left, or_parts}
 use Rattle.std.proofs.lemmas.List.Elements.{All-map, All-nil}
-use Rattle.std.proofs.lemmas.List.Folds.{list_all-append, list_all-map}
+use Rattle.std.proofs.lemmas.List.Folds.{list_all-map}
 use Rattle.std.proofs.lemmas.List.Sums.{AllPass-from_list_all}
-use Rattle.eap_base.specs.Among.{psk_kind, gpsk_kind, is_kind, is_among, are_distinct, is_filled}
+use Rattle.eap_base.specs.Among.{is_kind, is_among, are_distinct, is_filled}
 use Rattle.eap_base.specs.Sizes.{max_name}
 use Rattle.login_setup.specs.Keys.{key_of}
 use Rattle.login_setup.specs.Setup.{are_kinds, are_suites, fits_kind, IsSoundPeer, HasKeys, IsSoundServer}
 use Rattle.login_setup.specs.declared.users.User.{User}
-use Rattle.end_objects.specs.Settings.{SettingsValue, or_else, kind_if, keyed_kinds, named_kinds, kinds_of, first_kind, suites_of, key_for, key_with, peer_setup_of, user_with, users_of, server_setup_of}
-use Rattle.end_objects.specs.Refusals.{refuse_if, has_other_size, has_gap, has_bad_methods, has_bad_suites, is_name, has_long_other, has_keys, has_key_of_user, peer_refusal, server_refusal, user_refusal, IsSoundOther}
+use Rattle.end_objects.specs.Settings.{SettingsValue, or_else, keyed_kinds, named_kinds, all_kinds, kinds_of, first_kind, suites_of, key_for, key_with, peer_setup_of, user_with, users_of, server_setup_of}
+use Rattle.end_objects.specs.Refusals.{refuse_if, has_other_size, has_gap, has_bad_methods, has_bad_suites, is_name, has_long_other, has_keys, has_key_of_user, end_refusal, peer_refusal, server_refusal, user_refusal, IsSoundOther}
 use Rattle.eap_method.specs.Peer.{have_each}
 use Rattle.eap_method.proofs.Amongs.{each_one}
 use Rattle.end_objects.specs.Soundness.{is_sound_user}
 use Rattle.end_objects.specs.declared.refusals.Refusal.{Refusal}
 use Rattle.end_objects.specs.declared.refusals.Refusal.TheVariants as refusal
-use Rattle.end_objects.proofs.Sound.{have_keys, have_kinds, kind_of_key}
+use Rattle.end_objects.proofs.AllKinds.{kind_of_key, key_size}
+use Rattle.end_objects.proofs.Sound.{have_keys, have_kinds}
 
 -- ---- tests
 
@@ -26,20 +28,7 @@ is_so true h = refl
 is_so false h = absurd (cc h)
 
 second_is_so : (a b : Bool) → (a || not b) ≡ false → b ≡ true
-second_is_so true b h = absurd (cc h)
-second_is_so false b h = is_so b h
-
-first_is_not : (a b : Bool) → (a || b) ≡ false → a ≡ false
-first_is_not true b h = absurd (cc h)
-first_is_not false b h = refl
-
-first_is_so : (a b : Bool) → (a && b) ≡ true → a ≡ true
-first_is_so true b h = refl
-first_is_so false b h = absurd (cc h)
-
-both_are_so : (a b : Bool) → (a && b) ≡ true → b ≡ true
-both_are_so true b h = h
-both_are_so false b h = absurd (cc h)
+second_is_so a b h = is_so b (or_parts a (not b) h).1
 
 -- ---- no reason applies where none is given
 
@@ -76,31 +65,31 @@ suites_are_known : (told : SettingsValue) → has_bad_suites told ≡ false → 
 unfolding has_bad_suites
 suites_are_known told h = second_is_so (has_gap told.suites) (are_suites (suites_of told)) h
 
-peer_passes : (told : SettingsValue) → peer_refusal told ≡ None → HasPassed told (kinds_of told)
-unfolding peer_refusal
-peer_passes told none =
-    let p = six_pass (has_other_size told) (has_bad_methods told || not (is_filled (named_kinds told))) (has_bad_suites told)
-    (not (is_name told.name)) (has_long_other told) (not (has_keys (kinds_of told) told))
+end_passes : (wanted : List ℕ) (told : SettingsValue) (bad_methods has : Bool)
+    → (bad_methods ≡ false → has_bad_methods told ≡ false) → (has ≡ true → has_keys wanted told ≡ true)
+    → end_refusal told bad_methods (not has) ≡ None → HasPassed told wanted
+end_passes wanted told bad_methods has methods keys none =
+    let p = six_pass (has_other_size told) bad_methods (has_bad_suites told) (not (is_name told.name)) (has_long_other told) (not has)
     refusal.OtherSize refusal.NoMethod refusal.NoSuite refusal.BadName refusal.BadOther refusal.BadKey none in record {
-      kinds = kinds_are_known told (first_is_not (has_bad_methods told) (not (is_filled (named_kinds told))) p.0);
+      kinds = kinds_are_known told (methods p.0);
       suites = suites_are_known told p.1;
       name = is_so (is_name told.name) p.2;
       other = p.3;
-      keys = is_so (has_keys (kinds_of told) told) p.4;
+      keys = keys (is_so has p.4);
     }
+
+peer_passes : (told : SettingsValue) → peer_refusal told ≡ None → HasPassed told (kinds_of told)
+unfolding peer_refusal
+peer_passes told none =
+    let unnamed = not (is_filled (named_kinds told)) in
+    end_passes (kinds_of told) told (has_bad_methods told || unnamed) (has_keys (kinds_of told) told)
+    (λ h. (or_parts (has_bad_methods told) unnamed h).0) (λ h. h) none
 
 server_passes : (told : SettingsValue) → server_refusal told ≡ None → HasPassed told []
 unfolding server_refusal
 server_passes told none =
-    let p = six_pass (has_other_size told) (has_bad_methods told) (has_bad_suites told)
-    (not (is_name told.name)) (has_long_other told) (not (has_keys [] told && has_key_of_user told))
-    refusal.OtherSize refusal.NoMethod refusal.NoSuite refusal.BadName refusal.BadOther refusal.BadKey none in record {
-      kinds = kinds_are_known told p.0;
-      suites = suites_are_known told p.1;
-      name = is_so (is_name told.name) p.2;
-      other = p.3;
-      keys = first_is_so (has_keys [] told) (has_key_of_user told) (is_so (has_keys [] told && has_key_of_user told) p.4);
-    }
+    end_passes [] told (has_bad_methods told) (has_keys [] told && has_key_of_user told)
+    (λ h. h) (λ h. (and_parts (has_keys [] told) (has_key_of_user told) h).0) none
 
 -- ---- sizes
 
@@ -111,9 +100,6 @@ name_fits (octet ∷ rest) h = grind arith
 other_fits : (told : SettingsValue) → has_long_other told ≡ false → length told.other ≤ max_name
 other_fits told h = grind arith
 
-fitting_size : (kind : ℕ) (key : List ℕ) → fits_kind kind key ≡ true → length key ≤ 64
-fitting_size kind key h = grind arith
-
 -- whether the key for a method fits it
 abbrev key_fits : SettingsValue → ℕ → Bool
 key_fits told kind = fits_kind kind (key_for told kind)
@@ -121,22 +107,11 @@ key_fits told kind = fits_kind kind (key_for told kind)
 -- each key that there is fits, and there is one for each wanted method
 keys_fit : (wanted : List ℕ) (told : SettingsValue) → has_keys wanted told ≡ true → list_all (key_fits told) (keyed_kinds told) ≡ true
 unfolding has_keys
-keys_fit wanted told h = first_is_so (list_all (key_fits told) (keyed_kinds told)) (have_each (keyed_kinds told) wanted) h
+keys_fit wanted told h = (and_parts (list_all (key_fits told) (keyed_kinds told)) (have_each (keyed_kinds told) wanted) h).0
 
 are_keyed : (wanted : List ℕ) (told : SettingsValue) → has_keys wanted told ≡ true → have_each (keyed_kinds told) wanted ≡ true
 unfolding has_keys
-are_keyed wanted told h = both_are_so (list_all (key_fits told) (keyed_kinds told)) (have_each (keyed_kinds told) wanted) h
-
-keyed_size : (fits : ℕ → Bool) (kind : ℕ) (key : List ℕ) → fits kind ≡ fits_kind kind key → list_all fits (kind_if key kind) ≡ true → length key ≤ 64
-keyed_size fits kind [] is h = omega arith
-keyed_size fits kind (octet ∷ rest) is h = fitting_size kind (octet ∷ rest) (sym is ∙ first_is_so (fits kind) true h)
-
-key_sizes : (wanted : List ℕ) (told : SettingsValue) → has_keys wanted told ≡ true → (length told.psk_key ≤ 64) × (length told.gpsk_key ≤ 64)
-unfolding keyed_kinds
-key_sizes wanted told h =
-    let gpsk = kind_if told.gpsk_key gpsk_kind in let psk = kind_if told.psk_key psk_kind in let p = key_fits told in
-    let each : (list_all p gpsk && list_all p psk) ≡ true = sym (list_all-append p gpsk psk) ∙ keys_fit wanted told h in
-    (keyed_size p psk_kind told.psk_key refl (both_are_so (list_all p gpsk) (list_all p psk) each), keyed_size p gpsk_kind told.gpsk_key refl (first_is_so (list_all p gpsk) (list_all p psk) each))
+are_keyed wanted told h = (and_parts (list_all (key_fits told) (keyed_kinds told)) (have_each (keyed_kinds told) wanted) h).1
 
 pub peer_name : (told : SettingsValue) → peer_refusal told ≡ None → length told.name ≤ max_name
 peer_name told none = name_fits told.name (peer_passes told none).name
@@ -144,11 +119,8 @@ peer_name told none = name_fits told.name (peer_passes told none).name
 pub peer_other : (told : SettingsValue) → peer_refusal told ≡ None → length told.other ≤ max_name
 peer_other told none = other_fits told (peer_passes told none).other
 
-pub peer_psk : (told : SettingsValue) → peer_refusal told ≡ None → length told.psk_key ≤ 64
-peer_psk told none = (key_sizes (kinds_of told) told (peer_passes told none).keys).0
-
-pub peer_gpsk : (told : SettingsValue) → peer_refusal told ≡ None → length told.gpsk_key ≤ 64
-peer_gpsk told none = (key_sizes (kinds_of told) told (peer_passes told none).keys).1
+pub peer_key : (told : SettingsValue) → peer_refusal told ≡ None → (kind : ℕ) → length (key_for told kind) ≤ 64
+peer_key told none kind = key_size told kind (keys_fit (kinds_of told) told (peer_passes told none).keys)
 
 pub server_name : (told : SettingsValue) → server_refusal told ≡ None → length told.name ≤ max_name
 server_name told none = name_fits told.name (server_passes told none).name
@@ -162,19 +134,19 @@ pub server_kinds : (told : SettingsValue) → server_refusal told ≡ None → a
 server_kinds told none = (server_passes told none).kinds
 
 -- there is a method
-some_or_else : (numbers : List ℕ) (other : ℕ) (rest : List ℕ) → 0 < length (or_else numbers (other ∷ rest))
-some_or_else [] other rest = omega arith
-some_or_else (number ∷ more) other rest = omega arith
+some_or_else : (numbers others : List ℕ) → 0 < length others → 0 < length (or_else numbers others)
+some_or_else [] others some = some
+some_or_else (number ∷ more) others some = omega arith
 
 pub kinds_are_some : (told : SettingsValue) → 0 < length (kinds_of told)
 unfolding kinds_of
-kinds_are_some told = some_or_else (named_kinds told) gpsk_kind (psk_kind ∷ [])
+kinds_are_some told = some_or_else (named_kinds told) all_kinds (omega arith)
 
 -- the first of the methods is one of the two
 first_is_known : (kinds : List ℕ) → 0 < length kinds → are_kinds kinds ≡ true → is_kind (slice_index kinds 0) ≡ true
 first_is_known [] some h = absurd (omega (arith, some))
 first_is_known (kind ∷ rest) some h =
-    first_is_so (is_kind kind) (list_all is_kind rest) (first_is_so (list_all is_kind (kind ∷ rest)) (are_distinct (kind ∷ rest)) h)
+    (and_parts (is_kind kind) (list_all is_kind rest) (and_parts (list_all is_kind (kind ∷ rest)) (are_distinct (kind ∷ rest)) h).0).0
 
 pub first_is_kind : (told : SettingsValue) → are_kinds (kinds_of told) ≡ true → is_kind (first_kind told) ≡ true
 first_is_kind told h = first_is_known (kinds_of told) (kinds_are_some told) h
@@ -211,21 +183,14 @@ peer_has_keys told nonce none kind is = keyed_has told (keyed_kinds told) kind (
 
 -- ---- the key for the first method of a peer
 
-first_is_there : (a b : Bool) → a ≡ true → (a || b) ≡ true
-first_is_there true b h = refl
-first_is_there false b h = absurd (cc h)
-
 first_is_among : (kinds : List ℕ) → 0 < length kinds → is_among kinds (slice_index kinds 0) ≡ true
 first_is_among [] some = absurd (omega (arith, some))
-first_is_among (kind ∷ rest) some = first_is_there (kind == kind) (is_among rest kind) (eq-eqb kind kind refl)
+first_is_among (kind ∷ rest) some = or_left (kind == kind) (is_among rest kind) (eq-eqb kind kind refl)
 
 pub first_key_fits : (told : SettingsValue) → peer_refusal told ≡ None → fits_kind (first_kind told) (key_for told (first_kind told)) ≡ true
 first_key_fits told none =
     let is = kind_is_keyed told (first_kind told) none (first_is_among (kinds_of told) (kinds_are_some told)) in
     each_one (key_fits told) (keyed_kinds told) (first_kind told) (keys_fit (kinds_of told) told (peer_passes told none).keys) is
-
-pub first_key_size : (told : SettingsValue) → peer_refusal told ≡ None → length (key_for told (first_kind told)) ≤ 64
-first_key_size told none = fitting_size (first_kind told) (key_for told (first_kind told)) (first_key_fits told none)
 
 -- ---- a server's user
 
@@ -238,7 +203,7 @@ user_other told none =
     let p = three_pass (has_other_size told) (not (is_name told.other)) (not (has_keys [] told && is_filled (keyed_kinds told)))
     refusal.OtherSize refusal.BadOther refusal.BadKey none in record {
       name = name_fits told.other (is_so (is_name told.other) p.0);
-      keys = first_is_so (has_keys [] told) (is_filled (keyed_kinds told)) (is_so (has_keys [] told && is_filled (keyed_kinds told)) p.1);
+      keys = (and_parts (has_keys [] told) (is_filled (keyed_kinds told)) (is_so (has_keys [] told && is_filled (keyed_kinds told)) p.1)).0;
     }
 
 -- the user of a method for which there is a key
@@ -248,7 +213,7 @@ user_key_fits told kind other is = each_one (key_fits told) (keyed_kinds told) k
 
 pub user_key_size : (told : SettingsValue) (kind : ℕ) → IsSoundOther told → is_among (keyed_kinds told) kind ≡ true
     → length (key_for told kind) ≤ 64
-user_key_size told kind other is = fitting_size kind (key_for told kind) (user_key_fits told kind other is)
+user_key_size told kind other is = key_size told kind (keys_fit [] told other.keys)
 
 pub user_is_known : (told : SettingsValue) (kind : ℕ) → IsSoundOther told → is_among (keyed_kinds told) kind ≡ true → is_kind kind ≡ true
 user_is_known told kind other is = kind_of_key kind (key_for told kind) (user_key_fits told kind other is)

@@ -1,7 +1,3 @@
--- Whether a login has failed within its method.
-pub mod Failures
--- The nonces of a login that has succeeded, by either method.
-pub mod Nonces
 -- What an object of either method shows.
 pub mod Objects
 -- When settings are refused, and why.

@@ -51,25 +51,24 @@ has_keys wanted told = list_all (λ kind. fits_kind kind (key_for told kind)) (k
 unfoldable pub has_key_of_user : SettingsValue → Bool
 has_key_of_user told = if is_filled told.other then is_filled (keyed_kinds told) else not (is_filled (keyed_kinds told))
 
+-- the first reason to refuse settings, the methods or keys of which may be bad for their end
+abbrev pub end_refusal : SettingsValue → Bool → Bool → Option Refusal
+end_refusal told bad_methods bad_keys =
+    refuse_if (has_other_size told) refusal.OtherSize (
+    refuse_if bad_methods refusal.NoMethod (
+    refuse_if (has_bad_suites told) refusal.NoSuite (
+    refuse_if (not (is_name told.name)) refusal.BadName (
+    refuse_if (has_long_other told) refusal.BadOther (
+    refuse_if bad_keys refusal.BadKey None)))))
+
 -- the first reason to refuse a peer's settings; no name means any server
 unfoldable pub peer_refusal : SettingsValue → Option Refusal
 peer_refusal told =
-    refuse_if (has_other_size told) refusal.OtherSize (
-    refuse_if (has_bad_methods told || not (is_filled (named_kinds told))) refusal.NoMethod (
-    refuse_if (has_bad_suites told) refusal.NoSuite (
-    refuse_if (not (is_name told.name)) refusal.BadName (
-    refuse_if (has_long_other told) refusal.BadOther (
-    refuse_if (not (has_keys (kinds_of told) told)) refusal.BadKey None)))))
+    end_refusal told (has_bad_methods told || not (is_filled (named_kinds told))) (not (has_keys (kinds_of told) told))
 
 -- the first reason to refuse a server's settings; no name means no user
 unfoldable pub server_refusal : SettingsValue → Option Refusal
-server_refusal told =
-    refuse_if (has_other_size told) refusal.OtherSize (
-    refuse_if (has_bad_methods told) refusal.NoMethod (
-    refuse_if (has_bad_suites told) refusal.NoSuite (
-    refuse_if (not (is_name told.name)) refusal.BadName (
-    refuse_if (has_long_other told) refusal.BadOther (
-    refuse_if (not (has_keys [] told && has_key_of_user told)) refusal.BadKey None)))))
+server_refusal told = end_refusal told (has_bad_methods told) (not (has_keys [] told && has_key_of_user told))
 
 -- why MaxRetrans of RFC 4137 is refused
 abbrev pub retry_refusal : ℕ → Option Refusal

@@ -59,9 +59,13 @@ keyed_kinds told = kind_if told.gpsk_key gpsk_kind ++ kind_if told.psk_key psk_k
 unfoldable pub named_kinds : SettingsValue → List ℕ
 named_kinds told = or_else (numbers_of told.methods) (keyed_kinds told)
 
--- the methods of an end: if none is named, both
+-- the methods that there are
+abbrev pub all_kinds : List ℕ
+all_kinds = gpsk_kind ∷ psk_kind ∷ []
+
+-- the methods of an end: if none is named, all
 unfoldable pub kinds_of : SettingsValue → List ℕ
-kinds_of told = or_else (named_kinds told) (gpsk_kind ∷ psk_kind ∷ [])
+kinds_of told = or_else (named_kinds told) all_kinds
 
 -- the method of an end that has one alone
 abbrev pub first_kind : SettingsValue → ℕ

@@ -1,16 +1,14 @@
 //! An object of either method for each end, and the settings of an end from octets and numbers.
 #![tactic(auto)]
 
-mod all;
 mod making;
 mod objects;
 mod refusals;
 mod settings;
 mod soundness;
 
-pub use all::{all_peers, all_servers};
-pub use making::{peer_object, peer_objects, server_object, server_objects};
-pub use objects::{Nonces, PeerObject, ServerObject};
+pub use making::{all_peers, all_servers, peer_objects, server_objects};
+pub use objects::{Nonces, PeerObject, ServerObject, peer_object, server_object};
 pub use refusals::{
     Refusal, peer_refusal, retry_refusal, server_refusal, stand_alone_refusal, user_refusal,
 };

@@ -1,30 +1,16 @@
 //! Making the objects of methods, as a machine takes them.
 
-ghost use Rattle.std.specs.Prelude.{◌≡◌, ◌++◌, true, map, IfOk, OnOk, IsTrue};
+ghost use Rattle.std.specs.Prelude.{◌≡◌, ◌++◌, ℕ, List, true, map, IfOk, OnOk, IsTrue};
 ghost use Rattle.std.specs.List.{list_all};
 ghost use Rattle.eap_base.specs.Among.{is_kind};
 ghost use Rattle.login_setup.specs.Setup.{are_kinds};
-ghost use Rattle.eap_method.specs.Peer.{peer_kind, peer_kinds, have_each};
-ghost use Rattle.eap_method.specs.Server.{server_kind, server_kinds};
+ghost use Rattle.eap_method.specs.Peer.{peer_kinds, have_each};
+ghost use Rattle.eap_method.specs.Server.{server_kinds};
 ghost use Rattle.end_objects.specs.Objects.{peer_object_shown, server_object_shown};
 
-use crate::objects::{PeerObject, ServerObject};
-use eap_base::PSK_KIND;
-use gpsk_ends::{GpskPeer, GpskServer};
-use psk_ends::{PskPeer, PskServer};
+use crate::objects::{PeerObject, ServerObject, peer_object, server_object};
+use crate::settings::ALL_KINDS;
 use std::alloc::{AllocError, Global};
-
-/// The peer's object of the method, 47 or 51.
-pub fn peer_object(kind: u8) -> PeerObject
-    requires { is_kind kind ≡ true }
-    ensures { peer_kind (peer_object_shown result) ≡ kind }
-{
-    if kind == PSK_KIND {
-        PeerObject::Psk(PskPeer::new())
-    } else {
-        PeerObject::Gpsk(GpskPeer::new())
-    }
-}
 
 /// The objects of a peer with these methods, one for each, in their order. An `Err` is want of memory.
 #[tactic(auto, using(crate::proofs::MadeObjects::each_of_its_own))]
@@ -53,18 +39,6 @@ fn add_peers(objects: &mut Vec<PeerObject>, kinds: &[u8]) -> Result<(), AllocErr
     }
 }
 
-/// The server's object of the method, 47 or 51.
-pub fn server_object(kind: u8) -> ServerObject
-    requires { is_kind kind ≡ true }
-    ensures { server_kind (server_object_shown result) ≡ kind }
-{
-    if kind == PSK_KIND {
-        ServerObject::Psk(PskServer::new())
-    } else {
-        ServerObject::Gpsk(GpskServer::new())
-    }
-}
-
 /// The objects of a server with these methods, one for each, in their order. An `Err` is want of memory.
 #[tactic(auto, using(crate::proofs::MadeObjects::each_of_its_own))]
 pub fn server_objects(alloc: Global, kinds: &[u8]) -> Result<Vec<ServerObject>, AllocError>
@@ -90,4 +64,24 @@ fn add_servers(objects: &mut Vec<ServerObject>, kinds: &[u8]) -> Result<(), Allo
             add_servers(objects, rest)
         }
     }
+}
+
+/// A peer's objects of all methods, and so one of each that its settings can name. An `Err` is want of memory.
+#[tactic(auto, using(crate::proofs::AllKinds::all_have))]
+pub fn all_peers(alloc: Global) -> Result<Vec<PeerObject>, AllocError>
+    ensures { IfOk result (λ objects. (kinds : List ℕ) → IsTrue (are_kinds kinds)
+        → have_each (peer_kinds (map peer_object_shown objects.items)) kinds ≡ true) }
+{
+    let objects = peer_objects(alloc, &ALL_KINDS)?;
+    Ok(objects)
+}
+
+/// A server's objects of all methods, and so one of each that its settings can name. An `Err` is want of memory.
+#[tactic(auto, using(crate::proofs::AllKinds::all_have))]
+pub fn all_servers(alloc: Global) -> Result<Vec<ServerObject>, AllocError>
+    ensures { IfOk result (λ objects. (kinds : List ℕ) → IsTrue (are_kinds kinds)
+        → have_each (server_kinds (map server_object_shown objects.items)) kinds ≡ true) }
+{
+    let objects = server_objects(alloc, &ALL_KINDS)?;
+    Ok(objects)
 }

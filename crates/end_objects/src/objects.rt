@@ -1,8 +1,12 @@
 //! An object of either method, for each side.
 
-ghost use Rattle.std.specs.Prelude.{◌≡◌};
+ghost use Rattle.std.specs.Prelude.{◌≡◌, true};
+ghost use Rattle.eap_base.specs.Among.{is_kind};
+ghost use Rattle.eap_method.specs.Peer.{peer_kind};
+ghost use Rattle.eap_method.specs.Server.{server_kind};
+ghost use Rattle.end_objects.specs.Objects.{peer_object_shown, server_object_shown};
 
-use eap_base::{Nonce, Octets, Packet};
+use eap_base::{Nonce, Octets, PSK_KIND, Packet};
 use eap_method::{
     Credential, PeerMethod, PeerTurn, Records, Report, ServerMethod, ServerSide, ServerTurn, Tags,
 };
@@ -19,7 +23,7 @@ pub struct Nonces {
 }
 
 impl Nonces {
-    ghost use Rattle.end_objects.specs.Nonces.{of_psk, of_gpsk};
+    ghost use Rattle.end_objects.specs.Objects.{of_psk, of_gpsk};
 
     fn of_psk(psk: psk_ends::Nonces) -> Nonces
         ensures { result ≡ of_psk psk }
@@ -47,30 +51,34 @@ pub enum PeerObject {
     Gpsk(GpskPeer),
 }
 
+/// The peer's object of the method, 47 or 51.
+pub fn peer_object(kind: u8) -> PeerObject
+    requires { is_kind kind ≡ true }
+    ensures { peer_kind (peer_object_shown result) ≡ kind }
+{
+    if kind == PSK_KIND {
+        PeerObject::Psk(PskPeer::new())
+    } else {
+        PeerObject::Gpsk(GpskPeer::new())
+    }
+}
+
 impl PeerObject {
-    ghost use Rattle.end_objects.specs.Objects.{peer_object_shown};
-    ghost use Rattle.end_objects.specs.Nonces.{peer_nonces};
-    ghost use Rattle.end_objects.specs.Failures.{peer_has_failed};
+    ghost use Rattle.end_objects.specs.Objects.{peer_object_shown, peer_nonces, peer_has_failed};
 
     /// The nonces of a login that has succeeded; None before and after any other.
-    #[tactic(auto, unfolding(crate::specs::Nonces::peer_nonces))]
+    #[tactic(auto, unfolding(crate::specs::Objects::peer_nonces))]
     pub fn nonces(&self) -> Option<Nonces>
         ensures { result ≡ peer_nonces (peer_object_shown self.now) }
     {
         match self {
-            PeerObject::Psk(peer) => match peer.nonces() {
-                None => None,
-                Some(nonces) => Some(Nonces::of_psk(nonces)),
-            },
-            PeerObject::Gpsk(peer) => match peer.nonces() {
-                None => None,
-                Some(nonces) => Some(Nonces::of_gpsk(nonces)),
-            },
+            PeerObject::Psk(peer) => peer.nonces().map(Nonces::of_psk),
+            PeerObject::Gpsk(peer) => peer.nonces().map(Nonces::of_gpsk),
         }
     }
 
     /// Whether the login has failed within the method: the server has refused the peer.
-    #[tactic(auto, unfolding(crate::specs::Failures::peer_has_failed))]
+    #[tactic(auto, unfolding(crate::specs::Objects::peer_has_failed))]
     pub fn has_failed(&self) -> bool
         ensures { result ≡ peer_has_failed (peer_object_shown self.now) }
     {
@@ -127,30 +135,34 @@ pub enum ServerObject {
     Gpsk(GpskServer),
 }
 
+/// The server's object of the method, 47 or 51.
+pub fn server_object(kind: u8) -> ServerObject
+    requires { is_kind kind ≡ true }
+    ensures { server_kind (server_object_shown result) ≡ kind }
+{
+    if kind == PSK_KIND {
+        ServerObject::Psk(PskServer::new())
+    } else {
+        ServerObject::Gpsk(GpskServer::new())
+    }
+}
+
 impl ServerObject {
-    ghost use Rattle.end_objects.specs.Objects.{server_object_shown};
-    ghost use Rattle.end_objects.specs.Nonces.{server_nonces};
-    ghost use Rattle.end_objects.specs.Failures.{is_unknown, server_has_failed};
+    ghost use Rattle.end_objects.specs.Objects.{server_object_shown, server_nonces, is_unknown, server_has_failed};
 
     /// The nonces of a login that has succeeded; None before and after any other.
-    #[tactic(auto, unfolding(crate::specs::Nonces::server_nonces))]
+    #[tactic(auto, unfolding(crate::specs::Objects::server_nonces))]
     pub fn nonces(&self) -> Option<Nonces>
         ensures { result ≡ server_nonces (server_object_shown self.now) }
     {
         match self {
-            ServerObject::Psk(server) => match server.nonces() {
-                None => None,
-                Some(nonces) => Some(Nonces::of_psk(nonces)),
-            },
-            ServerObject::Gpsk(server) => match server.nonces() {
-                None => None,
-                Some(nonces) => Some(Nonces::of_gpsk(nonces)),
-            },
+            ServerObject::Psk(server) => server.nonces().map(Nonces::of_psk),
+            ServerObject::Gpsk(server) => server.nonces().map(Nonces::of_gpsk),
         }
     }
 
     /// Whether the server has refused a user that it doesn't know.
-    #[tactic(auto, unfolding(crate::specs::Failures::is_unknown))]
+    #[tactic(auto, unfolding(crate::specs::Objects::is_unknown))]
     pub fn is_unknown(&self) -> bool
         ensures { result ≡ is_unknown (server_object_shown self.now) }
     {
@@ -161,7 +173,7 @@ impl ServerObject {
     }
 
     /// Whether the login of a user that the server knows has failed within the method.
-    #[tactic(auto, unfolding(crate::specs::Failures::server_has_failed))]
+    #[tactic(auto, unfolding(crate::specs::Objects::server_has_failed))]
     pub fn has_failed(&self) -> bool
         ensures { result ≡ server_has_failed (server_object_shown self.now) }
     {

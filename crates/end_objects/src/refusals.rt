@@ -5,7 +5,7 @@ ghost use Rattle.std.specs.List.{list_all};
 ghost use Rattle.login_setup.specs.Setup.{are_kinds, fits_kind};
 ghost use Rattle.eap_method.specs.Peer.{have_each};
 ghost use Rattle.end_objects.specs.Settings.{settings_of, kinds_of, key_for};
-ghost use Rattle.end_objects.specs.Refusals.{has_other_size, has_gap, has_bad_methods, has_bad_suites, is_name, has_keys, has_key_of_user, peer_refusal, server_refusal, retry_refusal, stand_alone_refusal, user_refusal, IsSoundOther};
+ghost use Rattle.end_objects.specs.Refusals.{has_other_size, has_gap, has_bad_methods, has_bad_suites, is_name, has_keys, has_key_of_user, end_refusal, peer_refusal, server_refusal, retry_refusal, stand_alone_refusal, user_refusal, IsSoundOther};
 
 use crate::settings::{
     SETTINGS_SIZE, Settings, key_for, keyed_kinds, kinds_of, named_kinds, suites_of,
@@ -107,15 +107,14 @@ fn has_key_of_user(settings: &Settings) -> bool
     settings.other.is_empty() == keyed_kinds(settings).is_empty()
 }
 
-/// The first reason, in the order of [`Refusal`], for which a peer refuses these settings.
-#[tactic(auto, using(crate::proofs::Taken::peer_kinds), unfolding(crate::specs::Refusals::peer_refusal))]
-pub fn peer_refusal(settings: &Settings) -> Option<Refusal>
-    ensures refused { result ≡ peer_refusal (settings_of settings.now) }
-    ensures kinds { result ≡ None → IsTrue (are_kinds (kinds_of (settings_of settings.now))) }
+/// The first reason, in the order of [`Refusal`], for which an end refuses these settings, the methods or keys of which may
+/// be bad for it.
+fn end_refusal(settings: &Settings, bad_methods: bool, bad_keys: bool) -> Option<Refusal>
+    ensures { result ≡ end_refusal (settings_of settings.now) bad_methods bad_keys }
 {
     if has_other_size(settings) {
         Some(Refusal::OtherSize)
-    } else if has_bad_methods(settings) || named_kinds(settings).is_empty() {
+    } else if bad_methods {
         Some(Refusal::NoMethod)
     } else if has_bad_suites(settings) {
         Some(Refusal::NoSuite)
@@ -123,11 +122,22 @@ pub fn peer_refusal(settings: &Settings) -> Option<Refusal>
         Some(Refusal::BadName)
     } else if settings.other.len() > MAX_NAME {
         Some(Refusal::BadOther)
-    } else if !has_keys(kinds_of(settings).as_slice(), settings) {
+    } else if bad_keys {
         Some(Refusal::BadKey)
     } else {
         None
     }
+}
+
+/// The first reason, in the order of [`Refusal`], for which a peer refuses these settings.
+#[tactic(auto, using(crate::proofs::Taken::peer_kinds), unfolding(crate::specs::Refusals::peer_refusal))]
+pub fn peer_refusal(settings: &Settings) -> Option<Refusal>
+    ensures refused { result ≡ peer_refusal (settings_of settings.now) }
+    ensures kinds { result ≡ None → IsTrue (are_kinds (kinds_of (settings_of settings.now))) }
+{
+    let bad_methods = has_bad_methods(settings) || named_kinds(settings).is_empty();
+    let bad_keys = !has_keys(kinds_of(settings).as_slice(), settings);
+    end_refusal(settings, bad_methods, bad_keys)
 }
 
 /// The first reason, in the order of [`Refusal`], for which a server refuses these settings. It needs no user, and no
@@ -138,21 +148,8 @@ pub fn server_refusal(settings: &Settings) -> Option<Refusal>
     ensures kinds { result ≡ None → IsTrue (are_kinds (kinds_of (settings_of settings.now))) }
     ensures other { result ≡ None → IsSoundOther (settings_of settings.now) }
 {
-    if has_other_size(settings) {
-        Some(Refusal::OtherSize)
-    } else if has_bad_methods(settings) {
-        Some(Refusal::NoMethod)
-    } else if has_bad_suites(settings) {
-        Some(Refusal::NoSuite)
-    } else if !is_name(settings.name) {
-        Some(Refusal::BadName)
-    } else if settings.other.len() > MAX_NAME {
-        Some(Refusal::BadOther)
-    } else if !has_keys(&[], settings) || !has_key_of_user(settings) {
-        Some(Refusal::BadKey)
-    } else {
-        None
-    }
+    let bad_keys = !(has_keys(&[], settings) && has_key_of_user(settings));
+    end_refusal(settings, has_bad_methods(settings), bad_keys)
 }
 
 /// Why MaxRetrans of RFC 4137 is refused: it is over 10.

@@ -1,6 +1,6 @@
 //! The settings of an end, as a program gives them: octets and numbers.
 
-ghost use Rattle.std.specs.Prelude.{◌≡◌, ◌≤◌, [], length, map, true, None, All, IsTrue};
+ghost use Rattle.std.specs.Prelude.{◌≡◌, ◌≤◌, ℕ, [], length, map, true, None, All, IsTrue};
 ghost use Rattle.eap_base.specs.Among.{is_among, is_kind};
 ghost use Rattle.eap_base.specs.Sizes.{max_name};
 ghost use Rattle.login_setup.specs.Setup.{are_kinds, fits_kind, IsSoundPeer, HasKeys, IsSoundServer};
@@ -13,6 +13,9 @@ use login_setup::{Accepts, Key, Keys, PeerSetup, ServerSetup, User, Users};
 
 /// The octets of [`Settings`] on 64 bits.
 pub const SETTINGS_SIZE: usize = 80;
+
+/// The methods that there are: those of an end whose settings name none and have no key.
+pub(crate) const ALL_KINDS: [u8; 2] = [GPSK_KIND, PSK_KIND];
 
 /// The configuration of an end: its own name, and of the other end the name and the keys that both share. A field
 /// that is 0, or has no octets, has its default. Nothing is read from a slice without octets.
@@ -95,7 +98,7 @@ pub(crate) fn named_kinds(settings: &Settings) -> Kinds
 pub fn kinds_of(settings: &Settings) -> Kinds
     ensures { result ≡ kinds_of (settings_of settings.now) }
 {
-    or_else(named_kinds(settings), &[GPSK_KIND, PSK_KIND])
+    or_else(named_kinds(settings), &ALL_KINDS)
 }
 
 /// The method of an end that has one alone: the first.
@@ -130,8 +133,7 @@ pub fn key_for<'a>(settings: &Settings<'a>, kind: u8) -> &'a [u8]
 
 /// The keys that there are, that for EAP-GPSK first.
 fn keys_of(settings: &Settings) -> Keys
-    requires psk { length settings.now.psk_key.now ≤ 64 }
-    requires gpsk { length settings.now.gpsk_key.now ≤ 64 }
+    requires { (kind : ℕ) → length (key_for (settings_of settings.now) kind) ≤ 64 }
     ensures { result ≡ map (key_with (settings_of settings.now)) (keyed_kinds (settings_of settings.now)) }
 {
     let kinds = keyed_kinds(settings);
@@ -171,8 +173,7 @@ pub fn peer_setup(settings: &Settings, nonce: &Nonce) -> PeerSetup
 fn peer_setup_from(settings: &Settings, nonce: &Nonce) -> PeerSetup
     requires name { length settings.now.name.now ≤ max_name }
     requires other { length settings.now.other.now ≤ max_name }
-    requires psk { length settings.now.psk_key.now ≤ 64 }
-    requires gpsk { length settings.now.gpsk_key.now ≤ 64 }
+    requires keys { (kind : ℕ) → length (key_for (settings_of settings.now) kind) ≤ 64 }
     ensures { result ≡ peer_setup_of (settings_of settings.now) nonce.now }
 {
     PeerSetup {

@@ -15,7 +15,7 @@ use Rattle.server_machine.specs.ServerTable.{ServerValue, server_reports, curren
 use Rattle.server_machine.specs.ServerTable as server
 use Rattle.pass_through.specs.PassTable as pass
 use Rattle.pass_through.specs.declared.variables.PassVariables.{PassVariables}
-use Rattle.end_objects.specs.Nonces.{peer_nonces, server_nonces}
+use Rattle.end_objects.specs.Objects.{peer_nonces, server_nonces}
 use Rattle.end_objects.specs.Objects.{peer_object_shown, server_object_shown}
 use Rattle.end_objects.specs.declared.objects.Nonces.{Nonces}
 use Rattle.end_objects.specs.declared.objects.PeerObject.{PeerObject}

@@ -9,7 +9,7 @@ use Rattle.gpsk_messages.specs.Message.{Message, fail, protected_fail}
 use Rattle.gpsk_messages.specs.Reading.{read_of}
 use Rattle.eap_method.specs.Peer.{PeerShown}
 use Rattle.eap_method.specs.Server.{ServerShown, server_kind}
-use Rattle.end_objects.specs.Failures.{peer_has_failed, is_unknown, server_has_failed}
+use Rattle.end_objects.specs.Objects.{peer_has_failed, is_unknown, server_has_failed}
 use Rattle.end_objects.specs.Objects.{peer_object_shown, server_object_shown}
 use Rattle.tuvaddri_c.specs.declared.failure.TuvFailure.{TuvFailure}
 use Rattle.tuvaddri_c.specs.declared.session.End.{End}

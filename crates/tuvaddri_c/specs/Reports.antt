@@ -6,7 +6,7 @@ use Rattle.eap_base.specs.declared.suite.Suite.{Suite}
 use Rattle.eap_method.specs.Peer.{PeerShown, peer_report}
 use Rattle.eap_method.specs.Server.{ServerShown, server_report}
 use Rattle.eap_method.specs.declared.values.Report.{Report}
-use Rattle.end_objects.specs.Nonces.{peer_nonces, server_nonces}
+use Rattle.end_objects.specs.Objects.{peer_nonces, server_nonces}
 use Rattle.end_objects.specs.declared.objects.Nonces.{Nonces}
 use Rattle.login_keys.specs.Gpsk.{gkdf, input_string}
 use Rattle.tuvaddri_c.specs.Ends.{end_reports, end_nonces, end_key}
