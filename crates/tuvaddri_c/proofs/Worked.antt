@@ -7,9 +7,11 @@ use Rattle.psk_messages.specs.Reading.{read_of}
 use Rattle.gpsk_messages.specs.Reading as gpsk
 use Rattle.login_keys.specs.Gpsk.{gkdf}
 use Rattle.eap_method.specs.declared.values.Report.{Report}
+use Rattle.tuvaddri_c.specs.ByMethod.{held_id}
+use Rattle.tuvaddri_c.specs.Gpsk.{zeros, front_of}
 use Rattle.tuvaddri_c.specs.PeerName.{response_name}
 use Rattle.tuvaddri_c.specs.Failures.{sent_code}
-use Rattle.tuvaddri_c.specs.Reports.{Held, held_id, zeros, front_of}
+use Rattle.tuvaddri_c.specs.Reports.{Held}
 
 -- ID_P of a PSK-2 with padding behind it, and none in a PSK-1 that claims to be a Response
 psk2 : List ℕ

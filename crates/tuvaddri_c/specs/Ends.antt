@@ -1,10 +1,5 @@
 -- Which end a session is, which calls it takes, and what it has.
-use Rattle.std.specs.Prelude.{ℕ, List, Bool, true, false, ◌&&◌, not, ⊤, Option, None, Some, option_map, map}
-use Rattle.eap_base.specs.Among.{gpsk_kind}
-use Rattle.login_setup.specs.Keys.{key_of}
-use Rattle.login_setup.specs.Users.{user_of}
-use Rattle.login_setup.specs.declared.keys.Key.{Key}
-use Rattle.login_setup.specs.declared.users.User.{User}
+use Rattle.std.specs.Prelude.{Bool, true, false, ◌&&◌, not, ⊤, Option, None, Some, map}
 use Rattle.eap_method.specs.declared.values.Report.{Report}
 use Rattle.eap_method.specs.Peer.{PeerShown, peer_report, peer_kinds, have_each}
 use Rattle.eap_method.specs.Server.{ServerShown, server_report, server_kinds}
@@ -15,8 +10,7 @@ use Rattle.server_machine.specs.ServerTable.{ServerValue, server_reports, curren
 use Rattle.server_machine.specs.ServerTable as server
 use Rattle.pass_through.specs.PassTable as pass
 use Rattle.pass_through.specs.declared.variables.PassVariables.{PassVariables}
-use Rattle.end_objects.specs.Objects.{peer_nonces, server_nonces}
-use Rattle.end_objects.specs.Objects.{peer_object_shown, server_object_shown}
+use Rattle.end_objects.specs.Objects.{peer_object_shown, server_object_shown, peer_nonces, server_nonces}
 use Rattle.end_objects.specs.declared.objects.Nonces.{Nonces}
 use Rattle.end_objects.specs.declared.objects.PeerObject.{PeerObject}
 use Rattle.end_objects.specs.declared.objects.ServerObject.{ServerObject}
@@ -130,19 +124,3 @@ end_nonces (ends.Peer m) = nonces_of_peer (selected_shown_of m)
 end_nonces (ends.Server m) = nonces_of_server (current_shown_of m)
 end_nonces (ends.Backend m) = nonces_of_server (current_shown_of m)
 end_nonces (ends.Pass m) = None
-
--- its shared key for EAP-GPSK: a peer's own; a server's, that of its user with the peer's name
-abbrev pub key_in : List User → List ℕ → Option (List ℕ)
-key_in users name = option_map (λ user. user.psk) (user_of users name gpsk_kind)
-
-abbrev pub own_key : List Key → Option (List ℕ)
-own_key keys = option_map (λ key. key.psk) (key_of keys gpsk_kind)
-
-abbrev pub end_key : End → List ℕ → Option (List ℕ)
-end_key ends.Closed name = None
-end_key (ends.PeerMethod object key) name = Some key
-end_key (ends.ServerMethod object known) name = key_in known.users name
-end_key (ends.Peer m) name = own_key m.vars.setup.keys
-end_key (ends.Server m) name = key_in m.vars.setup.users name
-end_key (ends.Backend m) name = key_in m.vars.setup.users name
-end_key (ends.Pass m) name = None

@@ -1,19 +1,16 @@
 -- Why a login has failed, as far as its end can know.
-use Rattle.std.specs.Prelude.{ℕ, List, ◌==◌, nat_le, if◌then◌else◌, Option, Some, None, Result, Ok}
-use Rattle.eap_base.specs.Among.{psk_kind, gpsk_kind}
+use Rattle.std.specs.Prelude.{ℕ, List, if◌then◌else◌, Option, Some, None, Result, Ok}
 use Rattle.eap_packet.specs.declared.cause.Cause.{Cause}
 use Rattle.eap_packet.specs.declared.state.State.{State}
 use Rattle.eap_packet.specs.declared.state.State.TheVariants as state
 use Rattle.eap_packet.specs.Packet.{PacketValue, response}
-use Rattle.gpsk_messages.specs.Message.{Message, fail, protected_fail}
-use Rattle.gpsk_messages.specs.Reading.{read_of}
 use Rattle.eap_method.specs.Peer.{PeerShown}
 use Rattle.eap_method.specs.Server.{ServerShown, server_kind}
-use Rattle.end_objects.specs.Objects.{peer_has_failed, is_unknown, server_has_failed}
-use Rattle.end_objects.specs.Objects.{peer_object_shown, server_object_shown}
+use Rattle.end_objects.specs.Objects.{peer_object_shown, server_object_shown, peer_has_failed, is_unknown, server_has_failed}
 use Rattle.tuvaddri_c.specs.declared.failure.TuvFailure.{TuvFailure}
 use Rattle.tuvaddri_c.specs.declared.session.End.{End}
 use Rattle.tuvaddri_c.specs.declared.session.End.TheVariants as ends
+use Rattle.tuvaddri_c.specs.ByMethod.{repeated_by, code_by}
 use Rattle.tuvaddri_c.specs.Ends.{selected_shown_of, current_shown_of}
 use Rattle.tuvaddri_c.specs.PeerName.{plain_packet_of}
 
@@ -44,18 +41,9 @@ timed_out = failing 5 0
 abbrev pub other_end : TuvFailure
 other_end = failing 6 0
 
--- a Failure-Code of the standard; 0 for any other
-abbrev pub known_code : ℕ → ℕ
-known_code code = if nat_le code 3 then code else 0
-
--- the Failure-Code that a peer's message repeats
-abbrev pub repeated_code : Result Message Cause → ℕ
-repeated_code (Ok (fail code)) = known_code code
-repeated_code (Ok (protected_fail code mac)) = known_code code
-repeated_code read = 0
-
+-- the Failure-Code in a packet of a peer
 abbrev pub code_in : Result PacketValue Cause → ℕ
-code_in (Ok (response id kind body)) = if kind == gpsk_kind then repeated_code (read_of None body) else 0
+code_in (Ok (response id kind body)) = repeated_by kind body
 code_in packet = 0
 
 -- the Failure-Code in the packet that a peer has sent last
@@ -75,15 +63,11 @@ with_method (Some shown) = other_end
 abbrev pub peer_ended : State → Option PeerShown → TuvFailure
 peer_ended s selected = elim s [ state.Failure ↦ with_method selected | _ ↦ not_failed ]
 
--- the Failure-Codes that a server sends by EAP-GPSK, PSK Not Found and Authorization Failure; none by EAP-PSK
-abbrev pub code_of : ServerShown → ℕ → ℕ
-code_of shown code = if server_kind shown == psk_kind then 0 else code
-
--- a server: its user is unknown, or barred; else this
+-- a server: its user is unknown (PSK Not Found), or barred (Authorization Failure); else this
 abbrev pub shown_failure : ServerShown → TuvFailure → TuvFailure
 shown_failure shown other =
-    if is_unknown shown then unknown_user (code_of shown 1)
-    else if server_has_failed shown then barred_user (code_of shown 3)
+    if is_unknown shown then unknown_user (code_by (server_kind shown) 1)
+    else if server_has_failed shown then barred_user (code_by (server_kind shown) 3)
     else other
 
 abbrev pub server_failure : Option ServerShown → TuvFailure → TuvFailure

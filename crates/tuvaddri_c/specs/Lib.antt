@@ -1,21 +1,29 @@
 -- What a call that begins an end answers, as a number.
 pub mod Answers
+-- What each method has its own of.
+pub mod ByMethod
 -- Which end a session is, which calls it takes, and what it has.
 pub mod Ends
 -- Why a login has failed.
 pub mod Failures
+-- What is of EAP-GPSK alone.
+pub mod Gpsk
 -- The session that a handle lends to a call.
 pub mod Lending
 -- The methods alone.
 pub mod Methods
 -- The peer's name in a Response.
 pub mod PeerName
--- What is reported of a method that succeeded, and the Session-Id of its login.
+-- What is of EAP-PSK alone.
+pub mod Psk
+-- What is reported of a method that succeeded.
 pub mod Reports
 -- What a call writes into a buffer of the program's.
 pub mod Rooms
 -- What an end has sent.
 pub mod Sent
+-- The Session-Id of a login.
+pub mod SessionId
 -- The result of a call, as numbers.
 pub mod Turns
 -- A server's one user, given while it runs.

@@ -3,23 +3,14 @@ use Rattle.std.specs.Prelude.{◌≡◌, ℕ, List, Bool, true, false, ⊤, ◌=
 use Rattle.eap_packet.specs.Packet.{PacketValue, request, response, success, failure, spelled}
 use Rattle.eap_packet.specs.declared.cause.Cause.{Cause}
 use Rattle.eap_packet.specs.declared.cause.Cause.TheVariants as cause
-use Rattle.eap_base.specs.Among.{psk_kind}
-use Rattle.eap_method.specs.declared.values.Credential.{Credential}
-use Rattle.eap_method.specs.declared.values.ServerSide.{ServerSide}
 use Rattle.eap_method.specs.declared.values.MethodState.{MethodState}
 use Rattle.eap_method.specs.declared.values.MethodState.TheVariants as method
 use Rattle.eap_method.specs.declared.values.Decision.{Decision}
 use Rattle.eap_method.specs.declared.values.Decision.TheVariants as decision
 use Rattle.eap_method.specs.Peer.{PeerShown}
-use Rattle.eap_method.specs.Peer as peer
-use Rattle.eap_method.specs.PskPeer as psk_peer
-use Rattle.eap_method.specs.GpskPeer as gpsk_peer
 use Rattle.eap_method.specs.PeerTurn.{PeerTurn}
 use Rattle.eap_method.specs.PeerTurn as peer_turn
 use Rattle.eap_method.specs.Server.{ServerShown}
-use Rattle.eap_method.specs.Server as server
-use Rattle.eap_method.specs.PskServer as psk_server
-use Rattle.eap_method.specs.GpskServer as gpsk_server
 use Rattle.eap_method.specs.ServerTurn.{ServerTurn}
 use Rattle.eap_method.specs.ServerTurn as server_turn
 use Rattle.eap_method.specs.Turns.{PeerOutcome, ServerOutcome}
@@ -160,11 +151,3 @@ is_peer_method e = elim e [ ends.PeerMethod o key ↦ true | _ ↦ false ]
 
 abbrev pub is_server_method : End → Bool
 is_server_method e = elim e [ ends.ServerMethod o users ↦ true | _ ↦ false ]
-
--- a peer's method that has just begun
-abbrev pub peer_fresh : ℕ → Credential → List ℕ → PeerShown
-peer_fresh kind cred nonce = if kind == psk_kind then peer.psk (psk_peer.fresh cred nonce) else peer.gpsk (gpsk_peer.fresh cred nonce)
-
--- a server's method that has just begun
-abbrev pub server_fresh : ℕ → ServerSide → List ℕ → ServerShown
-server_fresh kind own nonce = if kind == psk_kind then server.psk (psk_server.begun own nonce) else server.gpsk (gpsk_server.begun own nonce)

@@ -18,7 +18,7 @@ use eap_method::{NoRecords, Tags};
 
 /// Octets arrive at a peer, a stand-alone server that has started, or a backend.
 #[unsafe(no_mangle)]
-#[tactic(auto, using(crate::proofs::Does::peer_does, crate::proofs::Does::server_does, crate::proofs::StillThere::peer_still_has, crate::proofs::StillThere::server_still_has))]
+#[tactic(auto, using(crate::proofs::Does::peer_does, crate::proofs::Does::server_does, crate::proofs::Kept::peer_kept, crate::proofs::Kept::server_kept))]
 pub extern "C" fn tuv_end_deliver(end: &mut TuvEnd, octets: &[u8]) -> TuvTurn
     ensures peer { IfPeer end.old.value.end (λ m. AsPeer end.new.value.end (λ n.
         PeerDoes (peer_hears (peer.now_of peer_object_shown m) octets.now) end.old.value.sent result end.new.value.sent n)) }

@@ -1,18 +1,17 @@
 //! Why a login has failed, as far as its end can know.
 
-ghost use Rattle.std.specs.Prelude.{◌≡◌, option_map, None};
+ghost use Rattle.std.specs.Prelude.{◌≡◌, option_map};
 ghost use Rattle.eap_packet.specs.Fault.{packet_of};
-ghost use Rattle.gpsk_messages.specs.Reading.{read_of};
 ghost use Rattle.end_objects.specs.Objects.{peer_object_shown, server_object_shown};
-ghost use Rattle.tuvaddri_c.specs.Failures.{failing, known_code, repeated_code, code_in, sent_code, peer_failure, peer_ended, shown_failure, server_failure, server_ended, pass_ended, end_failure};
+ghost use Rattle.tuvaddri_c.specs.Failures.{failing, code_in, sent_code, peer_failure, peer_ended, shown_failure, server_failure, server_ended, pass_ended, end_failure};
 
+use crate::by_method::{code_by, repeated_by};
 use crate::handle::TuvEnd;
 use crate::session::End;
-use eap_base::{GPSK_KIND, PSK_KIND, Packet};
+use eap_base::Packet;
 use eap_method::ServerMethod;
 use eap_packet::{Code, State, decode, write_plain};
 use end_objects::{PeerObject, ServerObject};
-use gpsk_messages::{GpskView, read_gpsk};
 
 /// Why a login has failed.
 #[repr(C)]
@@ -33,28 +32,6 @@ fn failing(reason: u8, code: u8) -> TuvFailure
     TuvFailure { reason, code }
 }
 
-/// A Failure-Code of the standard, 1 to 3; 0 for any other.
-fn known_code(code: u32) -> u8
-    ensures { result ≡ known_code code }
-{
-    if code <= 3 { code as u8 } else { 0 }
-}
-
-/// The Failure-Code of GPSK-Fail or GPSK-Protected-Fail; 0 of any other Type-Data.
-fn repeated_code(body: &[u8]) -> u8
-    ensures { result ≡ repeated_code (read_of None body.now) }
-{
-    match read_gpsk(body, None) {
-        Ok(GpskView::M1 { .. }) => 0,
-        Ok(GpskView::M2 { .. }) => 0,
-        Ok(GpskView::M3 { .. }) => 0,
-        Ok(GpskView::M4 { .. }) => 0,
-        Ok(GpskView::Fail { code }) => known_code(code),
-        Ok(GpskView::ProtectedFail { code, .. }) => known_code(code),
-        Err(_) => 0,
-    }
-}
-
 /// The Failure-Code in the Response that the octets begin with.
 fn code_in(octets: &[u8]) -> u8
     ensures { result ≡ code_in (packet_of octets.now) }
@@ -62,13 +39,7 @@ fn code_in(octets: &[u8]) -> u8
     match decode(octets) {
         Err(_) => 0,
         Ok(view) => match view.code {
-            Code::Response => {
-                if view.kind == GPSK_KIND {
-                    repeated_code(view.body)
-                } else {
-                    0
-                }
-            }
+            Code::Response => repeated_by(view.kind, view.body),
             Code::Request | Code::Success | Code::Failure => 0,
         },
     }
@@ -133,11 +104,10 @@ fn peer_ended(state: State, object: Option<&PeerObject>) -> TuvFailure
 fn shown_failure(object: &ServerObject, other: TuvFailure) -> TuvFailure
     ensures { result ≡ shown_failure (server_object_shown object.now) other }
 {
-    let sends_codes = object.kind() != PSK_KIND;
     if object.is_unknown() {
-        failing(1, if sends_codes { 1 } else { 0 })
+        failing(1, code_by(object.kind(), 1))
     } else if object.has_failed() {
-        failing(2, if sends_codes { 3 } else { 0 })
+        failing(2, code_by(object.kind(), 3))
     } else {
         other
     }

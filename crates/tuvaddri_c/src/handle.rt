@@ -5,6 +5,7 @@ ghost use Rattle.tuvaddri_c.specs.declared.session.Session.{Session};
 ghost use Rattle.tuvaddri_c.specs.Rooms.{IsCopied};
 ghost use Rattle.tuvaddri_c.specs.Sent.{no_end, turn_packet};
 
+use crate::rooms::copy;
 use crate::session::{End, Sent, Session};
 use std::alloc::Global;
 use std::marker::Model;
@@ -110,14 +111,4 @@ pub extern "C" fn tuv_end_again(end: &mut TuvEnd, room: &mut [u8]) -> usize
     ensures packet { IsCopied end.old.value.sent.packet room.old result room.new }
 {
     copy(end.session().sent.packet.as_slice(), room)
-}
-
-/// Copies octets to the start of a buffer if they fit, and answers their number.
-fn copy(octets: &[u8], room: &mut [u8]) -> usize
-    ensures { IsCopied octets.now room.old result room.new }
-{
-    if octets.len() <= room.len() {
-        room[..octets.len()].copy_from_slice(octets);
-    }
-    octets.len()
 }

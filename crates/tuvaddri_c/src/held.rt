@@ -2,13 +2,11 @@
 
 ghost use Rattle.std.specs.Prelude.{◌≡◌, option_map};
 ghost use Rattle.end_objects.specs.Objects.{peer_object_shown, server_object_shown};
-ghost use Rattle.tuvaddri_c.specs.Ends.{nonces_of_peer, nonces_of_server, end_reports, end_nonces, key_in, own_key, end_key};
+ghost use Rattle.tuvaddri_c.specs.Ends.{nonces_of_peer, nonces_of_server, end_reports, end_nonces};
 
 use crate::session::End;
-use eap_base::{GPSK_KIND, Secret};
 use eap_method::{PeerMethod, Report, ServerMethod};
 use end_objects::{Nonces, PeerObject, ServerObject};
-use login_setup::{Keys, Users};
 
 /// The report.
 pub fn report_of(end: &End) -> Option<Report>
@@ -56,35 +54,6 @@ pub fn nonces_of(end: &End) -> Option<Nonces>
         End::Peer(machine) => nonces_of_peer(machine.selected()),
         End::Server(machine) => nonces_of_server(machine.current()),
         End::Backend(machine) => nonces_of_server(machine.current()),
-        End::Pass(_) => None,
-    }
-}
-
-/// The key for EAP-GPSK of the user of this name.
-fn key_in(users: &Users, name: &[u8]) -> Option<Secret>
-    ensures { result ≡ key_in users.now name.now }
-{
-    users.find(name, GPSK_KIND).map(|user| user.psk.copy())
-}
-
-/// The peer's own key for EAP-GPSK.
-fn own_key(keys: &Keys) -> Option<Secret>
-    ensures { result ≡ own_key keys.now }
-{
-    keys.find(GPSK_KIND).map(|key| key.psk.copy())
-}
-
-/// The shared key for EAP-GPSK, a server's for the peer of this name.
-pub fn key_of(end: &End, name: &[u8]) -> Option<Secret>
-    ensures { result ≡ end_key end.now name.now }
-{
-    match end {
-        End::Closed => None,
-        End::PeerMethod(_, key) => Some(key.copy()),
-        End::ServerMethod(_, known) => key_in(&known.users, name),
-        End::Peer(machine) => own_key(&machine.setup().keys),
-        End::Server(machine) => key_in(&machine.setup().users, name),
-        End::Backend(machine) => key_in(&machine.setup().users, name),
         End::Pass(_) => None,
     }
 }

@@ -3,8 +3,10 @@
 #![tactic(auto)]
 
 mod answers;
+mod by_method;
 mod deliver;
 mod failure;
+mod gpsk;
 mod handle;
 mod held;
 mod method_turn;
@@ -12,8 +14,10 @@ mod methods;
 mod name;
 mod pass;
 mod peer;
+mod psk;
 mod report;
 mod restart;
+mod rooms;
 mod server;
 mod session;
 mod session_id;

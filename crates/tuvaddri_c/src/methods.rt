@@ -9,9 +9,10 @@ ghost use Rattle.end_objects.specs.Objects.{peer_object_shown, server_object_sho
 ghost use Rattle.end_objects.specs.Refusals.{peer_refusal, server_refusal};
 ghost use Rattle.end_objects.specs.Settings.{settings_of, first_kind, users_of, credential_of, side_of};
 ghost use Rattle.tuvaddri_c.specs.Answers.{begun, refusal_number};
+ghost use Rattle.tuvaddri_c.specs.ByMethod.{peer_fresh, server_fresh};
 ghost use Rattle.tuvaddri_c.specs.Sent.{none_sent};
 ghost use Rattle.tuvaddri_c.specs.declared.session.End.TheVariants as ends;
-ghost use Rattle.tuvaddri_c.specs.Methods.{IfPeerMethod, AsPeerMethod, IfServerMethod, AsServerMethod, PeerTurns, ServerTurns, request_in, response_in, peer_fresh, server_fresh, is_peer_method, is_server_method, IsMisplaced, IsDiscarded};
+ghost use Rattle.tuvaddri_c.specs.Methods.{IfPeerMethod, AsPeerMethod, IfServerMethod, AsServerMethod, PeerTurns, ServerTurns, request_in, response_in, is_peer_method, is_server_method, IsMisplaced, IsDiscarded};
 
 use crate::answers::{BEGUN, number_of_refusal};
 use crate::handle::TuvEnd;

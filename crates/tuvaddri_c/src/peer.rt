@@ -32,7 +32,7 @@ fn hold(end: &mut End, machine: PeerMachine<PeerObject>)
 /// Makes the end a peer with these settings, and answers 0. Else it answers the number of the refusal, or 8 for want
 /// of memory, and the end stays as it was.
 #[unsafe(no_mangle)]
-#[tactic(auto, using(crate::proofs::StillThere::peer_made_with), unfolding(end_objects::specs::Settings::peer_setup_of))]
+#[tactic(auto, using(crate::proofs::Kept::peer_made_with), unfolding(end_objects::specs::Settings::peer_setup_of))]
 pub extern "C" fn tuv_peer_begin(
     alloc: Global,
     end: &mut TuvEnd,
@@ -67,7 +67,7 @@ pub extern "C" fn tuv_peer_begin(
 
 /// The lower layer is idle: to a peer that has not ended.
 #[unsafe(no_mangle)]
-#[tactic(auto, using(crate::proofs::Does::peer_does, crate::proofs::StillThere::peer_still_has))]
+#[tactic(auto, using(crate::proofs::Does::peer_does, crate::proofs::Kept::peer_kept))]
 pub extern "C" fn tuv_peer_idle(end: &mut TuvEnd) -> TuvTurn
     ensures peer { IfPeer end.old.value.end (λ m. is_end m.vars.state ≡ false → AsPeer end.new.value.end (λ n.
         PeerDoes (peer_idle (peer.now_of peer_object_shown m)) end.old.value.sent result end.new.value.sent n)) }
@@ -86,7 +86,7 @@ pub extern "C" fn tuv_peer_idle(end: &mut TuvEnd) -> TuvTurn
 
 /// The lower layer reports success: to a peer that has not ended.
 #[unsafe(no_mangle)]
-#[tactic(auto, using(crate::proofs::Does::peer_does, crate::proofs::StillThere::peer_still_has))]
+#[tactic(auto, using(crate::proofs::Does::peer_does, crate::proofs::Kept::peer_kept))]
 pub extern "C" fn tuv_peer_alt_accept(end: &mut TuvEnd) -> TuvTurn
     ensures peer { IfPeer end.old.value.end (λ m. is_end m.vars.state ≡ false → AsPeer end.new.value.end (λ n.
         PeerDoes (peer_alt_accept (peer.now_of peer_object_shown m)) end.old.value.sent result end.new.value.sent n)) }
@@ -105,7 +105,7 @@ pub extern "C" fn tuv_peer_alt_accept(end: &mut TuvEnd) -> TuvTurn
 
 /// The lower layer reports failure: to a peer that has not ended.
 #[unsafe(no_mangle)]
-#[tactic(auto, using(crate::proofs::Does::peer_does, crate::proofs::StillThere::peer_still_has))]
+#[tactic(auto, using(crate::proofs::Does::peer_does, crate::proofs::Kept::peer_kept))]
 pub extern "C" fn tuv_peer_alt_reject(end: &mut TuvEnd) -> TuvTurn
     ensures peer { IfPeer end.old.value.end (λ m. is_end m.vars.state ≡ false → AsPeer end.new.value.end (λ n.
         PeerDoes (peer_alt_reject (peer.now_of peer_object_shown m)) end.old.value.sent result end.new.value.sent n)) }

@@ -1,11 +1,11 @@
 //! What is reported of a method that succeeded.
 
-ghost use Rattle.std.specs.Prelude.{◌≡◌, ◌≤◌, ◌++◌, length, drop, IsTrue, None, IfSome, option_map};
-ghost use Rattle.eap_base.specs.Sizes.{max_name};
+ghost use Rattle.std.specs.Prelude.{◌≡◌, IsTrue, None, IfSome, option_map};
 ghost use Rattle.end_objects.specs.Objects.{peer_object_shown, server_object_shown};
 ghost use Rattle.tuvaddri_c.specs.Reports.{report_size, both, end_held, peer_held, server_held, IsReport};
 
 use crate::handle::TuvEnd;
+use crate::rooms::write_octets;
 use crate::session::End;
 use eap_base::MAX_NAME;
 use eap_method::{PeerMethod, Report, ServerMethod};
@@ -115,32 +115,12 @@ fn write(held: &Report, nonces: &Nonces, report: &mut TuvReport)
 {
     report.method = held.method;
     report.suite = held.suite;
-    report.peer_length = write_name(held.id_p.as_slice(), &mut report.peer);
-    report.server_length = write_name(held.id_s.as_slice(), &mut report.server);
+    report.peer_length = write_octets(held.id_p.as_slice(), &mut report.peer) as u8;
+    report.server_length = write_octets(held.id_s.as_slice(), &mut report.server) as u8;
     let msk = held.msk;
     report.msk = msk;
     let emsk = held.emsk;
     report.emsk = emsk;
-    report.rand_length = write_nonce(nonces.peer.as_slice(), &mut report.peer_rand);
-    write_nonce(nonces.server.as_slice(), &mut report.server_rand);
-}
-
-/// Writes a name to the start of the buffer, and answers its length.
-fn write_name(name: &[u8], room: &mut [u8; MAX_NAME]) -> u8
-    requires { length name.now ≤ max_name }
-    ensures size { result ≡ length name.now }
-    ensures copied { room.new ≡ name.now ++ drop (length name.now) room.old }
-{
-    room[..name.len()].copy_from_slice(name);
-    name.len() as u8
-}
-
-/// Writes a nonce to the start of the buffer, and answers its length.
-fn write_nonce(nonce: &[u8], room: &mut [u8; 32]) -> u8
-    requires { length nonce.now ≤ 32 }
-    ensures size { result ≡ length nonce.now }
-    ensures copied { room.new ≡ nonce.now ++ drop (length nonce.now) room.old }
-{
-    room[..nonce.len()].copy_from_slice(nonce);
-    nonce.len() as u8
+    report.rand_length = write_octets(nonces.peer.as_slice(), &mut report.peer_rand) as u8;
+    write_octets(nonces.server.as_slice(), &mut report.server_rand);
 }

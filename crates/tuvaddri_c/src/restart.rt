@@ -20,7 +20,7 @@ use eap_base::{Nonce, Packet};
 /// leaves it and each call keeps it. A stand-alone server asks for the identity, by its first Identifier; a peer and
 /// a backend send nothing. No packet from before is there any more.
 #[unsafe(no_mangle)]
-#[tactic(auto, using(crate::proofs::Does::peer_does, crate::proofs::Does::server_does, crate::proofs::StillThere::peer_still_has, crate::proofs::StillThere::server_still_has))]
+#[tactic(auto, using(crate::proofs::Does::peer_does, crate::proofs::Does::server_does, crate::proofs::Kept::peer_kept, crate::proofs::Kept::server_kept))]
 pub extern "C" fn tuv_end_restart(end: &mut TuvEnd, nonce: &Nonce) -> TuvTurn
     ensures peer { IfPeer end.old.value.end (λ m. peer_has_objects m ≡ true → AsPeer end.new.value.end (λ n.
         PeerDoes (peer_restart (peer.now_of peer_object_shown m) nonce.now) none_sent result end.new.value.sent n)) }

@@ -1,14 +1,14 @@
 //! The stand-alone server of RFC 4137 section 5, and the backend of section 6.
 
-ghost use Rattle.std.specs.Prelude.{◌≡◌, ◌≤◌, [], true, false, map, None, IfSome};
+ghost use Rattle.std.specs.Prelude.{◌≡◌, ◌≤◌, true, false, map, None, IfSome};
 ghost use Rattle.eap_method.specs.Peer.{have_each};
 ghost use Rattle.eap_method.specs.Server.{server_kinds};
-ghost use Rattle.server_machine.specs.ServerTable.{server_start, server_timeout, server_made, backend_made, is_started, is_backend, has_timer, with_users};
+ghost use Rattle.server_machine.specs.ServerTable.{server_start, server_timeout, server_made, backend_made, is_started, is_backend, has_timer};
 ghost use Rattle.server_machine.specs.ServerTable as server;
 ghost use Rattle.server_machine.specs.declared.variables.Role.TheVariants.{StandAlone};
 ghost use Rattle.end_objects.specs.Objects.{server_object_shown};
 ghost use Rattle.end_objects.specs.Refusals.{IsSoundOther, server_refusal, stand_alone_refusal};
-ghost use Rattle.end_objects.specs.Settings.{settings_of, kinds_of, server_setup_of, users_of};
+ghost use Rattle.end_objects.specs.Settings.{settings_of, kinds_of, server_setup_of};
 ghost use Rattle.tuvaddri_c.specs.Answers.{begun, no_memory, refusal_number};
 ghost use Rattle.tuvaddri_c.specs.Ends.{IfServer, AsServer, AsBackend, can_restart};
 ghost use Rattle.tuvaddri_c.specs.Ends as ends;
@@ -16,38 +16,20 @@ ghost use Rattle.tuvaddri_c.specs.Sent.{none_sent};
 ghost use Rattle.tuvaddri_c.specs.Turns.{ServerDoes, IsMisplaced};
 
 use crate::answers::{BEGUN, NO_MEMORY, number_of_refusal};
+use crate::by_method::add_users;
 use crate::handle::TuvEnd;
 use crate::session::End;
 use crate::turn::TuvTurn;
-use eap_base::{GPSK_KIND, Nonce, PSK_KIND, Packet};
+use eap_base::{Nonce, Packet};
 use end_objects::{
     ServerObject, Settings, kinds_of, server_alone, server_objects, server_refusal,
-    stand_alone_refusal, user_of,
+    stand_alone_refusal,
 };
 use server_machine::{Backend, Role, ServerMachine};
 use std::alloc::Global;
 
-/// Adds the users of its settings to a server without users.
-#[tactic(auto, unfolding(end_objects::specs::Settings::users_of, end_objects::specs::Settings::keyed_kinds))]
-fn add_users(machine: &mut ServerMachine<ServerObject>, settings: &Settings)
-    requires none { machine.old.vars.setup.users ≡ [] }
-    requires other { IsSoundOther (settings_of settings.now) }
-    ensures { machine.new ≡ with_users machine.old (users_of (settings_of settings.now)) }
-{
-    match (settings.other, settings.gpsk_key, settings.psk_key) {
-        ([], _, _) => {}
-        ([_, ..], [], []) => {}
-        ([_, ..], [], [_, ..]) => machine.add_user(user_of(settings, PSK_KIND)),
-        ([_, ..], [_, ..], []) => machine.add_user(user_of(settings, GPSK_KIND)),
-        ([_, ..], [_, ..], [_, ..]) => {
-            machine.add_user(user_of(settings, GPSK_KIND));
-            machine.add_user(user_of(settings, PSK_KIND));
-        }
-    }
-}
-
 /// Makes the end a stand-alone server with these settings. (It is built where it stays, and nothing of it is copied.)
-#[tactic(auto, using(crate::proofs::StillThere::server_begun_with, crate::proofs::StillThere::server_still_has), unfolding(end_objects::specs::Settings::server_setup_of))]
+#[tactic(auto, using(crate::proofs::Kept::server_begun_with, crate::proofs::Kept::server_kept), unfolding(end_objects::specs::Settings::server_setup_of))]
 fn hold(
     end: &mut End,
     settings: &Settings,
@@ -124,27 +106,8 @@ pub extern "C" fn tuv_server_begin(
     }
 }
 
-/// Adds the users of its settings to a backend without users.
-#[tactic(auto, unfolding(end_objects::specs::Settings::users_of, end_objects::specs::Settings::keyed_kinds))]
-fn add_users_behind(machine: &mut Backend<ServerObject>, settings: &Settings)
-    requires none { machine.old.vars.setup.users ≡ [] }
-    requires other { IsSoundOther (settings_of settings.now) }
-    ensures { machine.new ≡ with_users machine.old (users_of (settings_of settings.now)) }
-{
-    match (settings.other, settings.gpsk_key, settings.psk_key) {
-        ([], _, _) => {}
-        ([_, ..], [], []) => {}
-        ([_, ..], [], [_, ..]) => machine.add_user(user_of(settings, PSK_KIND)),
-        ([_, ..], [_, ..], []) => machine.add_user(user_of(settings, GPSK_KIND)),
-        ([_, ..], [_, ..], [_, ..]) => {
-            machine.add_user(user_of(settings, GPSK_KIND));
-            machine.add_user(user_of(settings, PSK_KIND));
-        }
-    }
-}
-
 /// Makes the end a backend with these settings, likewise.
-#[tactic(auto, using(crate::proofs::StillThere::server_begun_with, crate::proofs::StillThere::server_still_has), unfolding(end_objects::specs::Settings::server_setup_of))]
+#[tactic(auto, using(crate::proofs::Kept::server_begun_with, crate::proofs::Kept::server_kept), unfolding(end_objects::specs::Settings::server_setup_of))]
 fn hold_backend(end: &mut End, settings: &Settings, nonce: &Nonce, methods: Vec<ServerObject>)
     requires taken { server_refusal (settings_of settings.now) ≡ None }
     requires other { IsSoundOther (settings_of settings.now) }
@@ -154,9 +117,9 @@ fn hold_backend(end: &mut End, settings: &Settings, nonce: &Nonce, methods: Vec<
 {
     *end = End::Backend(Backend::unbegun(server_alone(settings, nonce), methods));
     match end {
-        End::Backend(machine) => {
-            add_users_behind(machine, settings);
-            machine.make_again(nonce);
+        End::Backend(backend) => {
+            add_users(backend, settings);
+            backend.make_again(nonce);
         }
         _ => {}
     }
@@ -197,7 +160,7 @@ pub extern "C" fn tuv_backend_begin(
 
 /// The server starts: one that has not started.
 #[unsafe(no_mangle)]
-#[tactic(auto, using(crate::proofs::Does::server_does, crate::proofs::StillThere::server_still_has))]
+#[tactic(auto, using(crate::proofs::Does::server_does, crate::proofs::Kept::server_kept))]
 pub extern "C" fn tuv_server_start(end: &mut TuvEnd) -> TuvTurn
     ensures server { IfServer end.old.value.end (λ m. is_started m.vars ≡ false → is_backend m.vars ≡ false → AsServer end.new.value.end (λ n.
         ServerDoes (server_start (server.now_of server_object_shown m)) end.old.value.sent result end.new.value.sent n)) }
@@ -217,7 +180,7 @@ pub extern "C" fn tuv_server_start(end: &mut TuvEnd) -> TuvTurn
 
 /// The server's retransmission timer ends: of one that has it running.
 #[unsafe(no_mangle)]
-#[tactic(auto, using(crate::proofs::Does::server_does, crate::proofs::StillThere::server_still_has))]
+#[tactic(auto, using(crate::proofs::Does::server_does, crate::proofs::Kept::server_kept))]
 pub extern "C" fn tuv_server_timeout(end: &mut TuvEnd) -> TuvTurn
     ensures server { IfServer end.old.value.end (λ m. has_timer m.vars ≡ true → AsServer end.new.value.end (λ n.
         ServerDoes (server_timeout (server.now_of server_object_shown m)) end.old.value.sent result end.new.value.sent n)) }

@@ -1,7 +1,9 @@
-//! A server's one user, given while it runs.
+//! The users of a server: those that it is given one by one, and the one that is given while it runs.
 
-ghost use Rattle.std.specs.Prelude.{◌≡◌, true, false, None, All, IsTrue, IfSome, if◌then◌else◌};
+ghost use Rattle.std.specs.Prelude.{◌≡◌, [], ◌∷◌, ◌++◌, true, false, None, All, IsTrue, IfSome, if◌then◌else◌};
+ghost use Rattle.eap_base.specs.Among.{is_kind};
 ghost use Rattle.login_setup.specs.Setup.{fits_kind};
+ghost use Rattle.login_setup.specs.Users.{HasRoom};
 ghost use Rattle.server_machine.specs.ServerTable.{with_users};
 ghost use Rattle.end_objects.specs.Refusals.{user_refusal};
 ghost use Rattle.end_objects.specs.Settings.{settings_of, users_of};
@@ -15,8 +17,43 @@ use crate::handle::TuvEnd;
 use crate::session::{End, Known};
 use eap_base::is_among;
 use eap_method::ServerMethod;
-use end_objects::{Settings, keyed_kinds, user_refusal, users_of};
-use login_setup::Users;
+use end_objects::{ServerObject, Settings, keyed_kinds, user_refusal, users_of};
+use login_setup::{User, Users};
+use server_machine::{Backend, ServerMachine};
+
+/// A machine that has users: a stand-alone server or a backend.
+pub trait HasUsers {
+    ghost use Rattle.end_objects.specs.declared.objects.ServerObject.{ServerObject};
+    ghost use Rattle.server_machine.specs.ServerTable.{ServerValue};
+
+    /// What contracts see of it.
+    ghost seen: { Self → ServerValue ServerObject };
+
+    /// It knows this user too.
+    fn add(&mut self, user: User)
+        requires room { HasRoom (seen self.old).vars.setup.users user }
+        requires kind { is_kind user.kind ≡ true }
+        requires key { fits_kind user.kind user.psk ≡ true }
+        ensures { seen self.new ≡ with_users (seen self.old) ((seen self.old).vars.setup.users ++ user ∷ []) };
+}
+
+impl HasUsers for ServerMachine<ServerObject> {
+    ghost seen = { λ m. m };
+
+    #[inline(always)]
+    fn add(&mut self, user: User) {
+        self.add_user(user)
+    }
+}
+
+impl HasUsers for Backend<ServerObject> {
+    ghost seen = { λ m. m };
+
+    #[inline(always)]
+    fn add(&mut self, user: User) {
+        self.add_user(user)
+    }
+}
 
 /// Gives a stand-alone server or a backend its one user, the other end of the settings with its keys, in place of the
 /// users that it had, in any state, and answers 0. Else it answers the number of the refusal, or 9 at another end,

@@ -35,11 +35,11 @@ server_begun_with of told nonce setup first_id max_retrans alone m after is vars
     ∙ (ap (λ (v : ServerVariables). server_made v.role (filled v.setup) v.first_id v.max_retrans) vars
     ∙ ap (λ (s : ServerSetup). server_made of (filled s) first_id max_retrans) is))
 
-pub peer_still_has : (m after : PeerValue PeerObject) → KeepsPeers m.vars.setup.methods (map peer_object_shown m.methods) (map peer_object_shown after.methods)
+pub peer_kept : (m after : PeerValue PeerObject) → KeepsPeers m.vars.setup.methods (map peer_object_shown m.methods) (map peer_object_shown after.methods)
     → after.vars.setup.methods ≡ m.vars.setup.methods → peer_has_objects m ≡ true → peer_has_objects after ≡ true
-peer_still_has m after kept named has = rw (kept.kinds, named) has
+peer_kept m after kept named has = rw (kept.kinds, named) has
 
-pub server_still_has : (m after : ServerValue ServerObject)
+pub server_kept : (m after : ServerValue ServerObject)
     → KeepsServers m.vars.setup.methods (map server_object_shown m.methods) (map server_object_shown after.methods)
     → after.vars.setup.methods ≡ m.vars.setup.methods → server_has_objects m ≡ true → server_has_objects after ≡ true
-server_still_has m after kept named has = rw (kept.kinds, named) has
+server_kept m after kept named has = rw (kept.kinds, named) has

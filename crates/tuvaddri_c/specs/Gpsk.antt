@@ -1,0 +1,74 @@
+-- What is of EAP-GPSK alone: the peer's name and the Failure-Code in a Response, the shared key, and the Session-Id of a
+-- login (RFC 5247 section 1.4).
+use Rattle.std.specs.Prelude.{◌++◌, ℕ, List, ◌∷◌, length, take, replicate, codes, nat_lt, nat_le, if◌then◌else◌, Option, Some, None, option_map, Result, Ok}
+use Rattle.eap_base.specs.Among.{gpsk_kind}
+use Rattle.eap_base.specs.Suite.{ks_of, suite_octets}
+use Rattle.eap_base.specs.declared.suite.Suite.{Suite}
+use Rattle.login_setup.specs.Keys.{key_of}
+use Rattle.login_setup.specs.Users.{user_of}
+use Rattle.login_setup.specs.declared.keys.Key.{Key}
+use Rattle.login_setup.specs.declared.users.User.{User}
+use Rattle.eap_packet.specs.declared.cause.Cause.{Cause}
+use Rattle.gpsk_messages.specs.Message.{Message, gpsk2, fail, protected_fail}
+use Rattle.login_keys.specs.Gpsk.{gkdf, input_string}
+use Rattle.tuvaddri_c.specs.Reports.{Held}
+use Rattle.tuvaddri_c.specs.declared.session.End.{End}
+use Rattle.tuvaddri_c.specs.declared.session.End.TheVariants as ends
+
+-- ID_Peer of GPSK-2 (RFC 5433 section 9.3)
+abbrev pub gpsk_name : Result Message Cause → Option (List ℕ)
+gpsk_name (Ok (gpsk2 id_p id_s rand_p rand_s list suite pd mac)) = Some id_p
+gpsk_name read = None
+
+-- a Failure-Code of the standard; 0 for any other
+abbrev pub known_code : ℕ → ℕ
+known_code code = if nat_le code 3 then code else 0
+
+-- the Failure-Code that a peer's message repeats
+abbrev pub repeated_code : Result Message Cause → ℕ
+repeated_code (Ok (fail code)) = known_code code
+repeated_code (Ok (protected_fail code mac)) = known_code code
+repeated_code read = 0
+
+-- an end's shared key: a peer's own; a server's, that of its user with the peer's name
+abbrev pub key_in : List User → List ℕ → Option (List ℕ)
+key_in users name = option_map (λ user. user.psk) (user_of users name gpsk_kind)
+
+abbrev pub own_key : List Key → Option (List ℕ)
+own_key keys = option_map (λ key. key.psk) (key_of keys gpsk_kind)
+
+abbrev pub end_key : End → List ℕ → Option (List ℕ)
+end_key ends.Closed name = None
+end_key (ends.PeerMethod object key) name = Some key
+end_key (ends.ServerMethod object known) name = key_in known.users name
+end_key (ends.Peer m) name = own_key m.vars.setup.keys
+end_key (ends.Server m) name = key_in m.vars.setup.users name
+end_key (ends.Backend m) name = key_in m.vars.setup.users name
+end_key (ends.Pass m) name = None
+
+-- Method-ID = GKDF-16 (key, "Method ID" || EAP_Method_Type || CSuite_Sel || inputString) (RFC 5433 section 4)
+abbrev pub method_id : Suite → List ℕ → Held → List ℕ
+method_id suite key held = gkdf suite 16 key
+    (codes "Method ID" ++ gpsk_kind ∷ suite_octets suite ++ input_string held.nonces.peer held.report.id_p held.nonces.server held.report.id_s)
+
+-- EAP-GPSK's Session-Id: its Type and the Method-ID
+abbrev pub gpsk_session_id : Suite → List ℕ → Held → List ℕ
+gpsk_session_id suite key held = gpsk_kind ∷ method_id suite key held
+
+-- the key that the standard uses: KS octets of zero
+abbrev pub zeros : Suite → Option (List ℕ)
+zeros suite = Some (replicate (ks_of suite) 0)
+
+-- the key that wpa_supplicant and hostapd 2.10 use: the first KS octets of the shared key
+abbrev pub front_of : Option (List ℕ) → Suite → Option (List ℕ)
+front_of None suite = None
+front_of (Some psk) suite = if nat_lt (length psk) (ks_of suite) then None else Some (take (ks_of suite) psk)
+
+-- the Session-Id, if there are a suite and a key
+abbrev pub keyed_id : Suite → Held → Option (List ℕ) → Option (List ℕ)
+keyed_id suite held None = None
+keyed_id suite held (Some key) = Some (gpsk_session_id suite key held)
+
+abbrev pub suited_id : (Suite → Option (List ℕ)) → Held → Option Suite → Option (List ℕ)
+suited_id key held None = None
+suited_id key held (Some suite) = keyed_id suite held (key suite)

@@ -1,0 +1,42 @@
+//! What is of EAP-PSK alone: the peer's name in a Response, and the Session-Id of a login.
+
+ghost use Rattle.std.specs.Prelude.{◌≡◌, ◌≤◌, length, Some, None, IfSome};
+ghost use Rattle.eap_base.specs.Sizes.{max_name};
+ghost use Rattle.psk_messages.specs.Reading.{read_of};
+ghost use Rattle.tuvaddri_c.specs.Psk.{psk_name, psk_session_id, fitting};
+
+use crate::session_id::{MAX_ID, SessionId};
+use eap_base::PSK_KIND;
+use end_objects::Nonces;
+use psk_messages::{PskView, read_psk};
+
+/// ID_P of PSK-2.
+pub fn psk_name<'a>(body: &'a [u8]) -> Option<&'a [u8]>
+    ensures found { IfSome result (λ name. psk_name (read_of body.now) ≡ Some name.now) }
+    ensures none { result ≡ None → psk_name (read_of body.now) ≡ None }
+    ensures size { IfSome result (λ name. length name.now ≤ max_name) }
+{
+    match read_psk(body) {
+        Ok(PskView::P1 { .. }) => None,
+        Ok(PskView::P2 { id_p, .. }) => Some(id_p),
+        Ok(PskView::P3 { .. }) => None,
+        Ok(PskView::P4 { .. }) => None,
+        Err(_) => None,
+    }
+}
+
+/// The Session-Id: the Type, RAND_P and RAND_S.
+pub fn psk_id(nonces: &Nonces) -> Option<SessionId>
+    ensures { result ≡ fitting (psk_session_id nonces.now) }
+{
+    let peer = nonces.peer.as_slice();
+    let server = nonces.server.as_slice();
+    if peer.len() + server.len() < MAX_ID {
+        let mut id = SessionId::of(&[PSK_KIND]);
+        id.put(peer);
+        id.put(server);
+        Some(id)
+    } else {
+        None
+    }
+}
