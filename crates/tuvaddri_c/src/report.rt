@@ -74,8 +74,10 @@ fn write_end(end: &End, report: &mut TuvReport) -> bool
 
 /// Writes what the object has of a peer's selected method.
 fn write_peer(selected: Option<&PeerObject>, report: &mut TuvReport) -> bool
-    ensures held { IfSome (peer_held (option_map (λ o. peer_object_shown o.now) selected.entry)) (λ held. IsTrue result × IsReport held report.old report.new) }
-    ensures none { peer_held (option_map (λ o. peer_object_shown o.now) selected.entry) ≡ None → (IsTrue result → ⊥) × (report.new ≡ report.old) }
+    ensures held { IfSome (peer_held (option_map (λ o. peer_object_shown o.now) selected.entry))
+        (λ held. IsTrue result × IsReport held report.old report.new) }
+    ensures none { peer_held (option_map (λ o. peer_object_shown o.now) selected.entry) ≡ None
+        → (IsTrue result → ⊥) × (report.new ≡ report.old) }
 {
     match selected {
         None => false,
@@ -85,8 +87,10 @@ fn write_peer(selected: Option<&PeerObject>, report: &mut TuvReport) -> bool
 
 /// Writes what the object has of a server's current method.
 fn write_server(current: Option<&ServerObject>, report: &mut TuvReport) -> bool
-    ensures held { IfSome (server_held (option_map (λ o. server_object_shown o.now) current.entry)) (λ held. IsTrue result × IsReport held report.old report.new) }
-    ensures none { server_held (option_map (λ o. server_object_shown o.now) current.entry) ≡ None → (IsTrue result → ⊥) × (report.new ≡ report.old) }
+    ensures held { IfSome (server_held (option_map (λ o. server_object_shown o.now) current.entry))
+        (λ held. IsTrue result × IsReport held report.old report.new) }
+    ensures none { server_held (option_map (λ o. server_object_shown o.now) current.entry) ≡ None
+        → (IsTrue result → ⊥) × (report.new ≡ report.old) }
 {
     match current {
         None => false,
