@@ -19,10 +19,10 @@ fn name_of(body: &[u8]) -> &'static str
     ensures { result.now ≡ psk_note (read_of body.now) }
 {
     match read_psk(body) {
-        Ok(PskView::P1 { .. }) => "psk-1",
-        Ok(PskView::P2 { .. }) => "psk-2",
-        Ok(PskView::P3 { .. }) => "psk-3",
-        Ok(PskView::P4 { .. }) => "psk-4",
+        Ok(PskView::P1(_)) => "psk-1",
+        Ok(PskView::P2(_)) => "psk-2",
+        Ok(PskView::P3(_)) => "psk-3",
+        Ok(PskView::P4(_)) => "psk-4",
         Err(cause) => cause.word(),
     }
 }

@@ -17,7 +17,7 @@ use Rattle.capture_check.specs.Tags.{tag_finding, if_right}
 use Rattle.capture_check.specs.Psk.{psk_read, is_mac_p, psk_login_of, user_begins, psk_begins, psk3_follows, psk4_follows, psk_told, psk_finding, psk1_in, psk2_of, psk2_in, last_psk1, last_psk2}
 use Rattle.capture_check.specs.declared.finding.Finding.{Finding}
 use Rattle.capture_check.specs.declared.finding.Finding.TheVariants.{NoContext}
-use Rattle.capture_check.specs.declared.psk.Psk1.{Psk1}
+use Rattle.capture_check.specs.declared.psk.KeptPsk1.{KeptPsk1}
 use Rattle.capture_check.specs.declared.psk.PskKept.{PskKept}
 use Rattle.capture_check.specs.declared.psk.PskLogin.{PskLogin}
 use Rattle.capture_check.proofs.LastShown.{last_of_more, last_holds}
@@ -53,19 +53,19 @@ module _ (P : List ℕ → Type 0) where
   psk_right true login h = (h, h)
   psk_right false login h = (tt, tt)
 
-  psk_user : (found : Option User) (first : Psk1) (rand_p mac id_p : List ℕ) → ((user : User) → found ≡ Some user → P user.name) →
+  psk_user : (found : Option User) (first : KeptPsk1) (rand_p mac id_p : List ℕ) → ((user : User) → found ≡ Some user → P user.name) →
       IfSome (result_ok (user_begins found first rand_p mac id_p)) (λ l. P l.name) × Names P (psk_told (user_begins found first rand_p mac id_p))
   unfolding psk_login_of
   psk_user None first rand_p mac id_p h = (tt, tt)
   psk_user (Some user) first rand_p mac id_p h = psk_right (is_mac_p user first rand_p mac id_p) (psk_login_of user first rand_p) (h user refl)
 
-  psk_same : (users : List User) → All (λ (u : User). P u.name) users → (first : Psk1) (rand_p mac id_p : List ℕ) (same : Bool) →
+  psk_same : (users : List User) → All (λ (u : User). P u.name) users → (first : KeptPsk1) (rand_p mac id_p : List ℕ) (same : Bool) →
       IfSome (result_ok (cond same (user_begins (user_of users id_p psk_kind) first rand_p mac id_p) (Err NoContext))) (λ l. P l.name)
       × Names P (psk_told (cond same (user_begins (user_of users id_p psk_kind) first rand_p mac id_p) (Err NoContext)))
   psk_same users all first rand_p mac id_p true = psk_user (user_of users id_p psk_kind) first rand_p mac id_p (λ user e. named_by P users id_p psk_kind user all e)
   psk_same users all first rand_p mac id_p false = (tt, tt)
 
-  psk_begun : (users : List User) → All (λ (u : User). P u.name) users → (first : Option Psk1) (rand_s rand_p mac id_p : List ℕ) →
+  psk_begun : (users : List User) → All (λ (u : User). P u.name) users → (first : Option KeptPsk1) (rand_s rand_p mac id_p : List ℕ) →
       IfSome (result_ok (psk_begins users first rand_s rand_p mac id_p)) (λ l. P l.name) × Names P (psk_told (psk_begins users first rand_s rand_p mac id_p))
   unfolding psk_begins
   psk_begun users all None rand_s rand_p mac id_p = (tt, tt)
@@ -95,7 +95,7 @@ module _ (P : List ℕ → Type 0) where
   psk_named users all kept octets (Ok (psk3 rand_s mac nonce tag sealed)) h = (tt, psk3_named kept.psk2 _ rand_s mac nonce tag sealed h)
   psk_named users all kept octets (Ok (psk4 rand_s nonce tag sealed)) h = (tt, psk4_named kept.psk2 _ rand_s nonce tag sealed h)
 
-  psk2_heard : (users : List User) → All (λ (u : User). P u.name) users → (first : Option Psk1) (heard : Heard) → IfSome (psk2_in users first heard) (λ l. P l.name)
+  psk2_heard : (users : List User) → All (λ (u : User). P u.name) users → (first : Option KeptPsk1) (heard : Heard) → IfSome (psk2_in users first heard) (λ l. P l.name)
   psk2_heard users all first (malformed cause) = tt
   psk2_heard users all first plain = tt
   psk2_heard users all first (typed to_peer kind body) =

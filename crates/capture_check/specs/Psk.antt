@@ -19,7 +19,7 @@ use Rattle.capture_check.specs.Heard.{Heard, heard_of, typed}
 use Rattle.capture_check.specs.Tags.{tag_finding, if_right}
 use Rattle.capture_check.specs.declared.finding.Finding.{Finding}
 use Rattle.capture_check.specs.declared.finding.Finding.TheVariants.{Good, Malformed, TagGood, NoKey, NoContext}
-use Rattle.capture_check.specs.declared.psk.Psk1.{Psk1}
+use Rattle.capture_check.specs.declared.psk.KeptPsk1.{KeptPsk1}
 use Rattle.capture_check.specs.declared.psk.PskKept.{PskKept}
 use Rattle.capture_check.specs.declared.psk.PskLogin.{PskLogin}
 
@@ -41,12 +41,12 @@ psk_read to_peer body = psk_heard to_peer (read_of body)
 -- PSK-2 belongs to the last PSK-1, whose RAND_S it repeats and whose ID_S its MAC covers (section 5.2)
 
 -- whether MAC_P is right under the user's key
-abbrev pub is_mac_p : User → Psk1 → List ℕ → List ℕ → List ℕ → Bool
+abbrev pub is_mac_p : User → KeptPsk1 → List ℕ → List ℕ → List ℕ → Bool
 is_mac_p user first rand_p mac id_p =
     bytes_eq (aes_cmac (psk_long_of user.psk).ak (mac_p_octets id_p first.id_s first.rand_s rand_p)) mac
 
 -- the login of this user with the fields of PSK-1 and PSK-2
-unfoldable pub psk_login_of : User → Psk1 → List ℕ → PskLogin
+unfoldable pub psk_login_of : User → KeptPsk1 → List ℕ → PskLogin
 psk_login_of user first rand_p = record {
   name = user.name;
   rand_s = first.rand_s;
@@ -54,12 +54,12 @@ psk_login_of user first rand_p = record {
   tek = (psk_keys_of (psk_long_of user.psk).kdk rand_p).tek;
 }
 
-abbrev pub user_begins : Option User → Psk1 → List ℕ → List ℕ → List ℕ → Result PskLogin Finding
+abbrev pub user_begins : Option User → KeptPsk1 → List ℕ → List ℕ → List ℕ → Result PskLogin Finding
 user_begins None first rand_p mac id_p = Err NoKey
 user_begins (Some user) first rand_p mac id_p = if_right (is_mac_p user first rand_p mac id_p) (psk_login_of user first rand_p)
 
 -- the login that a PSK-2 with the right MAC_P begins, or the finding of one without
-unfoldable pub psk_begins : List User → Option Psk1 → List ℕ → List ℕ → List ℕ → List ℕ → Result PskLogin Finding
+unfoldable pub psk_begins : List User → Option KeptPsk1 → List ℕ → List ℕ → List ℕ → List ℕ → Result PskLogin Finding
 psk_begins users None rand_s rand_p mac id_p = Err NoContext
 psk_begins users (Some first) rand_s rand_p mac id_p =
     if bytes_eq rand_s first.rand_s then user_begins (user_of users id_p psk_kind) first rand_p mac id_p else Err NoContext
@@ -98,26 +98,26 @@ psk_finding users kept octets (Err cause) = Malformed cause
 psk_finding users kept octets (Ok message) = psk_tag_finding users kept (header_of octets) message
 
 -- a PSK-1
-abbrev pub psk1_of : Result Message Cause → Option Psk1
+abbrev pub psk1_of : Result Message Cause → Option KeptPsk1
 psk1_of (Ok (psk1 rand_s id_s)) = Some (record { rand_s = rand_s; id_s = id_s })
 psk1_of read = None
 
 -- the login that a PSK-2 with a good tag begins, if this is the last PSK-1 before it
-abbrev pub psk2_of : List User → Option Psk1 → Result Message Cause → Option PskLogin
+abbrev pub psk2_of : List User → Option KeptPsk1 → Result Message Cause → Option PskLogin
 psk2_of users first (Ok (psk2 rand_s rand_p mac id_p)) = result_ok (psk_begins users first rand_s rand_p mac id_p)
 psk2_of users first read = None
 
 -- the same of what a packet is
-abbrev pub psk1_in : Heard → Option Psk1
+abbrev pub psk1_in : Heard → Option KeptPsk1
 psk1_in (typed to_peer kind body) = if kind == psk_kind then psk1_of (psk_read to_peer body) else None
 psk1_in heard = None
 
-abbrev pub psk2_in : List User → Option Psk1 → Heard → Option PskLogin
+abbrev pub psk2_in : List User → Option KeptPsk1 → Heard → Option PskLogin
 psk2_in users first (typed to_peer kind body) = if kind == psk_kind then psk2_of users first (psk_read to_peer body) else None
 psk2_in users first heard = None
 
 -- the last PSK-1 of a list
-unfoldable pub last_psk1 : List Captured → Option Psk1
+unfoldable pub last_psk1 : List Captured → Option KeptPsk1
 last_psk1 packets = last_shown (λ before packet. psk1_in (heard_of packet.to_peer packet.octets)) [] packets
 
 -- the login of the last PSK-2 of a list whose tag is good; it belongs to the last PSK-1 before it

@@ -16,11 +16,11 @@ use eap_packet::Cause;
 use eax_mode::eax_unseal;
 use login_keys::{PskLong, psk_long, psk_session};
 use login_setup::{User, Users};
-use psk_messages::{HEADER, PskView, read_psk};
+use psk_messages::{Channel, HEADER, Psk2, Psk3, Psk4, PskView, read_psk};
 
 /// What is kept of a PSK-1 (RFC 4764 section 5.1).
 #[derive(Drop)]
-pub struct Psk1 {
+pub struct KeptPsk1 {
     pub rand_s: [u8; 16],
     pub id_s: Identity,
 }
@@ -39,7 +39,7 @@ pub struct PskLogin {
 /// What is kept of the messages: of each kind the last one.
 #[derive(Drop)]
 pub struct PskKept {
-    pub psk1: Option<Psk1>,
+    pub psk1: Option<KeptPsk1>,
     pub psk2: Option<PskLogin>,
 }
 
@@ -48,16 +48,22 @@ fn is_astray(to_peer: bool, view: &PskView) -> bool
     ensures { result ≡ is_psk_astray to_peer (message_of view.now) }
 {
     match view {
-        PskView::P1 { .. } => !to_peer,
-        PskView::P2 { .. } => to_peer,
-        PskView::P3 { .. } => !to_peer,
-        PskView::P4 { .. } => to_peer,
+        PskView::P1(_) => !to_peer,
+        PskView::P2(_) => to_peer,
+        PskView::P3(_) => !to_peer,
+        PskView::P4(_) => to_peer,
     }
 }
 
 /// The login of a user with the fields of PSK-1 and PSK-2, from AK and KDK of the user's key.
 #[tactic(auto, unfolding(crate::specs::Psk::psk_login_of))]
-fn login_of(user: &User, ak: &CmacKey, kdk: &[u8; 16], psk1: &Psk1, rand_p: &[u8; 16]) -> PskLogin
+fn login_of(
+    user: &User,
+    ak: &CmacKey,
+    kdk: &[u8; 16],
+    psk1: &KeptPsk1,
+    rand_p: &[u8; 16],
+) -> PskLogin
     requires ak { ak.now ≡ (psk_long_of user.now.psk).ak }
     requires kdk { kdk.now ≡ (psk_long_of user.now.psk).kdk }
     ensures { result ≡ psk_login_of user.now psk1.now rand_p.now }
@@ -74,21 +80,17 @@ fn login_of(user: &User, ak: &CmacKey, kdk: &[u8; 16], psk1: &Psk1, rand_p: &[u8
 }
 
 /// The login that a PSK-2 of this user with the right MAC_P begins, else `TagBad`.
-fn begin_user(
-    user: &User,
-    psk1: &Psk1,
-    rand_p: &[u8; 16],
-    mac: &[u8; 16],
-    id_p: &[u8],
-) -> Result<PskLogin, Finding>
+fn begin_user(user: &User, psk1: &KeptPsk1, psk2: &Psk2) -> Result<PskLogin, Finding>
     requires key { length user.now.psk ≡ 16 }
-    ensures { result ≡ user_begins (Some user.now) psk1.now rand_p.now mac.now id_p.now }
+    ensures { result
+        ≡ user_begins (Some user.now) psk1.now psk2.now.rand_p psk2.now.mac psk2.now.id_p.now }
 {
     let PskLong { ak, kdk } = psk_long(&array_of(user.psk.as_slice()));
     let ak = CmacKey::new(&ak);
-    let expected = mac_p(&ak, id_p, psk1.id_s.as_slice(), &psk1.rand_s, rand_p);
-    if equal_in_full(&expected, mac) {
-        Ok(login_of(user, &ak, &kdk, psk1, rand_p))
+    let id_s = psk1.id_s.as_slice();
+    let expected = mac_p(&ak, psk2.id_p, id_s, &psk1.rand_s, &psk2.rand_p);
+    if equal_in_full(&expected, &psk2.mac) {
+        Ok(login_of(user, &ak, &kdk, psk1, &psk2.rand_p))
     } else {
         Err(Finding::TagBad)
     }
@@ -98,26 +100,20 @@ fn begin_user(
 /// PSK-1 or its RAND_S is another, `NoKey` if there is no user of its ID_P, `TagBad` if MAC_P is
 /// wrong.
 #[tactic(auto, unfolding(crate::specs::Psk::psk_begins), using(crate::proofs::PskLaws::key_is_short))]
-fn begin(
-    users: &Users,
-    psk1: &Option<Psk1>,
-    rand_s: &[u8; 16],
-    rand_p: &[u8; 16],
-    mac: &[u8; 16],
-    id_p: &[u8],
-) -> Result<PskLogin, Finding>
+fn begin(users: &Users, psk1: &Option<KeptPsk1>, psk2: &Psk2) -> Result<PskLogin, Finding>
     requires keys { All (λ user. IsTrue (fits_kind user.kind user.psk)) users.now }
-    ensures { result ≡ psk_begins users.now psk1.now rand_s.now rand_p.now mac.now id_p.now }
+    ensures { result ≡ psk_begins users.now psk1.now
+        psk2.now.rand_s psk2.now.rand_p psk2.now.mac psk2.now.id_p.now }
 {
     match psk1 {
         None => Err(Finding::NoContext),
         Some(psk1) => {
-            if rand_s.as_slice() != psk1.rand_s.as_slice() {
+            if psk2.rand_s.as_slice() != psk1.rand_s.as_slice() {
                 return Err(Finding::NoContext);
             }
-            match users.find(id_p, PSK_KIND) {
+            match users.find(psk2.id_p, PSK_KIND) {
                 None => Err(Finding::NoKey),
-                Some(user) => begin_user(user, psk1, rand_p, mac, id_p),
+                Some(user) => begin_user(user, psk1, psk2),
             }
         }
     }
@@ -125,12 +121,13 @@ fn begin(
 
 /// Whether PCHANNEL's tag is right under TEK.
 #[tactic(auto, unfolding(eap_method::specs::PskTags::channel_nonce))]
-fn is_sealed(tek: &[u8; 16], number: u32, header: &[u8], sealed: u8, tag: &[u8; 16]) -> bool
-    ensures { result ≡ is_sealed tek.now number header.now sealed tag.now }
+fn is_sealed(tek: &[u8; 16], header: &[u8], channel: &Channel) -> bool
+    ensures { result
+        ≡ is_sealed tek.now channel.now.nonce header.now channel.now.sealed channel.now.tag }
 {
-    let [a, b, c, d] = number.to_be_bytes();
+    let [a, b, c, d] = channel.nonce.to_be_bytes();
     let nonce = [0, 0, 0, 0, 0, 0, 0, 0, 0, 0, 0, 0, a, b, c, d];
-    eax_unseal(tek, &nonce, header, &mut [sealed], tag)
+    eax_unseal(tek, &nonce, header, &mut [channel.sealed], &channel.tag)
 }
 
 /// The finding of a message with this RAND_S, whose tags are right or not in the last login.
@@ -148,44 +145,31 @@ fn follow(login: &PskLogin, rand_s: &[u8; 16], right: bool) -> Finding
 
 /// The finding of PSK-3: MAC_S and PCHANNEL's tag are to be right in the last login.
 #[tactic(auto, unfolding(crate::specs::Psk::psk3_follows))]
-fn follow3(
-    login: &Option<PskLogin>,
-    header: &[u8],
-    rand_s: &[u8; 16],
-    mac: &[u8; 16],
-    nonce: u32,
-    tag: &[u8; 16],
-    sealed: u8,
-) -> Finding
-    ensures { result ≡ psk3_follows login.now header.now rand_s.now mac.now nonce tag.now sealed }
+fn follow3(login: &Option<PskLogin>, header: &[u8], psk3: &Psk3) -> Finding
+    ensures { result ≡ psk3_follows login.now header.now psk3.now.rand_s psk3.now.mac
+        psk3.now.channel.nonce psk3.now.channel.tag psk3.now.channel.sealed }
 {
     match login {
         None => Finding::NoContext,
         Some(login) => {
-            let right = equal_in_full(&login.mac_s, mac)
-                && is_sealed(&login.tek, nonce, header, sealed, tag);
-            follow(login, rand_s, right)
+            let right = equal_in_full(&login.mac_s, &psk3.mac)
+                && is_sealed(&login.tek, header, &psk3.channel);
+            follow(login, &psk3.rand_s, right)
         }
     }
 }
 
 /// The finding of PSK-4: PCHANNEL's tag is to be right in the last login.
 #[tactic(auto, unfolding(crate::specs::Psk::psk4_follows))]
-fn follow4(
-    login: &Option<PskLogin>,
-    header: &[u8],
-    rand_s: &[u8; 16],
-    nonce: u32,
-    tag: &[u8; 16],
-    sealed: u8,
-) -> Finding
-    ensures { result ≡ psk4_follows login.now header.now rand_s.now nonce tag.now sealed }
+fn follow4(login: &Option<PskLogin>, header: &[u8], psk4: &Psk4) -> Finding
+    ensures { result ≡ psk4_follows login.now header.now psk4.now.rand_s
+        psk4.now.channel.nonce psk4.now.channel.tag psk4.now.channel.sealed }
 {
     match login {
         None => Finding::NoContext,
         Some(login) => {
-            let right = is_sealed(&login.tek, nonce, header, sealed, tag);
-            follow(login, rand_s, right)
+            let right = is_sealed(&login.tek, header, &psk4.channel);
+            follow(login, &psk4.rand_s, right)
         }
     }
 }
@@ -200,21 +184,15 @@ fn judge(kept: &mut PskKept, users: &Users, header: &[u8], view: &PskView) -> Fi
     ensures login { kept.new.psk2 ≡ option_or (psk2_of users.now kept.old.psk1 (Ok (message_of view.now))) kept.old.psk2 }
 {
     match view {
-        PskView::P1 { rand_s, id_s } => {
-            let rand_s = *rand_s;
-            let first = Psk1 {
-                rand_s,
-                id_s: Octets::of(id_s),
+        PskView::P1(psk1) => {
+            let first = KeptPsk1 {
+                rand_s: psk1.rand_s,
+                id_s: Octets::of(psk1.id_s),
             };
             kept.psk1 = Some(first);
             Finding::Good
         }
-        PskView::P2 {
-            rand_s,
-            rand_p,
-            mac,
-            id_p,
-        } => match begin(users, &kept.psk1, rand_s, rand_p, mac, id_p) {
+        PskView::P2(psk2) => match begin(users, &kept.psk1, psk2) {
             Ok(begun) => {
                 let name = begun.name.copy();
                 kept.psk2 = Some(begun);
@@ -222,19 +200,8 @@ fn judge(kept: &mut PskKept, users: &Users, header: &[u8], view: &PskView) -> Fi
             }
             Err(finding) => finding,
         },
-        PskView::P3 {
-            rand_s,
-            mac,
-            nonce,
-            tag,
-            sealed,
-        } => follow3(&kept.psk2, header, rand_s, mac, *nonce, tag, *sealed),
-        PskView::P4 {
-            rand_s,
-            nonce,
-            tag,
-            sealed,
-        } => follow4(&kept.psk2, header, rand_s, *nonce, tag, *sealed),
+        PskView::P3(psk3) => follow3(&kept.psk2, header, psk3),
+        PskView::P4(psk4) => follow4(&kept.psk2, header, psk4),
     }
 }
 

@@ -7,7 +7,7 @@ use Rattle.eap_packet.specs.Packet.{two_octets}
 use Rattle.eap_packet.specs.Packet as packets
 use Rattle.psk_messages.specs.Message.{psk3, psk4, channel}
 use Rattle.psk_messages.specs.Message as messages
-use Rattle.psk_messages.proofs.Channel.{length-channel}
+use Rattle.psk_messages.proofs.ChannelParts.{length-channel}
 use Rattle.eax_mode.specs.Eax.{eax_accepts, eax_ciphertext, eax_plaintext, eax_tag}
 use Rattle.eax_mode.proofs.Laws.{length_eax_ciphertext, length_eax_tag}
 use Rattle.eax_mode.proofs.Sealing.{eax_plaintext_eax_ciphertext}

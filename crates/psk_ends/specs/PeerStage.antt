@@ -1,13 +1,13 @@
 -- The state of a peer of EAP-PSK, and its state after a call, as its definition says it.
 use Rattle.std.specs.Prelude.{ℕ, List, Result, Ok, Err}
 use Rattle.eap_packet.specs.declared.cause.Cause.{Cause}
+use Rattle.psk_messages.specs.declared.view.Psk1.{Psk1}
 use Rattle.eap_method.specs.Tags.{Tags}
 use Rattle.eap_method.specs.declared.turn.PeerTurn as brief
 use Rattle.eap_method.specs.PeerTurn.{peer_turn_with}
 use Rattle.eap_method.specs.PskPeer.{View, Login, unset, fresh, wait, over, answers}
 use Rattle.eap_method.specs.Turns.{PeerOutcome, discarded}
 use Rattle.psk_ends.specs.declared.peer.login.Begun.{Begun}
-use Rattle.psk_ends.specs.declared.peer.login.Psk1.{Psk1}
 use Rattle.psk_ends.specs.declared.peer.stage.Phase.{Phase}
 use Rattle.psk_ends.specs.declared.peer.stage.Phase.TheVariants as phase
 use Rattle.psk_ends.specs.declared.peer.stage.Stage.{Stage}

@@ -7,7 +7,7 @@ use Rattle.eap_method.specs.ServerTurn.{server_turn_with}
 use Rattle.eap_method.specs.PskServer.{View, Login, unset, begun, asked, checked, refused, over, r_for, answers}
 use Rattle.eap_method.specs.Turns.{ServerOutcome, dropped, done}
 use Rattle.psk_ends.specs.declared.server.login.Begun.{Begun}
-use Rattle.psk_ends.specs.declared.server.login.Psk2.{Psk2}
+use Rattle.psk_ends.specs.declared.server.login.UserPsk2.{UserPsk2}
 use Rattle.psk_ends.specs.declared.server.stage.EarlyPhase.{EarlyPhase}
 use Rattle.psk_ends.specs.declared.server.stage.EarlyPhase.TheVariants as early
 use Rattle.psk_ends.specs.declared.server.stage.KnownPhase.{KnownPhase}
@@ -37,19 +37,19 @@ abbrev pub outcome_with : brief.ServerTurn → List ℕ → Tags → View → Se
 outcome_with turn packet tags after = record { turn = server_turn_with turn packet tags; after = after }
 
 -- the login that begins with PSK-2
-abbrev pub login_with : Begun → Psk2 → Login
-login_with own psk2 = record {
+abbrev pub login_with : Begun → UserPsk2 → Login
+login_with own found = record {
   own = own.side;
   nonce = own.nonce;
-  id_p = psk2.id_p.now;
-  psk = psk2.user.now.psk;
-  rand_p = psk2.rand_p;
-  r = r_for psk2.user.now.barred;
+  id_p = found.psk2.id_p.now;
+  psk = found.user.now.psk;
+  rand_p = found.psk2.rand_p;
+  r = r_for found.user.now.barred;
 }
 
 -- what a server that has sent PSK-1 makes of the PSK-2 that it accepts, of one without a user, or of the
 -- cause why it accepts none
-abbrev pub asked_with : Begun → ℕ → Result (Option Psk2) Cause → ServerOutcome View
+abbrev pub asked_with : Begun → ℕ → Result (Option UserPsk2) Cause → ServerOutcome View
 asked_with own next_id (Err cause) = dropped (asked own.side own.nonce) cause
 asked_with own next_id (Ok None) = done (refused own.side own.nonce) false []
-asked_with own next_id (Ok (Some psk2)) = answers (login_with own psk2) next_id psk2.mac
+asked_with own next_id (Ok (Some found)) = answers (login_with own found) next_id found.psk2.mac

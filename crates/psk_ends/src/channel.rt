@@ -11,6 +11,7 @@ use eap_base::{Packet, Secret};
 use eap_method::{Records, TagList};
 use eap_packet::Cause;
 use eax_mode::{eax_seal_with, eax_unseal_with};
+use psk_messages::Channel;
 
 /// R of a side for which the login succeeds.
 pub const DONE_SUCCESS: u8 = 2;
@@ -21,15 +22,6 @@ pub const DONE_FAILURE: u8 = 3;
 /// The octets of PCHANNEL behind its Nonce: the tag, and the one that is sealed.
 const HIDDEN: usize = 17;
 
-/// What PCHANNEL carries besides its Nonce.
-#[derive(Drop)]
-pub struct Sealed {
-    /// The octet, sealed.
-    pub octet: u8,
-    /// The tag over the Nonce, the header and the sealed octet.
-    pub tag: [u8; 16],
-}
-
 /// The nonce for EAX: the Nonce field behind twelve octets of 0.
 #[tactic(auto, unfolding(eap_method::specs::PskTags::channel_nonce))]
 pub fn channel_nonce(number: u32) -> [u8; 16]
@@ -39,29 +31,33 @@ pub fn channel_nonce(number: u32) -> [u8; 16]
     [0, 0, 0, 0, 0, 0, 0, 0, 0, 0, 0, 0, a, b, c, d]
 }
 
-/// Seals R, without E, under this Nonce and header.
+/// PCHANNEL with R, without E, sealed under this Nonce and header.
 #[tactic(auto, unfolding(eap_method::specs::PskTags::sealed_result))]
-fn seal(tek: &CmacKey, number: u32, header: &[u8], r: u8) -> Sealed
+fn seal(tek: &CmacKey, number: u32, header: &[u8], r: u8) -> Channel
     requires { r < 4 }
-    ensures octet { result.octet ≡ slice_index (sealed_result tek.now number header.now r).ciphertext 0 }
+    ensures nonce { result.nonce ≡ number }
     ensures tag { result.tag ≡ (sealed_result tek.now number header.now r).tag }
+    ensures sealed { result.sealed
+        ≡ slice_index (sealed_result tek.now number header.now r).ciphertext 0 }
 {
     let mut text = [64 * r];
     let tag = eax_seal_with(tek, &channel_nonce(number), header, &mut text);
-    Sealed {
-        octet: text[0],
+    Channel {
+        nonce: number,
         tag,
+        sealed: text[0],
     }
 }
 
-/// Puts a tag and a sealed octet in the place of the packet's last 17 octets.
-fn put_last(packet: &mut Packet, channel: &Sealed)
+/// Puts PCHANNEL's tag and its sealed octet in the place of the packet's last 17 octets.
+fn put_last(packet: &mut Packet, channel: &Channel)
     requires { 17 ≤ length packet.old }
-    ensures { packet.new ≡ take (length packet.old - 17) packet.old ++ (channel.now.tag ++ channel.now.octet ∷ []) }
+    ensures { packet.new ≡ take (length packet.old - 17) packet.old
+        ++ (channel.now.tag ++ channel.now.sealed ∷ []) }
 {
     packet.truncate(packet.len() - HIDDEN);
     packet.append(&channel.tag);
-    packet.push(channel.octet);
+    packet.push(channel.sealed);
 }
 
 /// Seals R, without E, into the packet, whose PCHANNEL is at its end and is still blank, and adds
@@ -87,16 +83,18 @@ pub fn seal_in<R: Records>(
 {
     let header = header_of(packet.as_slice());
     let channel = seal(tek, number, header, r);
-    add_channel(made, psk, number, header, &channel);
+    add_channel(made, psk, header, &channel);
     put_last(packet, &channel);
 }
 
-/// The octet that was sealed under this Nonce and header, or None if the tag is wrong.
-pub fn open(tek: &CmacKey, number: u32, header: &[u8], sealed: u8, tag: &[u8; 16]) -> Option<u8>
-    ensures { result ≡ (if is_sealed tek.now number header.now sealed tag.now then Some (hidden_octet tek.now number sealed) else None) }
+/// The octet that was sealed in PCHANNEL under this header, or None if the tag is wrong.
+pub fn open(tek: &CmacKey, header: &[u8], channel: &Channel) -> Option<u8>
+    ensures { result ≡ (if is_sealed tek.now channel.now.nonce header.now channel.now.sealed channel.now.tag
+        then Some (hidden_octet tek.now channel.now.nonce channel.now.sealed) else None) }
 {
-    let mut text = [sealed];
-    if eax_unseal_with(tek, &channel_nonce(number), header, &mut text, tag) {
+    let mut text = [channel.sealed];
+    let nonce = channel_nonce(channel.nonce);
+    if eax_unseal_with(tek, &nonce, header, &mut text, &channel.tag) {
         Some(text[0])
     } else {
         None

@@ -6,9 +6,10 @@ ghost use Rattle.eap_base.specs.Sizes.{max_name};
 ghost use Rattle.eap_method.specs.declared.tags.Label.TheVariants.{Tek};
 ghost use Rattle.eap_method.specs.PskTags.{mac_p_octets, mac_s_octets, ak_record, tek_record};
 
-use crate::channel::{Sealed, channel_nonce};
+use crate::channel::channel_nonce;
 use eap_base::{PSK_KIND, Secret};
 use eap_method::{Label, Records, TagList};
+use psk_messages::Channel;
 
 /// Adds the record of MAC_P.
 #[tactic(auto, using(eap_method::proofs::PskMacs::mac_p_joined))]
@@ -50,16 +51,16 @@ pub fn add_mac_s<'a, R: Records>(
 pub fn add_channel<R: Records>(
     list: &mut TagList<R>,
     psk: &Secret,
-    number: u32,
     header: &[u8],
-    channel: &Sealed,
+    channel: &Channel,
 )
     requires room { length list.old < 2 }
     requires header { length header.now ≤ 22 }
-    ensures { list.new ≡ list.old ++ tek_record psk.now number header.now channel.now.octet channel.now.tag ∷ [] }
+    ensures { list.new ≡ list.old
+        ++ tek_record psk.now channel.now.nonce header.now channel.now.sealed channel.now.tag ∷ [] }
 {
-    let nonce = channel_nonce(number);
-    add_pieces(list, psk, &nonce, header, &[channel.octet], &channel.tag);
+    let nonce = channel_nonce(channel.nonce);
+    add_pieces(list, psk, &nonce, header, &[channel.sealed], &channel.tag);
 }
 
 /// The same, of pieces that live as long.

@@ -6,7 +6,7 @@ use Rattle.std.proofs.lemmas.List.Elements.{All-drop}
 use Rattle.eap_packet.specs.Packet.{IsOctets}
 use Rattle.psk_messages.specs.Message.{Message, psk1, psk2, psk3, psk4, t_of, fields_of, channel, AreFields}
 use Rattle.psk_messages.specs.Reading.{is_size, nonce_at, tag_at, sealed_at, message_at, psk1_at, psk2_at, psk3_at, psk4_at}
-use Rattle.psk_messages.proofs.Channel.{nonce_at_channel, tag_at_channel, sealed_at_channel, length-channel, parts}
+use Rattle.psk_messages.proofs.ChannelParts.{nonce_at_channel, tag_at_channel, sealed_at_channel, length-channel, parts}
 
 -- The octets after Flags are as many as T says.
 pub is_size_fields : (message : Message) → AreFields message → is_size (t_of message) (length (fields_of message)) ≡ true

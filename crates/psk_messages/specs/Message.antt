@@ -82,10 +82,10 @@ size_of (psk4 rand_s nonce tag sealed) = 6 + length rand_s + length tag
 
 -- the message that a view shows
 abbrev pub message_of : PskView → Message
-message_of (view.P1 rand_s id_s) = psk1 rand_s id_s.now
-message_of (view.P2 rand_s rand_p mac id_p) = psk2 rand_s rand_p mac id_p.now
-message_of (view.P3 rand_s mac nonce tag sealed) = psk3 rand_s mac nonce tag sealed
-message_of (view.P4 rand_s nonce tag sealed) = psk4 rand_s nonce tag sealed
+message_of (view.P1 first) = psk1 first.rand_s first.id_s.now
+message_of (view.P2 second) = psk2 second.rand_s second.rand_p second.mac second.id_p.now
+message_of (view.P3 third) = psk3 third.rand_s third.mac third.channel.nonce third.channel.tag third.channel.sealed
+message_of (view.P4 fourth) = psk4 fourth.rand_s fourth.channel.nonce fourth.channel.tag fourth.channel.sealed
 
 -- a reader's answer, with the message in place of the view
 abbrev pub read_value : Result PskView Cause → Result Message Cause

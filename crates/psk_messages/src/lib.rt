@@ -10,5 +10,5 @@ pub use laws::{
     reads_the_spelling, refuses_the_rest, sent_is_read, spellings_are_apart, spellings_are_sized,
 };
 pub use reading::read_psk;
-pub use view::{HEADER, PskView};
+pub use view::{Channel, HEADER, Psk1, Psk2, Psk3, Psk4, PskView};
 pub use writing::{write_psk, write_psk_into};

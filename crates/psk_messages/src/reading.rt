@@ -5,7 +5,7 @@ ghost use Rattle.eap_packet.specs.declared.cause.Cause.TheVariants.{PskShape};
 ghost use Rattle.psk_messages.specs.Message.{AreFields, IsPsk, SpellsNone, read_value, message_of};
 ghost use Rattle.psk_messages.specs.Reading.{front, behind, is_size, message_at, nonce_at, tag_at, sealed_at, psk1_at, psk2_at, psk3_at, psk4_at, read_of};
 
-use crate::view::PskView;
+use crate::view::{Channel, Psk1, Psk2, Psk3, Psk4, PskView};
 use byteorder::{BigEndian, ByteOrder};
 use eap_base::{MAX_NAME, array_of};
 use eap_packet::Cause;
@@ -15,13 +15,6 @@ const FIELD: usize = 16;
 
 /// The octets of PCHANNEL without its extension.
 const CHANNEL: usize = 21;
-
-/// PCHANNEL (RFC 4764 section 5.3) without its extension.
-struct Channel {
-    nonce: u32,
-    tag: [u8; 16],
-    sealed: u8,
-}
 
 /// A field of 16 octets, and the octets behind it.
 fn split_field<'a>(octets: &'a [u8]) -> ([u8; 16], &'a [u8])
@@ -77,7 +70,7 @@ fn read_first<'a>(octets: &'a [u8]) -> PskView<'a>
     ensures fields { AreFields (message_of result) }
 {
     let (rand_s, id_s) = split_field(octets);
-    PskView::P1 { rand_s, id_s }
+    PskView::P1(Psk1 { rand_s, id_s })
 }
 
 /// The second message: RAND_S, RAND_P, MAC_P, ID_P.
@@ -90,12 +83,12 @@ fn read_second<'a>(octets: &'a [u8]) -> PskView<'a>
     let (rand_s, rest) = split_field(octets);
     let (rand_p, rest) = split_field(rest);
     let (mac, id_p) = split_field(rest);
-    PskView::P2 {
+    PskView::P2(Psk2 {
         rand_s,
         rand_p,
         mac,
         id_p,
-    }
+    })
 }
 
 /// The third message: RAND_S, MAC_S, PCHANNEL.
@@ -106,14 +99,12 @@ fn read_third<'a>(octets: &'a [u8]) -> PskView<'a>
 {
     let (rand_s, rest) = split_field(octets);
     let (mac, rest) = split_field(rest);
-    let Channel { nonce, tag, sealed } = split_channel(rest);
-    PskView::P3 {
+    let channel = split_channel(rest);
+    PskView::P3(Psk3 {
         rand_s,
         mac,
-        nonce,
-        tag,
-        sealed,
-    }
+        channel,
+    })
 }
 
 /// The fourth message: RAND_S, PCHANNEL.
@@ -123,13 +114,8 @@ fn read_fourth<'a>(octets: &'a [u8]) -> PskView<'a>
     ensures fields { AreFields (message_of result) }
 {
     let (rand_s, rest) = split_field(octets);
-    let Channel { nonce, tag, sealed } = split_channel(rest);
-    PskView::P4 {
-        rand_s,
-        nonce,
-        tag,
-        sealed,
-    }
+    let channel = split_channel(rest);
+    PskView::P4(Psk4 { rand_s, channel })
 }
 
 /// The message with this T, whose size fits.

@@ -3,37 +3,52 @@
 /// The octets of the header that PCHANNEL's tag covers (RFC 4764 section 3.3).
 pub const HEADER: usize = 22;
 
-/// A message of EAP-PSK (RFC 4764 section 5), borrowed from its Type-Data.
-///
-/// Identities have at most 253 octets. PCHANNEL is shown by its three parts: the Nonce, the Tag and
-/// the one octet that is sealed.
+/// PCHANNEL without its extension (RFC 4764 section 5.3): the Nonce, the Tag and the one octet that is
+/// sealed.
+#[derive(Clone, Copy)]
+pub struct Channel {
+    pub nonce: u32,
+    pub tag: [u8; 16],
+    pub sealed: u8,
+}
+
+/// The first message, the server's: RAND_S and ID_S (RFC 4764 section 5.1).
+#[derive(Clone, Copy)]
+pub struct Psk1<'a> {
+    pub rand_s: [u8; 16],
+    pub id_s: &'a [u8],
+}
+
+/// The second message, the peer's: RAND_S, RAND_P, MAC_P and ID_P (RFC 4764 section 5.2).
+#[derive(Clone, Copy)]
+pub struct Psk2<'a> {
+    pub rand_s: [u8; 16],
+    pub rand_p: [u8; 16],
+    pub mac: [u8; 16],
+    pub id_p: &'a [u8],
+}
+
+/// The third message, the server's: RAND_S, MAC_S and PCHANNEL (RFC 4764 section 5.3).
+#[derive(Clone, Copy)]
+pub struct Psk3 {
+    pub rand_s: [u8; 16],
+    pub mac: [u8; 16],
+    pub channel: Channel,
+}
+
+/// The fourth message, the peer's: RAND_S and PCHANNEL (RFC 4764 section 5.4).
+#[derive(Clone, Copy)]
+pub struct Psk4 {
+    pub rand_s: [u8; 16],
+    pub channel: Channel,
+}
+
+/// A message of EAP-PSK (RFC 4764 section 5), borrowed from its Type-Data. Identities have at most 253
+/// octets.
 #[derive(Clone, Copy)]
 pub enum PskView<'a> {
-    /// The first message, the server's: RAND_S and ID_S.
-    P1 {
-        rand_s: [u8; 16],
-        id_s: &'a [u8],
-    },
-    /// The second message, the peer's: RAND_S, RAND_P, MAC_P and ID_P.
-    P2 {
-        rand_s: [u8; 16],
-        rand_p: [u8; 16],
-        mac: [u8; 16],
-        id_p: &'a [u8],
-    },
-    /// The third message, the server's: RAND_S, MAC_S and PCHANNEL.
-    P3 {
-        rand_s: [u8; 16],
-        mac: [u8; 16],
-        nonce: u32,
-        tag: [u8; 16],
-        sealed: u8,
-    },
-    /// The fourth message, the peer's: RAND_S and PCHANNEL.
-    P4 {
-        rand_s: [u8; 16],
-        nonce: u32,
-        tag: [u8; 16],
-        sealed: u8,
-    },
+    P1(Psk1<'a>),
+    P2(Psk2<'a>),
+    P3(Psk3),
+    P4(Psk4),
 }

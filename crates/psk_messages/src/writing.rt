@@ -6,21 +6,21 @@ ghost use Rattle.eap_packet.specs.Packet.{value_with, has_type};
 ghost use Rattle.eap_packet.specs.Packet as packets;
 ghost use Rattle.psk_messages.specs.Message.{message_of, t_of, channel, fields_of, identity_of, size_of, spelled};
 
-use crate::view::PskView;
+use crate::view::{Channel, PskView};
 use byteorder::{BigEndian, ByteOrder};
 use eap_base::{PSK_KIND, Packet};
 use eap_packet::{Code, begin_into};
 
 /// Appends PCHANNEL, for which there is room.
-fn put_channel(packet: &mut Packet, nonce: u32, tag: &[u8; 16], sealed: u8)
+fn put_channel(packet: &mut Packet, parts: &Channel)
     requires { length packet.old + 21 ≤ max_packet }
-    ensures { packet.new ≡ packet.old ++ channel nonce tag.now sealed }
+    ensures { packet.new ≡ packet.old ++ channel parts.now.nonce parts.now.tag parts.now.sealed }
 {
     let mut number = [0; 4];
-    BigEndian::write_u32(&mut number, nonce);
+    BigEndian::write_u32(&mut number, parts.nonce);
     packet.put(&number);
-    packet.put(tag);
-    packet.put(&[sealed]);
+    packet.put(&parts.tag);
+    packet.put(&[parts.sealed]);
 }
 
 /// Flags, whose six low bits are 0.
@@ -28,10 +28,10 @@ fn flags_of(view: &PskView) -> u8
     ensures { result ≡ 64 * t_of (message_of view.now) }
 {
     let t = match view {
-        PskView::P1 { .. } => 0,
-        PskView::P2 { .. } => 1,
-        PskView::P3 { .. } => 2,
-        PskView::P4 { .. } => 3,
+        PskView::P1(_) => 0,
+        PskView::P2(_) => 1,
+        PskView::P3(_) => 2,
+        PskView::P4(_) => 3,
     };
     64 * t
 }
@@ -43,40 +43,24 @@ fn put_fields(packet: &mut Packet, view: &PskView)
     ensures { packet.new ≡ packet.old ++ fields_of (message_of view.now) }
 {
     match view {
-        PskView::P1 { rand_s, id_s } => {
-            packet.put(rand_s);
-            packet.put(id_s);
+        PskView::P1(psk1) => {
+            packet.put(&psk1.rand_s);
+            packet.put(psk1.id_s);
         }
-        PskView::P2 {
-            rand_s,
-            rand_p,
-            mac,
-            id_p,
-        } => {
-            packet.put(rand_s);
-            packet.put(rand_p);
-            packet.put(mac);
-            packet.put(id_p);
+        PskView::P2(psk2) => {
+            packet.put(&psk2.rand_s);
+            packet.put(&psk2.rand_p);
+            packet.put(&psk2.mac);
+            packet.put(psk2.id_p);
         }
-        PskView::P3 {
-            rand_s,
-            mac,
-            nonce,
-            tag,
-            sealed,
-        } => {
-            packet.put(rand_s);
-            packet.put(mac);
-            put_channel(packet, *nonce, tag, *sealed);
+        PskView::P3(psk3) => {
+            packet.put(&psk3.rand_s);
+            packet.put(&psk3.mac);
+            put_channel(packet, &psk3.channel);
         }
-        PskView::P4 {
-            rand_s,
-            nonce,
-            tag,
-            sealed,
-        } => {
-            packet.put(rand_s);
-            put_channel(packet, *nonce, tag, *sealed);
+        PskView::P4(psk4) => {
+            packet.put(&psk4.rand_s);
+            put_channel(packet, &psk4.channel);
         }
     }
 }
@@ -95,20 +79,14 @@ fn size_of(view: &PskView) -> usize
     ensures fits { result ≤ 302 }
 {
     match view {
-        PskView::P1 { rand_s, id_s } => 1 + count(rand_s) + id_s.len(),
-        PskView::P2 {
-            rand_s,
-            rand_p,
-            mac,
-            id_p,
-        } => 1 + count(rand_s) + count(rand_p) + count(mac) + id_p.len(),
-        PskView::P3 {
-            rand_s,
-            mac,
-            tag,
-            ..
-        } => 6 + count(rand_s) + count(mac) + count(tag),
-        PskView::P4 { rand_s, tag, .. } => 6 + count(rand_s) + count(tag),
+        PskView::P1(psk1) => 1 + count(&psk1.rand_s) + psk1.id_s.len(),
+        PskView::P2(psk2) => {
+            1 + count(&psk2.rand_s) + count(&psk2.rand_p) + count(&psk2.mac) + psk2.id_p.len()
+        }
+        PskView::P3(psk3) => {
+            6 + count(&psk3.rand_s) + count(&psk3.mac) + count(&psk3.channel.tag)
+        }
+        PskView::P4(psk4) => 6 + count(&psk4.rand_s) + count(&psk4.channel.tag),
     }
 }
 

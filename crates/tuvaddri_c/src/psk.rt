@@ -17,10 +17,10 @@ pub fn psk_name<'a>(body: &'a [u8]) -> Option<&'a [u8]>
     ensures size { IfSome result (λ name. length name.now ≤ max_name) }
 {
     match read_psk(body) {
-        Ok(PskView::P1 { .. }) => None,
-        Ok(PskView::P2 { id_p, .. }) => Some(id_p),
-        Ok(PskView::P3 { .. }) => None,
-        Ok(PskView::P4 { .. }) => None,
+        Ok(PskView::P1(_)) => None,
+        Ok(PskView::P2(psk2)) => Some(psk2.id_p),
+        Ok(PskView::P3(_)) => None,
+        Ok(PskView::P4(_)) => None,
         Err(_) => None,
     }
 }

@@ -11,6 +11,7 @@ use cmac_mac::CmacKey;
 use eap_base::{Identity, Nonce, Octets, PSK_KIND, Secret};
 use eap_method::{Credential, Records, Report, TagList, mac_p, mac_s};
 use login_keys::{PskKeys, PskLong, psk_session};
+use psk_messages::Psk1;
 use std::marker::Model;
 
 /// What a peer brings into a login.
@@ -20,14 +21,6 @@ pub struct Begun {
     /// Its first 16 octets are RAND_P.
     pub nonce: Nonce,
     ghost sixteen: { length cred.psk ≡ 16 },
-}
-
-/// PSK-1 of a server that the peer accepts.
-#[derive(Drop)]
-pub struct Psk1<'a> {
-    pub rand_s: [u8; 16],
-    pub id_s: &'a [u8],
-    ghost name: { length id_s.now ≤ max_name },
 }
 
 /// A login after PSK-1, with its keys, which are derived once. Contracts see what they come from.
@@ -68,6 +61,7 @@ impl Login {
 
     /// The login of a peer that has accepted PSK-1.
     pub fn new(own: &Begun, psk1: &Psk1) -> Login
+        requires { length psk1.now.id_s.now ≤ max_name }
         ensures { result ≡ login_with own.now psk1.now }
     {
         let PskLong { ak, kdk } = long_keys(&own.cred.psk);

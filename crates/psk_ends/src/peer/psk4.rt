@@ -1,46 +1,39 @@
 //! Checking PSK-3, and answering it by PSK-4 (RFC 4764 sections 5.3 and 5.4).
 
-ghost use Rattle.std.specs.Prelude.{◌≡◌, ◌≤◌, ◌<◌, [], length, not, true, None};
+ghost use Rattle.std.specs.Prelude.{◌≡◌, ◌≤◌, ◌<◌, [], length, not, true, None, IfOk};
 ghost use Rattle.eap_packet.specs.declared.cause.Cause.TheVariants.{BadTag};
-ghost use Rattle.psk_messages.specs.Message.{psk4};
+ghost use Rattle.psk_messages.specs.Message.{psk4, message_of};
+ghost use Rattle.psk_messages.specs.declared.view.PskView.TheVariants.{P3};
 ghost use Rattle.eap_method.specs.Room.{HasRoom, replies};
 ghost use Rattle.eap_method.specs.Turns.{fault_if};
 ghost use Rattle.eap_method.specs.PskTags.{psk_response, blank_tag, hidden_octet, result_fault, result_of};
-ghost use Rattle.eap_method.specs.PskPeer.{keys_of, psk4_of, psk4_record, psk3_records, psk3_fault, are_right, confirms};
+ghost use Rattle.eap_method.specs.PskPeer.{keys_of, psk4_of, psk4_record, psk3_records, psk3_fault, are_right, confirms, wait_hears};
 ghost use Rattle.psk_ends.specs.Checks.{value_unless};
 ghost use Rattle.psk_ends.specs.PeerStage.{in_phase, outcome_with};
 ghost use Rattle.psk_ends.specs.declared.peer.stage.Phase.TheVariants.{Wait};
 
-use crate::channel::{DONE_FAILURE, DONE_SUCCESS, Sealed, check_result, open, seal_in};
+use crate::channel::{DONE_FAILURE, DONE_SUCCESS, check_result, open, seal_in};
 use crate::peer::login::Login;
 use crate::peer::stage::Phase;
 use crate::records::add_channel;
 use eap_base::{Packet, equal_in_full};
 use eap_method::{Decision, MethodState, PeerTurn, Records, TagList, Tags};
 use eap_packet::{Cause, Code};
-use psk_messages::{PskView, write_psk_into};
-
-/// The fields of PSK-3.
-#[derive(Drop)]
-pub struct Psk3 {
-    pub rand_s: [u8; 16],
-    pub mac: [u8; 16],
-    pub nonce: u32,
-    pub tag: [u8; 16],
-    pub sealed: u8,
-}
+use psk_messages::{Channel, Psk3, Psk4, PskView, write_psk_into};
 
 /// Writes PSK-4 with PCHANNEL still blank.
 fn write_psk4(login: &Login, id: u8, packet: &mut Packet)
     ensures packet { packet.new ≡ psk_response id (psk4 login.now.rand_s 1 blank_tag 0) }
     ensures room { HasRoom packet.new }
 {
-    let message = PskView::P4 {
+    let message = PskView::P4(Psk4 {
         rand_s: *login.rand_s(),
-        nonce: 1,
-        tag: [0; 16],
-        sealed: 0,
-    };
+        channel: Channel {
+            nonce: 1,
+            tag: [0; 16],
+            sealed: 0,
+        },
+    });
     write_psk_into(packet, &message, Code::Response, id);
 }
 
@@ -90,15 +83,17 @@ fn confirm<R: Records>(
 
 /// The octet in PCHANNEL, if both tags are right and it has no fault. `BadTag`: one of them is not.
 fn check_tags(login: &Login, header: &[u8], psk3: &Psk3) -> Result<u8, Cause>
+    requires { psk3.now.channel.nonce ≡ 0 }
     ensures { result ≡ value_unless
-        (fault_if (not (are_right login.now header.now psk3.now.mac psk3.now.tag psk3.now.sealed)) BadTag
-        (result_fault (hidden_octet (keys_of login.now).tek 0 psk3.now.sealed)))
-        (hidden_octet (keys_of login.now).tek 0 psk3.now.sealed) }
+        (fault_if (not (are_right login.now header.now
+        psk3.now.mac psk3.now.channel.tag psk3.now.channel.sealed)) BadTag
+        (result_fault (hidden_octet (keys_of login.now).tek 0 psk3.now.channel.sealed)))
+        (hidden_octet (keys_of login.now).tek 0 psk3.now.channel.sealed) }
 {
     if !equal_in_full(&login.mac_s(), &psk3.mac) {
         return Err(Cause::BadTag);
     }
-    match open(login.tek(), 0, header, psk3.sealed, &psk3.tag) {
+    match open(login.tek(), header, &psk3.channel) {
         None => Err(Cause::BadTag),
         Some(octet) => check_result(octet),
     }
@@ -106,13 +101,15 @@ fn check_tags(login: &Login, header: &[u8], psk3: &Psk3) -> Result<u8, Cause>
 
 /// The octet in PCHANNEL, if PSK-3 has no fault; else the first one, in the order of the causes.
 fn check_psk3(login: &Login, header: &[u8], psk3: &Psk3) -> Result<u8, Cause>
-    ensures { result ≡ value_unless
-        (psk3_fault login.now header.now psk3.now.rand_s psk3.now.mac psk3.now.nonce psk3.now.tag psk3.now.sealed)
-        (hidden_octet (keys_of login.now).tek 0 psk3.now.sealed) }
+    ensures octet { result ≡ value_unless
+        (psk3_fault login.now header.now psk3.now.rand_s psk3.now.mac
+        psk3.now.channel.nonce psk3.now.channel.tag psk3.now.channel.sealed)
+        (hidden_octet (keys_of login.now).tek 0 psk3.now.channel.sealed) }
+    ensures nonce { IfOk result (λ octet. psk3.now.channel.nonce ≡ 0) }
 {
     if psk3.rand_s.as_slice() != login.rand_s().as_slice() {
         Err(Cause::FieldMismatch)
-    } else if psk3.nonce != 0 {
+    } else if psk3.channel.nonce != 0 {
         Err(Cause::BadNonce)
     } else {
         check_tags(login, header, psk3)
@@ -123,14 +120,12 @@ fn check_psk3(login: &Login, header: &[u8], psk3: &Psk3) -> Result<u8, Cause>
 fn add_psk3<R: Records>(login: &Login, header: &[u8], psk3: &Psk3, accepted: &mut TagList<R>)
     requires none { accepted.old ≡ [] }
     requires header { length header.now ≤ 22 }
-    ensures { accepted.new ≡ psk3_records login.now header.now psk3.now.mac psk3.now.tag psk3.now.sealed }
+    requires nonce { psk3.now.channel.nonce ≡ 0 }
+    ensures { accepted.new ≡ psk3_records login.now header.now
+        psk3.now.mac psk3.now.channel.tag psk3.now.channel.sealed }
 {
     login.add_mac_s(accepted, &psk3.mac);
-    let channel = Sealed {
-        octet: psk3.sealed,
-        tag: psk3.tag,
-    };
-    add_channel(accepted, login.psk(), 0, header, &channel);
+    add_channel(accepted, login.psk(), header, &psk3.channel);
 }
 
 /// PSK-3, with this Identifier and this header: it is answered, if it has no fault.
@@ -146,10 +141,8 @@ pub fn hears_psk3<R: Records>(
 ) -> PeerTurn
     requires header { length header.now ≤ 22 }
     requires waits { phase.old ≡ Wait }
-    ensures turn { outcome_with result packet.new tags.new (in_phase phase.new login.now) ≡ confirms login.now id
-        (result_of (hidden_octet (keys_of login.now).tek 0 psk3.now.sealed))
-        (psk3_records login.now header.now psk3.now.mac psk3.now.tag psk3.now.sealed)
-        (psk3_fault login.now header.now psk3.now.rand_s psk3.now.mac psk3.now.nonce psk3.now.tag psk3.now.sealed) }
+    ensures turn { outcome_with result packet.new tags.new (in_phase phase.new login.now)
+        ≡ wait_hears login.now id header.now (message_of (P3 psk3.now)) }
     ensures room { replies result ≡ true → HasRoom packet.new }
 {
     match check_psk3(login, header, psk3) {

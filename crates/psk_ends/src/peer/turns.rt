@@ -1,6 +1,7 @@
 //! A peer's turn for each Request (RFC 4764 section 4).
 
-ghost use Rattle.std.specs.Prelude.{◌≡◌, ◌≤◌, length, true};
+ghost use Rattle.std.specs.Prelude.{◌≡◌, ◌≤◌, length, true, IfOk};
+ghost use Rattle.eap_base.specs.Sizes.{max_name};
 ghost use Rattle.psk_messages.specs.Message.{psk2};
 ghost use Rattle.psk_messages.specs.Reading.{read_of};
 ghost use Rattle.eap_method.specs.Room.{HasRoom, replies};
@@ -14,26 +15,27 @@ ghost use Rattle.psk_ends.specs.PeerStage.{in_phase, view_of, outcome_with, fres
 ghost use Rattle.psk_ends.specs.declared.peer.stage.Phase.TheVariants.{Wait};
 
 use crate::octets::{header_of, idle_cause, message_in};
-use crate::peer::login::{Begun, Login, Psk1};
-use crate::peer::psk4::{Psk3, hears_psk3};
+use crate::peer::login::{Begun, Login};
+use crate::peer::psk4::hears_psk3;
 use crate::peer::stage::{Phase, Stage};
 use eap_base::Packet;
 use eap_method::{Decision, MethodState, PeerTurn, Records, Tags};
 use eap_packet::{Cause, Code};
-use psk_messages::{PskView, write_psk_into};
+use psk_messages::{Psk1, Psk2, PskView, write_psk_into};
 
 /// A Request at a peer that has begun: PSK-1 of a server that it accepts. `UnknownServer`: it doesn't
 /// accept the server's name.
 fn fresh_reads<'a>(own: &Begun, request: &'a [u8]) -> Result<Psk1<'a>, Cause>
     requires { 5 ≤ length request.now }
-    ensures { fresh_with own.now (id_of request.now) result
+    ensures reads { fresh_with own.now (id_of request.now) result
         ≡ fresh_reads own.now.cred own.now.nonce (id_of request.now) (read_of (body_of request.now)) }
+    ensures name { IfOk result (λ psk1. length psk1.id_s.now ≤ max_name) }
 {
     match message_in(request) {
         Err(cause) => Err(cause),
-        Ok(PskView::P1 { rand_s, id_s }) => {
-            if own.cred.accepts.takes(id_s) {
-                Ok(Psk1 { rand_s, id_s })
+        Ok(PskView::P1(psk1)) => {
+            if own.cred.accepts.takes(psk1.id_s) {
+                Ok(psk1)
             } else {
                 Err(Cause::UnknownServer)
             }
@@ -47,12 +49,12 @@ fn write_psk2(login: &Login, id: u8, mac: &[u8; 16], packet: &mut Packet)
     ensures packet { packet.new ≡ psk_response id (psk2 login.now.rand_s (rand_p_of login.now) mac.now login.now.cred.id_p) }
     ensures room { HasRoom packet.new }
 {
-    let message = PskView::P2 {
+    let message = PskView::P2(Psk2 {
         rand_s: *login.rand_s(),
         rand_p: login.rand_p(),
         mac: *mac,
         id_p: login.id_p().as_slice(),
-    };
+    });
     write_psk_into(packet, &message, Code::Response, id);
 }
 
@@ -88,31 +90,9 @@ fn wait_reads<R: Records>(
 {
     match message_in(request) {
         Err(cause) => PeerTurn::Discard(cause),
-        Ok(
-            PskView::P3 {
-                rand_s,
-                mac,
-                nonce,
-                tag,
-                sealed,
-            },
-        ) => {
-            let psk3 = Psk3 {
-                rand_s,
-                mac,
-                nonce,
-                tag,
-                sealed,
-            };
-            hears_psk3(
-                login,
-                phase,
-                request[1],
-                header_of(request),
-                &psk3,
-                packet,
-                tags,
-            )
+        Ok(PskView::P3(psk3)) => {
+            let header = header_of(request);
+            hears_psk3(login, phase, request[1], header, &psk3, packet, tags)
         }
         Ok(_) => PeerTurn::Discard(Cause::WrongOp),
     }

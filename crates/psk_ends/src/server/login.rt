@@ -16,6 +16,7 @@ use eap_base::{Identity, Nonce, Octets, PSK_KIND, Secret};
 use eap_method::{Records, Report, ServerSide, TagList, mac_p, mac_s};
 use login_keys::{PskKeys, psk_session};
 use login_setup::User;
+use psk_messages::Psk2;
 use std::marker::Model;
 
 /// What a server brings into a login, its users apart.
@@ -27,12 +28,14 @@ pub struct Begun {
 }
 
 impl Begun {
-    /// MAC_P of a peer of this name under this AK (RFC 4764 section 5.2).
-    pub fn mac_p(&self, ak: &CmacKey, id_p: &[u8], rand_p: &[u8; 16]) -> [u8; 16]
-        ensures { result ≡ aes_cmac ak.now (mac_p_octets id_p.now self.now.side.id_s (rand_of self.now.nonce) rand_p.now) }
+    /// MAC_P of PSK-2 under this AK (RFC 4764 section 5.2).
+    pub fn mac_p(&self, ak: &CmacKey, psk2: &Psk2) -> [u8; 16]
+        ensures { result ≡ aes_cmac ak.now
+            (mac_p_octets psk2.now.id_p.now self.now.side.id_s (rand_of self.now.nonce) psk2.now.rand_p) }
     {
+        let id_s = self.side.id_s.as_slice();
         let rand_s = rand_of(&self.nonce);
-        mac_p(ak, id_p, self.side.id_s.as_slice(), &rand_s, rand_p)
+        mac_p(ak, psk2.id_p, id_s, &rand_s, &psk2.rand_p)
     }
 }
 
@@ -45,15 +48,13 @@ fn r_for(barred: bool) -> u8
 
 /// PSK-2 of a user that the server knows, with the user's MAC_P.
 #[derive(Drop)]
-pub struct Psk2<'a> {
+pub struct UserPsk2<'a> {
     pub user: &'a User,
-    pub id_p: &'a [u8],
-    pub rand_p: [u8; 16],
-    pub mac: [u8; 16],
+    pub psk2: Psk2<'a>,
     /// AK, expanded.
     pub ak: CmacKey,
     pub kdk: [u8; 16],
-    ghost name: { length id_p.now ≤ max_name },
+    ghost name: { length psk2.id_p.now ≤ max_name },
     ghost ak_is: { ak ≡ (psk_long_of user.now.psk).ak },
     ghost kdk_is: { kdk ≡ (psk_long_of user.now.psk).kdk },
 }
@@ -98,20 +99,20 @@ impl Login {
     ghost use Rattle.psk_ends.specs.ServerStage.{login_with};
 
     /// The login of a server that has accepted PSK-2.
-    pub fn new(own: &Begun, psk2: Psk2) -> Login
-        ensures { result ≡ login_with own.now psk2.entry }
+    pub fn new(own: &Begun, found: UserPsk2) -> Login
+        ensures { result ≡ login_with own.now found.entry }
     {
-        let keys = psk_session(&psk2.kdk, &psk2.rand_p);
+        let keys = psk_session(&found.kdk, &found.psk2.rand_p);
         Login {
             own: Begun {
                 side: own.side.copy(),
                 nonce: own.nonce,
             },
-            id_p: Octets::of(psk2.id_p),
-            psk: psk2.user.psk.copy(),
-            rand_p: psk2.rand_p,
-            r: r_for(psk2.user.barred),
-            ak: psk2.ak,
+            id_p: Octets::of(found.psk2.id_p),
+            psk: found.user.psk.copy(),
+            rand_p: found.psk2.rand_p,
+            r: r_for(found.user.barred),
+            ak: found.ak,
             tek: CmacKey::new(&keys.tek),
             keys,
         }

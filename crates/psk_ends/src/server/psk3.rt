@@ -17,27 +17,29 @@ ghost use Rattle.psk_ends.specs.ServerStage.{outcome_with, asked_with};
 use crate::channel::seal_in;
 use crate::keys::long_keys;
 use crate::octets::{message_in, rand_of};
-use crate::server::login::{Begun, Login, Psk2};
+use crate::server::login::{Begun, Login, UserPsk2};
 use cmac_mac::CmacKey;
 use eap_base::{PSK_KIND, Packet, equal_in_full};
 use eap_method::{Records, TagList, Tags};
 use eap_packet::{Cause, Code};
 use login_keys::PskLong;
 use login_setup::{User, Users};
-use psk_messages::{PskView, write_psk_into};
+use psk_messages::{Channel, Psk2, Psk3, PskView, write_psk_into};
 
 /// Writes PSK-3 with this MAC_S, PCHANNEL still blank.
 fn write_psk3(login: &Login, id: u8, mac: &[u8; 16], packet: &mut Packet)
     ensures packet { packet.new ≡ psk_request id (psk3 (rand_s_of login.now) mac.now 0 blank_tag 0) }
     ensures room { HasRoom packet.new }
 {
-    let message = PskView::P3 {
+    let message = PskView::P3(Psk3 {
         rand_s: login.rand_s(),
         mac: *mac,
-        nonce: 0,
-        tag: [0; 16],
-        sealed: 0,
-    };
+        channel: Channel {
+            nonce: 0,
+            tag: [0; 16],
+            sealed: 0,
+        },
+    });
     write_psk_into(packet, &message, Code::Request, id);
 }
 
@@ -72,51 +74,39 @@ pub fn answer<R: Records>(
     psk3(login, next_id, packet, &mut tags.made);
 }
 
-/// A PSK-2 of this user, under this name. `BadTag`: MAC_P is wrong.
+/// A PSK-2 of this user. `BadTag`: MAC_P is wrong.
 #[tactic(auto, unfolding(eap_method::specs::PskServer::mac_p_of, eap_method::specs::PskServer::mac_p_covers, eap_method::specs::PskServer::ak_of))]
-fn check<'a>(
-    own: &Begun,
-    rand_p: [u8; 16],
-    mac: [u8; 16],
-    id_p: &'a [u8],
-    user: &'a User,
-) -> Result<Option<Psk2<'a>>, Cause>
+fn check<'a>(own: &Begun, psk2: &Psk2<'a>, user: &'a User) -> Result<Option<UserPsk2<'a>>, Cause>
     requires key { length user.now.psk ≡ 16 }
-    requires name { length id_p.now ≤ max_name }
+    requires name { length psk2.now.id_p.now ≤ max_name }
     ensures { (next_id : ℕ) → asked_with own.now next_id result
-        ≡ finds own.now.side own.now.nonce next_id rand_p mac id_p.now (Some user.now) }
+        ≡ finds own.now.side own.now.nonce next_id
+        psk2.now.rand_p psk2.now.mac psk2.now.id_p.now (Some user.now) }
 {
     let PskLong { ak, kdk } = long_keys(&user.psk);
     let ak = CmacKey::new(&ak);
-    if !equal_in_full(&own.mac_p(&ak, id_p, &rand_p), &mac) {
+    if !equal_in_full(&own.mac_p(&ak, psk2), &psk2.mac) {
         return Err(Cause::BadTag);
     }
-    Ok(Some(Psk2 {
+    Ok(Some(UserPsk2 {
         user,
-        id_p,
-        rand_p,
-        mac,
+        psk2: *psk2,
         ak,
         kdk,
     }))
 }
 
 /// A PSK-2 with the server's RAND_S; None if there is no user of its name.
-fn find<'a>(
-    own: &Begun,
-    rand_p: [u8; 16],
-    mac: [u8; 16],
-    id_p: &'a [u8],
-    users: &'a Users,
-) -> Result<Option<Psk2<'a>>, Cause>
-    requires name { length id_p.now ≤ max_name }
+fn find<'a>(own: &Begun, psk2: &Psk2<'a>, users: &'a Users) -> Result<Option<UserPsk2<'a>>, Cause>
+    requires name { length psk2.now.id_p.now ≤ max_name }
     requires keys { All (λ user. IsTrue (fits_kind user.kind user.psk)) users.now }
     ensures { (next_id : ℕ) → asked_with own.now next_id result
-        ≡ finds own.now.side own.now.nonce next_id rand_p mac id_p.now (user_of users.now id_p.now psk_kind) }
+        ≡ finds own.now.side own.now.nonce next_id
+        psk2.now.rand_p psk2.now.mac psk2.now.id_p.now (user_of users.now psk2.now.id_p.now psk_kind) }
 {
-    match users.find(id_p, PSK_KIND) {
+    match users.find(psk2.id_p, PSK_KIND) {
         None => Ok(None),
-        Some(user) => check(own, rand_p, mac, id_p, user),
+        Some(user) => check(own, psk2, user),
     }
 }
 
@@ -126,7 +116,7 @@ pub fn asked_reads<'a>(
     own: &Begun,
     response: &'a [u8],
     users: &'a Users,
-) -> Result<Option<Psk2<'a>>, Cause>
+) -> Result<Option<UserPsk2<'a>>, Cause>
     requires size { 5 ≤ length response.now }
     requires keys { All (λ user. IsTrue (fits_kind user.kind user.psk)) users.now }
     ensures { (next_id : ℕ) → asked_with own.now next_id result
@@ -134,16 +124,9 @@ pub fn asked_reads<'a>(
 {
     match message_in(response) {
         Err(cause) => Err(cause),
-        Ok(
-            PskView::P2 {
-                rand_s,
-                rand_p,
-                mac,
-                id_p,
-            },
-        ) => {
-            if rand_s.as_slice() == rand_of(&own.nonce).as_slice() {
-                find(own, rand_p, mac, id_p, users)
+        Ok(PskView::P2(psk2)) => {
+            if psk2.rand_s.as_slice() == rand_of(&own.nonce).as_slice() {
+                find(own, &psk2, users)
             } else {
                 Err(Cause::FieldMismatch)
             }

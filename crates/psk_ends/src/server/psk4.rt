@@ -1,38 +1,34 @@
 //! Checking PSK-4, which ends the login (RFC 4764 section 5.4).
 
-ghost use Rattle.std.specs.Prelude.{◌≡◌, ℕ, ◌≤◌, List, ◌∷◌, [], length, not};
+ghost use Rattle.std.specs.Prelude.{◌≡◌, ℕ, ◌≤◌, List, ◌∷◌, [], length, not, IfOk};
 ghost use Rattle.eap_packet.specs.declared.cause.Cause.TheVariants.{BadTag};
+ghost use Rattle.psk_messages.specs.Message.{message_of};
+ghost use Rattle.psk_messages.specs.declared.view.PskView.TheVariants.{P4};
 ghost use Rattle.eap_method.specs.Turns.{fault_if};
 ghost use Rattle.eap_method.specs.PskTags.{hidden_octet, is_sealed, result_fault, result_of, tek_record};
-ghost use Rattle.eap_method.specs.PskServer.{keys_of, psk4_fault, both_succeed, ends};
+ghost use Rattle.eap_method.specs.PskServer.{keys_of, psk4_fault, both_succeed, checked_hears};
 ghost use Rattle.psk_ends.specs.Checks.{value_unless};
 ghost use Rattle.psk_ends.specs.ServerStage.{in_known, outcome_with};
 ghost use Rattle.psk_ends.specs.declared.server.stage.KnownPhase.TheVariants.{Checked};
 
-use crate::channel::{DONE_SUCCESS, Sealed, check_result, open};
+use crate::channel::{DONE_SUCCESS, check_result, open};
 use crate::records::add_channel;
 use crate::server::login::Login;
 use crate::server::stage::KnownPhase;
 use eap_method::{Records, ServerTurn, TagList, Tags};
 use eap_packet::Cause;
-
-/// The fields of PSK-4.
-#[derive(Drop)]
-pub struct Psk4 {
-    pub rand_s: [u8; 16],
-    pub nonce: u32,
-    pub tag: [u8; 16],
-    pub sealed: u8,
-}
+use psk_messages::Psk4;
 
 /// The octet in PCHANNEL, if the tag is right and it has no fault. `BadTag`: the tag is wrong.
 fn check_tag(login: &Login, header: &[u8], psk4: &Psk4) -> Result<u8, Cause>
+    requires { psk4.now.channel.nonce ≡ 1 }
     ensures { result ≡ value_unless
-        (fault_if (not (is_sealed (keys_of login.now).tek 1 header.now psk4.now.sealed psk4.now.tag)) BadTag
-        (result_fault (hidden_octet (keys_of login.now).tek 1 psk4.now.sealed)))
-        (hidden_octet (keys_of login.now).tek 1 psk4.now.sealed) }
+        (fault_if (not (is_sealed (keys_of login.now).tek 1 header.now
+        psk4.now.channel.sealed psk4.now.channel.tag)) BadTag
+        (result_fault (hidden_octet (keys_of login.now).tek 1 psk4.now.channel.sealed)))
+        (hidden_octet (keys_of login.now).tek 1 psk4.now.channel.sealed) }
 {
-    match open(login.tek(), 1, header, psk4.sealed, &psk4.tag) {
+    match open(login.tek(), header, &psk4.channel) {
         None => Err(Cause::BadTag),
         Some(octet) => check_result(octet),
     }
@@ -40,13 +36,15 @@ fn check_tag(login: &Login, header: &[u8], psk4: &Psk4) -> Result<u8, Cause>
 
 /// The octet in PCHANNEL, if PSK-4 has no fault; else the first one, in the order of the causes.
 fn check_psk4(login: &Login, header: &[u8], psk4: &Psk4) -> Result<u8, Cause>
-    ensures { result ≡ value_unless
-        (psk4_fault login.now header.now psk4.now.rand_s psk4.now.nonce psk4.now.tag psk4.now.sealed)
-        (hidden_octet (keys_of login.now).tek 1 psk4.now.sealed) }
+    ensures octet { result ≡ value_unless
+        (psk4_fault login.now header.now psk4.now.rand_s
+        psk4.now.channel.nonce psk4.now.channel.tag psk4.now.channel.sealed)
+        (hidden_octet (keys_of login.now).tek 1 psk4.now.channel.sealed) }
+    ensures nonce { IfOk result (λ octet. psk4.now.channel.nonce ≡ 1) }
 {
     if psk4.rand_s.as_slice() != login.rand_s().as_slice() {
         Err(Cause::FieldMismatch)
-    } else if psk4.nonce != 1 {
+    } else if psk4.channel.nonce != 1 {
         Err(Cause::BadNonce)
     } else {
         check_tag(login, header, psk4)
@@ -64,13 +62,11 @@ fn end(login: &Login, octet: u8) -> bool
 fn add_psk4<R: Records>(login: &Login, header: &[u8], psk4: &Psk4, accepted: &mut TagList<R>)
     requires none { accepted.old ≡ [] }
     requires header { length header.now ≤ 22 }
-    ensures { accepted.new ≡ tek_record login.now.psk 1 header.now psk4.now.sealed psk4.now.tag ∷ [] }
+    requires nonce { psk4.now.channel.nonce ≡ 1 }
+    ensures { accepted.new
+        ≡ tek_record login.now.psk 1 header.now psk4.now.channel.sealed psk4.now.channel.tag ∷ [] }
 {
-    let channel = Sealed {
-        octet: psk4.sealed,
-        tag: psk4.tag,
-    };
-    add_channel(accepted, login.psk(), 1, header, &channel);
+    add_channel(accepted, login.psk(), header, &psk4.channel);
 }
 
 /// PSK-4, with this header: it ends the login, if it has no fault.
@@ -84,10 +80,8 @@ pub fn hears_psk4<R: Records>(
 ) -> ServerTurn
     requires header { length header.now ≤ 22 }
     requires awaits { phase.old ≡ Checked }
-    ensures { (packet : List ℕ) → outcome_with result packet tags.new (in_known phase.new login.now) ≡ ends login.now
-        (result_of (hidden_octet (keys_of login.now).tek 1 psk4.now.sealed))
-        (tek_record login.now.psk 1 header.now psk4.now.sealed psk4.now.tag ∷ [])
-        (psk4_fault login.now header.now psk4.now.rand_s psk4.now.nonce psk4.now.tag psk4.now.sealed) }
+    ensures { (packet : List ℕ) → outcome_with result packet tags.new (in_known phase.new login.now)
+        ≡ checked_hears login.now header.now (message_of (P4 psk4.now)) }
 {
     match check_psk4(login, header, psk4) {
         Err(cause) => ServerTurn::Discard(cause),

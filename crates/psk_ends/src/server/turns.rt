@@ -13,13 +13,13 @@ ghost use Rattle.psk_ends.specs.declared.server.stage.KnownPhase.TheVariants.{Ch
 use crate::octets::{header_of, idle_cause, message_in, rand_of};
 use crate::server::login::{Begun, Login};
 use crate::server::psk3::{answer, asked_reads};
-use crate::server::psk4::{Psk4, hears_psk4};
+use crate::server::psk4::hears_psk4;
 use crate::server::stage::{EarlyPhase, KnownPhase, Stage};
 use eap_base::Packet;
 use eap_method::{Records, ServerTurn, Tags};
 use eap_packet::{Cause, Code};
 use login_setup::Users;
-use psk_messages::{PskView, write_psk_into};
+use psk_messages::{Psk1, PskView, write_psk_into};
 
 /// Writes PSK-1 (RFC 4764 section 5.1).
 #[tactic(auto, unfolding(eap_method::specs::PskServer::first))]
@@ -27,10 +27,10 @@ fn write_psk1(own: &Begun, id: u8, packet: &mut Packet)
     ensures first { packet.new ≡ first own.now.side own.now.nonce id }
     ensures room { HasRoom packet.new }
 {
-    let message = PskView::P1 {
+    let message = PskView::P1(Psk1 {
         rand_s: rand_of(&own.nonce),
         id_s: own.side.id_s.as_slice(),
-    };
+    });
     write_psk_into(packet, &message, Code::Request, id);
 }
 
@@ -67,22 +67,7 @@ fn checked_reads<R: Records>(
 {
     match message_in(response) {
         Err(cause) => ServerTurn::Discard(cause),
-        Ok(
-            PskView::P4 {
-                rand_s,
-                nonce,
-                tag,
-                sealed,
-            },
-        ) => {
-            let psk4 = Psk4 {
-                rand_s,
-                nonce,
-                tag,
-                sealed,
-            };
-            hears_psk4(login, phase, header_of(response), &psk4, tags)
-        }
+        Ok(PskView::P4(psk4)) => hears_psk4(login, phase, header_of(response), &psk4, tags),
         Ok(_) => ServerTurn::Discard(Cause::WrongOp),
     }
 }
@@ -112,9 +97,9 @@ pub fn hears_response<R: Records>(
                     *phase = EarlyPhase::Refused;
                     ServerTurn::Done { success: false }
                 }
-                Ok(Some(psk2)) => {
-                    let mac = psk2.mac;
-                    let login = Login::new(own, psk2);
+                Ok(Some(found)) => {
+                    let mac = found.psk2.mac;
+                    let login = Login::new(own, found);
                     answer(&login, &mac, next_id, packet, tags);
                     let phase = KnownPhase::Checked;
                     *stage = Stage::Known { login, phase };
