@@ -36,10 +36,10 @@ pub fn put_note<W: Sink>(sink: &mut W, line: &mut LineBuffer, body: &[u8]) -> Re
     ensures { Puts W.shown result sink.old sink.new line.old line.new (gpsk_note (read_of None body.now)) }
 {
     match read_gpsk(body, None) {
-        Ok(GpskView::M1 { .. }) => put_pieces(sink, line, &[Text(b"gpsk-1")]),
-        Ok(GpskView::M2 { .. }) => put_pieces(sink, line, &[Text(b"gpsk-2")]),
-        Ok(GpskView::M3 { .. }) => put_pieces(sink, line, &[Text(b"gpsk-3")]),
-        Ok(GpskView::M4 { .. }) => put_pieces(sink, line, &[Text(b"gpsk-4")]),
+        Ok(GpskView::M1(_)) => put_pieces(sink, line, &[Text(b"gpsk-1")]),
+        Ok(GpskView::M2(_)) => put_pieces(sink, line, &[Text(b"gpsk-2")]),
+        Ok(GpskView::M3(_)) => put_pieces(sink, line, &[Text(b"gpsk-3")]),
+        Ok(GpskView::M4(_)) => put_pieces(sink, line, &[Text(b"gpsk-4")]),
         Ok(GpskView::Fail { code }) => put_code(sink, line, "gpsk-fail ", code),
         Ok(GpskView::ProtectedFail { code, .. }) => put_code(
             sink,

@@ -12,7 +12,7 @@ ghost use Rattle.capture_check.specs.Gpsk.{gpsk2_of, gpsk_finding, gpsk_follows,
 use crate::finding::Finding;
 use eap_base::{GPSK_KIND, Identity, Octets, Suite, equal_in_full};
 use eap_packet::Cause;
-use gpsk_messages::{GpskView, covered_part, mac_part, read_gpsk};
+use gpsk_messages::{Gpsk2, GpskView, covered_part, mac_part, read_gpsk};
 use login_keys::{gpsk_keys, gpsk_tag};
 use login_setup::Users;
 
@@ -33,10 +33,10 @@ fn is_astray(to_peer: bool, view: &GpskView) -> bool
     ensures { result ≡ is_gpsk_astray to_peer (message_of view.now) }
 {
     match view {
-        GpskView::M1 { .. } => !to_peer,
-        GpskView::M2 { .. } => to_peer,
-        GpskView::M3 { .. } => !to_peer,
-        GpskView::M4 { .. } => to_peer,
+        GpskView::M1(_) => !to_peer,
+        GpskView::M2(_) => to_peer,
+        GpskView::M3(_) => !to_peer,
+        GpskView::M4(_) => to_peer,
         GpskView::Fail { .. } => false,
         GpskView::ProtectedFail { .. } => false,
     }
@@ -55,23 +55,26 @@ fn is_tagged(login: &GpskLogin, view: &GpskView, body: &[u8]) -> bool
 
 /// The login of the user whom GPSK-2 names, or None if there is no such user.
 #[tactic(auto, unfolding(crate::specs::Gpsk::gpsk_login_in, crate::specs::Gpsk::gpsk_login_of), using(crate::proofs::GpskLaws::key_is_long))]
-fn login_in(
-    users: &Users,
-    id_p: &[u8],
-    id_s: &[u8],
-    rand_p: &[u8; 32],
-    rand_s: &[u8; 32],
-    suite: Suite,
-) -> Option<GpskLogin>
+fn login_in(users: &Users, gpsk2: &Gpsk2) -> Option<GpskLogin>
     requires keys { All (λ user. IsTrue (fits_kind user.kind user.psk)) users.now }
-    requires peer_name { length id_p.now ≤ max_name }
-    requires server_name { length id_s.now ≤ max_name }
-    ensures login { result ≡ gpsk_login_in users.now id_p.now id_s.now rand_p.now rand_s.now suite }
+    requires peer_name { length gpsk2.now.id_p.now ≤ max_name }
+    requires server_name { length gpsk2.now.id_s.now ≤ max_name }
+    ensures login { result ≡ gpsk_login_in users.now gpsk2.now.id_p.now gpsk2.now.id_s.now
+        gpsk2.now.rand_p gpsk2.now.rand_s gpsk2.now.suite }
     ensures key { HasKey result }
 {
+    let Gpsk2 {
+        id_p,
+        id_s,
+        rand_p,
+        rand_s,
+        suite,
+        ..
+    } = gpsk2;
     match users.find(id_p, GPSK_KIND) {
         None => None,
         Some(user) => {
+            let suite = *suite;
             let keys = gpsk_keys(suite, user.psk.as_slice(), rand_p, id_p, rand_s, id_s);
             Some(GpskLogin {
                 name: user.name.copy(),
@@ -129,20 +132,13 @@ fn judge(login: &mut Option<GpskLogin>, users: &Users, view: &GpskView, body: &[
     ensures key_kept { HasKey login.new }
 {
     match view {
-        GpskView::M1 { .. } => Finding::Good,
-        GpskView::M2 {
-            id_p,
-            id_s,
-            rand_p,
-            rand_s,
-            suite,
-            ..
-        } => match login_in(users, id_p, id_s, rand_p, rand_s, *suite) {
+        GpskView::M1(_) => Finding::Good,
+        GpskView::M2(gpsk2) => match login_in(users, gpsk2) {
             None => Finding::NoKey,
             Some(begun) => begin(login, begun, view, body),
         },
-        GpskView::M3 { .. } => follow(login, view, body),
-        GpskView::M4 { .. } => follow(login, view, body),
+        GpskView::M3(_) => follow(login, view, body),
+        GpskView::M4(_) => follow(login, view, body),
         GpskView::Fail { .. } => Finding::Good,
         GpskView::ProtectedFail { .. } => follow(login, view, body),
     }

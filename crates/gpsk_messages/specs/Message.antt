@@ -140,10 +140,10 @@ without_mac (protected_fail code mac) = protected_fail code []
 
 -- the message that a view shows
 abbrev pub message_of : GpskView → Message
-message_of (view.M1 id_s rand_s list) = gpsk1 id_s.now rand_s list.now
-message_of (view.M2 id_p id_s rand_p rand_s list suite pd mac) = gpsk2 id_p.now id_s.now rand_p rand_s list.now suite pd.now mac.now
-message_of (view.M3 rand_p rand_s id_s suite pd mac) = gpsk3 rand_p rand_s id_s.now suite pd.now mac.now
-message_of (view.M4 pd mac) = gpsk4 pd.now mac.now
+message_of (view.M1 m) = gpsk1 m.id_s.now m.rand_s m.list.now
+message_of (view.M2 m) = gpsk2 m.id_p.now m.id_s.now m.rand_p m.rand_s m.list.now m.suite m.pd.now m.mac.now
+message_of (view.M3 m) = gpsk3 m.rand_p m.rand_s m.id_s.now m.suite m.pd.now m.mac.now
+message_of (view.M4 m) = gpsk4 m.pd.now m.mac.now
 message_of (view.Fail code) = fail code
 message_of (view.ProtectedFail code mac) = protected_fail code mac.now
 

@@ -14,5 +14,5 @@ pub use laws::{
 };
 pub use parts::{covered_part, mac_part};
 pub use reading::{covered, read_gpsk};
-pub use view::GpskView;
+pub use view::{Gpsk1, Gpsk2, Gpsk3, Gpsk4, GpskView};
 pub use writing::{write_gpsk, write_gpsk_into};

@@ -10,10 +10,10 @@ pub fn mac_part<'a>(view: &GpskView<'a>) -> &'a [u8]
     ensures { result.now ≡ mac_of (message_of view.now) }
 {
     match view {
-        GpskView::M1 { .. } | GpskView::Fail { .. } => &[],
-        GpskView::M2 { mac, .. } => mac,
-        GpskView::M3 { mac, .. } => mac,
-        GpskView::M4 { mac, .. } => mac,
+        GpskView::M1(_) | GpskView::Fail { .. } => &[],
+        GpskView::M2(gpsk2) => gpsk2.mac,
+        GpskView::M3(gpsk3) => gpsk3.mac,
+        GpskView::M4(gpsk4) => gpsk4.mac,
         GpskView::ProtectedFail { mac, .. } => mac,
     }
 }

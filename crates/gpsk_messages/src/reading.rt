@@ -8,7 +8,7 @@ ghost use Rattle.gpsk_messages.specs.Reading.{and_then, gpsk1_at, gpsk2_at, gpsk
 use crate::fields::{
     code_field, identity_field, rand_field, sized_field, suite_field, suites_field,
 };
-use crate::view::GpskView;
+use crate::view::{Gpsk1, Gpsk2, Gpsk3, Gpsk4, GpskView};
 use eap_packet::Cause;
 
 /// The most octets of a list of suites: 20 entries.
@@ -33,7 +33,7 @@ fn read_gpsk1<'a>(octets: &'a [u8], ks: Option<u8>) -> Option<GpskView<'a>>
     let (rand_s, rest) = rand_field(rest)?;
     let (list, rest) = suites_field(rest)?;
     if rest.is_empty() {
-        Some(GpskView::M1 { id_s, rand_s, list })
+        Some(GpskView::M1(Gpsk1 { id_s, rand_s, list }))
     } else {
         None
     }
@@ -52,7 +52,7 @@ fn read_gpsk2<'a>(octets: &'a [u8], ks: Option<u8>) -> Option<GpskView<'a>>
     let (suite, rest) = suite_field(rest)?;
     let (pd, mac) = sized_field(rest)?;
     if mac.len() == suite.ks() {
-        Some(GpskView::M2 {
+        Some(GpskView::M2(Gpsk2 {
             id_p,
             id_s,
             rand_p,
@@ -61,7 +61,7 @@ fn read_gpsk2<'a>(octets: &'a [u8], ks: Option<u8>) -> Option<GpskView<'a>>
             suite,
             pd,
             mac,
-        })
+        }))
     } else {
         None
     }
@@ -78,14 +78,14 @@ fn read_gpsk3<'a>(octets: &'a [u8], ks: Option<u8>) -> Option<GpskView<'a>>
     let (suite, rest) = suite_field(rest)?;
     let (pd, mac) = sized_field(rest)?;
     if mac.len() == suite.ks() {
-        Some(GpskView::M3 {
+        Some(GpskView::M3(Gpsk3 {
             rand_p,
             rand_s,
             id_s,
             suite,
             pd,
             mac,
-        })
+        }))
     } else {
         None
     }
@@ -98,7 +98,7 @@ fn read_gpsk4<'a>(octets: &'a [u8], ks: Option<u8>) -> Option<GpskView<'a>>
 {
     let (pd, mac) = sized_field(octets)?;
     if is_size_of_mac(mac.len(), ks) {
-        Some(GpskView::M4 { pd, mac })
+        Some(GpskView::M4(Gpsk4 { pd, mac }))
     } else {
         None
     }
@@ -151,7 +151,8 @@ fn list_size(view: &GpskView) -> usize
     ensures { result ≡ length (list_of (message_of view.now)) }
 {
     match view {
-        GpskView::M1 { list, .. } | GpskView::M2 { list, .. } => list.len(),
+        GpskView::M1(gpsk1) => gpsk1.list.len(),
+        GpskView::M2(gpsk2) => gpsk2.list.len(),
         _ => 0,
     }
 }

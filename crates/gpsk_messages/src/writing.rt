@@ -8,7 +8,7 @@ ghost use Rattle.eap_packet.specs.Packet.{value_with, has_type, max_type_data};
 ghost use Rattle.eap_packet.specs.Packet as packets;
 ghost use Rattle.gpsk_messages.specs.Message.{message_of, op_code, spelled, field_with_length, size_of};
 
-use crate::view::GpskView;
+use crate::view::{Gpsk1, Gpsk2, GpskView};
 use byteorder::{BigEndian, ByteOrder};
 use eap_base::{GPSK_KIND, Packet, Suite};
 use eap_packet::{Code, begin_into};
@@ -52,31 +52,29 @@ fn put_rands(packet: &mut Packet, rand_p: &[u8; 32], rand_s: &[u8; 32])
 }
 
 /// Appends the fields of GPSK-1, for which there is room.
-fn put_gpsk1(packet: &mut Packet, id_s: &[u8], rand_s: &[u8; 32], list: &[u8])
-    requires { length packet.old + 4 + length id_s.now + length rand_s.now + length list.now ≤ max_packet }
-    ensures { packet.new ≡ packet.old ++ (field_with_length id_s.now ++ (rand_s.now ++ field_with_length list.now)) }
+fn put_gpsk1(packet: &mut Packet, gpsk1: &Gpsk1)
+    requires { length packet.old + 4 + length gpsk1.now.id_s.now + length gpsk1.now.rand_s
+        + length gpsk1.now.list.now ≤ max_packet }
+    ensures { packet.new ≡ packet.old
+        ++ (field_with_length gpsk1.now.id_s.now ++ (gpsk1.now.rand_s ++ field_with_length gpsk1.now.list.now)) }
 {
-    put_sized(packet, id_s);
-    put_rand(packet, rand_s);
-    put_sized(packet, list);
+    put_sized(packet, gpsk1.id_s);
+    put_rand(packet, &gpsk1.rand_s);
+    put_sized(packet, gpsk1.list);
 }
 
 /// Appends the fields of GPSK-2 up to the list of suites, for which there is room.
-fn put_offer(
-    packet: &mut Packet,
-    id_p: &[u8],
-    id_s: &[u8],
-    rand_p: &[u8; 32],
-    rand_s: &[u8; 32],
-    list: &[u8],
-)
-    requires { length packet.old + 6 + length id_p.now + length id_s.now + length rand_p.now + length rand_s.now + length list.now ≤ max_packet }
-    ensures { packet.new ≡ packet.old ++ (field_with_length id_p.now ++ (field_with_length id_s.now ++ (rand_p.now ++ (rand_s.now ++ field_with_length list.now)))) }
+fn put_offer(packet: &mut Packet, gpsk2: &Gpsk2)
+    requires { length packet.old + 6 + length gpsk2.now.id_p.now + length gpsk2.now.id_s.now
+        + length gpsk2.now.rand_p + length gpsk2.now.rand_s + length gpsk2.now.list.now ≤ max_packet }
+    ensures { packet.new ≡ packet.old
+        ++ (field_with_length gpsk2.now.id_p.now ++ (field_with_length gpsk2.now.id_s.now
+        ++ (gpsk2.now.rand_p ++ (gpsk2.now.rand_s ++ field_with_length gpsk2.now.list.now)))) }
 {
-    put_sized(packet, id_p);
-    put_sized(packet, id_s);
-    put_rands(packet, rand_p, rand_s);
-    put_sized(packet, list);
+    put_sized(packet, gpsk2.id_p);
+    put_sized(packet, gpsk2.id_s);
+    put_rands(packet, &gpsk2.rand_p, &gpsk2.rand_s);
+    put_sized(packet, gpsk2.list);
 }
 
 /// Appends CSuite_Sel, the PD block and the MAC, for which there is room.
@@ -94,10 +92,10 @@ fn op_code_of(view: &GpskView) -> u8
     ensures { result ≡ op_code (message_of view.now) }
 {
     match view {
-        GpskView::M1 { .. } => 1,
-        GpskView::M2 { .. } => 2,
-        GpskView::M3 { .. } => 3,
-        GpskView::M4 { .. } => 4,
+        GpskView::M1(_) => 1,
+        GpskView::M2(_) => 2,
+        GpskView::M3(_) => 3,
+        GpskView::M4(_) => 4,
         GpskView::Fail { .. } => 5,
         GpskView::ProtectedFail { .. } => 6,
     }
@@ -109,38 +107,19 @@ fn size_of(view: &GpskView) -> usize
     ensures { result ≡ size_of (message_of view.now) }
 {
     match view {
-        GpskView::M1 { id_s, rand_s, list } => 5
-            + id_s.len()
-            + rand_s.as_slice().len()
-            + list.len(),
-        GpskView::M2 {
-            id_p,
-            id_s,
-            rand_p,
-            rand_s,
-            list,
-            pd,
-            mac,
-            ..
-        } => {
-            let names = id_p.len() + id_s.len();
-            let rands = rand_p.as_slice().len() + rand_s.as_slice().len();
-            15 + names + rands + list.len() + pd.len() + mac.len()
+        GpskView::M1(gpsk1) => {
+            5 + gpsk1.id_s.len() + gpsk1.rand_s.as_slice().len() + gpsk1.list.len()
         }
-        GpskView::M3 {
-            rand_p,
-            rand_s,
-            id_s,
-            pd,
-            mac,
-            ..
-        } => 11
-            + rand_p.as_slice().len()
-            + rand_s.as_slice().len()
-            + id_s.len()
-            + pd.len()
-            + mac.len(),
-        GpskView::M4 { pd, mac } => 3 + pd.len() + mac.len(),
+        GpskView::M2(gpsk2) => {
+            let names = gpsk2.id_p.len() + gpsk2.id_s.len();
+            let rands = gpsk2.rand_p.as_slice().len() + gpsk2.rand_s.as_slice().len();
+            15 + names + rands + gpsk2.list.len() + gpsk2.pd.len() + gpsk2.mac.len()
+        }
+        GpskView::M3(gpsk3) => {
+            let rands = gpsk3.rand_p.as_slice().len() + gpsk3.rand_s.as_slice().len();
+            11 + rands + gpsk3.id_s.len() + gpsk3.pd.len() + gpsk3.mac.len()
+        }
+        GpskView::M4(gpsk4) => 3 + gpsk4.pd.len() + gpsk4.mac.len(),
         GpskView::Fail { .. } => 5,
         GpskView::ProtectedFail { mac, .. } => 5 + mac.len(),
     }
@@ -153,42 +132,24 @@ fn put_message(packet: &mut Packet, view: &GpskView)
     ensures { packet.new ≡ packet.old ++ spelled (message_of view.now) }
 {
     packet.put(&[op_code_of(view)]);
-    match *view {
-        GpskView::M1 { id_s, rand_s, list } => {
-            put_gpsk1(packet, id_s, &rand_s, list);
+    match view {
+        GpskView::M1(gpsk1) => put_gpsk1(packet, gpsk1),
+        GpskView::M2(gpsk2) => {
+            put_offer(packet, gpsk2);
+            put_sealed(packet, gpsk2.suite, gpsk2.pd, gpsk2.mac);
         }
-        GpskView::M2 {
-            id_p,
-            id_s,
-            rand_p,
-            rand_s,
-            list,
-            suite,
-            pd,
-            mac,
-        } => {
-            put_offer(packet, id_p, id_s, &rand_p, &rand_s, list);
-            put_sealed(packet, suite, pd, mac);
+        GpskView::M3(gpsk3) => {
+            put_rands(packet, &gpsk3.rand_p, &gpsk3.rand_s);
+            put_sized(packet, gpsk3.id_s);
+            put_sealed(packet, gpsk3.suite, gpsk3.pd, gpsk3.mac);
         }
-        GpskView::M3 {
-            rand_p,
-            rand_s,
-            id_s,
-            suite,
-            pd,
-            mac,
-        } => {
-            put_rands(packet, &rand_p, &rand_s);
-            put_sized(packet, id_s);
-            put_sealed(packet, suite, pd, mac);
+        GpskView::M4(gpsk4) => {
+            put_sized(packet, gpsk4.pd);
+            packet.put(gpsk4.mac);
         }
-        GpskView::M4 { pd, mac } => {
-            put_sized(packet, pd);
-            packet.put(mac);
-        }
-        GpskView::Fail { code } => put_code(packet, code),
+        GpskView::Fail { code } => put_code(packet, *code),
         GpskView::ProtectedFail { code, mac } => {
-            put_code(packet, code);
+            put_code(packet, *code);
             packet.put(mac);
         }
     }

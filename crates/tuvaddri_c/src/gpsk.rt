@@ -23,10 +23,10 @@ pub fn gpsk_name<'a>(body: &'a [u8]) -> Option<&'a [u8]>
     ensures size { IfSome result (λ name. length name.now ≤ max_name) }
 {
     match read_gpsk(body, None) {
-        Ok(GpskView::M1 { .. }) => None,
-        Ok(GpskView::M2 { id_p, .. }) => Some(id_p),
-        Ok(GpskView::M3 { .. }) => None,
-        Ok(GpskView::M4 { .. }) => None,
+        Ok(GpskView::M1(_)) => None,
+        Ok(GpskView::M2(gpsk2)) => Some(gpsk2.id_p),
+        Ok(GpskView::M3(_)) => None,
+        Ok(GpskView::M4(_)) => None,
         Ok(GpskView::Fail { .. }) => None,
         Ok(GpskView::ProtectedFail { .. }) => None,
         Err(_) => None,
@@ -45,10 +45,10 @@ pub fn repeated_code(body: &[u8]) -> u8
     ensures { result ≡ repeated_code (read_of None body.now) }
 {
     match read_gpsk(body, None) {
-        Ok(GpskView::M1 { .. }) => 0,
-        Ok(GpskView::M2 { .. }) => 0,
-        Ok(GpskView::M3 { .. }) => 0,
-        Ok(GpskView::M4 { .. }) => 0,
+        Ok(GpskView::M1(_)) => 0,
+        Ok(GpskView::M2(_)) => 0,
+        Ok(GpskView::M3(_)) => 0,
+        Ok(GpskView::M4(_)) => 0,
         Ok(GpskView::Fail { code }) => known_code(code),
         Ok(GpskView::ProtectedFail { code, .. }) => known_code(code),
         Err(_) => 0,

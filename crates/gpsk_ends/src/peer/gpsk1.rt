@@ -11,25 +11,25 @@ ghost use Rattle.gpsk_ends.specs.PeerStage.{outcome_of_offer};
 use crate::hearing::hear;
 use crate::peer::login::Begun;
 use crate::peer::offer::Offer;
-use eap_base::Nonce;
 use eap_packet::Cause;
-use gpsk_messages::GpskView;
+use gpsk_messages::{Gpsk1, GpskView};
 use login_policy::pick_suite;
 
 /// GPSK-1 of a server that the peer accepts: the first suite of the list that it allows is picked.
 /// `NoSuite`: there is none.
-fn pick<'a>(own: &Begun, id_s: &'a [u8], rand_s: Nonce, list: &'a [u8]) -> Result<Offer<'a>, Cause>
-    requires name { length id_s.now ≤ max_name }
-    requires few { length list.now ≤ 120 }
+fn pick<'a>(own: &Begun, gpsk1: &Gpsk1<'a>) -> Result<Offer<'a>, Cause>
+    requires name { length gpsk1.now.id_s.now ≤ max_name }
+    requires few { length gpsk1.now.list.now ≤ 120 }
     ensures { (id : ℕ) → outcome_of_offer own.now.cred own.now.nonce id result
-        ≡ picks own.now.cred own.now.nonce id id_s.now rand_s list.now (picked_suite own.now.cred.suites list.now) }
+        ≡ picks own.now.cred own.now.nonce id gpsk1.now.id_s.now gpsk1.now.rand_s gpsk1.now.list.now
+        (picked_suite own.now.cred.suites gpsk1.now.list.now) }
 {
-    match pick_suite(&own.cred.suites, list) {
+    match pick_suite(&own.cred.suites, gpsk1.list) {
         None => Err(Cause::NoSuite),
         Some(suite) => Ok(Offer {
-            id_s,
-            rand_s,
-            list,
+            id_s: gpsk1.id_s,
+            rand_s: gpsk1.rand_s,
+            list: gpsk1.list,
             suite,
         }),
     }
@@ -42,9 +42,9 @@ pub fn fresh_reads<'a>(own: &Begun, body: &'a [u8]) -> Result<Offer<'a>, Cause>
 {
     match hear(body, None) {
         Err(cause) => Err(cause),
-        Ok(GpskView::M1 { id_s, rand_s, list }) => {
-            if own.cred.accepts.takes(id_s) {
-                pick(own, id_s, rand_s, list)
+        Ok(GpskView::M1(gpsk1)) => {
+            if own.cred.accepts.takes(gpsk1.id_s) {
+                pick(own, &gpsk1)
             } else {
                 Err(Cause::UnknownServer)
             }

@@ -17,7 +17,7 @@ use crate::sealing::mac_place;
 use eap_base::{GPSK_KIND, Identity, Nonce, Octets, Packet, Suite};
 use eap_method::{Credential, Records, Report, TagList};
 use eap_packet::Code;
-use gpsk_messages::GpskView;
+use gpsk_messages::{Gpsk2, Gpsk3, Gpsk4, GpskView};
 use std::marker::Model;
 
 /// What a peer brings into a login.
@@ -86,13 +86,14 @@ impl Login {
     }
 
     /// Whether GPSK-3 repeats the fields of the login.
-    pub fn repeats(&self, rand_p: &Nonce, rand_s: &Nonce, id_s: &[u8], suite: Suite) -> bool
-        ensures { result ≡ repeats self.now rand_p.now rand_s.now id_s.now suite }
+    pub fn repeats(&self, gpsk3: &Gpsk3) -> bool
+        ensures { result ≡ repeats self.now gpsk3.now.rand_p gpsk3.now.rand_s gpsk3.now.id_s.now
+            gpsk3.now.suite }
     {
-        *rand_p == self.own.nonce
-            && *rand_s == self.rand_s
-            && id_s == self.id_s.as_slice()
-            && suite.number() == self.keys.suite().number()
+        gpsk3.rand_p == self.own.nonce
+            && gpsk3.rand_s == self.rand_s
+            && gpsk3.id_s == self.id_s.as_slice()
+            && gpsk3.suite.number() == self.keys.suite().number()
     }
 
     /// Whether a message, which the Type-Data encodes, has the MAC of the login.
@@ -132,7 +133,7 @@ impl Login {
         ensures room { HasRoom packet.new }
     {
         let suite = self.keys.suite();
-        let open = GpskView::M2 {
+        let open = GpskView::M2(Gpsk2 {
             id_p: self.own.cred.id_p.as_slice(),
             id_s: self.id_s.as_slice(),
             rand_p: self.own.nonce,
@@ -141,7 +142,7 @@ impl Login {
             suite,
             pd: &[],
             mac: mac_place(suite),
-        };
+        });
         self.seal(&open, id, packet, made);
     }
 
@@ -151,10 +152,10 @@ impl Login {
         ensures record { made.new ≡ sk_record self.now.cred.psk (gpsk4_of self.now) ∷ [] }
         ensures room { HasRoom packet.new }
     {
-        let open = GpskView::M4 {
+        let open = GpskView::M4(Gpsk4 {
             pd: &[],
             mac: mac_place(self.keys.suite()),
-        };
+        });
         self.seal(&open, id, packet, made);
     }
 

@@ -149,23 +149,17 @@ fn wait_reads<R: Records>(
 {
     match hear(body, Some(login.suite())) {
         Err(cause) => PeerTurn::Discard(cause),
-        Ok(view) => match view {
-            GpskView::M3 {
-                rand_p,
-                rand_s,
-                id_s,
-                suite,
-                ..
-            } => {
-                if login.repeats(&rand_p, &rand_s, id_s, suite) {
+        Ok(view) => match &view {
+            GpskView::M3(gpsk3) => {
+                if login.repeats(gpsk3) {
                     confirm(login, phase, id, &view, body, packet, tags)
                 } else {
                     PeerTurn::Discard(Cause::FieldMismatch)
                 }
             }
-            GpskView::Fail { code } => repeat_fail(login, phase, id, code, packet, tags),
+            GpskView::Fail { code } => repeat_fail(login, phase, id, *code, packet, tags),
             GpskView::ProtectedFail { code, .. } => {
-                repeat_protected(login, phase, id, code, &view, body, packet, tags)
+                repeat_protected(login, phase, id, *code, &view, body, packet, tags)
             }
             _ => PeerTurn::Discard(Cause::WrongOp),
         },

@@ -96,30 +96,21 @@ fn asked_hears<R: Records>(
     let Stage::Alone { own, phase } = stage else {
         return ServerTurn::Discard(Cause::WrongOp);
     };
-    let GpskView::M2 {
-        id_p,
-        id_s,
-        rand_p,
-        rand_s,
-        list,
-        suite,
-        ..
-    } = view
-    else {
+    let GpskView::M2(gpsk2) = view else {
         return ServerTurn::Discard(Cause::WrongOp);
     };
-    if !own.repeats(id_s, rand_s, list) {
+    if !own.repeats(gpsk2) {
         return ServerTurn::Discard(Cause::FieldMismatch);
     }
-    if !own.offers(*suite) {
+    if !own.offers(gpsk2.suite) {
         return ServerTurn::Discard(Cause::SuiteNotOffered);
     }
-    let Some(user) = find_user(users, id_p) else {
+    let Some(user) = find_user(users, gpsk2.id_p) else {
         refuse(next_id, packet, tags);
         *phase = Alone::Refusing;
         return ServerTurn::Request;
     };
-    let login = Login::new(own, id_p, user, rand_p, *suite);
+    let login = Login::new(own, gpsk2, user);
     if !login.is_tagged(view, body) {
         return ServerTurn::Discard(Cause::BadTag);
     }

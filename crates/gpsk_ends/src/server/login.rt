@@ -18,7 +18,7 @@ use crate::sealing::mac_place;
 use eap_base::{GPSK_KIND, Identity, Nonce, Octets, Packet, Secret, Suite};
 use eap_method::{Records, Report, ServerSide, TagList};
 use eap_packet::Code;
-use gpsk_messages::{GpskView, write_gpsk_into};
+use gpsk_messages::{Gpsk1, Gpsk2, Gpsk3, GpskView, write_gpsk_into};
 use login_setup::User;
 use std::marker::Model;
 
@@ -56,21 +56,22 @@ impl Begun {
         ensures room { HasRoom packet.new }
     {
         let list = self.suite_list();
-        let message = GpskView::M1 {
+        let message = GpskView::M1(Gpsk1 {
             id_s: self.side.id_s.as_slice(),
             rand_s: self.nonce,
             list: list.as_slice(),
-        };
+        });
         write_gpsk_into(packet, &message, Code::Request, id);
     }
 
     /// Whether GPSK-2 repeats what the server sent in GPSK-1.
-    pub fn repeats(&self, id_s: &[u8], rand_s: &Nonce, list: &[u8]) -> bool
-        ensures { result ≡ repeats self.now.side self.now.nonce id_s.now rand_s.now list.now }
+    pub fn repeats(&self, gpsk2: &Gpsk2) -> bool
+        ensures { result ≡ repeats self.now.side self.now.nonce gpsk2.now.id_s.now gpsk2.now.rand_s
+            gpsk2.now.list.now }
     {
-        id_s == self.side.id_s.as_slice()
-            && *rand_s == self.nonce
-            && list == self.suite_list().as_slice()
+        gpsk2.id_s == self.side.id_s.as_slice()
+            && gpsk2.rand_s == self.nonce
+            && gpsk2.list == self.suite_list().as_slice()
     }
 
     /// Whether the suite is one that the server offers.
@@ -115,21 +116,30 @@ impl Login {
 
     /// The login of the user that GPSK-2 names. Its keys are derived here alone (RFC 5433 section 4).
     #[tactic(auto, unfolding(eap_method::specs::GpskServer::keys_of))]
-    pub fn new(own: &Begun, id_p: &[u8], user: &User, rand_p: &Nonce, suite: Suite) -> Login
-        requires name { length id_p.now ≤ max_name }
+    pub fn new(own: &Begun, gpsk2: &Gpsk2, user: &User) -> Login
+        requires name { length gpsk2.now.id_p.now ≤ max_name }
         requires key { 32 ≤ length user.now.psk }
-        ensures { result ≡ record { own = own.now.side; nonce = own.now.nonce; id_p = id_p.now; psk = user.now.psk; rand_p = rand_p.now; suite = suite } }
+        ensures { result ≡ record {
+          own = own.now.side;
+          nonce = own.now.nonce;
+          id_p = gpsk2.now.id_p.now;
+          psk = user.now.psk;
+          rand_p = gpsk2.now.rand_p;
+          suite = gpsk2.now.suite;
+        } }
     {
+        let psk = &user.psk;
+        let id_p = gpsk2.id_p;
         let id_s = own.side.id_s.as_slice();
-        let keys = Keys::new(suite, &user.psk, rand_p, id_p, &own.nonce, id_s);
+        let keys = Keys::new(gpsk2.suite, psk, &gpsk2.rand_p, id_p, &own.nonce, id_s);
         Login {
             own: Begun {
                 side: own.side.copy(),
                 nonce: own.nonce,
             },
             id_p: Octets::of(id_p),
-            psk: user.psk.copy(),
-            rand_p: *rand_p,
+            psk: psk.copy(),
+            rand_p: gpsk2.rand_p,
             keys,
         }
     }
@@ -176,14 +186,14 @@ impl Login {
         ensures room { HasRoom packet.new }
     {
         let suite = self.keys.suite();
-        let open = GpskView::M3 {
+        let open = GpskView::M3(Gpsk3 {
             rand_p: self.rand_p,
             rand_s: self.own.nonce,
             id_s: self.own.side.id_s.as_slice(),
             suite,
             pd: &[],
             mac: mac_place(suite),
-        };
+        });
         self.seal(&open, id, packet, made);
     }
 

@@ -137,7 +137,7 @@ fn checked_reads<R: Records>(
     match hear(body, Some(login.suite())) {
         Err(cause) => ServerTurn::Discard(cause),
         Ok(view) => match view {
-            GpskView::M4 { .. } => {
+            GpskView::M4(_) => {
                 if login.is_tagged(&view, body) {
                     end(login, phase, true, &view, body, tags)
                 } else {
