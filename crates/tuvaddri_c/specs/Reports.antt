@@ -3,9 +3,11 @@ use Rattle.std.specs.Prelude.{◌≡◌, ◌++◌, ℕ, length, drop, Option, So
 use Rattle.eap_method.specs.Peer.{PeerShown, peer_report}
 use Rattle.eap_method.specs.Server.{ServerShown, server_report}
 use Rattle.eap_method.specs.declared.values.Report.{Report}
-use Rattle.end_objects.specs.Objects.{peer_nonces, server_nonces}
+use Rattle.end_objects.specs.Objects.{peer_object_shown, server_object_shown, peer_nonces, server_nonces}
 use Rattle.end_objects.specs.declared.objects.Nonces.{Nonces}
 use Rattle.tuvaddri_c.specs.Ends.{end_reports, end_nonces}
+use Rattle.tuvaddri_c.specs.declared.held.Object.{Object}
+use Rattle.tuvaddri_c.specs.declared.held.Object.TheVariants as object
 use Rattle.tuvaddri_c.specs.declared.report.TuvReport.{TuvReport}
 use Rattle.tuvaddri_c.specs.declared.session.End.{End}
 
@@ -34,6 +36,20 @@ server_held (Some shown) = both (server_report shown) (server_nonces shown)
 
 abbrev pub end_held : End → Option Held
 end_held e = both (end_reports e) (end_nonces e)
+
+-- what an object has: its report, and its nonces
+abbrev pub object_reports : Object → Option Report
+object_reports object.None = None
+object_reports (object.Peer o) = peer_report (peer_object_shown o.now)
+object_reports (object.Server o) = server_report (server_object_shown o.now)
+
+abbrev pub object_nonces : Object → Option Nonces
+object_nonces object.None = None
+object_nonces (object.Peer o) = peer_nonces (peer_object_shown o.now)
+object_nonces (object.Server o) = server_nonces (server_object_shown o.now)
+
+abbrev pub object_held : Object → Option Held
+object_held o = both (object_reports o) (object_nonces o)
 
 -- what is reported of it; behind a name and behind a nonce is what was there before
 pub record IsReport (held : Held) (before : TuvReport) (told : TuvReport) : Type 0 where

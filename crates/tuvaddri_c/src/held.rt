@@ -2,58 +2,78 @@
 
 ghost use Rattle.std.specs.Prelude.{◌≡◌, option_map};
 ghost use Rattle.end_objects.specs.Objects.{peer_object_shown, server_object_shown};
-ghost use Rattle.tuvaddri_c.specs.Ends.{nonces_of_peer, nonces_of_server, end_reports, end_nonces};
+ghost use Rattle.tuvaddri_c.specs.Reports.{peer_held, server_held, end_held, object_held};
 
 use crate::session::End;
 use eap_method::{PeerMethod, Report, ServerMethod};
 use end_objects::{Nonces, PeerObject, ServerObject};
 
-/// The report.
-pub fn report_of(end: &End) -> Option<Report>
-    ensures { result ≡ end_reports end.now }
-{
-    match end {
-        End::Closed => None,
-        End::PeerMethod(object, _) => object.report(),
-        End::ServerMethod(object, _) => object.report(),
-        End::Peer(machine) => machine.report(),
-        End::Server(machine) => machine.report(),
-        End::Backend(machine) => machine.report(),
-        End::Pass(_) => None,
+/// The object of a method that an end has: of the method alone, or of the one that its machine has selected.
+#[derive(Clone, Copy)]
+pub enum Object<'a> {
+    None,
+    Peer(&'a PeerObject),
+    Server(&'a ServerObject),
+}
+
+impl Object<'_> {
+    ghost use Rattle.std.specs.Prelude.{◌≡◌};
+    ghost use Rattle.tuvaddri_c.specs.Reports.{object_reports, object_nonces};
+
+    /// The report of its method, if it has succeeded.
+    pub fn report(&self) -> Option<Report>
+        ensures { result ≡ object_reports self.now }
+    {
+        match self {
+            Object::None => None,
+            Object::Peer(object) => object.report(),
+            Object::Server(object) => object.report(),
+        }
+    }
+
+    /// The nonces of its method, if it has succeeded.
+    pub fn nonces(&self) -> Option<Nonces>
+        ensures { result ≡ object_nonces self.now }
+    {
+        match self {
+            Object::None => None,
+            Object::Peer(object) => object.nonces(),
+            Object::Server(object) => object.nonces(),
+        }
     }
 }
 
-/// The nonces of a peer's selected method.
-fn nonces_of_peer(selected: Option<&PeerObject>) -> Option<Nonces>
-    ensures { result ≡ nonces_of_peer (option_map (λ o. peer_object_shown o.now) selected.entry) }
+/// The object of a peer's selected method.
+fn of_peer<'a>(selected: Option<&'a PeerObject>) -> Object<'a>
+    ensures { object_held result ≡ peer_held (option_map (λ o. peer_object_shown o.now) selected.entry) }
 {
     match selected {
-        None => None,
-        Some(object) => object.nonces(),
+        None => Object::None,
+        Some(object) => Object::Peer(object),
     }
 }
 
-/// The nonces of a server's current method.
-fn nonces_of_server(current: Option<&ServerObject>) -> Option<Nonces>
-    ensures { result ≡ nonces_of_server (option_map (λ o. server_object_shown o.now) current.entry) }
+/// The object of a server's current method.
+fn of_server<'a>(current: Option<&'a ServerObject>) -> Object<'a>
+    ensures { object_held result ≡ server_held (option_map (λ o. server_object_shown o.now) current.entry) }
 {
     match current {
-        None => None,
-        Some(object) => object.nonces(),
+        None => Object::None,
+        Some(object) => Object::Server(object),
     }
 }
 
-/// The nonces.
-pub fn nonces_of(end: &End) -> Option<Nonces>
-    ensures { result ≡ end_nonces end.now }
+/// The object that an end has.
+pub fn object_of<'a>(end: &'a End) -> Object<'a>
+    ensures { object_held result ≡ end_held end.now }
 {
     match end {
-        End::Closed => None,
-        End::PeerMethod(object, _) => object.nonces(),
-        End::ServerMethod(object, _) => object.nonces(),
-        End::Peer(machine) => nonces_of_peer(machine.selected()),
-        End::Server(machine) => nonces_of_server(machine.current()),
-        End::Backend(machine) => nonces_of_server(machine.current()),
-        End::Pass(_) => None,
+        End::Closed => Object::None,
+        End::PeerMethod(object, _) => Object::Peer(object),
+        End::ServerMethod(object, _) => Object::Server(object),
+        End::Peer(machine) => of_peer(machine.selected()),
+        End::Server(machine) => of_server(machine.current()),
+        End::Backend(machine) => of_server(machine.current()),
+        End::Pass(_) => Object::None,
     }
 }

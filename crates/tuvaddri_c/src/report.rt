@@ -1,15 +1,14 @@
 //! What is reported of a method that succeeded.
 
-ghost use Rattle.std.specs.Prelude.{◌≡◌, IsTrue, None, IfSome, option_map};
-ghost use Rattle.end_objects.specs.Objects.{peer_object_shown, server_object_shown};
-ghost use Rattle.tuvaddri_c.specs.Reports.{report_size, both, end_held, peer_held, server_held, IsReport};
+ghost use Rattle.std.specs.Prelude.{◌≡◌, IsTrue, None, IfSome};
+ghost use Rattle.tuvaddri_c.specs.Reports.{report_size, both, end_held, IsReport};
 
 use crate::handle::TuvEnd;
+use crate::held::object_of;
 use crate::rooms::write_octets;
-use crate::session::End;
 use eap_base::MAX_NAME;
-use eap_method::{PeerMethod, Report, ServerMethod};
-use end_objects::{Nonces, PeerObject, ServerObject};
+use eap_method::Report;
+use end_objects::Nonces;
 
 /// The octets of [`TuvReport`] on 64 bits.
 pub const REPORT_SIZE: usize = 712;
@@ -51,50 +50,10 @@ pub extern "C" fn tuv_end_report(end: &mut TuvEnd, report: &mut TuvReport) -> bo
     ensures other_size { (report.old.size ≡ report_size → ⊥) → (IsTrue result → ⊥) × (report.new ≡ report.old) }
 {
     if report.size == REPORT_SIZE {
-        write_end(&end.session().end, report)
+        let object = object_of(&end.session().end);
+        write_held(&object.report(), &object.nonces(), report)
     } else {
         false
-    }
-}
-
-fn write_end(end: &End, report: &mut TuvReport) -> bool
-    ensures held { IfSome (end_held end.now) (λ held. IsTrue result × IsReport held report.old report.new) }
-    ensures none { end_held end.now ≡ None → (IsTrue result → ⊥) × (report.new ≡ report.old) }
-{
-    match end {
-        End::Closed => false,
-        End::PeerMethod(object, _) => write_peer(Some(object), report),
-        End::ServerMethod(object, _) => write_server(Some(object), report),
-        End::Peer(machine) => write_peer(machine.selected(), report),
-        End::Server(machine) => write_server(machine.current(), report),
-        End::Backend(machine) => write_server(machine.current(), report),
-        End::Pass(_) => false,
-    }
-}
-
-/// Writes what the object has of a peer's selected method.
-fn write_peer(selected: Option<&PeerObject>, report: &mut TuvReport) -> bool
-    ensures held { IfSome (peer_held (option_map (λ o. peer_object_shown o.now) selected.entry))
-        (λ held. IsTrue result × IsReport held report.old report.new) }
-    ensures none { peer_held (option_map (λ o. peer_object_shown o.now) selected.entry) ≡ None
-        → (IsTrue result → ⊥) × (report.new ≡ report.old) }
-{
-    match selected {
-        None => false,
-        Some(object) => write_held(&object.report(), &object.nonces(), report),
-    }
-}
-
-/// Writes what the object has of a server's current method.
-fn write_server(current: Option<&ServerObject>, report: &mut TuvReport) -> bool
-    ensures held { IfSome (server_held (option_map (λ o. server_object_shown o.now) current.entry))
-        (λ held. IsTrue result × IsReport held report.old report.new) }
-    ensures none { server_held (option_map (λ o. server_object_shown o.now) current.entry) ≡ None
-        → (IsTrue result → ⊥) × (report.new ≡ report.old) }
-{
-    match current {
-        None => false,
-        Some(object) => write_held(&object.report(), &object.nonces(), report),
     }
 }
 

@@ -10,7 +10,7 @@ ghost use Rattle.tuvaddri_c.specs.SessionId.{if_held, session_id, session_id_wpa
 use crate::by_method::{keyed_id, standard_id};
 use crate::gpsk::key_of;
 use crate::handle::TuvEnd;
-use crate::held::{nonces_of, report_of};
+use crate::held::object_of;
 use crate::rooms::write_octets;
 use crate::session::End;
 use eap_base::Octets;
@@ -66,8 +66,8 @@ pub extern "C" fn tuv_end_session_id(end: &mut TuvEnd, room: &mut [u8; MAX_ID]) 
     ensures same { end.new.value ≡ end.old.value }
     ensures id { IsWritten (octets_of (session_id end.old.value.end)) room.old result room.new }
 {
-    let end = &end.session().end;
-    write(&id_of(&report_of(end), &nonces_of(end)), room)
+    let object = object_of(&end.session().end);
+    write(&id_of(&object.report(), &object.nonces()), room)
 }
 
 /// The same, as wpa_supplicant and hostapd 2.10 derive it: for EAP-GPSK they use a prefix of the shared key, not
@@ -78,5 +78,6 @@ pub extern "C" fn tuv_end_session_id_wpa(end: &mut TuvEnd, room: &mut [u8; MAX_I
     ensures id { IsWritten (octets_of (session_id_wpa end.old.value.end)) room.old result room.new }
 {
     let end = &end.session().end;
-    write(&id_of_wpa(end, &report_of(end), &nonces_of(end)), room)
+    let object = object_of(end);
+    write(&id_of_wpa(end, &object.report(), &object.nonces()), room)
 }
