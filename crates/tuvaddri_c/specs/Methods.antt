@@ -67,13 +67,17 @@ no_method_turn = record { sends = false; discards = false; misplaced = true; cau
 abbrev pub discarding : Cause → TuvMethodTurn
 discarding c = record { sends = false; discards = true; misplaced = false; cause = cause_number c; state = 0; decision = 0 }
 
+-- what came is taken, and a packet is sent or not, with this methodState and decision
+abbrev pub taking : Bool → ℕ → ℕ → TuvMethodTurn
+taking sends m d = record { sends = sends; discards = false; misplaced = false; cause = 0; state = m; decision = d }
+
 -- a packet is sent, with this methodState and decision
 abbrev pub replying : ℕ → ℕ → TuvMethodTurn
-replying m d = record { sends = true; discards = false; misplaced = false; cause = 0; state = m; decision = d }
+replying m d = taking true m d
 
 -- a server's method is over, methodState DONE (4), with this decision
 abbrev pub method_done : ℕ → TuvMethodTurn
-method_done d = record { sends = false; discards = false; misplaced = false; cause = 0; state = 4; decision = d }
+method_done d = taking false 4 d
 
 -- a call that has no place says so, and changes nothing
 pub record IsMisplaced (before : Session) (turn : TuvMethodTurn) (after : Session) : Type 0 where

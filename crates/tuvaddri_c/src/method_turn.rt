@@ -2,7 +2,7 @@
 
 ghost use Rattle.std.specs.Prelude.{◌≡◌};
 ghost use Rattle.tuvaddri_c.specs.Sent.{after_silence};
-ghost use Rattle.tuvaddri_c.specs.Methods.{no_method_turn, discarding, method_done, peer_brief, server_brief, method_number, decision_number};
+ghost use Rattle.tuvaddri_c.specs.Methods.{no_method_turn, discarding, taking, peer_brief, server_brief, method_number, decision_number};
 
 use crate::session::Sent;
 use crate::turn::number_of_cause;
@@ -73,14 +73,9 @@ impl TuvMethodTurn {
     {
         match turn {
             PeerTurn::Discard(cause) => TuvMethodTurn::discarding(cause),
-            PeerTurn::Reply { state, decision } => TuvMethodTurn {
-                sends: true,
-                discards: false,
-                misplaced: false,
-                cause: 0,
-                state: number_of_method(state),
-                decision: number_of_decision(decision),
-            },
+            PeerTurn::Reply { state, decision } => {
+                TuvMethodTurn::taking(true, number_of_method(state), number_of_decision(decision))
+            }
         }
     }
 
@@ -90,34 +85,27 @@ impl TuvMethodTurn {
     {
         match turn {
             ServerTurn::Discard(cause) => TuvMethodTurn::discarding(cause),
-            ServerTurn::Request => TuvMethodTurn {
-                sends: true,
-                discards: false,
-                misplaced: false,
-                cause: 0,
-                state: 2,
-                decision: 0,
-            },
+            ServerTurn::Request => TuvMethodTurn::taking(true, 2, 0),
             ServerTurn::Done { success } => {
                 if success {
-                    TuvMethodTurn::done(2)
+                    TuvMethodTurn::taking(false, 4, 2)
                 } else {
-                    TuvMethodTurn::done(0)
+                    TuvMethodTurn::taking(false, 4, 0)
                 }
             }
         }
     }
 
-    /// A server's method is over, with this decision.
-    fn done(decision: u8) -> TuvMethodTurn
-        ensures { result ≡ method_done decision }
+    /// What came is taken, with this methodState and decision.
+    fn taking(sends: bool, state: u8, decision: u8) -> TuvMethodTurn
+        ensures { result ≡ taking sends state decision }
     {
         TuvMethodTurn {
-            sends: false,
+            sends,
             discards: false,
             misplaced: false,
             cause: 0,
-            state: 4,
+            state,
             decision,
         }
     }
