@@ -45,19 +45,16 @@ pub extern "C" fn tuv_peer_method_begin(end: &mut TuvEnd, settings: &Settings, n
     ensures sent { result ≡ begun → end.new.value.sent ≡ none_sent }
     ensures unchanged { (result ≡ begun → ⊥) → end.new.value ≡ end.old.value }
 {
-    match peer_refusal(settings) {
-        Some(refusal) => number_of_refusal(refusal),
-        None => {
-            let kind = first_kind(settings);
-            let credential = credential(settings);
-            let mut object = peer_object(kind);
-            object.begin(&credential, nonce);
-            let session = end.session();
-            hold_peer(&mut session.end, object, credential.psk.copy());
-            session.sent.clear();
-            BEGUN
-        }
+    if let Some(refusal) = peer_refusal(settings) {
+        return number_of_refusal(refusal);
     }
+    let credential = credential(settings);
+    let mut object = peer_object(first_kind(settings));
+    object.begin(&credential, nonce);
+    let session = end.session();
+    hold_peer(&mut session.end, object, credential.psk.copy());
+    session.sent.clear();
+    BEGUN
 }
 
 /// The Request of this Type with which the octets begin.
@@ -70,13 +67,8 @@ fn request_of<'a>(octets: &'a [u8], kind: u8) -> Result<&'a [u8], Cause>
     match decode(octets) {
         Err(cause) => Err(cause),
         Ok(view) => match view.code {
-            Code::Request => {
-                if view.kind == kind {
-                    Ok(view.whole)
-                } else {
-                    Err(Cause::OtherMethod)
-                }
-            }
+            Code::Request if view.kind == kind => Ok(view.whole),
+            Code::Request => Err(Cause::OtherMethod),
             Code::Response | Code::Success | Code::Failure => Err(Cause::WrongRole),
         },
     }
@@ -136,19 +128,17 @@ pub extern "C" fn tuv_server_method_begin(
     ensures sent { result ≡ begun → end.new.value.sent.fresh ≡ true }
     ensures unchanged { (result ≡ begun → ⊥) → end.new.value ≡ end.old.value }
 {
-    match server_refusal(settings) {
-        Some(refusal) => number_of_refusal(refusal),
-        None => {
-            let own = server_side(settings);
-            let mut object = server_object(first_kind(settings));
-            object.begin(&own, nonce);
-            let session = end.session();
-            object.first(id, &mut session.sent.packet);
-            session.sent.fresh = true;
-            hold_server(&mut session.end, object, users_of(settings));
-            BEGUN
-        }
+    if let Some(refusal) = server_refusal(settings) {
+        return number_of_refusal(refusal);
     }
+    let own = server_side(settings);
+    let mut object = server_object(first_kind(settings));
+    object.begin(&own, nonce);
+    let session = end.session();
+    object.first(id, &mut session.sent.packet);
+    session.sent.fresh = true;
+    hold_server(&mut session.end, object, users_of(settings));
+    BEGUN
 }
 
 /// The Response of this Type with which the octets begin.
@@ -161,13 +151,8 @@ fn response_of<'a>(octets: &'a [u8], kind: u8) -> Result<&'a [u8], Cause>
     match decode(octets) {
         Err(cause) => Err(cause),
         Ok(view) => match view.code {
-            Code::Response => {
-                if view.kind == kind {
-                    Ok(view.whole)
-                } else {
-                    Err(Cause::WrongMethod)
-                }
-            }
+            Code::Response if view.kind == kind => Ok(view.whole),
+            Code::Response => Err(Cause::WrongMethod),
             Code::Request | Code::Success | Code::Failure => Err(Cause::WrongRole),
         },
     }

@@ -27,15 +27,13 @@ pub extern "C" fn tuv_pass_begin(end: &mut TuvEnd, first_id: u8, max_retrans: u8
     ensures sent { result ≡ begun → end.new.value.sent ≡ none_sent }
     ensures unchanged { (result ≡ begun → ⊥) → end.new.value ≡ end.old.value }
 {
-    match retry_refusal(max_retrans) {
-        Some(refusal) => number_of_refusal(refusal),
-        None => {
-            let session = end.session();
-            session.end = End::Pass(PassThrough::new(first_id, max_retrans));
-            session.sent.clear();
-            BEGUN
-        }
+    if let Some(refusal) = retry_refusal(max_retrans) {
+        return number_of_refusal(refusal);
     }
+    let session = end.session();
+    session.end = End::Pass(PassThrough::new(first_id, max_retrans));
+    session.sent.clear();
+    BEGUN
 }
 
 /// It starts, if it has not: its Request goes to the peer.

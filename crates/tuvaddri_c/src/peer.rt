@@ -47,22 +47,18 @@ pub extern "C" fn tuv_peer_begin(
     ensures sent { result ≡ begun → end.new.value.sent ≡ none_sent }
     ensures unchanged { (result ≡ begun → ⊥) → end.new.value ≡ end.old.value }
 {
-    match peer_refusal(settings) {
-        Some(refusal) => number_of_refusal(refusal),
-        None => {
-            let kinds = kinds_of(settings);
-            match peer_objects(alloc, kinds.as_slice()) {
-                Err(_) => NO_MEMORY,
-                Ok(methods) => {
-                    let setup = peer_setup(settings, nonce);
-                    let session = end.session();
-                    hold(&mut session.end, PeerMachine::new(setup, methods));
-                    session.sent.clear();
-                    BEGUN
-                }
-            }
-        }
+    if let Some(refusal) = peer_refusal(settings) {
+        return number_of_refusal(refusal);
     }
+    let kinds = kinds_of(settings);
+    let Ok(methods) = peer_objects(alloc, kinds.as_slice()) else {
+        return NO_MEMORY;
+    };
+    let setup = peer_setup(settings, nonce);
+    let session = end.session();
+    hold(&mut session.end, PeerMachine::new(setup, methods));
+    session.sent.clear();
+    BEGUN
 }
 
 /// The lower layer is idle: to a peer that has not ended.

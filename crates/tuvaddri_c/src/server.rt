@@ -82,28 +82,18 @@ pub extern "C" fn tuv_server_begin(
     ensures sent { result ≡ begun → end.new.value.sent ≡ none_sent }
     ensures unchanged { (result ≡ begun → ⊥) → end.new.value ≡ end.old.value }
 {
-    match stand_alone_refusal(settings, max_retrans) {
-        Some(refusal) => number_of_refusal(refusal),
-        None => {
-            let kinds = kinds_of(settings);
-            match server_objects(alloc, kinds.as_slice()) {
-                Err(_) => NO_MEMORY,
-                Ok(methods) => {
-                    let session = end.session();
-                    hold(
-                        &mut session.end,
-                        settings,
-                        nonce,
-                        first_id,
-                        max_retrans,
-                        methods,
-                    );
-                    session.sent.clear();
-                    BEGUN
-                }
-            }
-        }
+    if let Some(refusal) = stand_alone_refusal(settings, max_retrans) {
+        return number_of_refusal(refusal);
     }
+    let kinds = kinds_of(settings);
+    let Ok(methods) = server_objects(alloc, kinds.as_slice()) else {
+        return NO_MEMORY;
+    };
+    let session = end.session();
+    let end = &mut session.end;
+    hold(end, settings, nonce, first_id, max_retrans, methods);
+    session.sent.clear();
+    BEGUN
 }
 
 /// Makes the end a backend with these settings, likewise.
@@ -141,21 +131,17 @@ pub extern "C" fn tuv_backend_begin(
     ensures sent { result ≡ begun → end.new.value.sent ≡ none_sent }
     ensures unchanged { (result ≡ begun → ⊥) → end.new.value ≡ end.old.value }
 {
-    match server_refusal(settings) {
-        Some(refusal) => number_of_refusal(refusal),
-        None => {
-            let kinds = kinds_of(settings);
-            match server_objects(alloc, kinds.as_slice()) {
-                Err(_) => NO_MEMORY,
-                Ok(methods) => {
-                    let session = end.session();
-                    hold_backend(&mut session.end, settings, nonce, methods);
-                    session.sent.clear();
-                    BEGUN
-                }
-            }
-        }
+    if let Some(refusal) = server_refusal(settings) {
+        return number_of_refusal(refusal);
     }
+    let kinds = kinds_of(settings);
+    let Ok(methods) = server_objects(alloc, kinds.as_slice()) else {
+        return NO_MEMORY;
+    };
+    let session = end.session();
+    hold_backend(&mut session.end, settings, nonce, methods);
+    session.sent.clear();
+    BEGUN
 }
 
 /// The server starts: one that has not started.
