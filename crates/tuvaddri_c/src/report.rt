@@ -1,13 +1,13 @@
 //! What is reported of a method that succeeded.
 
 ghost use Rattle.std.specs.Prelude.{◌≡◌, IsTrue, None, IfSome};
-ghost use Rattle.tuvaddri_c.specs.Reports.{report_size, both, end_held, IsReport};
+ghost use Rattle.tuvaddri_c.specs.Reports.{report_size, both, end_held, object_held, IsReport};
 
 use crate::handle::TuvEnd;
-use crate::held::object_of;
+use crate::held::{Object, object_of};
 use crate::rooms::write_octets;
 use eap_base::MAX_NAME;
-use eap_method::Report;
+use eap_method::{PeerMethod, Report, ServerMethod};
 use end_objects::Nonces;
 
 /// The octets of [`TuvReport`] on 64 bits.
@@ -50,10 +50,21 @@ pub extern "C" fn tuv_end_report(end: &mut TuvEnd, report: &mut TuvReport) -> bo
     ensures other_size { (report.old.size ≡ report_size → ⊥) → (IsTrue result → ⊥) × (report.new ≡ report.old) }
 {
     if report.size == REPORT_SIZE {
-        let object = object_of(&end.session().end);
-        write_held(&object.report(), &object.nonces(), report)
+        write_object(object_of(&end.session().end), report)
     } else {
         false
+    }
+}
+
+/// Writes what the object has. (By its kind, so that no report is copied.)
+fn write_object(object: Object, report: &mut TuvReport) -> bool
+    ensures held { IfSome (object_held object.entry) (λ held. IsTrue result × IsReport held report.old report.new) }
+    ensures none { object_held object.entry ≡ None → (IsTrue result → ⊥) × (report.new ≡ report.old) }
+{
+    match object {
+        Object::None => false,
+        Object::Peer(object) => write_held(&object.report(), &object.nonces(), report),
+        Object::Server(object) => write_held(&object.report(), &object.nonces(), report),
     }
 }
 
