@@ -1,20 +1,30 @@
 -- Writing a line part by part, of which the last octets are held.
 use Rattle.std.proofs.Common.{◌≡◌, ℕ, ◌+◌, ◌-◌, ◌<◌, List, [], ◌∷◌, ◌++◌, length, take, drop, get_or}
-use Rattle.std.specs.Prelude.{Result, Ok, Err, IsErr, OnOk}
-use Rattle.std.proofs.Common.{refl, sym, ◌∙◌, ap, subst, arith, append_assoc, append-nil, take-append-drop, add-one, drop-cons}
+use Rattle.std.specs.Prelude.{Result, Ok, Err, IsErr, OnOk, codes, decimal}
+use Rattle.std.proofs.Common.{refl, sym, ◌∙◌, ap, subst, arith, append_assoc, append-nil, take-append-drop, add-one, drop-cons, suc}
 use Rattle.std.proofs.lemmas.Grind.{common_steps}
 use Rattle.hex.specs.Hex.{encode_with, encode_lower}
 use Rattle.octet_io.specs.Known.{append_known}
 use Rattle.octet_io.specs.declared.source.Failed.{Failed}
 use Rattle.octet_io.specs.Shown.{Shown}
-use Rattle.answer_text.specs.Pieces.{text_of, text_of_pieces}
+use Rattle.answer_text.specs.Pieces.{hex_text, text_of, text_before, text_of_pieces}
 use Rattle.answer_text.specs.Writes.{Appends, Puts}
 use Rattle.answer_text.specs.declared.pieces.Piece.{Piece}
+use Rattle.answer_text.specs.declared.pieces.Piece.TheVariants.{Text, Hex, Number, Leading, Line}
 use Rattle.answer_text.proofs.Fronts.{append_known_append, append_known_nil}
+
+text_before-append : (piece : Piece) (rest : List ℕ) → text_before piece rest ≡ text_of piece ++ rest
+text_before-append (Text octets) rest = refl
+text_before-append (Hex front octets) rest = sym (append_assoc front.now (hex_text octets.now) rest)
+text_before-append (Number front number) rest = sym (append_assoc front.now (decimal number) rest)
+text_before-append (Leading number octets) rest = sym (append_assoc (decimal number) octets.now rest)
+text_before-append (Line front number) rest =
+    sym (append_assoc front.now (decimal number) (codes "\n" ++ rest)) ∙ sym (append_assoc (front.now ++ decimal number) (codes "\n") rest)
 
 pub joined-drop : (pieces : List Piece) (i : ℕ) (d : Piece) → i < length pieces
     → text_of_pieces (drop i pieces) ≡ text_of (get_or pieces i d) ++ text_of_pieces (drop (i + 1) pieces)
-joined-drop pieces i d h = rw (add-one, drop-cons pieces i d h) refl
+joined-drop pieces i d h = rw (add-one, drop-cons pieces i d h)
+    (text_before-append (get_or pieces i d) (text_of_pieces (drop (suc i) pieces)))
 
 -- octets in hex, in two parts
 encoded-append : (xs ys : List ℕ) → encode_lower (xs ++ ys) ≡ encode_lower xs ++ encode_lower ys

@@ -3,7 +3,7 @@
 ghost use Rattle.answer_text.specs.Writes.{Appends};
 ghost use Rattle.answer_text.specs.Findings.{finding_text, findings_text};
 
-use crate::pieces::Piece::{Line, Number, Text};
+use crate::pieces::Piece::{Leading, Line, Number, Text};
 use crate::pieces::write_pieces;
 use capture_check::Finding;
 use octet_io::{Failed, Sink};
@@ -16,28 +16,26 @@ pub fn write_finding<W: Sink>(sink: &mut W, number: u32, finding: &Finding) -> R
 {
     let number = u64::from(number);
     match finding {
-        Finding::Good => write_pieces(sink, &[Number(b"", number), Text(b" good\n")]),
+        Finding::Good => write_pieces(sink, &[Leading(number, b" good\n")]),
         Finding::Malformed(cause) => write_pieces(
             sink,
             &[
-                Number(b"", number),
-                Text(b" malformed "),
+                Leading(number, b" malformed "),
                 Text(cause.word().as_bytes()),
                 Text(b"\n"),
             ],
         ),
-        Finding::TagBad => write_pieces(sink, &[Number(b"", number), Text(b" tag-bad\n")]),
+        Finding::TagBad => write_pieces(sink, &[Leading(number, b" tag-bad\n")]),
         Finding::TagGood(name) => write_pieces(
             sink,
             &[
-                Number(b"", number),
-                Text(b" tag-good "),
+                Leading(number, b" tag-good "),
                 Text(name.as_slice()),
                 Text(b"\n"),
             ],
         ),
-        Finding::NoKey => write_pieces(sink, &[Number(b"", number), Text(b" no-key\n")]),
-        Finding::NoContext => write_pieces(sink, &[Number(b"", number), Text(b" no-context\n")]),
+        Finding::NoKey => write_pieces(sink, &[Leading(number, b" no-key\n")]),
+        Finding::NoContext => write_pieces(sink, &[Leading(number, b" no-context\n")]),
     }
 }
 

@@ -24,11 +24,7 @@ fn put_code<W: Sink>(
 ) -> Result<(), Failed>
     ensures { Puts W.shown result sink.old sink.new line.old line.new (concat (name.now ∷ decimal code ∷ [])) }
 {
-    put_pieces(
-        sink,
-        line,
-        &[Text(name.as_bytes()), Number(b"", u64::from(code))],
-    )
+    put_pieces(sink, line, &[Number(name.as_bytes(), u64::from(code))])
 }
 
 /// Puts the name of a message, or why it is none.

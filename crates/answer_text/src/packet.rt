@@ -14,7 +14,7 @@ ghost use Rattle.answer_text.specs.PacketParts.{nak_word, number_text, head_text
 
 use crate::answers::put_message;
 use crate::line_buffer::LineBuffer;
-use crate::pieces::Piece::{Hex, Line, Number, Text};
+use crate::pieces::Piece::{Hex, Leading, Line, Number, Text};
 use crate::pieces::{put_pieces, send, write_pieces};
 use eap_base::{EXPANDED, IDENTITY, NAK};
 use eap_packet::{Cause, Code, PacketView, decode, read_expanded};
@@ -117,8 +117,7 @@ fn put_head<W: Sink>(
         sink,
         line,
         &[
-            Number(b"", u64::from(number)),
-            Text(b" "),
+            Leading(u64::from(number), b" "),
             Text(code.as_bytes()),
             Number(b" ", u64::from(view.id)),
             Number(b" type ", u64::from(view.kind)),
@@ -191,8 +190,7 @@ fn put_end_line<W: Sink>(
         sink,
         line,
         &[
-            Number(b"", u64::from(number)),
-            Text(b" "),
+            Leading(u64::from(number), b" "),
             Text(code.as_bytes()),
             Number(b" ", u64::from(view.id)),
             Number(b" length ", view.whole.len() as u64),
@@ -214,8 +212,7 @@ fn put_malformed<W: Sink>(
         sink,
         line,
         &[
-            Number(b"", u64::from(number)),
-            Text(b" malformed "),
+            Leading(u64::from(number), b" malformed "),
             Text(cause.word().as_bytes()),
             Text(b"\n"),
         ],

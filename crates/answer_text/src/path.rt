@@ -4,7 +4,7 @@ ghost use Rattle.answer_text.specs.Writes.{Appends, Puts};
 ghost use Rattle.answer_text.specs.Paths.{state_text, states_text, path_text, states_line, cause_text};
 
 use crate::line_buffer::LineBuffer;
-use crate::pieces::Piece::{Number, Text};
+use crate::pieces::Piece::{Leading, Text};
 use crate::pieces::{put_number, put_pieces, send, write_nothing, write_pieces};
 use eap_packet::{Cause, State};
 use octet_io::{Failed, Sink};
@@ -75,8 +75,7 @@ pub fn write_cause<W: Sink>(sink: &mut W, event: u32, cause: Option<Cause>) -> R
         Some(cause) => write_pieces(
             sink,
             &[
-                Number(b"", u64::from(event)),
-                Text(b" cause "),
+                Leading(u64::from(event), b" cause "),
                 Text(cause.word().as_bytes()),
                 Text(b"\n"),
             ],

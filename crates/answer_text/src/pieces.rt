@@ -19,6 +19,8 @@ pub enum Piece<'a> {
     Hex(&'a [u8], &'a [u8]),
     /// These octets, and a decimal number.
     Number(&'a [u8], u64),
+    /// A decimal number, and these octets.
+    Leading(u64, &'a [u8]),
     /// These octets, a decimal number, and the end of the line.
     Line(&'a [u8], u64),
 }
@@ -171,6 +173,20 @@ fn put_numbered<W: Sink>(
     put_number(sink, line, number)
 }
 
+/// Appends a decimal number to a line, and octets, and writes it if they end it.
+#[tactic(auto, using(crate::proofs::Putting::puts_both, crate::proofs::Putting::puts_front))]
+fn put_leading<W: Sink>(
+    sink: &mut W,
+    line: &mut LineBuffer,
+    number: u64,
+    octets: &[u8],
+) -> Result<(), Failed>
+    ensures { Puts W.shown result sink.old sink.new line.old line.new (decimal number ++ octets.now) }
+{
+    put_number(sink, line, number)?;
+    put_text(sink, line, octets)
+}
+
 /// Appends octets to a line, and a decimal number that ends it.
 #[tactic(auto, using(crate::proofs::Putting::puts_both, crate::proofs::Putting::puts_front))]
 fn put_last<W: Sink>(
@@ -193,6 +209,7 @@ fn put_piece<W: Sink>(sink: &mut W, line: &mut LineBuffer, piece: Piece) -> Resu
         Piece::Text(octets) => put_text(sink, line, octets),
         Piece::Hex(front, octets) => put_hex(sink, line, front, octets),
         Piece::Number(front, number) => put_numbered(sink, line, front, number),
+        Piece::Leading(number, octets) => put_leading(sink, line, number, octets),
         Piece::Line(front, number) => put_last(sink, line, front, number),
     }
 }

@@ -12,7 +12,7 @@ ghost use Rattle.capture_commands.specs.Pcap.{file_word, file_status, file_refus
 ghost use Rattle.answer_text.specs.Writes.{Appends};
 
 use crate::check::is_counted;
-use answer_text::Piece::{Line, Number, Text};
+use answer_text::Piece::{Leading, Line, Number, Text};
 use answer_text::{write_finding, write_pieces};
 use capture_check::Checker;
 use command_driver::Status;
@@ -142,10 +142,7 @@ impl Found {
 fn write_cut<W: Sink>(sink: &mut W, number: u32) -> Result<(), Failed>
     ensures { Appends W.shown result sink.old sink.new (cut_text number) }
 {
-    write_pieces(
-        sink,
-        &[Number(b"", u64::from(number)), Text(b" eapol-cut\n")],
-    )
+    write_pieces(sink, &[Leading(u64::from(number), b" eapol-cut\n")])
 }
 
 /// Writes the last line.

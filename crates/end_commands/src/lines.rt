@@ -7,7 +7,7 @@ ghost use Rattle.answer_text.specs.Writes.{Appends};
 ghost use Rattle.end_pipe.specs.EndRun.{told_with};
 ghost use Rattle.end_commands.specs.EndText.{acted_text, keys_line, keys_text, last_text, send_text, skip_line, told_text};
 
-use answer_text::Piece::{Hex, Number, Text};
+use answer_text::Piece::{Hex, Leading, Text};
 use answer_text::{write_cause, write_nothing, write_pieces, write_states};
 use eap_method::Report;
 use eap_packet::State;
@@ -53,10 +53,7 @@ pub fn write_last<W: Sink>(sink: &mut W, state: State) -> Result<(), Failed>
 fn write_skip<W: Sink>(sink: &mut W, number: u32) -> Result<(), Failed>
     ensures { Appends W.shown result sink.old sink.new (skip_line number) }
 {
-    write_pieces(
-        sink,
-        &[Number(b"", u64::from(number)), Text(b" skip Ended\n")],
-    )
+    write_pieces(sink, &[Leading(u64::from(number), b" skip Ended\n")])
 }
 
 /// Writes the lines of what an end does at an input that isn't skipped.
@@ -84,8 +81,8 @@ fn write_sent<W: Sink>(sink: &mut W, number: u32, octets: &[u8], sends: bool) ->
         write_pieces(
             sink,
             &[
-                Number(b"", u64::from(number)),
-                Hex(b" send ", octets),
+                Leading(u64::from(number), b" send "),
+                Hex(b"", octets),
                 Text(b"\n"),
             ],
         )
@@ -120,8 +117,8 @@ fn write_key_names<'a, W: Sink>(
     write_pieces(
         sink,
         &[
-            Number(b"", u64::from(number)),
-            Hex(b" keys msk ", msk),
+            Leading(u64::from(number), b" keys msk "),
+            Hex(b"", msk),
             Hex(b" emsk ", emsk),
             Text(b"\n"),
         ],

@@ -10,7 +10,7 @@ ghost use Rattle.trace_text.specs.Run.{told_text, peer_start_text, server_start_
 ghost use Rattle.trace_text.specs.Run.{result_text, end_text_of, end_text, pass_state_line, state_line};
 ghost use Rattle.eap_world.specs.World.{now_of};
 
-use answer_text::Piece::{Hex, Line, Number, Text};
+use answer_text::Piece::{Hex, Leading, Line, Number, Text};
 use answer_text::{
     LineBuffer, put_path, put_pieces, send, write_cause, write_nothing, write_pieces,
 };
@@ -102,8 +102,7 @@ fn put_head<W: Sink>(
         sink,
         line,
         &[
-            Number(b"", u64::from(event)),
-            Text(b" "),
+            Leading(u64::from(event), b" "),
             Text(name_of_party(party).as_bytes()),
         ],
     )
@@ -173,16 +172,14 @@ fn write_packet_line<W: Sink>(
     write_pieces(
         sink,
         &[
-            Number(b"", u64::from(event)),
-            Number(b" sent ", u64::from(sent.number)),
-            Text(b" to "),
+            Leading(u64::from(event), b" sent "),
+            Leading(u64::from(sent.number), b" to "),
             Text(name_of_port(sent.port).as_bytes()),
             Text(b" "),
             Text(name_of_code(code).as_bytes()),
             Number(b" ", u64::from(octet_at(octets, 1))),
-            Text(if has_type { b" type " } else { b"" }),
             if has_type {
-                Number(b"", u64::from(kind))
+                Number(b" type ", u64::from(kind))
             } else {
                 Text(b"")
             },
@@ -205,8 +202,8 @@ fn write_octets<W: Sink>(
         Some(_) if names => write_pieces(
             sink,
             &[
-                Number(b"", u64::from(event)),
-                Hex(b" octets ", octets),
+                Leading(u64::from(event), b" octets "),
+                Hex(b"", octets),
                 Text(b"\n"),
             ],
         ),
@@ -236,8 +233,7 @@ fn write_key_names<'a, W: Sink>(
     write_pieces(
         sink,
         &[
-            Number(b"", u64::from(event)),
-            Text(b" keys "),
+            Leading(u64::from(event), b" keys "),
             Text(party.as_bytes()),
             Hex(b" msk ", msk),
             Hex(b" emsk ", emsk),
@@ -279,8 +275,7 @@ pub fn write_told<W: Sink>(
         Some(skip) => write_pieces(
             sink,
             &[
-                Number(b"", u64::from(told.event)),
-                Text(b" skip "),
+                Leading(u64::from(told.event), b" skip "),
                 Text(name_of_skip(skip).as_bytes()),
                 Text(b"\n"),
             ],
@@ -405,12 +400,9 @@ fn write_counts<W: Sink>(sink: &mut W, counts: Counts) -> Result<(), Failed>
     write_pieces(
         sink,
         &[
-            Number(b"events ", u64::from(counts.events)),
-            Text(b"\n"),
-            Number(b"deliveries ", u64::from(counts.deliveries)),
-            Text(b"\n"),
-            Number(b"discards ", u64::from(counts.discards)),
-            Text(b"\n"),
+            Line(b"events ", u64::from(counts.events)),
+            Line(b"deliveries ", u64::from(counts.deliveries)),
+            Line(b"discards ", u64::from(counts.discards)),
         ],
     )
 }

@@ -6,7 +6,7 @@ ghost use Rattle.world_commands.specs.Replay.{HasBoth};
 ghost use Rattle.command_driver.specs.Responding.{Says, at_any};
 ghost use Rattle.answer_text.specs.Writes.{Appends};
 
-use answer_text::Piece::{Number, Text};
+use answer_text::Piece::{Line, Number, Text};
 use answer_text::write_pieces;
 use bulk_run::{Summary, run_all};
 use command_driver::Status;
@@ -93,22 +93,14 @@ fn write_summary<W: Sink>(sink: &mut W, bulk: Bulk, summary: Summary) -> Result<
         sink,
         &[
             Number(b"bulk ", u64::from(bulk.number)),
-            Number(b" ", u64::from(bulk.count)),
-            Text(b"\n"),
-            Number(b"conversations ", u64::from(summary.conversations)),
-            Text(b"\n"),
-            Number(b"agree ", u64::from(summary.agree)),
-            Text(b"\n"),
-            Number(b"open ", u64::from(summary.unfinished)),
-            Text(b"\n"),
-            Number(b"apart ", u64::from(summary.apart)),
-            Text(b"\n"),
-            Number(b"broken ", u64::from(summary.broken)),
-            Text(b"\n"),
-            Number(b"deliveries ", u64::from(summary.deliveries)),
-            Text(b"\n"),
-            Number(b"discards ", u64::from(summary.discards)),
-            Text(b"\n"),
+            Line(b" ", u64::from(bulk.count)),
+            Line(b"conversations ", u64::from(summary.conversations)),
+            Line(b"agree ", u64::from(summary.agree)),
+            Line(b"open ", u64::from(summary.unfinished)),
+            Line(b"apart ", u64::from(summary.apart)),
+            Line(b"broken ", u64::from(summary.broken)),
+            Line(b"deliveries ", u64::from(summary.deliveries)),
+            Line(b"discards ", u64::from(summary.discards)),
             Text(b"end\n"),
         ],
     )
