@@ -11,8 +11,9 @@ use crate::lines::{write_last, write_step};
 use command_driver::{Close, Command, Next, Status, Trouble};
 use eap_base::Packet;
 use eap_method::{Kept, Tags};
-use end_pipe::{EndInput, EndItem, EndPipe, EndReader, EndStep, Machine, Role};
+use end_pipe::{EndInput, EndPipe, EndReader, EndStep, Machine, Role};
 use octet_io::{Failed, Sink};
+use scenario_text::Item;
 
 /// The most inputs of an end.
 const MAX_INPUTS: u32 = 10_000;
@@ -182,10 +183,10 @@ impl<M, E: Begins<M>> Command for End<M, E> {
     fn take<W: Sink>(&mut self, sink: &mut W, line: &[u8]) -> Result<Next, Trouble> {
         let mut input = EndInput::Idle;
         match self.reader.line(line, &mut input) {
-            Ok(EndItem::Nothing) => Ok(Next::Goes),
-            Ok(EndItem::Ready) => self.begin(sink),
-            Ok(EndItem::Input) => self.step(sink, &input),
-            Ok(EndItem::End) => Ok(Next::Goes),
+            Ok(Item::Nothing) => Ok(Next::Goes),
+            Ok(Item::Ready) => self.begin(sink),
+            Ok(Item::Event) => self.step(sink, &input),
+            Ok(Item::End) => Ok(Next::Goes),
             Err(fault) => Ok(Next::Refuses(fault.word(), Status::Refused)),
         }
     }

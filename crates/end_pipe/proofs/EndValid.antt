@@ -8,12 +8,12 @@ use Rattle.scenario_text.specs.Entries.{item_of}
 use Rattle.scenario_text.specs.Reading.{peer_setup_of, server_setup_of}
 use Rattle.scenario_text.specs.Valid.{IsValidSetting}
 use Rattle.scenario_text.specs.Valid as valid
+use Rattle.scenario_text.specs.declared.entry.Entry as told
 use Rattle.scenario_text.specs.declared.settings.Settings.{Settings}
 use Rattle.end_pipe.specs.EndContents.{Entry, entry_of, entry_with, setting_entry}
 use Rattle.end_pipe.specs.EndContents as entry
 use Rattle.end_pipe.specs.EndReading.{AreWhole, IsValidTold, lacks_some}
 use Rattle.end_pipe.specs.EndTable.{row_of}
-use Rattle.end_pipe.specs.declared.entry.EndEntry as told
 use Rattle.end_pipe.specs.declared.input.EndInput.{EndInput}
 use Rattle.end_pipe.specs.declared.table.EndWord.{EndWord}
 use Rattle.end_pipe.specs.declared.table.EndWord.TheVariants as word
@@ -33,12 +33,12 @@ unfolding entry_of
 entry_of_valid (word.Setting keyword) ws h = setting_valid (item_of keyword ws) (scenario.item_of_valid keyword ws h)
 entry_of_valid other ws h = tt
 
-told_valid : (it : told.EndEntry) (input : EndInput) → IsValidEntry (entry_with it input) → IsValidTold it
+told_valid : (it : told.Entry) (input : EndInput) → IsValidEntry (entry_with it input) → IsValidTold it
 told_valid (told.TheVariants.Set v) input h = h
 told_valid other input h = tt
 
 -- what is told of a line whose words fit its row
-pub read_valid : (k : EndWord) (ws : List (List ℕ)) (it : told.EndEntry) (input : EndInput) → Fits (row_of k) ws → entry_of k ws ≡ entry_with it input → IsValidTold it
+pub read_valid : (k : EndWord) (ws : List (List ℕ)) (it : told.Entry) (input : EndInput) → Fits (row_of k) ws → entry_of k ws ≡ entry_with it input → IsValidTold it
 read_valid k ws it input h e = told_valid it input (subst IsValidEntry e (entry_of_valid k ws h))
 
 there : {A : Type 0} (r : Result A LineFault) → is_err r ≡ false → IsOk r

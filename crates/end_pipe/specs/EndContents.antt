@@ -3,8 +3,8 @@ use Rattle.std.specs.Prelude.{ℕ, List}
 use Rattle.text_tables.specs.Fields.{word_in, octets_of}
 use Rattle.scenario_text.specs.Contents as scenario
 use Rattle.scenario_text.specs.Entries.{item_of}
+use Rattle.scenario_text.specs.declared.entry.Entry as told
 use Rattle.scenario_text.specs.declared.entry.Setting.{Setting}
-use Rattle.end_pipe.specs.declared.entry.EndEntry as told
 use Rattle.end_pipe.specs.declared.input.EndInput.{EndInput}
 use Rattle.end_pipe.specs.declared.input.EndInput.TheVariants as inputs
 use Rattle.end_pipe.specs.declared.table.EndWord.{EndWord}
@@ -34,8 +34,8 @@ entry_of word.AltReject ws = Comes inputs.AltReject
 entry_of word.End ws = End
 
 -- what a line contains, with the input that was written if it has one
-abbrev pub entry_with : told.EndEntry → EndInput → Entry
+abbrev pub entry_with : told.Entry → EndInput → Entry
 entry_with (told.TheVariants.Set v) input = Set v
 entry_with told.TheVariants.Events input = Events
-entry_with told.TheVariants.Comes input = Comes input
+entry_with told.TheVariants.Happens input = Comes input
 entry_with told.TheVariants.End input = End

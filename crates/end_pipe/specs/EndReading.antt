@@ -11,13 +11,13 @@ use Rattle.text_tables.specs.declared.phase.Phase.TheVariants as phase
 use Rattle.scenario_text.specs.Reading as scenario
 use Rattle.scenario_text.specs.Reading.{no_settings, has_setting, with_setting, peer_setup_of, server_setup_of}
 use Rattle.scenario_text.specs.Valid.{IsValidSetting}
+use Rattle.scenario_text.specs.declared.entry.Entry as told
+use Rattle.scenario_text.specs.declared.scenario.Item as answer
 use Rattle.scenario_text.specs.declared.settings.Settings.{Settings}
 use Rattle.end_pipe.specs.EndContents.{Entry, entry_of}
 use Rattle.end_pipe.specs.EndContents as entry
 use Rattle.end_pipe.specs.EndTable.{row_of, end_words}
-use Rattle.end_pipe.specs.declared.entry.EndEntry as told
 use Rattle.end_pipe.specs.declared.input.EndInput.{EndInput}
-use Rattle.end_pipe.specs.declared.reader.EndItem as answer
 use Rattle.end_pipe.specs.declared.table.EndWord.{EndWord}
 use Rattle.end_pipe.specs.declared.table.EndWord.TheVariants as word
 use Rattle.end_pipe.specs.declared.table.Role.{Role}
@@ -48,10 +48,10 @@ abbrev pub line_of : Item → Role → Phase → Settings → ReadLine
 line_of item role p s = texts.line_of item (record { role = role; phase = p; settings = s })
 
 -- the answer of a reader, with the input that was written if it has one
-abbrev pub item_with : answer.EndItem → EndReading → EndInput → Item
+abbrev pub item_with : answer.Item → EndReading → EndInput → Item
 item_with answer.TheVariants.Nothing after input = Nothing
 item_with answer.TheVariants.Ready after input = Ready
-item_with answer.TheVariants.Input after input = Input input
+item_with answer.TheVariants.Event after input = Input input
 item_with answer.TheVariants.End after input = End
 
 -- a setting that the end needs isn't there
@@ -65,7 +65,7 @@ AreWhole Server s = IsOk (server_setup_of s)
 AreWhole Peer s = IsOk (peer_setup_of s)
 
 -- if the answer says so
-abbrev pub HasSetup : answer.EndItem → EndReading → Type 0
+abbrev pub HasSetup : answer.Item → EndReading → Type 0
 HasSetup answer.TheVariants.Ready after = AreWhole after.role after.settings
 HasSetup other after = Unit {0}
 
@@ -128,6 +128,6 @@ abbrev pub finish_of : EndReading → Result (Unit {0}) LineFault
 finish_of r = phases.finish_of r.phase
 
 -- what a line contains is within its limits
-abbrev pub IsValidTold : told.EndEntry → Type 0
+abbrev pub IsValidTold : told.Entry → Type 0
 IsValidTold (told.TheVariants.Set v) = IsValidSetting v
 IsValidTold other = Unit {0}

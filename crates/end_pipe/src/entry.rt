@@ -12,60 +12,50 @@ ghost use Rattle.end_pipe.specs.declared.input.EndInput.{EndInput};
 use crate::input::EndInput;
 use crate::table::EndWord;
 use login_setup::Event;
-use scenario_text::{Entry, Keyword, Setting, item_of};
+use scenario_text::{Entry, Keyword, item_of};
 use text_tables::{octets, word_in};
 
-/// What a line of an end's text contains after its header.
-#[derive(Drop)]
-pub enum EndEntry {
-    Set(Setting),
-    Events,
-    /// The input that was written.
-    Comes,
-    End,
-}
-
-/// What a keyword says with the words of its line, which fit its row.
+/// What a keyword says with the words of its line, which fit its row. An input is written to `input`.
 #[tactic(auto, unfolding(crate::specs::EndContents::entry_of))]
-pub fn entry_of(word: EndWord, line: &[u8], input: &mut EndInput) -> EndEntry
+pub fn entry_of(word: EndWord, line: &[u8], input: &mut EndInput) -> Entry
     requires { Fits (row_of word) (words line.now) }
     ensures { entry_of word (words line.now) ≡ entry_with result input.new }
 {
     match word {
         EndWord::Setting(keyword) => setting_entry(keyword, line),
-        EndWord::Events => EndEntry::Events,
+        EndWord::Events => Entry::Events,
         EndWord::Packet => {
             *input = EndInput::Octets(octets(word_in(line, 1)));
-            EndEntry::Comes
+            Entry::Happens
         }
         EndWord::Timeout => {
             *input = EndInput::Timeout;
-            EndEntry::Comes
+            Entry::Happens
         }
         EndWord::Idle => {
             *input = EndInput::Idle;
-            EndEntry::Comes
+            Entry::Happens
         }
         EndWord::AltAccept => {
             *input = EndInput::AltAccept;
-            EndEntry::Comes
+            Entry::Happens
         }
         EndWord::AltReject => {
             *input = EndInput::AltReject;
-            EndEntry::Comes
+            Entry::Happens
         }
-        EndWord::End => EndEntry::End,
+        EndWord::End => Entry::End,
     }
 }
 
 /// What a setting says with the words of its line. (By itself, so that no other line makes room for an event.)
-fn setting_entry(keyword: Keyword, line: &[u8]) -> EndEntry
+fn setting_entry(keyword: Keyword, line: &[u8]) -> Entry
     requires { Fits (scenario.row_of keyword) (words line.now) }
     ensures { (input : EndInput) → setting_entry (item_of keyword (words line.now)) ≡ entry_with result input }
 {
     let mut event = Event::Idle;
     match item_of(keyword, line, &mut event) {
-        Entry::Set(setting) => EndEntry::Set(setting),
-        _ => EndEntry::End,
+        Entry::Set(setting) => Entry::Set(setting),
+        _ => Entry::End,
     }
 }

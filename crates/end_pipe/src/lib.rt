@@ -16,7 +16,7 @@ pub use input::EndInput;
 pub use laws::end_lines_are_judged;
 pub use peer_pipe::PeerPipe;
 pub use pipe::{EndPipe, Machine};
-pub use reader::{EndItem, EndReader};
+pub use reader::EndReader;
 pub use server_pipe::{ServerPipe, StandAloneServer};
 pub use table::Role;
 pub use told::EndStep;

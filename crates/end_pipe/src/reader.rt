@@ -8,26 +8,13 @@ ghost use Rattle.scenario_text.specs.Valid.{IsValidPeer, IsValidServer};
 ghost use Rattle.end_pipe.specs.EndReading.{HasSetup, finish_of, item_with, lacks_some};
 ghost use Rattle.end_pipe.specs.EndReading as reading;
 
-use crate::entry::{EndEntry, entry_of};
+use crate::entry::entry_of;
 use crate::input::EndInput;
 use crate::table::{EndWord, Role, words_of};
 use login_setup::{PeerSetup, ServerSetup};
-use scenario_text::Settings;
+use scenario_text::{Entry, Item, Settings};
 use std::marker::Model;
 use text_tables::{LineFault, Part, Phase, Text, read_line};
-
-/// What a line of an end's text says.
-#[derive(Clone, Copy)]
-pub enum EndItem {
-    /// Nothing that happens: the header, a setting, or a line that is ignored.
-    Nothing,
-    /// The line `events`: the settings are whole, and the reader gives them.
-    Ready,
-    /// The next input of the end, which was written.
-    Input,
-    /// The line `end`.
-    End,
-}
 
 /// Reads the text of the peer or of the server. A refused line leaves the reader as it was.
 #[derive(Drop)]
@@ -60,10 +47,10 @@ impl EndReader {
         }
     }
 
-    /// Reads the next line, without its end, and writes its input, if it has one, to `input`. The line is refused with
-    /// its first fault, and then the reader is as it was.
+    /// Reads the next line, without its end, and writes its input, if it has one, to `input`: the answer is then
+    /// `Item::Event`. The line is refused with its first fault, and then the reader is as it was.
     #[tactic(auto, unfolding(crate::specs::EndReading::read_line))]
-    pub fn line(&mut self, line: &[u8], input: &mut EndInput) -> Result<EndItem, LineFault>
+    pub fn line(&mut self, line: &[u8], input: &mut EndInput) -> Result<Item, LineFault>
         ensures read { reading.read_line self.old line.now ≡ line_result item_with result self.new input.new }
         ensures ready { IfOk result (λ item. HasSetup item self.new) }
         ensures unchanged { OnErr result (self.new ≡ self.old) }
@@ -122,19 +109,20 @@ impl EndReader {
 }
 
 impl Text for EndReader {
-    ghost use Rattle.end_pipe.specs.EndContents.{Entry, entry_with};
+    ghost use Rattle.end_pipe.specs.EndContents as contents;
+    ghost use Rattle.end_pipe.specs.EndContents.{entry_with};
     ghost use Rattle.end_pipe.specs.EndReading as reading;
     ghost use Rattle.end_pipe.specs.EndReading.{HasSetup, IsValidTold, end, item_with};
 
     type Word = EndWord;
 
-    type Entry = EndEntry;
+    type Entry = Entry;
 
     type Event = EndInput;
 
-    type Item = EndItem;
+    type Item = Item;
 
-    ghost Whole = { Entry };
+    ghost Whole = { contents.Entry };
 
     ghost Said = { reading.Item };
 
@@ -172,52 +160,52 @@ impl Text for EndReader {
         }
     }
 
-    fn entry_of(word: EndWord, line: &[u8], input: &mut EndInput) -> EndEntry {
+    fn entry_of(word: EndWord, line: &[u8], input: &mut EndInput) -> Entry {
         entry_of(word, line, input)
     }
 
-    fn part(entry: &EndEntry) -> Part {
+    fn part(entry: &Entry) -> Part {
         match entry {
-            EndEntry::Set(_) => Part::Setting,
-            EndEntry::Events => Part::Opening,
-            EndEntry::Comes => Part::Event,
-            EndEntry::End => Part::End,
+            Entry::Set(_) => Part::Setting,
+            Entry::Events => Part::Opening,
+            Entry::Happens => Part::Event,
+            Entry::End => Part::End,
         }
     }
 
-    fn came_before(&self, entry: &EndEntry) -> bool {
+    fn came_before(&self, entry: &Entry) -> bool {
         match entry {
-            EndEntry::Set(setting) => self.settings.has(setting),
+            Entry::Set(setting) => self.settings.has(setting),
             _ => false,
         }
     }
 
-    fn is_missing(&self, entry: &EndEntry) -> bool {
+    fn is_missing(&self, entry: &Entry) -> bool {
         match entry {
-            EndEntry::Events => self.lacks_some(),
+            Entry::Events => self.lacks_some(),
             _ => false,
         }
     }
 
-    fn add(&mut self, entry: EndEntry) -> EndItem {
+    fn add(&mut self, entry: Entry) -> Item {
         match entry {
-            EndEntry::Set(setting) => {
+            Entry::Set(setting) => {
                 self.settings.set(setting);
-                EndItem::Nothing
+                Item::Nothing
             }
-            EndEntry::Events => {
+            Entry::Events => {
                 self.phase = Phase::Events;
-                EndItem::Ready
+                Item::Ready
             }
-            EndEntry::Comes => EndItem::Input,
-            EndEntry::End => {
+            Entry::Happens => Item::Event,
+            Entry::End => {
                 self.phase = Phase::Ended;
-                EndItem::End
+                Item::End
             }
         }
     }
 
-    fn nothing() -> EndItem {
-        EndItem::Nothing
+    fn nothing() -> Item {
+        Item::Nothing
     }
 }

@@ -34,12 +34,12 @@ pub enum Setting {
     ServerExpanded(bool),
 }
 
-/// What a line of a scenario contains after its header.
+/// What a line of a scenario, or of the text of one end, contains after its header.
 #[derive(Drop)]
 pub enum Entry {
     Set(Setting),
     Events,
-    /// The event that was written.
+    /// The event, or the input of the end, that was written.
     Happens,
     End,
 }

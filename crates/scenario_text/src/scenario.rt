@@ -15,14 +15,14 @@ use login_setup::{Event, Setup};
 use std::marker::Model;
 use text_tables::{LineFault, Part, Phase, Text, read_line};
 
-/// What a line of a scenario says.
+/// What a line of a scenario, or of the text of one end, says.
 #[derive(Clone, Copy)]
 pub enum Item {
     /// Nothing that happens: the header, a setting, or a line that is ignored.
     Nothing,
-    /// The line `events`: the settings are whole, and `ScenarioReader::setup` gives them.
+    /// The line `events`: the settings are whole, and the reader gives them.
     Ready,
-    /// What happens next in the run: the event that was written.
+    /// What happens next: the event, or the input of the end, that was written.
     Event,
     /// The line `end`.
     End,
