@@ -11,15 +11,14 @@ use end_objects::{PeerObject, ServerObject, all_peers, all_servers};
 use login_call::eap_login;
 use login_setup::Setup;
 use octet_io::{MemSink, MemSource};
-use std::alloc::Global;
-use std::io;
+use std::alloc::{AllocError, Global};
 use world_commands::world_of;
 
 /// A world over objects of both methods.
 pub(crate) type ObjectWorld = World<PeerObject, ServerObject>;
 
 /// An object of each method, for each end.
-fn methods(alloc: Global) -> io::Result<Methods<PeerObject, ServerObject>>
+fn methods(alloc: Global) -> Result<Methods<PeerObject, ServerObject>, AllocError>
     ensures { IfOk result (HasBoth peer_object_shown server_object_shown) }
 {
     Ok(Methods {
@@ -29,14 +28,14 @@ fn methods(alloc: Global) -> io::Result<Methods<PeerObject, ServerObject>>
 }
 
 /// The world of these settings.
-pub(crate) fn world(alloc: Global, setup: Setup) -> io::Result<ObjectWorld>
+pub(crate) fn world(alloc: Global, setup: Setup) -> Result<ObjectWorld, AllocError>
     requires { IsValidSetup setup }
 {
     Ok(world_of(alloc, setup, methods(alloc)?))
 }
 
 /// The words of a command, which a space parts; none if the text is empty.
-pub(crate) fn words_of(alloc: Global, command: &str) -> io::Result<Vec<String>> {
+pub(crate) fn words_of(alloc: Global, command: &str) -> Result<Vec<String>, AllocError> {
     let mut words = Vec::new(alloc);
     for word in command.split(" ") {
         if !word.is_empty() {
@@ -46,25 +45,50 @@ pub(crate) fn words_of(alloc: Global, command: &str) -> io::Result<Vec<String>> 
     Ok(words)
 }
 
-/// What the call answers to these words: the status, and the sink after it.
-pub(crate) fn answered(
-    alloc: Global,
-    command: &str,
-    mut source: MemSource,
-    mut sink: MemSink,
-) -> io::Result<(Status, MemSink)> {
-    let words = words_of(alloc, command)?;
-    let status = eap_login(alloc, &words, &mut source, &mut sink, methods(alloc)?);
-    Ok((status, sink))
+/// What the call is given: the words of a command, the input, how many octets a read and a write take, and the numbers
+/// of the read and of the write that fail, from 1; 0 for none.
+#[derive(Clone, Copy)]
+pub(crate) struct Given<'a> {
+    pub command: &'a str,
+    pub input: &'a [u8],
+    pub read: usize,
+    pub write: usize,
+    pub failing_read: u32,
+    pub failing_write: u32,
 }
 
-/// What the call answers to these words and this input.
-pub(crate) fn answered_to(
-    alloc: Global,
-    command: &str,
-    input: &[u8],
-) -> io::Result<(Status, MemSink)> {
-    let source = MemSource::new(alloc, input, 100, &[])?;
-    let sink = MemSink::new(alloc, 10_000, 100, &[])?;
-    answered(alloc, command, source, sink)
+impl<'a> Given<'a> {
+    /// These words and this input, without a read or a write that fails.
+    pub(crate) fn whole(command: &'a str, input: &'a [u8]) -> Given<'a> {
+        Given {
+            command,
+            input,
+            read: 100,
+            write: 100,
+            failing_read: 0,
+            failing_write: 0,
+        }
+    }
+
+    /// True if the call ends with this status, and wrote these octets.
+    pub(crate) fn writes(
+        &self,
+        alloc: Global,
+        status: Status,
+        octets: &[u8],
+    ) -> Result<bool, AllocError> {
+        let (ended, sink) = self.answered(alloc)?;
+        Ok(ended == status && sink.written() == octets)
+    }
+
+    /// What the call answers: the status, and the sink after it.
+    pub(crate) fn answered(&self, alloc: Global) -> Result<(Status, MemSink), AllocError> {
+        let words = words_of(alloc, self.command)?;
+        let read = self.read.max(1);
+        let write = self.write.max(1);
+        let mut source = MemSource::new(alloc, self.input, read, &[self.failing_read])?;
+        let mut sink = MemSink::new(alloc, 10_000, write, &[self.failing_write])?;
+        let status = eap_login(alloc, &words, &mut source, &mut sink, methods(alloc)?);
+        Ok((status, sink))
+    }
 }

@@ -1,11 +1,7 @@
 //! Cuttings of the input and the output, and reads and writes that fail.
 
-ghost use Rattle.std.specs.Prelude.{◌<◌};
-
-use crate::call::{Status, answered, answered_to};
-use octet_io::{MemSink, MemSource};
-use std::alloc::Global;
-use std::io;
+use crate::call::{Given, Status};
+use std::alloc::{AllocError, Global};
 use std::test::Fail;
 
 /// A login by EAP-GPSK.
@@ -94,15 +90,15 @@ const FRAMES: &[u8] = b"\
 \0\0\0\0\0\0\0\0\x04\0\0\0\x04\0\0\0abcd";
 
 /// True if these cuttings of reads and writes of a login give the same.
-fn is_the_same(alloc: Global, read: usize, write: usize) -> io::Result<bool>
-    requires reads { 0 < read }
-    requires writes { 0 < write }
-{
-    let source = MemSource::new(alloc, LOGIN.as_bytes(), read, &[])?;
-    let sink = MemSink::new(alloc, 10_000, write, &[])?;
-    let (status, sink) = answered(alloc, "replay", source, sink)?;
-    let (_, whole) = answered_to(alloc, "replay", LOGIN.as_bytes())?;
-    Ok(status == Status::Done && sink.written() == whole.written())
+fn is_the_same(alloc: Global, read: usize, write: usize) -> Result<bool, AllocError> {
+    let whole = Given::whole("replay", LOGIN.as_bytes());
+    let cut = Given {
+        read,
+        write,
+        ..whole
+    };
+    let (_, text) = whole.answered(alloc)?;
+    cut.writes(alloc, Status::Done, text.written())
 }
 
 #[test]
@@ -114,14 +110,15 @@ fn the_trace_is_the_same_in_every_cutting(rt: HostRuntime) -> Result<(), Fail> {
     Ok(())
 }
 
-/// What a run comes to if nothing fails, and what one may leave if its read or write of a number fails.
-#[derive(Drop)]
-struct Whole<'a> {
+/// A run, and what it comes to if nothing fails.
+#[derive(Clone, Copy)]
+struct Run<'a> {
+    given: Given<'a>,
     status: Status,
     text: &'a [u8],
 }
 
-impl Whole<'_> {
+impl Run<'_> {
     /// True if a run that met the fault, if it did, ended so and wrote a prefix of the text, or the whole.
     fn ends_well(&self, status: Status, fault: Status, wrote: &[u8]) -> bool {
         let wanted = if wrote.len() == self.text.len() {
@@ -131,77 +128,91 @@ impl Whole<'_> {
         };
         status == wanted && self.text.starts_with(wrote)
     }
-}
 
-/// True if a run that takes 7 octets a read, and whose read of this number fails, ends well. No line is written of
-/// the end of RADIUS packets, so that all of their text is there if the read that meets the end fails.
-fn read_fails_well(
-    alloc: Global,
-    command: &str,
-    input: &[u8],
-    call: u32,
-    whole: &Whole,
-) -> io::Result<bool> {
-    let source = MemSource::new(alloc, input, 7, &[call])?;
-    let sink = MemSink::new(alloc, 10_000, 100, &[])?;
-    let (status, sink) = answered(alloc, command, source, sink)?;
-    let header = if command == "replay" {
-        "eap-trace 1\n"
-    } else {
-        ""
-    };
-    let is_header = sink.written() == header.as_bytes();
-    let is_end = command == "radius" && status == Status::ReadFault && sink.written() == whole.text;
-    let is_well = is_end || whole.ends_well(status, Status::ReadFault, sink.written());
-    Ok(is_well && (is_header || call != 1))
-}
-
-/// True if a run whose sink takes 7 octets a write, and fails at the write of this number, ends well.
-fn write_fails_well(
-    alloc: Global,
-    command: &str,
-    input: &[u8],
-    call: u32,
-    whole: &Whole,
-) -> io::Result<bool> {
-    let source = MemSource::new(alloc, input, 100, &[])?;
-    let sink = MemSink::new(alloc, 10_000, 7, &[call])?;
-    let (status, sink) = answered(alloc, command, source, sink)?;
-    let is_first = call == 1;
-    Ok(
-        whole.ends_well(status, Status::WriteFault, sink.written())
-            && sink.written().is_empty() == is_first,
-    )
-}
-
-/// True if a run ends well whichever read or write of it fails. No input and no text here has 200 pieces of 7
-/// octets.
-fn faults_end_well(alloc: Global, command: &str, input: &[u8]) -> io::Result<bool> {
-    let (status, sink) = answered_to(alloc, command, input)?;
-    let whole = Whole {
-        status,
-        text: sink.written(),
-    };
-    let mut are_well = !whole.text.is_empty();
-    for call in 1..200 {
-        are_well &= read_fails_well(alloc, command, input, call, &whole)?;
-        are_well &= write_fails_well(alloc, command, input, call, &whole)?;
+    /// True if a run that takes 7 octets a read, and whose read of this number fails, ends well. No line is written of
+    /// the end of RADIUS packets, so that all of their text is there if the read that meets the end fails.
+    fn read_fails_well(&self, alloc: Global, call: u32) -> Result<bool, AllocError> {
+        let given = Given {
+            read: 7,
+            failing_read: call,
+            ..self.given
+        };
+        let (status, sink) = given.answered(alloc)?;
+        let header = if given.command == "replay" {
+            "eap-trace 1\n"
+        } else {
+            ""
+        };
+        let is_header = sink.written() == header.as_bytes();
+        let is_end = given.command == "radius"
+            && status == Status::ReadFault
+            && sink.written() == self.text;
+        let is_well = is_end || self.ends_well(status, Status::ReadFault, sink.written());
+        Ok(is_well && (is_header || call != 1))
     }
-    Ok(are_well)
+
+    /// True if a run whose sink takes 7 octets a write, and fails at the write of this number, ends well.
+    fn write_fails_well(&self, alloc: Global, call: u32) -> Result<bool, AllocError> {
+        let given = Given {
+            write: 7,
+            failing_write: call,
+            ..self.given
+        };
+        let (status, sink) = given.answered(alloc)?;
+        let is_first = call == 1;
+        Ok(
+            self.ends_well(status, Status::WriteFault, sink.written())
+                && sink.written().is_empty() == is_first,
+        )
+    }
+
+    /// True if it ends well whichever read or write of it fails. No input and no text here has 200 pieces of 7 octets.
+    fn faults_end_well(&self, alloc: Global) -> Result<bool, AllocError> {
+        let mut are_well = !self.text.is_empty();
+        for call in 1..200 {
+            are_well &= self.read_fails_well(alloc, call)?;
+            are_well &= self.write_fails_well(alloc, call)?;
+        }
+        Ok(are_well)
+    }
+}
+
+/// True if a run ends well whichever read or write of it fails.
+fn faults_end_well(alloc: Global, command: &str, input: &[u8]) -> Result<bool, AllocError> {
+    let given = Given::whole(command, input);
+    let (status, sink) = given.answered(alloc)?;
+    let text = sink.written();
+    let run = Run {
+        given,
+        status,
+        text,
+    };
+    run.faults_end_well(alloc)
+}
+
+/// True if the run of a block of words and input ends well whichever read or write of it fails.
+fn block_ends_well(alloc: Global, block: &str) -> Result<bool, AllocError> {
+    let (command, input) = block.split_once("\n").unwrap_or((block, ""));
+    faults_end_well(alloc, command, input.as_bytes())
 }
 
 #[test]
 fn each_read_and_write_may_fail(rt: HostRuntime) -> Result<(), Fail> {
-    let alloc = rt.alloc();
     for block in INPUTS.split("\n\n") {
-        let (command, input) = block.split_once("\n").unwrap_or((block, ""));
-        assert!(rt;
-            faults_end_well(alloc, command, input.as_bytes())?,
-            "{command}"
-        );
+        assert!(rt; block_ends_well(rt.alloc(), block)?, "{block}");
     }
-    assert!(rt; faults_end_well(alloc, "replay", LOGIN.as_bytes())?);
-    assert!(rt; faults_end_well(alloc, "pcap", FRAMES)?);
+    Ok(())
+}
+
+#[test]
+fn each_read_and_write_of_a_login_may_fail(rt: HostRuntime) -> Result<(), Fail> {
+    assert!(rt; faults_end_well(rt.alloc(), "replay", LOGIN.as_bytes())?);
+    Ok(())
+}
+
+#[test]
+fn each_read_and_write_of_a_file_may_fail(rt: HostRuntime) -> Result<(), Fail> {
+    assert!(rt; faults_end_well(rt.alloc(), "pcap", FRAMES)?);
     Ok(())
 }
 
@@ -221,18 +232,19 @@ fn first_lines(text: &[u8], count: u32) -> &[u8] {
 
 /// True if a run whose sink takes 2,000 octets a write, and fails at the write of this number, wrote exactly
 /// the lines before it.
-fn holds_the_lines_before(alloc: Global, call: u32, text: &[u8]) -> io::Result<bool>
-    requires { 0 < call }
-{
-    let source = MemSource::new(alloc, LOGIN.as_bytes(), 4096, &[])?;
-    let sink = MemSink::new(alloc, 10_000, 2000, &[call])?;
-    let (status, sink) = answered(alloc, "replay", source, sink)?;
-    Ok(status == Status::WriteFault && sink.written() == first_lines(text, call - 1))
+fn holds_the_lines_before(alloc: Global, call: u32, text: &[u8]) -> Result<bool, AllocError> {
+    let given = Given {
+        write: 2000,
+        failing_write: call,
+        ..Given::whole("replay", LOGIN.as_bytes())
+    };
+    let lines = first_lines(text, call.saturating_sub(1));
+    given.writes(alloc, Status::WriteFault, lines)
 }
 
 /// True if each line of a login's trace, which has 25 lines, is one write, and nothing is buffered past it.
-fn lines_are_writes(alloc: Global) -> io::Result<bool> {
-    let (_, whole) = answered_to(alloc, "replay", LOGIN.as_bytes())?;
+fn lines_are_writes(alloc: Global) -> Result<bool, AllocError> {
+    let (_, whole) = Given::whole("replay", LOGIN.as_bytes()).answered(alloc)?;
     let mut are_writes = whole.written().ends_with(b"result agree\nend\n");
     for call in 1..26 {
         are_writes &= holds_the_lines_before(alloc, call, whole.written())?;
@@ -248,11 +260,13 @@ fn each_line_is_one_write(rt: HostRuntime) -> Result<(), Fail> {
 
 /// True if conversations, over a source that would fail at its first read and a sink that fails at its first
 /// write, end with the status of a failed write.
-fn fails_to_write(alloc: Global) -> io::Result<bool> {
-    let source = MemSource::new(alloc, b"", 100, &[1])?;
-    let sink = MemSink::new(alloc, 1000, 100, &[1])?;
-    let (status, sink) = answered(alloc, "bulk 1 3", source, sink)?;
-    Ok(status == Status::WriteFault && sink.written().is_empty())
+fn fails_to_write(alloc: Global) -> Result<bool, AllocError> {
+    let given = Given {
+        failing_read: 1,
+        failing_write: 1,
+        ..Given::whole("bulk 1 3", b"")
+    };
+    given.writes(alloc, Status::WriteFault, b"")
 }
 
 #[test]

@@ -1,10 +1,8 @@
 //! Nothing is read once an answer is decided, and a line is answered before more is read: the read after the octets that
 //! decide would fail.
 
-use crate::call::{Status, answered};
-use octet_io::{MemSink, MemSource};
+use crate::call::{Given, Status};
 use std::alloc::{AllocError, Global};
-use std::io;
 use std::test::Fail;
 
 // The status, how many reads of one octet come after the last octet, and the words; then the input, in which `;`
@@ -46,19 +44,22 @@ fn octets_of(alloc: Global, input: &str) -> Result<Vec<u8>, AllocError> {
 
 /// The status of a run over a source of one octet a read, whose reads fail after as many as the input has octets and
 /// so many more.
-fn status_of(alloc: Global, command: &str, octets: &[u8], more: u32) -> io::Result<u8> {
+fn status_of(alloc: Global, command: &str, octets: &[u8], more: u32) -> Result<u8, AllocError> {
     let failing = u32::try_from(octets.len())
         .unwrap_or(0)
         .wrapping_add(more)
         .wrapping_add(1);
-    let source = MemSource::new(alloc, octets, 1, &[failing])?;
-    let sink = MemSink::new(alloc, 10_000, 100, &[])?;
-    let (status, _) = answered(alloc, command, source, sink)?;
+    let given = Given {
+        read: 1,
+        failing_read: failing,
+        ..Given::whole(command, octets)
+    };
+    let (status, _) = given.answered(alloc)?;
     Ok(status.number())
 }
 
 /// True if the run of a row ends with its status.
-fn ends_so(alloc: Global, row: &str) -> io::Result<bool> {
+fn ends_so(alloc: Global, row: &str) -> Result<bool, AllocError> {
     let (words, input) = row.split_once("|").unwrap_or((row, ""));
     let octets = octets_of(alloc, input)?;
     let (status, rest) = words.split_once(" ").unwrap_or((words, ""));
@@ -83,11 +84,12 @@ const BAD_RECORD: &[u8] =
     b"\xa1\xb2\xc3\xd4\0\x02\0\x04\0\0\0\0\0\0\0\0\0\0\xff\xff\0\0\0\x01\0\0\0\0\0\0\0\0\0\x04\0\x01";
 
 /// True if a file that one read gives whole, and whose second read fails, is refused with this line.
-fn is_refused(alloc: Global, file: &[u8], line: &[u8]) -> io::Result<bool> {
-    let source = MemSource::new(alloc, file, 100, &[2])?;
-    let sink = MemSink::new(alloc, 100, 100, &[])?;
-    let (status, sink) = answered(alloc, "pcap", source, sink)?;
-    Ok(status.number() == 2 && sink.written() == line)
+fn is_refused(alloc: Global, file: &[u8], line: &[u8]) -> Result<bool, AllocError> {
+    let given = Given {
+        failing_read: 2,
+        ..Given::whole("pcap", file)
+    };
+    given.writes(alloc, Status::Refused, line)
 }
 
 #[test]
@@ -117,12 +119,14 @@ const ANSWER: &[u8] = b"1 RECEIVED IDENTITY SEND_RESPONSE IDLE\n1 send 0200000a0
 
 /// True if a source of one octet a read, whose read behind the first packet's line fails, leaves both lines of the
 /// answer written.
-fn is_answered_first(alloc: Global) -> io::Result<bool> {
+fn is_answered_first(alloc: Global) -> Result<bool, AllocError> {
     let failing = u32::try_from(PEER.len()).unwrap_or(0).wrapping_add(1);
-    let source = MemSource::new(alloc, PEER.as_bytes(), 1, &[failing])?;
-    let sink = MemSink::new(alloc, 10_000, 100, &[])?;
-    let (status, sink) = answered(alloc, "peer", source, sink)?;
-    Ok(status == Status::ReadFault && sink.written() == ANSWER)
+    let given = Given {
+        read: 1,
+        failing_read: failing,
+        ..Given::whole("peer", PEER.as_bytes())
+    };
+    given.writes(alloc, Status::ReadFault, ANSWER)
 }
 
 #[test]

@@ -2,13 +2,13 @@
 
 use login_run::run;
 use octet_io::{MemSink, MemSource};
-use std::alloc::Global;
+use std::alloc::{AllocError, Global};
 use std::io;
 use std::test::Fail;
 
 /// True if a run whose arguments couldn't be read for this cause gives the number. It reads and writes
 /// nothing: both would fail.
-fn has_no_words(alloc: Global, kind: io::ErrorKind, number: u8) -> io::Result<bool> {
+fn has_no_words(alloc: Global, kind: io::ErrorKind, number: u8) -> Result<bool, AllocError> {
     let mut source = MemSource::new(alloc, b"", 100, &[1])?;
     let mut sink = MemSink::new(alloc, 100, 100, &[1])?;
     let args = Err(io::Error::from(kind));
