@@ -1,7 +1,7 @@
 # What eap_login, test and tools/prove share: which programs are kept and what they were built of, and how a long command
 # is followed. Read with `here` set to the top of the repository and `me` to the name of the script.
 
-crate=$here/crates/eap_login
+crate=$here/crates/eap_login_main
 # A program is kept as eap_login-proved, whose proofs were checked on this machine, or as eap_login-unchecked. Beside it
 # stands its record, NAME.of: the kit's line, a sum of each source, and the program's own sum.
 kept=$here/out

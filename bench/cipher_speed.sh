@@ -14,7 +14,7 @@ trap 'exit 1' HUP INT
 # The crates, without what earlier checks left, and a program over them.
 mkdir "$work/crates"
 cp "$here/HANDLES" "$work/HANDLES"
-for crate in eap_base aes_block cmac_mac hmac_mac login_keys; do
+for crate in octet_lists aes_block cmac_mac hmac_mac login_keys; do
     mkdir "$work/crates/$crate"
     for part in src specs proofs; do
         [ ! -d "$here/crates/$crate/$part" ] || cp -R "$here/crates/$crate/$part" "$work/crates/$crate/"
@@ -22,7 +22,7 @@ for crate in eap_base aes_block cmac_mac hmac_mac login_keys; do
     grep "^$crate:" "$here/crates.txt" >>"$work/crates.txt"
 done
 (cd "$work" && rt new crates/cipher_count start_io >/dev/null 2>&1)
-echo 'cipher_count: eap_base aes_block cmac_mac hmac_mac login_keys' >>"$work/crates.txt"
+echo 'cipher_count: octet_lists aes_block cmac_mac hmac_mac login_keys' >>"$work/crates.txt"
 crate="$work/crates/cipher_count"
 rm -rf "$crate/proofs" "$crate/specs" "$crate/src" "$crate/stdin" "$crate/stdout" "$crate/BUILD.bazel"
 mkdir "$crate/src"
@@ -32,7 +32,7 @@ cat >"$crate/src/main.rt" <<'END'
 
 use aes_block::{Aes128, TableAes128};
 use cmac_mac::{CmacKey, cmac_whole};
-use eap_base::Suite;
+use octet_lists::Suite;
 use hmac_mac::hmac_whole;
 use login_keys::{gkdf, gpsk_keys};
 use std::rt::Clock;

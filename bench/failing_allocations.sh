@@ -7,7 +7,7 @@ at_once=$(getconf _NPROCESSORS_ONLN)
 work=$(mktemp -d)
 trap 'rm -rf "$work"' EXIT
 trap 'exit 1' HUP INT
-cd "$here/crates/eap_login"
+cd "$here/crates/eap_login_main"
 
 fail() {
     echo "failing_allocations: $1" >&2

@@ -147,6 +147,6 @@ if command -v pkg-config >/dev/null; then
 else
     echo "tools/check: pkg-config is passed over: it isn't installed" >&2
 fi
-echo >>"$copy/crates/eap_base/src/lib.rt"
+echo >>"$copy/crates/octet_lists/src/lib.rt"
 in_copy tools/install --prefix "$work/not-proved"
 holds "install takes a program that isn't proved" [ "$ended $(test -e "$work/not-proved" && echo there)" = '2 ' ]

@@ -80,8 +80,8 @@ def case_small(run: Run) -> Iterator[Optional[str]]:
         yield holds(errors == wanted, f"of crates that aren't there proves says {errors}")
         yield holds((status, out) == (1, ""), f"of crates that aren't there proves ends with {status}")
         yield refuses(run, "a CRATE is wanted", "proves")
-        yield refuses(run, "the file has no table", "proves", "--table", "README.md", "eap_base")
-        yield refuses(run, "can't be read", "proves", "--table", f"{folder}/none", "eap_base")
+        yield refuses(run, "the file has no table", "proves", "--table", "README.md", "octet_lists")
+        yield refuses(run, "can't be read", "proves", "--table", f"{folder}/none", "octet_lists")
         yield refuses(run, "crates stand on one another in a circle: ", "proves", "--crates", circle, "left")
 
 

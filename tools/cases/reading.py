@@ -257,7 +257,7 @@ def case_small(run: Run) -> Iterator[Optional[str]]:
 
 def case_here(run: Run) -> Iterator[Optional[str]]:
     """Each file of the headline has as many lines as are told, and the definitions that it rests on are among them."""
-    out = run(["reading", "login_call::eap_login", "world_laws::honest_ends_agree"])[1]
+    out = run(["reading", "eap_login::eap_login", "world_laws::honest_ends_agree"])[1]
     files = {f"crates/{it[0]}": int(it[1]) for it in re.findall(r"^\| `([^`]*)` .* of (\d+) \|", out, re.M)}
     wrong = [it for it, lines in files.items() if Path(it).read_text().count("\n") != lines]
     yield holds(files and not wrong, f"reading of the headline has other lines of {wrong}")

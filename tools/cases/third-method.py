@@ -106,7 +106,7 @@ def case_here(run: Run) -> Iterator[Optional[str]]:
     """Here the groups have what their names say; and words are refused."""
     status, out, _ = run(["third-method"])
     opened, examples, _ = out.split("\n\n")
-    yield holds(status == 0 and of_file("crates/eap_base/src/kind.rt", opened.splitlines()), f"the two Types are left out: {opened[:99]}")
+    yield holds(status == 0 and of_file("crates/octet_lists/src/kind.rt", opened.splitlines()), f"the two Types are left out: {opened[:99]}")
     lost = [it for it in opened.splitlines()[1:] if re.search(r"psk|Worked|tests/", it.partition(":")[0], re.I)]
     lost += [it for it in examples.splitlines()[1:] if not re.search(r"/proofs/|_tests/src/", it)]
     yield holds(not lost, f"these stand in the wrong group: {lost}")

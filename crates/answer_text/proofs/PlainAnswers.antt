@@ -1,6 +1,6 @@
 -- No line of `decode` or `keys` begins as the line of the verdict does.
 use Rattle.std.proofs.Common.{◌≡◌, ℕ, ◌-◌, ◌==◌, List, [], ◌∷◌, ◌++◌, length, true, Option, Some, None, Result, Ok, Err, refl, codes, decimal}
-use Rattle.eap_base.specs.Among.{psk_kind, gpsk_kind, expanded_kind}
+use Rattle.octet_lists.specs.Among.{psk_kind, gpsk_kind, expanded_kind}
 use Rattle.eap_packet.specs.Fault.{packet_of}
 use Rattle.eap_packet.specs.Expanded.{ExpandedValue, expanded_of}
 use Rattle.eap_packet.specs.Words.{cause_word}

@@ -1,6 +1,6 @@
 -- What answers a request for a cipher, a MAC or keys, and what Type-Data of a method says.
 use Rattle.std.specs.Prelude.{ℕ, List, ◌==◌, if◌then◌else◌, None, codes}
-use Rattle.eap_base.specs.Among.{psk_kind, gpsk_kind}
+use Rattle.octet_lists.specs.Among.{psk_kind, gpsk_kind}
 use Rattle.aes_block.specs.Cipher.{aes128}
 use Rattle.cmac_mac.specs.Cmac.{aes_cmac}
 use Rattle.hmac_mac.specs.Hmac.{hmac_sha256}

@@ -1,7 +1,7 @@
 -- What a packet is, in one line.
 use Rattle.std.specs.Prelude.{ℕ, ◌-◌, List, [], ◌∷◌, ◌++◌, length, ◌==◌, if◌then◌else◌, Option, Some, None, Result, Ok, Err, codes, decimal}
 use Rattle.std.specs.List.{concat}
-use Rattle.eap_base.specs.Among.{expanded_kind, identity_kind, nak_kind}
+use Rattle.octet_lists.specs.Among.{expanded_kind, identity_kind, nak_kind}
 use Rattle.eap_packet.specs.Words.{cause_word}
 use Rattle.eap_packet.specs.Packet.{PacketValue, request, response, success, failure, spelled}
 use Rattle.eap_packet.specs.Fault.{packet_of}

@@ -12,7 +12,7 @@ use crate::pieces::put_pieces;
 use crate::{gpsk, psk};
 use aes_block::Aes128;
 use cmac_mac::cmac_whole;
-use eap_base::{GPSK_KIND, PSK_KIND};
+use octet_lists::{GPSK_KIND, PSK_KIND};
 use hmac_mac::hmac_whole;
 use login_keys::{gpsk_keys, key_name};
 use octet_io::{Failed, Sink};

@@ -7,7 +7,7 @@ ghost use Rattle.answer_text.specs.Keys.{exported_text, sealed_text};
 use crate::lines::write_hex;
 use crate::pieces::Piece::{Hex, Text};
 use crate::pieces::write_pieces;
-use eap_base::Octets;
+use octet_lists::Octets;
 use eax_mode::eax_seal;
 use octet_io::{Failed, Sink};
 

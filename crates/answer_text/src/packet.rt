@@ -2,8 +2,8 @@
 
 ghost use Rattle.std.specs.Prelude.{◌≡◌, ◌≤◌, ◌-◌, length, [], ◌∷◌, ◌++◌, codes};
 ghost use Rattle.std.specs.List.{concat};
-ghost use Rattle.eap_base.specs.Sizes.{max_packet};
-ghost use Rattle.eap_base.specs.Among.{expanded_kind};
+ghost use Rattle.octet_lists.specs.Sizes.{max_packet};
+ghost use Rattle.octet_lists.specs.Among.{expanded_kind};
 ghost use Rattle.answer_text.specs.Writes.{Appends, Puts};
 ghost use Rattle.answer_text.specs.Pieces.{hex_text};
 ghost use Rattle.eap_packet.specs.Packet.{value_of};
@@ -16,7 +16,7 @@ use crate::answers::put_message;
 use crate::line_buffer::LineBuffer;
 use crate::pieces::Piece::{Hex, Leading, Line, Number, Text};
 use crate::pieces::{put_pieces, send, write_pieces};
-use eap_base::{EXPANDED, IDENTITY, NAK};
+use octet_lists::{EXPANDED, IDENTITY, NAK};
 use eap_packet::{Cause, Code, PacketView, decode, read_expanded};
 use octet_io::{Failed, Sink};
 

@@ -9,7 +9,7 @@ use Rattle.login_setup.specs.declared.setup.PeerSetup.{PeerSetup}
 use Rattle.login_setup.specs.declared.setup.ServerSetup.{ServerSetup}
 use Rattle.login_setup.specs.declared.setup.Setup.{Setup}
 use Rattle.login_setup.specs.declared.users.User.{User}
-use Rattle.eap_base.specs.Among.{gpsk_kind}
+use Rattle.octet_lists.specs.Among.{gpsk_kind}
 use Rattle.login_setup.specs.Setup.{no_later}
 use Rattle.eap_world.specs.Run.{run_of}
 use Rattle.eap_world.specs.Sent.{Sent, packet_numbered}

@@ -15,7 +15,7 @@ ghost use Rattle.bulk_run.specs.Summing.{counts_of, drawn_each, drawn_for_events
 use crate::draws::Draws;
 use crate::summary::Summary;
 use crate::turn::{begin, take, take_chosen};
-use eap_base::{GPSK_KIND, Identity, Kinds, Nonce, Secret, Suites};
+use octet_lists::{GPSK_KIND, Identity, Kinds, Nonce, Secret, Suites};
 use eap_method::{PeerMethod, ServerMethod};
 use eap_world::{Memory, Methods, World};
 use login_setup::{

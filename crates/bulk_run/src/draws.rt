@@ -3,7 +3,7 @@
 ghost use Rattle.std.specs.Prelude.{◌≡◌, ◌+◌, ◌/◌, ℕ};
 ghost use Rattle.bulk_run.specs.Draws.{next_state, state_at, octet_at, octets_after};
 
-use eap_base::{Octets, array_of};
+use octet_lists::{Octets, array_of};
 
 /// A linear congruential generator modulo 2^32.
 #[derive(Drop)]

@@ -8,7 +8,7 @@ ghost use Rattle.world_commands.specs.Replay.{HasBoth};
 pub(crate) use command_driver::Status;
 use eap_world::{Methods, World};
 use end_objects::{PeerObject, ServerObject, all_peers, all_servers};
-use login_call::eap_login;
+use eap_login::eap_login;
 use login_setup::Setup;
 use octet_io::{MemSink, MemSource};
 use std::alloc::{AllocError, Global};

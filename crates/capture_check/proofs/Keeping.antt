@@ -1,7 +1,7 @@
 -- What is kept of a list of packets and one more, and the names that findings tell, by each method.
 use Rattle.std.proofs.Common.{◌≡◌, ℕ, List, [], ◌∷◌, ◌++◌, Bool, true, false, cond, All, refl}
 use Rattle.std.specs.Prelude.{◌==◌}
-use Rattle.eap_base.specs.Among.{gpsk_kind, psk_kind}
+use Rattle.octet_lists.specs.Among.{gpsk_kind, psk_kind}
 use Rattle.login_setup.specs.declared.users.User.{User}
 use Rattle.capture_check.specs.Captured.{Captured, last_shown}
 use Rattle.capture_check.specs.Heard.{Heard, heard_of, malformed, plain, typed}

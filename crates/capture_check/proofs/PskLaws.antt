@@ -5,7 +5,7 @@ use Rattle.std.specs.Option.{option_or}
 use Rattle.std.specs.Result.{result_ok}
 use Rattle.std.specs.Str.{bytes_eq}
 use Rattle.std.proofs.lemmas.Bool.{and_parts, eqb-true}
-use Rattle.eap_base.specs.Among.{psk_kind}
+use Rattle.octet_lists.specs.Among.{psk_kind}
 use Rattle.login_setup.specs.Setup.{fits_kind}
 use Rattle.login_setup.specs.Users.{user_of, is_named}
 use Rattle.login_setup.specs.declared.users.User.{User}

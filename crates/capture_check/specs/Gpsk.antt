@@ -3,9 +3,9 @@
 use Rattle.std.specs.Prelude.{◌≡◌, ℕ, List, [], length, Bool, false, ◌==◌, not, if◌then◌else◌, Option, Some, None, IfSome, option_map, Result, Ok, Err}
 use Rattle.std.specs.Option.{option_or}
 use Rattle.std.specs.Result.{result_ok}
-use Rattle.eap_base.specs.Among.{gpsk_kind}
-use Rattle.eap_base.specs.Suite.{ks_of}
-use Rattle.eap_base.specs.declared.suite.Suite.{Suite}
+use Rattle.octet_lists.specs.Among.{gpsk_kind}
+use Rattle.octet_lists.specs.Suite.{ks_of}
+use Rattle.octet_lists.specs.declared.suite.Suite.{Suite}
 use Rattle.login_setup.specs.Users.{user_of}
 use Rattle.login_setup.specs.declared.users.User.{User}
 use Rattle.eap_packet.specs.declared.cause.Cause.{Cause}

@@ -1,7 +1,7 @@
 -- The packets before a packet on which its finding rests, of each kind the last one that counts, and the finding by each
 -- method.
 use Rattle.std.specs.Prelude.{ℕ, List, Bool, ◌==◌, if◌then◌else◌, None}
-use Rattle.eap_base.specs.Among.{gpsk_kind, psk_kind}
+use Rattle.octet_lists.specs.Among.{gpsk_kind, psk_kind}
 use Rattle.login_setup.specs.declared.users.User.{User}
 use Rattle.capture_check.specs.Captured.{Captured}
 use Rattle.capture_check.specs.Heard.{Heard}

@@ -14,7 +14,7 @@ use crate::finding::Finding;
 use crate::gpsk::GpskLogin;
 use crate::psk::PskKept;
 use crate::{gpsk, psk};
-use eap_base::{GPSK_KIND, PSK_KIND};
+use octet_lists::{GPSK_KIND, PSK_KIND};
 use eap_packet::{Cause, Code, PacketView, decode};
 use login_setup::Users;
 use std::marker::Model;

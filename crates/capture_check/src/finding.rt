@@ -1,6 +1,6 @@
 //! The finding of a captured packet.
 
-use eap_base::Identity;
+use octet_lists::Identity;
 use eap_packet::Cause;
 
 /// The finding of a captured packet.

@@ -4,13 +4,13 @@ ghost use Rattle.std.specs.Prelude.{◌≡◌, ◌≤◌, length, All, IsTrue, N
 ghost use Rattle.std.specs.Option.{option_or};
 ghost use Rattle.std.specs.Result.{result_ok};
 ghost use Rattle.login_setup.specs.Setup.{fits_kind};
-ghost use Rattle.eap_base.specs.Suite.{ks_of};
-ghost use Rattle.eap_base.specs.Sizes.{max_name};
+ghost use Rattle.octet_lists.specs.Suite.{ks_of};
+ghost use Rattle.octet_lists.specs.Sizes.{max_name};
 ghost use Rattle.gpsk_messages.specs.Message.{message_of, spelled, IsGpsk};
 ghost use Rattle.capture_check.specs.Gpsk.{gpsk2_of, gpsk_finding, gpsk_follows, gpsk_login_in, gpsk_read, gpsk_tag_finding, gpsk_told, is_gpsk_astray, is_tagged_in, login_begins, HasKey};
 
 use crate::finding::Finding;
-use eap_base::{GPSK_KIND, Identity, Octets, Suite, equal_in_full};
+use octet_lists::{GPSK_KIND, Identity, Octets, Suite, equal_in_full};
 use eap_packet::Cause;
 use gpsk_messages::{Gpsk2, GpskView, covered_part, mac_part, read_gpsk};
 use login_keys::{gpsk_keys, gpsk_tag};

@@ -10,7 +10,7 @@ ghost use Rattle.capture_check.specs.Psk.{follows_in, is_psk_astray, psk1_of, ps
 
 use crate::finding::Finding;
 use cmac_mac::CmacKey;
-use eap_base::{Identity, Octets, PSK_KIND, array_of, equal_in_full};
+use octet_lists::{Identity, Octets, PSK_KIND, array_of, equal_in_full};
 use eap_method::{mac_p, mac_s};
 use eap_packet::Cause;
 use eax_mode::eax_unseal;

@@ -3,7 +3,7 @@ use Rattle.std.proofs.Common.{◌≡◌, ℕ, List, [], ◌∷◌, Bool, true, f
 use Rattle.std.specs.Prelude.{◌==◌, if◌then◌else◌}
 use Rattle.std.specs.List.{list_all}
 use Rattle.std.proofs.lemmas.Bool.{eqb-true}
-use Rattle.eap_base.specs.Among.{is_among}
+use Rattle.octet_lists.specs.Among.{is_among}
 
 either : (p : ℕ → Bool) (number other : ℕ) (is_it in_rest holds rest : Bool) → (is_it ≡ true → other ≡ number) → (rest ≡ true → in_rest ≡ true → p number ≡ true)
     → p other ≡ holds → (holds && rest) ≡ true → (is_it || in_rest) ≡ true → p number ≡ true

@@ -1,10 +1,10 @@
 -- A discard leaves the view of EAP-GPSK as it is.
 use Rattle.std.proofs.Common.{ℕ, List, Bool, true, false, Option, Some, None, Result, Ok, Err}
 use Rattle.std.specs.Prelude.{◌==◌}
-use Rattle.eap_base.specs.declared.suite.Suite.{Suite}
+use Rattle.octet_lists.specs.declared.suite.Suite.{Suite}
 use Rattle.login_setup.specs.declared.users.User.{User}
-use Rattle.eap_base.specs.Suite.{ks_of}
-use Rattle.eap_base.specs.Among.{gpsk_kind}
+use Rattle.octet_lists.specs.Suite.{ks_of}
+use Rattle.octet_lists.specs.Among.{gpsk_kind}
 use Rattle.login_setup.specs.Setup.{accepts_name}
 use Rattle.login_setup.specs.Users.{user_of}
 use Rattle.eap_packet.specs.declared.cause.Cause.{Cause}

@@ -6,7 +6,7 @@ use Rattle.std.proofs.lemmas.List.Elements.{All-head, All-tail}
 use Rattle.login_setup.specs.Keys.{key_of}
 use Rattle.login_setup.specs.declared.keys.Key.{Key}
 use Rattle.login_setup.specs.declared.setup.PeerSetup.{PeerSetup}
-use Rattle.eap_base.specs.Among.{is_among}
+use Rattle.octet_lists.specs.Among.{is_among}
 use Rattle.login_setup.specs.Setup.{fits_kind, IsSoundPeer, HasKeys}
 use Rattle.eap_method.specs.Peer.{key_or_none, credential_for}
 

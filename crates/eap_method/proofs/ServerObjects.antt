@@ -4,7 +4,7 @@ use Rattle.std.specs.Prelude.{if◌then◌else◌}
 use Rattle.std.proofs.lemmas.Bool.{cond-true, cond_both}
 use Rattle.login_setup.specs.declared.setup.ServerSetup.{ServerSetup}
 use Rattle.login_setup.specs.declared.users.User.{User}
-use Rattle.eap_base.specs.Among.{is_among}
+use Rattle.octet_lists.specs.Among.{is_among}
 use Rattle.eap_packet.specs.declared.cause.Cause.{Cause}
 use Rattle.eap_packet.specs.declared.cause.Cause.TheVariants.{WrongOp}
 use Rattle.eap_method.specs.declared.values.Report.{Report}

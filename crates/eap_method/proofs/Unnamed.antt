@@ -4,7 +4,7 @@ use Rattle.std.proofs.lemmas.Bool.{cases_Bool}
 use Rattle.std.specs.List.{filter}
 use Rattle.login_setup.specs.declared.setup.PeerSetup.{PeerSetup}
 use Rattle.login_setup.specs.declared.setup.ServerSetup.{ServerSetup}
-use Rattle.eap_base.specs.Among.{is_among}
+use Rattle.octet_lists.specs.Among.{is_among}
 use Rattle.eap_method.specs.Peer.{PeerShown, peer_kind, peer_begun_in}
 use Rattle.eap_method.specs.Server.{ServerShown, server_kind, server_begun_in}
 use Rattle.eap_method.specs.Unnamed.{peers_unnamed, servers_unnamed}

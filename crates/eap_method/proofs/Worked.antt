@@ -1,6 +1,6 @@
 -- Rows that were worked: which objects an end doesn't name.
 use Rattle.std.proofs.Common.{◌≡◌, [], ◌∷◌, refl}
-use Rattle.eap_base.specs.Among.{psk_kind, gpsk_kind}
+use Rattle.octet_lists.specs.Among.{psk_kind, gpsk_kind}
 use Rattle.eap_method.specs.GpskServer as gpsk_server
 use Rattle.eap_method.specs.PskServer as psk_server
 use Rattle.eap_method.specs.Server as server

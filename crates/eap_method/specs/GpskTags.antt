@@ -2,9 +2,9 @@
 use Rattle.std.specs.Prelude.{ℕ, List, [], ◌∷◌, Bool, ◌==◌}
 use Rattle.std.specs.Str.{bytes_eq}
 use Rattle.std.specs.List.{flat_map}
-use Rattle.eap_base.specs.declared.suite.Suite.{Suite}
-use Rattle.eap_base.specs.Suite.{suite_number}
-use Rattle.eap_base.specs.Among.{gpsk_kind}
+use Rattle.octet_lists.specs.declared.suite.Suite.{Suite}
+use Rattle.octet_lists.specs.Suite.{suite_number}
+use Rattle.octet_lists.specs.Among.{gpsk_kind}
 use Rattle.eap_packet.specs.Packet.{request, response}
 use Rattle.eap_packet.specs.Packet as packets
 use Rattle.gpsk_messages.specs.Message.{Message, covered_of, mac_of}

@@ -4,7 +4,7 @@ use Rattle.std.specs.List.{list_all}
 use Rattle.login_setup.specs.Keys.{key_of}
 use Rattle.login_setup.specs.declared.keys.Key.{Key}
 use Rattle.login_setup.specs.declared.setup.PeerSetup.{PeerSetup}
-use Rattle.eap_base.specs.Among.{psk_kind, gpsk_kind, is_among}
+use Rattle.octet_lists.specs.Among.{psk_kind, gpsk_kind, is_among}
 use Rattle.eap_packet.specs.Packet.{request, spelled, IsPacket}
 use Rattle.eap_packet.specs.declared.cause.Cause.TheVariants.{WrongOp}
 use Rattle.eap_method.specs.declared.values.Credential.{Credential}

@@ -1,7 +1,7 @@
 -- The tags of EAP-PSK (RFC 4764 sections 3 and 5): what they cover, and their records.
 use Rattle.std.specs.Prelude.{ℕ, ◌*◌, ◌/◌, ◌%◌, List, [], ◌∷◌, ◌++◌, Bool, ◌==◌, ◌||◌, take, replicate, slice_index, Option, None}
 use Rattle.std.specs.Int.{w32, to_be_bytes}
-use Rattle.eap_base.specs.Among.{psk_kind}
+use Rattle.octet_lists.specs.Among.{psk_kind}
 use Rattle.eap_packet.specs.declared.cause.Cause.{Cause}
 use Rattle.eap_packet.specs.declared.cause.Cause.TheVariants.{BadResult, Extended}
 use Rattle.eap_packet.specs.Packet.{request, response}

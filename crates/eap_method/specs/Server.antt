@@ -2,7 +2,7 @@
 use Rattle.std.specs.Prelude.{◌≡◌, ℕ, List, [], ◌∷◌, Bool, ◌==◌, if◌then◌else◌, Option, Some, None, map, option_map}
 use Rattle.login_setup.specs.declared.setup.ServerSetup.{ServerSetup}
 use Rattle.login_setup.specs.declared.users.User.{User}
-use Rattle.eap_base.specs.Among.{psk_kind, gpsk_kind, is_among}
+use Rattle.octet_lists.specs.Among.{psk_kind, gpsk_kind, is_among}
 use Rattle.eap_packet.specs.Packet.{response, spelled, IsPacket}
 use Rattle.eap_packet.specs.declared.cause.Cause.TheVariants.{WrongOp}
 use Rattle.eap_method.specs.declared.values.Report.{Report}

@@ -1,7 +1,7 @@
 -- What no call of an end changes at its objects: their Types, and the state of one whose method the end doesn't name.
 use Rattle.std.specs.Prelude.{◌≡◌, ℕ, List, not}
 use Rattle.std.specs.List.{filter}
-use Rattle.eap_base.specs.Among.{is_among}
+use Rattle.octet_lists.specs.Among.{is_among}
 use Rattle.eap_method.specs.Peer.{PeerShown, peer_kind, peer_kinds}
 use Rattle.eap_method.specs.Server.{ServerShown, server_kind, server_kinds}
 

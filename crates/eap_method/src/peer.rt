@@ -10,7 +10,7 @@ use crate::records::Records;
 use crate::tags::Tags;
 use crate::turn::PeerTurn;
 use crate::values::{Credential, Report};
-use eap_base::{Nonce, Packet};
+use octet_lists::{Nonce, Packet};
 
 /// A method at a peer. Its ghost member says which method it is and its state.
 pub trait PeerMethod: Drop {

@@ -1,7 +1,7 @@
 //! The objects of a peer: beginning them, finding the one of a method, and calling it.
 
 ghost use Rattle.std.specs.Prelude.{◌≡◌, ℕ, List, true, map};
-ghost use Rattle.eap_base.specs.Among.{is_among};
+ghost use Rattle.octet_lists.specs.Among.{is_among};
 ghost use Rattle.login_setup.specs.Setup.{IsSoundPeer, HasKeys};
 ghost use Rattle.eap_method.specs.Peer.{peer_kinds, peer_views, peer_turn, IsRequest, peer_report_of, views_begun, have_each, key_for, credential_for, peer_begun_in};
 ghost use Rattle.eap_method.specs.Unnamed.{peers_unnamed};
@@ -13,7 +13,7 @@ use crate::records::Records;
 use crate::tags::Tags;
 use crate::turn::PeerTurn;
 use crate::values::{Credential, Report};
-use eap_base::{Packet, Secret};
+use octet_lists::{Packet, Secret};
 use eap_packet::Cause;
 use login_policy::peer_allows;
 use login_setup::PeerSetup;

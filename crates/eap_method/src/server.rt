@@ -10,7 +10,7 @@ use crate::records::Records;
 use crate::tags::Tags;
 use crate::turn::ServerTurn;
 use crate::values::{Report, ServerSide};
-use eap_base::{Nonce, Packet};
+use octet_lists::{Nonce, Packet};
 use login_setup::Users;
 
 /// A method at a server. Its ghost member says which method it is and its state.

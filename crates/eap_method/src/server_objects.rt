@@ -1,7 +1,7 @@
 //! The objects of a server: beginning them, finding the one of a method, and calling it.
 
 ghost use Rattle.std.specs.Prelude.{◌≡◌, ℕ, List, true, map, IsTrue, All, Some, None, if◌then◌else◌};
-ghost use Rattle.eap_base.specs.Among.{is_among};
+ghost use Rattle.octet_lists.specs.Among.{is_among};
 ghost use Rattle.login_setup.specs.Setup.{fits_kind, are_suites};
 ghost use Rattle.eap_method.specs.Peer.{have_each};
 ghost use Rattle.eap_method.specs.Room.{HasRoom, requests};
@@ -14,7 +14,7 @@ use crate::server::ServerMethod;
 use crate::tags::Tags;
 use crate::turn::ServerTurn;
 use crate::values::{Report, ServerSide};
-use eap_base::{Nonce, Packet, is_among};
+use octet_lists::{Nonce, Packet, is_among};
 use eap_packet::Cause;
 use login_setup::{ServerSetup, Users};
 

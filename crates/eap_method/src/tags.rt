@@ -2,12 +2,12 @@
 
 ghost use Rattle.std.specs.Prelude.{◌≡◌, ◌≤◌, ◌<◌, ◌+◌, ◌↔◌, [], ◌∷◌, ◌++◌, length, map, IsTrue};
 ghost use Rattle.std.specs.List.{concat};
-ghost use Rattle.eap_base.specs.Sizes.{max_packet};
+ghost use Rattle.octet_lists.specs.Sizes.{max_packet};
 ghost use Rattle.eap_method.specs.Tags.{no_tags};
 
 use crate::note::Note;
 use crate::records::{Kept, Records};
-use eap_base::{Octets, Packet, Secret};
+use octet_lists::{Octets, Packet, Secret};
 use std::marker::Model;
 
 /// Under which of a method's keys a tag is made.
@@ -77,7 +77,7 @@ pub struct Covering<'a> {
 impl<'a> Model for Covering<'a> {
     ghost use Rattle.std.specs.Prelude.{map, length, ◌≤◌};
     ghost use Rattle.std.specs.List.{concat};
-    ghost use Rattle.eap_base.specs.Sizes.{max_packet};
+    ghost use Rattle.octet_lists.specs.Sizes.{max_packet};
     ghost use Rattle.eap_method.specs.declared.tags.TagRecord.{TagRecord};
 
     ghost Value = { TagRecord };

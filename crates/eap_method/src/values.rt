@@ -2,7 +2,7 @@
 
 ghost use Rattle.std.specs.Prelude.{◌≡◌};
 
-use eap_base::{Identity, Secret, Suites};
+use octet_lists::{Identity, Secret, Suites};
 use login_setup::Accepts;
 
 /// methodState of the peer (RFC 4137 section 4.2); `NotSet` is NONE.

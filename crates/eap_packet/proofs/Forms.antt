@@ -4,7 +4,7 @@ use Rattle.std.proofs.lemmas.Bool.{cond_both}
 use Rattle.std.proofs.lemmas.Bool.Decides.{nat_tests}
 use Rattle.std.proofs.lemmas.List.{length-drop}
 use Rattle.std.proofs.lemmas.List.Elements.{All-drop, All-append, All-cons, All-from_recursion}
-use Rattle.eap_base.specs.Among.{ietf}
+use Rattle.octet_lists.specs.Among.{ietf}
 use Rattle.eap_packet.specs.Packet.{request, response, success, failure, IsPacket, AreTypedFields}
 use Rattle.eap_packet.specs.Expanded.{is_wrapped, inner_kind, inner_body}
 use Rattle.eap_packet.specs.Laws.{PlainIsPacket, WrapIsPacket}

@@ -4,7 +4,7 @@ use Rattle.std.proofs.lemmas.Bool.{and_from, le-leb}
 use Rattle.std.proofs.lemmas.Bool.Decides.{nat_tests}
 use Rattle.std.proofs.lemmas.List.{take_at}
 use Rattle.std.specs.Prelude.{◌↔◌, if◌then◌else◌}
-use Rattle.eap_base.specs.Among.{ietf}
+use Rattle.octet_lists.specs.Among.{ietf}
 use Rattle.eap_packet.specs.Packet.{PacketValue, request, response, success, failure, spelled, frame_of, two_octets}
 use Rattle.eap_packet.specs.Fault.{length_of}
 use Rattle.eap_packet.specs.Expanded.{has_plain, is_plain_body, is_wrapped, inner_kind, inner_body, expanded_form}

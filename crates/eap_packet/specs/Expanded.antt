@@ -1,7 +1,7 @@
 -- Expanded Types (RFC 3748 section 5.7): their fields, the plain form of a packet, and a packet wrapped.
 use Rattle.std.specs.Prelude.{ℕ, ◌+◌, ◌*◌, ◌-◌, List, [], ◌∷◌, ◌++◌, length, take, drop, Bool, true, false, ◌==◌, ◌&&◌, ◌||◌, not, nat_le, nat_lt, if◌then◌else◌, Option, Some, None, slice_index}
 use Rattle.std.specs.Str.{bytes_eq}
-use Rattle.eap_base.specs.Among.{is_filled, nak_kind, expanded_kind, ietf}
+use Rattle.octet_lists.specs.Among.{is_filled, nak_kind, expanded_kind, ietf}
 use Rattle.eap_packet.specs.declared.expanded.Expanded.{Expanded}
 use Rattle.eap_packet.specs.Packet.{PacketValue, request, response, success, failure, two_octets}
 use Rattle.eap_packet.specs.Fault.{length_of}

@@ -1,6 +1,6 @@
 -- Laws of the packets' grammar (RFC 3748 section 4) and of Expanded Types (section 5.7), over the definitions alone.
 use Rattle.std.specs.Prelude.{◌≡◌, ◌↔◌, ◌≤◌, ◌<◌, ℕ, List, ◌++◌, length, true, false, ◌==◌, ◌&&◌, None, Ok}
-use Rattle.eap_base.specs.Among.{nak_kind}
+use Rattle.octet_lists.specs.Among.{nak_kind}
 use Rattle.eap_packet.specs.Packet.{PacketValue, request, response, success, failure, spelled, IsPacket, IsOctets}
 use Rattle.eap_packet.specs.Fault.{fault, packet_of}
 use Rattle.eap_packet.specs.Expanded.{vendor_of, vendor_type_of, is_ietf, is_nak_body, inner_kind, has_plain, has_plain_form, plain, wrap, expanded_form}

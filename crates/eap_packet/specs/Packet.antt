@@ -1,6 +1,6 @@
 -- EAP packets (RFC 3748 section 4): packet values and their one encoding.
 use Rattle.std.specs.Prelude.{◌≡◌, ◌≢◌, ℕ, ◌+◌, ◌/◌, ◌%◌, ◌<◌, ◌≤◌, List, [], ◌∷◌, ◌++◌, length, All, Bool, true, false, Result, Ok, Err}
-use Rattle.eap_base.specs.Among.{nak_kind}
+use Rattle.octet_lists.specs.Among.{nak_kind}
 use Rattle.eap_packet.specs.declared.packet.PacketView.{PacketView}
 use Rattle.eap_packet.specs.declared.packet.Code.{Code}
 use Rattle.eap_packet.specs.declared.cause.Cause.{Cause}

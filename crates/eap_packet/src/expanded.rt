@@ -2,15 +2,15 @@
 //! are encoded.
 
 ghost use Rattle.std.specs.Prelude.{◌≡◌, ◌≤◌, ◌∷◌, ◌++◌, length, IsTrue};
-ghost use Rattle.eap_base.specs.Sizes.{max_packet};
-ghost use Rattle.eap_base.specs.Among.{expanded_kind, ietf};
+ghost use Rattle.octet_lists.specs.Sizes.{max_packet};
+ghost use Rattle.octet_lists.specs.Among.{expanded_kind, ietf};
 ghost use Rattle.eap_packet.specs.Packet.{spelled, value_of, two_octets, max_type_data};
 ghost use Rattle.eap_packet.specs.Fault.{length_of};
 ghost use Rattle.eap_packet.specs.Expanded.{expanded_value, expanded_of, is_ietf, has_plain, is_wrapped, has_plain_form, plain, expanded_form, are_expanded, are_entries, is_bad_body, is_bad_expanded};
 
 use crate::packet::{Code, PacketView, begin_into, length_field};
 use byteorder::{BigEndian, ByteOrder};
-use eap_base::{EXPANDED, IETF, NAK, NAK_ENTRY_SIZE, Packet, VENDOR_SIZE};
+use octet_lists::{EXPANDED, IETF, NAK, NAK_ENTRY_SIZE, Packet, VENDOR_SIZE};
 
 /// The fields of an Expanded Type.
 #[derive(Clone, Copy)]

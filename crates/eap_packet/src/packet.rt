@@ -1,14 +1,14 @@
 //! EAP packets (RFC 3748 section 4): their fields, decoding and encoding.
 
 ghost use Rattle.std.specs.Prelude.{◌≡◌, ◌≢◌, ◌≤◌, [], ℕ, List, ◌++◌, length, take, IfOk, IsTrue, not, ◌∷◌, ◌-◌, drop, slice_index};
-ghost use Rattle.eap_base.specs.Sizes.{max_packet};
-ghost use Rattle.eap_base.specs.Among.{nak_kind};
+ghost use Rattle.octet_lists.specs.Sizes.{max_packet};
+ghost use Rattle.octet_lists.specs.Among.{nak_kind};
 ghost use Rattle.eap_packet.specs.Packet.{spelled, value_of, value_with, has_type, IsPacket, IsPlain, decoded_value, number_of, two_octets, max_type_data};
 ghost use Rattle.eap_packet.specs.Fault.{fault, fields_of, code_of, length_of, type_of, packet_of};
 
 use crate::cause::Cause;
 use byteorder::{BigEndian, ByteOrder};
-use eap_base::{MAX_PACKET, NAK, Packet};
+use octet_lists::{MAX_PACKET, NAK, Packet};
 
 /// The Code field: what kind of packet it is.
 #[derive(Clone, Copy, PartialEq, Eq, Debug)]

@@ -1,7 +1,7 @@
 -- The store of the packets that were sent: their octets joined, and the place of each packet's.
 use Rattle.std.specs.Prelude.{◌≤◌, ◌+◌, ℕ, List, [], ◌∷◌, Bool, if◌then◌else◌, take, drop, map, Option, Some, None, option_map}
 use Rattle.std.specs.List.{All}
-use Rattle.eap_base.specs.Sizes.{max_packet}
+use Rattle.octet_lists.specs.Sizes.{max_packet}
 use Rattle.login_setup.specs.declared.setup.Port.{Port}
 use Rattle.eap_world.specs.Sent.{Sent, same_port}
 use Rattle.eap_world.specs.declared.store.Slot.{Slot}

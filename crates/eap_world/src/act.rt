@@ -1,7 +1,7 @@
 //! What an event does to the machines: it is skipped, or is a call of one of them.
 
 ghost use Rattle.std.specs.Prelude.{◌≡◌, ◌≤◌, ◌∷◌, [], ℕ, List, Some, None, IfSome, length, nat_le, nat_lt, take, false};
-ghost use Rattle.eap_base.specs.Sizes.{max_packet};
+ghost use Rattle.octet_lists.specs.Sizes.{max_packet};
 ghost use Rattle.eap_method.specs.Steps.{is_end, step_with};
 ghost use Rattle.pass_through.specs.PassTable as passes;
 ghost use Rattle.server_machine.specs.ServerTable as servers;
@@ -18,7 +18,7 @@ ghost use Rattle.eap_world.specs.declared.told.Skip.TheVariants.{Ended};
 use crate::conversations::Conversations;
 use crate::store::{Store, Stored};
 use crate::told::Skip;
-use eap_base::Packet;
+use octet_lists::Packet;
 use eap_method::{Kept, PeerMethod, ServerMethod, Step, Tags};
 use login_setup::{Event, Mode, Party, Port};
 use pass_through::PassThrough;

@@ -9,7 +9,7 @@ ghost use Rattle.eap_world.specs.Kept.{fronts_differ};
 
 use crate::nonces_left::NoncesLeft;
 use arrayvec::ArrayVec;
-use eap_base::Nonce;
+use octet_lists::Nonce;
 use login_setup::Later;
 use std::marker::Model;
 use tag_book::End;

@@ -6,7 +6,7 @@ ghost use Rattle.eap_world.specs.Hearing.{hears_at, is_first, starts_with};
 ghost use Rattle.eap_world.specs.Kept.{AreMarked, waits};
 
 use crate::conversations::{FRONT, Waiting};
-use eap_base::Nonce;
+use octet_lists::Nonce;
 use login_setup::Nonces;
 use std::marker::Model;
 

@@ -1,11 +1,11 @@
 //! The packets that were sent.
 
 ghost use Rattle.std.specs.Prelude.{◌≡◌, ◌≤◌, ◌+◌, ◌++◌, ◌∷◌, [], true, length, take, drop, Some, IfSome, is_some};
-ghost use Rattle.eap_base.specs.Sizes.{max_packet};
+ghost use Rattle.octet_lists.specs.Sizes.{max_packet};
 ghost use Rattle.eap_world.specs.Sent.{last_to, packet_numbered, same_port};
 ghost use Rattle.eap_world.specs.Store.{AreThere, IsThere, last_slot, sent_of_slot, packet_at, packets_at};
 
-use eap_base::MAX_PACKET;
+use octet_lists::MAX_PACKET;
 use login_setup::Port;
 use std::alloc::Global;
 use std::marker::Model;

@@ -2,7 +2,7 @@
 
 ghost use Rattle.std.specs.Prelude.{◌≡◌, ◌↔◌, ◌≤◌, ◌<◌, ◌+◌, ◌-◌, ◌^◌, ◌++◌, ℕ, List, true, false, map, length, IsTrue};
 ghost use Rattle.std.specs.Prelude.{Bool, MatchResult, IfOk, None, option_copied, vec_len, vec_capacity};
-ghost use Rattle.eap_base.specs.Sizes.{max_packet};
+ghost use Rattle.octet_lists.specs.Sizes.{max_packet};
 ghost use Rattle.login_setup.specs.Setup.{IsSoundPeer, IsSoundServer, HasKeys};
 ghost use Rattle.login_setup.specs.declared.event.Event.TheVariants.{Restart};
 ghost use Rattle.eap_method.specs.Tags as records;
@@ -16,7 +16,7 @@ use crate::conversations::Conversations;
 use crate::store::Store;
 use crate::told::{Counts, Named, SentPacket, Skip, Told};
 use crate::verdict::{Verdict, judge_reports};
-use eap_base::Packet;
+use octet_lists::Packet;
 use eap_method::{Kept, PeerMethod, Report, ServerMethod, Step, Tags};
 use eap_packet::{Path, State};
 use login_setup::{Event, Mode, Party, Port, Setup};

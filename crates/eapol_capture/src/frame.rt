@@ -3,7 +3,7 @@
 ghost use Rattle.std.specs.Prelude.{◌≡◌, ◌≤◌, length, nat_lt};
 ghost use Rattle.eapol_capture.specs.Frames.{contents_of, finding_value, body_of, type_of, body_length};
 
-use eap_base::array_of;
+use octet_lists::array_of;
 
 /// What a frame carries.
 #[derive(Clone, Copy)]

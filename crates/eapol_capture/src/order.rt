@@ -3,7 +3,7 @@
 ghost use Rattle.std.specs.Prelude.{◌≡◌, length};
 ghost use Rattle.eapol_capture.specs.Files.{number, short_number};
 
-use eap_base::array_of;
+use octet_lists::array_of;
 
 /// The order of the octets of all numbers in a file, which its magic number gives (the pcap file format,
 /// draft-ietf-opsawg-pcap section 4).

@@ -5,7 +5,7 @@ ghost use Rattle.octet_io.specs.Known.{nothing_known};
 
 use crate::header::judge_header;
 use crate::order::OctetOrder;
-use eap_base::Octets;
+use octet_lists::Octets;
 use octet_io::{Ahead, MAX_INPUT, Source};
 use std::marker::Model;
 

@@ -9,7 +9,7 @@ ghost use Rattle.eax_mode.specs.Eax as spec;
 
 use aes_block::{Aes128, BLOCK_LEN};
 use cmac_mac::CmacKey;
-use eap_base::equal_in_full;
+use octet_lists::equal_in_full;
 
 /// Combines each octet with the one at its place in a block.
 fn combine(octets: &mut [u8], block: &[u8; BLOCK_LEN])

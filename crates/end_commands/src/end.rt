@@ -9,7 +9,7 @@ ghost use Rattle.end_commands.specs.EndText.{told_text};
 
 use crate::lines::{write_last, write_step};
 use command_driver::{Close, Command, Next, Status, Trouble};
-use eap_base::Packet;
+use octet_lists::Packet;
 use eap_method::{Kept, Tags};
 use end_pipe::{EndInput, EndPipe, EndReader, EndStep, Machine, Role};
 use octet_io::{Failed, Sink};

@@ -4,7 +4,7 @@ use Rattle.std.specs.Prelude.{IsTrue, ◌&&◌, ◌||◌, ◌==◌, if◌then◌
 use Rattle.std.specs.List.{list_all}
 use Rattle.std.proofs.lemmas.Bool.{or_cases, eqb-true, and_parts, and_from}
 use Rattle.std.proofs.lemmas.List.Folds.{list_all-append}
-use Rattle.eap_base.specs.Among.{psk_kind, gpsk_kind, is_kind, is_among, are_distinct}
+use Rattle.octet_lists.specs.Among.{psk_kind, gpsk_kind, is_kind, is_among, are_distinct}
 use Rattle.login_setup.specs.Setup.{are_kinds, fits_kind}
 use Rattle.eap_method.specs.Peer.{have_each}
 use Rattle.end_objects.specs.Settings.{SettingsValue, all_kinds, kind_if, keyed_kinds, key_for}

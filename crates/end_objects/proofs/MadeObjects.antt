@@ -3,7 +3,7 @@ use Rattle.std.proofs.Common.{◌≡◌, ℕ, List, [], ◌∷◌, ◌++◌, map
 use Rattle.std.specs.Prelude.{◌==◌}
 use Rattle.std.specs.List.{list_all}
 use Rattle.std.proofs.lemmas.Bool.{and_parts, and_from, or_left, or_right}
-use Rattle.eap_base.specs.Among.{is_among}
+use Rattle.octet_lists.specs.Among.{is_among}
 use Rattle.eap_method.specs.Peer.{peer_kind, peer_kinds, have_each}
 use Rattle.eap_method.specs.Server.{server_kind, server_kinds}
 use Rattle.end_objects.specs.Objects.{peer_object_shown, server_object_shown}

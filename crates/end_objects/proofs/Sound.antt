@@ -8,7 +8,7 @@ use Rattle.std.proofs.lemmas.List.Sums.{AllPass-from_list_all, list_all-from_All
 use Rattle.login_setup.specs.Keys.{key_of}
 use Rattle.login_setup.specs.declared.keys.Key.{Key}
 use Rattle.login_setup.specs.declared.users.User.{User}
-use Rattle.eap_base.specs.Among.{is_kind, is_among}
+use Rattle.octet_lists.specs.Among.{is_kind, is_among}
 use Rattle.login_setup.specs.Setup.{fits_kind}
 use Rattle.eap_method.proofs.Amongs.{each_one}
 use Rattle.end_objects.specs.Soundness.{is_sound_key, has_key, is_sound_user}

@@ -6,8 +6,8 @@ use Rattle.std.proofs.lemmas.Bool.{and_parts, or_left, or_parts}
 use Rattle.std.proofs.lemmas.List.Elements.{All-map, All-nil}
 use Rattle.std.proofs.lemmas.List.Folds.{list_all-map}
 use Rattle.std.proofs.lemmas.List.Sums.{AllPass-from_list_all}
-use Rattle.eap_base.specs.Among.{is_kind, is_among, are_distinct, is_filled}
-use Rattle.eap_base.specs.Sizes.{max_name}
+use Rattle.octet_lists.specs.Among.{is_kind, is_among, are_distinct, is_filled}
+use Rattle.octet_lists.specs.Sizes.{max_name}
 use Rattle.login_setup.specs.Keys.{key_of}
 use Rattle.login_setup.specs.Setup.{are_kinds, are_suites, fits_kind, IsSoundPeer, HasKeys, IsSoundServer}
 use Rattle.login_setup.specs.declared.users.User.{User}

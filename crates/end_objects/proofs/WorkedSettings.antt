@@ -4,7 +4,7 @@ use Rattle.std.specs.Prelude.{codes}
 use Rattle.std.specs.List.{list_all}
 use Rattle.std.proofs.lemmas.Bool.{true≢false}
 use Rattle.std.proofs.lemmas.List.Elements.{All-from_recursion}
-use Rattle.eap_base.specs.Among.{is_kind}
+use Rattle.octet_lists.specs.Among.{is_kind}
 use Rattle.login_setup.specs.Setup.{IsSoundPeer, HasKeys, IsSoundServer, are_kinds, are_suites, fits_kind}
 use Rattle.login_setup.specs.declared.keys.Key.{Key}
 use Rattle.login_setup.specs.declared.setup.Accepts.TheVariants.{Any}

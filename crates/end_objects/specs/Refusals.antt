@@ -1,8 +1,8 @@
 -- When settings are refused, and why.
 use Rattle.std.specs.Prelude.{◌≡◌, ℕ, ◌≤◌, List, [], ◌∷◌, length, Bool, true, false, ◌&&◌, ◌||◌, ◌==◌, not, nat_lt, nat_le, if◌then◌else◌, Option, Some, None}
 use Rattle.std.specs.List.{list_any, list_all}
-use Rattle.eap_base.specs.Among.{is_filled}
-use Rattle.eap_base.specs.Sizes.{max_name}
+use Rattle.octet_lists.specs.Among.{is_filled}
+use Rattle.octet_lists.specs.Sizes.{max_name}
 use Rattle.login_setup.specs.Setup.{are_kinds, are_suites, fits_kind}
 use Rattle.eap_method.specs.Peer.{have_each}
 use Rattle.end_objects.specs.Settings.{SettingsValue, is_set, keyed_kinds, named_kinds, kinds_of, suites_of, key_for}

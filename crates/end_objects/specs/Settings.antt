@@ -1,6 +1,6 @@
 -- The settings of an end, from what a program gives.
 use Rattle.std.specs.Prelude.{ℕ, List, [], ◌∷◌, ◌++◌, map, slice_index, Bool, ◌==◌, not, if◌then◌else◌}
-use Rattle.eap_base.specs.Among.{psk_kind, gpsk_kind, is_filled}
+use Rattle.octet_lists.specs.Among.{psk_kind, gpsk_kind, is_filled}
 use Rattle.login_setup.specs.declared.keys.Key.{Key}
 use Rattle.login_setup.specs.declared.setup.Accepts.{Accepts}
 use Rattle.login_setup.specs.declared.setup.Accepts.TheVariants.{Any, One}

@@ -1,12 +1,12 @@
 //! An object of either method, for each side.
 
 ghost use Rattle.std.specs.Prelude.{◌≡◌, true};
-ghost use Rattle.eap_base.specs.Among.{is_kind};
+ghost use Rattle.octet_lists.specs.Among.{is_kind};
 ghost use Rattle.eap_method.specs.Peer.{peer_kind};
 ghost use Rattle.eap_method.specs.Server.{server_kind};
 ghost use Rattle.end_objects.specs.Objects.{peer_object_shown, server_object_shown};
 
-use eap_base::{Nonce, Octets, PSK_KIND, Packet};
+use octet_lists::{Nonce, Octets, PSK_KIND, Packet};
 use eap_method::{
     Credential, PeerMethod, PeerTurn, Records, Report, ServerMethod, ServerSide, ServerTurn, Tags,
 };

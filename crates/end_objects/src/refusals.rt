@@ -11,7 +11,7 @@ use crate::settings::{
     SETTINGS_SIZE, Settings, key_for, keyed_kinds, kinds_of, named_kinds, suites_of,
 };
 use crate::soundness::{are_kinds, are_suites, fits};
-use eap_base::{MAX_NAME, is_among};
+use octet_lists::{MAX_NAME, is_among};
 
 /// Why settings are refused. If several reasons apply, the first of them is the answer.
 #[derive(Clone, Copy, PartialEq, Eq, Debug)]

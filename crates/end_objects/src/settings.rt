@@ -1,13 +1,13 @@
 //! The settings of an end, as a program gives them: octets and numbers.
 
 ghost use Rattle.std.specs.Prelude.{◌≡◌, ◌≤◌, ℕ, [], length, map, true, None, All, IsTrue};
-ghost use Rattle.eap_base.specs.Among.{is_among, is_kind};
-ghost use Rattle.eap_base.specs.Sizes.{max_name};
+ghost use Rattle.octet_lists.specs.Among.{is_among, is_kind};
+ghost use Rattle.octet_lists.specs.Sizes.{max_name};
 ghost use Rattle.login_setup.specs.Setup.{are_kinds, fits_kind, IsSoundPeer, HasKeys, IsSoundServer};
 ghost use Rattle.end_objects.specs.Settings.{settings_of, or_else, numbers_of, keyed_kinds, named_kinds, kinds_of, first_kind, suites_of, key_for, key_with, accepts_of, peer_setup_of, user_with, users_of, server_setup_of, credential_of, side_of};
 ghost use Rattle.end_objects.specs.Refusals.{peer_refusal, server_refusal, IsSoundOther};
 
-use eap_base::{GPSK_KIND, Identity, Kinds, Nonce, Octets, PSK_KIND, Secret, Suites};
+use octet_lists::{GPSK_KIND, Identity, Kinds, Nonce, Octets, PSK_KIND, Secret, Suites};
 use eap_method::{Credential, ServerSide};
 use login_setup::{Accepts, Key, Keys, PeerSetup, ServerSetup, User, Users};
 

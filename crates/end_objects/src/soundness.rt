@@ -2,12 +2,12 @@
 
 ghost use Rattle.std.specs.Prelude.{◌≡◌, ◌↔◌, IsTrue};
 ghost use Rattle.std.specs.List.{list_all};
-ghost use Rattle.eap_base.specs.Among.{is_kind, are_distinct};
+ghost use Rattle.octet_lists.specs.Among.{is_kind, are_distinct};
 ghost use Rattle.login_setup.specs.Setup.{are_kinds, are_suites, fits_kind};
 ghost use Rattle.login_setup.specs.Setup.{IsSoundPeer, HasKeys, IsSoundServer};
 ghost use Rattle.end_objects.specs.Soundness.{is_suite, is_sound_key, has_key, is_sound_user};
 
-use eap_base::{GPSK_KIND, PSK_KIND, is_among};
+use octet_lists::{GPSK_KIND, PSK_KIND, is_among};
 use login_setup::{Key, Keys, PeerSetup, ServerSetup, User};
 
 /// Whether a peer's machine and world accept these settings, as `PeerMachine::new` and `World::new` ask. Its methods

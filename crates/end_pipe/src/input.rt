@@ -3,7 +3,7 @@
 ghost use Rattle.std.specs.Prelude.{◌≡◌};
 ghost use Rattle.end_pipe.specs.Inputs.{is_octets};
 
-use eap_base::Octets;
+use octet_lists::Octets;
 
 /// The inputs of an end. Octets come to both, the end of the retransmission timer to the server (RFC 4137 section
 /// 5.5), and reports of the lower layer to the peer (section 4.1.1).

@@ -7,7 +7,7 @@ ghost use Rattle.end_pipe.specs.EndRun.{PeerStandsFor, peer_begun, peer_end};
 
 use crate::input::EndInput;
 use crate::pipe::{EndPipe, Machine};
-use eap_base::Packet;
+use octet_lists::Packet;
 use eap_method::{Kept, PeerMethod, Report, Step, Tags};
 use eap_packet::State;
 use login_setup::PeerSetup;

@@ -8,7 +8,7 @@ ghost use Rattle.end_pipe.specs.declared.input.EndInput.{EndInput};
 
 use crate::input::EndInput;
 use crate::told::EndStep;
-use eap_base::Packet;
+use octet_lists::Packet;
 use eap_method::{Kept, Report, Step, Tags, has_ended};
 use eap_packet::State;
 use std::marker::Model;

@@ -11,7 +11,7 @@ ghost use Rattle.end_pipe.specs.EndRun.{ServerStandsFor, outcome, server_end, se
 use crate::input::EndInput;
 use crate::pipe::{EndPipe, Machine, first_report};
 use crate::told::EndStep;
-use eap_base::Packet;
+use octet_lists::Packet;
 use eap_method::{Kept, Report, ServerMethod, Step, Tags};
 use eap_packet::State;
 use login_setup::ServerSetup;

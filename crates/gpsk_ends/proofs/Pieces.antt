@@ -1,8 +1,8 @@
 -- The pieces of a record, and the size of a MAC.
 use Rattle.std.proofs.Common.{◌≡◌, ℕ, ◌<◌, List, [], ◌++◌, append-nil, arith}
-use Rattle.eap_base.specs.Suite.{ks_of}
-use Rattle.eap_base.specs.declared.suite.Suite.{Suite}
-use Rattle.eap_base.specs.declared.suite.Suite.TheVariants.{Cmac, Hmac}
+use Rattle.octet_lists.specs.Suite.{ks_of}
+use Rattle.octet_lists.specs.declared.suite.Suite.{Suite}
+use Rattle.octet_lists.specs.declared.suite.Suite.TheVariants.{Cmac, Hmac}
 
 -- one piece, joined with none
 pub one_piece : (octets : List ℕ) → octets ++ [] ≡ octets

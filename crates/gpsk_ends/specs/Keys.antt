@@ -1,5 +1,5 @@
 -- The keys of a login under its suite.
-use Rattle.eap_base.specs.declared.suite.Suite.{Suite}
+use Rattle.octet_lists.specs.declared.suite.Suite.{Suite}
 use Rattle.login_keys.specs.declared.gpsk.GpskKeys.{GpskKeys}
 use Rattle.login_keys.specs.GpskMacKey.{IsMacKey}
 use Rattle.gpsk_ends.specs.declared.keys.Keys.TheInside.{Inside}

@@ -1,7 +1,7 @@
 -- Messages sent, with their MACs.
 use Rattle.std.specs.Prelude.{ℕ, List}
-use Rattle.eap_base.specs.declared.suite.Suite.{Suite}
-use Rattle.eap_base.specs.Among.{gpsk_kind}
+use Rattle.octet_lists.specs.declared.suite.Suite.{Suite}
+use Rattle.octet_lists.specs.Among.{gpsk_kind}
 use Rattle.eap_packet.specs.declared.packet.Code.{Code}
 use Rattle.eap_packet.specs.Packet.{value_with}
 use Rattle.eap_packet.specs.Packet as packets

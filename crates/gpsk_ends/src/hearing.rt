@@ -1,13 +1,13 @@
 //! The message in the Type-Data that is received.
 
 ghost use Rattle.std.specs.Prelude.{◌≡◌, ◌≤◌, length, option_map, IfOk};
-ghost use Rattle.eap_base.specs.Suite.{ks_of};
+ghost use Rattle.octet_lists.specs.Suite.{ks_of};
 ghost use Rattle.eap_packet.specs.Packet.{max_type_data};
 ghost use Rattle.gpsk_messages.specs.Message.{message_of, read_value};
 ghost use Rattle.gpsk_messages.specs.Reading.{read_of};
 ghost use Rattle.gpsk_ends.specs.Heard.{IsHeard};
 
-use eap_base::Suite;
+use octet_lists::Suite;
 use eap_packet::Cause;
 use gpsk_messages::{GpskView, read_gpsk};
 

@@ -1,8 +1,8 @@
 //! The keys of a login, ready for its MACs.
 
 ghost use Rattle.std.specs.Prelude.{◌≡◌, ◌≤◌, ◌+◌, ◌∷◌, [], length, IsTrue};
-ghost use Rattle.eap_base.specs.Suite.{ks_of};
-ghost use Rattle.eap_base.specs.Sizes.{max_name};
+ghost use Rattle.octet_lists.specs.Suite.{ks_of};
+ghost use Rattle.octet_lists.specs.Sizes.{max_name};
 ghost use Rattle.eap_packet.specs.Packet.{has_type};
 ghost use Rattle.gpsk_messages.specs.Message.{message_of, mac_of, size_of, spelled, without_mac};
 ghost use Rattle.eap_method.specs.Room.{HasRoom};
@@ -10,7 +10,7 @@ ghost use Rattle.gpsk_ends.specs.Sealed.{packet_of, record_of};
 
 use crate::records::set_alone;
 use crate::sealing::{BEFORE_COVERED, write_front};
-use eap_base::{Nonce, Packet, Secret, Suite, equal_in_full};
+use octet_lists::{Nonce, Packet, Secret, Suite, equal_in_full};
 use eap_method::{Records, TagList};
 use eap_packet::Code;
 use gpsk_messages::{GpskView, covered_part, mac_part};

@@ -1,6 +1,6 @@
 //! The nonces of an EAP-GPSK login.
 
-use eap_base::Nonce;
+use octet_lists::Nonce;
 
 /// The two nonces of a login (RFC 5433 section 3).
 #[derive(Clone, Copy)]

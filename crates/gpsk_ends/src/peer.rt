@@ -13,7 +13,7 @@ use crate::nonces::Nonces;
 use crate::peer::login::Begun;
 use crate::peer::stage::{Phase, Stage};
 use crate::peer::turns::hears_request;
-use eap_base::{GPSK_KIND, Nonce, Packet};
+use octet_lists::{GPSK_KIND, Nonce, Packet};
 use eap_method::{Credential, PeerMethod, PeerTurn, Records, Report, Tags};
 use std::marker::Model;
 

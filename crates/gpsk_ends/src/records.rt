@@ -1,13 +1,13 @@
 //! The records of a message's MAC.
 
 ghost use Rattle.std.specs.Prelude.{◌≡◌, ◌≤◌, ◌∷◌, [], length};
-ghost use Rattle.eap_base.specs.Sizes.{max_packet};
+ghost use Rattle.octet_lists.specs.Sizes.{max_packet};
 ghost use Rattle.gpsk_messages.specs.Message.{message_of};
 ghost use Rattle.eap_method.specs.declared.tags.Label.TheVariants.{Sk};
 ghost use Rattle.eap_method.specs.GpskTags.{sk_record};
 ghost use Rattle.gpsk_ends.specs.Heard.{IsHeard};
 
-use eap_base::{GPSK_KIND, Secret};
+use octet_lists::{GPSK_KIND, Secret};
 use eap_method::{Label, Records, TagList};
 use gpsk_messages::{GpskView, covered_part, mac_part};
 

@@ -1,14 +1,14 @@
 //! Writing the packet of a message that is sent, up to its MAC.
 
 ghost use Rattle.std.specs.Prelude.{◌≡◌, ◌≤◌, ◌+◌, ◌++◌, ℕ, List, length, IsTrue, drop};
-ghost use Rattle.eap_base.specs.Suite.{ks_of};
-ghost use Rattle.eap_base.specs.Sizes.{max_packet};
+ghost use Rattle.octet_lists.specs.Suite.{ks_of};
+ghost use Rattle.octet_lists.specs.Sizes.{max_packet};
 ghost use Rattle.eap_packet.specs.Packet.{has_type, value_with};
 ghost use Rattle.eap_packet.specs.Packet as packets;
 ghost use Rattle.gpsk_messages.specs.Message.{message_of, mac_of, spelled, size_of, covered_of};
 ghost use Rattle.gpsk_messages.specs.Reading.{with_mac};
 
-use eap_base::{Packet, Suite};
+use octet_lists::{Packet, Suite};
 use eap_packet::Code;
 use gpsk_messages::{GpskView, write_gpsk_into};
 

@@ -12,7 +12,7 @@ use crate::nonces::Nonces;
 use crate::server::login::Begun;
 use crate::server::stage::{Alone, Phase, Stage};
 use crate::server::turns::{ask, hears_response};
-use eap_base::{GPSK_KIND, Nonce, Packet};
+use octet_lists::{GPSK_KIND, Nonce, Packet};
 use eap_method::{Records, Report, ServerMethod, ServerSide, ServerTurn, Tags};
 use login_setup::Users;
 use std::marker::Model;

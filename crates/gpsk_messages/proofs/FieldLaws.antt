@@ -7,9 +7,9 @@ use Rattle.std.proofs.lemmas.List.{take_at, drop_at, take-append-drop, length-ap
 use Rattle.std.proofs.lemmas.List.Elements.{All-take, All-drop, All-tail}
 use Rattle.std.proofs.lemmas.Nat.{be_bytes_4, from_be_bytes-to_be_bytes_4}
 use Rattle.std.proofs.lemmas.Option.{cond_some, same_Some}
-use Rattle.eap_base.specs.declared.suite.Suite.{Suite}
-use Rattle.eap_base.specs.declared.suite.Suite.TheVariants.{Cmac, Hmac}
-use Rattle.eap_base.specs.Suite.{suite_octets}
+use Rattle.octet_lists.specs.declared.suite.Suite.{Suite}
+use Rattle.octet_lists.specs.declared.suite.Suite.TheVariants.{Cmac, Hmac}
+use Rattle.octet_lists.specs.Suite.{suite_octets}
 use Rattle.eap_packet.specs.Packet.{IsOctets}
 use Rattle.gpsk_messages.specs.Message.{field_with_length, IsIdentity, IsBlock, IsSuiteList}
 use Rattle.gpsk_messages.specs.Reading.{and_then, exact_at, sized_at, identity_at, suites_at, suite_at, code_at}

@@ -1,6 +1,6 @@
 -- The grammar at worked values.
 use Rattle.std.proofs.Common.{◌≡◌, ℕ, List, [], ◌∷◌, ◌++◌, replicate, ◌*◌, Some, None, Ok, Err, refl}
-use Rattle.eap_base.specs.declared.suite.Suite.TheVariants.{Cmac, Hmac}
+use Rattle.octet_lists.specs.declared.suite.Suite.TheVariants.{Cmac, Hmac}
 use Rattle.eap_packet.specs.declared.cause.Cause.TheVariants.{GpskShape, ListTooLong}
 use Rattle.gpsk_messages.specs.Message.{gpsk1, gpsk2, gpsk3, gpsk4, fail, protected_fail, covered_of, spelled}
 use Rattle.gpsk_messages.specs.Reading.{and_then, exact_at, sized_at, identity_at, suites_at, suite_at, code_at, gpsk1_at, gpsk2_at, gpsk3_at, gpsk4_at, fail_at, protected_fail_at, fields_at, loose_of, read_of}

@@ -1,9 +1,9 @@
 -- EAP-GPSK messages (RFC 5433 section 9): message values, their encoding, their limits.
 use Rattle.std.specs.Prelude.{◌≡◌, ℕ, ◌+◌, ◌*◌, ◌^◌, ◌%◌, ◌<◌, ◌≤◌, ◌⊎◌, List, [], ◌∷◌, ◌++◌, length, Option, Some, None, Result, Ok, Err}
 use Rattle.std.specs.Int.{w32, to_be_bytes}
-use Rattle.eap_base.specs.declared.suite.Suite.{Suite}
-use Rattle.eap_base.specs.Suite.{ks_of, suite_octets}
-use Rattle.eap_base.specs.Sizes.{max_name}
+use Rattle.octet_lists.specs.declared.suite.Suite.{Suite}
+use Rattle.octet_lists.specs.Suite.{ks_of, suite_octets}
+use Rattle.octet_lists.specs.Sizes.{max_name}
 use Rattle.eap_packet.specs.declared.cause.Cause.{Cause}
 use Rattle.eap_packet.specs.Packet.{two_octets}
 use Rattle.gpsk_messages.specs.declared.view.GpskView.{GpskView}

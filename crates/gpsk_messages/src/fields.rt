@@ -4,7 +4,7 @@ ghost use Rattle.std.specs.Prelude.{◌≡◌, IfSome, length, option_map};
 ghost use Rattle.gpsk_messages.specs.Reading.{exact_at, sized_at, identity_at, suites_at, suite_at, code_at};
 
 use byteorder::{BigEndian, ByteOrder};
-use eap_base::{MAX_NAME, SUITE_SIZE, Suite, array_of};
+use octet_lists::{MAX_NAME, SUITE_SIZE, Suite, array_of};
 
 /// A field of `count` octets.
 #[tactic(auto, unfolding(crate::specs::Reading::exact_at))]

@@ -1,6 +1,6 @@
 //! An EAP-GPSK message, as its octets show it.
 
-use eap_base::Suite;
+use octet_lists::Suite;
 
 /// GPSK-1, the server's first message.
 #[derive(Clone, Copy)]

@@ -2,15 +2,15 @@
 
 ghost use Rattle.std.specs.Prelude.{◌≡◌, ◌+◌, ◌≤◌, ◌++◌, length, IsTrue};
 ghost use Rattle.std.specs.Int.{w32, to_be_bytes};
-ghost use Rattle.eap_base.specs.Suite.{suite_octets};
-ghost use Rattle.eap_base.specs.Sizes.{max_packet};
+ghost use Rattle.octet_lists.specs.Suite.{suite_octets};
+ghost use Rattle.octet_lists.specs.Sizes.{max_packet};
 ghost use Rattle.eap_packet.specs.Packet.{value_with, has_type, max_type_data};
 ghost use Rattle.eap_packet.specs.Packet as packets;
 ghost use Rattle.gpsk_messages.specs.Message.{message_of, op_code, spelled, field_with_length, size_of};
 
 use crate::view::{Gpsk1, Gpsk2, GpskView};
 use byteorder::{BigEndian, ByteOrder};
-use eap_base::{GPSK_KIND, Packet, Suite};
+use octet_lists::{GPSK_KIND, Packet, Suite};
 use eap_packet::{Code, begin_into};
 
 /// Appends a field behind its length, for which there is room.

@@ -8,7 +8,7 @@ use Rattle.aes_block.specs.Cipher.{sub_bytes, shift_rows, mixed, mix_columns, ad
 use Rattle.cmac_mac.specs.Cmac.{xor_blocks, doubled, last_block, chain, aes_cmac}
 use Rattle.sha2.specs.Sha256.{compress, digest_bytes, first_words, hash_after, schedule, sha256}
 use Rattle.sha2.specs.Sha256 as S
-use Rattle.eap_base.specs.declared.suite.Suite.TheVariants.{Cmac}
+use Rattle.octet_lists.specs.declared.suite.Suite.TheVariants.{Cmac}
 use Rattle.login_keys.specs.Gpsk.{gpsk_tag_of, gkdf_block, gkdf_blocks, gkdf}
 use Rattle.login_keys.specs.Psk.{combined_with, counter_block, psk_long_of}
 use Rattle.login_keys.specs.KeyName.{key_name_of}

@@ -1,9 +1,9 @@
 -- The sizes of an EAP-GPSK ciphersuite: of a tag, for those who cut it or send it, and how many of them a key takes.
 use Rattle.std.proofs.Common.{◌≡◌, ℕ, ◌*◌, ◌<◌, ◌≤◌, List, length, ap, subst, ◌∙◌, arith, lit≤}
 use Rattle.std.specs.Int.{div_ceil}
-use Rattle.eap_base.specs.Suite.{ks_of}
-use Rattle.eap_base.specs.declared.suite.Suite.{Suite}
-use Rattle.eap_base.specs.declared.suite.Suite.TheVariants.{Cmac, Hmac}
+use Rattle.octet_lists.specs.Suite.{ks_of}
+use Rattle.octet_lists.specs.declared.suite.Suite.{Suite}
+use Rattle.octet_lists.specs.declared.suite.Suite.TheVariants.{Cmac, Hmac}
 use Rattle.cmac_mac.proofs.Laws.{length_aes_cmac}
 use Rattle.hmac_mac.proofs.Laws.{length_hmac_sha256}
 use Rattle.login_keys.specs.Gpsk.{gpsk_tag_of}

@@ -3,9 +3,9 @@
 use Rattle.std.specs.Prelude.{ℕ, ◌+◌, List, ◌++◌, length, take, slice_range}
 use Rattle.std.specs.Int.{w16, div_ceil, to_be_bytes}
 use Rattle.std.specs.List.{flat_map, range_with_len}
-use Rattle.eap_base.specs.Suite.{ks_of, suite_octets}
-use Rattle.eap_base.specs.declared.suite.Suite.{Suite}
-use Rattle.eap_base.specs.declared.suite.Suite.TheVariants.{Cmac, Hmac}
+use Rattle.octet_lists.specs.Suite.{ks_of, suite_octets}
+use Rattle.octet_lists.specs.declared.suite.Suite.{Suite}
+use Rattle.octet_lists.specs.declared.suite.Suite.TheVariants.{Cmac, Hmac}
 use Rattle.cmac_mac.specs.Cmac.{aes_cmac}
 use Rattle.hmac_mac.specs.Hmac.{hmac_sha256}
 use Rattle.login_keys.specs.declared.gpsk.GpskKeys.{GpskKeys}

@@ -1,7 +1,7 @@
 -- Which ciphersuite of EAP-GPSK and which key a `MacKey` represents.
 use Rattle.std.specs.Prelude.{◌≡◌, ℕ, List}
-use Rattle.eap_base.specs.declared.suite.Suite.{Suite}
-use Rattle.eap_base.specs.declared.suite.Suite.TheVariants as suite_of
+use Rattle.octet_lists.specs.declared.suite.Suite.{Suite}
+use Rattle.octet_lists.specs.declared.suite.Suite.TheVariants as suite_of
 use Rattle.hmac_mac.specs.Holds.{IsKeyOf}
 use Rattle.login_keys.specs.declared.gpsk.mac_key.MacKey.{MacKey}
 use Rattle.login_keys.specs.declared.gpsk.mac_key.MacKey.TheVariants.{Cmac, Hmac}

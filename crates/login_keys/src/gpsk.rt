@@ -1,8 +1,8 @@
 //! The key schedule and the MAC of EAP-GPSK.
 
 ghost use Rattle.std.specs.Prelude.{◌≡◌, ◌+◌, ◌*◌, ◌≤◌, length};
-ghost use Rattle.eap_base.specs.Suite.{ks_of};
-ghost use Rattle.eap_base.specs.Sizes.{max_name};
+ghost use Rattle.octet_lists.specs.Suite.{ks_of};
+ghost use Rattle.octet_lists.specs.Sizes.{max_name};
 ghost use Rattle.login_keys.specs.Gpsk.{gpsk_keys_of, gpsk_tag_of, keys_from, pk_size};
 ghost use Rattle.login_keys.specs.Gpsk as spec;
 
@@ -12,7 +12,7 @@ mod mac_key;
 use crate::gpsk::derivation::{derive, two_octets};
 use cmac_mac::cmac_whole;
 pub use derivation::gkdf;
-use eap_base::{MAX_NAME, Octets, Suite, array_of};
+use octet_lists::{MAX_NAME, Octets, Suite, array_of};
 use hmac_mac::hmac_whole;
 pub use mac_key::MacKey;
 

@@ -3,7 +3,7 @@
 ghost use Rattle.std.specs.Prelude.{◌≡◌};
 ghost use Rattle.login_keys.specs.KeyName.{key_name_of};
 
-use eap_base::array_of;
+use octet_lists::array_of;
 use sha2::{Digest, Sha256};
 
 /// The name of a key: the first 8 octets of SHA-256 over `eap-key-name`, one zero octet and the key.

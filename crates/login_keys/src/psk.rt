@@ -6,7 +6,7 @@ ghost use Rattle.aes_block.specs.Cipher.{aes128};
 ghost use Rattle.login_keys.specs.Psk.{combined_with, psk_keys_of, psk_long_of};
 
 use aes_block::Aes128;
-use eap_base::{Octets, array_of};
+use octet_lists::{Octets, array_of};
 
 /// The long-lived keys of a shared key (RFC 4764, section 3.1).
 #[derive(Drop)]

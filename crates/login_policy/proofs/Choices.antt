@@ -1,9 +1,9 @@
 -- What a choice says of the kind, the suite or the list that is chosen.
 use Rattle.std.proofs.Common.{◌≡◌, ℕ, ◌≤◌, true, false, List, [], ◌∷◌, length, Option, Some, arith}
 use Rattle.login_policy.proofs.Finding.{among_there}
-use Rattle.eap_base.specs.Among.{is_among}
-use Rattle.eap_base.specs.Suite.{suite_number}
-use Rattle.eap_base.specs.declared.suite.Suite.{Suite}
+use Rattle.octet_lists.specs.Among.{is_among}
+use Rattle.octet_lists.specs.Suite.{suite_number}
+use Rattle.octet_lists.specs.declared.suite.Suite.{Suite}
 use Rattle.login_policy.specs.Policy.{nak_of, picked_suite, next_kind}
 use Rattle.login_policy.specs.Laws.{IsNext}
 use Rattle.login_policy.proofs.Firsts.{next_is_first, picked_is_first}

@@ -2,7 +2,7 @@
 use Rattle.std.proofs.Common.{◌≡◌, ℕ, ◌<◌, Bool, true, false, List, [], ◌∷◌, ◌++◌, length, arith, refl, ap, sym, ◌∙◌, append_assoc, append-nil}
 use Rattle.std.specs.Prelude.{◌&&◌, not, if◌then◌else◌}
 use Rattle.std.proofs.lemmas.Bool.Decides.{nat_tests}
-use Rattle.eap_base.specs.Among.{is_kind, is_among}
+use Rattle.octet_lists.specs.Among.{is_kind, is_among}
 use Rattle.login_setup.specs.Setup.{are_kinds}
 use Rattle.login_policy.specs.Expanded.{entry_of, nak_entries, type_in, names_new, kinds_in}
 use Rattle.login_policy.specs.Laws.{EntriesAreRead}

@@ -1,7 +1,7 @@
 -- A CSuite_List by its entries of six octets.
 use Rattle.std.proofs.Common.{◌≡◌, ℕ, ◌<◌, Bool, true, false, cond, List, [], ◌∷◌, ◌++◌, length, Option, None, Some, arith, refl, ◌∙◌}
-use Rattle.eap_base.specs.declared.suite.Suite.{Suite}
-use Rattle.eap_base.specs.declared.suite.Suite.TheVariants.{Cmac, Hmac}
+use Rattle.octet_lists.specs.declared.suite.Suite.{Suite}
+use Rattle.octet_lists.specs.declared.suite.Suite.TheVariants.{Cmac, Hmac}
 use Rattle.login_policy.specs.Policy.{is_allowed, suite_or, picked_suite}
 
 -- at an entry: its suite where that is allowed, or what the entries behind it give

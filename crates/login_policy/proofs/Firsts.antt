@@ -5,10 +5,10 @@ use Rattle.std.specs.Str.{bytes_eq}
 use Rattle.std.proofs.lemmas.Bool.{cases_Bool, cond-true, and_parts, and_cases, and_left, and_right, not-true, and_from, not_from_false, both_ways}
 use Rattle.std.proofs.lemmas.List.Elements.{All-nil, All-cons, All-head, All-tail, All-weaker}
 use Rattle.std.proofs.lemmas.Slice.Eq.{bytes_eq-Decides}
-use Rattle.eap_base.specs.Among.{is_among}
-use Rattle.eap_base.specs.Suite.{suite_number, suite_octets}
-use Rattle.eap_base.specs.declared.suite.Suite.{Suite}
-use Rattle.eap_base.specs.declared.suite.Suite.TheVariants.{Cmac, Hmac}
+use Rattle.octet_lists.specs.Among.{is_among}
+use Rattle.octet_lists.specs.Suite.{suite_number, suite_octets}
+use Rattle.octet_lists.specs.declared.suite.Suite.{Suite}
+use Rattle.octet_lists.specs.declared.suite.Suite.TheVariants.{Cmac, Hmac}
 use Rattle.login_policy.specs.Policy.{nak_of, picked_suite, is_allowed, suite_or, is_desired, next_kind}
 use Rattle.login_policy.specs.Laws.{IsPassed, IsNext, NextIsFirst, NoneIsNext, NamesNone, IsPicked, NamesOnlyOthers, PickedIsFirst, NoneIsPicked, NakIsAllowed, AllowedIsListed, NakListsSome}
 use Rattle.login_policy.proofs.Entries.{picked_here, picked_behind, picked_from_part}

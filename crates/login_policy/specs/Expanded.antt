@@ -2,7 +2,7 @@
 -- of it.
 use Rattle.std.specs.Prelude.{ℕ, List, [], ◌∷◌, ◌++◌, take, drop, slice_index, flat_map, Bool, ◌&&◌, not, if◌then◌else◌}
 use Rattle.std.specs.Str.{bytes_eq}
-use Rattle.eap_base.specs.Among.{is_kind, is_among, expanded_kind, ietf}
+use Rattle.octet_lists.specs.Among.{is_kind, is_among, expanded_kind, ietf}
 
 -- the entry of a Type of the IETF: 254, Vendor-Id 0 and the Type in the four octets of the Vendor-Type
 abbrev pub entry_of : ℕ → List ℕ

@@ -1,10 +1,10 @@
 -- Laws of the choices: each is the first that is allowed, and none is made if none is allowed.
 use Rattle.std.specs.Prelude.{◌≡◌, ◌↔◌, ◌≢◌, ℕ, List, [], ◌∷◌, ◌++◌, length, true, false, Option, Some, None, All, ◌<◌}
 use Rattle.std.specs.List.{concat}
-use Rattle.eap_base.specs.Among.{is_among}
+use Rattle.octet_lists.specs.Among.{is_among}
 use Rattle.login_setup.specs.Setup.{are_kinds}
-use Rattle.eap_base.specs.Suite.{suite_octets, suite_number}
-use Rattle.eap_base.specs.declared.suite.Suite.{Suite}
+use Rattle.octet_lists.specs.Suite.{suite_octets, suite_number}
+use Rattle.octet_lists.specs.declared.suite.Suite.{Suite}
 use Rattle.login_policy.specs.Policy.{nak_of, picked_suite, is_desired, next_kind}
 use Rattle.login_policy.specs.Expanded.{nak_entries, expanded_kinds}
 

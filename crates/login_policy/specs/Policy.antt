@@ -1,10 +1,10 @@
 -- The choices that the ends' policies make: each is the first choice that is allowed.
 use Rattle.std.specs.Prelude.{ℕ, List, [], ◌∷◌, Bool, true, ◌&&◌, not, if◌then◌else◌, Option, Some, None, find}
 use Rattle.std.specs.Str.{bytes_eq}
-use Rattle.eap_base.specs.Among.{is_among}
-use Rattle.eap_base.specs.Suite.{suite_octets, suite_number}
-use Rattle.eap_base.specs.declared.suite.Suite.{Suite}
-use Rattle.eap_base.specs.declared.suite.Suite.TheVariants.{Cmac, Hmac}
+use Rattle.octet_lists.specs.Among.{is_among}
+use Rattle.octet_lists.specs.Suite.{suite_octets, suite_number}
+use Rattle.octet_lists.specs.declared.suite.Suite.{Suite}
+use Rattle.octet_lists.specs.declared.suite.Suite.TheVariants.{Cmac, Hmac}
 
 -- the Types that a Nak desires (RFC 3748 section 5.3.1): the allowed ones in their order, or 0 alone
 unfoldable pub nak_of : List ℕ → List ℕ

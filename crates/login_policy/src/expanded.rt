@@ -2,12 +2,12 @@
 //! of it.
 
 ghost use Rattle.std.specs.Prelude.{◌≡◌, length};
-ghost use Rattle.eap_base.specs.Among.{is_kind};
+ghost use Rattle.octet_lists.specs.Among.{is_kind};
 ghost use Rattle.login_policy.specs.Policy.{nak_of};
 ghost use Rattle.login_policy.specs.Expanded.{entry_of, nak_entries, names_new, expanded_kinds};
 
 use crate::policy::nak_list;
-use eap_base::{EXPANDED, GPSK_KIND, IETF, Kinds, NAK_ENTRY_SIZE, Octets, PSK_KIND, is_among};
+use octet_lists::{EXPANDED, GPSK_KIND, IETF, Kinds, NAK_ENTRY_SIZE, Octets, PSK_KIND, is_among};
 use login_setup::PeerSetup;
 
 /// The list of the peer's Expanded Nak (RFC 3748 section 5.3.2): of each method that it allows, in

@@ -1,10 +1,10 @@
 //! What a peer allows and desires, which suite it picks, and which method the server proposes next.
 
 ghost use Rattle.std.specs.Prelude.{◌≡◌, ◌&&◌, not, None, option_copied};
-ghost use Rattle.eap_base.specs.Among.{is_among};
+ghost use Rattle.octet_lists.specs.Among.{is_among};
 ghost use Rattle.login_policy.specs.Policy.{nak_of, picked_suite, is_allowed, suite_or, is_desired, next_kind};
 
-use eap_base::{Kinds, SUITE_SIZE, Suite, Suites, is_among};
+use octet_lists::{Kinds, SUITE_SIZE, Suite, Suites, is_among};
 use login_setup::PeerSetup;
 
 /// Whether the peer allows the method of this Type.

@@ -3,7 +3,7 @@ use Rattle.std.specs.Prelude.{◌≡◌, ℕ, List, drop, Some, ◌⊎◌}
 use Rattle.octet_io.specs.Shown.{Shown, HasRisen}
 use Rattle.world_commands.specs.Headline.{HonestEndsAgree, WritesNeverBoth}
 use Rattle.world_commands.specs.SmoothTraces.{SmoothTracesAgree}
-use Rattle.login_call.specs.Login.{asked_by, Completes}
+use Rattle.eap_login.specs.Login.{asked_by, Completes}
 use Rattle.command_driver.specs.Responding.{Responds}
 use Rattle.command_driver.specs.Statuses.{number_of}
 use Rattle.command_driver.specs.declared.status.Status.{Status}

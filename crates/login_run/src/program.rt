@@ -12,7 +12,7 @@ use crate::words::words_after_name;
 use command_driver::Status;
 use eap_world::Methods;
 use end_objects::{all_peers, all_servers};
-use login_call::eap_login;
+use eap_login::eap_login;
 use octet_io::{Sink, Source};
 use std::alloc::Global;
 use std::env::Args;

@@ -2,7 +2,7 @@
 use Rattle.std.specs.Prelude.{◌≡◌, ℕ, List, [], length, Bool, true, ◌==◌, ◌&&◌, ◌||◌, if◌then◌else◌, nat_le, IsTrue, IsSome, All}
 use Rattle.std.specs.List.{list_all}
 use Rattle.std.specs.Str.{bytes_eq}
-use Rattle.eap_base.specs.Among.{is_among, are_distinct, is_filled, psk_kind, gpsk_kind, is_kind}
+use Rattle.octet_lists.specs.Among.{is_among, are_distinct, is_filled, psk_kind, gpsk_kind, is_kind}
 use Rattle.login_setup.specs.Keys.{key_of}
 use Rattle.login_setup.specs.declared.setup.Accepts.{Accepts}
 use Rattle.login_setup.specs.declared.setup.Accepts.TheVariants.{Any, One}

@@ -1,7 +1,7 @@
 //! The events of a run.
 
 use crate::setup::{Party, Port};
-use eap_base::Octets;
+use octet_lists::Octets;
 
 /// What happens next: a delivery, the end of a timer, or a report of the lower layer.
 #[derive(Drop)]

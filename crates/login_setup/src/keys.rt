@@ -4,7 +4,7 @@ ghost use Rattle.std.specs.Prelude.{◌≡◌, ◌↔◌, ◌<◌, ◌≤◌, []
 ghost use Rattle.login_setup.specs.Keys.{key_of, max_keys};
 
 use arrayvec::ArrayVec;
-use eap_base::Secret;
+use octet_lists::Secret;
 use std::marker::Model;
 
 /// The most keys of a peer: one for each method.

@@ -3,7 +3,7 @@
 ghost use Rattle.std.specs.Prelude.{◌≡◌, ◌↔◌, ◌<◌, ◌≤◌, [], ◌∷◌, ◌++◌, length, IsTrue};
 
 use arrayvec::ArrayVec;
-use eap_base::Nonce;
+use octet_lists::Nonce;
 use std::marker::Model;
 
 /// At most 15 nonces, in the order in which they are used. Contracts see the list of the nonces.

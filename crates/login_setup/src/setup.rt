@@ -6,7 +6,7 @@ ghost use Rattle.login_setup.specs.Setup.{accepts_name, no_later};
 use crate::keys::Keys;
 use crate::nonces::Nonces;
 use crate::users::Users;
-use eap_base::{Identity, Kinds, Nonce, Suites};
+use octet_lists::{Identity, Kinds, Nonce, Suites};
 
 /// Whether the server answers by itself, or behind a pass-through authenticator.
 #[derive(Clone, Copy, PartialEq, Eq, Debug)]

@@ -4,7 +4,7 @@ ghost use Rattle.std.specs.Prelude.{◌≡◌, ◌↔◌, ◌≤◌, [], ◌∷�
 ghost use Rattle.login_setup.specs.Users.{user_of, is_named, HasRoom, AreDistinct, max_users};
 
 use arrayvec::ArrayVec;
-use eap_base::{Identity, Secret};
+use octet_lists::{Identity, Secret};
 use std::marker::Model;
 
 /// The most users of a server.

@@ -3,10 +3,10 @@ use Rattle.std.proofs.Common.{◌≡◌, ℕ, List, true, false, Option, Some, N
 use Rattle.std.specs.Prelude.{not, ◌==◌}
 use Rattle.std.specs.Str.{bytes_eq}
 use Rattle.std.proofs.lemmas.Bool.{cond_both, and_parts, eqb-true}
-use Rattle.eap_base.specs.declared.suite.Suite.{Suite}
+use Rattle.octet_lists.specs.declared.suite.Suite.{Suite}
 use Rattle.login_setup.specs.declared.users.User.{User}
-use Rattle.eap_base.specs.Suite.{ks_of, suite_number}
-use Rattle.eap_base.specs.Among.{gpsk_kind, is_among}
+use Rattle.octet_lists.specs.Suite.{ks_of, suite_number}
+use Rattle.octet_lists.specs.Among.{gpsk_kind, is_among}
 use Rattle.login_setup.specs.Users.{user_of}
 use Rattle.eap_packet.specs.declared.cause.Cause.{Cause}
 use Rattle.eap_packet.specs.declared.cause.Cause.TheVariants.{FieldMismatch, SuiteNotOffered, BadTag}

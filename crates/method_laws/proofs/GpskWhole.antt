@@ -4,10 +4,10 @@ use Rattle.std.specs.Prelude.{◌==◌, ◌⊎◌, slice_index}
 use Rattle.std.specs.Str.{bytes_eq}
 use Rattle.std.proofs.lemmas.Bool.{cond-true, cond_both, and_from, or_left, or_right, and_parts, eq-eqb}
 use Rattle.std.proofs.lemmas.Option.{same_Some, none-some}
-use Rattle.eap_base.specs.declared.suite.Suite.{Suite}
-use Rattle.eap_base.specs.declared.suite.Suite.TheVariants.{Cmac, Hmac}
-use Rattle.eap_base.specs.Suite.{ks_of, suite_number, suite_octets}
-use Rattle.eap_base.specs.Among.{gpsk_kind, is_among}
+use Rattle.octet_lists.specs.declared.suite.Suite.{Suite}
+use Rattle.octet_lists.specs.declared.suite.Suite.TheVariants.{Cmac, Hmac}
+use Rattle.octet_lists.specs.Suite.{ks_of, suite_number, suite_octets}
+use Rattle.octet_lists.specs.Among.{gpsk_kind, is_among}
 use Rattle.login_setup.specs.Setup.{accepts_name}
 use Rattle.eap_packet.specs.declared.cause.Cause.TheVariants.{FieldMismatch, SuiteNotOffered, BadTag}
 use Rattle.gpsk_messages.specs.Message.{Message, gpsk2, gpsk3, gpsk4, covered_of, mac_of, spelled, list_of, IsSuiteList, AreFields, HasMac}

@@ -1,9 +1,9 @@
 -- A whole login by EAP-GPSK (RFC 5433 section 3), turn by turn, between two ends that fit.
 use Rattle.std.specs.Prelude.{◌≡◌, ℕ, ◌<◌, ◌≤◌, List, [], ◌∷◌, length, true, false, Some}
-use Rattle.eap_base.specs.declared.suite.Suite.{Suite}
+use Rattle.octet_lists.specs.declared.suite.Suite.{Suite}
 use Rattle.login_setup.specs.declared.users.User.{User}
-use Rattle.eap_base.specs.Among.{gpsk_kind}
-use Rattle.eap_base.specs.Sizes.{max_name}
+use Rattle.octet_lists.specs.Among.{gpsk_kind}
+use Rattle.octet_lists.specs.Sizes.{max_name}
 use Rattle.login_setup.specs.Setup.{accepts_name}
 use Rattle.login_setup.specs.Users.{user_of}
 use Rattle.login_policy.specs.Policy.{picked_suite}

@@ -1,7 +1,7 @@
 -- The turns of a peer of EAP-GPSK (RFC 5433 section 3), each with all that is then known.
 use Rattle.std.specs.Prelude.{◌≡◌, ℕ, List, [], ◌∷◌, true, false, Some, None, Ok}
-use Rattle.eap_base.specs.declared.suite.Suite.{Suite}
-use Rattle.eap_base.specs.Suite.{ks_of}
+use Rattle.octet_lists.specs.declared.suite.Suite.{Suite}
+use Rattle.octet_lists.specs.Suite.{ks_of}
 use Rattle.eap_packet.specs.declared.cause.Cause.{Cause}
 use Rattle.gpsk_messages.specs.Message.{gpsk1, gpsk3, fail, protected_fail, covered_of}
 use Rattle.gpsk_messages.specs.Reading.{read_of}

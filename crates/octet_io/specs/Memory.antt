@@ -1,6 +1,6 @@
 -- Sources and sinks in memory, which fail at the calls that a list names.
 use Rattle.std.specs.Prelude.{ℕ, ◌+◌, ◌-◌, List, ◌++◌, length, take, drop, min, Bool, ◌&&◌, ◌||◌, nat_lt, nat_le}
-use Rattle.eap_base.specs.Among.{is_among}
+use Rattle.octet_lists.specs.Among.{is_among}
 
 -- the last number that such a list can name
 abbrev pub last_call : ℕ

@@ -2,7 +2,7 @@
 
 ghost use Rattle.std.specs.Prelude.{◌≡◌, ◌+◌, IfOk};
 ghost use Rattle.std.specs.Bool.{OnTrue};
-ghost use Rattle.eap_base.specs.Among.{is_among};
+ghost use Rattle.octet_lists.specs.Among.{is_among};
 ghost use Rattle.octet_io.specs.Memory.{is_listed, next_call};
 
 use std::alloc::{AllocError, Global};

@@ -7,7 +7,7 @@ ghost use Rattle.octet_io.specs.Lines.{without_cr};
 
 use crate::ahead::Ahead;
 use crate::source::Source;
-use eap_base::Octets;
+use octet_lists::Octets;
 use std::marker::Model;
 
 /// What `LineReader::next_line` met.

@@ -1,7 +1,7 @@
 //! Captured frames in files.
 
 use crate::row::Row;
-use eap_base::Octets;
+use octet_lists::Octets;
 use eapol_capture::{NextRecord, PcapReader};
 use octet_io::{MemSource, Source};
 use std::alloc::{AllocError, Global};

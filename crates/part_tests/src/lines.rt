@@ -1,7 +1,7 @@
 //! Lines of sources.
 
 use crate::row::Row;
-use eap_base::Octets;
+use octet_lists::Octets;
 use octet_io::{Failed, LF, LineReader, MemSource, NextLine, Source};
 use std::alloc::{AllocError, Global};
 use std::test::Fail;

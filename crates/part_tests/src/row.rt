@@ -1,6 +1,6 @@
 //! Rows of a text: words by spaces, octets in hex.
 
-use eap_base::{MAX_PACKET, Octets, Packet};
+use octet_lists::{MAX_PACKET, Octets, Packet};
 use hex::decode_to_slice;
 use std::str::SplitWhitespace;
 

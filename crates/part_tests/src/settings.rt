@@ -1,6 +1,6 @@
 //! Lists of octets, and copies of settings.
 
-use eap_base::Octets;
+use octet_lists::Octets;
 use login_setup::{Accepts, Key, Keys, Later, Mode, PeerSetup, ServerSetup, Setup, Users};
 
 /// Whether a list of two octets, which has room for four, answers each call so and has the octets that fit.

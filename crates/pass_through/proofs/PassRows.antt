@@ -2,7 +2,7 @@
 use Rattle.std.proofs.Common.{◌≡◌, ℕ, ◌+◌, List, Bool, true, ◌||◌, Option, Some, None, Result, Ok, Err, refl, ap, sym, ◌∙◌}
 use Rattle.std.specs.Prelude.{◌==◌, nat_le}
 use Rattle.std.proofs.lemmas.Bool.{cond_both, eqb-true, false≢true}
-use Rattle.eap_base.specs.Among.{identity_kind}
+use Rattle.octet_lists.specs.Among.{identity_kind}
 use Rattle.eap_packet.specs.Fault.{packet_of}
 use Rattle.eap_packet.specs.Packet.{PacketValue, request, response, success, failure}
 use Rattle.eap_packet.specs.declared.cause.Cause.{Cause}

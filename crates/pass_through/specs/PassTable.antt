@@ -1,6 +1,6 @@
 -- The pass-through authenticator of RFC 4137 section 7: each call as a function.
 use Rattle.std.specs.Prelude.{◌≡◌, ◌≤◌, ℕ, ◌+◌, List, [], ◌∷◌, Bool, true, false, ◌==◌, ◌||◌, nat_le, if◌then◌else◌, Option, Some, None, Result, Ok, Err, take}
-use Rattle.eap_base.specs.Among.{identity_kind}
+use Rattle.octet_lists.specs.Among.{identity_kind}
 use Rattle.eap_packet.specs.Packet.{PacketValue, request, response, success, failure, spelled}
 use Rattle.eap_packet.specs.Fault.{packet_of, length_of}
 use Rattle.eap_packet.specs.declared.cause.Cause.{Cause}

@@ -1,6 +1,6 @@
 -- The transitions of the pass-through's table (RFC 4137 section 7), each with all that is then known.
 use Rattle.std.specs.Prelude.{◌≡◌, ℕ, ◌+◌, List, [], ◌∷◌, true, false, ◌==◌, nat_le, Some, Ok, Err}
-use Rattle.eap_base.specs.Among.{identity_kind}
+use Rattle.octet_lists.specs.Among.{identity_kind}
 use Rattle.eap_packet.specs.Fault.{packet_of}
 use Rattle.eap_packet.specs.Packet.{PacketValue, request, response, success, failure}
 use Rattle.eap_packet.specs.declared.cause.Cause.{Cause}

@@ -6,7 +6,7 @@ ghost use Rattle.pass_through.specs.PassTable.{Peer, Server, answer, step_to, wi
 use crate::rows::{resend, take_aaa_idle, take_idle, take_idle2, write_identity_request};
 use crate::states::{is_aaa_idle, is_idle, is_idle2, is_over};
 use crate::variables::PassVariables;
-use eap_base::Packet;
+use octet_lists::Packet;
 use eap_method::Step;
 use eap_packet::{Cause, State};
 use std::marker::Model;

@@ -1,6 +1,6 @@
 //! The pass-through's variables.
 
-use eap_base::Packet;
+use octet_lists::Packet;
 use eap_packet::State;
 
 /// The pass-through's variables (RFC 4137 sections 5.3 and 7.1).

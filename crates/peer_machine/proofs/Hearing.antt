@@ -2,7 +2,7 @@
 use Rattle.std.proofs.Common.{◌≡◌, ℕ, List, Bool, true, false, ◌&&◌, not, Result, Ok, Err, refl}
 use Rattle.std.specs.Prelude.{◌==◌, if◌then◌else◌}
 use Rattle.std.proofs.lemmas.Bool.{cond_both}
-use Rattle.eap_base.specs.Among.{expanded_kind}
+use Rattle.octet_lists.specs.Among.{expanded_kind}
 use Rattle.eap_packet.specs.Packet.{PacketValue, request, response, success, failure}
 use Rattle.eap_packet.specs.Fault.{packet_of}
 use Rattle.eap_packet.specs.Expanded.{is_bad_expanded}

@@ -3,7 +3,7 @@ use Rattle.std.proofs.Common.{◌≡◌, ℕ, List, [], ◌∷◌, Bool, true, f
 use Rattle.std.specs.Prelude.{◌==◌, if◌then◌else◌}
 use Rattle.std.proofs.lemmas.Bool.{eqb-true, eqb-false}
 use Rattle.std.proofs.lemmas.Option.{none-some}
-use Rattle.eap_base.specs.Among.{is_among}
+use Rattle.octet_lists.specs.Among.{is_among}
 use Rattle.eap_method.specs.Peer.{PeerShown, peer_kind, peer_views, view_of}
 use Rattle.eap_method.proofs.PeerObjects.{view_hit, view_miss}
 use Rattle.peer_machine.specs.PeerTable.{first_of, selected_view, is_allowed}

@@ -1,7 +1,7 @@
 -- A peer that reads Expanded Types (RFC 3748 section 5.7): the transitions of its table are those of the plain form of
 -- a Request, and what it sends of that is expressed again. No transition of the table knows of them.
 use Rattle.std.specs.Prelude.{ℕ, List, ◌∷◌, ◌++◌, Bool, true, false, ◌==◌, ◌&&◌, not, if◌then◌else◌, Option, Some, None, Result, Ok, slice_index}
-use Rattle.eap_base.specs.Among.{expanded_kind, ietf, nak_kind}
+use Rattle.octet_lists.specs.Among.{expanded_kind, ietf, nak_kind}
 use Rattle.eap_packet.specs.Packet.{PacketValue, request, response, spelled}
 use Rattle.eap_packet.specs.Fault.{type_of, packet_of}
 use Rattle.eap_packet.specs.Expanded.{expanded_form, is_bad_expanded}

@@ -1,7 +1,7 @@
 -- The peer of RFC 4137 section 4, over the views of its methods: each call as a function.
 use Rattle.std.specs.Prelude.{◌≡◌, ℕ, List, [], ◌∷◌, ◌++◌, Bool, true, false, ◌==◌, ◌&&◌, if◌then◌else◌, Option, Some, None, Result, Ok, Err, map, find}
 use Rattle.login_setup.specs.declared.setup.PeerSetup.{PeerSetup}
-use Rattle.eap_base.specs.Among.{is_among, identity_kind, notification_kind, nak_kind}
+use Rattle.octet_lists.specs.Among.{is_among, identity_kind, notification_kind, nak_kind}
 use Rattle.login_setup.specs.Setup.{IsSoundPeer, HasKeys}
 use Rattle.eap_packet.specs.Packet.{PacketValue, request, response, success, failure, spelled}
 use Rattle.eap_packet.specs.Fault.{packet_of}

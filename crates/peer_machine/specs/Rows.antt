@@ -1,6 +1,6 @@
 -- The transitions of the peer's table (RFC 4137 section 4), each with all that is then known.
 use Rattle.std.specs.Prelude.{◌≡◌, ℕ, List, [], ◌∷◌, ◌++◌, Bool, true, false, ◌==◌, ◌&&◌, Some, None, Ok, Err}
-use Rattle.eap_base.specs.Among.{is_among, identity_kind, notification_kind}
+use Rattle.octet_lists.specs.Among.{is_among, identity_kind, notification_kind}
 use Rattle.eap_packet.specs.Fault.{packet_of}
 use Rattle.eap_packet.specs.Packet.{PacketValue, request, response, success, failure, spelled}
 use Rattle.eap_packet.specs.declared.cause.Cause.{Cause}

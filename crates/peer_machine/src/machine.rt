@@ -1,7 +1,7 @@
 //! The peer of RFC 4137 section 4 over the objects of its methods.
 
 ghost use Rattle.std.specs.Prelude.{◌≡◌, ◌≢◌, ◌≤◌, [], ◌∷◌, ◌++◌, length, slice_index, true, false, map, None, Some, Ok, ℕ, List, option_map};
-ghost use Rattle.eap_base.specs.Among.{is_among, expanded_kind, ietf, nak_kind};
+ghost use Rattle.octet_lists.specs.Among.{is_among, expanded_kind, ietf, nak_kind};
 ghost use Rattle.login_setup.specs.Setup.{IsSoundPeer, HasKeys};
 ghost use Rattle.eap_packet.specs.Packet.{spelled, value_of, IsPacket, max_type_data};
 ghost use Rattle.eap_packet.specs.Fault.{packet_of};
@@ -19,7 +19,7 @@ ghost use Rattle.peer_machine.specs.PeerTable.{before_method, method_answers, vi
 ghost use Rattle.eap_method.specs.Peer.{IsRequest, PeerShown, PeerViews, have_each, peer_views, peer_turn, peer_kinds};
 
 use crate::variables::PeerVariables;
-use eap_base::{EXPANDED, IDENTITY, IETF, NAK, NOTIFICATION, Nonce, Packet, VENDOR_SIZE};
+use octet_lists::{EXPANDED, IDENTITY, IETF, NAK, NOTIFICATION, Nonce, Packet, VENDOR_SIZE};
 use eap_method::{
     Decision, MethodState, PeerMethod, PeerTurn, Records, Report, Step, Tags, begin_peers,
     hand_to_peer, has_ended, peer_report,

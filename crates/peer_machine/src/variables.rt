@@ -1,6 +1,6 @@
 //! The peer's variables.
 
-use eap_base::Packet;
+use octet_lists::Packet;
 use eap_method::{Decision, MethodState};
 use eap_packet::State;
 use login_setup::PeerSetup;

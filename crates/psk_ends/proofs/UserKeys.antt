@@ -1,7 +1,7 @@
 -- The keys of a server's users.
 use Rattle.std.proofs.Common.{◌≡◌, ℕ, zero, suc, List, [], ◌∷◌, length, All, IsTrue, Some, Option, arith, Bool, true, false, cond, refl}
 use Rattle.login_setup.specs.declared.users.User.{User}
-use Rattle.eap_base.specs.Among.{psk_kind}
+use Rattle.octet_lists.specs.Among.{psk_kind}
 use Rattle.login_setup.specs.Setup.{fits_kind}
 use Rattle.login_setup.specs.Users.{user_of, is_named}
 

@@ -3,7 +3,7 @@
 ghost use Rattle.std.specs.Prelude.{◌≡◌, length};
 ghost use Rattle.login_keys.specs.Psk.{psk_long_of};
 
-use eap_base::{Secret, array_of};
+use octet_lists::{Secret, array_of};
 use login_keys::{PskLong, psk_long};
 
 /// AK and KDK (RFC 4764 section 3.1).

@@ -10,7 +10,7 @@ ghost use Rattle.eap_method.specs.PskPeer.{over_reads};
 ghost use Rattle.eap_method.specs.PskServer as server;
 ghost use Rattle.eap_method.specs.PskServer.{idle_reads};
 
-use eap_base::{Nonce, array_of};
+use octet_lists::{Nonce, array_of};
 use eap_packet::Cause;
 use psk_messages::{HEADER, PskView, read_psk};
 

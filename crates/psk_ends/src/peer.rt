@@ -12,7 +12,7 @@ use crate::nonces::Nonces;
 use crate::peer::login::Begun;
 use crate::peer::stage::{Phase, Stage};
 use crate::peer::turns::hears_request;
-use eap_base::{Nonce, PSK_KIND, Packet};
+use octet_lists::{Nonce, PSK_KIND, Packet};
 use eap_method::{Credential, PeerMethod, PeerTurn, Records, Report, Tags};
 use std::marker::Model;
 

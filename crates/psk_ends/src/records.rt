@@ -1,13 +1,13 @@
 //! The records of EAP-PSK's tags, with the octets that they cover.
 
 ghost use Rattle.std.specs.Prelude.{◌≡◌, ◌≤◌, ◌<◌, [], ◌∷◌, ◌++◌, length};
-ghost use Rattle.eap_base.specs.Among.{psk_kind};
-ghost use Rattle.eap_base.specs.Sizes.{max_name};
+ghost use Rattle.octet_lists.specs.Among.{psk_kind};
+ghost use Rattle.octet_lists.specs.Sizes.{max_name};
 ghost use Rattle.eap_method.specs.declared.tags.Label.TheVariants.{Tek};
 ghost use Rattle.eap_method.specs.PskTags.{mac_p_octets, mac_s_octets, ak_record, tek_record};
 
 use crate::channel::channel_nonce;
-use eap_base::{PSK_KIND, Secret};
+use octet_lists::{PSK_KIND, Secret};
 use eap_method::{Label, Records, TagList};
 use psk_messages::Channel;
 

@@ -13,7 +13,7 @@ use crate::nonces::Nonces;
 use crate::server::login::Begun;
 use crate::server::stage::{EarlyPhase, KnownPhase, Stage};
 use crate::server::turns::{ask, hears_response};
-use eap_base::{Nonce, PSK_KIND, Packet};
+use octet_lists::{Nonce, PSK_KIND, Packet};
 use eap_method::{Records, Report, ServerMethod, ServerSide, ServerTurn, Tags};
 use login_setup::Users;
 use std::marker::Model;

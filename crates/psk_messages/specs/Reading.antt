@@ -1,7 +1,7 @@
 -- Reading Type-Data as an EAP-PSK message (RFC 4764 section 5).
 use Rattle.std.specs.Prelude.{ℕ, ◌+◌, ◌/◌, List, [], ◌∷◌, length, take, drop, slice_index, Bool, ◌==◌, ◌&&◌, nat_le, if◌then◌else◌, Result, Ok, Err}
 use Rattle.std.specs.Int.{w32, from_be_bytes}
-use Rattle.eap_base.specs.Sizes.{max_name}
+use Rattle.octet_lists.specs.Sizes.{max_name}
 use Rattle.eap_packet.specs.declared.cause.Cause.{Cause}
 use Rattle.eap_packet.specs.declared.cause.Cause.TheVariants.{PskShape}
 use Rattle.psk_messages.specs.Message.{Message, psk1, psk2, psk3, psk4}

@@ -7,7 +7,7 @@ ghost use Rattle.psk_messages.specs.Reading.{front, behind, is_size, message_at,
 
 use crate::view::{Channel, Psk1, Psk2, Psk3, Psk4, PskView};
 use byteorder::{BigEndian, ByteOrder};
-use eap_base::{MAX_NAME, array_of};
+use octet_lists::{MAX_NAME, array_of};
 use eap_packet::Cause;
 
 /// The octets of a nonce, a MAC or a tag.

@@ -1,14 +1,14 @@
 //! Writing a message as a packet (RFC 4764 section 5).
 
 ghost use Rattle.std.specs.Prelude.{◌≡◌, ◌+◌, ◌*◌, ◌≤◌, ◌++◌, length, IsTrue};
-ghost use Rattle.eap_base.specs.Sizes.{max_name, max_packet};
+ghost use Rattle.octet_lists.specs.Sizes.{max_name, max_packet};
 ghost use Rattle.eap_packet.specs.Packet.{value_with, has_type};
 ghost use Rattle.eap_packet.specs.Packet as packets;
 ghost use Rattle.psk_messages.specs.Message.{message_of, t_of, channel, fields_of, identity_of, size_of, spelled};
 
 use crate::view::{Channel, PskView};
 use byteorder::{BigEndian, ByteOrder};
-use eap_base::{PSK_KIND, Packet};
+use octet_lists::{PSK_KIND, Packet};
 use eap_packet::{Code, begin_into};
 
 /// Appends PCHANNEL, for which there is room.

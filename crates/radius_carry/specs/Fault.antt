@@ -1,7 +1,7 @@
 -- What keeps octets from being a RADIUS packet that carries EAP, and the packet that they begin with.
 use Rattle.std.specs.Prelude.{ℕ, zero, suc, ◌+◌, ◌-◌, ◌*◌, List, [], ◌∷◌, ◌++◌, length, take, drop, slice_index, Bool, ◌==◌, ◌&&◌, ◌||◌, not, nat_lt}
 use Rattle.std.specs.Prelude.{nat_le, if◌then◌else◌, Option, Some, None, Result, Ok, Err}
-use Rattle.eap_base.specs.Sizes.{max_packet}
+use Rattle.octet_lists.specs.Sizes.{max_packet}
 use Rattle.radius_carry.specs.Packet.{Attribute, RadiusPacket, count, eap_of, tag_of, is_code, number_of, max_radius}
 use Rattle.radius_carry.specs.declared.cause.RadiusCause.{RadiusCause}
 use Rattle.radius_carry.specs.declared.cause.RadiusCause.TheVariants.{RadiusShort, RadiusCode, RadiusLength, RadiusTruncated, RadiusAttribute, NoEap}

@@ -1,6 +1,6 @@
 -- Laws of RADIUS packets that carry EAP, over the definitions alone.
 use Rattle.std.specs.Prelude.{◌≡◌, ◌↔◌, ℕ, ◌≤◌, List, [], ◌++◌, length, IsTrue, ◌≢◌, None, Ok}
-use Rattle.eap_base.specs.Sizes.{max_packet}
+use Rattle.octet_lists.specs.Sizes.{max_packet}
 use Rattle.eap_packet.specs.Packet.{IsOctets}
 use Rattle.radius_carry.specs.Packet.{RadiusPacket, spelled, IsRadius, eap_of, is_code, max_value}
 use Rattle.radius_carry.specs.Fault.{fault, packet_of}

@@ -1,7 +1,7 @@
 -- RADIUS packets (RFC 2865 sections 3 and 5): packet values, their one encoding, and which of them
 -- carry EAP (RFC 3579 sections 3.1 and 3.2).
 use Rattle.std.specs.Prelude.{◌≡◌, ℕ, ◌+◌, ◌≤◌, List, [], ◌∷◌, ◌++◌, length, Bool, ◌==◌, ◌||◌, if◌then◌else◌, IsTrue}
-use Rattle.eap_base.specs.Sizes.{max_packet}
+use Rattle.octet_lists.specs.Sizes.{max_packet}
 use Rattle.eap_packet.specs.Packet.{two_octets}
 use Rattle.radius_carry.specs.declared.view.RadiusKind.{RadiusKind}
 use Rattle.radius_carry.specs.declared.view.RadiusKind.TheVariants.{Request, Accept, Reject, Challenge}

@@ -1,12 +1,12 @@
 //! The attributes of a RADIUS packet (RFC 2865 section 5).
 
 ghost use Rattle.std.specs.Prelude.{◌≡◌, ◌≤◌, ◌+◌, ◌++◌, ◌∷◌, [], length, IsTrue, ◌↔◌, IfSome, MatchOption};
-ghost use Rattle.eap_base.specs.Sizes.{max_packet};
+ghost use Rattle.octet_lists.specs.Sizes.{max_packet};
 ghost use Rattle.radius_carry.specs.Packet.{count, value_of_kind};
 ghost use Rattle.radius_carry.specs.Fault.{attributes_of, left_of};
 ghost use Rattle.radius_carry.specs.Place.{tag_place};
 
-use eap_base::Packet;
+use octet_lists::Packet;
 
 /// The octets before the attributes.
 pub const HEAD: usize = 20;

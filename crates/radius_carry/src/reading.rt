@@ -11,7 +11,7 @@ use crate::attributes::{
 use crate::cause::RadiusCause;
 use crate::view::{RadiusKind, RadiusView};
 use byteorder::{BigEndian, ByteOrder};
-use eap_base::{MAX_PACKET, Octets, Packet, array_of};
+use octet_lists::{MAX_PACKET, Octets, Packet, array_of};
 
 /// The most octets of a packet (RFC 2865 section 3).
 const MAX_RADIUS: usize = 4096;

@@ -11,7 +11,7 @@ ghost use Rattle.radius_carry.specs.Tags.{is_good_request, is_good_reply};
 use crate::attributes::{HEAD, TAG, place_of_tag};
 use crate::mac::Mac;
 use crate::view::{RadiusKind, RadiusView};
-use eap_base::equal_in_full;
+use octet_lists::equal_in_full;
 use md5::{Digest, Md5};
 
 /// The octets of Code, Identifier and Length.

@@ -1,7 +1,7 @@
 //! Writing RADIUS packets that carry EAP (RFC 2865 sections 3 and 5, RFC 3579 section 3).
 
 ghost use Rattle.std.specs.Prelude.{◌≡◌, ◌≢◌, ◌≤◌, ◌+◌, ◌++◌, [], List, length};
-ghost use Rattle.eap_base.specs.Sizes.{max_packet};
+ghost use Rattle.octet_lists.specs.Sizes.{max_packet};
 ghost use Rattle.md5.specs.Md5.{md5};
 ghost use Rattle.radius_carry.specs.Packet.{Attribute, attribute_octets, head_of, number_of, octets_of, spelled, max_value};
 ghost use Rattle.radius_carry.specs.Written.{blank_of, attributes_before_tag, field, pieces, packet_with_tag, sealed_packet, request_of, reply_of};
@@ -11,7 +11,7 @@ use crate::attributes::{EAP_MESSAGE, MESSAGE_AUTHENTICATOR};
 use crate::mac::Mac;
 use crate::view::RadiusKind;
 use byteorder::{BigEndian, ByteOrder};
-use eap_base::Octets;
+use octet_lists::Octets;
 use md5::{Digest, Md5};
 
 /// The Type of an attribute User-Name.

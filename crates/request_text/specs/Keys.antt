@@ -1,9 +1,9 @@
 -- The table of requests for ciphers, MACs and keys, and what each asks for.
 use Rattle.std.specs.Prelude.{ℕ, ◌≤◌, List, Bool, [], ◌∷◌, length, if◌then◌else◌, codes, Option, Some, None, find, unwrap_or, Result, Ok, Err}
 use Rattle.std.specs.Str.{bytes_eq}
-use Rattle.eap_base.specs.declared.suite.Suite.{Suite}
-use Rattle.eap_base.specs.declared.suite.Suite.TheVariants as suite
-use Rattle.eap_base.specs.Sizes.{max_name}
+use Rattle.octet_lists.specs.declared.suite.Suite.{Suite}
+use Rattle.octet_lists.specs.declared.suite.Suite.TheVariants as suite
+use Rattle.octet_lists.specs.Sizes.{max_name}
 use Rattle.text_tables.specs.Words.{words, is_passed_over}
 use Rattle.text_tables.specs.Fields.{◌>>=◌, word_in, octets_of}
 use Rattle.text_tables.specs.Rows.{Row, row, faults, unless, keyword_in, line_has}

@@ -1,7 +1,7 @@
 -- A text of RADIUS packets: the table of its lines, how far it has come, and what each line says.
 use Rattle.std.specs.Prelude.{ℕ, List, [], ◌∷◌, Bool, true, false, if◌then◌else◌, codes, Option, Some, None, Result}
 use Rattle.std.specs.Str.{bytes_eq}
-use Rattle.eap_base.specs.Sizes.{max_name, max_packet}
+use Rattle.octet_lists.specs.Sizes.{max_name, max_packet}
 use Rattle.text_tables.specs.Fields.{word_in, number, octets_of}
 use Rattle.text_tables.specs.Phases as phases
 use Rattle.text_tables.specs.Rows.{Row, row}

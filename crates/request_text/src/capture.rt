@@ -9,7 +9,7 @@ ghost use Rattle.text_tables.specs.Texts.{line_result};
 ghost use Rattle.text_tables.specs.declared.phase.Phase.TheVariants as phase;
 
 use crate::capture_line::{CAPTURE_WORDS, CaptureEntry, CaptureWord, entry_of};
-use eap_base::Octets;
+use octet_lists::Octets;
 use login_setup::Users;
 use std::marker::Model;
 use text_tables::{LineFault, Part, Phase, Text, add_user, read_line};

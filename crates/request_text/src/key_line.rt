@@ -6,7 +6,7 @@ ghost use Rattle.request_text.specs.declared.key_line.KeyLine.TheVariants as key
 ghost use Rattle.text_tables.specs.Fits.{Fits};
 ghost use Rattle.request_text.specs.Keys.{row_of, ciphersuite_of, asked_of, asked_by, key_line, read_into, asked_into, HasSizes};
 
-use eap_base::{MAX_NAME, Octets, Suite};
+use octet_lists::{MAX_NAME, Octets, Suite};
 use text_tables::{
     Field, LineFault, Row, TableWord, array, fault_of_words, is_comment, octets, read_keyword,
     word_in,

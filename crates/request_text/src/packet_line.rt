@@ -3,7 +3,7 @@
 ghost use Rattle.std.specs.Prelude.{◌≡◌};
 ghost use Rattle.request_text.specs.Packets.{packet_line};
 
-use eap_base::Octets;
+use octet_lists::Octets;
 use text_tables::{LineFault, is_comment, read_hex, word_count};
 
 /// The octets of a packet, 0 to 2,000, which the line has as one hex word, `-` for none. None for an

@@ -5,7 +5,7 @@ ghost use Rattle.text_tables.specs.Words.{words};
 ghost use Rattle.text_tables.specs.Fits.{Fits};
 ghost use Rattle.request_text.specs.Radius.{row_of, reply_of, item_of};
 
-use eap_base::{Identity, MAX_NAME, MAX_PACKET, Octets, Packet};
+use octet_lists::{Identity, MAX_NAME, MAX_PACKET, Octets, Packet};
 use text_tables::{Choices, Field, Row, TableWord, array, number, octets, word_in};
 
 /// The first word of a line of a text of RADIUS packets.

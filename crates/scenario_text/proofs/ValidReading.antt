@@ -8,7 +8,7 @@ use Rattle.std.proofs.lemmas.Slice.Eq.{bytes_eq-Decides}
 use Rattle.std.specs.Str.{bytes_eq}
 use Rattle.std.specs.List.{list_all}
 use Rattle.login_setup.specs.Keys.{key_of}
-use Rattle.eap_base.specs.Among.{is_among, psk_kind, gpsk_kind, is_kind}
+use Rattle.octet_lists.specs.Among.{is_among, psk_kind, gpsk_kind, is_kind}
 use Rattle.login_setup.specs.Setup.{are_kinds, are_suites, fits_kind, no_later}
 use Rattle.login_setup.specs.declared.event.Event.{Event}
 use Rattle.login_setup.specs.declared.setup.Accepts.TheVariants.{Any, One}

@@ -1,6 +1,6 @@
 -- The table of a scenario's lines: each keyword, and what the words after it stand for.
 use Rattle.std.specs.Prelude.{List, [], ◌∷◌, ◌++◌, codes}
-use Rattle.eap_base.specs.Sizes.{max_packet}
+use Rattle.octet_lists.specs.Sizes.{max_packet}
 use Rattle.text_tables.specs.Rows.{Row, row}
 use Rattle.text_tables.specs.declared.rows.Field.TheVariants.{Choice, Number, Kind, KindOrNone, OtherKind, Suite, OtherSuite, Name, Hex, Key}
 use Rattle.text_tables.specs.declared.rows.Choices.TheVariants as choices

@@ -1,6 +1,6 @@
 -- What every setting that was read keeps: its number, its name or its nonce is within its limits.
 use Rattle.std.specs.Prelude.{◌≡◌, ◌==◌, Bool, false, ◌≤◌, ◌<◌, length, IfSome, IsTrue, All, AllPairs, Option, ℕ, List}
-use Rattle.eap_base.specs.Among.{is_kind}
+use Rattle.octet_lists.specs.Among.{is_kind}
 use Rattle.login_setup.specs.Setup.{are_kinds, are_suites, fits_kind, no_later, IsSoundPeer, IsSoundServer, HasKeys}
 use Rattle.login_setup.specs.Keys.{max_keys}
 use Rattle.login_setup.specs.Users.{is_named, max_users}

@@ -1,7 +1,7 @@
 //! The lines of a scenario, and what each says.
 
 ghost use Rattle.std.specs.Prelude.{◌≡◌, ◌≤◌, length};
-ghost use Rattle.eap_base.specs.Sizes.{max_name};
+ghost use Rattle.octet_lists.specs.Sizes.{max_name};
 ghost use Rattle.text_tables.specs.Words.{words};
 ghost use Rattle.scenario_text.specs.Contents.{entry_with};
 ghost use Rattle.text_tables.specs.Fits.{Fits};
@@ -9,7 +9,7 @@ ghost use Rattle.scenario_text.specs.Keywords.{row_of};
 ghost use Rattle.scenario_text.specs.Entries.{accepts_of, kinds_of, suites_of, port_of, party_of, is_yes, mode_of, item_of, IsSet};
 
 use crate::keyword::Keyword;
-use eap_base::{Identity, Kinds, Nonce, Suites};
+use octet_lists::{Identity, Kinds, Nonce, Suites};
 use login_setup::{Accepts, Event, Key, Mode, Party, Port, User};
 use text_tables::{array, kind_of, name, number, octets, suite_of, word_count, word_in};
 

@@ -4,7 +4,7 @@ ghost use Rattle.std.specs.Prelude.{◌≡◌};
 ghost use Rattle.scenario_text.specs.Keywords.{row_of, keywords_in};
 
 use crate::version::Version;
-use eap_base::MAX_PACKET;
+use octet_lists::MAX_PACKET;
 use text_tables::{Choices, Field, Row, TableWord};
 
 /// The first word of a line.

@@ -7,7 +7,7 @@ ghost use Rattle.scenario_text.specs.Reading.{later_nonces, later_of, peer_setup
 use crate::entry::Setting;
 use crate::keyword::Keyword;
 use crate::version::Version;
-use eap_base::{Identity, Kinds, Nonce, Suites};
+use octet_lists::{Identity, Kinds, Nonce, Suites};
 use login_setup::{
     Accepts, Key, Keys, Later, MAX_KEYS, MAX_USERS, Mode, Nonces, PeerSetup, ServerSetup, Setup,
     Users,

@@ -2,7 +2,7 @@
 use Rattle.std.proofs.Common.{◌≡◌, ℕ, List, [], ◌∷◌, Bool, true, false, Some, refl, sym, ◌∙◌, ap}
 use Rattle.std.specs.Prelude.{◌==◌, ◌||◌, if◌then◌else◌}
 use Rattle.std.proofs.lemmas.Bool.{eqb-true, eqb-false}
-use Rattle.eap_base.specs.Among.{is_among}
+use Rattle.octet_lists.specs.Among.{is_among}
 use Rattle.eap_method.specs.Server.{ServerShown, server_kind, server_views, view_of}
 use Rattle.eap_method.proofs.ServerObjects.{view_hit, view_miss}
 use Rattle.eap_method.proofs.ServerViews.{view_none, not_identity}

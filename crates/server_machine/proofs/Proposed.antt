@@ -3,7 +3,7 @@ use Rattle.std.proofs.Common.{◌≡◌, ℕ, ◌<◌, ◌⊎◌, inl, inr, true
 use Rattle.std.specs.Prelude.{◌==◌}
 use Rattle.std.specs.List.{list_all}
 use Rattle.std.proofs.lemmas.Bool.{and_parts, or_cases, or_parts, eqb-true, eqb-false, ne_eqb, not-true}
-use Rattle.eap_base.specs.Among.{is_kind, is_among, are_distinct}
+use Rattle.octet_lists.specs.Among.{is_kind, is_among, are_distinct}
 use Rattle.login_setup.specs.Setup.{are_kinds}
 use Rattle.eap_method.proofs.Amongs.{each_one}
 

@@ -2,7 +2,7 @@
 use Rattle.std.proofs.Common.{◌≡◌, ℕ, ◌+◌, List, true, false, ◌&&◌, Option, Some, None, Result, Ok, Err, refl, ap, ◌∙◌}
 use Rattle.std.specs.Prelude.{◌==◌, nat_le}
 use Rattle.std.proofs.lemmas.Bool.{cond_both, and_parts, eqb-true}
-use Rattle.eap_base.specs.Among.{identity_kind, nak_kind}
+use Rattle.octet_lists.specs.Among.{identity_kind, nak_kind}
 use Rattle.eap_packet.specs.Fault.{packet_of}
 use Rattle.eap_packet.specs.Packet.{PacketValue, request, response, success, failure, spelled}
 use Rattle.eap_packet.specs.declared.cause.Cause.{Cause}

@@ -1,7 +1,7 @@
 -- A server that reads Expanded Types (RFC 3748 section 5.7): the transitions of its table are those of the plain form
 -- of a Response, and each Request of a method is wrapped. No transition of the table knows of them.
 use Rattle.std.specs.Prelude.{◌≡◌, ℕ, List, Bool, true, ◌==◌, ◌&&◌, ◌||◌, not, if◌then◌else◌, Option, Some, None, Result, Ok}
-use Rattle.eap_base.specs.Among.{expanded_kind, nak_kind}
+use Rattle.octet_lists.specs.Among.{expanded_kind, nak_kind}
 use Rattle.eap_packet.specs.Packet.{PacketValue, response, spelled}
 use Rattle.eap_packet.specs.Fault.{code_of, type_of, packet_of}
 use Rattle.eap_packet.specs.Expanded.{is_nak_body, inner_body, expanded_form, is_bad_expanded}

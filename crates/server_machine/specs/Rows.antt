@@ -1,6 +1,6 @@
 -- The transitions of the server's table (RFC 4137 sections 5 and 6), each with all that is then known.
 use Rattle.std.specs.Prelude.{◌≡◌, ℕ, ◌+◌, List, [], ◌∷◌, ◌++◌, true, false, ◌==◌, ◌&&◌, nat_le, Option, Some, None, Ok, Err}
-use Rattle.eap_base.specs.Among.{identity_kind, nak_kind}
+use Rattle.octet_lists.specs.Among.{identity_kind, nak_kind}
 use Rattle.eap_packet.specs.Fault.{packet_of}
 use Rattle.eap_packet.specs.Packet.{PacketValue, response, spelled}
 use Rattle.eap_packet.specs.declared.cause.Cause.{Cause}

@@ -1,7 +1,7 @@
 //! The backend of RFC 4137 section 6 over the objects of its methods.
 
 ghost use Rattle.std.specs.Prelude.{◌≡◌, [], ◌∷◌, ◌++◌, map, true, option_map, All, IsTrue};
-ghost use Rattle.eap_base.specs.Among.{is_kind};
+ghost use Rattle.octet_lists.specs.Among.{is_kind};
 ghost use Rattle.login_setup.specs.Setup.{IsSoundServer, fits_kind};
 ghost use Rattle.login_setup.specs.Users as users;
 ghost use Rattle.eap_method.specs.Peer.{have_each};
@@ -15,7 +15,7 @@ ghost use Rattle.server_machine.specs.declared.variables.Role.TheVariants as rol
 
 use crate::machine::ServerMachine;
 use crate::variables::Role;
-use eap_base::{Nonce, Packet};
+use octet_lists::{Nonce, Packet};
 use eap_method::{Records, Report, ServerMethod, Step, Tags};
 use eap_packet::State;
 use login_setup::{ServerSetup, User, Users};

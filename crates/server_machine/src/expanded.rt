@@ -1,7 +1,7 @@
 //! How a server that reads Expanded Types (RFC 3748 section 5.7) handles a Response and sends a Request.
 
 ghost use Rattle.std.specs.Prelude.{◌≡◌, ◌≤◌, ℕ, List, ◌==◌, false, if◌then◌else◌, length, slice_index};
-ghost use Rattle.eap_base.specs.Among.{nak_kind};
+ghost use Rattle.octet_lists.specs.Among.{nak_kind};
 ghost use Rattle.eap_packet.specs.Packet.{response, spelled, max_type_data};
 ghost use Rattle.eap_packet.specs.Expanded.{is_nak_body};
 ghost use Rattle.login_policy.specs.Policy.{nak_of};
@@ -14,7 +14,7 @@ ghost use Rattle.server_machine.specs.Expanded.{MayWrap, response_octets, takes_
 ghost use Rattle.server_machine.specs.ServerTable.{AreInOrder, answer, awaits_first};
 
 use crate::variables::{Role, ServerVariables};
-use eap_base::{EXPANDED, IETF, NAK, Packet, VENDOR_SIZE};
+use octet_lists::{EXPANDED, IETF, NAK, Packet, VENDOR_SIZE};
 use eap_packet::{Code, PacketView, State, encode_into, wrap, write_plain};
 use login_policy::expanded_kinds;
 

@@ -2,7 +2,7 @@
 //! 6).
 
 ghost use Rattle.std.specs.Prelude.{◌≡◌, ◌≤◌, [], ◌∷◌, ◌++◌, true, false, map, length, Some, None, Ok, option_copied, option_map, All, IsTrue, if◌then◌else◌};
-ghost use Rattle.eap_base.specs.Among.{is_among, is_kind};
+ghost use Rattle.octet_lists.specs.Among.{is_among, is_kind};
 ghost use Rattle.login_setup.specs.Setup.{IsSoundServer, are_suites, fits_kind};
 ghost use Rattle.login_setup.specs.Users as users;
 ghost use Rattle.eap_packet.specs.Packet.{spelled, value_of, IsPacket, max_type_data};
@@ -22,7 +22,7 @@ ghost use Rattle.server_machine.specs.ServerTable.{answer, before_proposal, iden
 use crate::expanded::{awaits_first, wrap_sent, write_taken};
 use crate::outcome::{end_badly, next_id, settle, settle_offer};
 use crate::variables::{Progress, Role, ServerVariables, Way};
-use eap_base::{IDENTITY, Kinds, NAK, Nonce, Packet};
+use octet_lists::{IDENTITY, Kinds, NAK, Nonce, Packet};
 use eap_method::{
     Records, Report, ServerMethod, ServerSide, ServerTurn, Step, Tags, begin_servers,
     hand_to_server, has_ended, offer_method, server_report,

@@ -1,7 +1,7 @@
 //! What follows a proposal, and a method's turn (RFC 4137 section 5.4): the variables, the packet and the step.
 
 ghost use Rattle.std.specs.Prelude.{◌≡◌, ◌≢◌, [], ◌∷◌, ◌++◌, false, true, not, Some, None, IsTrue, if◌then◌else◌};
-ghost use Rattle.eap_base.specs.Among.{is_among};
+ghost use Rattle.octet_lists.specs.Among.{is_among};
 ghost use Rattle.eap_packet.specs.Fault.{code_of};
 ghost use Rattle.eap_packet.specs.Packet.{spelled, value_with, has_type};
 ghost use Rattle.eap_packet.specs.declared.state.State.TheVariants.{ProposeMethod, MethodRequest, SendRequest, Idle, Failure};
@@ -16,7 +16,7 @@ ghost use Rattle.server_machine.specs.ServerTable.{views_after, AreInOrder};
 ghost use Rattle.server_machine.specs.declared.variables.Way.TheVariants.{AfterResponse};
 
 use crate::variables::{Progress, ServerVariables, Way};
-use eap_base::Packet;
+use octet_lists::Packet;
 use eap_method::{ServerTurn, Step};
 use eap_packet::{Code, State, encode_end_into};
 

@@ -1,6 +1,6 @@
 //! The server's variables.
 
-use eap_base::{Kinds, Packet};
+use octet_lists::{Kinds, Packet};
 use eap_packet::State;
 use login_setup::ServerSetup;
 

@@ -3,7 +3,7 @@ use Rattle.std.proofs.Common.{◌≡◌, ◌≢◌, ℕ, ◌+◌, ◌-◌, ◌�
 use Rattle.std.specs.Prelude.{◌==◌, ◌||◌, nat_lt}
 use Rattle.std.proofs.lemmas.Bool.{and_from, and_left, and_right, eqb-false, le-leb, le-ltb}
 use Rattle.std.proofs.lemmas.List.{take_all}
-use Rattle.eap_base.specs.Among.{expanded_kind, ietf}
+use Rattle.octet_lists.specs.Among.{expanded_kind, ietf}
 use Rattle.eap_packet.specs.Packet.{request, response, spelled, frame_of, two_octets}
 use Rattle.eap_packet.specs.Fault.{length_of, packet_of}
 use Rattle.eap_packet.specs.Expanded.{has_plain, is_ietf, is_nak_body, is_plain_body, is_bad_body, expanded_form}

@@ -6,11 +6,11 @@ use Rattle.std.proofs.lemmas.Bool.{and_parts, and_from, or_cases, or_parts, or_l
 use Rattle.std.proofs.lemmas.Bool.{cond_both, cases_Bool, both_ways}
 use Rattle.std.proofs.lemmas.Option.{same_Some}
 use Rattle.std.proofs.lemmas.Slice.Eq.{bytes_eq-Decides}
-use Rattle.eap_base.specs.declared.suite.Suite.{Suite}
-use Rattle.eap_base.specs.declared.suite.Suite.TheVariants.{Cmac, Hmac}
-use Rattle.eap_base.specs.Among.{is_among, are_distinct, is_filled}
+use Rattle.octet_lists.specs.declared.suite.Suite.{Suite}
+use Rattle.octet_lists.specs.declared.suite.Suite.TheVariants.{Cmac, Hmac}
+use Rattle.octet_lists.specs.Among.{is_among, are_distinct, is_filled}
 use Rattle.login_setup.specs.Setup.{are_suites}
-use Rattle.eap_base.specs.Suite.{suite_octets}
+use Rattle.octet_lists.specs.Suite.{suite_octets}
 use Rattle.eap_method.specs.GpskTags.{suite_list}
 use Rattle.login_policy.specs.Policy.{is_allowed, picked_suite, nak_of, next_kind}
 

@@ -3,11 +3,11 @@ use Rattle.std.proofs.Common.{◌≡◌, ℕ, ◌*◌, ◌≤◌, List, [], ◌�
 use Rattle.std.proofs.lemmas.Bool.{cond-true}
 use Rattle.login_setup.specs.declared.setup.PeerSetup.{PeerSetup}
 use Rattle.login_setup.specs.declared.setup.ServerSetup.{ServerSetup}
-use Rattle.eap_base.specs.declared.suite.Suite.{Suite}
+use Rattle.octet_lists.specs.declared.suite.Suite.{Suite}
 use Rattle.login_setup.specs.declared.users.User.{User}
-use Rattle.eap_base.specs.Among.{gpsk_kind, is_among}
+use Rattle.octet_lists.specs.Among.{gpsk_kind, is_among}
 use Rattle.login_setup.specs.Setup.{accepts_name}
-use Rattle.eap_base.specs.Suite.{ks_of}
+use Rattle.octet_lists.specs.Suite.{ks_of}
 use Rattle.login_setup.specs.Users.{user_of}
 use Rattle.gpsk_messages.specs.Message.{Message, mac_of, spelled}
 use Rattle.gpsk_messages.proofs.Grammar.{spellings_are_sized}

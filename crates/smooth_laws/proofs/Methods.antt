@@ -7,7 +7,7 @@ use Rattle.login_setup.specs.declared.setup.Mode.{Mode}
 use Rattle.login_setup.specs.declared.setup.ServerSetup.{ServerSetup}
 use Rattle.login_setup.specs.declared.setup.Setup.{Setup}
 use Rattle.login_setup.specs.declared.users.User.{User}
-use Rattle.eap_base.specs.Among.{psk_kind, gpsk_kind, is_kind, is_among, is_filled, are_distinct}
+use Rattle.octet_lists.specs.Among.{psk_kind, gpsk_kind, is_kind, is_among, is_filled, are_distinct}
 use Rattle.login_setup.specs.Setup.{accepts_name, are_kinds}
 use Rattle.login_setup.specs.Users.{user_of}
 use Rattle.eap_packet.specs.Packet.{request}

@@ -3,7 +3,7 @@ use Rattle.std.proofs.Common.{◌≡◌, ℕ, ◌≤◌, List, [], ◌∷◌, �
 use Rattle.std.specs.Prelude.{◌==◌, ◌||◌, nat_lt, not}
 use Rattle.std.specs.List.{list_all}
 use Rattle.std.proofs.lemmas.Bool.{and_parts, and_from, and_right, or_parts, not-true, cond-true, eqb-false, ne_eqb}
-use Rattle.eap_base.specs.Among.{is_kind, is_among, are_distinct, expanded_kind, ietf}
+use Rattle.octet_lists.specs.Among.{is_kind, is_among, are_distinct, expanded_kind, ietf}
 use Rattle.login_setup.specs.Setup.{are_kinds}
 use Rattle.eap_packet.specs.Packet.{response}
 use Rattle.eap_packet.specs.Fault.{packet_of}

@@ -6,7 +6,7 @@ use Rattle.login_setup.specs.declared.setup.Mode.TheVariants as mode
 use Rattle.login_setup.specs.declared.setup.PeerSetup.{PeerSetup}
 use Rattle.login_setup.specs.declared.setup.Port.TheVariants as port
 use Rattle.login_setup.specs.declared.setup.Setup.{Setup}
-use Rattle.eap_base.specs.Among.{is_among}
+use Rattle.octet_lists.specs.Among.{is_among}
 use Rattle.eap_packet.specs.Packet.{request, response, spelled}
 use Rattle.eap_packet.specs.Fault.{packet_of}
 use Rattle.eap_packet.specs.declared.state.State.TheVariants as state

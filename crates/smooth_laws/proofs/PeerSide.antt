@@ -3,7 +3,7 @@ use Rattle.std.proofs.Common.{◌≡◌, ℕ, ◌≤◌, List, [], ◌∷◌, �
 use Rattle.std.specs.Prelude.{◌==◌, ◌&&◌, if◌then◌else◌, Ok}
 use Rattle.std.proofs.lemmas.Bool.{and_from, and_left, cond-true, cond-false, eq-eqb}
 use Rattle.login_setup.specs.declared.setup.PeerSetup.{PeerSetup}
-use Rattle.eap_base.specs.Among.{is_among, expanded_kind, ietf}
+use Rattle.octet_lists.specs.Among.{is_among, expanded_kind, ietf}
 use Rattle.eap_packet.specs.Packet.{PacketValue, request, response, success, spelled}
 use Rattle.eap_packet.specs.Fault.{packet_of}
 use Rattle.eap_packet.specs.Expanded.{has_plain_form, is_bad_expanded, expanded_form}

@@ -6,7 +6,7 @@ use Rattle.cmac_mac.proofs.Laws.{length_aes_cmac}
 use Rattle.login_setup.specs.declared.setup.PeerSetup.{PeerSetup}
 use Rattle.login_setup.specs.declared.setup.ServerSetup.{ServerSetup}
 use Rattle.login_setup.specs.declared.users.User.{User}
-use Rattle.eap_base.specs.Among.{psk_kind, is_among}
+use Rattle.octet_lists.specs.Among.{psk_kind, is_among}
 use Rattle.login_setup.specs.Setup.{accepts_name}
 use Rattle.login_setup.specs.Users.{user_of}
 use Rattle.psk_messages.specs.Message.{Message, psk1, spelled}

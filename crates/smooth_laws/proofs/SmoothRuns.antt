@@ -9,7 +9,7 @@ use Rattle.login_setup.specs.declared.event.Event.TheVariants.{Deliver}
 use Rattle.login_setup.specs.declared.setup.Mode.{Mode}
 use Rattle.login_setup.specs.declared.setup.Mode.TheVariants as mode
 use Rattle.login_setup.specs.declared.setup.Setup.{Setup}
-use Rattle.eap_base.specs.Among.{is_among, is_kind, are_distinct}
+use Rattle.octet_lists.specs.Among.{is_among, is_kind, are_distinct}
 use Rattle.login_policy.specs.Policy.{next_kind, nak_of}
 use Rattle.eap_method.specs.Server.{ServerViews, views_begun}
 use Rattle.eap_world.specs.Run.{run_of}

@@ -10,8 +10,8 @@ use Rattle.login_setup.specs.declared.setup.PeerSetup.{PeerSetup}
 use Rattle.login_setup.specs.declared.setup.ServerSetup.{ServerSetup}
 use Rattle.login_setup.specs.declared.setup.Setup.{Setup}
 use Rattle.login_setup.specs.declared.users.User.{User}
-use Rattle.eap_base.specs.Among.{gpsk_kind, is_among}
-use Rattle.eap_base.specs.Sizes.{max_name}
+use Rattle.octet_lists.specs.Among.{gpsk_kind, is_among}
+use Rattle.octet_lists.specs.Sizes.{max_name}
 use Rattle.login_setup.specs.Setup.{accepts_name}
 use Rattle.login_setup.specs.Users.{user_of}
 use Rattle.eap_method.specs.Peer.{key_for}

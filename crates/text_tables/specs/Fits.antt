@@ -2,7 +2,7 @@
 use Rattle.std.specs.Prelude.{◌≡◌, ℕ, ◌+◌, ◌<◌, ◌≤◌, List, [], ◌∷◌, length, Bool, true, false, nat_le, IsTrue}
 use Rattle.login_setup.specs.Setup.{fits_kind}
 use Rattle.std.specs.Str.{bytes_eq}
-use Rattle.eap_base.specs.Sizes.{max_name}
+use Rattle.octet_lists.specs.Sizes.{max_name}
 use Rattle.text_tables.specs.Fields.{word_in, number, spells_octets, octets_of, spells_kind, kind_of, spells_suite}
 use Rattle.text_tables.specs.Rows.{Row, field_has, any_has, is_choice, is_kind_or_none}
 use Rattle.text_tables.specs.declared.fault.LineFault.{LineFault}

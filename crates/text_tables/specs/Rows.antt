@@ -2,7 +2,7 @@
 use Rattle.std.specs.Prelude.{ℕ, ◌+◌, ◌-◌, List, [], ◌∷◌, length, Bool, false, ◌&&◌, ◌||◌, not, nat_lt, nat_le, if◌then◌else◌, codes, Option, Some, None, is_some, find, ok_or, Result, Ok, Err}
 use Rattle.std.specs.List.{list_any}
 use Rattle.std.specs.Str.{bytes_eq}
-use Rattle.eap_base.specs.Sizes.{max_name}
+use Rattle.octet_lists.specs.Sizes.{max_name}
 use Rattle.login_setup.specs.Setup.{fits_kind}
 use Rattle.text_tables.specs.Words.{words, is_printable}
 use Rattle.text_tables.specs.Fields.{word_in, is_dash, spells_number, spells_octets, octets_of, spells_kind, kind_of, spells_suite}

@@ -1,7 +1,7 @@
 -- The users that the words of a command name: NAME KIND HEX, and so on.
 use Rattle.std.specs.Prelude.{ℕ, List, [], ◌∷◌, ◌++◌, length, Bool, true, false, ◌&&◌, not, nat_lt, nat_le, if◌then◌else◌, Option, Some, None, is_some}
 use Rattle.std.specs.List.{list_all}
-use Rattle.eap_base.specs.Sizes.{max_name}
+use Rattle.octet_lists.specs.Sizes.{max_name}
 use Rattle.login_setup.specs.Setup.{fits_kind}
 use Rattle.login_setup.specs.Users.{user_of}
 use Rattle.login_setup.specs.declared.users.User.{User}

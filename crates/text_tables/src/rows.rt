@@ -12,7 +12,7 @@ use crate::fields::{
     kind_of, octet_count, spells_kind, spells_number, spells_octets, spells_suite,
 };
 use crate::words::{is_printable_line, word_count, word_in};
-use eap_base::{GPSK_KIND, MAX_NAME, PSK_KIND};
+use octet_lists::{GPSK_KIND, MAX_NAME, PSK_KIND};
 
 /// What a word after a keyword stands for. A place is that of a word in the line, 0 for the keyword.
 #[derive(Clone, Copy)]

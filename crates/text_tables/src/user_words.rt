@@ -6,7 +6,7 @@ ghost use Rattle.text_tables.specs.UserWords.{is_visible, is_name, is_key, user_
 
 use crate::fields::{kind_of, name, octets, spells_kind, spells_octets};
 use crate::rows::{fits_kind, is_within};
-use eap_base::MAX_NAME;
+use octet_lists::MAX_NAME;
 use login_setup::{User, Users};
 
 /// Adds the users that the words name, three words each: a name of 1 to 253 octets from 21 to 7e, a

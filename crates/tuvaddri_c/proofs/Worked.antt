@@ -1,6 +1,6 @@
 -- Worked values of the definitions.
 use Rattle.std.proofs.Common.{◌≡◌, ℕ, List, [], ◌∷◌, ◌++◌, Some, None, codes, replicate, refl}
-use Rattle.eap_base.specs.declared.suite.Suite.TheVariants.{Cmac}
+use Rattle.octet_lists.specs.declared.suite.Suite.TheVariants.{Cmac}
 use Rattle.eap_packet.specs.Fault.{fault, packet_of}
 use Rattle.eap_packet.specs.Packet.{spelled}
 use Rattle.psk_messages.specs.Reading.{read_of}

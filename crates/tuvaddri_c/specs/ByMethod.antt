@@ -1,9 +1,9 @@
 -- What each method has its own of: a view that has just begun, the peer's name and the Failure-Code in a Response, the
 -- Failure-Code that a server sends, and the Session-Id of a login (RFC 5247 section 1.4).
 use Rattle.std.specs.Prelude.{ℕ, List, ◌==◌, if◌then◌else◌, Option, None}
-use Rattle.eap_base.specs.Among.{psk_kind, gpsk_kind}
-use Rattle.eap_base.specs.Suite.{suite_numbered}
-use Rattle.eap_base.specs.declared.suite.Suite.{Suite}
+use Rattle.octet_lists.specs.Among.{psk_kind, gpsk_kind}
+use Rattle.octet_lists.specs.Suite.{suite_numbered}
+use Rattle.octet_lists.specs.declared.suite.Suite.{Suite}
 use Rattle.psk_messages.specs.Reading as psk_reading
 use Rattle.gpsk_messages.specs.Reading as gpsk_reading
 use Rattle.eap_method.specs.Peer as peer

@@ -1,9 +1,9 @@
 -- What is of EAP-GPSK alone: the peer's name and the Failure-Code in a Response, the shared key, and the Session-Id of a
 -- login (RFC 5247 section 1.4).
 use Rattle.std.specs.Prelude.{◌++◌, ℕ, List, ◌∷◌, length, take, replicate, codes, nat_lt, nat_le, if◌then◌else◌, Option, Some, None, option_map, Result, Ok}
-use Rattle.eap_base.specs.Among.{gpsk_kind}
-use Rattle.eap_base.specs.Suite.{ks_of, suite_octets}
-use Rattle.eap_base.specs.declared.suite.Suite.{Suite}
+use Rattle.octet_lists.specs.Among.{gpsk_kind}
+use Rattle.octet_lists.specs.Suite.{ks_of, suite_octets}
+use Rattle.octet_lists.specs.declared.suite.Suite.{Suite}
 use Rattle.login_setup.specs.Keys.{key_of}
 use Rattle.login_setup.specs.Users.{user_of}
 use Rattle.login_setup.specs.declared.keys.Key.{Key}

@@ -1,6 +1,6 @@
 -- A server's one user, given while it runs.
 use Rattle.std.specs.Prelude.{◌≡◌, ℕ, Bool, true, false, if◌then◌else◌}
-use Rattle.eap_base.specs.Among.{is_among}
+use Rattle.octet_lists.specs.Among.{is_among}
 use Rattle.eap_method.specs.Server.{server_kind}
 use Rattle.end_objects.specs.Objects.{server_object_shown}
 use Rattle.end_objects.specs.Settings.{SettingsValue, keyed_kinds, users_of}

@@ -2,7 +2,7 @@
 //! sends, the user of a server, and the Session-Id of a login.
 
 ghost use Rattle.std.specs.Prelude.{◌≡◌, ◌≤◌, [], length, Some, None, IfSome};
-ghost use Rattle.eap_base.specs.Sizes.{max_name};
+ghost use Rattle.octet_lists.specs.Sizes.{max_name};
 ghost use Rattle.server_machine.specs.ServerTable.{with_users};
 ghost use Rattle.end_objects.specs.Refusals.{IsSoundOther};
 ghost use Rattle.end_objects.specs.Settings.{settings_of, users_of};
@@ -13,7 +13,7 @@ use crate::gpsk::{front_id, gpsk_id, gpsk_name, repeated_code};
 use crate::psk::{psk_id, psk_name};
 use crate::session_id::SessionId;
 use crate::users::HasUsers;
-use eap_base::{GPSK_KIND, PSK_KIND, Secret, Suite};
+use octet_lists::{GPSK_KIND, PSK_KIND, Secret, Suite};
 use eap_method::Report;
 use end_objects::{Nonces, Settings, user_of};
 

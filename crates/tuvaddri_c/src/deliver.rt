@@ -13,7 +13,7 @@ ghost use Rattle.tuvaddri_c.specs.Turns.{PeerDoes, ServerDoes, IsMisplaced};
 use crate::handle::TuvEnd;
 use crate::session::End;
 use crate::turn::TuvTurn;
-use eap_base::Packet;
+use octet_lists::Packet;
 use eap_method::{NoRecords, Tags};
 
 /// Octets arrive at a peer, a stand-alone server that has started, or a backend.

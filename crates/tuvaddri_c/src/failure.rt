@@ -8,7 +8,7 @@ ghost use Rattle.tuvaddri_c.specs.Failures.{failing, code_in, sent_code, peer_fa
 use crate::by_method::{code_by, repeated_by};
 use crate::handle::TuvEnd;
 use crate::session::End;
-use eap_base::Packet;
+use octet_lists::Packet;
 use eap_method::ServerMethod;
 use eap_packet::{Code, State, decode, write_plain};
 use end_objects::{PeerObject, ServerObject};

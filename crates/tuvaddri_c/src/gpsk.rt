@@ -2,14 +2,14 @@
 //! login.
 
 ghost use Rattle.std.specs.Prelude.{◌≡◌, ◌≤◌, length, Some, None, IfSome};
-ghost use Rattle.eap_base.specs.Sizes.{max_name};
-ghost use Rattle.eap_base.specs.Suite.{ks_of};
+ghost use Rattle.octet_lists.specs.Sizes.{max_name};
+ghost use Rattle.octet_lists.specs.Suite.{ks_of};
 ghost use Rattle.gpsk_messages.specs.Reading.{read_of};
 ghost use Rattle.tuvaddri_c.specs.Gpsk.{gpsk_name, known_code, repeated_code, key_in, own_key, end_key, front_of, gpsk_session_id, keyed_id};
 
 use crate::session::End;
 use crate::session_id::SessionId;
-use eap_base::{GPSK_KIND, Secret, Suite};
+use octet_lists::{GPSK_KIND, Secret, Suite};
 use eap_method::Report;
 use end_objects::Nonces;
 use gpsk_messages::{GpskView, read_gpsk};

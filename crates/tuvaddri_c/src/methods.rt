@@ -18,7 +18,7 @@ use crate::answers::{BEGUN, number_of_refusal};
 use crate::handle::TuvEnd;
 use crate::method_turn::TuvMethodTurn;
 use crate::session::{End, Known};
-use eap_base::{Nonce, Packet, Secret};
+use octet_lists::{Nonce, Packet, Secret};
 use eap_method::{NoRecords, PeerMethod, ServerMethod, Tags};
 use eap_packet::{Cause, Code, decode};
 use end_objects::{

@@ -1,14 +1,14 @@
 //! The peer's name in a Response, for a program that looks its user up.
 
 ghost use Rattle.std.specs.Prelude.{◌≡◌, ◌≤◌, length, Some, None, IfSome};
-ghost use Rattle.eap_base.specs.Sizes.{max_name};
+ghost use Rattle.octet_lists.specs.Sizes.{max_name};
 ghost use Rattle.eap_packet.specs.Fault.{packet_of};
 ghost use Rattle.tuvaddri_c.specs.PeerName.{name_in, response_name};
 ghost use Rattle.tuvaddri_c.specs.Rooms.{IsWritten, octets_of};
 
 use crate::by_method::name_by;
 use crate::rooms::write_octets;
-use eap_base::{MAX_NAME, Packet};
+use octet_lists::{MAX_NAME, Packet};
 use eap_packet::{Code, decode, write_plain};
 
 /// The name in the packet that the octets begin with.

@@ -12,7 +12,7 @@ use crate::answers::{BEGUN, number_of_refusal};
 use crate::handle::TuvEnd;
 use crate::session::End;
 use crate::turn::TuvTurn;
-use eap_base::Packet;
+use octet_lists::Packet;
 use end_objects::retry_refusal;
 use pass_through::PassThrough;
 

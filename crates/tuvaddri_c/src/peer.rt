@@ -17,7 +17,7 @@ use crate::answers::{BEGUN, NO_MEMORY, number_of_refusal};
 use crate::handle::TuvEnd;
 use crate::session::End;
 use crate::turn::TuvTurn;
-use eap_base::{Nonce, Packet};
+use octet_lists::{Nonce, Packet};
 use end_objects::{PeerObject, Settings, kinds_of, peer_objects, peer_refusal, peer_setup};
 use peer_machine::PeerMachine;
 use std::alloc::Global;

@@ -1,12 +1,12 @@
 //! What is of EAP-PSK alone: the peer's name in a Response, and the Session-Id of a login.
 
 ghost use Rattle.std.specs.Prelude.{◌≡◌, ◌≤◌, length, Some, None, IfSome};
-ghost use Rattle.eap_base.specs.Sizes.{max_name};
+ghost use Rattle.octet_lists.specs.Sizes.{max_name};
 ghost use Rattle.psk_messages.specs.Reading.{read_of};
 ghost use Rattle.tuvaddri_c.specs.Psk.{psk_name, psk_session_id, fitting};
 
 use crate::session_id::{MAX_ID, SessionId};
-use eap_base::PSK_KIND;
+use octet_lists::PSK_KIND;
 use end_objects::Nonces;
 use psk_messages::{PskView, read_psk};
 

@@ -6,7 +6,7 @@ ghost use Rattle.tuvaddri_c.specs.Reports.{report_size, both, end_held, object_h
 use crate::handle::TuvEnd;
 use crate::held::{Object, object_of};
 use crate::rooms::write_octets;
-use eap_base::MAX_NAME;
+use octet_lists::MAX_NAME;
 use eap_method::{PeerMethod, Report, ServerMethod};
 use end_objects::Nonces;
 

@@ -13,7 +13,7 @@ ghost use Rattle.tuvaddri_c.specs.Turns.{PeerDoes, ServerDoes, IsMisplaced};
 use crate::handle::TuvEnd;
 use crate::session::End;
 use crate::turn::TuvTurn;
-use eap_base::{Nonce, Packet};
+use octet_lists::{Nonce, Packet};
 
 /// A new conversation begins, with this nonce and the settings that the end has, in any state, also before a
 /// server's start: of a peer, a stand-alone server or a backend, each of whose methods has an object, as its begin

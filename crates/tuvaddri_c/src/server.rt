@@ -20,7 +20,7 @@ use crate::by_method::add_users;
 use crate::handle::TuvEnd;
 use crate::session::End;
 use crate::turn::TuvTurn;
-use eap_base::{Nonce, Packet};
+use octet_lists::{Nonce, Packet};
 use end_objects::{
     ServerObject, Settings, kinds_of, server_alone, server_objects, server_refusal,
     stand_alone_refusal,

@@ -3,7 +3,7 @@
 ghost use Rattle.std.specs.Prelude.{All, IsTrue};
 ghost use Rattle.login_setup.specs.Setup.{fits_kind};
 
-use eap_base::{Packet, Secret};
+use octet_lists::{Packet, Secret};
 use end_objects::{PeerObject, ServerObject};
 use login_setup::Users;
 use pass_through::PassThrough;

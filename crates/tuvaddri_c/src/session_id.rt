@@ -13,7 +13,7 @@ use crate::handle::TuvEnd;
 use crate::held::object_of;
 use crate::rooms::write_octets;
 use crate::session::End;
-use eap_base::Octets;
+use octet_lists::Octets;
 use eap_method::Report;
 use end_objects::Nonces;
 

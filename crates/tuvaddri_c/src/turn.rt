@@ -5,7 +5,7 @@ ghost use Rattle.tuvaddri_c.specs.Sent.{after_silence, after_turn};
 ghost use Rattle.tuvaddri_c.specs.Turns.{turn_of, no_turn, cause_number, state_number};
 
 use crate::session::Sent;
-use eap_base::Packet;
+use octet_lists::Packet;
 use eap_method::Step;
 use eap_packet::{Cause, State};
 

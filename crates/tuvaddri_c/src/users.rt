@@ -1,7 +1,7 @@
 //! The users of a server: those that it is given one by one, and the one that is given while it runs.
 
 ghost use Rattle.std.specs.Prelude.{◌≡◌, [], ◌∷◌, ◌++◌, true, false, None, All, IsTrue, IfSome, if◌then◌else◌};
-ghost use Rattle.eap_base.specs.Among.{is_kind};
+ghost use Rattle.octet_lists.specs.Among.{is_kind};
 ghost use Rattle.login_setup.specs.Setup.{fits_kind};
 ghost use Rattle.login_setup.specs.Users.{HasRoom};
 ghost use Rattle.server_machine.specs.ServerTable.{with_users};
@@ -15,7 +15,7 @@ ghost use Rattle.tuvaddri_c.specs.Users.{has_users, TakesUser};
 use crate::answers::{BAD_KEY, BEGUN, NO_PLACE, number_of_refusal};
 use crate::handle::TuvEnd;
 use crate::session::{End, Known};
-use eap_base::is_among;
+use octet_lists::is_among;
 use eap_method::ServerMethod;
 use end_objects::{ServerObject, Settings, keyed_kinds, user_refusal, users_of};
 use login_setup::{User, Users};

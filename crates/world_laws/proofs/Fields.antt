@@ -1,9 +1,9 @@
 -- Two joins that are equal, cut into their parts.
 use Rattle.std.proofs.Common.{◌≡◌, ℕ, ◌/◌, ◌%◌, List, ◌∷◌, ◌++◌, length, take, drop, refl, sym, ap, ◌∙◌, length-append, take_at, arith}
 use Rattle.std.proofs.lemmas.List.{drop_at}
-use Rattle.eap_base.specs.declared.suite.Suite.{Suite}
-use Rattle.eap_base.specs.declared.suite.Suite.TheVariants.{Cmac, Hmac}
-use Rattle.eap_base.specs.Suite.{suite_octets}
+use Rattle.octet_lists.specs.declared.suite.Suite.{Suite}
+use Rattle.octet_lists.specs.declared.suite.Suite.TheVariants.{Cmac, Hmac}
+use Rattle.octet_lists.specs.Suite.{suite_octets}
 use Rattle.gpsk_messages.specs.Message.{field_with_length}
 
 -- fronts of equal length

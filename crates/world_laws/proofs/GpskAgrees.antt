@@ -4,8 +4,8 @@ use Rattle.std.proofs.lemmas.Bool.{and_from, not_from_false}
 use Rattle.login_setup.specs.declared.setup.PeerSetup.{PeerSetup}
 use Rattle.login_setup.specs.declared.setup.ServerSetup.{ServerSetup}
 use Rattle.login_setup.specs.declared.setup.Setup.{Setup}
-use Rattle.eap_base.specs.Among.{gpsk_kind}
-use Rattle.eap_base.specs.Suite.{suite_octets}
+use Rattle.octet_lists.specs.Among.{gpsk_kind}
+use Rattle.octet_lists.specs.Suite.{suite_octets}
 use Rattle.gpsk_messages.specs.Message.{field_with_length, covered_of}
 use Rattle.login_setup.specs.Users.{user_of}
 use Rattle.login_policy.proofs.Choices.{picked_is_allowed}

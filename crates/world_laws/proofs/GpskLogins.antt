@@ -2,7 +2,7 @@
 use Rattle.std.proofs.Common.{◌≡◌, ℕ, true, false, List, [], ◌∷◌, ◌++◌, length, Option, Some, refl, sym, ap, subst, ◌∙◌, inl, inr}
 use Rattle.login_setup.specs.declared.setup.PeerSetup.{PeerSetup}
 use Rattle.login_setup.specs.declared.setup.ServerSetup.{ServerSetup}
-use Rattle.eap_base.specs.Among.{gpsk_kind}
+use Rattle.octet_lists.specs.Among.{gpsk_kind}
 use Rattle.login_setup.specs.Users.{user_of}
 use Rattle.eap_method.specs.declared.values.ServerSide.{ServerSide}
 use Rattle.eap_method.specs.declared.tags.TagRecord.{TagRecord}

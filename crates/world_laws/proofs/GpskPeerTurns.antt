@@ -2,8 +2,8 @@
 use Rattle.std.proofs.Common.{◌≡◌, ℕ, List, [], ◌∷◌, ◌++◌, Bool, true, false, if◌then◌else◌, Some, None, Ok, refl, sym, ap, ◌∙◌, subst, arith, inl, inr}
 use Rattle.std.proofs.lemmas.Bool.{true≢false}
 use Rattle.login_setup.specs.declared.setup.PeerSetup.{PeerSetup}
-use Rattle.eap_base.specs.declared.suite.Suite.{Suite}
-use Rattle.eap_base.specs.Among.{gpsk_kind, is_among}
+use Rattle.octet_lists.specs.declared.suite.Suite.{Suite}
+use Rattle.octet_lists.specs.Among.{gpsk_kind, is_among}
 use Rattle.login_setup.specs.Setup.{accepts_name}
 use Rattle.gpsk_messages.specs.Message.{Message, gpsk1, gpsk3, protected_fail, covered_of}
 use Rattle.gpsk_messages.specs.Reading as gpsk_reading

@@ -3,7 +3,7 @@ use Rattle.std.proofs.Common.{◌≡◌, ℕ, ◌≤◌, List, [], ◌∷◌, �
 use Rattle.std.specs.Int.{w32, to_be_bytes}
 use Rattle.login_setup.specs.declared.setup.PeerSetup.{PeerSetup}
 use Rattle.login_setup.specs.declared.setup.ServerSetup.{ServerSetup}
-use Rattle.eap_base.specs.Suite.{suite_octets}
+use Rattle.octet_lists.specs.Suite.{suite_octets}
 use Rattle.gpsk_messages.specs.Message.{covered_of, field_with_length}
 use Rattle.eap_method.specs.declared.tags.TagRecord.{TagRecord}
 use Rattle.eap_method.specs.declared.values.ServerSide.{ServerSide}

@@ -2,10 +2,10 @@
 use Rattle.std.proofs.Common.{◌≡◌, ℕ, List, [], ◌∷◌, ◌++◌, Bool, true, false, Some, None, Ok, refl, ap, sym, subst, ◌∙◌, arith}
 use Rattle.std.proofs.lemmas.Bool.{false≢true}
 use Rattle.login_setup.specs.declared.setup.ServerSetup.{ServerSetup}
-use Rattle.eap_base.specs.declared.suite.Suite.{Suite}
+use Rattle.octet_lists.specs.declared.suite.Suite.{Suite}
 use Rattle.login_setup.specs.declared.users.User.{User}
-use Rattle.eap_base.specs.Among.{gpsk_kind, is_among}
-use Rattle.eap_base.specs.Suite.{suite_number}
+use Rattle.octet_lists.specs.Among.{gpsk_kind, is_among}
+use Rattle.octet_lists.specs.Suite.{suite_number}
 use Rattle.login_setup.specs.Users.{user_of}
 use Rattle.gpsk_messages.specs.Message.{Message, gpsk2, gpsk4, protected_fail, covered_of}
 use Rattle.gpsk_messages.specs.Reading as gpsk_reading

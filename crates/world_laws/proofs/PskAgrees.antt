@@ -4,7 +4,7 @@ use Rattle.std.proofs.lemmas.Bool.{and_from, not_from_false}
 use Rattle.login_setup.specs.declared.setup.PeerSetup.{PeerSetup}
 use Rattle.login_setup.specs.declared.setup.ServerSetup.{ServerSetup}
 use Rattle.login_setup.specs.declared.setup.Setup.{Setup}
-use Rattle.eap_base.specs.Among.{psk_kind, gpsk_kind}
+use Rattle.octet_lists.specs.Among.{psk_kind, gpsk_kind}
 use Rattle.login_setup.specs.Users.{user_of}
 use Rattle.eap_method.specs.declared.tags.Label.TheVariants.{Ak, Tek}
 use Rattle.eap_method.specs.declared.tags.TagRecord.{TagRecord}

@@ -2,7 +2,7 @@
 -- match also where tags came back to it.
 use Rattle.std.proofs.Common.{◌≡◌, true, List, [], Some, refl, sym, subst, ◌∙◌, inl, inr}
 use Rattle.login_setup.specs.declared.setup.Setup.{Setup}
-use Rattle.eap_base.specs.Among.{gpsk_kind, psk_kind}
+use Rattle.octet_lists.specs.Among.{gpsk_kind, psk_kind}
 use Rattle.eap_method.specs.declared.tags.TagRecord.{TagRecord}
 use Rattle.eap_method.specs.PskTags.{tek_record}
 use Rattle.server_machine.specs.ServerTable as servers

@@ -2,7 +2,7 @@
 use Rattle.std.proofs.Common.{◌≡◌, ℕ, List, [], ◌∷◌, ◌++◌, Bool, true, false, if◌then◌else◌, Some, None, Ok, refl, sym, ap, subst, arith, inl, inr}
 use Rattle.std.proofs.lemmas.Bool.{true≢false}
 use Rattle.login_setup.specs.declared.setup.PeerSetup.{PeerSetup}
-use Rattle.eap_base.specs.Among.{psk_kind, is_among}
+use Rattle.octet_lists.specs.Among.{psk_kind, is_among}
 use Rattle.login_setup.specs.Setup.{accepts_name}
 use Rattle.psk_messages.specs.Message.{psk1}
 use Rattle.psk_messages.specs.Reading as psk_reading

@@ -3,7 +3,7 @@
 use Rattle.std.proofs.Common.{◌≡◌, ℕ, false, List, ◌∷◌, length, Option, Some, refl, sym, ap, subst, ◌∙◌}
 use Rattle.login_setup.specs.declared.setup.PeerSetup.{PeerSetup}
 use Rattle.login_setup.specs.declared.setup.ServerSetup.{ServerSetup}
-use Rattle.eap_base.specs.Among.{psk_kind, gpsk_kind}
+use Rattle.octet_lists.specs.Among.{psk_kind, gpsk_kind}
 use Rattle.eap_method.specs.declared.tags.TagRecord.{TagRecord}
 use Rattle.eap_method.specs.GpskServer as gpsk_server
 use Rattle.eap_method.specs.GpskTags.{sk_record}

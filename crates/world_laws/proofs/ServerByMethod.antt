@@ -4,7 +4,7 @@ use Rattle.std.specs.Prelude.{◌==◌}
 use Rattle.std.proofs.lemmas.Bool.{cond_both, eqb-true}
 use Rattle.login_setup.specs.declared.setup.ServerSetup.{ServerSetup}
 use Rattle.login_setup.specs.declared.users.User.{User}
-use Rattle.eap_base.specs.Among.{psk_kind, gpsk_kind, is_among, identity_kind}
+use Rattle.octet_lists.specs.Among.{psk_kind, gpsk_kind, is_among, identity_kind}
 use Rattle.eap_packet.specs.declared.cause.Cause.{Cause}
 use Rattle.login_policy.proofs.Choices.{next_is_ordered}
 use Rattle.eap_method.specs.declared.tags.TagRecord.{TagRecord}

@@ -2,7 +2,7 @@
 use Rattle.std.proofs.Common.{◌≡◌, ℕ, ◌-◌, List, [], take, drop, true, Result, Ok, Err, refl, subst}
 use Rattle.std.specs.Prelude.{◌==◌, if◌then◌else◌}
 use Rattle.std.proofs.lemmas.Bool.{cond_both, cond-true}
-use Rattle.eap_base.specs.Among.{is_kind}
+use Rattle.octet_lists.specs.Among.{is_kind}
 use Rattle.eap_packet.specs.Expanded.{inner_kind, inner_body, is_wrapped}
 use Rattle.eap_packet.specs.Packet.{PacketValue, request, response, success, failure, spelled}
 use Rattle.eap_packet.specs.Fault.{code_of, length_of, type_of, fields_of, packet_of}

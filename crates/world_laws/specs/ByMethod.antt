@@ -3,7 +3,7 @@
 use Rattle.std.specs.Prelude.{◌≡◌, ℕ, List, [], Bool, true, false, ◌==◌, Option, None, Some}
 use Rattle.login_setup.specs.declared.setup.PeerSetup.{PeerSetup}
 use Rattle.login_setup.specs.declared.setup.ServerSetup.{ServerSetup}
-use Rattle.eap_base.specs.Among.{psk_kind, gpsk_kind, identity_kind}
+use Rattle.octet_lists.specs.Among.{psk_kind, gpsk_kind, identity_kind}
 use Rattle.eap_method.specs.declared.tags.TagRecord.{TagRecord}
 use Rattle.eap_method.specs.declared.values.Report.{Report}
 use Rattle.eap_method.specs.GpskPeer as gpsk_peer

@@ -1,9 +1,9 @@
 -- What the laws say of EAP-GPSK alone: of the whole nonces, each name, and the suite. Of another method each says nothing.
 use Rattle.std.specs.Prelude.{◌≡◌, ℕ, List, Option, Some}
 use Rattle.login_setup.specs.declared.setup.Setup.{Setup}
-use Rattle.eap_base.specs.declared.suite.Suite.{Suite}
-use Rattle.eap_base.specs.Among.{gpsk_kind}
-use Rattle.eap_base.specs.Suite.{suite_number}
+use Rattle.octet_lists.specs.declared.suite.Suite.{Suite}
+use Rattle.octet_lists.specs.Among.{gpsk_kind}
+use Rattle.octet_lists.specs.Suite.{suite_number}
 use Rattle.login_policy.specs.Policy.{picked_suite}
 use Rattle.eap_method.specs.declared.values.Report.{Report}
 use Rattle.eap_method.specs.GpskTags.{suite_list}

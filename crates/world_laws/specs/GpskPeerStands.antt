@@ -1,7 +1,7 @@
 -- What a view of EAP-GPSK at the peer has and tells: RAND_Server, the report that its login leads to, and its tags.
 use Rattle.std.specs.Prelude.{◌≡◌, ℕ, List, [], ◌∷◌, length, true, false, Option, None, Some}
 use Rattle.login_setup.specs.declared.setup.PeerSetup.{PeerSetup}
-use Rattle.eap_base.specs.Among.{gpsk_kind, is_among}
+use Rattle.octet_lists.specs.Among.{gpsk_kind, is_among}
 use Rattle.login_setup.specs.Setup.{accepts_name}
 use Rattle.gpsk_messages.specs.Message.{Message, gpsk3}
 use Rattle.login_policy.specs.Policy.{picked_suite}

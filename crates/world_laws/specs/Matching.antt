@@ -1,6 +1,6 @@
 -- Matching conversations: each one in SUCCESS, present or past, rests on one of the other end, and no two of an end on the same.
 use Rattle.std.specs.Prelude.{◌≡◌, List, ◌∷◌, map, true, None, Some}
-use Rattle.eap_base.specs.Among.{psk_kind}
+use Rattle.octet_lists.specs.Among.{psk_kind}
 use Rattle.login_setup.specs.declared.event.Event.{Event}
 use Rattle.login_setup.specs.declared.setup.Setup.{Setup}
 use Rattle.eap_method.specs.declared.tags.TagRecord.{TagRecord}

@@ -2,7 +2,7 @@
 use Rattle.std.specs.Prelude.{◌≡◌, List, true, Some}
 use Rattle.login_setup.specs.declared.event.Event.{Event}
 use Rattle.login_setup.specs.declared.setup.Setup.{Setup}
-use Rattle.eap_base.specs.Among.{psk_kind}
+use Rattle.octet_lists.specs.Among.{psk_kind}
 use Rattle.eap_world.specs.Run.{run_of}
 use Rattle.world_laws.specs.Agreement.{AgreeAnew, IsWhole}
 use Rattle.tag_book.specs.Book.{tags_verdict_either}

@@ -1,7 +1,7 @@
 //! GPSK-1, and what a peer that has begun makes of it (RFC 5433 section 10).
 
 ghost use Rattle.std.specs.Prelude.{◌≡◌, ◌≤◌, ℕ, length, None};
-ghost use Rattle.eap_base.specs.Sizes.{max_name};
+ghost use Rattle.octet_lists.specs.Sizes.{max_name};
 ghost use Rattle.eap_packet.specs.Packet.{max_type_data};
 ghost use Rattle.gpsk_messages.specs.Reading.{read_of};
 ghost use Rattle.login_policy.specs.Policy.{picked_suite};

@@ -1,7 +1,7 @@
 //! What a peer keeps of a login, and the messages that it makes of it.
 
 ghost use Rattle.std.specs.Prelude.{◌≡◌, ◌≤◌, ◌+◌, ◌∷◌, [], length};
-ghost use Rattle.eap_base.specs.Suite.{ks_of};
+ghost use Rattle.octet_lists.specs.Suite.{ks_of};
 ghost use Rattle.eap_packet.specs.declared.packet.Code.TheVariants as code;
 ghost use Rattle.gpsk_messages.specs.Message.{message_of, mac_of, size_of, without_mac};
 ghost use Rattle.eap_method.specs.GpskTags.{gpsk_response, sk_record};
@@ -14,7 +14,7 @@ use crate::nonces::Nonces;
 use crate::peer::offer::Offer;
 use crate::records::record;
 use crate::sealing::mac_place;
-use eap_base::{GPSK_KIND, Identity, Nonce, Octets, Packet, Suite};
+use octet_lists::{GPSK_KIND, Identity, Nonce, Octets, Packet, Suite};
 use eap_method::{Credential, Records, Report, TagList};
 use eap_packet::Code;
 use gpsk_messages::{Gpsk2, Gpsk3, Gpsk4, GpskView};

@@ -1,9 +1,9 @@
 //! What a peer takes from GPSK-1.
 
 ghost use Rattle.std.specs.Prelude.{◌≤◌, length};
-ghost use Rattle.eap_base.specs.Sizes.{max_name};
+ghost use Rattle.octet_lists.specs.Sizes.{max_name};
 
-use eap_base::{Nonce, Suite};
+use octet_lists::{Nonce, Suite};
 
 /// GPSK-1 of a server that the peer accepts, with the suite that it picks.
 #[derive(Drop)]

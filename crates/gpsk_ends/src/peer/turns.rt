@@ -1,8 +1,8 @@
 //! A peer's turn for each Request (RFC 5433 section 10).
 
 ghost use Rattle.std.specs.Prelude.{◌≡◌, ◌≤◌, length, true, not, None, Some};
-ghost use Rattle.eap_base.specs.Suite.{ks_of};
-ghost use Rattle.eap_base.specs.Sizes.{max_packet};
+ghost use Rattle.octet_lists.specs.Suite.{ks_of};
+ghost use Rattle.octet_lists.specs.Sizes.{max_packet};
 ghost use Rattle.eap_packet.specs.declared.cause.Cause.TheVariants.{BadTag};
 ghost use Rattle.eap_packet.specs.Packet.{max_type_data};
 ghost use Rattle.gpsk_messages.specs.Message.{message_of};
@@ -22,7 +22,7 @@ use crate::hearing::hear;
 use crate::peer::gpsk1::fresh_reads;
 use crate::peer::login::Login;
 use crate::peer::stage::{Phase, Stage};
-use eap_base::Packet;
+use octet_lists::Packet;
 use eap_method::{Decision, MethodState, PeerTurn, Records, Tags};
 use eap_packet::{Cause, Code};
 use gpsk_messages::{GpskView, write_gpsk_into};

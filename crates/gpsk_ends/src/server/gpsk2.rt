@@ -1,7 +1,7 @@
 //! Checking and answering GPSK-2 (RFC 5433 section 10).
 
 ghost use Rattle.std.specs.Prelude.{◌≡◌, ◌≤◌, ℕ, List, length, true, All, IsTrue, IfSome, None, option_copied};
-ghost use Rattle.eap_base.specs.Among.{gpsk_kind};
+ghost use Rattle.octet_lists.specs.Among.{gpsk_kind};
 ghost use Rattle.eap_packet.specs.Packet.{max_type_data};
 ghost use Rattle.login_setup.specs.Setup.{fits_kind};
 ghost use Rattle.login_setup.specs.Users.{user_of};
@@ -17,7 +17,7 @@ ghost use Rattle.eap_method.specs.declared.turn.ServerTurn.TheVariants.{Request}
 use crate::hearing::hear;
 use crate::server::login::Login;
 use crate::server::stage::{Alone, Phase, Stage};
-use eap_base::{GPSK_KIND, Packet};
+use octet_lists::{GPSK_KIND, Packet};
 use eap_method::{Records, ServerTurn, Tags};
 use eap_packet::{Cause, Code};
 use gpsk_messages::{GpskView, write_gpsk_into};

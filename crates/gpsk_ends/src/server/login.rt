@@ -1,9 +1,9 @@
 //! What a server keeps of a login, and the messages that it makes of it.
 
 ghost use Rattle.std.specs.Prelude.{◌≡◌, ◌≤◌, ◌+◌, ◌∷◌, [], length};
-ghost use Rattle.eap_base.specs.Among.{is_among};
-ghost use Rattle.eap_base.specs.Suite.{ks_of, suite_number};
-ghost use Rattle.eap_base.specs.Sizes.{max_name};
+ghost use Rattle.octet_lists.specs.Among.{is_among};
+ghost use Rattle.octet_lists.specs.Suite.{ks_of, suite_number};
+ghost use Rattle.octet_lists.specs.Sizes.{max_name};
 ghost use Rattle.eap_packet.specs.declared.packet.Code.TheVariants as code;
 ghost use Rattle.gpsk_messages.specs.Message.{message_of, mac_of, size_of, without_mac};
 ghost use Rattle.eap_method.specs.GpskTags.{gpsk_request, sk_record};
@@ -15,7 +15,7 @@ use crate::keys::Keys;
 use crate::nonces::Nonces;
 use crate::records::record;
 use crate::sealing::mac_place;
-use eap_base::{GPSK_KIND, Identity, Nonce, Octets, Packet, Secret, Suite};
+use octet_lists::{GPSK_KIND, Identity, Nonce, Octets, Packet, Secret, Suite};
 use eap_method::{Records, Report, ServerSide, TagList};
 use eap_packet::Code;
 use gpsk_messages::{Gpsk1, Gpsk2, Gpsk3, GpskView, write_gpsk_into};

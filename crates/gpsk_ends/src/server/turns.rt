@@ -2,8 +2,8 @@
 
 ghost use Rattle.std.specs.Prelude.{◌≡◌, ◌≤◌, ℕ, List, ◌∷◌, [], length, true, All, IsTrue, None, Some, option_map};
 ghost use Rattle.login_setup.specs.Setup.{fits_kind};
-ghost use Rattle.eap_base.specs.Suite.{ks_of};
-ghost use Rattle.eap_base.specs.Sizes.{max_packet};
+ghost use Rattle.octet_lists.specs.Suite.{ks_of};
+ghost use Rattle.octet_lists.specs.Sizes.{max_packet};
 ghost use Rattle.eap_packet.specs.Packet.{max_type_data};
 ghost use Rattle.gpsk_messages.specs.Message.{message_of};
 ghost use Rattle.gpsk_messages.specs.Reading.{read_of};
@@ -22,7 +22,7 @@ use crate::hearing::hear;
 use crate::server::gpsk2::{PSK_NOT_FOUND, asked_reads};
 use crate::server::login::{AUTHORIZATION_FAILURE, Login};
 use crate::server::stage::{Alone, Phase, Stage};
-use eap_base::{Packet, Suite};
+use octet_lists::{Packet, Suite};
 use eap_method::{Records, ServerTurn, Tags};
 use eap_packet::Cause;
 use gpsk_messages::GpskView;

@@ -2,12 +2,12 @@
 
 ghost use Rattle.std.specs.Prelude.{◌≡◌, ℕ, ◌≤◌, List, ◌++◌, length, map, drop};
 ghost use Rattle.std.specs.List.{concat};
-ghost use Rattle.eap_base.specs.Suite.{ks_of};
+ghost use Rattle.octet_lists.specs.Suite.{ks_of};
 ghost use Rattle.login_keys.specs.Gpsk as spec;
 
 use crate::gpsk::mac_key::MacKey;
 use byteorder::{BigEndian, ByteOrder};
-use eap_base::{Octets, Suite};
+use octet_lists::{Octets, Suite};
 
 /// A number in two octets.
 pub fn two_octets(number: u16) -> [u8; 2]

@@ -1,14 +1,14 @@
 //! What a peer keeps of a login.
 
 ghost use Rattle.std.specs.Prelude.{◌≡◌, ◌≤◌, ◌<◌, [], ◌∷◌, ◌++◌, length};
-ghost use Rattle.eap_base.specs.Sizes.{max_name};
+ghost use Rattle.octet_lists.specs.Sizes.{max_name};
 
 use crate::keys::long_keys;
 use crate::nonces::Nonces;
 use crate::octets::rand_of;
 use crate::records::{add_mac_p, add_mac_s};
 use cmac_mac::CmacKey;
-use eap_base::{Identity, Nonce, Octets, PSK_KIND, Secret};
+use octet_lists::{Identity, Nonce, Octets, PSK_KIND, Secret};
 use eap_method::{Credential, Records, Report, TagList, mac_p, mac_s};
 use login_keys::{PskKeys, PskLong, psk_session};
 use psk_messages::Psk1;

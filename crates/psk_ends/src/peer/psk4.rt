@@ -16,7 +16,7 @@ use crate::channel::{DONE_FAILURE, DONE_SUCCESS, check_result, open, seal_in};
 use crate::peer::login::Login;
 use crate::peer::stage::Phase;
 use crate::records::add_channel;
-use eap_base::{Packet, equal_in_full};
+use octet_lists::{Packet, equal_in_full};
 use eap_method::{Decision, MethodState, PeerTurn, Records, TagList, Tags};
 use eap_packet::{Cause, Code};
 use psk_messages::{Channel, Psk3, Psk4, PskView, write_psk_into};

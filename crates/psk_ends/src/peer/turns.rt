@@ -1,7 +1,7 @@
 //! A peer's turn for each Request (RFC 4764 section 4).
 
 ghost use Rattle.std.specs.Prelude.{◌≡◌, ◌≤◌, length, true, IfOk};
-ghost use Rattle.eap_base.specs.Sizes.{max_name};
+ghost use Rattle.octet_lists.specs.Sizes.{max_name};
 ghost use Rattle.psk_messages.specs.Message.{psk2};
 ghost use Rattle.psk_messages.specs.Reading.{read_of};
 ghost use Rattle.eap_method.specs.Room.{HasRoom, replies};
@@ -18,7 +18,7 @@ use crate::octets::{header_of, idle_cause, message_in};
 use crate::peer::login::{Begun, Login};
 use crate::peer::psk4::hears_psk3;
 use crate::peer::stage::{Phase, Stage};
-use eap_base::Packet;
+use octet_lists::Packet;
 use eap_method::{Decision, MethodState, PeerTurn, Records, Tags};
 use eap_packet::{Cause, Code};
 use psk_messages::{Psk1, Psk2, PskView, write_psk_into};

@@ -1,7 +1,7 @@
 //! What a server keeps of a login.
 
 ghost use Rattle.std.specs.Prelude.{◌≡◌, ◌≤◌, ◌<◌, [], ◌∷◌, ◌++◌, length};
-ghost use Rattle.eap_base.specs.Sizes.{max_name};
+ghost use Rattle.octet_lists.specs.Sizes.{max_name};
 ghost use Rattle.cmac_mac.specs.Cmac.{aes_cmac};
 ghost use Rattle.login_keys.specs.Psk.{psk_long_of};
 ghost use Rattle.eap_method.specs.PskTags.{mac_p_octets, rand_of};
@@ -12,7 +12,7 @@ use crate::nonces::Nonces;
 use crate::octets::rand_of;
 use crate::records::{add_mac_p, add_mac_s};
 use cmac_mac::CmacKey;
-use eap_base::{Identity, Nonce, Octets, PSK_KIND, Secret};
+use octet_lists::{Identity, Nonce, Octets, PSK_KIND, Secret};
 use eap_method::{Records, Report, ServerSide, TagList, mac_p, mac_s};
 use login_keys::{PskKeys, psk_session};
 use login_setup::User;

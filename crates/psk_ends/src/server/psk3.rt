@@ -1,8 +1,8 @@
 //! Checking PSK-2, and answering it by PSK-3 (RFC 4764 sections 5.2 and 5.3).
 
 ghost use Rattle.std.specs.Prelude.{◌≡◌, ℕ, ◌≤◌, [], length, All, IsTrue, Some};
-ghost use Rattle.eap_base.specs.Among.{psk_kind};
-ghost use Rattle.eap_base.specs.Sizes.{max_name};
+ghost use Rattle.octet_lists.specs.Among.{psk_kind};
+ghost use Rattle.octet_lists.specs.Sizes.{max_name};
 ghost use Rattle.login_setup.specs.Setup.{fits_kind};
 ghost use Rattle.login_setup.specs.Users.{user_of};
 ghost use Rattle.psk_messages.specs.Message.{psk3};
@@ -19,7 +19,7 @@ use crate::keys::long_keys;
 use crate::octets::{message_in, rand_of};
 use crate::server::login::{Begun, Login, UserPsk2};
 use cmac_mac::CmacKey;
-use eap_base::{PSK_KIND, Packet, equal_in_full};
+use octet_lists::{PSK_KIND, Packet, equal_in_full};
 use eap_method::{Records, TagList, Tags};
 use eap_packet::{Cause, Code};
 use login_keys::PskLong;

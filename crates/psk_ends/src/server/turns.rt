@@ -15,7 +15,7 @@ use crate::server::login::{Begun, Login};
 use crate::server::psk3::{answer, asked_reads};
 use crate::server::psk4::hears_psk4;
 use crate::server::stage::{EarlyPhase, KnownPhase, Stage};
-use eap_base::Packet;
+use octet_lists::Packet;
 use eap_method::{Records, ServerTurn, Tags};
 use eap_packet::{Cause, Code};
 use login_setup::Users;

@@ -1,8 +1,8 @@
 use Rattle.std.proofs.Common.{◌≡◌, ℕ, List, [], ◌++◌, length, take, ap, sym, ◌∙◌, arith, append-nil, append_assoc}
 use Rattle.std.proofs.lemmas.List.{take_all}
-use Rattle.eap_base.specs.Suite.{ks_of, suite_octets}
-use Rattle.eap_base.specs.declared.suite.Suite.{Suite}
-use Rattle.eap_base.specs.declared.suite.Suite.TheVariants.{Cmac, Hmac}
+use Rattle.octet_lists.specs.Suite.{ks_of, suite_octets}
+use Rattle.octet_lists.specs.declared.suite.Suite.{Suite}
+use Rattle.octet_lists.specs.declared.suite.Suite.TheVariants.{Cmac, Hmac}
 use Rattle.login_keys.specs.Gpsk.{gkdf, gkdf_block, gkdf_blocks, gpsk_tag_of, two_octets, master_key}
 use Rattle.login_keys.proofs.GpskLaws.{length_gpsk_tag_of}
 use Rattle.login_keys.proofs.gpsk.master_key.Goals as goal

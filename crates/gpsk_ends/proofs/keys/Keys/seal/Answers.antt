@@ -1,7 +1,7 @@
 -- The covered octets stand behind the header and the OP-Code, and their MAC behind them.
 use Rattle.std.proofs.Common.{◌≡◌, ◌∙◌, ◌-◌, ◌+◌, ◌≤◌, ◌++◌, ◌∷◌, [], List, ℕ, length, drop, take, ap, sym, length-drop, arith}
 use Rattle.std.proofs.Math.Seq.{take-length}
-use Rattle.eap_base.specs.Suite.{ks_of}
+use Rattle.octet_lists.specs.Suite.{ks_of}
 use Rattle.eap_packet.specs.Packet.{value_with}
 use Rattle.eap_packet.specs.Packet as packets
 use Rattle.gpsk_messages.specs.Message.{message_of, mac_of, size_of, covered_of}

@@ -1,4 +1,4 @@
-use Rattle.eap_base.specs.Among.{gpsk_kind}
+use Rattle.octet_lists.specs.Among.{gpsk_kind}
 use Rattle.gpsk_ends.proofs.Requests.{holds_a_type, request_fits}
 use Rattle.gpsk_ends.proofs.peer.GpskPeerPeerMethod.handle.Goals as goal
 

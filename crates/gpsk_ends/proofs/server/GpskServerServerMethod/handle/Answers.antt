@@ -1,4 +1,4 @@
-use Rattle.eap_base.specs.Among.{gpsk_kind}
+use Rattle.octet_lists.specs.Among.{gpsk_kind}
 use Rattle.gpsk_ends.proofs.Requests.{response_holds_a_type, response_fits}
 use Rattle.gpsk_ends.proofs.server.GpskServerServerMethod.handle.Goals as goal
 

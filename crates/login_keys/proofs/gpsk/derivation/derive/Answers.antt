@@ -2,7 +2,7 @@ use Rattle.std.proofs.Common.{◌≡◌, ℕ, ◌+◌, ◌*◌, ◌<◌, ◌≤�
 use Rattle.std.specs.Int.{div_ceil}
 use Rattle.std.specs.List.{flat_map, range_with_len}
 use Rattle.std.proofs.lemmas.List.{length-take-le}
-use Rattle.eap_base.specs.Suite.{ks_of}
+use Rattle.octet_lists.specs.Suite.{ks_of}
 use Rattle.login_keys.specs.Gpsk.{gkdf, gkdf_block, gkdf_blocks, gpsk_tag_of, two_octets}
 use Rattle.login_keys.proofs.Blocks.{joined_none, joined_push}
 use Rattle.cmac_mac.proofs.Pieces.{joined}

@@ -1,5 +1,5 @@
 use Rattle.std.proofs.Common.{◌≡◌, ◌++◌, drop}
-use Rattle.eap_base.specs.Suite.{ks_of}
+use Rattle.octet_lists.specs.Suite.{ks_of}
 use Rattle.login_keys.specs.Gpsk.{gkdf_block}
 use Rattle.cmac_mac.proofs.Pieces.{joined}
 use Rattle.login_keys.proofs.Blocks.{IsJoined}

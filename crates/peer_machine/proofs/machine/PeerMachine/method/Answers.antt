@@ -1,5 +1,5 @@
 use Rattle.std.proofs.Common.{map, ◌≡◌, true, subst, sym}
-use Rattle.eap_base.specs.Among.{is_among}
+use Rattle.octet_lists.specs.Among.{is_among}
 use Rattle.peer_machine.specs.PeerTable.{PeerValue, now_of}
 use Rattle.peer_machine.proofs.Settling.{method_settles}
 use Rattle.peer_machine.proofs.machine.PeerMachine.method.Goals as goal

@@ -1,4 +1,4 @@
-use Rattle.eap_base.specs.Among.{psk_kind}
+use Rattle.octet_lists.specs.Among.{psk_kind}
 use Rattle.psk_ends.proofs.Requests.{holds_a_type}
 use Rattle.psk_ends.proofs.peer.PskPeerPeerMethod.handle.Goals as goal
 

@@ -1,4 +1,4 @@
-use Rattle.eap_base.specs.Among.{psk_kind}
+use Rattle.octet_lists.specs.Among.{psk_kind}
 use Rattle.psk_ends.proofs.Requests.{response_holds_a_type}
 use Rattle.psk_ends.proofs.server.PskServerServerMethod.handle.Goals as goal
 

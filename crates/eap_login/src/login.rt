@@ -4,8 +4,8 @@ ghost use Rattle.std.specs.Prelude.{◌≡◌, ℕ, List, Some, map, string_byte
 ghost use Rattle.octet_io.specs.Shown.{HasRisen};
 ghost use Rattle.command_driver.specs.Answers.{Finishes};
 ghost use Rattle.world_commands.specs.Bulk.{bulk_of};
-ghost use Rattle.login_call.specs.Login.{is_alone, are_two, asked_by, asked_with_arguments};
-ghost use Rattle.login_call.specs.Login.{SaysUnread, usage_answer, usage_text, Completes};
+ghost use Rattle.eap_login.specs.Login.{is_alone, are_two, asked_by, asked_with_arguments};
+ghost use Rattle.eap_login.specs.Login.{SaysUnread, usage_answer, usage_text, Completes};
 ghost use Rattle.world_commands.specs.Headline.{HonestEndsAgree, WritesNeverBoth};
 ghost use Rattle.world_commands.specs.Replay.{HasBoth};
 ghost use Rattle.command_driver.specs.Responding.{Responds};

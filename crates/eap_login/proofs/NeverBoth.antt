@@ -28,7 +28,7 @@ use Rattle.world_commands.specs.declared.bulk.Bulk.{Bulk}
 use Rattle.world_commands.proofs.BulkQuiet.{bulk_quiet}
 use Rattle.world_commands.proofs.NeverReplayed.{Never, never_replay}
 use Rattle.end_commands.proofs.EndQuiet.{peer_quiet, server_quiet}
-use Rattle.login_call.specs.Login.{usage_answer, unread_answer, asked_with, login_answer, is_replay, is_replay_names, is_decode, is_keys, is_check, is_radius, is_peer, is_server}
+use Rattle.eap_login.specs.Login.{usage_answer, unread_answer, asked_with, login_answer, is_replay, is_replay_names, is_decode, is_keys, is_check, is_radius, is_peer, is_server}
 
 -- a text without a line that begins as that of the result, or of the tags, has not all of these
 without_result : (a : Answer) → IsQuiet begins_result a → Never a

@@ -1,6 +1,6 @@
 use Rattle.std.proofs.Common.{arith, refl}
-use Rattle.eap_base.proofs.Differences.{difference_more}
-use Rattle.eap_base.proofs.comparison.equal_in_full.Goals as goal
+use Rattle.octet_lists.proofs.Differences.{difference_more}
+use Rattle.octet_lists.proofs.comparison.equal_in_full.Goals as goal
 
 pub octets-init : goal.octets-init
 octets-init c = record { same = λ _. refl; none = λ _. refl }

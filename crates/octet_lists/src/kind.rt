@@ -1,7 +1,7 @@
 //! Types, those of the two methods among them, and the fields of an Expanded Type.
 
 ghost use Rattle.std.specs.Prelude.{◌≡◌};
-ghost use Rattle.eap_base.specs.Among.{is_among};
+ghost use Rattle.octet_lists.specs.Among.{is_among};
 
 /// The Type Identity (RFC 3748 section 5.1).
 pub const IDENTITY: u8 = 1;

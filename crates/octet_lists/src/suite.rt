@@ -1,7 +1,7 @@
 //! The ciphersuites of EAP-GPSK.
 
 ghost use Rattle.std.specs.Prelude.{◌≡◌};
-ghost use Rattle.eap_base.specs.Suite.{ks_of, suite_number, suite_numbered, suite_octets};
+ghost use Rattle.octet_lists.specs.Suite.{ks_of, suite_number, suite_numbered, suite_octets};
 
 /// The octets of a suite in CSuite_Sel, and of an entry of a CSuite_List (RFC 5433 section 9.2).
 pub const SUITE_SIZE: usize = 6;

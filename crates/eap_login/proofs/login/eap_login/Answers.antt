@@ -1,9 +1,9 @@
 use Rattle.std.proofs.Common.{map, string_bytes}
-use Rattle.login_call.proofs.Completing.{completes, ends_of}
+use Rattle.eap_login.proofs.Completing.{completes, ends_of}
 use Rattle.world_commands.proofs.Headline.{headline}
-use Rattle.login_call.proofs.NeverBoth.{writes_never_both}
+use Rattle.eap_login.proofs.NeverBoth.{writes_never_both}
 use Rattle.world_commands.proofs.SmoothTraces as traces
-use Rattle.login_call.proofs.login.eap_login.Goals as goal
+use Rattle.eap_login.proofs.login.eap_login.Goals as goal
 
 pub returns-clause-honest_ends_agree : goal.returns-clause-honest_ends_agree
 returns-clause-honest_ends_agree g c octets = headline octets

@@ -2,7 +2,7 @@
 use Rattle.std.proofs.Common.{◌≡◌, ℕ, List, Option, Some, sym, subst}
 use Rattle.octet_io.specs.Shown.{Shown, HasRisen}
 use Rattle.command_driver.specs.Answers.{Ends, entire, cut_short, by_read, by_write, by_memory}
-use Rattle.login_call.specs.Login.{asked_by, login_answer, Completes, answered, lacked}
+use Rattle.eap_login.specs.Login.{asked_by, login_answer, Completes, answered, lacked}
 use Rattle.command_driver.specs.Responding.{Asked, MayLack, reading, unread, answer_to, lacking_of, Responds}
 use Rattle.command_driver.specs.declared.status.Status.{Status}
 use Rattle.command_driver.specs.declared.status.Status.TheVariants as status
