@@ -12,10 +12,10 @@ use crate::pieces::put_pieces;
 use crate::{gpsk, psk};
 use aes_block::Aes128;
 use cmac_mac::cmac_whole;
-use octet_lists::{GPSK_KIND, PSK_KIND};
 use hmac_mac::hmac_whole;
 use login_keys::{gpsk_keys, key_name};
 use octet_io::{Failed, Sink};
+use octet_lists::{GPSK_KIND, PSK_KIND};
 use request_text::KeyLine;
 
 /// Puts the message that Type-Data of this Type is.

@@ -11,7 +11,7 @@ use crate::line_buffer::LineBuffer;
 use crate::lines::write_hex;
 use crate::pieces::Piece::{Number, Text};
 use crate::pieces::put_pieces;
-use gpsk_messages::{GpskView, read_gpsk};
+use gpsk_messages::{GpskMessage, read_gpsk_message};
 use login_keys::GpskKeys;
 use octet_io::{Failed, Sink};
 
@@ -31,13 +31,13 @@ fn put_code<W: Sink>(
 pub fn put_note<W: Sink>(sink: &mut W, line: &mut LineBuffer, body: &[u8]) -> Result<(), Failed>
     ensures { Puts W.shown result sink.old sink.new line.old line.new (gpsk_note (read_of None body.now)) }
 {
-    match read_gpsk(body, None) {
-        Ok(GpskView::M1(_)) => put_pieces(sink, line, &[Text(b"gpsk-1")]),
-        Ok(GpskView::M2(_)) => put_pieces(sink, line, &[Text(b"gpsk-2")]),
-        Ok(GpskView::M3(_)) => put_pieces(sink, line, &[Text(b"gpsk-3")]),
-        Ok(GpskView::M4(_)) => put_pieces(sink, line, &[Text(b"gpsk-4")]),
-        Ok(GpskView::Fail { code }) => put_code(sink, line, "gpsk-fail ", code),
-        Ok(GpskView::ProtectedFail { code, .. }) => put_code(
+    match read_gpsk_message(body, None) {
+        Ok(GpskMessage::M1(_)) => put_pieces(sink, line, &[Text(b"gpsk-1")]),
+        Ok(GpskMessage::M2(_)) => put_pieces(sink, line, &[Text(b"gpsk-2")]),
+        Ok(GpskMessage::M3(_)) => put_pieces(sink, line, &[Text(b"gpsk-3")]),
+        Ok(GpskMessage::M4(_)) => put_pieces(sink, line, &[Text(b"gpsk-4")]),
+        Ok(GpskMessage::Fail { code }) => put_code(sink, line, "gpsk-fail ", code),
+        Ok(GpskMessage::ProtectedFail { code, .. }) => put_code(
             sink,
             line,
             "gpsk-protected-fail ",

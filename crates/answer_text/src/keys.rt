@@ -7,9 +7,9 @@ ghost use Rattle.answer_text.specs.Keys.{exported_text, sealed_text};
 use crate::lines::write_hex;
 use crate::pieces::Piece::{Hex, Text};
 use crate::pieces::write_pieces;
-use octet_lists::Octets;
 use eax_mode::eax_seal;
 use octet_io::{Failed, Sink};
+use octet_lists::Octets;
 
 /// Writes a ciphertext and its tag.
 #[tactic(auto, unfolding(crate::specs::Keys::sealed_text))]

@@ -16,9 +16,9 @@ use crate::answers::put_message;
 use crate::line_buffer::LineBuffer;
 use crate::pieces::Piece::{Hex, Leading, Line, Number, Text};
 use crate::pieces::{put_pieces, send, write_pieces};
-use octet_lists::{EXPANDED, IDENTITY, NAK};
 use eap_packet::{Cause, Code, PacketView, decode, read_expanded};
 use octet_io::{Failed, Sink};
+use octet_lists::{EXPANDED, IDENTITY, NAK};
 
 /// Puts the identity of an Identity Request or Response.
 fn put_identity<W: Sink>(sink: &mut W, line: &mut LineBuffer, name: &[u8]) -> Result<(), Failed>

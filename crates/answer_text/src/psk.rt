@@ -12,17 +12,17 @@ use crate::pieces::Piece::Text;
 use crate::pieces::put_pieces;
 use login_keys::{PskKeys, PskLong, psk_long, psk_session};
 use octet_io::{Failed, Sink};
-use psk_messages::{PskView, read_psk};
+use psk_messages::{PskMessage, read_psk_message};
 
 /// The name of a message, or why it is none.
 fn name_of(body: &[u8]) -> &'static str
     ensures { result.now ≡ psk_note (read_of body.now) }
 {
-    match read_psk(body) {
-        Ok(PskView::P1(_)) => "psk-1",
-        Ok(PskView::P2(_)) => "psk-2",
-        Ok(PskView::P3(_)) => "psk-3",
-        Ok(PskView::P4(_)) => "psk-4",
+    match read_psk_message(body) {
+        Ok(PskMessage::P1(_)) => "psk-1",
+        Ok(PskMessage::P2(_)) => "psk-2",
+        Ok(PskMessage::P3(_)) => "psk-3",
+        Ok(PskMessage::P4(_)) => "psk-4",
         Err(cause) => cause.word(),
     }
 }

@@ -8,7 +8,7 @@ use Rattle.eap_world.specs.World.{WorldNow, WorldOutcome, Action, Skipped, Calle
 use Rattle.eap_world.specs.World.{sent_packet, one_if, sent_by, sent_to, start_call, told_of, world_outcome, world_start, world_step}
 use Rattle.eap_world.specs.declared.told.Counts.{Counts}
 use Rattle.eap_world.specs.declared.told.Named.{Named}
-use Rattle.eap_world.specs.declared.told.Told.{Told}
+use Rattle.eap_world.specs.declared.told.Brief.{Brief}
 use Rattle.bulk_run.specs.Going.{AreFew, sent_after}
 
 none_more : (sent : List Sent) → length (sent ++ []) ≡ length sent
@@ -43,7 +43,7 @@ counts_more counts (Called did) most few = record {
 }
 
 -- what a step leaves
-pub record Stepped (before : WorldNow) (told : Told) (after : WorldNow) : Type 0 where
+pub record Stepped (before : WorldNow) (told : Brief) (after : WorldNow) : Type 0 where
   pub started : after.started ≡ true
   pub packets : length after.sent ≡ sent_after (length before.sent) told.sent
   pub few : (most : ℕ) → AreFew before.counts most → AreFew after.counts (most + 1)
@@ -56,12 +56,12 @@ stepped_by before event = record {
   few = counts_more before.counts (act before.parties before.conversations before.sent event).action;
 }
 
-pub stepped : (before : WorldNow) (event : Event) (told : Told) (after : WorldNow)
+pub stepped : (before : WorldNow) (event : Event) (told : Brief) (after : WorldNow)
     → world_step before event ≡ world_outcome told after → Stepped before told after
 stepped before event told after is = subst (λ (out : WorldOutcome). Stepped before out.told out.after) is (stepped_by before event)
 
 -- what the start leaves of a world in which nothing was sent
-pub record Started (before : WorldNow) (told : Told) (after : WorldNow) : Type 0 where
+pub record Started (before : WorldNow) (told : Brief) (after : WorldNow) : Type 0 where
   pub started : after.started ≡ true
   pub packets : length after.sent ≡ sent_after (length before.sent) told.sent
   pub counts : after.counts ≡ before.counts
@@ -74,5 +74,5 @@ started_by before = record {
   counts = refl;
 }
 
-pub started : (before : WorldNow) (told : Told) (after : WorldNow) → world_start before ≡ world_outcome told after → Started before told after
+pub started : (before : WorldNow) (told : Brief) (after : WorldNow) → world_start before ≡ world_outcome told after → Started before told after
 started before told after is = subst (λ (out : WorldOutcome). Started before out.told out.after) is (started_by before)

@@ -15,12 +15,12 @@ ghost use Rattle.bulk_run.specs.Summing.{counts_of, drawn_each, drawn_for_events
 use crate::draws::Draws;
 use crate::summary::Summary;
 use crate::turn::{begin, take, take_chosen};
-use octet_lists::{GPSK_KIND, Identity, Kinds, Nonce, Secret, Suites};
 use eap_method::{PeerMethod, ServerMethod};
 use eap_world::{Memory, Methods, World};
 use login_setup::{
     Accepts, Event, Key, Keys, Later, Mode, PeerSetup, ServerSetup, Setup, User, Users,
 };
+use octet_lists::{GPSK_KIND, Identity, Kinds, Nonce, Secret, Suites};
 use std::alloc::Global;
 
 /// The name of the peer, who is the server's one user.

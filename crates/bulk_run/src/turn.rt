@@ -11,7 +11,7 @@ ghost use Rattle.bulk_run.specs.Conversation.{choice, chosen, with_event};
 ghost use Rattle.bulk_run.specs.Going.{AreFew, sent_after};
 
 use eap_method::{PeerMethod, ServerMethod};
-use eap_world::{MAX_EVENTS, Memory, Told, World};
+use eap_world::{Brief, MAX_EVENTS, Memory, World};
 use login_setup::{Event, Party};
 
 /// Starts a world in which nothing was sent, and answers how many packets were sent then. Each method of an end has an object.
@@ -27,7 +27,7 @@ pub fn begin<P: PeerMethod, S: ServerMethod>(world: &mut World<P, S>) -> Result<
     ensures packets { IfOk result (λ packets. packets ≡ length world.new.sent) }
     ensures few { IfOk result (λ packets. world.new.counts ≡ world.old.counts) }
 {
-    let told = world.start()?;
+    let told = world.start_brief()?;
     Ok(sent_after(0, &told))
 }
 
@@ -49,13 +49,13 @@ pub fn take<P: PeerMethod, S: ServerMethod>(
     ensures packets { IfOk result (λ done. packets.new ≡ length world.new.sent) }
     ensures few { IfOk result (λ done. (most : ℕ) → AreFew world.old.counts most → AreFew world.new.counts (most + 1)) }
 {
-    let told = world.step(event)?;
+    let told = world.step_brief(event)?;
     *packets = sent_after(*packets, &told);
     Ok(())
 }
 
 /// How many packets were sent, if so many were before.
-fn sent_after(before: u32, told: &Told) -> u32
+fn sent_after(before: u32, told: &Brief) -> u32
     ensures { result ≡ sent_after before told.now.sent }
 {
     match told.sent {

@@ -6,9 +6,9 @@ ghost use Rattle.scenario_text.specs.Valid.{IsValidSetup};
 ghost use Rattle.world_commands.specs.Replay.{HasBoth};
 
 pub(crate) use command_driver::Status;
+use eap_login::eap_login;
 use eap_world::{Methods, World};
 use end_objects::{PeerObject, ServerObject, all_peers, all_servers};
-use eap_login::eap_login;
 use login_setup::Setup;
 use octet_io::{MemSink, MemSource};
 use std::alloc::{AllocError, Global};

@@ -4,7 +4,7 @@
 use crate::call::ObjectWorld;
 use crate::worlds::{begun, step};
 use login_setup::Event;
-use scenario_text::{Item, ScenarioReader};
+use scenario_text::{ItemKind, ScenarioReader};
 use std::alloc::Global;
 use std::process::Abort;
 use std::test::Fail;
@@ -75,7 +75,7 @@ fn run(rt: &impl Abort, world: &mut ObjectWorld, scenario: &str) -> Result<(), F
     let mut reader = ScenarioReader::new();
     let mut event = Event::Idle;
     for line in scenario.lines() {
-        if let Ok(Item::Event) = reader.line(line.as_bytes(), &mut event) {
+        if let Ok(ItemKind::Event) = reader.line_into(line.as_bytes(), &mut event) {
             step(rt, world, &event)?;
         }
     }

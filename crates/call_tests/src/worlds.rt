@@ -4,7 +4,7 @@ ghost use Rattle.std.specs.Prelude.{IfOk};
 ghost use Rattle.scenario_text.specs.Valid.{IsValidSetup};
 
 use crate::call::{ObjectWorld, world};
-use eap_world::{MAX_EVENTS, SentPacket, Skip, Told};
+use eap_world::{Brief, MAX_EVENTS, SentNumber, Skip};
 use login_setup::{Event, Party, Setup};
 use scenario_text::ScenarioReader;
 use std::alloc::Global;
@@ -18,7 +18,7 @@ fn settings_in(scenario: &str) -> Result<Setup, LineFault>
 {
     let mut reader = ScenarioReader::new();
     for line in scenario.lines() {
-        let _ = reader.line(line.as_bytes(), &mut Event::Idle);
+        let _ = reader.line_into(line.as_bytes(), &mut Event::Idle);
     }
     reader.setup()
 }
@@ -30,14 +30,14 @@ pub(crate) fn begun(rt: &impl Abort, alloc: Global, scenario: &str) -> Result<Ob
     };
     let mut world = world(alloc, setup)?;
     assert!(rt; !world.started() && world.has_objects());
-    world.start()?;
+    world.start_brief()?;
     Ok(world)
 }
 
 /// The result of the next event.
-pub(crate) fn step(rt: &impl Abort, world: &mut ObjectWorld, event: &Event) -> Result<Told, Fail> {
+pub(crate) fn step(rt: &impl Abort, world: &mut ObjectWorld, event: &Event) -> Result<Brief, Fail> {
     assert!(rt; world.started() && world.counts().events < MAX_EVENTS && world.has_objects());
-    Ok(world.step(event)?)
+    Ok(world.step_brief(event)?)
 }
 
 /// Alice and the server srv, without methods.
@@ -71,7 +71,7 @@ fn a_peer_has_no_timer(rt: HostRuntime) -> Result<(), Fail> {
     Ok(())
 }
 
-fn sent_number(sent: &Option<SentPacket>) -> u32 {
+fn sent_number(sent: &Option<SentNumber>) -> u32 {
     match sent {
         None => 0,
         Some(sent) => sent.number,

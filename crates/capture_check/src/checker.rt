@@ -14,9 +14,9 @@ use crate::finding::Finding;
 use crate::gpsk::GpskLogin;
 use crate::psk::PskKept;
 use crate::{gpsk, psk};
-use octet_lists::{GPSK_KIND, PSK_KIND};
 use eap_packet::{Cause, Code, PacketView, decode};
 use login_setup::Users;
+use octet_lists::{GPSK_KIND, PSK_KIND};
 use std::marker::Model;
 
 /// What is kept of the packets of a capture, a part a method.
@@ -31,11 +31,11 @@ pub struct Kept {
 ///
 /// A contract says by `StandsFor checker users packets` which packets it has seen.
 #[derive(Drop)]
-pub struct Checker {
+pub struct Judge {
     kept: Kept,
 }
 
-impl Model for Checker {
+impl Model for Judge {
     ghost use Rattle.capture_check.specs.declared.checker.Kept.{Kept};
     ghost use Rattle.capture_check.specs.Gpsk.{HasKey};
 
@@ -46,14 +46,14 @@ impl Model for Checker {
     ghost invariant = { λ c. HasKey c.kept.gpsk };
 }
 
-impl Checker {
+impl Judge {
     /// A checker that has seen no packet.
     #[tactic(auto, unfolding(crate::specs::Finding::StandsFor), using(crate::proofs::Keeping::kept_of_none))]
-    pub fn new() -> Checker
+    pub fn new() -> Judge
         ensures stands { (users : List User) → StandsFor result users [] }
         ensures kept { result ≡ nothing_kept }
     {
-        Checker {
+        Judge {
             kept: Kept {
                 gpsk: None,
                 psk: PskKept {
@@ -82,6 +82,33 @@ impl Checker {
         ensures kept { self.new ≡ kept_next users.now self.old to_peer octets.now }
     {
         judge(&mut self.kept, users, to_peer, octets)
+    }
+}
+
+/// The same with the users, for a caller that has no other need of them.
+#[derive(Drop)]
+pub struct Checker {
+    users: Users,
+    judge: Judge,
+    ghost keys: { All (λ user. IsTrue (fits_kind user.kind user.psk)) users },
+}
+
+impl Checker {
+    /// A checker that has seen no packet. The users have keys of 16 octets for EAP-PSK, of 32 to 64 for EAP-GPSK.
+    pub fn new(users: Users) -> Checker
+        requires { All (λ user. IsTrue (fits_kind user.kind user.psk)) users }
+    {
+        Checker {
+            users,
+            judge: Judge::new(),
+        }
+    }
+
+    /// The finding of the next packet, which goes to the peer or comes from it.
+    pub fn packet(&mut self, to_peer: bool, octets: &[u8]) -> Finding
+        ensures { result ≡ finding_in self.old.users self.old.judge to_peer octets.now }
+    {
+        self.judge.packet(&self.users, to_peer, octets)
     }
 }
 

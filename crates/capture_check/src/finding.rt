@@ -1,7 +1,7 @@
 //! The finding of a captured packet.
 
-use octet_lists::Identity;
 use eap_packet::Cause;
+use octet_lists::Identity;
 
 /// The finding of a captured packet.
 #[derive(Drop)]

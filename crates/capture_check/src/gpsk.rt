@@ -10,11 +10,11 @@ ghost use Rattle.gpsk_messages.specs.Message.{message_of, spelled, IsGpsk};
 ghost use Rattle.capture_check.specs.Gpsk.{gpsk2_of, gpsk_finding, gpsk_follows, gpsk_login_in, gpsk_read, gpsk_tag_finding, gpsk_told, is_gpsk_astray, is_tagged_in, login_begins, HasKey};
 
 use crate::finding::Finding;
-use octet_lists::{GPSK_KIND, Identity, Octets, Suite, equal_in_full};
 use eap_packet::Cause;
-use gpsk_messages::{Gpsk2, GpskView, covered_part, mac_part, read_gpsk};
+use gpsk_messages::{Gpsk2, GpskMessage, covered_part, mac_part, read_gpsk_message};
 use login_keys::{gpsk_keys, gpsk_tag};
 use login_setup::Users;
+use octet_lists::{GPSK_KIND, Identity, Octets, Suite, equal_in_full};
 
 /// What is kept of a GPSK-2 whose tag is right (RFC 5433 section 9).
 #[derive(Drop)]
@@ -29,22 +29,22 @@ pub struct GpskLogin {
 
 /// Whether a message goes the wrong way: GPSK-1 and GPSK-3 go to the peer, GPSK-2 and GPSK-4 come from
 /// it, and the failures go both ways.
-fn is_astray(to_peer: bool, view: &GpskView) -> bool
+fn is_astray(to_peer: bool, view: &GpskMessage) -> bool
     ensures { result ≡ is_gpsk_astray to_peer (message_of view.now) }
 {
     match view {
-        GpskView::M1(_) => !to_peer,
-        GpskView::M2(_) => to_peer,
-        GpskView::M3(_) => !to_peer,
-        GpskView::M4(_) => to_peer,
-        GpskView::Fail { .. } => false,
-        GpskView::ProtectedFail { .. } => false,
+        GpskMessage::M1(_) => !to_peer,
+        GpskMessage::M2(_) => to_peer,
+        GpskMessage::M3(_) => !to_peer,
+        GpskMessage::M4(_) => to_peer,
+        GpskMessage::Fail { .. } => false,
+        GpskMessage::ProtectedFail { .. } => false,
     }
 }
 
 /// Whether the message, which the Type-Data encodes, has the MAC of its covered octets under the SK of
 /// the login. All octets of the MAC are compared.
-fn is_tagged(login: &GpskLogin, view: &GpskView, body: &[u8]) -> bool
+fn is_tagged(login: &GpskLogin, view: &GpskMessage, body: &[u8]) -> bool
     requires key { length login.now.sk ≡ ks_of login.now.suite }
     requires spelled { body.now ≡ spelled (message_of view.now) }
     ensures { result ≡ is_tagged_in login.now (message_of view.now) }
@@ -86,7 +86,7 @@ fn login_in(users: &Users, gpsk2: &Gpsk2) -> Option<GpskLogin>
 }
 
 /// The finding of a GPSK-2 of this login, which is kept if the MAC is right.
-fn begin(kept: &mut Option<GpskLogin>, login: GpskLogin, view: &GpskView, body: &[u8]) -> Finding
+fn begin(kept: &mut Option<GpskLogin>, login: GpskLogin, view: &GpskMessage, body: &[u8]) -> Finding
     requires key { length login.sk ≡ ks_of login.suite }
     requires kept_key { HasKey kept.old }
     requires spelled { body.now ≡ spelled (message_of view.now) }
@@ -104,7 +104,7 @@ fn begin(kept: &mut Option<GpskLogin>, login: GpskLogin, view: &GpskView, body: 
 
 /// The finding of a message that belongs to the last login: `NoContext` if there is none.
 #[tactic(auto, unfolding(crate::specs::Gpsk::gpsk_follows))]
-fn follow(login: &Option<GpskLogin>, view: &GpskView, body: &[u8]) -> Finding
+fn follow(login: &Option<GpskLogin>, view: &GpskMessage, body: &[u8]) -> Finding
     requires key { HasKey login.now }
     requires spelled { body.now ≡ spelled (message_of view.now) }
     ensures { result ≡ gpsk_follows login.now (message_of view.now) }
@@ -123,7 +123,7 @@ fn follow(login: &Option<GpskLogin>, view: &GpskView, body: &[u8]) -> Finding
 
 /// The finding of a message, which the Type-Data encodes. A login that it begins is kept.
 #[tactic(auto, unfolding(crate::specs::Gpsk::gpsk_begins))]
-fn judge(login: &mut Option<GpskLogin>, users: &Users, view: &GpskView, body: &[u8]) -> Finding
+fn judge(login: &mut Option<GpskLogin>, users: &Users, view: &GpskMessage, body: &[u8]) -> Finding
     requires keys { All (λ user. IsTrue (fits_kind user.kind user.psk)) users.now }
     requires key { HasKey login.old }
     requires read { IsGpsk None (message_of view.now) body.now }
@@ -132,15 +132,15 @@ fn judge(login: &mut Option<GpskLogin>, users: &Users, view: &GpskView, body: &[
     ensures key_kept { HasKey login.new }
 {
     match view {
-        GpskView::M1(_) => Finding::Good,
-        GpskView::M2(gpsk2) => match login_in(users, gpsk2) {
+        GpskMessage::M1(_) => Finding::Good,
+        GpskMessage::M2(gpsk2) => match login_in(users, gpsk2) {
             None => Finding::NoKey,
             Some(begun) => begin(login, begun, view, body),
         },
-        GpskView::M3(_) => follow(login, view, body),
-        GpskView::M4(_) => follow(login, view, body),
-        GpskView::Fail { .. } => Finding::Good,
-        GpskView::ProtectedFail { .. } => follow(login, view, body),
+        GpskMessage::M3(_) => follow(login, view, body),
+        GpskMessage::M4(_) => follow(login, view, body),
+        GpskMessage::Fail { .. } => Finding::Good,
+        GpskMessage::ProtectedFail { .. } => follow(login, view, body),
     }
 }
 
@@ -157,7 +157,7 @@ pub fn judge_body(
     ensures kept { login.new ≡ option_or (gpsk2_of users.now (gpsk_read to_peer body.now)) login.old }
     ensures key_kept { HasKey login.new }
 {
-    match read_gpsk(body, None) {
+    match read_gpsk_message(body, None) {
         Err(cause) => Finding::Malformed(cause),
         Ok(view) => {
             if is_astray(to_peer, &view) {

@@ -7,5 +7,5 @@ mod finding;
 mod gpsk;
 mod psk;
 
-pub use checker::Checker;
+pub use checker::{Checker, Judge};
 pub use finding::Finding;

@@ -10,13 +10,13 @@ ghost use Rattle.capture_check.specs.Psk.{follows_in, is_psk_astray, psk1_of, ps
 
 use crate::finding::Finding;
 use cmac_mac::CmacKey;
-use octet_lists::{Identity, Octets, PSK_KIND, array_of, equal_in_full};
 use eap_method::{mac_p, mac_s};
 use eap_packet::Cause;
 use eax_mode::eax_unseal;
 use login_keys::{PskLong, psk_long, psk_session};
 use login_setup::{User, Users};
-use psk_messages::{Channel, HEADER, Psk2, Psk3, Psk4, PskView, read_psk};
+use octet_lists::{Identity, Octets, PSK_KIND, array_of, equal_in_full};
+use psk_messages::{Channel, HEADER, Psk2, Psk3, Psk4, PskMessage, read_psk_message};
 
 /// What is kept of a PSK-1 (RFC 4764 section 5.1).
 #[derive(Drop)]
@@ -44,14 +44,14 @@ pub struct PskKept {
 }
 
 /// Whether a message goes the wrong way: PSK-1 and PSK-3 go to the peer, PSK-2 and PSK-4 come from it.
-fn is_astray(to_peer: bool, view: &PskView) -> bool
+fn is_astray(to_peer: bool, view: &PskMessage) -> bool
     ensures { result ≡ is_psk_astray to_peer (message_of view.now) }
 {
     match view {
-        PskView::P1(_) => !to_peer,
-        PskView::P2(_) => to_peer,
-        PskView::P3(_) => !to_peer,
-        PskView::P4(_) => to_peer,
+        PskMessage::P1(_) => !to_peer,
+        PskMessage::P2(_) => to_peer,
+        PskMessage::P3(_) => !to_peer,
+        PskMessage::P4(_) => to_peer,
     }
 }
 
@@ -176,7 +176,7 @@ fn follow4(login: &Option<PskLogin>, header: &[u8], psk4: &Psk4) -> Finding
 
 /// The finding of a message in a packet with this header. A PSK-1, and a login that PSK-2 begins, are
 /// kept.
-fn judge(kept: &mut PskKept, users: &Users, header: &[u8], view: &PskView) -> Finding
+fn judge(kept: &mut PskKept, users: &Users, header: &[u8], view: &PskMessage) -> Finding
     requires keys { All (λ user. IsTrue (fits_kind user.kind user.psk)) users.now }
     requires fields { AreFields (message_of view.now) }
     ensures finding { result ≡ psk_tag_finding users.now kept.old header.now (message_of view.now) }
@@ -184,7 +184,7 @@ fn judge(kept: &mut PskKept, users: &Users, header: &[u8], view: &PskView) -> Fi
     ensures login { kept.new.psk2 ≡ option_or (psk2_of users.now kept.old.psk1 (Ok (message_of view.now))) kept.old.psk2 }
 {
     match view {
-        PskView::P1(psk1) => {
+        PskMessage::P1(psk1) => {
             let first = KeptPsk1 {
                 rand_s: psk1.rand_s,
                 id_s: Octets::of(psk1.id_s),
@@ -192,7 +192,7 @@ fn judge(kept: &mut PskKept, users: &Users, header: &[u8], view: &PskView) -> Fi
             kept.psk1 = Some(first);
             Finding::Good
         }
-        PskView::P2(psk2) => match begin(users, &kept.psk1, psk2) {
+        PskMessage::P2(psk2) => match begin(users, &kept.psk1, psk2) {
             Ok(begun) => {
                 let name = begun.name.copy();
                 kept.psk2 = Some(begun);
@@ -200,8 +200,8 @@ fn judge(kept: &mut PskKept, users: &Users, header: &[u8], view: &PskView) -> Fi
             }
             Err(finding) => finding,
         },
-        PskView::P3(psk3) => follow3(&kept.psk2, header, psk3),
-        PskView::P4(psk4) => follow4(&kept.psk2, header, psk4),
+        PskMessage::P3(psk3) => follow3(&kept.psk2, header, psk3),
+        PskMessage::P4(psk4) => follow4(&kept.psk2, header, psk4),
     }
 }
 
@@ -225,7 +225,7 @@ pub fn judge_body(
     ensures first { kept.new.psk1 ≡ option_or (psk1_of (psk_read to_peer body.now)) kept.old.psk1 }
     ensures login { kept.new.psk2 ≡ option_or (psk2_of users.now kept.old.psk1 (psk_read to_peer body.now)) kept.old.psk2 }
 {
-    match read_psk(body) {
+    match read_psk_message(body) {
         Err(cause) => Finding::Malformed(cause),
         Ok(view) => {
             if is_astray(to_peer, &view) {

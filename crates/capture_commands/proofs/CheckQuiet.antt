@@ -7,8 +7,8 @@ use Rattle.login_setup.specs.declared.users.User.{User}
 use Rattle.text_tables.specs.Words.{is_printable}
 use Rattle.text_tables.specs.declared.fault.LineFault.{LineFault}
 use Rattle.request_text.specs.Captures.{Capture, CaptureLine, read_line, finish_of}
-use Rattle.request_text.specs.declared.capture.CaptureItem.{CaptureItem}
-use Rattle.request_text.specs.declared.capture.CaptureItem.TheVariants as item
+use Rattle.request_text.specs.declared.capture.CaptureItemKind.{CaptureItemKind}
+use Rattle.request_text.specs.declared.capture.CaptureItemKind.TheVariants as item
 use Rattle.capture_check.specs.Finding.{finding_of}
 use Rattle.capture_check.proofs.Keeping.{finding_names}
 use Rattle.answer_text.proofs.Plain.{is_within, plain, skips}
@@ -28,7 +28,7 @@ printable_within (o ∷ rest) h =
 names_within : (users : List User) → All (λ user. is_printable user.name ≡ true) users → All (λ user. is_within user.name ≡ true) users
 names_within users h = λ k d below. printable_within (get_or users k d).name (h k d below)
 
-item_quiet : (c : CheckNow) (reader : Capture) (i : CaptureItem) → All (λ user. is_printable user.name ≡ true) reader.users
+item_quiet : (c : CheckNow) (reader : Capture) (i : CaptureItemKind) → All (λ user. is_printable user.name ≡ true) reader.users
     → IsOrderly (item_took c reader i).after → IsQuietLine begins_result IsOrderly (item_took c reader i)
 item_quiet c reader item.Nothing h orderly = record { text = refl; refusing = tt; after = orderly }
 item_quiet c reader item.Ready h orderly = record { text = refl; refusing = tt; after = orderly }
@@ -40,7 +40,7 @@ item_quiet c reader (item.Packet to_peer octets) h orderly = record {
 }
 item_quiet c reader item.End h orderly = record { text = refl; refusing = tt; after = orderly }
 
-after_item : (c : CheckNow) (reader : Capture) (i : CaptureItem) → (item_took c reader i).after.reader ≡ reader
+after_item : (c : CheckNow) (reader : Capture) (i : CaptureItemKind) → (item_took c reader i).after.reader ≡ reader
 after_item c reader item.Nothing = refl
 after_item c reader item.Ready = refl
 after_item c reader (item.Packet to_peer octets) = refl

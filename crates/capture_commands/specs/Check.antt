@@ -3,8 +3,8 @@ use Rattle.std.specs.Prelude.{ℕ, ◌+◌, List, [], ◌∷◌, ◌++◌, lengt
 use Rattle.octet_io.specs.Lines.{lines}
 use Rattle.text_tables.specs.Words.{fault_word}
 use Rattle.request_text.specs.Captures.{Capture, CaptureLine, read_line, finish_of}
-use Rattle.request_text.specs.declared.capture.CaptureItem.{CaptureItem}
-use Rattle.request_text.specs.declared.capture.CaptureItem.TheVariants as item
+use Rattle.request_text.specs.declared.capture.CaptureItemKind.{CaptureItemKind}
+use Rattle.request_text.specs.declared.capture.CaptureItemKind.TheVariants as item
 use Rattle.text_tables.specs.declared.phase.Phase.TheVariants.{Unread}
 use Rattle.text_tables.specs.declared.fault.LineFault.{LineFault}
 use Rattle.capture_check.specs.Captured.{Captured}
@@ -48,7 +48,7 @@ packet_took c reader packet finding = record {
 abbrev pub silent : CheckNow → Capture → Took CheckNow
 silent c reader = record { text = []; ruling = goes; after = record c { reader = reader } }
 
-abbrev pub item_took : CheckNow → Capture → CaptureItem → Took CheckNow
+abbrev pub item_took : CheckNow → Capture → CaptureItemKind → Took CheckNow
 item_took c reader item.Nothing = silent c reader
 item_took c reader item.Ready = silent c reader
 item_took c reader (item.Packet to_peer octets) =

@@ -2,8 +2,8 @@
 use Rattle.std.specs.Prelude.{ℕ, ◌+◌, ◌≤◌, List, [], length, Bool, false, Result, Ok, Err}
 use Rattle.text_tables.specs.Words.{fault_word}
 use Rattle.request_text.specs.Captures.{Capture, CaptureLine, read_line, finish_of}
-use Rattle.request_text.specs.declared.capture.CaptureItem.{CaptureItem}
-use Rattle.request_text.specs.declared.capture.CaptureItem.TheVariants as item
+use Rattle.request_text.specs.declared.capture.CaptureItemKind.{CaptureItemKind}
+use Rattle.request_text.specs.declared.capture.CaptureItemKind.TheVariants as item
 use Rattle.text_tables.specs.declared.phase.Phase.TheVariants.{Unread}
 use Rattle.text_tables.specs.declared.fault.LineFault.{LineFault}
 use Rattle.capture_check.specs.Finding.{finding_in, kept_next}
@@ -35,7 +35,7 @@ packet_step c reader to_peer octets =
 abbrev pub silent_step : Check → Capture → Took Check
 silent_step c reader = record { text = []; ruling = goes; after = record c { reader = reader } }
 
-abbrev pub item_step : Check → Capture → CaptureItem → Took Check
+abbrev pub item_step : Check → Capture → CaptureItemKind → Took Check
 item_step c reader item.Nothing = silent_step c reader
 item_step c reader item.Ready = silent_step c reader
 item_step c reader (item.Packet to_peer octets) = packet_step c reader to_peer octets

@@ -5,17 +5,17 @@ ghost use Rattle.command_driver.specs.Responding.{Responds, reading, never};
 ghost use Rattle.capture_commands.specs.Check.{check_answer, is_counted};
 
 use answer_text::{write_finding, write_finding_counts};
-use capture_check::{Checker, Finding};
+use capture_check::{Finding, Judge};
 use command_driver::{Close, Command, Next, Status, Trouble, drive};
 use octet_io::{Failed, Sink, Source};
-use request_text::{CaptureItem, CaptureReader};
+use request_text::{CaptureItemKind, CaptureReader};
 
 /// A capture that is being read: what has been read of it, what counts of its packets, how many there were, and
 /// how many of them are malformed or have a bad tag.
 #[derive(Drop)]
 pub struct Check {
     reader: CaptureReader,
-    checker: Checker,
+    checker: Judge,
     packets: u32,
     findings: u32,
 }
@@ -43,7 +43,7 @@ impl Check {
     {
         Check {
             reader: CaptureReader::new(),
-            checker: Checker::new(),
+            checker: Judge::new(),
             packets: 0,
             findings: 0,
         }
@@ -108,15 +108,15 @@ impl Command for Check {
 
     #[tactic(auto, unfolding(crate::specs::CheckSteps::step_took))]
     fn take<W: Sink>(&mut self, sink: &mut W, line: &[u8]) -> Result<Next, Trouble> {
-        match self.reader.line(line) {
-            Ok(CaptureItem::Packet { to_peer, octets }) => self.packet(
+        match self.reader.line_into(line) {
+            Ok(CaptureItemKind::Packet { to_peer, octets }) => self.packet(
                 sink,
                 to_peer,
                 octets.as_slice(),
             ),
-            Ok(CaptureItem::Nothing) => Ok(Next::Goes),
-            Ok(CaptureItem::Ready) => Ok(Next::Goes),
-            Ok(CaptureItem::End) => Ok(Next::Goes),
+            Ok(CaptureItemKind::Nothing) => Ok(Next::Goes),
+            Ok(CaptureItemKind::Ready) => Ok(Next::Goes),
+            Ok(CaptureItemKind::End) => Ok(Next::Goes),
             Err(fault) => Ok(Next::Refuses(fault.word(), Status::Refused)),
         }
     }

@@ -14,9 +14,9 @@ ghost use Rattle.answer_text.specs.Writes.{Appends};
 use crate::check::is_counted;
 use answer_text::Piece::{Leading, Line, Number, Text};
 use answer_text::{write_finding, write_pieces};
-use capture_check::Checker;
+use capture_check::Judge;
 use command_driver::Status;
-use eapol_capture::{FrameFinding, NextRecord, PcapReader, eap_of_frame};
+use eapol_capture::{FrameContents, NextRecord, PcapReader, contents_of_frame};
 use login_setup::Users;
 use octet_io::{Failed, Sink, Source};
 use text_tables::read_users;
@@ -56,7 +56,7 @@ fn is_to_peer(octets: &[u8]) -> bool
 /// count.
 #[derive(Drop)]
 pub struct Found {
-    checker: Checker,
+    checker: Judge,
     packets: u32,
     findings: u32,
 }
@@ -69,7 +69,7 @@ impl Found {
         ensures { result ≡ nothing_found }
     {
         Found {
-            checker: Checker::new(),
+            checker: Judge::new(),
             packets: 0,
             findings: 0,
         }
@@ -91,13 +91,13 @@ impl Found {
             (record_step users.now self.old number (contents_of frame.now)).text }
         ensures after { self.new ≡ (record_step users.now self.old number (contents_of frame.now)).after }
     {
-        match eap_of_frame(frame) {
-            FrameFinding::Other => Ok(()),
-            FrameFinding::Cut => {
+        match contents_of_frame(frame) {
+            FrameContents::Other => Ok(()),
+            FrameContents::Cut => {
                 self.findings += 1;
                 write_cut(sink, number)
             }
-            FrameFinding::Eap(octets) => {
+            FrameContents::Eap(octets) => {
                 let finding = self.checker.packet(users, is_to_peer(octets), octets);
                 self.packets += 1;
                 self.findings += u32::from(is_counted(&finding));

@@ -13,8 +13,8 @@ ghost use Rattle.capture_commands.specs.Radius.{reply_judged, word_line};
 use answer_text::Piece::{Hex, Number, Text};
 use answer_text::{write_hex, write_pieces};
 use command_driver::{Close, Command, Next, Status, Trouble, drive};
-use octet_lists::{Identity, Octets, Packet};
 use octet_io::{Failed, Sink, Source};
+use octet_lists::{Identity, Octets, Packet};
 use radius_carry::{
     RadiusKind, RadiusView, eap_of, read_radius, reply_good, request_good, write_reply,
     write_request,

@@ -3,4 +3,5 @@
 
 mod login;
 
+pub use command_driver::Status;
 pub use login::eap_login;

@@ -4,8 +4,8 @@ use Rattle.eap_packet.specs.declared.packet.Code.{Code}
 use Rattle.eap_packet.specs.declared.packet.Code.TheVariants as code
 use Rattle.eap_packet.specs.Packet.{request, response, spelled, has_type, value_with}
 use Rattle.eap_method.specs.Tags.{Tags}
-use Rattle.eap_method.specs.declared.turn.ServerTurn as brief
-use Rattle.eap_method.specs.declared.turn.ServerTurn.TheVariants as turn
+use Rattle.eap_method.specs.declared.turn.ServerAnswer as brief
+use Rattle.eap_method.specs.declared.turn.ServerAnswer.TheVariants as turn
 use Rattle.eap_method.specs.ServerTurn.{ServerTurn, server_turn_with}
 use Rattle.eap_method.specs.Room.{HasRoom, requests}
 
@@ -26,7 +26,7 @@ typed_has_room code.Success id kind body typed short = cc
 typed_has_room code.Failure id kind body typed short = cc
 
 -- a turn that is the same whatever was written sends nothing
-pub sends_nothing : (answer : brief.ServerTurn) (tags : Tags) (made : ServerTurn) →
+pub sends_nothing : (answer : brief.ServerAnswer) (tags : Tags) (made : ServerTurn) →
     ((packet : List ℕ) → server_turn_with answer packet tags ≡ made) → requests answer ≡ false
 sends_nothing (turn.Discard cause) tags made same = refl
 sends_nothing turn.Request tags made same =

@@ -3,12 +3,12 @@
 ghost use Rattle.std.specs.Prelude.{◌≡◌, true, IsTrue};
 ghost use Rattle.login_setup.specs.Setup.{fits_kind};
 ghost use Rattle.eap_method.specs.Peer.{peer_kind, peer_begun, peer_step, peer_report, IsRequest};
-ghost use Rattle.eap_method.specs.PeerTurn.{peer_turn_with, peer_tags};
-ghost use Rattle.eap_method.specs.Room.{HasRoom, replies};
+ghost use Rattle.eap_method.specs.PeerTurn.{peer_turn_of, peer_turn_with, peer_tags};
+ghost use Rattle.eap_method.specs.Room.{HasRoom, PeerTurnHasRoom, replies};
 
 use crate::records::Records;
 use crate::tags::Tags;
-use crate::turn::PeerTurn;
+use crate::turn::{PeerAnswer, PeerTurn};
 use crate::values::{Credential, Report};
 use octet_lists::{Nonce, Packet};
 
@@ -29,16 +29,25 @@ pub trait PeerMethod: Drop {
         requires { IsTrue (fits_kind (peer_kind (peer_shown self.old)) cred.now.psk) }
         ensures { peer_shown self.new ≡ peer_begun cred.now nonce.now (peer_shown self.old) };
 
-    /// The turn for a Request of this Type with nothing past its Length. The Response is written into
+    /// The turn for a Request of this Type with nothing past its Length. A Response leaves room for an Expanded Type: it has
+    /// at most 1,493 octets.
+    fn handle(&mut self, request: &[u8]) -> PeerTurn
+        requires { IsRequest (peer_kind (peer_shown self.old)) request.now }
+        ensures turn { peer_step (peer_shown self.old) request.now ≡ record { turn = peer_turn_of result; after = peer_shown self.new } }
+        ensures room { PeerTurnHasRoom result };
+
+    /// The same, where the caller lends room. The Response is written into
     /// `packet` in place of what was there, the records of its tags into `tags`. It leaves room for an
     /// Expanded Type: it has at most 1,493 octets. A discard leaves no record, and `packet` is then
     /// unspecified.
-    fn handle<R: Records>(
+    fn handle_step<R: Records>(
         &mut self,
         request: &[u8],
         packet: &mut Packet,
         tags: &mut Tags<R>,
-    ) -> PeerTurn
+    ) -> PeerAnswer
+    where
+        Self: Sized,
         requires { IsRequest (peer_kind (peer_shown self.old)) request.now }
         ensures turn { peer_step (peer_shown self.old) request.now
             ≡ record { turn = peer_turn_with result packet.new tags.new; after = peer_shown self.new } }
@@ -48,4 +57,48 @@ pub trait PeerMethod: Drop {
     /// What the peer has after a login that succeeded; None before and after any other.
     fn report(&self) -> Option<Report>
         ensures { result ≡ peer_report (peer_shown self.now) };
+}
+
+impl PeerMethod for Box<dyn PeerMethod> {
+    ghost peer_shown = { λ b. (PeerMethod-box b).peer_shown b.value };
+
+    fn kind(&self) -> u8 {
+        (**self).kind()
+    }
+
+    fn begin(&mut self, cred: &Credential, nonce: &Nonce) {
+        (**self).begin(cred, nonce)
+    }
+
+    fn handle(&mut self, request: &[u8]) -> PeerTurn {
+        (**self).handle(request)
+    }
+
+    fn handle_step<R: Records>(
+        &mut self,
+        request: &[u8],
+        packet: &mut Packet,
+        tags: &mut Tags<R>,
+    ) -> PeerAnswer {
+        match (**self).handle(request) {
+            PeerTurn::Discard(cause) => {
+                tags.clear();
+                PeerAnswer::Discard(cause)
+            }
+            PeerTurn::Reply {
+                packet: sent,
+                state,
+                decision,
+                tags: records,
+            } => {
+                packet.set(sent.as_slice());
+                tags.set(&records);
+                PeerAnswer::Reply { state, decision }
+            }
+        }
+    }
+
+    fn report(&self) -> Option<Report> {
+        (**self).report()
+    }
 }

@@ -11,12 +11,12 @@ ghost use Rattle.eap_method.specs.Room.{HasRoom, replies};
 use crate::peer::PeerMethod;
 use crate::records::Records;
 use crate::tags::Tags;
-use crate::turn::PeerTurn;
+use crate::turn::PeerAnswer;
 use crate::values::{Credential, Report};
-use octet_lists::{Packet, Secret};
 use eap_packet::Cause;
 use login_policy::peer_allows;
 use login_setup::PeerSetup;
+use octet_lists::{Packet, Secret};
 
 /// Begins each object whose method the settings allow, with the key for it, whatever its state before;
 /// the others stay as they are.
@@ -41,7 +41,7 @@ pub fn hand_to_peer<M: PeerMethod, R: Records>(
     request: &[u8],
     packet: &mut Packet,
     tags: &mut Tags<R>,
-) -> PeerTurn
+) -> PeerAnswer
     requires { IsRequest kind request.now }
     ensures turn { (allowed : List ℕ) → is_among allowed kind ≡ true → peer_turn kind (peer_views allowed (map M.peer_shown methods.old)) request.now
         ≡ record { turn = peer_turn_with result packet.new tags.new; after = peer_views allowed (map M.peer_shown methods.new) } }
@@ -54,11 +54,11 @@ pub fn hand_to_peer<M: PeerMethod, R: Records>(
     match methods.split_first_mut() {
         None => {
             tags.clear();
-            PeerTurn::Discard(Cause::WrongOp)
+            PeerAnswer::Discard(Cause::WrongOp)
         }
         Some((first, rest)) => {
             if first.kind() == kind {
-                first.handle(request, packet, tags)
+                first.handle_step(request, packet, tags)
             } else {
                 hand_to_peer(rest, kind, request, packet, tags)
             }

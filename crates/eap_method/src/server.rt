@@ -3,15 +3,15 @@
 ghost use Rattle.std.specs.Prelude.{◌≡◌, true, IsTrue, All};
 ghost use Rattle.login_setup.specs.Setup.{fits_kind, are_suites};
 ghost use Rattle.eap_method.specs.Server.{server_kind, server_begun, has_begun, server_first_step, server_step, server_report, IsResponse};
-ghost use Rattle.eap_method.specs.Room.{HasRoom, requests};
-ghost use Rattle.eap_method.specs.ServerTurn.{server_turn_with, server_tags};
+ghost use Rattle.eap_method.specs.Room.{HasRoom, ServerTurnHasRoom, requests};
+ghost use Rattle.eap_method.specs.ServerTurn.{server_turn_of, server_turn_with, server_tags};
 
 use crate::records::Records;
 use crate::tags::Tags;
-use crate::turn::ServerTurn;
+use crate::turn::{ServerAnswer, ServerTurn};
 use crate::values::{Report, ServerSide};
-use octet_lists::{Nonce, Packet};
 use login_setup::Users;
+use octet_lists::{Nonce, Packet};
 
 /// A method at a server. Its ghost member says which method it is and its state.
 pub trait ServerMethod: Drop {
@@ -29,26 +29,47 @@ pub trait ServerMethod: Drop {
         requires { IsTrue (are_suites own.now.suites) }
         ensures { server_shown self.new ≡ server_begun own.now nonce.now (server_shown self.old) };
 
+    /// The method's first Request, with this Identifier: at most 1,493 octets, so that an Expanded Type has room. The object
+    /// has begun and made none.
+    fn first(&mut self, id: u8) -> Packet
+        requires { has_begun (server_shown self.old) ≡ true }
+        ensures first { server_first_step (server_shown self.old) id ≡ record { packet = result; after = server_shown self.new } }
+        ensures room { HasRoom result };
+
     /// Writes the method's first Request, with this Identifier, into `packet` in place of what was
     /// there: at most 1,493 octets, so that an Expanded Type has room. The object has begun and made none.
-    fn first(&mut self, id: u8, packet: &mut Packet)
+    fn first_step(&mut self, id: u8, packet: &mut Packet)
+    where
+        Self: Sized,
         requires { has_begun (server_shown self.old) ≡ true }
         ensures first { server_first_step (server_shown self.old) id ≡ record { packet = packet.new; after = server_shown self.new } }
         ensures room { HasRoom packet.new };
 
-    /// The turn for a Response of this Type with nothing past its Length. A Request that follows has
+    /// The turn for a Response of this Type with nothing past its Length. A Request that follows has the Identifier
+    /// `next_id` and leaves room for an Expanded Type: it has at most 1,493 octets. The users' keys have 16 octets for
+    /// EAP-PSK, 32 to 64 for EAP-GPSK.
+    fn handle(&mut self, response: &[u8], next_id: u8, users: &Users) -> ServerTurn
+        requires response { IsResponse (server_kind (server_shown self.old)) response.now }
+        requires keys { All (λ user. IsTrue (fits_kind user.kind user.psk)) users.now }
+        ensures turn { server_step users.now next_id (server_shown self.old) response.now
+            ≡ record { turn = server_turn_of result; after = server_shown self.new } }
+        ensures room { ServerTurnHasRoom result };
+
+    /// The same, where the caller lends room. A Request that follows has
     /// the Identifier `next_id` and is written into `packet` in place of what was there, the records of
     /// the turn's tags into `tags`. It leaves room for an Expanded Type: it has at most 1,493 octets. A
     /// discard leaves no record; without a Request `packet` is unspecified. The users' keys have 16
     /// octets for EAP-PSK, 32 to 64 for EAP-GPSK.
-    fn handle<R: Records>(
+    fn handle_step<R: Records>(
         &mut self,
         response: &[u8],
         next_id: u8,
         users: &Users,
         packet: &mut Packet,
         tags: &mut Tags<R>,
-    ) -> ServerTurn
+    ) -> ServerAnswer
+    where
+        Self: Sized,
         requires response { IsResponse (server_kind (server_shown self.old)) response.now }
         requires keys { All (λ user. IsTrue (fits_kind user.kind user.psk)) users.now }
         ensures turn { server_step users.now next_id (server_shown self.old) response.now
@@ -59,4 +80,64 @@ pub trait ServerMethod: Drop {
     /// What the server has after a login that succeeded; None before and after any other.
     fn report(&self) -> Option<Report>
         ensures { result ≡ server_report (server_shown self.now) };
+}
+
+impl ServerMethod for Box<dyn ServerMethod> {
+    ghost server_shown = { λ b. (ServerMethod-box b).server_shown b.value };
+
+    fn kind(&self) -> u8 {
+        (**self).kind()
+    }
+
+    fn begin(&mut self, own: &ServerSide, nonce: &Nonce) {
+        (**self).begin(own, nonce)
+    }
+
+    fn first(&mut self, id: u8) -> Packet {
+        (**self).first(id)
+    }
+
+    fn first_step(&mut self, id: u8, packet: &mut Packet) {
+        let first = (**self).first(id);
+        packet.set(first.as_slice());
+    }
+
+    fn handle(&mut self, response: &[u8], next_id: u8, users: &Users) -> ServerTurn {
+        (**self).handle(response, next_id, users)
+    }
+
+    fn handle_step<R: Records>(
+        &mut self,
+        response: &[u8],
+        next_id: u8,
+        users: &Users,
+        packet: &mut Packet,
+        tags: &mut Tags<R>,
+    ) -> ServerAnswer {
+        match (**self).handle(response, next_id, users) {
+            ServerTurn::Discard(cause) => {
+                tags.clear();
+                ServerAnswer::Discard(cause)
+            }
+            ServerTurn::Request {
+                packet: sent,
+                tags: records,
+            } => {
+                packet.set(sent.as_slice());
+                tags.set(&records);
+                ServerAnswer::Request
+            }
+            ServerTurn::Done {
+                success,
+                tags: records,
+            } => {
+                tags.set(&records);
+                ServerAnswer::Done { success }
+            }
+        }
+    }
+
+    fn report(&self) -> Option<Report> {
+        (**self).report()
+    }
 }

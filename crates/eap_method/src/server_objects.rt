@@ -12,11 +12,11 @@ ghost use Rattle.eap_method.specs.Unnamed.{servers_unnamed};
 use crate::records::Records;
 use crate::server::ServerMethod;
 use crate::tags::Tags;
-use crate::turn::ServerTurn;
+use crate::turn::ServerAnswer;
 use crate::values::{Report, ServerSide};
-use octet_lists::{Nonce, Packet, is_among};
 use eap_packet::Cause;
 use login_setup::{ServerSetup, Users};
+use octet_lists::{Nonce, Packet, is_among};
 
 /// Begins each object whose method the settings propose, whatever its state before; the others stay as they are.
 pub fn begin_servers<M: ServerMethod>(methods: &mut [M], setup: &ServerSetup)
@@ -54,7 +54,7 @@ pub fn offer_method<M: ServerMethod>(
         Some((first, rest)) => {
             if first.kind() == kind {
                 first.begin(own, nonce);
-                first.first(id, packet);
+                first.first_step(id, packet);
                 true
             } else {
                 offer_method(rest, kind, own, nonce, id, packet)
@@ -75,7 +75,7 @@ pub fn hand_to_server<M: ServerMethod, R: Records>(
     users: &Users,
     packet: &mut Packet,
     tags: &mut Tags<R>,
-) -> ServerTurn
+) -> ServerAnswer
     requires response { IsResponse kind response.now }
     requires keys { All (λ user. IsTrue (fits_kind user.kind user.psk)) users.now }
     ensures turn { (order : List ℕ) → is_among order kind ≡ true
@@ -90,11 +90,11 @@ pub fn hand_to_server<M: ServerMethod, R: Records>(
     match methods.split_first_mut() {
         None => {
             tags.clear();
-            ServerTurn::Discard(Cause::WrongOp)
+            ServerAnswer::Discard(Cause::WrongOp)
         }
         Some((first, rest)) => {
             if first.kind() == kind {
-                first.handle(response, next_id, users, packet, tags)
+                first.handle_step(response, next_id, users, packet, tags)
             } else {
                 hand_to_server(rest, kind, response, next_id, users, packet, tags)
             }

@@ -102,7 +102,7 @@ fn append_each(octets: &mut Packet, pieces: &[&[u8]])
 /// At most 2 records, in the order of the message's tags. Contracts see the list of the records, whether there is room
 /// for them or not.
 #[derive(Drop)]
-pub struct TagList<R: Records> {
+pub struct TagList<R: Records = Kept> {
     room: R,
     count: usize,
     note: Note,
@@ -181,7 +181,53 @@ impl<R: Records> TagList<R> {
     }
 }
 
+impl<R: Records> TagList<R> {
+    /// Replaces the records by those of another list.
+    pub fn set(&mut self, list: &TagList)
+        ensures { self.new ≡ list.now }
+    {
+        self.clear();
+        match list.as_slice() {
+            [first, second] => {
+                self.add_record(first);
+                self.add_record(second);
+            }
+            [first] => self.add_record(first),
+            _ => {}
+        }
+    }
+
+    /// Appends a record, for which there is room.
+    fn add_record(&mut self, tag: &TagRecord)
+        requires { length self.old < 2 }
+        ensures { self.new ≡ self.old ++ tag.now ∷ [] }
+    {
+        self.add(
+            tag.method,
+            tag.label,
+            &tag.psk,
+            &[tag.octets.as_slice()],
+            tag.tag.as_slice(),
+        );
+    }
+}
+
 impl TagList<Kept> {
+    /// Appends a record and answers true. If 2 records are there it answers false and changes nothing.
+    pub fn push(&mut self, tag: TagRecord) -> bool
+        ensures room { IsTrue result ↔ (length self.old < 2) }
+        ensures added { length self.old < 2 → self.new ≡ self.old ++ tag ∷ [] }
+        ensures unchanged { 2 ≤ length self.old → self.new ≡ self.old }
+    {
+        self.add(
+            tag.method,
+            tag.label,
+            &tag.psk,
+            &[tag.octets.as_slice()],
+            tag.tag.as_slice(),
+        )
+    }
+
     /// The records in order.
     pub fn as_slice(&self) -> &[TagRecord]
         ensures same { result.now ≡ self.now }
@@ -194,7 +240,7 @@ impl TagList<Kept> {
 /// The records of a turn: of the tags accepted in the message received, and of those made for the
 /// message sent.
 #[derive(Drop)]
-pub struct Tags<R: Records> {
+pub struct Tags<R: Records = Kept> {
     pub accepted: TagList<R>,
     pub made: TagList<R>,
 }
@@ -216,6 +262,14 @@ impl<R: Records> Tags<R> {
             accepted: TagList::new(),
             made: TagList::new(),
         }
+    }
+
+    /// Replaces the records by others.
+    pub fn set(&mut self, tags: &Tags)
+        ensures { self.new ≡ tags.now }
+    {
+        self.accepted.set(&tags.accepted);
+        self.made.set(&tags.made);
     }
 
     /// Leaves no record.

@@ -1,12 +1,19 @@
 //! What a method's object answers to a packet. The packet that it sends and the records of its tags
 //! are in the buffers passed to the call.
 
+ghost use Rattle.std.specs.Prelude.{◌≡◌, true};
+ghost use Rattle.eap_method.specs.Room.{HasRoom, replies, requests, PeerTurnHasRoom, ServerTurnHasRoom};
+ghost use Rattle.eap_method.specs.PeerTurn.{peer_turn_with, peer_turn_of};
+ghost use Rattle.eap_method.specs.ServerTurn.{server_turn_with, server_turn_of};
+
+use crate::tags::Tags;
 use crate::values::{Decision, MethodState};
 use eap_packet::Cause;
+use octet_lists::Packet;
 
 /// A peer's answer to a Request of its method.
 #[derive(Clone, Copy, PartialEq, Eq, Debug)]
-pub enum PeerTurn {
+pub enum PeerAnswer {
     /// The Request is discarded, and nothing changes.
     Discard(Cause),
     /// A Response, and the methodState and decision after it (RFC 4137 section 4.2).
@@ -18,11 +25,69 @@ pub enum PeerTurn {
 
 /// A server's answer to a Response of its method.
 #[derive(Clone, Copy, PartialEq, Eq, Debug)]
-pub enum ServerTurn {
+pub enum ServerAnswer {
     /// The Response is discarded, and nothing changes.
     Discard(Cause),
     /// The next Request.
     Request,
     /// The method is over, with success or with failure.
     Done { success: bool },
+}
+
+/// A peer's whole answer to a Request of its method.
+#[derive(Drop)]
+pub enum PeerTurn {
+    /// The Request is discarded, and nothing changes.
+    Discard(Cause),
+    /// A Response, the methodState and decision after it (RFC 4137 section 4.2), and the records of the tags accepted
+    /// and made.
+    Reply {
+        packet: Packet,
+        state: MethodState,
+        decision: Decision,
+        tags: Tags,
+    },
+}
+
+/// A server's whole answer to a Response of its method.
+#[derive(Drop)]
+pub enum ServerTurn {
+    /// The Response is discarded, and nothing changes.
+    Discard(Cause),
+    /// The next Request, and the records of the tags accepted and made.
+    Request { packet: Packet, tags: Tags },
+    /// The method is over, with success or with failure.
+    Done { success: bool, tags: Tags },
+}
+
+impl PeerAnswer {
+    /// The turn with the packet and the records that its call wrote.
+    pub fn with(self, packet: Packet, tags: Tags) -> PeerTurn
+        ensures turn { peer_turn_of result ≡ peer_turn_with self packet tags }
+        ensures room { (replies self ≡ true → HasRoom packet) → PeerTurnHasRoom result }
+    {
+        match self {
+            PeerAnswer::Discard(cause) => PeerTurn::Discard(cause),
+            PeerAnswer::Reply { state, decision } => PeerTurn::Reply {
+                packet,
+                state,
+                decision,
+                tags,
+            },
+        }
+    }
+}
+
+impl ServerAnswer {
+    /// The turn with the packet and the records that its call wrote.
+    pub fn with(self, packet: Packet, tags: Tags) -> ServerTurn
+        ensures turn { server_turn_of result ≡ server_turn_with self packet tags }
+        ensures room { (requests self ≡ true → HasRoom packet) → ServerTurnHasRoom result }
+    {
+        match self {
+            ServerAnswer::Discard(cause) => ServerTurn::Discard(cause),
+            ServerAnswer::Request => ServerTurn::Request { packet, tags },
+            ServerAnswer::Done { success } => ServerTurn::Done { success, tags },
+        }
+    }
 }

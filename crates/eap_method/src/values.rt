@@ -2,8 +2,8 @@
 
 ghost use Rattle.std.specs.Prelude.{◌≡◌};
 
-use octet_lists::{Identity, Secret, Suites};
 use login_setup::Accepts;
+use octet_lists::{Identity, Secret, Suites};
 
 /// methodState of the peer (RFC 4137 section 4.2); `NotSet` is NONE.
 #[derive(Clone, Copy, PartialEq, Eq, Debug)]
@@ -86,4 +86,11 @@ pub struct Report {
     pub msk: [u8; 64],
     /// The Extended Master Session Key (RFC 3748 section 7.10).
     pub emsk: [u8; 64],
+}
+
+/// The objects of both ends' methods.
+#[derive(Drop)]
+pub struct Methods<P, S> {
+    pub peer: Vec<P>,
+    pub server: Vec<S>,
 }

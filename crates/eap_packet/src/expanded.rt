@@ -1,7 +1,7 @@
 //! Expanded Types (RFC 3748 section 5.7): Type 254, in which a vendor's Types and those of the IETF
 //! are encoded.
 
-ghost use Rattle.std.specs.Prelude.{◌≡◌, ◌≤◌, ◌∷◌, ◌++◌, length, IsTrue};
+ghost use Rattle.std.specs.Prelude.{◌≡◌, ◌≤◌, ◌∷◌, ◌++◌, ◌↔◌, length, IsTrue, IsSome, IfSome};
 ghost use Rattle.octet_lists.specs.Sizes.{max_packet};
 ghost use Rattle.octet_lists.specs.Among.{expanded_kind, ietf};
 ghost use Rattle.eap_packet.specs.Packet.{spelled, value_of, two_octets, max_type_data};
@@ -141,10 +141,24 @@ pub fn write_plain(view: &PacketView, packet: &mut Packet) -> bool
     true
 }
 
+/// The plain form of a packet of Type 254, as [`write_plain`] says; None exactly if the packet is its own plain form.
+pub fn plain(view: &PacketView) -> Option<Packet>
+    requires { length view.now.body.now ≤ max_type_data }
+    ensures differs { IsSome result ↔ IsTrue (has_plain_form (value_of view.now)) }
+    ensures plain { IfSome result (λ packet. packet ≡ spelled (plain (value_of view.now))) }
+{
+    let mut packet = Packet::new();
+    if write_plain(view, &mut packet) {
+        Some(packet)
+    } else {
+        None
+    }
+}
+
 /// Wraps a Request or a Response in place: its Type becomes the Vendor-Type of Vendor-Id 0, its
 /// Type-Data the Vendor data (RFC 3748 section 5.7). Padding is left out. Its Length is at most
 /// 1,493.
-pub fn wrap(packet: &mut Packet)
+pub fn wrap_in_place(packet: &mut Packet)
     requires typed { 5 ≤ length_of packet.old }
     requires whole { length_of packet.old ≤ length packet.old }
     requires fits { length_of packet.old ≤ 1493 }
@@ -155,6 +169,18 @@ pub fn wrap(packet: &mut Packet)
     let length = length_field(octets);
     packet.set(&front(octets[0], octets[1], length + VENDOR_SIZE));
     packet.put(&octets[4..length]);
+}
+
+/// A Request or a Response, wrapped, as [`wrap_in_place`] says.
+pub fn wrap(packet: &Packet) -> Packet
+    requires typed { 5 ≤ length_of packet.now }
+    requires whole { length_of packet.now ≤ length packet.now }
+    requires fits { length_of packet.now ≤ 1493 }
+    ensures { result ≡ expanded_form packet.now }
+{
+    let mut wrapped = packet.copy();
+    wrap_in_place(&mut wrapped);
+    wrapped
 }
 
 /// The fields before the Type of a packet that is wrapped: Code, Identifier, Length, Type 254 and the

@@ -9,14 +9,16 @@ mod path;
 mod state;
 
 pub use cause::Cause;
-pub use expanded::{Expanded, is_bad_expanded, read_expanded, wrap, write_plain};
+pub use expanded::{
+    Expanded, is_bad_expanded, plain, read_expanded, wrap, wrap_in_place, write_plain,
+};
 pub use laws::{
     faultless_is_spelled, ietf_is_vendor_zero, nak_is_vendor_zero, only_wrapped_differ,
     plain_is_packet, plain_of_wrap, reads_the_spelling, spellings_are_apart, spellings_are_read,
     wrap_is_packet, wraps_the_spelling,
 };
 pub use packet::{
-    Code, PacketView, begin_into, decode, encode, encode_end, encode_end_into, encode_into,
+    Code, PacketView, View, begin_into, decode, encode, encode_end, encode_end_into, encode_into,
 };
 pub use path::Path;
 pub use state::State;

@@ -33,6 +33,9 @@ pub struct PacketView<'a> {
     pub whole: &'a [u8],
 }
 
+/// The same by a shorter name.
+pub type View<'a> = PacketView<'a>;
+
 /// The Length field of at least four octets.
 pub fn length_field(octets: &[u8]) -> usize
     requires { 4 ≤ length octets.now }

@@ -2,9 +2,9 @@
 use Rattle.std.proofs.Common.{◌≡◌, ℕ, Option, None, ap, ◌∙◌}
 use Rattle.eap_world.specs.World.{Called, Did, told_of}
 use Rattle.eap_world.specs.declared.told.Named.{Named}
-use Rattle.eap_world.specs.declared.told.Told.{Told}
+use Rattle.eap_world.specs.declared.told.Brief.{Brief}
 
-pub told_named : (told : Told) (event number : ℕ) (did : Did) (named now : Option Named) → told ≡ told_of event number None (Called did) → named ≡ now
+pub told_named : (told : Brief) (event number : ℕ) (did : Did) (named now : Option Named) → told ≡ told_of event number None (Called did) → named ≡ now
     → record told { named = named } ≡ told_of event number now (Called did)
 told_named told event number did named now is same =
-    ap (λ (t : Told). record t { named = named }) is ∙ ap (λ (n : Option Named). told_of event number n (Called did)) same
+    ap (λ (t : Brief). record t { named = named }) is ∙ ap (λ (n : Option Named). told_of event number n (Called did)) same

@@ -46,8 +46,8 @@ use Rattle.tag_book.specs.declared.book.End.{End}
 use Rattle.tag_book.specs.declared.book.End.TheVariants as end
 use Rattle.eap_world.specs.declared.told.Counts.{Counts}
 use Rattle.eap_world.specs.declared.told.Named.{Named}
-use Rattle.eap_world.specs.declared.told.SentPacket.{SentPacket}
-use Rattle.eap_world.specs.declared.told.Told.{Told}
+use Rattle.eap_world.specs.declared.told.SentNumber.{SentNumber}
+use Rattle.eap_world.specs.declared.told.Brief.{Brief}
 use Rattle.eap_world.specs.declared.told.Skip.{Skip}
 use Rattle.eap_world.specs.declared.told.Skip.TheVariants.{NoParty, Unsent, Place, Ended, NoTimer, NoNonce}
 use Rattle.eap_world.specs.declared.world.Held.{Held}
@@ -524,11 +524,11 @@ held_before held parties conversations sent e =
     held_unless held (first_skip (skip_table parties conversations sent e)) (call_of conversations sent e)
 
 -- its result: the number of its event, that of the packet it sends, and a first report
-abbrev pub sent_packet : ℕ → Port → Option (List ℕ) → Option SentPacket
+abbrev pub sent_packet : ℕ → Port → Option (List ℕ) → Option SentNumber
 sent_packet number port None = None
 sent_packet number port (Some octets) = Some (record { number = number; port = port })
 
-abbrev pub told_of : ℕ → ℕ → Option Named → Action → Told
+abbrev pub told_of : ℕ → ℕ → Option Named → Action → Brief
 told_of event number named (Skipped skip) =
     record { event = event; party = None; path = []; cause = None; skip = Some skip; sent = None; named = None }
 told_of event number named (Called did) = record {
@@ -542,7 +542,7 @@ told_of event number named (Called did) = record {
 }
 
 -- the result of an action that left the machines so, and which ends have then had a report
-abbrev pub told_with : {P S : Type 0} → (P → PeerShown) → (S → ServerShown) → Held → Machines P S → ℕ → ℕ → Action → Told
+abbrev pub told_with : {P S : Type 0} → (P → PeerShown) → (S → ServerShown) → Held → Machines P S → ℕ → ℕ → Action → Brief
 told_with peer_shown server_shown held after event number action =
     told_of event number (named_by held (parties_of peer_shown server_shown after) action) action
 
@@ -551,14 +551,14 @@ held_with peer_shown server_shown held after action = held_after held (named_by 
 
 -- the result of a start or an event, and the world after it
 pub record WorldOutcome : Type 0 where
-  pub told : Told
+  pub told : Brief
   pub after : WorldNow
 
-abbrev pub world_outcome : Told → WorldNow → WorldOutcome
+abbrev pub world_outcome : Brief → WorldNow → WorldOutcome
 world_outcome told after = record { told = told; after = after }
 
 -- the call returns this result, and leaves the world after it
-abbrev pub Tells : {P S : Type 0} → (P → PeerShown) → (S → ServerShown) → WorldOutcome → Told → WorldValue P S → Type 0
+abbrev pub Tells : {P S : Type 0} → (P → PeerShown) → (S → ServerShown) → WorldOutcome → Brief → WorldValue P S → Type 0
 Tells peer_shown server_shown out told after = out ≡ world_outcome told (now_of peer_shown server_shown after)
 
 -- the world after the parties have acted as the event of this number, with these counts, if these ends had had a
@@ -609,7 +609,7 @@ abbrev pub octets_numbered : List Sent → ℕ → Option (List ℕ)
 octets_numbered sent n = option_map (λ (packet : Sent). packet.octets) (packet_numbered sent n)
 
 -- the octets of the packet that is reported, among those sent so far; none if none is
-abbrev pub octets_of_sent : List Sent → Option SentPacket → List ℕ
+abbrev pub octets_of_sent : List Sent → Option SentNumber → List ℕ
 octets_of_sent sent None = []
 octets_of_sent sent (Some packet) = octets_of (packet_numbered sent packet.number)
 

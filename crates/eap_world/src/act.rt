@@ -18,9 +18,9 @@ ghost use Rattle.eap_world.specs.declared.told.Skip.TheVariants.{Ended};
 use crate::conversations::Conversations;
 use crate::store::{Store, Stored};
 use crate::told::Skip;
-use octet_lists::Packet;
 use eap_method::{Kept, PeerMethod, ServerMethod, Step, Tags};
 use login_setup::{Event, Mode, Party, Port};
+use octet_lists::Packet;
 use pass_through::PassThrough;
 use peer_machine::PeerMachine;
 use server_machine::ServerMachine;
@@ -73,11 +73,11 @@ impl<P: PeerMethod, S: ServerMethod> Machines<P, S> {
         self.tags.clear();
         match self.mode {
             Mode::Alone => {
-                let step = self.server.start(&mut self.packet);
+                let step = self.server.start_step(&mut self.packet);
                 action_to(Party::Server, Port::Peer, false, step)
             }
             Mode::Through => {
-                let step = self.pass.start(&mut self.packet);
+                let step = self.pass.start_step(&mut self.packet);
                 action_to(Party::Pass, Port::Peer, false, step)
             }
         }
@@ -184,21 +184,23 @@ impl<P: PeerMethod, S: ServerMethod> Machines<P, S> {
         self.tags.clear();
         match port {
             Port::Peer => {
-                let step = self.peer.deliver(octets, &mut self.packet, &mut self.tags);
+                let step = self
+                    .peer
+                    .deliver_step(octets, &mut self.packet, &mut self.tags);
                 action_of(self.mode, Party::Peer, true, step)
             }
             Port::Server => {
                 let step = self
                     .server
-                    .deliver(octets, &mut self.packet, &mut self.tags);
+                    .deliver_step(octets, &mut self.packet, &mut self.tags);
                 action_of(self.mode, Party::Server, true, step)
             }
             Port::PassPeer => {
-                let step = self.pass.from_peer(octets, &mut self.packet);
+                let step = self.pass.from_peer_step(octets, &mut self.packet);
                 action_to(Party::Pass, Port::Server, true, step)
             }
             Port::PassServer => {
-                let step = self.pass.from_backend(octets, &mut self.packet);
+                let step = self.pass.from_backend_step(octets, &mut self.packet);
                 action_to(Party::Pass, Port::Peer, true, step)
             }
         }
@@ -235,7 +237,7 @@ impl<P: PeerMethod, S: ServerMethod> Machines<P, S> {
             Mode::Through => Action::Skipped(Skip::NoTimer),
             Mode::Alone => {
                 self.tags.clear();
-                let step = self.server.timeout(&mut self.packet);
+                let step = self.server.timeout_step(&mut self.packet);
                 action_to(Party::Server, Port::Peer, false, step)
             }
         }
@@ -250,7 +252,7 @@ impl<P: PeerMethod, S: ServerMethod> Machines<P, S> {
             Some(skip) => Action::Skipped(skip),
             None => {
                 self.tags.clear();
-                let step = self.pass.timeout(&mut self.packet);
+                let step = self.pass.timeout_step(&mut self.packet);
                 action_to(Party::Pass, Port::Peer, false, step)
             }
         }
@@ -265,7 +267,7 @@ impl<P: PeerMethod, S: ServerMethod> Machines<P, S> {
         self.tags.clear();
         match self.pass_skip(self.pass.waits_for_server()) {
             Some(skip) => Action::Skipped(skip),
-            None => action_to(Party::Pass, Port::Peer, false, self.pass.aaa_timeout()),
+            None => action_to(Party::Pass, Port::Peer, false, self.pass.aaa_timeout_step()),
         }
     }
 
@@ -278,7 +280,7 @@ impl<P: PeerMethod, S: ServerMethod> Machines<P, S> {
         self.tags.clear();
         match self.pass_skip(self.pass.waits_for_server()) {
             Some(skip) => Action::Skipped(skip),
-            None => action_to(Party::Pass, Port::Peer, false, self.pass.aaa_noreq()),
+            None => action_to(Party::Pass, Port::Peer, false, self.pass.aaa_noreq_step()),
         }
     }
 
@@ -311,9 +313,19 @@ impl<P: PeerMethod, S: ServerMethod> Machines<P, S> {
             return Action::Skipped(Skip::Ended);
         }
         match event {
-            Event::Idle => action_of(self.mode, Party::Peer, false, self.peer.idle()),
-            Event::AltAccept => action_of(self.mode, Party::Peer, false, self.peer.alt_accept()),
-            Event::AltReject => action_of(self.mode, Party::Peer, false, self.peer.alt_reject()),
+            Event::Idle => action_of(self.mode, Party::Peer, false, self.peer.idle_step()),
+            Event::AltAccept => action_of(
+                self.mode,
+                Party::Peer,
+                false,
+                self.peer.alt_accept_step(),
+            ),
+            Event::AltReject => action_of(
+                self.mode,
+                Party::Peer,
+                false,
+                self.peer.alt_reject_step(),
+            ),
             _ => Action::Skipped(Skip::NoParty),
         }
     }
@@ -346,7 +358,7 @@ impl<P: PeerMethod, S: ServerMethod> Machines<P, S> {
         match self.conversations.begin_peer(self.event) {
             None => Action::Skipped(Skip::NoNonce),
             Some(nonce) => {
-                let step = self.peer.restart(&nonce);
+                let step = self.peer.restart_step(&nonce);
                 action_of(self.mode, Party::Peer, false, step)
             }
         }
@@ -363,7 +375,7 @@ impl<P: PeerMethod, S: ServerMethod> Machines<P, S> {
         match self.conversations.begin_server(self.event) {
             None => Action::Skipped(Skip::NoNonce),
             Some(nonce) => {
-                let step = self.server.restart(&nonce, &mut self.packet);
+                let step = self.server.restart_step(&nonce, &mut self.packet);
                 action_of(self.mode, Party::Server, false, step)
             }
         }
@@ -379,7 +391,7 @@ impl<P: PeerMethod, S: ServerMethod> Machines<P, S> {
         match self.mode {
             Mode::Alone => Action::Skipped(Skip::NoParty),
             Mode::Through => {
-                let step = self.pass.restart(&mut self.packet);
+                let step = self.pass.restart_step(&mut self.packet);
                 action_to(Party::Pass, Port::Peer, false, step)
             }
         }

@@ -9,8 +9,8 @@ ghost use Rattle.eap_world.specs.Kept.{fronts_differ};
 
 use crate::nonces_left::NoncesLeft;
 use arrayvec::ArrayVec;
-use octet_lists::Nonce;
 use login_setup::Later;
+use octet_lists::Nonce;
 use std::marker::Model;
 use tag_book::End;
 

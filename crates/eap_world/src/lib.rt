@@ -13,7 +13,9 @@ mod world;
 
 pub use act::{Action, Did, Machines};
 pub use conversations::{Begun, Conversations, Waiting};
+pub use eap_method::Methods;
 pub use store::{Slot, Store, Stored};
-pub use told::{Counts, Named, SentPacket, Skip, Told};
+pub use tag_book::TagsVerdict;
+pub use told::{Brief, Counts, Named, SentNumber, SentPacket, Skip, Told};
 pub use verdict::Verdict;
-pub use world::{Held, MAX_EVENTS, Memory, Methods, World};
+pub use world::{Held, MAX_EVENTS, Memory, World};

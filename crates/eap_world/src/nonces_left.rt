@@ -6,8 +6,8 @@ ghost use Rattle.eap_world.specs.Hearing.{hears_at, is_first, starts_with};
 ghost use Rattle.eap_world.specs.Kept.{AreMarked, waits};
 
 use crate::conversations::{FRONT, Waiting};
-use octet_lists::Nonce;
 use login_setup::Nonces;
+use octet_lists::Nonce;
 use std::marker::Model;
 
 /// The most conversations that an end begins after its first.

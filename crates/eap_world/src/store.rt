@@ -5,8 +5,8 @@ ghost use Rattle.octet_lists.specs.Sizes.{max_packet};
 ghost use Rattle.eap_world.specs.Sent.{last_to, packet_numbered, same_port};
 ghost use Rattle.eap_world.specs.Store.{AreThere, IsThere, last_slot, sent_of_slot, packet_at, packets_at};
 
-use octet_lists::MAX_PACKET;
 use login_setup::Port;
+use octet_lists::MAX_PACKET;
 use std::alloc::Global;
 use std::marker::Model;
 

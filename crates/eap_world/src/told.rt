@@ -3,6 +3,7 @@
 use eap_method::Report;
 use eap_packet::{Cause, Path};
 use login_setup::{Party, Port};
+use octet_lists::Packet;
 
 /// Why an event did nothing. If several apply, the first in this order is reported.
 #[derive(Clone, Copy, PartialEq, Eq, Debug)]
@@ -23,7 +24,7 @@ pub enum Skip {
 
 /// A packet that was sent. The world shows its octets.
 #[derive(Clone, Copy, PartialEq, Eq, Debug)]
-pub struct SentPacket {
+pub struct SentNumber {
     /// Its number, counted from 1 in the order of sending; a packet that is sent again gets another.
     pub number: u32,
     /// The port that it goes to.
@@ -40,7 +41,7 @@ pub struct Named {
 
 /// The result of the start or of an event.
 #[derive(Drop)]
-pub struct Told {
+pub struct Brief {
     /// The event's number, from 1; 0 is the start.
     pub event: u32,
     /// The party that acted, None if the event was skipped.
@@ -52,8 +53,37 @@ pub struct Told {
     /// Why the event was skipped, None if it wasn't.
     pub skip: Option<Skip>,
     /// What it sent, None if it sent nothing.
-    pub sent: Option<SentPacket>,
+    pub sent: Option<SentNumber>,
     /// The report that the party first has after it, None if it has none or had it before.
+    pub named: Option<Named>,
+}
+
+/// A packet that was sent, with its octets.
+#[derive(Drop)]
+pub struct SentPacket {
+    /// Its number, counted from 1 in the order of sending; a packet that is sent again gets another.
+    pub number: u32,
+    /// The port that it goes to.
+    pub port: Port,
+    pub packet: Packet,
+}
+
+/// The result of the start or of an event, with the packet that was sent.
+#[derive(Drop)]
+pub struct Told {
+    /// The event's number, from 1; 0 is the start.
+    pub event: u32,
+    /// The party that acted, None if the event was skipped.
+    pub party: Option<Party>,
+    /// The states of RFC 4137 that it entered.
+    pub path: Path,
+    /// Why it discarded what came, None if it didn't.
+    pub cause: Option<Cause>,
+    /// Why the event was skipped, None if it wasn't.
+    pub skip: Option<Skip>,
+    /// What it sent, None if it sent nothing.
+    pub sent: Option<SentPacket>,
+    /// The report that the party first has after it.
     pub named: Option<Named>,
 }
 

@@ -4,9 +4,9 @@ ghost use Rattle.std.specs.Prelude.{◌≡◌};
 ghost use Rattle.login_setup.specs.Users.{user_of};
 ghost use Rattle.eap_world.specs.Judgement.{same_report, allows_suite, peer_agrees, server_agrees, agree, agreement_of, is_welcome};
 
-use octet_lists::{GPSK_KIND, is_among};
 use eap_method::Report;
 use login_setup::{PeerSetup, ServerSetup};
+use octet_lists::{GPSK_KIND, is_among};
 
 /// The verdict on a login.
 #[derive(Clone, Copy, PartialEq, Eq, Debug)]

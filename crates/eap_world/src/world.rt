@@ -14,12 +14,12 @@ ghost use Rattle.eap_world.specs.Sent.{Sent};
 use crate::act::{Action, Did, Machines};
 use crate::conversations::Conversations;
 use crate::store::Store;
-use crate::told::{Counts, Named, SentPacket, Skip, Told};
+use crate::told::{Brief, Counts, Named, SentNumber, SentPacket, Skip, Told};
 use crate::verdict::{Verdict, judge_reports};
-use octet_lists::Packet;
-use eap_method::{Kept, PeerMethod, Report, ServerMethod, Step, Tags};
+use eap_method::{Kept, Methods, PeerMethod, Report, ServerMethod, Step, Tags};
 use eap_packet::{Path, State};
 use login_setup::{Event, Mode, Party, Port, Setup};
+use octet_lists::Packet;
 use pass_through::PassThrough;
 use peer_machine::PeerMachine;
 use server_machine::{Role, ServerMachine};
@@ -38,13 +38,6 @@ pub const MAX_EVENTS: u32 = 1_000_000;
 
 /// The most tags that an event writes into the book.
 const MAX_TAGS: usize = 4;
-
-/// The objects of both ends' methods.
-#[derive(Drop)]
-pub struct Methods<P, S> {
-    pub peer: Vec<P>,
-    pub server: Vec<S>,
-}
 
 /// Which ends have had a report in their present conversations.
 #[derive(Clone, Copy, PartialEq, Eq, Debug)]
@@ -160,7 +153,7 @@ impl<P: PeerMethod, S: ServerMethod> World<P, S> {
     /// that has just been made then is that of the run without events. The crate `world_laws` says how few tags the
     /// book of a run has (`few_tags`).
     #[tactic(auto, using(crate::proofs::StillThere::still_there))]
-    pub fn start(&mut self) -> Result<Told, Memory>
+    pub fn start_brief(&mut self) -> Result<Brief, Memory>
         requires unstarted { self.old.started ≡ false }
         requires objects { HasObjects P.peer_shown S.server_shown self.old }
         ensures told { MatchResult result
@@ -184,7 +177,7 @@ impl<P: PeerMethod, S: ServerMethod> World<P, S> {
     /// (`few_tags` of the crate `world_laws`), each of whose steps is lawful (`steps_are_lawful`). So many events have
     /// sent at most one packet more.
     #[tactic(auto, using(crate::proofs::StillThere::still_there))]
-    pub fn step(&mut self, event: &Event) -> Result<Told, Memory>
+    pub fn step_brief(&mut self, event: &Event) -> Result<Brief, Memory>
         requires started { self.old.started ≡ true }
         requires objects { HasObjects P.peer_shown S.server_shown self.old }
         requires room { self.old.counts.events < 1000000 }
@@ -200,9 +193,54 @@ impl<P: PeerMethod, S: ServerMethod> World<P, S> {
         self.step_by_table(event)
     }
 
+    /// [`World::start_brief`], with the packet in its answer.
+    pub fn start(&mut self) -> Result<Told, Memory>
+        requires unstarted { self.old.started ≡ false }
+        requires objects { HasObjects P.peer_shown S.server_shown self.old }
+        ensures run { IfOk result (λ told. BeginsRun P.peer_shown S.server_shown self.old self.new) }
+        ensures objects { HasObjects P.peer_shown S.server_shown self.new }
+    {
+        let brief = self.start_brief()?;
+        Ok(self.whole(brief))
+    }
+
+    /// [`World::step_brief`], with the packet in its answer.
+    pub fn step(&mut self, event: &Event) -> Result<Told, Memory>
+        requires started { self.old.started ≡ true }
+        requires objects { HasObjects P.peer_shown S.server_shown self.old }
+        requires room { self.old.counts.events < 1000000 }
+        ensures run { IfOk result (λ told. GoesOn P.peer_shown S.server_shown event.now self.old self.new) }
+        ensures objects { HasObjects P.peer_shown S.server_shown self.new }
+    {
+        let brief = self.step_brief(event)?;
+        Ok(self.whole(brief))
+    }
+
+    /// The result of an event with the packet that was sent.
+    fn whole(&self, brief: Brief) -> Told {
+        let mut packet = Packet::new();
+        packet.append(self.octets_of(&brief));
+        Told {
+            event: brief.event,
+            party: brief.party,
+            path: brief.path,
+            cause: brief.cause,
+            skip: brief.skip,
+            sent: match brief.sent {
+                None => None,
+                Some(SentNumber { number, port }) => Some(SentPacket {
+                    number,
+                    port,
+                    packet,
+                }),
+            },
+            named: brief.named,
+        }
+    }
+
     /// The start, as the world's table says.
     #[tactic(auto, unfolding(crate::specs::World::world_start))]
-    fn start_by_table(&mut self) -> Result<Told, Memory>
+    fn start_by_table(&mut self) -> Result<Brief, Memory>
         requires { self.old.started ≡ false }
         ensures told { MatchResult result
             (λ told. Tells P.peer_shown S.server_shown (world_start (now_of P.peer_shown S.server_shown self.old)) told self.new)
@@ -227,7 +265,7 @@ impl<P: PeerMethod, S: ServerMethod> World<P, S> {
 
     /// An event, as the world's table says.
     #[tactic(auto, unfolding(crate::specs::World::world_step))]
-    fn step_by_table(&mut self, event: &Event) -> Result<Told, Memory>
+    fn step_by_table(&mut self, event: &Event) -> Result<Brief, Memory>
         requires started { self.old.started ≡ true }
         requires objects { HasObjects P.peer_shown S.server_shown self.old }
         requires room { self.old.counts.events < 1000000 }
@@ -290,7 +328,7 @@ impl<P: PeerMethod, S: ServerMethod> World<P, S> {
     }
 
     /// The octets of the packet that was reported; no octets if none was sent, or not in this world.
-    pub fn octets_of(&self, told: &Told) -> &[u8]
+    pub fn octets_of(&self, told: &Brief) -> &[u8]
         ensures { result.now ≡ octets_of_sent self.now.sent told.now.sent }
     {
         match told.sent {
@@ -504,7 +542,7 @@ fn keep<P: PeerMethod, S: ServerMethod>(
     held: &mut Held,
     event: u32,
     action: Action,
-) -> Told
+) -> Brief
     requires sent_room { (max_packet ≤ sent.old.octets_room) × (1 ≤ sent.old.packets_room) }
     requires book_room { vec_len book.old + 4 ≤ vec_capacity book.old }
     requires few { length sent.old.packets < 2 ^ 32 - 1 }
@@ -665,10 +703,10 @@ fn count(counts: Counts, action: &Action) -> Counts
 }
 
 /// The result of an event that was skipped.
-fn tell_skip(event: u32, skip: Skip) -> Told
+fn tell_skip(event: u32, skip: Skip) -> Brief
     ensures { result ≡ told_of event 0 None (Skipped skip) }
 {
-    Told {
+    Brief {
         event,
         party: None,
         path: Path::new(),
@@ -680,20 +718,20 @@ fn tell_skip(event: u32, skip: Skip) -> Told
 }
 
 /// The result of a call, but for a report: the number of its event, and that of the packet that it sends.
-fn tell(event: u32, number: u32, party: Party, port: Port, step: Step) -> Told
+fn tell(event: u32, number: u32, party: Party, port: Port, step: Step) -> Brief
     ensures told { (is_delivery : Bool) (packet : List ℕ) (tags : records.Tags)
         → result ≡ told_of event number None
         (Called (record { party = party; is_delivery = is_delivery; port = port; step = step_with step packet tags })) }
     ensures unnamed { result.named ≡ None }
 {
-    Told {
+    Brief {
         event,
         party: Some(party),
         path: step.path,
         cause: step.cause,
         skip: None,
         sent: if step.sends {
-            Some(SentPacket { number, port })
+            Some(SentNumber { number, port })
         } else {
             None
         },

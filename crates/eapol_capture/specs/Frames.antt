@@ -1,8 +1,8 @@
 -- Ethernet frames that carry EAPOL (IEEE 802.1X-2010 clause 11.3).
 use Rattle.std.specs.Prelude.{ℕ, ◌-◌, List, length, take, drop, slice_index, ◌==◌, ◌||◌, not, nat_lt, if◌then◌else◌}
 use Rattle.std.specs.Int.{w16, from_be_bytes}
-use Rattle.eapol_capture.specs.declared.frame.FrameFinding.{FrameFinding}
-use Rattle.eapol_capture.specs.declared.frame.FrameFinding.TheVariants.{Other, Cut, Eap}
+use Rattle.eapol_capture.specs.declared.frame.FrameContents.{FrameContents}
+use Rattle.eapol_capture.specs.declared.frame.FrameContents.TheVariants.{Other, Cut, Eap}
 
 -- what a frame carries: no EAP packet, one that is cut, or this one
 pub data Carried : Type 0 where
@@ -42,7 +42,7 @@ contents_of frame =
     else body_of frame
 
 -- what an answer says of a frame
-abbrev pub finding_value : FrameFinding → Carried
+abbrev pub finding_value : FrameContents → Carried
 finding_value Other = other
 finding_value Cut = cut
 finding_value (Eap octets) = eap octets.now

@@ -3,17 +3,28 @@
 ghost use Rattle.std.specs.Prelude.{◌≡◌, ◌≤◌, length, nat_lt};
 ghost use Rattle.eapol_capture.specs.Frames.{contents_of, finding_value, body_of, type_of, body_length};
 
-use octet_lists::array_of;
+use octet_lists::{Octets, array_of};
 
 /// What a frame carries.
 #[derive(Clone, Copy)]
-pub enum FrameFinding<'a> {
+pub enum FrameContents<'a> {
     /// No EAP packet.
     Other,
     /// EAPOL without its whole header, or an EAP packet without all its octets or of more than 2,000.
     Cut,
     /// An EAP packet: these octets, at most 2,000.
     Eap(&'a [u8]),
+}
+
+/// What a frame carries, with its octets.
+#[derive(Drop)]
+pub enum FrameFinding {
+    /// No EAP packet.
+    Other,
+    /// EAPOL without its whole header, or an EAP packet without all its octets or of more than 2,000.
+    Cut,
+    /// An EAP packet.
+    Eap(Octets<2000>),
 }
 
 /// The octets of a frame's two addresses and its type.
@@ -48,16 +59,16 @@ fn body_length(frame: &[u8]) -> usize
 }
 
 /// The EAP packet in a frame with EAPOL's header, if it is whole.
-fn body_of<'a>(frame: &'a [u8]) -> FrameFinding<'a>
+fn body_of<'a>(frame: &'a [u8]) -> FrameContents<'a>
     requires { 18 ≤ length frame.now }
     ensures { finding_value result ≡ body_of frame.now }
 {
     let size = body_length(frame);
     let body = &frame[EAPOL..];
     if size > body.len() || size > MAX_PACKET {
-        FrameFinding::Cut
+        FrameContents::Cut
     } else {
-        FrameFinding::Eap(&body[..size])
+        FrameContents::Eap(&body[..size])
     }
 }
 
@@ -73,16 +84,25 @@ fn is_short(frame: &[u8]) -> bool
 /// over the octets that are there or over 2,000. `Other`: the frame has under 14 octets, its type isn't
 /// 888e, or it has 18 octets or more and EAPOL's type isn't 0. Octets past the body are padding.
 #[tactic(auto, unfolding(crate::specs::Frames::contents_of))]
-pub fn eap_of_frame<'a>(frame: &'a [u8]) -> FrameFinding<'a>
+pub fn contents_of_frame<'a>(frame: &'a [u8]) -> FrameContents<'a>
     ensures { finding_value result ≡ contents_of frame.now }
 {
     if frame.len() < ETHERNET || type_of(frame) != EAPOL_TYPE {
-        FrameFinding::Other
+        FrameContents::Other
     } else if is_short(frame) {
-        FrameFinding::Cut
+        FrameContents::Cut
     } else if frame[15] != EAP_PACKET {
-        FrameFinding::Other
+        FrameContents::Other
     } else {
         body_of(frame)
+    }
+}
+
+/// What an Ethernet frame carries, as [`contents_of_frame`] says.
+pub fn eap_of_frame(frame: &[u8]) -> FrameFinding {
+    match contents_of_frame(frame) {
+        FrameContents::Other => FrameFinding::Other,
+        FrameContents::Cut => FrameFinding::Cut,
+        FrameContents::Eap(octets) => FrameFinding::Eap(Octets::of(octets)),
     }
 }

@@ -7,7 +7,7 @@ mod laws;
 mod order;
 mod reader;
 
-pub use frame::{FrameFinding, eap_of_frame};
+pub use frame::{FrameContents, FrameFinding, contents_of_frame, eap_of_frame};
 pub use laws::{fronts_carry_the_same, spelled_files_are_read, spelled_frames_carry_their_packets};
 pub use order::OctetOrder;
 pub use reader::{NextRecord, PcapReader};

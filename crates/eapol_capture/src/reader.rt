@@ -5,8 +5,8 @@ ghost use Rattle.octet_io.specs.Known.{nothing_known};
 
 use crate::header::judge_header;
 use crate::order::OctetOrder;
-use octet_lists::Octets;
 use octet_io::{Ahead, MAX_INPUT, Source};
+use octet_lists::Octets;
 use std::marker::Model;
 
 /// What `PcapReader::next_record` met.

@@ -9,11 +9,11 @@ ghost use Rattle.end_commands.specs.EndText.{told_text};
 
 use crate::lines::{write_last, write_step};
 use command_driver::{Close, Command, Next, Status, Trouble};
-use octet_lists::Packet;
 use eap_method::{Kept, Tags};
 use end_pipe::{EndInput, EndPipe, EndReader, EndStep, Machine, Role};
 use octet_io::{Failed, Sink};
-use scenario_text::Item;
+use octet_lists::Packet;
+use scenario_text::ItemKind;
 
 /// The most inputs of an end.
 const MAX_INPUTS: u32 = 10_000;
@@ -69,7 +69,7 @@ impl<M, E: Begins<M>> End<M, E> {
         ensures ready { IsReady E.is_going E.has_both result 0 }
     {
         End {
-            reader: EndReader::new(role),
+            reader: EndReader::of_role(role),
             methods: Some(methods),
             pipe: None,
             taken: 0,
@@ -160,7 +160,7 @@ fn tell<E: Machine, W: Sink>(
     ensures text { Appends W.shown result sink.old sink.new
         (told_text number (end_step E.table (end_now E.shown pipe.old) input.now).told) }
 {
-    let step = pipe.step(input, packet, tags);
+    let step = pipe.step_into(input, packet, tags);
     write_step(sink, number, &step, packet.as_slice())
 }
 
@@ -182,11 +182,11 @@ impl<M, E: Begins<M>> Command for End<M, E> {
     #[tactic(auto, unfolding(crate::specs::EndCommand::end_took))]
     fn take<W: Sink>(&mut self, sink: &mut W, line: &[u8]) -> Result<Next, Trouble> {
         let mut input = EndInput::Idle;
-        match self.reader.line(line, &mut input) {
-            Ok(Item::Nothing) => Ok(Next::Goes),
-            Ok(Item::Ready) => self.begin(sink),
-            Ok(Item::Event) => self.step(sink, &input),
-            Ok(Item::End) => Ok(Next::Goes),
+        match self.reader.line_into(line, &mut input) {
+            Ok(ItemKind::Nothing) => Ok(Next::Goes),
+            Ok(ItemKind::Ready) => self.begin(sink),
+            Ok(ItemKind::Event) => self.step(sink, &input),
+            Ok(ItemKind::End) => Ok(Next::Goes),
             Err(fault) => Ok(Next::Refuses(fault.word(), Status::Refused)),
         }
     }

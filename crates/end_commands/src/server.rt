@@ -45,7 +45,7 @@ impl<M: ServerMethod> Begins<M> for StandAloneServer<M> {
         let first_id = end.reader.first_id();
         let max_retrans = end.reader.max_retrans();
         let mut pipe = server_of(setup, first_id, max_retrans, methods);
-        let step = pipe.start(&mut end.packet, &mut end.tags);
+        let step = pipe.start_into(&mut end.packet, &mut end.tags);
         end.pipe = Some(pipe);
         Some(step)
     }

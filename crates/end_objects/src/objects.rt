@@ -6,12 +6,13 @@ ghost use Rattle.eap_method.specs.Peer.{peer_kind};
 ghost use Rattle.eap_method.specs.Server.{server_kind};
 ghost use Rattle.end_objects.specs.Objects.{peer_object_shown, server_object_shown};
 
-use octet_lists::{Nonce, Octets, PSK_KIND, Packet};
 use eap_method::{
-    Credential, PeerMethod, PeerTurn, Records, Report, ServerMethod, ServerSide, ServerTurn, Tags,
+    Credential, PeerAnswer, PeerMethod, PeerTurn, Records, Report, ServerAnswer, ServerMethod,
+    ServerSide, ServerTurn, Tags,
 };
 use gpsk_ends::{GpskPeer, GpskServer};
 use login_setup::Users;
+use octet_lists::{Nonce, Octets, PSK_KIND, Packet};
 use psk_ends::{PskPeer, PskServer};
 
 /// The two nonces of a login: RAND_P and RAND_S of EAP-PSK, of 16 octets (RFC 4764 sections 5.1 and 5.2), or RAND_Peer
@@ -108,15 +109,22 @@ impl PeerMethod for PeerObject {
         }
     }
 
-    fn handle<R: Records>(
+    fn handle(&mut self, request: &[u8]) -> PeerTurn {
+        match self {
+            PeerObject::Psk(peer) => peer.handle(request),
+            PeerObject::Gpsk(peer) => peer.handle(request),
+        }
+    }
+
+    fn handle_step<R: Records>(
         &mut self,
         request: &[u8],
         packet: &mut Packet,
         tags: &mut Tags<R>,
-    ) -> PeerTurn {
+    ) -> PeerAnswer {
         match self {
-            PeerObject::Psk(peer) => peer.handle(request, packet, tags),
-            PeerObject::Gpsk(peer) => peer.handle(request, packet, tags),
+            PeerObject::Psk(peer) => peer.handle_step(request, packet, tags),
+            PeerObject::Gpsk(peer) => peer.handle_step(request, packet, tags),
         }
     }
 
@@ -203,24 +211,40 @@ impl ServerMethod for ServerObject {
         }
     }
 
-    fn first(&mut self, id: u8, packet: &mut Packet) {
+    fn first(&mut self, id: u8) -> Packet {
         match self {
-            ServerObject::Psk(server) => server.first(id, packet),
-            ServerObject::Gpsk(server) => server.first(id, packet),
+            ServerObject::Psk(server) => server.first(id),
+            ServerObject::Gpsk(server) => server.first(id),
         }
     }
 
-    fn handle<R: Records>(
+    fn first_step(&mut self, id: u8, packet: &mut Packet) {
+        match self {
+            ServerObject::Psk(server) => server.first_step(id, packet),
+            ServerObject::Gpsk(server) => server.first_step(id, packet),
+        }
+    }
+
+    fn handle(&mut self, response: &[u8], next_id: u8, users: &Users) -> ServerTurn {
+        match self {
+            ServerObject::Psk(server) => server.handle(response, next_id, users),
+            ServerObject::Gpsk(server) => server.handle(response, next_id, users),
+        }
+    }
+
+    fn handle_step<R: Records>(
         &mut self,
         response: &[u8],
         next_id: u8,
         users: &Users,
         packet: &mut Packet,
         tags: &mut Tags<R>,
-    ) -> ServerTurn {
+    ) -> ServerAnswer {
         match self {
-            ServerObject::Psk(server) => server.handle(response, next_id, users, packet, tags),
-            ServerObject::Gpsk(server) => server.handle(response, next_id, users, packet, tags),
+            ServerObject::Psk(server) => server.handle_step(response, next_id, users, packet, tags),
+            ServerObject::Gpsk(server) => server.handle_step(
+                response, next_id, users, packet, tags,
+            ),
         }
     }
 

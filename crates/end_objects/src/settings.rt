@@ -7,9 +7,9 @@ ghost use Rattle.login_setup.specs.Setup.{are_kinds, fits_kind, IsSoundPeer, Has
 ghost use Rattle.end_objects.specs.Settings.{settings_of, or_else, numbers_of, keyed_kinds, named_kinds, kinds_of, first_kind, suites_of, key_for, key_with, accepts_of, peer_setup_of, user_with, users_of, server_setup_of, credential_of, side_of};
 ghost use Rattle.end_objects.specs.Refusals.{peer_refusal, server_refusal, IsSoundOther};
 
-use octet_lists::{GPSK_KIND, Identity, Kinds, Nonce, Octets, PSK_KIND, Secret, Suites};
 use eap_method::{Credential, ServerSide};
 use login_setup::{Accepts, Key, Keys, PeerSetup, ServerSetup, User, Users};
+use octet_lists::{GPSK_KIND, Identity, Kinds, Nonce, Octets, PSK_KIND, Secret, Suites};
 
 /// The octets of [`Settings`] on 64 bits.
 pub const SETTINGS_SIZE: usize = 80;

@@ -7,8 +7,8 @@ ghost use Rattle.login_setup.specs.Setup.{are_kinds, are_suites, fits_kind};
 ghost use Rattle.login_setup.specs.Setup.{IsSoundPeer, HasKeys, IsSoundServer};
 ghost use Rattle.end_objects.specs.Soundness.{is_suite, is_sound_key, has_key, is_sound_user};
 
-use octet_lists::{GPSK_KIND, PSK_KIND, is_among};
 use login_setup::{Key, Keys, PeerSetup, ServerSetup, User};
+use octet_lists::{GPSK_KIND, PSK_KIND, is_among};
 
 /// Whether a peer's machine and world accept these settings, as `PeerMachine::new` and `World::new` ask. Its methods
 /// are of 47 (EAP-PSK) and 51 (EAP-GPSK), each at most once; its suites of 1 and 2, at least one and each at most

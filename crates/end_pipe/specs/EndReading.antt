@@ -12,7 +12,7 @@ use Rattle.scenario_text.specs.Reading as scenario
 use Rattle.scenario_text.specs.Reading.{no_settings, has_setting, with_setting, peer_setup_of, server_setup_of}
 use Rattle.scenario_text.specs.Valid.{IsValidSetting}
 use Rattle.scenario_text.specs.declared.entry.Entry as told
-use Rattle.scenario_text.specs.declared.scenario.Item as answer
+use Rattle.scenario_text.specs.declared.scenario.ItemKind as answer
 use Rattle.scenario_text.specs.declared.settings.Settings.{Settings}
 use Rattle.end_pipe.specs.EndContents.{Entry, entry_of}
 use Rattle.end_pipe.specs.EndContents as entry
@@ -48,7 +48,7 @@ abbrev pub line_of : Item → Role → Phase → Settings → ReadLine
 line_of item role p s = texts.line_of item (record { role = role; phase = p; settings = s })
 
 -- the answer of a reader, with the input that was written if it has one
-abbrev pub item_with : answer.Item → EndReading → EndInput → Item
+abbrev pub item_with : answer.ItemKind → EndReading → EndInput → Item
 item_with answer.TheVariants.Nothing after input = Nothing
 item_with answer.TheVariants.Ready after input = Ready
 item_with answer.TheVariants.Event after input = Input input
@@ -65,7 +65,7 @@ AreWhole Server s = IsOk (server_setup_of s)
 AreWhole Peer s = IsOk (peer_setup_of s)
 
 -- if the answer says so
-abbrev pub HasSetup : answer.Item → EndReading → Type 0
+abbrev pub HasSetup : answer.ItemKind → EndReading → Type 0
 HasSetup answer.TheVariants.Ready after = AreWhole after.role after.settings
 HasSetup other after = Unit {0}
 

@@ -7,10 +7,10 @@ ghost use Rattle.end_pipe.specs.EndRun.{PeerStandsFor, peer_begun, peer_end};
 
 use crate::input::EndInput;
 use crate::pipe::{EndPipe, Machine};
-use octet_lists::Packet;
 use eap_method::{Kept, PeerMethod, Report, Step, Tags};
 use eap_packet::State;
 use login_setup::PeerSetup;
+use octet_lists::Packet;
 use peer_machine::PeerMachine;
 
 /// The peer of RFC 4137 section 4 alone.
@@ -49,10 +49,10 @@ impl<M: PeerMethod> Machine for PeerMachine<M> {
         packet.clear();
         tags.clear();
         match input {
-            EndInput::Octets(octets) => self.deliver(octets.as_slice(), packet, tags),
-            EndInput::Idle => self.idle(),
-            EndInput::AltAccept => self.alt_accept(),
-            EndInput::AltReject => self.alt_reject(),
+            EndInput::Octets(octets) => self.deliver_step(octets.as_slice(), packet, tags),
+            EndInput::Idle => self.idle_step(),
+            EndInput::AltAccept => self.alt_accept_step(),
+            EndInput::AltReject => self.alt_reject_step(),
             EndInput::Timeout => Step::entering(&[]),
         }
     }

@@ -7,10 +7,10 @@ ghost use Rattle.end_pipe.specs.Inputs.{is_skipped};
 ghost use Rattle.end_pipe.specs.declared.input.EndInput.{EndInput};
 
 use crate::input::EndInput;
-use crate::told::EndStep;
-use octet_lists::Packet;
+use crate::told::{EndStep, EndTold};
 use eap_method::{Kept, Report, Step, Tags, has_ended};
 use eap_packet::State;
+use octet_lists::Packet;
 use std::marker::Model;
 
 /// A machine of RFC 4137, as its end uses it: the peer's of section 4, or the stand-alone server's of section 5.
@@ -67,7 +67,12 @@ impl<E: Machine> EndPipe<E> {
     /// records of the tags into `tags`, in place of what was there; without a packet that is sent, `packet` is
     /// unspecified. The end of a timer and a report of the lower layer are skipped after the end. The end of a timer is
     /// none of the peer's inputs, a report of the lower layer none of the server's: it does nothing.
-    pub fn step(&mut self, input: &EndInput, packet: &mut Packet, tags: &mut Tags<Kept>) -> EndStep
+    pub fn step_into(
+        &mut self,
+        input: &EndInput,
+        packet: &mut Packet,
+        tags: &mut Tags<Kept>,
+    ) -> EndStep
         requires { E.is_going self.old.machine }
         ensures step { end_step E.table (end_now E.shown self.old) input.now
             ≡ outcome (told_with result packet.new tags.new) (end_now E.shown self.new) }
@@ -78,6 +83,17 @@ impl<E: Machine> EndPipe<E> {
             (end_now E.shown self.new) }
     {
         self.step_by_table(input, packet, tags)
+    }
+
+    /// The same, with the packet and the records in its answer.
+    pub fn step(&mut self, input: &EndInput) -> EndTold
+        requires { E.is_going self.old.machine }
+        ensures going { E.is_going self.new.machine }
+    {
+        let mut packet = Packet::new();
+        let mut tags = Tags::new();
+        let step = self.step_into(input, &mut packet, &mut tags);
+        step.with(packet, tags)
     }
 
     /// The end's state: IDLE, SUCCESS or FAILURE; a server also in INITIALIZE, before its start, or in

@@ -12,9 +12,24 @@ use crate::entry::entry_of;
 use crate::input::EndInput;
 use crate::table::{EndWord, Role, words_of};
 use login_setup::{PeerSetup, ServerSetup};
-use scenario_text::{Entry, Item, Settings};
+use scenario_text::{Entry, ItemKind, Settings};
 use std::marker::Model;
 use text_tables::{LineFault, Part, Phase, Text, read_line};
+
+/// What a line of an end's text says, whole.
+#[derive(Drop)]
+pub enum EndItem {
+    /// Nothing that happens: the header, a setting, or a line that is ignored.
+    Nothing,
+    /// The line `events` of the peer's text, with its settings.
+    ReadyPeer(PeerSetup),
+    /// The line `events` of the server's text, with its settings, first Identifier and MaxRetrans.
+    ReadyServer(ServerSetup, u8, u8),
+    /// What comes next to the end.
+    Line(EndInput),
+    /// The line `end`.
+    End,
+}
 
 /// Reads the text of the peer or of the server. A refused line leaves the reader as it was.
 #[derive(Drop)]
@@ -37,7 +52,7 @@ impl Model for EndReader {
 
 impl EndReader {
     /// A reader of this end's text that has read no line.
-    pub fn new(role: Role) -> EndReader
+    pub fn of_role(role: Role) -> EndReader
         ensures { result ≡ reading.unread role }
     {
         EndReader {
@@ -48,14 +63,42 @@ impl EndReader {
     }
 
     /// Reads the next line, without its end, and writes its input, if it has one, to `input`: the answer is then
-    /// `Item::Event`. The line is refused with its first fault, and then the reader is as it was.
+    /// `ItemKind::Event`. The line is refused with its first fault, and then the reader is as it was.
     #[tactic(auto, unfolding(crate::specs::EndReading::read_line))]
-    pub fn line(&mut self, line: &[u8], input: &mut EndInput) -> Result<Item, LineFault>
+    pub fn line_into(&mut self, line: &[u8], input: &mut EndInput) -> Result<ItemKind, LineFault>
         ensures read { reading.read_line self.old line.now ≡ line_result item_with result self.new input.new }
         ensures ready { IfOk result (λ item. HasSetup item self.new) }
         ensures unchanged { OnErr result (self.new ≡ self.old) }
     {
         read_line(self, line, input)
+    }
+
+    /// A reader of the server's text, or else of the peer's, that has read no line.
+    pub fn new(server: bool) -> EndReader {
+        EndReader::of_role(if server { Role::Server } else { Role::Peer })
+    }
+
+    /// Reads the next line, without its end, and says what it says, whole. The line is refused with its first fault, and
+    /// then the reader is as it was.
+    pub fn line(&mut self, line: &[u8]) -> Result<EndItem, LineFault> {
+        let mut input = EndInput::Idle;
+        match self.line_into(line, &mut input)? {
+            ItemKind::Nothing => Ok(EndItem::Nothing),
+            ItemKind::Ready => self.ready(),
+            ItemKind::Event => Ok(EndItem::Line(input)),
+            ItemKind::End => Ok(EndItem::End),
+        }
+    }
+
+    fn ready(&self) -> Result<EndItem, LineFault> {
+        match self.role {
+            Role::Peer => Ok(EndItem::ReadyPeer(self.peer_setup()?)),
+            Role::Server => Ok(EndItem::ReadyServer(
+                self.server_setup()?,
+                self.first_id(),
+                self.max_retrans(),
+            )),
+        }
     }
 
     /// The peer's settings, each within its limits, or `Missing` if a needed one has not come.
@@ -120,7 +163,7 @@ impl Text for EndReader {
 
     type Event = EndInput;
 
-    type Item = Item;
+    type Item = ItemKind;
 
     ghost Whole = { contents.Entry };
 
@@ -187,25 +230,25 @@ impl Text for EndReader {
         }
     }
 
-    fn add(&mut self, entry: Entry) -> Item {
+    fn add(&mut self, entry: Entry) -> ItemKind {
         match entry {
             Entry::Set(setting) => {
                 self.settings.set(setting);
-                Item::Nothing
+                ItemKind::Nothing
             }
             Entry::Events => {
                 self.phase = Phase::Events;
-                Item::Ready
+                ItemKind::Ready
             }
-            Entry::Happens => Item::Event,
+            Entry::Happens => ItemKind::Event,
             Entry::End => {
                 self.phase = Phase::Ended;
-                Item::End
+                ItemKind::End
             }
         }
     }
 
-    fn nothing() -> Item {
-        Item::Nothing
+    fn nothing() -> ItemKind {
+        ItemKind::Nothing
     }
 }

@@ -10,11 +10,11 @@ ghost use Rattle.end_pipe.specs.EndRun.{ServerStandsFor, outcome, server_end, se
 
 use crate::input::EndInput;
 use crate::pipe::{EndPipe, Machine, first_report};
-use crate::told::EndStep;
-use octet_lists::Packet;
+use crate::told::{EndStep, EndTold};
 use eap_method::{Kept, Report, ServerMethod, Step, Tags};
 use eap_packet::State;
 use login_setup::ServerSetup;
+use octet_lists::Packet;
 use server_machine::ServerMachine;
 use std::marker::Model;
 
@@ -57,7 +57,7 @@ impl<M: ServerMethod> ServerPipe<M> {
     }
 
     /// The server, which hasn't started, starts: it asks for the peer's identity, in `packet`.
-    pub fn start(&mut self, packet: &mut Packet, tags: &mut Tags<Kept>) -> EndStep
+    pub fn start_into(&mut self, packet: &mut Packet, tags: &mut Tags<Kept>) -> EndStep
         requires { is_started self.old.machine.vars ≡ false }
         ensures start { server_starts (server_end M.server_shown self.old)
             ≡ outcome (told_with result packet.new tags.new) (server_end M.server_shown self.new) }
@@ -67,6 +67,17 @@ impl<M: ServerMethod> ServerPipe<M> {
             → ServerStandsFor setup first_id max_retrans [] (server_end M.server_shown self.new) }
     {
         self.start_by_table(packet, tags)
+    }
+
+    /// The same, with the packet and the records in its answer.
+    pub fn start(&mut self) -> EndTold
+        requires { is_started self.old.machine.vars ≡ false }
+        ensures started { is_started self.new.machine.vars ≡ true }
+    {
+        let mut packet = Packet::new();
+        let mut tags = Tags::new();
+        let step = self.start_into(&mut packet, &mut tags);
+        step.with(packet, tags)
     }
 
     /// True once the server has started.
@@ -87,7 +98,7 @@ impl<M: ServerMethod> ServerPipe<M> {
     {
         tags.clear();
         let server = &mut self.machine;
-        let step = server.machine.start(packet);
+        let step = server.machine.start_step(packet);
         let named = first_report(&mut self.held, &self.machine);
         EndStep {
             step,
@@ -114,8 +125,8 @@ impl<M: ServerMethod> Machine for StandAloneServer<M> {
         packet.clear();
         tags.clear();
         match input {
-            EndInput::Octets(octets) => self.machine.deliver(octets.as_slice(), packet, tags),
-            EndInput::Timeout => self.machine.timeout(packet),
+            EndInput::Octets(octets) => self.machine.deliver_step(octets.as_slice(), packet, tags),
+            EndInput::Timeout => self.machine.timeout_step(packet),
             _ => Step::entering(&[]),
         }
     }

@@ -2,7 +2,9 @@
 
 ghost use Rattle.std.specs.Prelude.{◌≡◌, [], None, true, false};
 
-use eap_method::{Report, Step};
+use eap_method::{Report, Step, Tags};
+use eap_packet::{Cause, Path};
+use octet_lists::Packet;
 
 /// What an end does at its start or at an input. The packet that it sends and the records of its tags are in the
 /// buffers passed to the call.
@@ -16,7 +18,36 @@ pub struct EndStep {
     pub named: Option<Report>,
 }
 
+/// What an end does at its start or at an input, with the packet that it sends and the records of its tags.
+#[derive(Drop)]
+pub struct EndTold {
+    /// The states that its machine enters, in order.
+    pub path: Path,
+    /// Why it discards what came, None if it doesn't.
+    pub cause: Option<Cause>,
+    /// Whether the input was skipped.
+    pub skipped: bool,
+    /// The packet that it sends.
+    pub sent: Option<Packet>,
+    /// The report that the end first has after it.
+    pub named: Option<Report>,
+    /// Of the tags accepted and made.
+    pub tags: Tags,
+}
+
 impl EndStep {
+    /// The step with the packet and the records that its call wrote.
+    pub fn with(self, packet: Packet, tags: Tags) -> EndTold {
+        EndTold {
+            path: self.step.path,
+            cause: self.step.cause,
+            skipped: self.skipped,
+            sent: if self.step.sends { Some(packet) } else { None },
+            named: self.named,
+            tags,
+        }
+    }
+
     /// The input was skipped.
     pub fn skipping() -> EndStep
         ensures { result ≡ record {

@@ -3,7 +3,7 @@ use Rattle.std.specs.Prelude.{ℕ, List, Result}
 use Rattle.eap_packet.specs.declared.cause.Cause.{Cause}
 use Rattle.gpsk_messages.specs.Message.{Message}
 use Rattle.eap_method.specs.Tags.{Tags}
-use Rattle.eap_method.specs.declared.turn.ServerTurn as brief
+use Rattle.eap_method.specs.declared.turn.ServerAnswer as brief
 use Rattle.eap_method.specs.declared.values.ServerSide.{ServerSide}
 use Rattle.eap_method.specs.GpskServer.{Login, View, unset, begun, asked, refusing, barring, checked, refused, over, barring_reads, checked_reads, idle_reads}
 use Rattle.eap_method.specs.ServerTurn.{server_turn_with}
@@ -35,7 +35,7 @@ view_of (stage.Alone own phase) = view_alone own.side own.nonce phase
 view_of (stage.Login login phase) = view_in login phase
 
 -- a turn with what it wrote, and the server's state after it
-abbrev pub outcome_with : brief.ServerTurn → List ℕ → Tags → View → ServerOutcome View
+abbrev pub outcome_with : brief.ServerAnswer → List ℕ → Tags → View → ServerOutcome View
 outcome_with turn packet tags after = record { turn = server_turn_with turn packet tags; after = after }
 
 -- the Type-Data at a server in a login

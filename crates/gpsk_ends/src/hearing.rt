@@ -7,19 +7,19 @@ ghost use Rattle.gpsk_messages.specs.Message.{message_of, read_value};
 ghost use Rattle.gpsk_messages.specs.Reading.{read_of};
 ghost use Rattle.gpsk_ends.specs.Heard.{IsHeard};
 
-use octet_lists::Suite;
 use eap_packet::Cause;
-use gpsk_messages::{GpskView, read_gpsk};
+use gpsk_messages::{GpskMessage, read_gpsk_message};
+use octet_lists::Suite;
 
 /// The message that the Type-Data encodes; `suite` is the login's once that is chosen.
 #[tactic(auto, using(crate::proofs::Pieces::ks_small))]
-pub(crate) fn hear<'a>(body: &'a [u8], suite: Option<Suite>) -> Result<GpskView<'a>, Cause>
+pub(crate) fn hear<'a>(body: &'a [u8], suite: Option<Suite>) -> Result<GpskMessage<'a>, Cause>
     requires { length body.now ≤ max_type_data }
     ensures message { read_value result ≡ read_of (option_map ks_of suite) body.now }
     ensures sound { IfOk result (λ view. IsHeard (message_of view) body.now) }
 {
     match suite {
-        None => read_gpsk(body, None),
-        Some(suite) => read_gpsk(body, Some(suite.ks() as u8)),
+        None => read_gpsk_message(body, None),
+        Some(suite) => read_gpsk_message(body, Some(suite.ks() as u8)),
     }
 }

@@ -10,11 +10,11 @@ ghost use Rattle.gpsk_ends.specs.Sealed.{packet_of, record_of};
 
 use crate::records::set_alone;
 use crate::sealing::{BEFORE_COVERED, write_front};
-use octet_lists::{Nonce, Packet, Secret, Suite, equal_in_full};
 use eap_method::{Records, TagList};
 use eap_packet::Code;
-use gpsk_messages::{GpskView, covered_part, mac_part};
+use gpsk_messages::{GpskMessage, covered_part, mac_part};
 use login_keys::{GpskKeys, MacKey, gpsk_keys};
+use octet_lists::{Nonce, Packet, Secret, Suite, equal_in_full};
 use std::marker::Model;
 
 /// The keys of a login under CSuite_Sel. Contracts see the suite and the keys; SK is kept expanded.
@@ -84,7 +84,7 @@ impl Keys {
 
     /// Whether the message, which the Type-Data encodes, has the MAC of its covered octets under SK (RFC
     /// 5433, sections 8.1.2 and 8.2.2). All octets of the MAC are compared. MACs are compared here alone.
-    pub(crate) fn is_tagged(&self, view: &GpskView, body: &[u8]) -> bool
+    pub(crate) fn is_tagged(&self, view: &GpskMessage, body: &[u8]) -> bool
         requires { body.now ≡ spelled (message_of view.now) }
         ensures { result ≡ is_tagged self.now.suite self.now.keys.sk (message_of view.now) }
     {
@@ -96,7 +96,7 @@ impl Keys {
     /// SK, and leaves that MAC's record alone in `made`. `psk` is the shared key from which SK comes.
     pub(crate) fn seal<R: Records>(
         &self,
-        view: &GpskView,
+        view: &GpskMessage,
         code: Code,
         id: u8,
         psk: &Secret,

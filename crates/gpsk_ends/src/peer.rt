@@ -13,8 +13,8 @@ use crate::nonces::Nonces;
 use crate::peer::login::Begun;
 use crate::peer::stage::{Phase, Stage};
 use crate::peer::turns::hears_request;
+use eap_method::{Credential, PeerAnswer, PeerMethod, PeerTurn, Records, Report, Tags};
 use octet_lists::{GPSK_KIND, Nonce, Packet};
-use eap_method::{Credential, PeerMethod, PeerTurn, Records, Report, Tags};
 use std::marker::Model;
 
 /// A peer of EAP-GPSK. Contracts see its state. It derives its keys once a login, and allocates no
@@ -92,19 +92,26 @@ impl PeerMethod for GpskPeer {
         };
     }
 
+    fn handle(&mut self, request: &[u8]) -> PeerTurn {
+        let mut packet = Packet::new();
+        let mut tags = Tags::new();
+        let turn = self.handle_step(request, &mut packet, &mut tags);
+        turn.with(packet, tags)
+    }
+
     #[tactic(auto, unfolding(eap_method::specs::Peer::peer_step))]
-    fn handle<R: Records>(
+    fn handle_step<R: Records>(
         &mut self,
         request: &[u8],
         packet: &mut Packet,
         tags: &mut Tags<R>,
-    ) -> PeerTurn {
+    ) -> PeerAnswer {
         match hears_request(&mut self.stage, request, packet, tags) {
-            PeerTurn::Discard(cause) => {
+            PeerAnswer::Discard(cause) => {
                 tags.clear();
-                PeerTurn::Discard(cause)
+                PeerAnswer::Discard(cause)
             }
-            PeerTurn::Reply { state, decision } => PeerTurn::Reply { state, decision },
+            PeerAnswer::Reply { state, decision } => PeerAnswer::Reply { state, decision },
         }
     }
 

@@ -7,9 +7,9 @@ ghost use Rattle.eap_method.specs.declared.tags.Label.TheVariants.{Sk};
 ghost use Rattle.eap_method.specs.GpskTags.{sk_record};
 ghost use Rattle.gpsk_ends.specs.Heard.{IsHeard};
 
-use octet_lists::{GPSK_KIND, Secret};
 use eap_method::{Label, Records, TagList};
-use gpsk_messages::{GpskView, covered_part, mac_part};
+use gpsk_messages::{GpskMessage, covered_part, mac_part};
+use octet_lists::{GPSK_KIND, Secret};
 
 /// Leaves the record of this MAC of these octets alone in the list.
 #[tactic(auto, using(crate::proofs::Pieces::one_piece))]
@@ -23,7 +23,12 @@ pub(crate) fn set_alone<R: Records>(list: &mut TagList<R>, psk: &Secret, covered
 }
 
 /// Leaves the record of the MAC of a message, which the Type-Data encodes, alone in the list.
-pub(crate) fn record<R: Records>(list: &mut TagList<R>, view: &GpskView, body: &[u8], psk: &Secret)
+pub(crate) fn record<R: Records>(
+    list: &mut TagList<R>,
+    view: &GpskMessage,
+    body: &[u8],
+    psk: &Secret,
+)
     requires { IsHeard (message_of view.now) body.now }
     ensures { list.new ≡ sk_record psk.now (message_of view.now) ∷ [] }
 {

@@ -8,9 +8,9 @@ ghost use Rattle.eap_packet.specs.Packet as packets;
 ghost use Rattle.gpsk_messages.specs.Message.{message_of, mac_of, spelled, size_of, covered_of};
 ghost use Rattle.gpsk_messages.specs.Reading.{with_mac};
 
-use octet_lists::{Packet, Suite};
 use eap_packet::Code;
-use gpsk_messages::{GpskView, write_gpsk_into};
+use gpsk_messages::{GpskMessage, write_gpsk_into};
+use octet_lists::{Packet, Suite};
 
 /// The octets of a packet before those that the MAC covers: its header of five, and the OP-Code (RFC
 /// 5433 section 9.1).
@@ -27,7 +27,7 @@ pub(crate) fn mac_place(suite: Suite) -> &'static [u8]
 }
 
 /// Writes the packet of a message up to its MAC of KS octets, which its Length counts.
-pub(crate) fn write_front(view: &GpskView, code: Code, id: u8, suite: Suite, packet: &mut Packet)
+pub(crate) fn write_front(view: &GpskMessage, code: Code, id: u8, suite: Suite, packet: &mut Packet)
     requires typed { IsTrue (has_type code) }
     requires fits { size_of (message_of view.now) + 5 ≤ max_packet }
     requires mac { length (mac_of (message_of view.now)) ≡ ks_of suite }

@@ -7,7 +7,7 @@ use Rattle.std.proofs.lemmas.Option.{cond_some, same_Some, none-some}
 use Rattle.eap_packet.specs.declared.cause.Cause.{Cause}
 use Rattle.eap_packet.specs.declared.cause.Cause.TheVariants.{GpskShape, ListTooLong}
 use Rattle.eap_packet.specs.Packet.{IsOctets}
-use Rattle.gpsk_messages.specs.declared.view.GpskView.{GpskView}
+use Rattle.gpsk_messages.specs.declared.view.GpskMessage.{GpskMessage}
 use Rattle.gpsk_messages.specs.Message.{Message, message_of, read_value, gpsk1, gpsk2, gpsk3, gpsk4, fail, protected_fail, op_code, mac_of, list_of, covered_of, without_mac, spelled, AreFields, HasMac, IsMacSize, IsGpsk, IsGpskLoose}
 use Rattle.gpsk_messages.specs.Reading.{fields_at, is_mac_size, takes_mac, with_mac, message_if_mac_fits, loose_of, outcome_of, read_of}
 use Rattle.gpsk_messages.specs.Laws.{SpellingsAreRead, ReadsTheSpelling, SpellingsAreApart, ShapelessSpellsNothing, SpellsALongList, Refuses, LongListsAreTold, SpellingsAreSized, CoveredIsTheMiddle, CoveredTellsTheFields}
@@ -162,13 +162,13 @@ pub long_lists_are_told : LongListsAreTold
 long_lists_are_told ks octets small = (long_if_told ks octets small, told_if_long ks octets)
 
 -- a reader's answer: a message that the octets spell
-pub spelled_if_heard : (ks : Option ℕ) (answer : Result GpskView Cause) (octets : List ℕ) → IsOctets octets → read_value answer ≡ read_of ks octets →
+pub spelled_if_heard : (ks : Option ℕ) (answer : Result GpskMessage Cause) (octets : List ℕ) → IsOctets octets → read_value answer ≡ read_of ks octets →
     IfOk answer (λ view. IsGpsk ks (message_of view) octets)
 spelled_if_heard ks (Ok view) octets small e = spelled_if_read ks octets (message_of view) small (sym e)
 spelled_if_heard ks (Err cause) octets small e = tt
 
 -- or the cause, where they spell none
-pub refused_if_heard : (ks : Option ℕ) (answer : Result GpskView Cause) (octets : List ℕ) → IsOctets octets → read_value answer ≡ read_of ks octets →
+pub refused_if_heard : (ks : Option ℕ) (answer : Result GpskMessage Cause) (octets : List ℕ) → IsOctets octets → read_value answer ≡ read_of ks octets →
     IfErr answer (Refuses ks octets)
 refused_if_heard ks (Ok view) octets small e = tt
 refused_if_heard ks (Err cause) octets small e =

@@ -6,8 +6,8 @@ use Rattle.octet_lists.specs.Suite.{ks_of, suite_octets}
 use Rattle.octet_lists.specs.Sizes.{max_name}
 use Rattle.eap_packet.specs.declared.cause.Cause.{Cause}
 use Rattle.eap_packet.specs.Packet.{two_octets}
-use Rattle.gpsk_messages.specs.declared.view.GpskView.{GpskView}
-use Rattle.gpsk_messages.specs.declared.view.GpskView.TheVariants as view
+use Rattle.gpsk_messages.specs.declared.view.GpskMessage.{GpskMessage}
+use Rattle.gpsk_messages.specs.declared.view.GpskMessage.TheVariants as view
 
 -- a message, with its fields in their order
 pub data Message : Type 0 where
@@ -139,7 +139,7 @@ without_mac (fail code) = fail code
 without_mac (protected_fail code mac) = protected_fail code []
 
 -- the message that a view shows
-abbrev pub message_of : GpskView → Message
+abbrev pub message_of : GpskMessage → Message
 message_of (view.M1 m) = gpsk1 m.id_s.now m.rand_s m.list.now
 message_of (view.M2 m) = gpsk2 m.id_p.now m.id_s.now m.rand_p m.rand_s m.list.now m.suite m.pd.now m.mac.now
 message_of (view.M3 m) = gpsk3 m.rand_p m.rand_s m.id_s.now m.suite m.pd.now m.mac.now
@@ -148,6 +148,6 @@ message_of (view.Fail code) = fail code
 message_of (view.ProtectedFail code mac) = protected_fail code mac.now
 
 -- a reader's answer, with the message in place of the view
-abbrev pub read_value : Result GpskView Cause → Result Message Cause
+abbrev pub read_value : Result GpskMessage Cause → Result Message Cause
 read_value (Ok shown) = Ok (message_of shown)
 read_value (Err cause) = Err cause

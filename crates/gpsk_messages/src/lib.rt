@@ -4,6 +4,7 @@
 mod fields;
 mod laws;
 mod parts;
+mod plain;
 mod reading;
 mod view;
 mod writing;
@@ -13,6 +14,7 @@ pub use laws::{
     shapeless_spells_nothing, spellings_are_apart, spellings_are_read, spellings_are_sized,
 };
 pub use parts::{covered_part, mac_part};
-pub use reading::{covered, read_gpsk};
-pub use view::{Gpsk1, Gpsk2, Gpsk3, Gpsk4, GpskView};
-pub use writing::{write_gpsk, write_gpsk_into};
+pub use plain::{GpskView, read_gpsk, write_gpsk};
+pub use reading::{covered, read_gpsk_message};
+pub use view::{Gpsk1, Gpsk2, Gpsk3, Gpsk4, GpskMessage};
+pub use writing::write_gpsk_into;

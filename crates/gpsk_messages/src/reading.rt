@@ -8,7 +8,7 @@ ghost use Rattle.gpsk_messages.specs.Reading.{and_then, gpsk1_at, gpsk2_at, gpsk
 use crate::fields::{
     code_field, identity_field, rand_field, sized_field, suite_field, suites_field,
 };
-use crate::view::{Gpsk1, Gpsk2, Gpsk3, Gpsk4, GpskView};
+use crate::view::{Gpsk1, Gpsk2, Gpsk3, Gpsk4, GpskMessage};
 use eap_packet::Cause;
 
 /// The most octets of a list of suites: 20 entries.
@@ -26,14 +26,14 @@ fn is_size_of_mac(size: usize, ks: Option<u8>) -> bool
 
 /// GPSK-1: ID_Server, RAND_Server, CSuite_List.
 #[tactic(auto, unfolding(crate::specs::Reading::and_then, crate::specs::Reading::gpsk1_at))]
-fn read_gpsk1<'a>(octets: &'a [u8], ks: Option<u8>) -> Option<GpskView<'a>>
+fn read_gpsk1<'a>(octets: &'a [u8], ks: Option<u8>) -> Option<GpskMessage<'a>>
     ensures { option_map message_of result ≡ and_then (gpsk1_at octets.now) (message_if_mac_fits ks) }
 {
     let (id_s, rest) = identity_field(octets)?;
     let (rand_s, rest) = rand_field(rest)?;
     let (list, rest) = suites_field(rest)?;
     if rest.is_empty() {
-        Some(GpskView::M1(Gpsk1 { id_s, rand_s, list }))
+        Some(GpskMessage::M1(Gpsk1 { id_s, rand_s, list }))
     } else {
         None
     }
@@ -41,7 +41,7 @@ fn read_gpsk1<'a>(octets: &'a [u8], ks: Option<u8>) -> Option<GpskView<'a>>
 
 /// GPSK-2: ID_Peer, ID_Server, RAND_Peer, RAND_Server, CSuite_List, CSuite_Sel, PD block, MAC.
 #[tactic(auto, unfolding(crate::specs::Reading::and_then, crate::specs::Reading::gpsk2_at))]
-fn read_gpsk2<'a>(octets: &'a [u8], ks: Option<u8>) -> Option<GpskView<'a>>
+fn read_gpsk2<'a>(octets: &'a [u8], ks: Option<u8>) -> Option<GpskMessage<'a>>
     ensures { option_map message_of result ≡ and_then (gpsk2_at octets.now) (message_if_mac_fits ks) }
 {
     let (id_p, rest) = identity_field(octets)?;
@@ -52,7 +52,7 @@ fn read_gpsk2<'a>(octets: &'a [u8], ks: Option<u8>) -> Option<GpskView<'a>>
     let (suite, rest) = suite_field(rest)?;
     let (pd, mac) = sized_field(rest)?;
     if mac.len() == suite.ks() {
-        Some(GpskView::M2(Gpsk2 {
+        Some(GpskMessage::M2(Gpsk2 {
             id_p,
             id_s,
             rand_p,
@@ -69,7 +69,7 @@ fn read_gpsk2<'a>(octets: &'a [u8], ks: Option<u8>) -> Option<GpskView<'a>>
 
 /// GPSK-3: RAND_Peer, RAND_Server, ID_Server, CSuite_Sel, PD block, MAC.
 #[tactic(auto, unfolding(crate::specs::Reading::and_then, crate::specs::Reading::gpsk3_at))]
-fn read_gpsk3<'a>(octets: &'a [u8], ks: Option<u8>) -> Option<GpskView<'a>>
+fn read_gpsk3<'a>(octets: &'a [u8], ks: Option<u8>) -> Option<GpskMessage<'a>>
     ensures { option_map message_of result ≡ and_then (gpsk3_at octets.now) (message_if_mac_fits ks) }
 {
     let (rand_p, rest) = rand_field(octets)?;
@@ -78,7 +78,7 @@ fn read_gpsk3<'a>(octets: &'a [u8], ks: Option<u8>) -> Option<GpskView<'a>>
     let (suite, rest) = suite_field(rest)?;
     let (pd, mac) = sized_field(rest)?;
     if mac.len() == suite.ks() {
-        Some(GpskView::M3(Gpsk3 {
+        Some(GpskMessage::M3(Gpsk3 {
             rand_p,
             rand_s,
             id_s,
@@ -93,12 +93,12 @@ fn read_gpsk3<'a>(octets: &'a [u8], ks: Option<u8>) -> Option<GpskView<'a>>
 
 /// GPSK-4: PD block, MAC.
 #[tactic(auto, unfolding(crate::specs::Reading::and_then, crate::specs::Reading::gpsk4_at))]
-fn read_gpsk4<'a>(octets: &'a [u8], ks: Option<u8>) -> Option<GpskView<'a>>
+fn read_gpsk4<'a>(octets: &'a [u8], ks: Option<u8>) -> Option<GpskMessage<'a>>
     ensures { option_map message_of result ≡ and_then (gpsk4_at octets.now) (message_if_mac_fits ks) }
 {
     let (pd, mac) = sized_field(octets)?;
     if is_size_of_mac(mac.len(), ks) {
-        Some(GpskView::M4(Gpsk4 { pd, mac }))
+        Some(GpskMessage::M4(Gpsk4 { pd, mac }))
     } else {
         None
     }
@@ -106,12 +106,12 @@ fn read_gpsk4<'a>(octets: &'a [u8], ks: Option<u8>) -> Option<GpskView<'a>>
 
 /// GPSK-Fail: Failure-Code.
 #[tactic(auto, unfolding(crate::specs::Reading::and_then, crate::specs::Reading::fail_at))]
-fn read_fail<'a>(octets: &'a [u8], ks: Option<u8>) -> Option<GpskView<'a>>
+fn read_fail<'a>(octets: &'a [u8], ks: Option<u8>) -> Option<GpskMessage<'a>>
     ensures { option_map message_of result ≡ and_then (fail_at octets.now) (message_if_mac_fits ks) }
 {
     let (code, rest) = code_field(octets)?;
     if rest.is_empty() {
-        Some(GpskView::Fail { code })
+        Some(GpskMessage::Fail { code })
     } else {
         None
     }
@@ -119,12 +119,12 @@ fn read_fail<'a>(octets: &'a [u8], ks: Option<u8>) -> Option<GpskView<'a>>
 
 /// GPSK-Protected-Fail: Failure-Code, MAC.
 #[tactic(auto, unfolding(crate::specs::Reading::and_then, crate::specs::Reading::protected_fail_at))]
-fn read_protected_fail<'a>(octets: &'a [u8], ks: Option<u8>) -> Option<GpskView<'a>>
+fn read_protected_fail<'a>(octets: &'a [u8], ks: Option<u8>) -> Option<GpskMessage<'a>>
     ensures { option_map message_of result ≡ and_then (protected_fail_at octets.now) (message_if_mac_fits ks) }
 {
     let (code, mac) = code_field(octets)?;
     if is_size_of_mac(mac.len(), ks) {
-        Some(GpskView::ProtectedFail { code, mac })
+        Some(GpskMessage::ProtectedFail { code, mac })
     } else {
         None
     }
@@ -132,7 +132,7 @@ fn read_protected_fail<'a>(octets: &'a [u8], ks: Option<u8>) -> Option<GpskView<
 
 /// The message that the octets encode, with any number of suites in a list.
 #[tactic(auto, unfolding(crate::specs::Reading::and_then, crate::specs::Reading::fields_at, crate::specs::Reading::loose_of))]
-fn read_loosely<'a>(body: &'a [u8], ks: Option<u8>) -> Option<GpskView<'a>>
+fn read_loosely<'a>(body: &'a [u8], ks: Option<u8>) -> Option<GpskMessage<'a>>
     ensures { option_map message_of result ≡ loose_of ks body.now }
 {
     match body {
@@ -147,12 +147,12 @@ fn read_loosely<'a>(body: &'a [u8], ks: Option<u8>) -> Option<GpskView<'a>>
 }
 
 /// The octets of the message's list of suites, 0 if it has none.
-fn list_size(view: &GpskView) -> usize
+fn list_size(view: &GpskMessage) -> usize
     ensures { result ≡ length (list_of (message_of view.now)) }
 {
     match view {
-        GpskView::M1(gpsk1) => gpsk1.list.len(),
-        GpskView::M2(gpsk2) => gpsk2.list.len(),
+        GpskMessage::M1(gpsk1) => gpsk1.list.len(),
+        GpskMessage::M2(gpsk2) => gpsk2.list.len(),
         _ => 0,
     }
 }
@@ -162,7 +162,7 @@ fn list_size(view: &GpskView) -> usize
 ///
 /// `GpskShape` if the octets encode no message, `ListTooLong` if they encode one but for a list
 /// of more than 20 suites (RFC 5433 section 9.2).
-pub fn read_gpsk<'a>(body: &'a [u8], ks: Option<u8>) -> Result<GpskView<'a>, Cause>
+pub fn read_gpsk_message<'a>(body: &'a [u8], ks: Option<u8>) -> Result<GpskMessage<'a>, Cause>
     ensures message { read_value result ≡ read_of ks body.now }
     ensures spelled { IfOk result (λ view. IsGpsk ks (message_of view) body.now) }
     ensures refused { IfErr result (Refuses ks body.now) }
@@ -172,7 +172,7 @@ pub fn read_gpsk<'a>(body: &'a [u8], ks: Option<u8>) -> Result<GpskView<'a>, Cau
 
 /// The message that the octets encode, or why there is none.
 #[tactic(auto, unfolding(crate::specs::Reading::read_of))]
-fn read_shape<'a>(body: &'a [u8], ks: Option<u8>) -> Result<GpskView<'a>, Cause>
+fn read_shape<'a>(body: &'a [u8], ks: Option<u8>) -> Result<GpskMessage<'a>, Cause>
     ensures { read_value result ≡ read_of ks body.now }
 {
     match read_loosely(body, ks) {

@@ -61,7 +61,7 @@ pub struct Gpsk4<'a> {
 ///
 /// Identities have at most 253 octets, lists of suites one to 20 entries of six octets.
 #[derive(Clone, Copy)]
-pub enum GpskView<'a> {
+pub enum GpskMessage<'a> {
     M1(Gpsk1<'a>),
     M2(Gpsk2<'a>),
     M3(Gpsk3<'a>),

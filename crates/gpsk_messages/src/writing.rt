@@ -8,10 +8,10 @@ ghost use Rattle.eap_packet.specs.Packet.{value_with, has_type, max_type_data};
 ghost use Rattle.eap_packet.specs.Packet as packets;
 ghost use Rattle.gpsk_messages.specs.Message.{message_of, op_code, spelled, field_with_length, size_of};
 
-use crate::view::{Gpsk1, Gpsk2, GpskView};
+use crate::view::{Gpsk1, Gpsk2, GpskMessage};
 use byteorder::{BigEndian, ByteOrder};
-use octet_lists::{GPSK_KIND, Packet, Suite};
 use eap_packet::{Code, begin_into};
+use octet_lists::{GPSK_KIND, Packet, Suite};
 
 /// Appends a field behind its length, for which there is room.
 fn put_sized(packet: &mut Packet, field: &[u8])
@@ -88,67 +88,67 @@ fn put_sealed(packet: &mut Packet, suite: Suite, pd: &[u8], mac: &[u8])
 }
 
 /// The OP-Code of the message.
-fn op_code_of(view: &GpskView) -> u8
+fn op_code_of(view: &GpskMessage) -> u8
     ensures { result ≡ op_code (message_of view.now) }
 {
     match view {
-        GpskView::M1(_) => 1,
-        GpskView::M2(_) => 2,
-        GpskView::M3(_) => 3,
-        GpskView::M4(_) => 4,
-        GpskView::Fail { .. } => 5,
-        GpskView::ProtectedFail { .. } => 6,
+        GpskMessage::M1(_) => 1,
+        GpskMessage::M2(_) => 2,
+        GpskMessage::M3(_) => 3,
+        GpskMessage::M4(_) => 4,
+        GpskMessage::Fail { .. } => 5,
+        GpskMessage::ProtectedFail { .. } => 6,
     }
 }
 
 /// The octets of the message's Type-Data.
-fn size_of(view: &GpskView) -> usize
+fn size_of(view: &GpskMessage) -> usize
     requires { size_of (message_of view.now) ≤ max_type_data }
     ensures { result ≡ size_of (message_of view.now) }
 {
     match view {
-        GpskView::M1(gpsk1) => {
+        GpskMessage::M1(gpsk1) => {
             5 + gpsk1.id_s.len() + gpsk1.rand_s.as_slice().len() + gpsk1.list.len()
         }
-        GpskView::M2(gpsk2) => {
+        GpskMessage::M2(gpsk2) => {
             let names = gpsk2.id_p.len() + gpsk2.id_s.len();
             let rands = gpsk2.rand_p.as_slice().len() + gpsk2.rand_s.as_slice().len();
             15 + names + rands + gpsk2.list.len() + gpsk2.pd.len() + gpsk2.mac.len()
         }
-        GpskView::M3(gpsk3) => {
+        GpskMessage::M3(gpsk3) => {
             let rands = gpsk3.rand_p.as_slice().len() + gpsk3.rand_s.as_slice().len();
             11 + rands + gpsk3.id_s.len() + gpsk3.pd.len() + gpsk3.mac.len()
         }
-        GpskView::M4(gpsk4) => 3 + gpsk4.pd.len() + gpsk4.mac.len(),
-        GpskView::Fail { .. } => 5,
-        GpskView::ProtectedFail { mac, .. } => 5 + mac.len(),
+        GpskMessage::M4(gpsk4) => 3 + gpsk4.pd.len() + gpsk4.mac.len(),
+        GpskMessage::Fail { .. } => 5,
+        GpskMessage::ProtectedFail { mac, .. } => 5 + mac.len(),
     }
 }
 
 /// Appends the Type-Data of the message, for which there is room.
 #[tactic(auto, unfolding(crate::specs::Message::spelled, crate::specs::Message::covered_of))]
-fn put_message(packet: &mut Packet, view: &GpskView)
+fn put_message(packet: &mut Packet, view: &GpskMessage)
     requires { length packet.old + size_of (message_of view.now) ≤ max_packet }
     ensures { packet.new ≡ packet.old ++ spelled (message_of view.now) }
 {
     packet.put(&[op_code_of(view)]);
     match view {
-        GpskView::M1(gpsk1) => put_gpsk1(packet, gpsk1),
-        GpskView::M2(gpsk2) => {
+        GpskMessage::M1(gpsk1) => put_gpsk1(packet, gpsk1),
+        GpskMessage::M2(gpsk2) => {
             put_offer(packet, gpsk2);
             put_sealed(packet, gpsk2.suite, gpsk2.pd, gpsk2.mac);
         }
-        GpskView::M3(gpsk3) => {
+        GpskMessage::M3(gpsk3) => {
             put_rands(packet, &gpsk3.rand_p, &gpsk3.rand_s);
             put_sized(packet, gpsk3.id_s);
             put_sealed(packet, gpsk3.suite, gpsk3.pd, gpsk3.mac);
         }
-        GpskView::M4(gpsk4) => {
+        GpskMessage::M4(gpsk4) => {
             put_sized(packet, gpsk4.pd);
             packet.put(gpsk4.mac);
         }
-        GpskView::Fail { code } => put_code(packet, *code),
-        GpskView::ProtectedFail { code, mac } => {
+        GpskMessage::Fail { code } => put_code(packet, *code),
+        GpskMessage::ProtectedFail { code, mac } => {
             put_code(packet, *code);
             packet.put(mac);
         }
@@ -158,22 +158,11 @@ fn put_message(packet: &mut Packet, view: &GpskView)
 /// Writes the Request or the Response of Type 51 with this Identifier whose Type-Data encodes the
 /// message, in place of what the packet had.
 #[tactic(auto, using(crate::proofs::Grammar::spellings_are_sized))]
-pub fn write_gpsk_into(packet: &mut Packet, view: &GpskView, code: Code, id: u8)
+pub fn write_gpsk_into(packet: &mut Packet, view: &GpskMessage, code: Code, id: u8)
     requires typed { IsTrue (has_type code) }
     requires fits { size_of (message_of view.now) + 5 ≤ max_packet }
     ensures { packet.new ≡ packets.spelled (value_with code id 51 (spelled (message_of view.now))) }
 {
     begin_into(packet, code, id, GPSK_KIND, size_of(view));
     put_message(packet, view);
-}
-
-/// The Request or the Response of Type 51 with this Identifier whose Type-Data encodes the message.
-pub fn write_gpsk(view: &GpskView, code: Code, id: u8) -> Packet
-    requires typed { IsTrue (has_type code) }
-    requires fits { size_of (message_of view.now) + 5 ≤ max_packet }
-    ensures { result ≡ packets.spelled (value_with code id 51 (spelled (message_of view.now))) }
-{
-    let mut packet = Packet::new();
-    write_gpsk_into(&mut packet, view, code, id);
-    packet
 }

@@ -6,7 +6,7 @@ ghost use Rattle.packet_commands.specs.Keys.{keys_answer};
 use answer_text::write_key_line;
 use command_driver::{Close, Command, Next, Status, Trouble, drive};
 use octet_io::{Failed, Sink, Source};
-use request_text::{KeyLine, read_key_line};
+use request_text::{KeyLine, read_key_line_into};
 
 /// The requests, each of which is answered by itself, and the place into which they are read.
 #[derive(Drop)]
@@ -40,7 +40,7 @@ impl Command for Keys {
 
     #[tactic(auto, unfolding(crate::specs::Keys::keys_took, answer_text::specs::Writes::Appends))]
     fn take<W: Sink>(&mut self, sink: &mut W, line: &[u8]) -> Result<Next, Trouble> {
-        match read_key_line(line, &mut self.asked) {
+        match read_key_line_into(line, &mut self.asked) {
             Ok(false) => Ok(Next::Goes),
             Ok(true) => match write_key_line(sink, &self.asked) {
                 Ok(()) => Ok(Next::Goes),

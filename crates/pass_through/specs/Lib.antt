@@ -3,3 +3,4 @@ pub mod Inputs
 pub mod Rows
 pub mod Laws
 pub mod Runs
+pub mod Plain

@@ -6,8 +6,10 @@ mod laws;
 mod machine;
 mod rows;
 mod states;
+mod step;
 mod variables;
 
 pub use laws::{answers_are_rows, discards_keep, sends_what_came};
 pub use machine::PassThrough;
+pub use step::PassStep;
 pub use variables::PassVariables;

@@ -5,10 +5,11 @@ ghost use Rattle.pass_through.specs.PassTable.{Peer, Server, answer, step_to, wi
 
 use crate::rows::{resend, take_aaa_idle, take_idle, take_idle2, write_identity_request};
 use crate::states::{is_aaa_idle, is_idle, is_idle2, is_over};
+use crate::step::PassStep;
 use crate::variables::PassVariables;
-use octet_lists::Packet;
 use eap_method::Step;
 use eap_packet::{Cause, State};
+use octet_lists::Packet;
 use std::marker::Model;
 
 /// The pass-through authenticator of RFC 4137 section 7. Contracts see its variables.
@@ -32,6 +33,7 @@ impl PassThrough {
     ghost use Rattle.std.specs.Prelude.{[]};
     ghost use Rattle.pass_through.specs.PassTable.{pass_made, pass_start, pass_restart, pass_from_peer, pass_from_backend, pass_timeout, pass_aaa_timeout, pass_aaa_noreq};
     ghost use Rattle.pass_through.specs.PassTable.{is_started, has_timer, is_aaa_idle, is_over};
+    ghost use Rattle.pass_through.specs.Plain.{plain_step};
 
     /// A pass-through that has not started. `max_retrans` is at most 10.
     pub fn new(first_id: u8, max_retrans: u8) -> PassThrough
@@ -52,7 +54,7 @@ impl PassThrough {
 
     /// INITIALIZE (RFC 4137 section 5.5): proposes Identity and writes its Request, with the first
     /// Identifier, into `packet`; it goes to the peer. The pass-through has not started.
-    pub fn start(&mut self, packet: &mut Packet) -> Step
+    pub fn start_step(&mut self, packet: &mut Packet) -> Step
         requires { is_started self.old.state ≡ false }
         ensures step { pass_start self.old ≡ answer (step_to Peer result packet.new) self.new }
         ensures own { packet.new ≡ identity_request self.old.first_id }
@@ -63,7 +65,7 @@ impl PassThrough {
     /// Restarts, in any state: its variables are as INITIALIZE sets them, and it asks for the identity
     /// again, with the first Identifier. The Request is written into `packet`; it goes to the peer.
     #[tactic(auto, unfolding(crate::specs::PassTable::pass_restart, crate::specs::PassTable::pass_start))]
-    pub fn restart(&mut self, packet: &mut Packet) -> Step
+    pub fn restart_step(&mut self, packet: &mut Packet) -> Step
         ensures step { pass_restart self.old ≡ answer (step_to Peer result packet.new) self.new }
         ensures own { packet.new ≡ identity_request self.old.first_id }
     {
@@ -96,7 +98,7 @@ impl PassThrough {
     /// without what follows its Length. All else is silently discarded and changes nothing: in AAA_IDLE,
     /// where the server is waited for, and after the end with an empty path.
     #[tactic(auto, unfolding(crate::specs::PassTable::pass_from_peer))]
-    pub fn from_peer(&mut self, octets: &[u8], packet: &mut Packet) -> Step
+    pub fn from_peer_step(&mut self, octets: &[u8], packet: &mut Packet) -> Step
         ensures step { pass_from_peer self.old octets.now ≡ answer (step_to Server result packet.new) self.new }
         ensures whole { result.sends ≡ true → packet.new ≡ without_padding octets.now }
     {
@@ -116,7 +118,7 @@ impl PassThrough {
     /// from `packet`, without what follows its Length. All else is silently discarded and changes
     /// nothing, with an empty path.
     #[tactic(auto, unfolding(crate::specs::PassTable::pass_from_backend))]
-    pub fn from_backend(&mut self, octets: &[u8], packet: &mut Packet) -> Step
+    pub fn from_backend_step(&mut self, octets: &[u8], packet: &mut Packet) -> Step
         ensures step { pass_from_backend self.old octets.now ≡ answer (step_to Peer result packet.new) self.new }
         ensures whole { result.sends ≡ true → packet.new ≡ without_padding octets.now }
     {
@@ -133,7 +135,7 @@ impl PassThrough {
     /// The retransmission timer ends: the last Request goes to the peer again, from `packet`, at most
     /// MaxRetrans times; then TIMEOUT_FAILURE or TIMEOUT_FAILURE2 follows. The state is IDLE or IDLE2.
     #[tactic(auto, unfolding(crate::specs::PassTable::pass_timeout))]
-    pub fn timeout(&mut self, packet: &mut Packet) -> Step
+    pub fn timeout_step(&mut self, packet: &mut Packet) -> Step
         requires { has_timer self.old.state ≡ true }
         ensures step { pass_timeout self.old ≡ answer (step_to Peer result packet.new) self.new }
         ensures again { result.sends ≡ true → packet.new ≡ self.old.last_request }
@@ -160,7 +162,7 @@ impl PassThrough {
     /// No answer of the server comes any more (RFC 4137 section 7.1, aaaTimeout): TIMEOUT_FAILURE2. The
     /// state is AAA_IDLE.
     #[tactic(auto, unfolding(crate::specs::PassTable::pass_aaa_timeout))]
-    pub fn aaa_timeout(&mut self) -> Step
+    pub fn aaa_timeout_step(&mut self) -> Step
         requires { is_aaa_idle self.old.state ≡ true }
         ensures { pass_aaa_timeout self.old ≡ answer (step_to Peer result []) self.new }
     {
@@ -171,12 +173,74 @@ impl PassThrough {
     /// The server answers that it has nothing to ask (RFC 4137 section 7.1, aaaEapNoReq): DISCARD2. The
     /// state is AAA_IDLE.
     #[tactic(auto, unfolding(crate::specs::PassTable::pass_aaa_noreq))]
-    pub fn aaa_noreq(&mut self) -> Step
+    pub fn aaa_noreq_step(&mut self) -> Step
         requires { is_aaa_idle self.old.state ≡ true }
         ensures { pass_aaa_noreq self.old ≡ answer (step_to Peer result []) self.new }
     {
         self.vars.state = State::Idle2;
         Step::entering(&[State::Discard2, State::Idle2])
+    }
+
+    /// [`start_step`](PassThrough::start_step), with the packet in its answer.
+    pub fn start(&mut self) -> PassStep
+        requires { is_started self.old.state ≡ false }
+        ensures step { result ≡ plain_step (pass_start self.old).step }
+        ensures after { self.new ≡ (pass_start self.old).after }
+    {
+        let mut packet = Packet::new();
+        let step = self.start_step(&mut packet);
+        PassStep::to_peer(step, packet)
+    }
+
+    /// [`from_peer_step`](PassThrough::from_peer_step), with the packet in its answer.
+    pub fn from_peer(&mut self, octets: &[u8]) -> PassStep
+        ensures step { result ≡ plain_step (pass_from_peer self.old octets.now).step }
+        ensures after { self.new ≡ (pass_from_peer self.old octets.now).after }
+    {
+        let mut packet = Packet::new();
+        let step = self.from_peer_step(octets, &mut packet);
+        PassStep::to_server(step, packet)
+    }
+
+    /// [`from_backend_step`](PassThrough::from_backend_step), with the packet in its answer.
+    pub fn from_backend(&mut self, octets: &[u8]) -> PassStep
+        ensures step { result ≡ plain_step (pass_from_backend self.old octets.now).step }
+        ensures after { self.new ≡ (pass_from_backend self.old octets.now).after }
+    {
+        let mut packet = Packet::new();
+        let step = self.from_backend_step(octets, &mut packet);
+        PassStep::to_peer(step, packet)
+    }
+
+    /// [`timeout_step`](PassThrough::timeout_step), with the packet in its answer.
+    pub fn timeout(&mut self) -> PassStep
+        requires { has_timer self.old.state ≡ true }
+        ensures step { result ≡ plain_step (pass_timeout self.old).step }
+        ensures after { self.new ≡ (pass_timeout self.old).after }
+    {
+        let mut packet = Packet::new();
+        let step = self.timeout_step(&mut packet);
+        PassStep::to_peer(step, packet)
+    }
+
+    /// [`aaa_timeout_step`](PassThrough::aaa_timeout_step), with the packet in its answer.
+    pub fn aaa_timeout(&mut self) -> PassStep
+        requires { is_aaa_idle self.old.state ≡ true }
+        ensures step { result ≡ plain_step (pass_aaa_timeout self.old).step }
+        ensures after { self.new ≡ (pass_aaa_timeout self.old).after }
+    {
+        let step = self.aaa_timeout_step();
+        PassStep::to_peer(step, Packet::new())
+    }
+
+    /// [`aaa_noreq_step`](PassThrough::aaa_noreq_step), with the packet in its answer.
+    pub fn aaa_noreq(&mut self) -> PassStep
+        requires { is_aaa_idle self.old.state ≡ true }
+        ensures step { result ≡ plain_step (pass_aaa_noreq self.old).step }
+        ensures after { self.new ≡ (pass_aaa_noreq self.old).after }
+    {
+        let step = self.aaa_noreq_step();
+        PassStep::to_peer(step, Packet::new())
     }
 
     /// The pass-through's state.

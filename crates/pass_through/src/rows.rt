@@ -6,9 +6,9 @@ ghost use Rattle.eap_packet.specs.declared.state.State.TheVariants.{Received, Di
 ghost use Rattle.pass_through.specs.PassTable.{Peer, Server, answer, step_to, without_padding, identity_request, idle_row, idle2_row, aaa_row, is_over, resends};
 
 use crate::variables::PassVariables;
-use octet_lists::{IDENTITY, Packet};
 use eap_method::Step;
 use eap_packet::{Cause, Code, State, decode, encode_into};
+use octet_lists::{IDENTITY, Packet};
 
 /// The Identity Request.
 pub fn write_identity_request(packet: &mut Packet, id: u8)

@@ -1,7 +1,7 @@
 //! The pass-through's variables.
 
-use octet_lists::Packet;
 use eap_packet::State;
+use octet_lists::Packet;
 
 /// The pass-through's variables (RFC 4137 sections 5.3 and 7.1).
 #[derive(Drop)]

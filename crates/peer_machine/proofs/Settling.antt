@@ -2,7 +2,7 @@
 use Rattle.std.proofs.Common.{◌≡◌, ℕ, List, Bool, refl, ap, ◌∙◌, sym}
 use Rattle.eap_method.specs.declared.step.Step as brief
 use Rattle.eap_method.specs.Tags.{Tags}
-use Rattle.eap_method.specs.declared.turn.PeerTurn as short
+use Rattle.eap_method.specs.declared.turn.PeerAnswer as short
 use Rattle.eap_method.specs.Steps.{step_with}
 use Rattle.eap_method.specs.PeerTurn.{PeerTurn}
 use Rattle.eap_method.specs.PeerTurn.{Discard, Reply, peer_turn_with, peer_tags}
@@ -17,7 +17,7 @@ settled_after kind views after octets (Discard c) turned = sym (peer_turn_keeps 
 settled_after kind views after octets (Reply packet m d tags) turned = refl
 
 pub method_settles : (selects : Bool) (now : PeerNow) (vars : PeerVariables) (kind id : ℕ) (octets : List ℕ)
-    (turn : short.PeerTurn) (packet : List ℕ) (tags : Tags) (shown : List PeerShown) (step : brief.Step)
+    (turn : short.PeerAnswer) (packet : List ℕ) (tags : Tags) (shown : List PeerShown) (step : brief.Step)
     → peer_turn kind now.views octets ≡ record { turn = peer_turn_with turn packet tags; after = peer_views now.vars.setup.methods shown }
     → tags ≡ peer_tags (peer_turn_with turn packet tags)
     → (let after = peer_views now.vars.setup.methods shown in

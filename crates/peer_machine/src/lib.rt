@@ -10,4 +10,4 @@ pub use machine::PeerMachine;
 pub use variables::PeerVariables;
 
 /// What one call of the peer does.
-pub type PeerStep = eap_method::Step;
+pub type PeerStep = eap_method::WholeStep;

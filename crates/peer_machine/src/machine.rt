@@ -18,18 +18,19 @@ ghost use Rattle.peer_machine.specs.Expanded.{express};
 ghost use Rattle.peer_machine.specs.PeerTable.{before_method, method_answers, views_after, answer, is_allowed, first_of, selected_shown, selected_view};
 ghost use Rattle.eap_method.specs.Peer.{IsRequest, PeerShown, PeerViews, have_each, peer_views, peer_turn, peer_kinds};
 
+use crate::PeerStep;
 use crate::variables::PeerVariables;
-use octet_lists::{EXPANDED, IDENTITY, IETF, NAK, NOTIFICATION, Nonce, Packet, VENDOR_SIZE};
 use eap_method::{
-    Decision, MethodState, PeerMethod, PeerTurn, Records, Report, Step, Tags, begin_peers,
+    Decision, MethodState, PeerAnswer, PeerMethod, Records, Report, Step, Tags, begin_peers,
     hand_to_peer, has_ended, peer_report,
 };
 use eap_packet::{
-    Cause, Code, PacketView, State, begin_into, decode, encode_into, is_bad_expanded, wrap,
-    write_plain,
+    Cause, Code, PacketView, State, begin_into, decode, encode_into, is_bad_expanded,
+    wrap_in_place, write_plain,
 };
 use login_policy::{expanded_nak, nak_list, peer_allows};
 use login_setup::PeerSetup;
+use octet_lists::{EXPANDED, IDENTITY, IETF, NAK, NOTIFICATION, Nonce, Packet, VENDOR_SIZE};
 use std::marker::Model;
 
 /// The peer of RFC 4137 section 4: its variables, and the objects of its methods. Contracts see both;
@@ -87,7 +88,7 @@ impl<M: PeerMethod> PeerMachine<M> {
     /// as INITIALIZE sets them (RFC 4137 section 4.5), and of the settings the nonce alone changes. Nothing is sent, and no
     /// tag is accepted or made. Each of its methods has an object.
     #[tactic(auto, unfolding(crate::specs::PeerTable::peer_restart), using(crate::proofs::Restarting::still_sound))]
-    pub fn restart(&mut self, nonce: &Nonce) -> Step
+    pub fn restart_step(&mut self, nonce: &Nonce) -> Step
         requires objects { have_each (peer_kinds (map M.peer_shown self.old.methods)) self.old.vars.setup.methods ≡ true }
         ensures step { peer_restart (now_of M.peer_shown self.old) nonce.now ≡ answer (step_with result [] no_tags) (now_of M.peer_shown self.new) }
         ensures kept { KeepsPeers self.old.vars.setup.methods (map M.peer_shown self.old.methods) (map M.peer_shown self.new.methods) }
@@ -118,7 +119,7 @@ impl<M: PeerMethod> PeerMachine<M> {
     /// silently discarded for BadExpanded, unless the peer has ended: one with under 7 octets of
     /// Type-Data, or an Expanded Nak. What isn't a Request of Type 254 is handled as without `expanded`.
     #[tactic(auto, unfolding(crate::specs::Expanded::peer_hears))]
-    pub fn deliver<R: Records>(
+    pub fn deliver_step<R: Records>(
         &mut self,
         octets: &[u8],
         packet: &mut Packet,
@@ -139,7 +140,7 @@ impl<M: PeerMethod> PeerMachine<M> {
     /// The lower layer is idle (RFC 4137 section 4.1.1): SUCCESS if the decision is UNCOND_SUCC, else
     /// FAILURE. The peer has not ended.
     #[tactic(auto, unfolding(crate::specs::PeerTable::peer_idle))]
-    pub fn idle(&mut self) -> Step
+    pub fn idle_step(&mut self) -> Step
         requires { is_end self.old.vars.state ≡ false }
         ensures step { peer_idle (now_of M.peer_shown self.old) ≡ answer (step_with result [] no_tags) (now_of M.peer_shown self.new) }
         ensures kept { KeepsPeers self.old.vars.setup.methods (map M.peer_shown self.old.methods) (map M.peer_shown self.new.methods) }
@@ -155,7 +156,7 @@ impl<M: PeerMethod> PeerMachine<M> {
     /// The lower layer reports success (RFC 4137 section 4.1.1): SUCCESS if the decision isn't FAIL; else FAILURE if
     /// methodState isn't CONT; else nothing. The peer has not ended.
     #[tactic(auto, unfolding(crate::specs::PeerTable::peer_alt_accept))]
-    pub fn alt_accept(&mut self) -> Step
+    pub fn alt_accept_step(&mut self) -> Step
         requires { is_end self.old.vars.state ≡ false }
         ensures step { peer_alt_accept (now_of M.peer_shown self.old) ≡ answer (step_with result [] no_tags) (now_of M.peer_shown self.new) }
         ensures kept { KeepsPeers self.old.vars.setup.methods (map M.peer_shown self.old.methods) (map M.peer_shown self.new.methods) }
@@ -172,13 +173,65 @@ impl<M: PeerMethod> PeerMachine<M> {
 
     /// The lower layer reports failure (RFC 4137 section 4.1.1): FAILURE. The peer has not ended.
     #[tactic(auto, unfolding(crate::specs::PeerTable::peer_alt_reject))]
-    pub fn alt_reject(&mut self) -> Step
+    pub fn alt_reject_step(&mut self) -> Step
         requires { is_end self.old.vars.state ≡ false }
         ensures step { peer_alt_reject (now_of M.peer_shown self.old) ≡ answer (step_with result [] no_tags) (now_of M.peer_shown self.new) }
         ensures kept { KeepsPeers self.old.vars.setup.methods (map M.peer_shown self.old.methods) (map M.peer_shown self.new.methods) }
         ensures setup { self.new.vars.setup ≡ self.old.vars.setup }
     {
         end(&mut self.vars, State::Failure)
+    }
+
+    /// [`restart_step`](PeerMachine::restart_step), with all that it does in its answer.
+    pub fn restart(&mut self, nonce: &Nonce) -> PeerStep
+        requires objects { have_each (peer_kinds (map M.peer_shown self.old.methods)) self.old.vars.setup.methods ≡ true }
+        ensures step { peer_restart (now_of M.peer_shown self.old) nonce.now ≡ answer result (now_of M.peer_shown self.new) }
+        ensures kept { KeepsPeers self.old.vars.setup.methods (map M.peer_shown self.old.methods) (map M.peer_shown self.new.methods) }
+        ensures setup { self.new.vars.setup ≡ own_nonce self.old.vars.setup nonce.now }
+    {
+        self.restart_step(nonce).alone()
+    }
+
+    /// [`deliver_step`](PeerMachine::deliver_step), with the packet and the records in its answer.
+    pub fn deliver(&mut self, octets: &[u8]) -> PeerStep
+        ensures step { peer_hears (now_of M.peer_shown self.old) octets.now ≡ answer result (now_of M.peer_shown self.new) }
+        ensures kept { KeepsPeers self.old.vars.setup.methods (map M.peer_shown self.old.methods) (map M.peer_shown self.new.methods) }
+        ensures setup { self.new.vars.setup ≡ self.old.vars.setup }
+    {
+        let mut packet = Packet::new();
+        let mut tags = Tags::new();
+        let step = self.deliver_step(octets, &mut packet, &mut tags);
+        step.with(packet, tags)
+    }
+
+    /// [`idle_step`](PeerMachine::idle_step), with all that it does in its answer.
+    pub fn idle(&mut self) -> PeerStep
+        requires { is_end self.old.vars.state ≡ false }
+        ensures step { peer_idle (now_of M.peer_shown self.old) ≡ answer result (now_of M.peer_shown self.new) }
+        ensures kept { KeepsPeers self.old.vars.setup.methods (map M.peer_shown self.old.methods) (map M.peer_shown self.new.methods) }
+        ensures setup { self.new.vars.setup ≡ self.old.vars.setup }
+    {
+        self.idle_step().alone()
+    }
+
+    /// [`alt_accept_step`](PeerMachine::alt_accept_step), with all that it does in its answer.
+    pub fn alt_accept(&mut self) -> PeerStep
+        requires { is_end self.old.vars.state ≡ false }
+        ensures step { peer_alt_accept (now_of M.peer_shown self.old) ≡ answer result (now_of M.peer_shown self.new) }
+        ensures kept { KeepsPeers self.old.vars.setup.methods (map M.peer_shown self.old.methods) (map M.peer_shown self.new.methods) }
+        ensures setup { self.new.vars.setup ≡ self.old.vars.setup }
+    {
+        self.alt_accept_step().alone()
+    }
+
+    /// [`alt_reject_step`](PeerMachine::alt_reject_step), with all that it does in its answer.
+    pub fn alt_reject(&mut self) -> PeerStep
+        requires { is_end self.old.vars.state ≡ false }
+        ensures step { peer_alt_reject (now_of M.peer_shown self.old) ≡ answer result (now_of M.peer_shown self.new) }
+        ensures kept { KeepsPeers self.old.vars.setup.methods (map M.peer_shown self.old.methods) (map M.peer_shown self.new.methods) }
+        ensures setup { self.new.vars.setup ≡ self.old.vars.setup }
+    {
+        self.alt_reject_step().alone()
     }
 
     /// The peer's settings.
@@ -561,7 +614,7 @@ fn express(vars: &mut PeerVariables, packet: &mut Packet)
     if octets[4] == NAK {
         write_expanded_nak(packet, id, expanded_nak(&vars.setup).as_slice());
     } else {
-        wrap(packet);
+        wrap_in_place(packet);
     }
     vars.last_response.set(packet.as_slice());
 }
@@ -633,7 +686,7 @@ fn hand<M: PeerMethod, R: Records>(
     request: &[u8],
     packet: &mut Packet,
     tags: &mut Tags<R>,
-) -> PeerTurn
+) -> PeerAnswer
     requires { IsRequest kind request.now }
     ensures turn { (allowed : List ℕ) → is_among allowed kind ≡ true
         → peer_turn kind (peer_views allowed (map M.peer_shown methods.old.items)) request.now
@@ -652,7 +705,7 @@ fn settle(
     selects: bool,
     kind: u8,
     id: u8,
-    turn: PeerTurn,
+    turn: PeerAnswer,
     packet: &Packet,
 ) -> Step
     ensures step { (before after : PeerViews) (tags : records.Tags) → let whole = peer_turn_with turn packet.now tags in
@@ -664,8 +717,8 @@ fn settle(
         → is_allowed vars.new.setup.methods vars.new.selected ≡ true }
 {
     match turn {
-        PeerTurn::Discard(cause) => method_discards(selects, cause),
-        PeerTurn::Reply { state, decision } => {
+        PeerAnswer::Discard(cause) => method_discards(selects, cause),
+        PeerAnswer::Reply { state, decision } => {
             vars.selected = Some(kind);
             vars.method_state = state;
             vars.decision = decision;

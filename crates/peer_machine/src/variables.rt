@@ -1,9 +1,9 @@
 //! The peer's variables.
 
-use octet_lists::Packet;
 use eap_method::{Decision, MethodState};
 use eap_packet::State;
 use login_setup::PeerSetup;
+use octet_lists::Packet;
 
 /// The peer's variables (RFC 4137 section 4.3). allowNotifications is true exactly while no method is
 /// selected.

@@ -3,7 +3,7 @@ use Rattle.std.specs.Prelude.{ℕ, List, Result, Ok, Err}
 use Rattle.eap_packet.specs.declared.cause.Cause.{Cause}
 use Rattle.psk_messages.specs.declared.view.Psk1.{Psk1}
 use Rattle.eap_method.specs.Tags.{Tags}
-use Rattle.eap_method.specs.declared.turn.PeerTurn as brief
+use Rattle.eap_method.specs.declared.turn.PeerAnswer as brief
 use Rattle.eap_method.specs.PeerTurn.{peer_turn_with}
 use Rattle.eap_method.specs.PskPeer.{View, Login, unset, fresh, wait, over, answers}
 use Rattle.eap_method.specs.Turns.{PeerOutcome, discarded}
@@ -25,7 +25,7 @@ view_of (stage.Fresh own) = fresh own.cred own.nonce
 view_of (stage.Known login phase) = in_phase phase login
 
 -- a turn with what it wrote, and the peer's state after it
-abbrev pub outcome_with : brief.PeerTurn → List ℕ → Tags → View → PeerOutcome View
+abbrev pub outcome_with : brief.PeerAnswer → List ℕ → Tags → View → PeerOutcome View
 outcome_with turn packet tags after = record { turn = peer_turn_with turn packet tags; after = after }
 
 -- the login that begins with PSK-1

@@ -2,7 +2,7 @@
 use Rattle.std.specs.Prelude.{ℕ, List, [], false, Option, Some, None, Result, Ok, Err}
 use Rattle.eap_packet.specs.declared.cause.Cause.{Cause}
 use Rattle.eap_method.specs.Tags.{Tags}
-use Rattle.eap_method.specs.declared.turn.ServerTurn as brief
+use Rattle.eap_method.specs.declared.turn.ServerAnswer as brief
 use Rattle.eap_method.specs.ServerTurn.{server_turn_with}
 use Rattle.eap_method.specs.PskServer.{View, Login, unset, begun, asked, checked, refused, over, r_for, answers}
 use Rattle.eap_method.specs.Turns.{ServerOutcome, dropped, done}
@@ -33,7 +33,7 @@ view_of (stage.Early own phase) = in_early phase own
 view_of (stage.Known login phase) = in_known phase login
 
 -- a turn with what it wrote, and the server's state after it
-abbrev pub outcome_with : brief.ServerTurn → List ℕ → Tags → View → ServerOutcome View
+abbrev pub outcome_with : brief.ServerAnswer → List ℕ → Tags → View → ServerOutcome View
 outcome_with turn packet tags after = record { turn = server_turn_with turn packet tags; after = after }
 
 -- the login that begins with PSK-2

@@ -7,10 +7,10 @@ ghost use Rattle.psk_ends.specs.Checks.{value_unless};
 use crate::octets::header_of;
 use crate::records::add_channel;
 use cmac_mac::CmacKey;
-use octet_lists::{Packet, Secret};
 use eap_method::{Records, TagList};
 use eap_packet::Cause;
 use eax_mode::{eax_seal_with, eax_unseal_with};
+use octet_lists::{Packet, Secret};
 use psk_messages::Channel;
 
 /// R of a side for which the login succeeds.

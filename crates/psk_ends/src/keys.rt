@@ -3,8 +3,8 @@
 ghost use Rattle.std.specs.Prelude.{◌≡◌, length};
 ghost use Rattle.login_keys.specs.Psk.{psk_long_of};
 
-use octet_lists::{Secret, array_of};
 use login_keys::{PskLong, psk_long};
+use octet_lists::{Secret, array_of};
 
 /// AK and KDK (RFC 4764 section 3.1).
 pub fn long_keys(psk: &Secret) -> PskLong

@@ -10,9 +10,9 @@ ghost use Rattle.eap_method.specs.PskPeer.{over_reads};
 ghost use Rattle.eap_method.specs.PskServer as server;
 ghost use Rattle.eap_method.specs.PskServer.{idle_reads};
 
-use octet_lists::{Nonce, array_of};
 use eap_packet::Cause;
-use psk_messages::{HEADER, PskView, read_psk};
+use octet_lists::{Nonce, array_of};
+use psk_messages::{HEADER, PskMessage, read_psk_message};
 
 /// RAND_S or RAND_P: the first 16 octets of an end's nonce.
 pub fn rand_of(nonce: &Nonce) -> [u8; 16]
@@ -30,12 +30,12 @@ pub fn header_of<'a>(packet: &'a [u8]) -> &'a [u8]
 }
 
 /// The message in the Type-Data of a Request or a Response.
-pub fn message_in<'a>(packet: &'a [u8]) -> Result<PskView<'a>, Cause>
+pub fn message_in<'a>(packet: &'a [u8]) -> Result<PskMessage<'a>, Cause>
     requires { 5 ≤ length packet.now }
     ensures message { read_value result ≡ read_of (body_of packet.now) }
     ensures fields { IfOk result (λ view. AreFields (message_of view)) }
 {
-    read_psk(&packet[5..])
+    read_psk_message(&packet[5..])
 }
 
 /// Why an end that awaits nothing discards a packet.

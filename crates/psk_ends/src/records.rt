@@ -7,8 +7,8 @@ ghost use Rattle.eap_method.specs.declared.tags.Label.TheVariants.{Tek};
 ghost use Rattle.eap_method.specs.PskTags.{mac_p_octets, mac_s_octets, ak_record, tek_record};
 
 use crate::channel::channel_nonce;
-use octet_lists::{PSK_KIND, Secret};
 use eap_method::{Label, Records, TagList};
+use octet_lists::{PSK_KIND, Secret};
 use psk_messages::Channel;
 
 /// Adds the record of MAC_P.

@@ -13,9 +13,9 @@ use crate::nonces::Nonces;
 use crate::server::login::Begun;
 use crate::server::stage::{EarlyPhase, KnownPhase, Stage};
 use crate::server::turns::{ask, hears_response};
-use octet_lists::{Nonce, PSK_KIND, Packet};
-use eap_method::{Records, Report, ServerMethod, ServerSide, ServerTurn, Tags};
+use eap_method::{Records, Report, ServerAnswer, ServerMethod, ServerSide, ServerTurn, Tags};
 use login_setup::Users;
+use octet_lists::{Nonce, PSK_KIND, Packet};
 use std::marker::Model;
 
 /// A server of EAP-PSK. Contracts see its state.
@@ -107,27 +107,40 @@ impl ServerMethod for PskServer {
         };
     }
 
+    fn first(&mut self, id: u8) -> Packet {
+        let mut packet = Packet::new();
+        self.first_step(id, &mut packet);
+        packet
+    }
+
     #[tactic(auto, unfolding(eap_method::specs::Server::server_first_step))]
-    fn first(&mut self, id: u8, packet: &mut Packet) {
+    fn first_step(&mut self, id: u8, packet: &mut Packet) {
         ask(&mut self.stage, id, packet);
     }
 
+    fn handle(&mut self, response: &[u8], next_id: u8, users: &Users) -> ServerTurn {
+        let mut packet = Packet::new();
+        let mut tags = Tags::new();
+        let turn = self.handle_step(response, next_id, users, &mut packet, &mut tags);
+        turn.with(packet, tags)
+    }
+
     #[tactic(auto, unfolding(eap_method::specs::Server::server_step))]
-    fn handle<R: Records>(
+    fn handle_step<R: Records>(
         &mut self,
         response: &[u8],
         next_id: u8,
         users: &Users,
         packet: &mut Packet,
         tags: &mut Tags<R>,
-    ) -> ServerTurn {
+    ) -> ServerAnswer {
         match hears_response(&mut self.stage, response, next_id, users, packet, tags) {
-            ServerTurn::Discard(cause) => {
+            ServerAnswer::Discard(cause) => {
                 tags.clear();
-                ServerTurn::Discard(cause)
+                ServerAnswer::Discard(cause)
             }
-            ServerTurn::Request => ServerTurn::Request,
-            ServerTurn::Done { success } => ServerTurn::Done { success },
+            ServerAnswer::Request => ServerAnswer::Request,
+            ServerAnswer::Done { success } => ServerAnswer::Done { success },
         }
     }
 

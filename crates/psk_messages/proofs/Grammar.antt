@@ -4,7 +4,7 @@ use Rattle.std.proofs.lemmas.List.Elements.{All-tail}
 use Rattle.eap_packet.specs.declared.cause.Cause.{Cause}
 use Rattle.eap_packet.specs.declared.cause.Cause.TheVariants.{PskShape}
 use Rattle.eap_packet.specs.Packet.{IsOctets}
-use Rattle.psk_messages.specs.declared.view.PskView.{PskView}
+use Rattle.psk_messages.specs.declared.view.PskMessage.{PskMessage}
 use Rattle.psk_messages.specs.Message.{Message, psk1, psk2, psk3, psk4, t_of, fields_of, AreFields, IsPsk, SpellsNone, spelled, message_of, read_value}
 use Rattle.psk_messages.specs.Reading.{is_size, message_at, read_of}
 use Rattle.psk_messages.specs.Laws.{ReadsTheSpelling, SpellingsAreApart, RefusesTheRest, SentIsRead, SpellingsAreSized}
@@ -79,13 +79,13 @@ refused_for_shape [] cause e = cc
 refused_for_shape (flags ∷ octets) cause e = one_cause (is_size (flags / 64) (length octets)) (message_at (flags / 64) octets) cause e
 
 -- a reader's answer: a message that the octets spell
-pub spelled_if_heard : (answer : Result PskView Cause) (octets : List ℕ) → IsOctets octets → read_value answer ≡ read_of octets →
+pub spelled_if_heard : (answer : Result PskMessage Cause) (octets : List ℕ) → IsOctets octets → read_value answer ≡ read_of octets →
     IfOk answer (λ view. IsPsk (message_of view) octets)
 spelled_if_heard (Ok view) octets small e = psk_if_read octets (message_of view) small (sym e)
 spelled_if_heard (Err cause) octets small e = tt
 
 -- or none, where they spell none
-pub none_if_refused : (answer : Result PskView Cause) (octets : List ℕ) → read_value answer ≡ read_of octets →
+pub none_if_refused : (answer : Result PskMessage Cause) (octets : List ℕ) → read_value answer ≡ read_of octets →
     IfErr answer (λ cause. (cause ≡ PskShape) × SpellsNone octets)
 none_if_refused (Ok view) octets e = tt
 none_if_refused (Err cause) octets e = (refused_for_shape octets cause (sym e), λ message p. (let same = e ∙ read_if_psk octets message p in cc))

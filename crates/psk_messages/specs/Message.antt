@@ -4,8 +4,8 @@ use Rattle.std.specs.Int.{w32, to_be_bytes}
 use Rattle.octet_lists.specs.Sizes.{max_name}
 use Rattle.eap_packet.specs.declared.cause.Cause.{Cause}
 use Rattle.eap_packet.specs.Packet.{IsOctets}
-use Rattle.psk_messages.specs.declared.view.PskView.{PskView}
-use Rattle.psk_messages.specs.declared.view.PskView.TheVariants as view
+use Rattle.psk_messages.specs.declared.view.PskMessage.{PskMessage}
+use Rattle.psk_messages.specs.declared.view.PskMessage.TheVariants as view
 
 -- a message, with its fields in their order; the Nonce and the octet that is sealed are numbers
 pub data Message : Type 0 where
@@ -81,13 +81,13 @@ size_of (psk3 rand_s mac nonce tag sealed) = 6 + length rand_s + length mac + le
 size_of (psk4 rand_s nonce tag sealed) = 6 + length rand_s + length tag
 
 -- the message that a view shows
-abbrev pub message_of : PskView → Message
+abbrev pub message_of : PskMessage → Message
 message_of (view.P1 first) = psk1 first.rand_s first.id_s.now
 message_of (view.P2 second) = psk2 second.rand_s second.rand_p second.mac second.id_p.now
 message_of (view.P3 third) = psk3 third.rand_s third.mac third.channel.nonce third.channel.tag third.channel.sealed
 message_of (view.P4 fourth) = psk4 fourth.rand_s fourth.channel.nonce fourth.channel.tag fourth.channel.sealed
 
 -- a reader's answer, with the message in place of the view
-abbrev pub read_value : Result PskView Cause → Result Message Cause
+abbrev pub read_value : Result PskMessage Cause → Result Message Cause
 read_value (Ok shown) = Ok (message_of shown)
 read_value (Err cause) = Err cause

@@ -2,6 +2,7 @@
 #![tactic(auto)]
 
 mod laws;
+mod plain;
 mod reading;
 mod view;
 mod writing;
@@ -9,6 +10,7 @@ mod writing;
 pub use laws::{
     reads_the_spelling, refuses_the_rest, sent_is_read, spellings_are_apart, spellings_are_sized,
 };
-pub use reading::read_psk;
-pub use view::{Channel, HEADER, Psk1, Psk2, Psk3, Psk4, PskView};
-pub use writing::{write_psk, write_psk_into};
+pub use plain::{PskView, read_psk, write_psk};
+pub use reading::read_psk_message;
+pub use view::{Channel, HEADER, Psk1, Psk2, Psk3, Psk4, PskMessage};
+pub use writing::write_psk_into;

@@ -5,10 +5,10 @@ ghost use Rattle.eap_packet.specs.declared.cause.Cause.TheVariants.{PskShape};
 ghost use Rattle.psk_messages.specs.Message.{AreFields, IsPsk, SpellsNone, read_value, message_of};
 ghost use Rattle.psk_messages.specs.Reading.{front, behind, is_size, message_at, nonce_at, tag_at, sealed_at, psk1_at, psk2_at, psk3_at, psk4_at, read_of};
 
-use crate::view::{Channel, Psk1, Psk2, Psk3, Psk4, PskView};
+use crate::view::{Channel, Psk1, Psk2, Psk3, Psk4, PskMessage};
 use byteorder::{BigEndian, ByteOrder};
-use octet_lists::{MAX_NAME, array_of};
 use eap_packet::Cause;
+use octet_lists::{MAX_NAME, array_of};
 
 /// The octets of a nonce, a MAC or a tag.
 const FIELD: usize = 16;
@@ -63,18 +63,18 @@ fn has_size(t: u8, size: usize) -> bool
 }
 
 /// The first message: RAND_S, ID_S.
-fn read_first<'a>(octets: &'a [u8]) -> PskView<'a>
+fn read_first<'a>(octets: &'a [u8]) -> PskMessage<'a>
     requires least { 16 ≤ length octets.now }
     requires most { length octets.now ≤ 269 }
     ensures message { message_of result ≡ psk1_at octets.now }
     ensures fields { AreFields (message_of result) }
 {
     let (rand_s, id_s) = split_field(octets);
-    PskView::P1(Psk1 { rand_s, id_s })
+    PskMessage::P1(Psk1 { rand_s, id_s })
 }
 
 /// The second message: RAND_S, RAND_P, MAC_P, ID_P.
-fn read_second<'a>(octets: &'a [u8]) -> PskView<'a>
+fn read_second<'a>(octets: &'a [u8]) -> PskMessage<'a>
     requires least { 48 ≤ length octets.now }
     requires most { length octets.now ≤ 301 }
     ensures message { message_of result ≡ psk2_at octets.now }
@@ -83,7 +83,7 @@ fn read_second<'a>(octets: &'a [u8]) -> PskView<'a>
     let (rand_s, rest) = split_field(octets);
     let (rand_p, rest) = split_field(rest);
     let (mac, id_p) = split_field(rest);
-    PskView::P2(Psk2 {
+    PskMessage::P2(Psk2 {
         rand_s,
         rand_p,
         mac,
@@ -92,7 +92,7 @@ fn read_second<'a>(octets: &'a [u8]) -> PskView<'a>
 }
 
 /// The third message: RAND_S, MAC_S, PCHANNEL.
-fn read_third<'a>(octets: &'a [u8]) -> PskView<'a>
+fn read_third<'a>(octets: &'a [u8]) -> PskMessage<'a>
     requires { length octets.now ≡ 53 }
     ensures message { message_of result ≡ psk3_at octets.now }
     ensures fields { AreFields (message_of result) }
@@ -100,7 +100,7 @@ fn read_third<'a>(octets: &'a [u8]) -> PskView<'a>
     let (rand_s, rest) = split_field(octets);
     let (mac, rest) = split_field(rest);
     let channel = split_channel(rest);
-    PskView::P3(Psk3 {
+    PskMessage::P3(Psk3 {
         rand_s,
         mac,
         channel,
@@ -108,18 +108,18 @@ fn read_third<'a>(octets: &'a [u8]) -> PskView<'a>
 }
 
 /// The fourth message: RAND_S, PCHANNEL.
-fn read_fourth<'a>(octets: &'a [u8]) -> PskView<'a>
+fn read_fourth<'a>(octets: &'a [u8]) -> PskMessage<'a>
     requires { length octets.now ≡ 37 }
     ensures message { message_of result ≡ psk4_at octets.now }
     ensures fields { AreFields (message_of result) }
 {
     let (rand_s, rest) = split_field(octets);
     let channel = split_channel(rest);
-    PskView::P4(Psk4 { rand_s, channel })
+    PskMessage::P4(Psk4 { rand_s, channel })
 }
 
 /// The message with this T, whose size fits.
-fn read_fields<'a>(t: u8, octets: &'a [u8]) -> PskView<'a>
+fn read_fields<'a>(t: u8, octets: &'a [u8]) -> PskMessage<'a>
     requires { IsTrue (is_size t (length octets.now)) }
     ensures message { message_of result ≡ message_at t octets.now }
     ensures fields { AreFields (message_of result) }
@@ -134,7 +134,7 @@ fn read_fields<'a>(t: u8, octets: &'a [u8]) -> PskView<'a>
 
 /// The message that the Type-Data is: T is the two high bits of Flags, and the six low bits are
 /// ignored. `PskShape`: it is none, also if PCHANNEL has more than 21 octets (RFC 4764 section 5).
-pub fn read_psk<'a>(body: &'a [u8]) -> Result<PskView<'a>, Cause>
+pub fn read_psk_message<'a>(body: &'a [u8]) -> Result<PskMessage<'a>, Cause>
     ensures message { read_value result ≡ read_of body.now }
     ensures spelled { IfOk result (λ view. IsPsk (message_of view) body.now) }
     ensures fields { IfOk result (λ view. AreFields (message_of view)) }
@@ -145,7 +145,7 @@ pub fn read_psk<'a>(body: &'a [u8]) -> Result<PskView<'a>, Cause>
 
 /// The message that the Type-Data is, or `PskShape`.
 #[tactic(auto, unfolding(crate::specs::Reading::read_of))]
-fn read_shape<'a>(body: &'a [u8]) -> Result<PskView<'a>, Cause>
+fn read_shape<'a>(body: &'a [u8]) -> Result<PskMessage<'a>, Cause>
     ensures message { read_value result ≡ read_of body.now }
     ensures fields { IfOk result (λ view. AreFields (message_of view)) }
 {

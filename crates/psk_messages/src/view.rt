@@ -46,7 +46,7 @@ pub struct Psk4 {
 /// A message of EAP-PSK (RFC 4764 section 5), borrowed from its Type-Data. Identities have at most 253
 /// octets.
 #[derive(Clone, Copy)]
-pub enum PskView<'a> {
+pub enum PskMessage<'a> {
     P1(Psk1<'a>),
     P2(Psk2<'a>),
     P3(Psk3),

@@ -6,10 +6,10 @@ ghost use Rattle.eap_packet.specs.Packet.{value_with, has_type};
 ghost use Rattle.eap_packet.specs.Packet as packets;
 ghost use Rattle.psk_messages.specs.Message.{message_of, t_of, channel, fields_of, identity_of, size_of, spelled};
 
-use crate::view::{Channel, PskView};
+use crate::view::{Channel, PskMessage};
 use byteorder::{BigEndian, ByteOrder};
-use octet_lists::{PSK_KIND, Packet};
 use eap_packet::{Code, begin_into};
+use octet_lists::{PSK_KIND, Packet};
 
 /// Appends PCHANNEL, for which there is room.
 fn put_channel(packet: &mut Packet, parts: &Channel)
@@ -24,41 +24,41 @@ fn put_channel(packet: &mut Packet, parts: &Channel)
 }
 
 /// Flags, whose six low bits are 0.
-fn flags_of(view: &PskView) -> u8
+fn flags_of(view: &PskMessage) -> u8
     ensures { result ≡ 64 * t_of (message_of view.now) }
 {
     let t = match view {
-        PskView::P1(_) => 0,
-        PskView::P2(_) => 1,
-        PskView::P3(_) => 2,
-        PskView::P4(_) => 3,
+        PskMessage::P1(_) => 0,
+        PskMessage::P2(_) => 1,
+        PskMessage::P3(_) => 2,
+        PskMessage::P4(_) => 3,
     };
     64 * t
 }
 
 /// Appends the fields after Flags, for which there is room.
-fn put_fields(packet: &mut Packet, view: &PskView)
+fn put_fields(packet: &mut Packet, view: &PskMessage)
     requires room { length packet.old ≤ 6 }
     requires identity { length (identity_of (message_of view.now)) ≤ max_name }
     ensures { packet.new ≡ packet.old ++ fields_of (message_of view.now) }
 {
     match view {
-        PskView::P1(psk1) => {
+        PskMessage::P1(psk1) => {
             packet.put(&psk1.rand_s);
             packet.put(psk1.id_s);
         }
-        PskView::P2(psk2) => {
+        PskMessage::P2(psk2) => {
             packet.put(&psk2.rand_s);
             packet.put(&psk2.rand_p);
             packet.put(&psk2.mac);
             packet.put(psk2.id_p);
         }
-        PskView::P3(psk3) => {
+        PskMessage::P3(psk3) => {
             packet.put(&psk3.rand_s);
             packet.put(&psk3.mac);
             put_channel(packet, &psk3.channel);
         }
-        PskView::P4(psk4) => {
+        PskMessage::P4(psk4) => {
             packet.put(&psk4.rand_s);
             put_channel(packet, &psk4.channel);
         }
@@ -73,27 +73,27 @@ fn count(field: &[u8]) -> usize
 }
 
 /// The octets of the message's Type-Data.
-fn size_of(view: &PskView) -> usize
+fn size_of(view: &PskMessage) -> usize
     requires { length (identity_of (message_of view.now)) ≤ max_name }
     ensures size { result ≡ size_of (message_of view.now) }
     ensures fits { result ≤ 302 }
 {
     match view {
-        PskView::P1(psk1) => 1 + count(&psk1.rand_s) + psk1.id_s.len(),
-        PskView::P2(psk2) => {
+        PskMessage::P1(psk1) => 1 + count(&psk1.rand_s) + psk1.id_s.len(),
+        PskMessage::P2(psk2) => {
             1 + count(&psk2.rand_s) + count(&psk2.rand_p) + count(&psk2.mac) + psk2.id_p.len()
         }
-        PskView::P3(psk3) => {
+        PskMessage::P3(psk3) => {
             6 + count(&psk3.rand_s) + count(&psk3.mac) + count(&psk3.channel.tag)
         }
-        PskView::P4(psk4) => 6 + count(&psk4.rand_s) + count(&psk4.channel.tag),
+        PskMessage::P4(psk4) => 6 + count(&psk4.rand_s) + count(&psk4.channel.tag),
     }
 }
 
 /// Writes the Request or the Response of Type 47 with this Identifier whose Type-Data is the message,
 /// in place of what the packet had; the six low bits of Flags are 0.
 #[tactic(auto, unfolding(crate::specs::Message::spelled), using(crate::proofs::Grammar::spellings_are_sized))]
-pub fn write_psk_into(packet: &mut Packet, view: &PskView, code: Code, id: u8)
+pub fn write_psk_into(packet: &mut Packet, view: &PskMessage, code: Code, id: u8)
     requires typed { IsTrue (has_type code) }
     requires identity { length (identity_of (message_of view.now)) ≤ max_name }
     ensures { packet.new ≡ packets.spelled (value_with code id 47 (spelled (message_of view.now))) }
@@ -101,16 +101,4 @@ pub fn write_psk_into(packet: &mut Packet, view: &PskView, code: Code, id: u8)
     begin_into(packet, code, id, PSK_KIND, size_of(view));
     packet.put(&[flags_of(view)]);
     put_fields(packet, view);
-}
-
-/// The Request or the Response of Type 47 with this Identifier whose Type-Data is the message; the
-/// six low bits of Flags are 0.
-pub fn write_psk(view: &PskView, code: Code, id: u8) -> Packet
-    requires typed { IsTrue (has_type code) }
-    requires identity { length (identity_of (message_of view.now)) ≤ max_name }
-    ensures { result ≡ packets.spelled (value_with code id 47 (spelled (message_of view.now))) }
-{
-    let mut packet = Packet::new();
-    write_psk_into(&mut packet, view, code, id);
-    packet
 }

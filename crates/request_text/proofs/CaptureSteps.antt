@@ -21,7 +21,7 @@ use Rattle.request_text.specs.declared.capture_line.CaptureWord.{CaptureWord}
 use Rattle.request_text.specs.declared.capture_line.CaptureWord.TheVariants as word
 use Rattle.request_text.specs.declared.capture_line.CaptureEntry.{CaptureEntry}
 use Rattle.request_text.specs.declared.capture_line.CaptureEntry.TheVariants as entry
-use Rattle.request_text.specs.declared.capture.CaptureItem.TheVariants as item
+use Rattle.request_text.specs.declared.capture.CaptureItemKind.TheVariants as item
 
 -- the header; a line that is passed over; a user with a printable name, or `packets`; a packet, or `end`
 pub data Follows (users : List User) : Phase → CaptureLine → Type 0 where

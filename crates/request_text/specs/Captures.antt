@@ -19,8 +19,8 @@ use Rattle.request_text.specs.declared.capture_line.CaptureWord.{CaptureWord}
 use Rattle.request_text.specs.declared.capture_line.CaptureWord.TheVariants as word
 use Rattle.request_text.specs.declared.capture_line.CaptureEntry.{CaptureEntry}
 use Rattle.request_text.specs.declared.capture_line.CaptureEntry.TheVariants as entry
-use Rattle.request_text.specs.declared.capture.CaptureItem.{CaptureItem}
-use Rattle.request_text.specs.declared.capture.CaptureItem.TheVariants as item
+use Rattle.request_text.specs.declared.capture.CaptureItemKind.{CaptureItemKind}
+use Rattle.request_text.specs.declared.capture.CaptureItemKind.TheVariants as item
 
 -- each keyword, and what the words after it stand for
 abbrev pub row_of : CaptureWord → Row
@@ -56,9 +56,9 @@ pub record Capture : Type 0 where
 
 -- what a line says, and what has been read after it
 abbrev pub CaptureLine : Type 0
-CaptureLine = texts.ReadLine CaptureItem Capture
+CaptureLine = texts.ReadLine CaptureItemKind Capture
 
-abbrev pub line_of : CaptureItem → Phase → List User → CaptureLine
+abbrev pub line_of : CaptureItemKind → Phase → List User → CaptureLine
 line_of item p users = texts.line_of item (record { phase = p; users = users })
 
 -- line 1
@@ -82,7 +82,7 @@ line_of_entry p users entry.Packets = line_of item.Ready phase.Events users
 line_of_entry p users (entry.Packet to_peer octets) = line_of (item.Packet to_peer octets) p users
 line_of_entry p users entry.End = line_of item.End phase.Ended users
 
-abbrev pub capture : texts.Table CaptureWord CaptureEntry Capture CaptureItem
+abbrev pub capture : texts.Table CaptureWord CaptureEntry Capture CaptureItemKind
 capture = record {
   keywords = λ c. capture_words;
   none = word.End;

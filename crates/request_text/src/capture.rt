@@ -9,18 +9,31 @@ ghost use Rattle.text_tables.specs.Texts.{line_result};
 ghost use Rattle.text_tables.specs.declared.phase.Phase.TheVariants as phase;
 
 use crate::capture_line::{CAPTURE_WORDS, CaptureEntry, CaptureWord, entry_of};
-use octet_lists::Octets;
 use login_setup::Users;
+use octet_lists::Octets;
 use std::marker::Model;
 use text_tables::{LineFault, Part, Phase, Text, add_user, read_line};
 
 /// What a line of a capture says.
 #[derive(Drop)]
-pub enum CaptureItem {
+pub enum CaptureItemKind {
     /// The header, a user, or a line that is ignored.
     Nothing,
     /// The line `packets`: `CaptureReader::users` gives the users.
     Ready,
+    /// A packet to the peer or from it, of at most 2,000 octets.
+    Packet { to_peer: bool, octets: Octets<2000> },
+    /// The line `end`.
+    End,
+}
+
+/// What a line of a capture says, whole.
+#[derive(Drop)]
+pub enum CaptureItem {
+    /// The header, a user, or a line that is ignored.
+    Nothing,
+    /// The line `packets`, with the users.
+    Ready(Users),
     /// A packet to the peer or from it, of at most 2,000 octets.
     Packet { to_peer: bool, octets: Octets<2000> },
     /// The line `end`.
@@ -60,11 +73,25 @@ impl CaptureReader {
     /// Reads the next line, without its end. The line is refused with its first fault, and then the
     /// reader is as it was.
     #[tactic(auto, unfolding(crate::specs::Captures::read_line))]
-    pub fn line(&mut self, line: &[u8]) -> Result<CaptureItem, LineFault>
+    pub fn line_into(&mut self, line: &[u8]) -> Result<CaptureItemKind, LineFault>
         ensures read { captures.read_line self.old line.now ≡ line_result (λ item after event. item) result self.new (tt {0}) }
         ensures unchanged { OnErr result (self.new ≡ self.old) }
     {
         read_line(self, line, &mut ())
+    }
+
+    /// Reads the next line, without its end, and says what it says, whole. The line is refused with its first fault, and
+    /// then the reader is as it was.
+    pub fn line(&mut self, line: &[u8]) -> Result<CaptureItem, LineFault> {
+        match self.line_into(line)? {
+            CaptureItemKind::Nothing => Ok(CaptureItem::Nothing),
+            CaptureItemKind::Ready => Ok(CaptureItem::Ready(self.users.copy())),
+            CaptureItemKind::Packet { to_peer, octets } => Ok(CaptureItem::Packet {
+                to_peer,
+                octets,
+            }),
+            CaptureItemKind::End => Ok(CaptureItem::End),
+        }
     }
 
     /// The users that have come, at most 16. Each has a key of its method's size: 16 octets for EAP-PSK, 32
@@ -86,7 +113,7 @@ impl CaptureReader {
 
 impl Text for CaptureReader {
     ghost use Rattle.request_text.specs.Captures.{HasKey, capture};
-    ghost use Rattle.request_text.specs.declared.capture.CaptureItem.{CaptureItem};
+    ghost use Rattle.request_text.specs.declared.capture.CaptureItemKind.{CaptureItemKind};
     ghost use Rattle.request_text.specs.declared.capture_line.CaptureEntry.{CaptureEntry};
 
     type Word = CaptureWord;
@@ -95,11 +122,11 @@ impl Text for CaptureReader {
 
     type Event = ();
 
-    type Item = CaptureItem;
+    type Item = CaptureItemKind;
 
     ghost Whole = { CaptureEntry };
 
-    ghost Said = { CaptureItem };
+    ghost Said = { CaptureItemKind };
 
     ghost table = { capture };
 
@@ -159,25 +186,25 @@ impl Text for CaptureReader {
         false
     }
 
-    fn add(&mut self, entry: CaptureEntry) -> CaptureItem {
+    fn add(&mut self, entry: CaptureEntry) -> CaptureItemKind {
         match entry {
             CaptureEntry::User(user) => {
                 add_user(&mut self.users, user);
-                CaptureItem::Nothing
+                CaptureItemKind::Nothing
             }
             CaptureEntry::Packets => {
                 self.phase = Phase::Events;
-                CaptureItem::Ready
+                CaptureItemKind::Ready
             }
-            CaptureEntry::Packet { to_peer, octets } => CaptureItem::Packet { to_peer, octets },
+            CaptureEntry::Packet { to_peer, octets } => CaptureItemKind::Packet { to_peer, octets },
             CaptureEntry::End => {
                 self.phase = Phase::Ended;
-                CaptureItem::End
+                CaptureItemKind::End
             }
         }
     }
 
-    fn nothing() -> CaptureItem {
-        CaptureItem::Nothing
+    fn nothing() -> CaptureItemKind {
+        CaptureItemKind::Nothing
     }
 }

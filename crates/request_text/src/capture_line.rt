@@ -5,8 +5,8 @@ ghost use Rattle.text_tables.specs.Words.{words};
 ghost use Rattle.text_tables.specs.Fits.{Fits};
 ghost use Rattle.request_text.specs.Captures.{row_of, entry_of, HasKey};
 
-use octet_lists::Octets;
 use login_setup::User;
+use octet_lists::Octets;
 use text_tables::{Field, Row, TableWord, kind_of, name, octets, word_in};
 
 /// The first word of a line of a capture.

@@ -131,7 +131,7 @@ impl KeyLine {
 /// `BadWord`, `BadCount`, `BadNumber`, `BadHex`, `BadSize`. The fault decides, whichever word has it. False
 /// for an empty line and for one that begins with `#`. Without a request, `asked` stays as it was.
 #[tactic(auto, unfolding(crate::specs::Keys::key_line), using(crate::proofs::KeyJudging::request_sizes))]
-pub fn read_key_line(line: &[u8], asked: &mut KeyLine) -> Result<bool, LineFault>
+pub fn read_key_line_into(line: &[u8], asked: &mut KeyLine) -> Result<bool, LineFault>
     ensures value { read_into result asked.new ≡ key_line line.now }
     ensures sizes { result ≡ Ok true → HasSizes asked.new }
     ensures kept { result ≢ Ok true → asked.new ≡ asked.old }
@@ -141,6 +141,16 @@ pub fn read_key_line(line: &[u8], asked: &mut KeyLine) -> Result<bool, LineFault
     }
     read_request(line, asked)?;
     Ok(true)
+}
+
+/// The same, with the request in its answer.
+pub fn read_key_line(line: &[u8]) -> Result<Option<KeyLine>, LineFault> {
+    let mut asked = KeyLine::new();
+    if read_key_line_into(line, &mut asked)? {
+        Ok(Some(asked))
+    } else {
+        Ok(None)
+    }
 }
 
 #[tactic(auto, unfolding(crate::specs::Keys::asked_by), using(text_tables::proofs::Fitting::fits))]

@@ -30,7 +30,7 @@ use Rattle.scenario_text.specs.declared.version.Version.TheVariants as version
 use Rattle.scenario_text.specs.Versions.{version_of, version_number, has_later, most_later}
 use Rattle.scenario_text.specs.Items.{Item}
 use Rattle.scenario_text.specs.Items as item
-use Rattle.scenario_text.specs.declared.scenario.Item as answer
+use Rattle.scenario_text.specs.declared.scenario.ItemKind as answer
 use Rattle.text_tables.specs.declared.phase.Part.{Part}
 use Rattle.text_tables.specs.declared.phase.Part.TheVariants as part
 use Rattle.text_tables.specs.declared.phase.Phase.{Phase}
@@ -204,14 +204,14 @@ ready (Ok setup) = item.Ready setup
 ready (Err f) = item.Nothing
 
 -- the answer of a reader, with what it has after and the event that it wrote, as what a line says
-abbrev pub item_with : answer.Item → Reading → Event → Item
+abbrev pub item_with : answer.ItemKind → Reading → Event → Item
 item_with answer.TheVariants.Nothing after event = item.Nothing
 item_with answer.TheVariants.Ready after event = ready (setup_of after.settings)
 item_with answer.TheVariants.Event after event = item.Event event
 item_with answer.TheVariants.End after event = item.End
 
 -- the settings are whole if the answer says so
-abbrev pub HasSetup : answer.Item → Reading → Type 0
+abbrev pub HasSetup : answer.ItemKind → Reading → Type 0
 HasSetup answer.TheVariants.Ready after = IsOk (setup_of after.settings)
 HasSetup other after = Unit {0}
 

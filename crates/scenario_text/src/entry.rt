@@ -9,8 +9,8 @@ ghost use Rattle.scenario_text.specs.Keywords.{row_of};
 ghost use Rattle.scenario_text.specs.Entries.{accepts_of, kinds_of, suites_of, port_of, party_of, is_yes, mode_of, item_of, IsSet};
 
 use crate::keyword::Keyword;
-use octet_lists::{Identity, Kinds, Nonce, Suites};
 use login_setup::{Accepts, Event, Key, Mode, Party, Port, User};
+use octet_lists::{Identity, Kinds, Nonce, Suites};
 use text_tables::{array, kind_of, name, number, octets, suite_of, word_count, word_in};
 
 /// A setting with its value.

@@ -17,13 +17,26 @@ use text_tables::{LineFault, Part, Phase, Text, read_line};
 
 /// What a line of a scenario, or of the text of one end, says.
 #[derive(Clone, Copy)]
-pub enum Item {
+pub enum ItemKind {
     /// Nothing that happens: the header, a setting, or a line that is ignored.
     Nothing,
     /// The line `events`: the settings are whole, and the reader gives them.
     Ready,
     /// What happens next: the event, or the input of the end, that was written.
     Event,
+    /// The line `end`.
+    End,
+}
+
+/// What a line of a scenario says, whole.
+#[derive(Drop)]
+pub enum Item {
+    /// Nothing that happens: the header, a setting, or a line that is ignored.
+    Nothing,
+    /// The line `events`, with the settings.
+    Ready(Setup),
+    /// What happens next.
+    Event(Event),
     /// The line `end`.
     End,
 }
@@ -60,12 +73,24 @@ impl ScenarioReader {
     /// Reads the next line, without its end, and writes its event, if it has one, to `event`. The line is
     /// refused with its first fault, and then the reader is as it was.
     #[tactic(auto, unfolding(crate::specs::Reading::read_line))]
-    pub fn line(&mut self, line: &[u8], event: &mut Event) -> Result<Item, LineFault>
+    pub fn line_into(&mut self, line: &[u8], event: &mut Event) -> Result<ItemKind, LineFault>
         ensures read { reading.read_line self.old line.now ≡ line_result item_with result self.new event.new }
         ensures ready { IfOk result (λ item. HasSetup item self.new) }
         ensures unchanged { OnErr result (self.new ≡ self.old) }
     {
         read_line(self, line, event)
+    }
+
+    /// Reads the next line, without its end, and says what it says, whole. The line is refused with its first fault, and
+    /// then the reader is as it was.
+    pub fn line(&mut self, line: &[u8]) -> Result<Item, LineFault> {
+        let mut event = Event::Idle;
+        match self.line_into(line, &mut event)? {
+            ItemKind::Nothing => Ok(Item::Nothing),
+            ItemKind::Ready => Ok(Item::Ready(self.setup()?)),
+            ItemKind::Event => Ok(Item::Event(event)),
+            ItemKind::End => Ok(Item::End),
+        }
     }
 
     /// The settings of the run, each within its limits, or `Missing` if a needed one has not come.
@@ -98,7 +123,7 @@ impl Text for ScenarioReader {
 
     type Event = Event;
 
-    type Item = Item;
+    type Item = ItemKind;
 
     ghost Whole = { contents.Entry };
 
@@ -165,25 +190,25 @@ impl Text for ScenarioReader {
         }
     }
 
-    fn add(&mut self, entry: Entry) -> Item {
+    fn add(&mut self, entry: Entry) -> ItemKind {
         match entry {
             Entry::Set(setting) => {
                 self.settings.set(setting);
-                Item::Nothing
+                ItemKind::Nothing
             }
             Entry::Events => {
                 self.phase = Phase::Events;
-                Item::Ready
+                ItemKind::Ready
             }
-            Entry::Happens => Item::Event,
+            Entry::Happens => ItemKind::Event,
             Entry::End => {
                 self.phase = Phase::Ended;
-                Item::End
+                ItemKind::End
             }
         }
     }
 
-    fn nothing() -> Item {
-        Item::Nothing
+    fn nothing() -> ItemKind {
+        ItemKind::Nothing
     }
 }

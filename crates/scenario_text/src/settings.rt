@@ -7,11 +7,11 @@ ghost use Rattle.scenario_text.specs.Reading.{later_nonces, later_of, peer_setup
 use crate::entry::Setting;
 use crate::keyword::Keyword;
 use crate::version::Version;
-use octet_lists::{Identity, Kinds, Nonce, Suites};
 use login_setup::{
     Accepts, Key, Keys, Later, MAX_KEYS, MAX_USERS, Mode, Nonces, PeerSetup, ServerSetup, Setup,
     Users,
 };
+use octet_lists::{Identity, Kinds, Nonce, Suites};
 use text_tables::{LineFault, add_user};
 
 /// The nonces of an end that have come, at most 16.

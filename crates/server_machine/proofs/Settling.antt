@@ -4,7 +4,7 @@ use Rattle.eap_packet.specs.declared.state.State.{State}
 use Rattle.login_policy.specs.Policy.{next_kind}
 use Rattle.eap_method.specs.declared.step.Step as brief
 use Rattle.eap_method.specs.Tags.{Tags, no_tags}
-use Rattle.eap_method.specs.declared.turn.ServerTurn as short
+use Rattle.eap_method.specs.declared.turn.ServerAnswer as short
 use Rattle.eap_method.specs.Steps.{Step, step_with}
 use Rattle.eap_method.specs.ServerTurn.{ServerTurn}
 use Rattle.eap_method.specs.ServerTurn.{Discard, Request, Done, server_turn_with, server_tags}
@@ -51,7 +51,7 @@ settled_after now kind after octets (Request packet tags) turned = refl
 settled_after now kind after octets (Done good tags) turned = refl
 
 -- the turn of a method
-pub turn_settles : (now : ServerNow) (vars : ServerVariables) (id kind : ℕ) (octets : List ℕ) (turn : short.ServerTurn) (packet sent : List ℕ) (tags : Tags)
+pub turn_settles : (now : ServerNow) (vars : ServerVariables) (id kind : ℕ) (octets : List ℕ) (turn : short.ServerAnswer) (packet sent : List ℕ) (tags : Tags)
     (shown : List ServerShown) (step : brief.Step)
     → server_turn now.vars.setup.users (next_id now.vars) kind now.views octets
     ≡ record { turn = server_turn_with turn packet tags; after = server_views now.vars.setup.methods shown }

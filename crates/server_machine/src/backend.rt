@@ -13,12 +13,13 @@ ghost use Rattle.server_machine.specs.ServerTable.{answer, backend_made, current
 ghost use Rattle.server_machine.specs.Expanded.{server_hears};
 ghost use Rattle.server_machine.specs.declared.variables.Role.TheVariants as role;
 
+use crate::ServerStep;
 use crate::machine::ServerMachine;
 use crate::variables::Role;
-use octet_lists::{Nonce, Packet};
 use eap_method::{Records, Report, ServerMethod, Step, Tags};
 use eap_packet::State;
 use login_setup::{ServerSetup, User, Users};
+use octet_lists::{Nonce, Packet};
 use std::marker::Model;
 
 /// The backend authenticator of RFC 4137 section 6: a login server behind a pass-through, which asks for
@@ -78,7 +79,7 @@ impl<M: ServerMethod> Backend<M> {
     /// If the settings say `expanded`, Expanded Types (RFC 3748 section 5.7) are read and sent as that call does;
     /// before the first Response a BadExpanded too has an empty path, and an Expanded Nak may be the first.
     #[tactic(auto, using(crate::proofs::Starting::backend_is_ready))]
-    pub fn deliver<R: Records>(
+    pub fn deliver_step<R: Records>(
         &mut self,
         octets: &[u8],
         packet: &mut Packet,
@@ -89,14 +90,14 @@ impl<M: ServerMethod> Backend<M> {
         ensures kept { KeepsServers self.old.vars.setup.methods (map M.server_shown self.old.methods) (map M.server_shown self.new.methods) }
         ensures setup { self.new.vars.setup ≡ self.old.vars.setup }
     {
-        self.machine.deliver(octets, packet, tags)
+        self.machine.deliver_step(octets, packet, tags)
     }
 
     /// Begins a new conversation with this nonce, in any state: its variables and the objects of its methods
     /// are as INITIALIZE sets them, no tag is accepted or made, and of the settings the nonce alone changes. It waits for its
     /// first Response and sends nothing (RFC 4137 section 6.5). Each of its methods has an object.
     #[tactic(auto, unfolding(crate::specs::ServerTable::server_restart))]
-    pub fn restart(&mut self, nonce: &Nonce) -> Step
+    pub fn restart_step(&mut self, nonce: &Nonce) -> Step
         requires objects { have_each (server_kinds (map M.server_shown self.old.methods)) self.old.vars.setup.methods ≡ true }
         ensures step { server_restart (now_of M.server_shown self.old) nonce.now
             ≡ answer (step_with result [] no_tags) (now_of M.server_shown self.new) }
@@ -115,6 +116,28 @@ impl<M: ServerMethod> Backend<M> {
         ensures setup { self.new.vars.setup ≡ own_nonce self.old.vars.setup nonce.now }
     {
         self.machine.make_again(nonce)
+    }
+
+    /// [`deliver_step`](Backend::deliver_step), with the packet and the records in its answer.
+    pub fn deliver(&mut self, octets: &[u8]) -> ServerStep
+        ensures step { server_hears (now_of M.server_shown self.old) octets.now ≡ answer result (now_of M.server_shown self.new) }
+        ensures kept { KeepsServers self.old.vars.setup.methods (map M.server_shown self.old.methods) (map M.server_shown self.new.methods) }
+        ensures setup { self.new.vars.setup ≡ self.old.vars.setup }
+    {
+        let mut packet = Packet::new();
+        let mut tags = Tags::new();
+        let step = self.deliver_step(octets, &mut packet, &mut tags);
+        step.with(packet, tags)
+    }
+
+    /// [`restart_step`](Backend::restart_step), with all that it does in its answer.
+    pub fn restart(&mut self, nonce: &Nonce) -> ServerStep
+        requires objects { have_each (server_kinds (map M.server_shown self.old.methods)) self.old.vars.setup.methods ≡ true }
+        ensures step { server_restart (now_of M.server_shown self.old) nonce.now ≡ answer result (now_of M.server_shown self.new) }
+        ensures kept { KeepsServers self.old.vars.setup.methods (map M.server_shown self.old.methods) (map M.server_shown self.new.methods) }
+        ensures setup { self.new.vars.setup ≡ own_nonce self.old.vars.setup nonce.now }
+    {
+        self.restart_step(nonce).alone()
     }
 
     /// The backend's settings.

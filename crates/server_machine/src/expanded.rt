@@ -14,9 +14,9 @@ ghost use Rattle.server_machine.specs.Expanded.{MayWrap, response_octets, takes_
 ghost use Rattle.server_machine.specs.ServerTable.{AreInOrder, answer, awaits_first};
 
 use crate::variables::{Role, ServerVariables};
-use octet_lists::{EXPANDED, IETF, NAK, Packet, VENDOR_SIZE};
-use eap_packet::{Code, PacketView, State, encode_into, wrap, write_plain};
+use eap_packet::{Code, PacketView, State, encode_into, wrap_in_place, write_plain};
 use login_policy::expanded_kinds;
+use octet_lists::{EXPANDED, IETF, NAK, Packet, VENDOR_SIZE};
 
 /// True for a backend that still waits for its first Response.
 pub fn awaits_first(vars: &ServerVariables) -> bool
@@ -91,7 +91,7 @@ pub fn wrap_sent(vars: &mut ServerVariables, sends: bool, packet: &mut Packet)
     ensures order { AreInOrder vars.old → AreInOrder vars.new }
 {
     if sends && octet_is(packet.as_slice(), 0, Code::Request as u8) {
-        wrap(packet);
+        wrap_in_place(packet);
         vars.last_request.set(packet.as_slice());
     }
 }

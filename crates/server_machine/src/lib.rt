@@ -15,4 +15,4 @@ pub use machine::ServerMachine;
 pub use variables::{Progress, Role, ServerVariables, Way};
 
 /// What one call of the server does.
-pub type ServerStep = eap_method::Step;
+pub type ServerStep = eap_method::WholeStep;

@@ -19,17 +19,18 @@ ghost use Rattle.eap_method.specs.Unnamed.{KeepsServers};
 ghost use Rattle.server_machine.specs.Expanded.{MayWrap, reads_response};
 ghost use Rattle.server_machine.specs.ServerTable.{answer, before_proposal, identity_request, next_id, AreInOrder, first_of};
 
+use crate::ServerStep;
 use crate::expanded::{awaits_first, wrap_sent, write_taken};
 use crate::outcome::{end_badly, next_id, settle, settle_offer};
 use crate::variables::{Progress, Role, ServerVariables, Way};
-use octet_lists::{IDENTITY, Kinds, NAK, Nonce, Packet};
 use eap_method::{
-    Records, Report, ServerMethod, ServerSide, ServerTurn, Step, Tags, begin_servers,
+    Records, Report, ServerAnswer, ServerMethod, ServerSide, Step, Tags, begin_servers,
     hand_to_server, has_ended, offer_method, server_report,
 };
 use eap_packet::{Cause, Code, PacketView, State, decode, encode_into, is_bad_expanded};
 use login_policy::next_method;
 use login_setup::{ServerSetup, User, Users};
+use octet_lists::{IDENTITY, Kinds, NAK, Nonce, Packet};
 use std::marker::Model;
 
 /// The server of RFC 4137, stand-alone (section 5) or, for a world with a pass-through, in the role of the
@@ -135,7 +136,7 @@ impl<M: ServerMethod> ServerMachine<M> {
     /// INITIALIZE (RFC 4137 section 5.5): proposes Identity and sends its Request, with the first
     /// Identifier, in `packet`. The server is a stand-alone one that has not started.
     #[tactic(auto, unfolding(crate::specs::ServerTable::server_start))]
-    pub fn start(&mut self, packet: &mut Packet) -> Step
+    pub fn start_step(&mut self, packet: &mut Packet) -> Step
         requires unstarted { is_started self.old.vars ≡ false }
         requires stand_alone { is_backend self.old.vars ≡ false }
         ensures step { server_start (now_of M.server_shown self.old) ≡ answer (step_with result packet.new no_tags) (now_of M.server_shown self.new) }
@@ -166,7 +167,7 @@ impl<M: ServerMethod> ServerMachine<M> {
     /// stand-alone server then asks for the identity again, with the first Identifier, in `packet` (RFC 4137 section 5.5); a
     /// backend waits for its first Response and sends nothing (section 6.5). Each of its methods has an object.
     #[tactic(auto, unfolding(crate::specs::ServerTable::server_restart))]
-    pub fn restart(&mut self, nonce: &Nonce, packet: &mut Packet) -> Step
+    pub fn restart_step(&mut self, nonce: &Nonce, packet: &mut Packet) -> Step
         requires objects { have_each (server_kinds (map M.server_shown self.old.methods)) self.old.vars.setup.methods ≡ true }
         ensures step { server_restart (now_of M.server_shown self.old) nonce.now ≡ answer (step_with result packet.new no_tags) (now_of M.server_shown self.new) }
         ensures kept { KeepsServers self.old.vars.setup.methods (map M.server_shown self.old.methods) (map M.server_shown self.new.methods) }
@@ -175,7 +176,7 @@ impl<M: ServerMethod> ServerMachine<M> {
         self.make_again(nonce);
         match self.vars.role {
             Role::Backend => Step::entering(&[State::Initialize]),
-            Role::StandAlone => self.start(packet),
+            Role::StandAlone => self.start_step(packet),
         }
     }
 
@@ -214,7 +215,7 @@ impl<M: ServerMethod> ServerMachine<M> {
     /// 7 octets longer, at most 1,500 in all, and again so by the timer; the Identity Request, a Success and a Failure
     /// are sent as they are.
     #[tactic(auto, unfolding(crate::specs::Expanded::server_hears))]
-    pub fn deliver<R: Records>(
+    pub fn deliver_step<R: Records>(
         &mut self,
         octets: &[u8],
         packet: &mut Packet,
@@ -330,7 +331,7 @@ impl<M: ServerMethod> ServerMachine<M> {
     /// most MaxRetrans times; then TIMEOUT_FAILURE follows. The server
     /// [has the timer](ServerMachine::has_timer) running.
     #[tactic(auto, using(crate::proofs::Starting::timer_is_going), unfolding(crate::specs::ServerTable::server_timeout))]
-    pub fn timeout(&mut self, packet: &mut Packet) -> Step
+    pub fn timeout_step(&mut self, packet: &mut Packet) -> Step
         requires { has_timer self.old.vars ≡ true }
         ensures step { server_timeout (now_of M.server_shown self.old) ≡ answer (step_with result packet.new no_tags) (now_of M.server_shown self.new) }
         ensures kept { KeepsServers self.old.vars.setup.methods (map M.server_shown self.old.methods) (map M.server_shown self.new.methods) }
@@ -344,6 +345,56 @@ impl<M: ServerMethod> ServerMachine<M> {
             self.vars.state = State::TimeoutFailure;
             Step::entering(&[State::Retransmit, State::TimeoutFailure])
         }
+    }
+
+    /// [`start_step`](ServerMachine::start_step), with the packet in its answer.
+    pub fn start(&mut self) -> ServerStep
+        requires unstarted { is_started self.old.vars ≡ false }
+        requires stand_alone { is_backend self.old.vars ≡ false }
+        ensures step { server_start (now_of M.server_shown self.old) ≡ answer result (now_of M.server_shown self.new) }
+        ensures kept { KeepsServers self.old.vars.setup.methods (map M.server_shown self.old.methods) (map M.server_shown self.new.methods) }
+        ensures setup { self.new.vars.setup ≡ self.old.vars.setup }
+    {
+        let mut packet = Packet::new();
+        let step = self.start_step(&mut packet);
+        step.with(packet, Tags::new())
+    }
+
+    /// [`restart_step`](ServerMachine::restart_step), with the packet in its answer.
+    pub fn restart(&mut self, nonce: &Nonce) -> ServerStep
+        requires objects { have_each (server_kinds (map M.server_shown self.old.methods)) self.old.vars.setup.methods ≡ true }
+        ensures step { server_restart (now_of M.server_shown self.old) nonce.now ≡ answer result (now_of M.server_shown self.new) }
+        ensures kept { KeepsServers self.old.vars.setup.methods (map M.server_shown self.old.methods) (map M.server_shown self.new.methods) }
+        ensures setup { self.new.vars.setup ≡ own_nonce self.old.vars.setup nonce.now }
+    {
+        let mut packet = Packet::new();
+        let step = self.restart_step(nonce, &mut packet);
+        step.with(packet, Tags::new())
+    }
+
+    /// [`deliver_step`](ServerMachine::deliver_step), with the packet and the records in its answer.
+    pub fn deliver(&mut self, octets: &[u8]) -> ServerStep
+        requires ready { is_ready self.old.vars ≡ true }
+        ensures step { server_hears (now_of M.server_shown self.old) octets.now ≡ answer result (now_of M.server_shown self.new) }
+        ensures kept { KeepsServers self.old.vars.setup.methods (map M.server_shown self.old.methods) (map M.server_shown self.new.methods) }
+        ensures setup { self.new.vars.setup ≡ self.old.vars.setup }
+    {
+        let mut packet = Packet::new();
+        let mut tags = Tags::new();
+        let step = self.deliver_step(octets, &mut packet, &mut tags);
+        step.with(packet, tags)
+    }
+
+    /// [`timeout_step`](ServerMachine::timeout_step), with the packet in its answer.
+    pub fn timeout(&mut self) -> ServerStep
+        requires { has_timer self.old.vars ≡ true }
+        ensures step { server_timeout (now_of M.server_shown self.old) ≡ answer result (now_of M.server_shown self.new) }
+        ensures kept { KeepsServers self.old.vars.setup.methods (map M.server_shown self.old.methods) (map M.server_shown self.new.methods) }
+        ensures setup { self.new.vars.setup ≡ self.old.vars.setup }
+    {
+        let mut packet = Packet::new();
+        let step = self.timeout_step(&mut packet);
+        step.with(packet, Tags::new())
     }
 
     /// The server's settings.
@@ -662,7 +713,7 @@ fn turn_of<M: ServerMethod, R: Records>(
     response: &[u8],
     packet: &mut Packet,
     tags: &mut Tags<R>,
-) -> ServerTurn
+) -> ServerAnswer
     requires response { IsResponse kind response.now }
     requires ordered { is_among vars.now.setup.methods kind ≡ true }
     requires keys { All (λ user. IsTrue (fits_kind user.kind user.psk)) vars.now.setup.users }

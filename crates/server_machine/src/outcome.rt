@@ -16,9 +16,9 @@ ghost use Rattle.server_machine.specs.ServerTable.{views_after, AreInOrder};
 ghost use Rattle.server_machine.specs.declared.variables.Way.TheVariants.{AfterResponse};
 
 use crate::variables::{Progress, ServerVariables, Way};
-use octet_lists::Packet;
-use eap_method::{ServerTurn, Step};
+use eap_method::{ServerAnswer, Step};
 use eap_packet::{Code, State, encode_end_into};
+use octet_lists::Packet;
 
 /// The states of a method, or the Identity round, after which nothing follows but FAILURE.
 const FAILING: [State; 5] = [
@@ -191,7 +191,7 @@ fn send_request(vars: &mut ServerVariables, request: &Packet)
 
 /// INTEGRITY_CHECK, of the turn of the method's object, whose Request is `packet`: a discard writes
 /// nothing, and after the method's end a Success or a Failure takes the place of what was there.
-pub fn settle(vars: &mut ServerVariables, id: u8, turn: ServerTurn, packet: &mut Packet) -> Step
+pub fn settle(vars: &mut ServerVariables, id: u8, turn: ServerAnswer, packet: &mut Packet) -> Step
     requires room { requests turn ≡ true → HasRoom packet.old }
     ensures step { (before after : ServerViews) (tags : Tags) → let whole = server_turn_with turn packet.old tags in
         method_answers (record { vars = vars.old; views = before }) id after whole
@@ -201,7 +201,7 @@ pub fn settle(vars: &mut ServerVariables, id: u8, turn: ServerTurn, packet: &mut
     ensures order { AreInOrder vars.old → AreInOrder vars.new }
 {
     match turn {
-        ServerTurn::Discard(cause) => {
+        ServerAnswer::Discard(cause) => {
             let states = [
                 State::Received,
                 State::IntegrityCheck,
@@ -210,7 +210,7 @@ pub fn settle(vars: &mut ServerVariables, id: u8, turn: ServerTurn, packet: &mut
             ];
             Step::discarding(&states, cause)
         }
-        ServerTurn::Request => {
+        ServerAnswer::Request => {
             send_request(vars, packet);
             vars.progress = Progress::Continue;
             let states = [
@@ -223,7 +223,7 @@ pub fn settle(vars: &mut ServerVariables, id: u8, turn: ServerTurn, packet: &mut
             ];
             Step::sending(&states)
         }
-        ServerTurn::Done { success } => {
+        ServerAnswer::Done { success } => {
             vars.progress = Progress::End;
             end_method(vars, id, success, packet)
         }

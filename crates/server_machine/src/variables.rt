@@ -1,8 +1,8 @@
 //! The server's variables.
 
-use octet_lists::{Kinds, Packet};
 use eap_packet::State;
 use login_setup::ServerSetup;
+use octet_lists::{Kinds, Packet};
 
 /// methodState of the server (RFC 4137 section 5.3.1).
 #[derive(Clone, Copy, PartialEq, Eq, Debug)]

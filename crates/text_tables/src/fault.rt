@@ -4,28 +4,40 @@ ghost use Rattle.std.specs.Prelude.{◌≡◌};
 ghost use Rattle.text_tables.specs.Words.{fault_word};
 ghost use Rattle.text_tables.specs.Firsts.{rank_of};
 
+use thiserror::Error;
+
 /// Why a line is refused. If a line has several faults, the first in this order is answered.
-#[derive(Clone, Copy, PartialEq, Eq)]
+#[derive(Clone, Copy, PartialEq, Eq, Debug, Error)]
 pub enum LineFault {
     /// Line 1 is not the header.
+    #[error("line 1 is not the header")]
     NoHeader,
     /// An octet outside 20 to 7e, or a first word that is no keyword of the text.
+    #[error("no keyword of this text")]
     BadWord,
     /// A number of words that the keyword doesn't have, or one line too many of its kind.
+    #[error("another number of words")]
     BadCount,
     /// A word that is none of its choices.
+    #[error("none of the choices")]
     BadChoice,
     /// No decimal number without a leading zero, one out of range, or no method or suite that there is.
+    #[error("no number in range")]
     BadNumber,
     /// An empty hex word, or one that is not an even number of hex digits.
+    #[error("no hex")]
     BadHex,
     /// A name or a hex word of a wrong length.
+    #[error("another length")]
     BadSize,
     /// A setting that came before, or the same method or suite twice in one line.
+    #[error("it came before")]
     Repeated,
     /// A needed setting, or the line `end`, that is not there.
+    #[error("a line is missing")]
     Missing,
     /// A line at a place where it may not be.
+    #[error("a line at a wrong place")]
     Order,
 }
 

@@ -6,8 +6,8 @@ ghost use Rattle.text_tables.specs.UserWords.{is_visible, is_name, is_key, user_
 
 use crate::fields::{kind_of, name, octets, spells_kind, spells_octets};
 use crate::rows::{fits_kind, is_within};
-use octet_lists::MAX_NAME;
 use login_setup::{User, Users};
+use octet_lists::MAX_NAME;
 
 /// Adds the users that the words name, three words each: a name of 1 to 253 octets from 21 to 7e, a
 /// method, 47 or 51, and its key in hex, of 16 octets for 47 and 32 to 64 for 51. False if the words are none

@@ -12,10 +12,10 @@ use Rattle.eap_packet.specs.Words.{state_word}
 use Rattle.eap_packet.specs.declared.state.State.{State}
 use Rattle.eap_world.specs.declared.told.Counts.{Counts}
 use Rattle.eap_world.specs.declared.told.Named.{Named}
-use Rattle.eap_world.specs.declared.told.SentPacket.{SentPacket}
+use Rattle.eap_world.specs.declared.told.SentNumber.{SentNumber}
 use Rattle.eap_world.specs.declared.told.Skip.{Skip}
 use Rattle.eap_world.specs.declared.told.Skip.TheVariants as skip
-use Rattle.eap_world.specs.declared.told.Told.{Told}
+use Rattle.eap_world.specs.declared.told.Brief.{Brief}
 use Rattle.login_keys.specs.KeyName.{key_name_of}
 use Rattle.answer_text.specs.Paths.{path_text, cause_text}
 use Rattle.answer_text.specs.Pieces.{hex_text}
@@ -56,7 +56,7 @@ module _ (bad : ℕ → Bool) (no_digit : (o : ℕ) → 48 ≤ o → o ≤ 57 �
   party_plain event (Some p) path =
       numbered bad no_digit event (codes " " ++ (party_word p ++ [])) (path_text path) (within_join (party_word p) [] (party_within p) refl) (path_plain bad no_digit path)
 
-  sent_plain : (event : ℕ) (octets : List ℕ) (s : Option SentPacket) → plain bad true (sent_text event octets s) ≡ true
+  sent_plain : (event : ℕ) (octets : List ℕ) (s : Option SentNumber) → plain bad true (sent_text event octets s) ≡ true
   sent_plain event octets None = refl
   sent_plain event octets (Some sent) =
       decimal_first bad no_digit event _ (through bad (decimal sent.number) _ (decimal_within sent.number)
@@ -69,7 +69,7 @@ module _ (bad : ℕ → Bool) (no_digit : (o : ℕ) → 48 ≤ o → o ≤ 57 �
   line_of_octets_plain : (event : ℕ) (octets : List ℕ) → plain bad true (octets_line event octets) ≡ true
   line_of_octets_plain event octets = decimal_first bad no_digit event _ (through bad (hex_text octets) _ (hex_within octets) refl)
 
-  octets_plain : (names : Bool) (event : ℕ) (octets : List ℕ) (s : Option SentPacket) → plain bad true (octets_text names event octets s) ≡ true
+  octets_plain : (names : Bool) (event : ℕ) (octets : List ℕ) (s : Option SentNumber) → plain bad true (octets_text names event octets s) ≡ true
   octets_plain names event octets None = refl
   octets_plain true event octets (Some sent) = line_of_octets_plain event octets
   octets_plain false event octets (Some sent) = refl
@@ -86,23 +86,23 @@ module _ (bad : ℕ → Bool) (no_digit : (o : ℕ) → 48 ≤ o → o ≤ 57 �
   keys_plain true event (Some named) = line_of_keys_plain event named
   keys_plain false event (Some named) = refl
 
-  shown_plain : (names : Bool) (octets : List ℕ) (told : Told) → plain bad true (shown_text names octets told) ≡ true
+  shown_plain : (names : Bool) (octets : List ℕ) (told : Brief) → plain bad true (shown_text names octets told) ≡ true
   shown_plain names octets told =
       join bad (sent_text told.event octets told.sent) _ true (sent_plain told.event octets told.sent)
       (join bad (octets_text names told.event octets told.sent) (keys_text names told.event told.named) true
       (octets_plain names told.event octets told.sent) (keys_plain names told.event told.named))
 
-  acted_plain : (names : Bool) (octets : List ℕ) (told : Told) → plain bad true (acted_text names octets told) ≡ true
+  acted_plain : (names : Bool) (octets : List ℕ) (told : Brief) → plain bad true (acted_text names octets told) ≡ true
   acted_plain names octets told =
       join bad (party_text told.event told.party told.path) _ true (party_plain told.event told.party told.path)
       (join bad (cause_text told.event told.cause) (shown_text names octets told) true (cause_plain bad no_digit told.event told.cause) (shown_plain names octets told))
 
-  told_by_plain : (names : Bool) (octets : List ℕ) (told : Told) (s : Option Skip) → plain bad true (told_by names octets told s) ≡ true
+  told_by_plain : (names : Bool) (octets : List ℕ) (told : Brief) (s : Option Skip) → plain bad true (told_by names octets told s) ≡ true
   told_by_plain names octets told None = acted_plain names octets told
   told_by_plain names octets told (Some s) = decimal_first bad no_digit told.event _ (through bad (skip_word s) _ (skip_within s) refl)
 
   -- the lines of an event
-  pub told_plain : (names : Bool) (octets : List ℕ) (told : Told) → plain bad true (told_text names octets told) ≡ true
+  pub told_plain : (names : Bool) (octets : List ℕ) (told : Brief) → plain bad true (told_text names octets told) ≡ true
   unfolding told_text
   told_plain names octets told = told_by_plain names octets told told.skip
 
@@ -123,7 +123,7 @@ unfolding server_start_text
 server_start_plain mode.Alone = refl
 server_start_plain mode.Through = refl
 
-pub start_plain : (m : Mode) (names : Bool) (octets : List ℕ) (told : Told) → plain begins_verdict true (start_text m names octets told) ≡ true
+pub start_plain : (m : Mode) (names : Bool) (octets : List ℕ) (told : Brief) → plain begins_verdict true (start_text m names octets told) ≡ true
 unfolding peer_start_text
 start_plain m names octets told =
     join begins_verdict (told_text names octets told) (server_start_text m) true (told_plain begins_verdict no_verdict names octets told) (server_start_plain m)

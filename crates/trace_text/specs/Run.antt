@@ -16,10 +16,10 @@ use Rattle.tag_book.specs.declared.book.TagsVerdict.{TagsVerdict}
 use Rattle.tag_book.specs.declared.book.TagsVerdict.TheVariants as tags
 use Rattle.eap_world.specs.declared.told.Counts.{Counts}
 use Rattle.eap_world.specs.declared.told.Named.{Named}
-use Rattle.eap_world.specs.declared.told.SentPacket.{SentPacket}
+use Rattle.eap_world.specs.declared.told.SentNumber.{SentNumber}
 use Rattle.eap_world.specs.declared.told.Skip.{Skip}
 use Rattle.eap_world.specs.declared.told.Skip.TheVariants as skip
-use Rattle.eap_world.specs.declared.told.Told.{Told}
+use Rattle.eap_world.specs.declared.told.Brief.{Brief}
 use Rattle.eap_world.specs.declared.verdict.Verdict.{Verdict}
 use Rattle.eap_world.specs.declared.verdict.Verdict.TheVariants as verdict
 use Rattle.login_keys.specs.KeyName.{key_name_of}
@@ -63,7 +63,7 @@ party_text event None path = []
 party_text event (Some party) path = concat (decimal event ∷ codes " " ∷ party_word party ∷ []) ++ path_text path
 
 -- the line of a packet that was sent, of these octets
-abbrev pub sent_text : ℕ → List ℕ → Option SentPacket → List ℕ
+abbrev pub sent_text : ℕ → List ℕ → Option SentNumber → List ℕ
 sent_text event octets None = []
 sent_text event octets (Some sent) = concat (
     decimal event ∷ codes " sent " ∷ decimal sent.number ∷ codes " to " ∷ port_word sent.port ∷ codes " " ∷
@@ -74,7 +74,7 @@ sent_text event octets (Some sent) = concat (
 abbrev pub octets_line : ℕ → List ℕ → List ℕ
 octets_line event octets = concat (decimal event ∷ codes " octets " ∷ hex_text octets ∷ codes "\n" ∷ [])
 
-abbrev pub octets_text : Bool → ℕ → List ℕ → Option SentPacket → List ℕ
+abbrev pub octets_text : Bool → ℕ → List ℕ → Option SentNumber → List ℕ
 octets_text names event octets None = []
 octets_text names event octets (Some sent) = if names then octets_line event octets else []
 
@@ -91,21 +91,21 @@ keys_text names event None = []
 keys_text names event (Some named) = if names then keys_line event named else []
 
 -- the lines of the packet that was sent, of its octets, and of the keys
-abbrev pub shown_text : Bool → List ℕ → Told → List ℕ
+abbrev pub shown_text : Bool → List ℕ → Brief → List ℕ
 shown_text names octets told = sent_text told.event octets told.sent
     ++ (octets_text names told.event octets told.sent ++ keys_text names told.event told.named)
 
 -- the lines of a result: a skipped event has one alone
-abbrev pub acted_text : Bool → List ℕ → Told → List ℕ
+abbrev pub acted_text : Bool → List ℕ → Brief → List ℕ
 acted_text names octets told = party_text told.event told.party told.path ++ (cause_text told.event told.cause ++ shown_text names octets told)
 
-abbrev pub told_by : Bool → List ℕ → Told → Option Skip → List ℕ
+abbrev pub told_by : Bool → List ℕ → Brief → Option Skip → List ℕ
 told_by names octets told (Some skip) = concat (decimal told.event ∷ codes " skip " ∷ skip_word skip ∷ codes "\n" ∷ [])
 told_by names octets told None = acted_text names octets told
 
 -- the lines of an event, with the octets of packets and the names of keys or without; the packet that was
 -- sent has these octets
-unfoldable pub told_text : Bool → List ℕ → Told → List ℕ
+unfoldable pub told_text : Bool → List ℕ → Brief → List ℕ
 told_text names octets told = told_by names octets told told.skip
 
 -- the lines of the result of an event
@@ -121,7 +121,7 @@ unfoldable pub server_start_text : Mode → List ℕ
 server_start_text mode.Alone = []
 server_start_text mode.Through = codes "0 server INITIALIZE\n"
 
-abbrev pub start_text : Mode → Bool → List ℕ → Told → List ℕ
+abbrev pub start_text : Mode → Bool → List ℕ → Brief → List ℕ
 start_text m names octets told = peer_start_text ++ (told_text names octets told ++ server_start_text m)
 
 abbrev pub begin_text : Bool → WorldOutcome → List ℕ

@@ -5,4 +5,7 @@
 
 mod run;
 
-pub use run::{write_end, write_start, write_told};
+pub use run::{write_end, write_start, write_start_brief, write_told, write_told_brief};
+
+// The texts that stand below the world.
+pub use answer_text::{write_finding, write_key_line, write_line, write_packet, write_refused};

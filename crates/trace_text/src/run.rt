@@ -16,7 +16,7 @@ use answer_text::{
 };
 use eap_method::{PeerMethod, ServerMethod};
 use eap_packet::State;
-use eap_world::{Counts, Named, SentPacket, Skip, Told, Verdict, World};
+use eap_world::{Brief, Counts, Named, SentNumber, Skip, Told, Verdict, World};
 use login_keys::key_name;
 use login_setup::{Mode, Party, Port};
 use octet_io::{Failed, Sink};
@@ -146,7 +146,7 @@ fn write_sent<W: Sink>(
     sink: &mut W,
     event: u32,
     octets: &[u8],
-    sent: &Option<SentPacket>,
+    sent: &Option<SentNumber>,
 ) -> Result<(), Failed>
     ensures { Appends W.shown result sink.old sink.new (sent_text event octets.now sent.now) }
 {
@@ -162,7 +162,7 @@ fn write_packet_line<W: Sink>(
     sink: &mut W,
     event: u32,
     octets: &[u8],
-    sent: &SentPacket,
+    sent: &SentNumber,
 ) -> Result<(), Failed>
     ensures { Appends W.shown result sink.old sink.new (sent_text event octets.now (Some sent.now)) }
 {
@@ -193,7 +193,7 @@ fn write_octets<W: Sink>(
     sink: &mut W,
     event: u32,
     octets: &[u8],
-    sent: &Option<SentPacket>,
+    sent: &Option<SentNumber>,
     names: bool,
 ) -> Result<(), Failed>
     ensures { Appends W.shown result sink.old sink.new (octets_text names event octets.now sent.now) }
@@ -262,9 +262,9 @@ fn write_keys<W: Sink>(
 /// party first reports. A skipped event has one line alone. `Failed`: a write failed, and a prefix of the
 /// lines was appended.
 #[tactic(auto, unfolding(crate::specs::Run::told_text))]
-pub fn write_told<W: Sink>(
+pub fn write_told_brief<W: Sink>(
     sink: &mut W,
-    told: &Told,
+    told: &Brief,
     octets: &[u8],
     names: bool,
 ) -> Result<(), Failed>
@@ -285,7 +285,12 @@ pub fn write_told<W: Sink>(
 
 /// Writes the lines of an event that wasn't skipped.
 #[tactic(auto, using(answer_text::proofs::Fronts::appends_both, answer_text::proofs::Fronts::appends_front))]
-fn write_acted<W: Sink>(sink: &mut W, told: &Told, octets: &[u8], names: bool) -> Result<(), Failed>
+fn write_acted<W: Sink>(
+    sink: &mut W,
+    told: &Brief,
+    octets: &[u8],
+    names: bool,
+) -> Result<(), Failed>
     ensures { Appends W.shown result sink.old sink.new (acted_text names octets.now told.now) }
 {
     write_party(sink, told.event, told.party, told.path.as_slice())?;
@@ -293,6 +298,60 @@ fn write_acted<W: Sink>(sink: &mut W, told: &Told, octets: &[u8], names: bool) -
     write_sent(sink, told.event, octets, &told.sent)?;
     write_octets(sink, told.event, octets, &told.sent, names)?;
     write_keys(sink, told.event, &told.named, names)
+}
+
+/// Writes the lines of an event, as [`write_told_brief`], of an answer that has its packet.
+pub fn write_told<W: Sink>(sink: &mut W, told: &Told, names: bool) -> Result<(), Failed> {
+    if told.skip.is_some() {
+        return write_skip(sink, told.event, told.skip);
+    }
+    let (octets, sent) = sent_of(told);
+    write_party(sink, told.event, told.party, told.path.as_slice())?;
+    write_cause(sink, told.event, told.cause)?;
+    write_sent(sink, told.event, octets, &sent)?;
+    write_octets(sink, told.event, octets, &sent, names)?;
+    write_keys(sink, told.event, &told.named, names)
+}
+
+/// Writes the line of a skipped event.
+fn write_skip<W: Sink>(sink: &mut W, event: u32, skip: Option<Skip>) -> Result<(), Failed> {
+    match skip {
+        None => write_nothing(sink),
+        Some(skip) => write_pieces(
+            sink,
+            &[
+                Leading(u64::from(event), b" skip "),
+                Text(name_of_skip(skip).as_bytes()),
+                Text(b"\n"),
+            ],
+        ),
+    }
+}
+
+/// The octets of the packet that was sent, and its number and port.
+fn sent_of<'a>(told: &'a Told) -> (&'a [u8], Option<SentNumber>) {
+    match &told.sent {
+        None => (&[], None),
+        Some(sent) => (
+            sent.packet.as_slice(),
+            Some(SentNumber {
+                number: sent.number,
+                port: sent.port,
+            }),
+        ),
+    }
+}
+
+/// Writes the lines of the start, as [`write_start_brief`], of an answer that has its packet.
+pub fn write_start<W: Sink>(
+    sink: &mut W,
+    mode: Mode,
+    told: &Told,
+    names: bool,
+) -> Result<(), Failed> {
+    write_peer_start(sink)?;
+    write_told(sink, told, names)?;
+    write_server_start(sink, mode)
 }
 
 /// Writes the line of the peer's INITIALIZE (RFC 4137 section 4.5).
@@ -319,17 +378,17 @@ fn write_server_start<W: Sink>(sink: &mut W, mode: Mode) -> Result<(), Failed>
 /// whoever asks for the identity, with the octets of the packet if names are asked for; through a pass-through
 /// the server waits. `Failed`: a write failed, and a prefix of the lines was appended.
 #[tactic(auto, using(answer_text::proofs::Fronts::appends_both, answer_text::proofs::Fronts::appends_front))]
-pub fn write_start<W: Sink>(
+pub fn write_start_brief<W: Sink>(
     sink: &mut W,
     mode: Mode,
-    told: &Told,
+    told: &Brief,
     octets: &[u8],
     names: bool,
 ) -> Result<(), Failed>
     ensures { Appends W.shown result sink.old sink.new (start_text mode names octets.now told.now) }
 {
     write_peer_start(sink)?;
-    write_told(sink, told, octets, names)?;
+    write_told_brief(sink, told, octets, names)?;
     write_server_start(sink, mode)
 }
 

@@ -21,10 +21,10 @@ use Rattle.eap_method.specs.Server.{ServerShown}
 use Rattle.eap_method.specs.PeerTurn.{peer_turn_with}
 use Rattle.eap_method.specs.ServerTurn.{server_turn_with}
 use Rattle.eap_method.specs.Turns.{PeerOutcome, ServerOutcome}
-use Rattle.eap_method.specs.declared.turn.PeerTurn as peer_briefs
-use Rattle.eap_method.specs.declared.turn.PeerTurn.TheVariants as peer_answer
-use Rattle.eap_method.specs.declared.turn.ServerTurn as server_briefs
-use Rattle.eap_method.specs.declared.turn.ServerTurn.TheVariants as server_answer
+use Rattle.eap_method.specs.declared.turn.PeerAnswer as peer_briefs
+use Rattle.eap_method.specs.declared.turn.PeerAnswer.TheVariants as peer_answer
+use Rattle.eap_method.specs.declared.turn.ServerAnswer as server_briefs
+use Rattle.eap_method.specs.declared.turn.ServerAnswer.TheVariants as server_answer
 use Rattle.tuvaddri_c.specs.Methods.{PeerTurns, ServerTurns, peer_brief, server_brief}
 use Rattle.end_objects.specs.declared.objects.PeerObject.{PeerObject}
 use Rattle.end_objects.specs.declared.objects.ServerObject.{ServerObject}
@@ -59,20 +59,20 @@ pass_does to row step packet after before sent e s = subst (λ (r : PassAnswer).
     (record { turn_is = says_so step packet after.state; sent_is = s; machine = refl })
 
 -- a method's turn sends the packet that it wrote, where it says so
-peer_replies : (b : peer_briefs.PeerTurn) (packet : List ℕ) (tags : Tags) (after : PeerObject) (before sent : Sent)
+peer_replies : (b : peer_briefs.PeerAnswer) (packet : List ℕ) (tags : Tags) (after : PeerObject) (before sent : Sent)
     → sent ≡ after_turn (if (peer_brief b).sends then Some packet else None) before
     → PeerTurns (record { turn = peer_turn_with b packet tags; after = peer_object_shown after }) before (peer_brief b) sent after
 peer_replies (peer_answer.Discard c) packet tags after before sent s = record { turn_is = refl; sent_is = s; object = refl }
 peer_replies (peer_answer.Reply m d) packet tags after before sent s = record { turn_is = refl; sent_is = s; object = refl }
 
-pub peer_turns : (out : PeerOutcome PeerShown) (b : peer_briefs.PeerTurn) (packet : List ℕ) (tags : Tags) (after : PeerObject) (before sent : Sent)
+pub peer_turns : (out : PeerOutcome PeerShown) (b : peer_briefs.PeerAnswer) (packet : List ℕ) (tags : Tags) (after : PeerObject) (before sent : Sent)
     → out ≡ record { turn = peer_turn_with b packet tags; after = peer_object_shown after }
     → sent ≡ after_turn (if (peer_brief b).sends then Some packet else None) before
     → PeerTurns out before (peer_brief b) sent after
 peer_turns out b packet tags after before sent e s =
     subst (λ (o : PeerOutcome PeerShown). PeerTurns o before (peer_brief b) sent after) (sym e) (peer_replies b packet tags after before sent s)
 
-server_asks : (b : server_briefs.ServerTurn) (packet : List ℕ) (tags : Tags) (after : ServerObject) (before sent : Sent)
+server_asks : (b : server_briefs.ServerAnswer) (packet : List ℕ) (tags : Tags) (after : ServerObject) (before sent : Sent)
     → sent ≡ after_turn (if (server_brief b).sends then Some packet else None) before
     → ServerTurns (record { turn = server_turn_with b packet tags; after = server_object_shown after }) before (server_brief b) sent after
 server_asks (server_answer.Discard c) packet tags after before sent s = record { turn_is = refl; sent_is = s; object = refl }
@@ -80,7 +80,7 @@ server_asks server_answer.Request packet tags after before sent s = record { tur
 server_asks (server_answer.Done true) packet tags after before sent s = record { turn_is = refl; sent_is = s; object = refl }
 server_asks (server_answer.Done false) packet tags after before sent s = record { turn_is = refl; sent_is = s; object = refl }
 
-pub server_turns : (out : ServerOutcome ServerShown) (b : server_briefs.ServerTurn) (packet : List ℕ) (tags : Tags) (after : ServerObject) (before sent : Sent)
+pub server_turns : (out : ServerOutcome ServerShown) (b : server_briefs.ServerAnswer) (packet : List ℕ) (tags : Tags) (after : ServerObject) (before sent : Sent)
     → out ≡ record { turn = server_turn_with b packet tags; after = server_object_shown after }
     → sent ≡ after_turn (if (server_brief b).sends then Some packet else None) before
     → ServerTurns out before (server_brief b) sent after

@@ -14,10 +14,10 @@ use Rattle.eap_method.specs.Server.{ServerShown}
 use Rattle.eap_method.specs.ServerTurn.{ServerTurn}
 use Rattle.eap_method.specs.ServerTurn as server_turn
 use Rattle.eap_method.specs.Turns.{PeerOutcome, ServerOutcome}
-use Rattle.eap_method.specs.declared.turn.PeerTurn as peer_briefs
-use Rattle.eap_method.specs.declared.turn.PeerTurn.TheVariants as peer_answer
-use Rattle.eap_method.specs.declared.turn.ServerTurn as server_briefs
-use Rattle.eap_method.specs.declared.turn.ServerTurn.TheVariants as server_answer
+use Rattle.eap_method.specs.declared.turn.PeerAnswer as peer_briefs
+use Rattle.eap_method.specs.declared.turn.PeerAnswer.TheVariants as peer_answer
+use Rattle.eap_method.specs.declared.turn.ServerAnswer as server_briefs
+use Rattle.eap_method.specs.declared.turn.ServerAnswer.TheVariants as server_answer
 use Rattle.end_objects.specs.Objects.{peer_object_shown, server_object_shown}
 use Rattle.tuvaddri_c.specs.Turns.{cause_number}
 use Rattle.tuvaddri_c.specs.declared.method_turn.TuvMethodTurn.{TuvMethodTurn}
@@ -112,11 +112,11 @@ request_of (server_turn.Request packet tags) = Some packet
 request_of (server_turn.Done well tags) = None
 
 -- the result of a turn, as the method says it
-abbrev pub peer_brief : peer_briefs.PeerTurn → TuvMethodTurn
+abbrev pub peer_brief : peer_briefs.PeerAnswer → TuvMethodTurn
 peer_brief (peer_answer.Discard c) = discarding c
 peer_brief (peer_answer.Reply m d) = replying (method_number m) (decision_number d)
 
-abbrev pub server_brief : server_briefs.ServerTurn → TuvMethodTurn
+abbrev pub server_brief : server_briefs.ServerAnswer → TuvMethodTurn
 server_brief (server_answer.Discard c) = discarding c
 server_brief server_answer.Request = replying 2 0
 server_brief (server_answer.Done true) = method_done 2

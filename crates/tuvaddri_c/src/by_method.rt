@@ -13,9 +13,9 @@ use crate::gpsk::{front_id, gpsk_id, gpsk_name, repeated_code};
 use crate::psk::{psk_id, psk_name};
 use crate::session_id::SessionId;
 use crate::users::HasUsers;
-use octet_lists::{GPSK_KIND, PSK_KIND, Secret, Suite};
 use eap_method::Report;
 use end_objects::{Nonces, Settings, user_of};
+use octet_lists::{GPSK_KIND, PSK_KIND, Secret, Suite};
 
 /// The peer's name in a Response of this Type.
 pub fn name_by<'a>(kind: u8, body: &'a [u8]) -> Option<&'a [u8]>

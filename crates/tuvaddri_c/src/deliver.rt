@@ -13,8 +13,8 @@ ghost use Rattle.tuvaddri_c.specs.Turns.{PeerDoes, ServerDoes, IsMisplaced};
 use crate::handle::TuvEnd;
 use crate::session::End;
 use crate::turn::TuvTurn;
-use octet_lists::Packet;
 use eap_method::{NoRecords, Tags};
+use octet_lists::Packet;
 
 /// Octets arrive at a peer, a stand-alone server that has started, or a backend.
 #[unsafe(no_mangle)]
@@ -34,15 +34,15 @@ pub extern "C" fn tuv_end_deliver(end: &mut TuvEnd, octets: &[u8]) -> TuvTurn
     let mut tags: Tags<NoRecords> = Tags::new();
     match &mut session.end {
         End::Peer(machine) => {
-            let step = machine.deliver(octets, &mut packet, &mut tags);
+            let step = machine.deliver_step(octets, &mut packet, &mut tags);
             TuvTurn::of(&step, &packet, machine.state(), &mut session.sent)
         }
         End::Server(machine) if machine.ready() => {
-            let step = machine.deliver(octets, &mut packet, &mut tags);
+            let step = machine.deliver_step(octets, &mut packet, &mut tags);
             TuvTurn::of(&step, &packet, machine.state(), &mut session.sent)
         }
         End::Backend(machine) => {
-            let step = machine.deliver(octets, &mut packet, &mut tags);
+            let step = machine.deliver_step(octets, &mut packet, &mut tags);
             TuvTurn::of(&step, &packet, machine.state(), &mut session.sent)
         }
         _ => TuvTurn::none(&mut session.sent),

@@ -8,10 +8,10 @@ ghost use Rattle.tuvaddri_c.specs.Failures.{failing, code_in, sent_code, peer_fa
 use crate::by_method::{code_by, repeated_by};
 use crate::handle::TuvEnd;
 use crate::session::End;
-use octet_lists::Packet;
 use eap_method::ServerMethod;
 use eap_packet::{Code, State, decode, write_plain};
 use end_objects::{PeerObject, ServerObject};
+use octet_lists::Packet;
 
 /// Why a login has failed.
 #[repr(C)]

@@ -9,12 +9,12 @@ ghost use Rattle.tuvaddri_c.specs.Gpsk.{gpsk_name, known_code, repeated_code, ke
 
 use crate::session::End;
 use crate::session_id::SessionId;
-use octet_lists::{GPSK_KIND, Secret, Suite};
 use eap_method::Report;
 use end_objects::Nonces;
-use gpsk_messages::{GpskView, read_gpsk};
+use gpsk_messages::{GpskMessage, read_gpsk_message};
 use login_keys::gkdf;
 use login_setup::{Keys, Users};
+use octet_lists::{GPSK_KIND, Secret, Suite};
 
 /// ID_Peer of GPSK-2.
 pub fn gpsk_name<'a>(body: &'a [u8]) -> Option<&'a [u8]>
@@ -22,13 +22,13 @@ pub fn gpsk_name<'a>(body: &'a [u8]) -> Option<&'a [u8]>
     ensures none { result ≡ None → gpsk_name (read_of None body.now) ≡ None }
     ensures size { IfSome result (λ name. length name.now ≤ max_name) }
 {
-    match read_gpsk(body, None) {
-        Ok(GpskView::M1(_)) => None,
-        Ok(GpskView::M2(gpsk2)) => Some(gpsk2.id_p),
-        Ok(GpskView::M3(_)) => None,
-        Ok(GpskView::M4(_)) => None,
-        Ok(GpskView::Fail { .. }) => None,
-        Ok(GpskView::ProtectedFail { .. }) => None,
+    match read_gpsk_message(body, None) {
+        Ok(GpskMessage::M1(_)) => None,
+        Ok(GpskMessage::M2(gpsk2)) => Some(gpsk2.id_p),
+        Ok(GpskMessage::M3(_)) => None,
+        Ok(GpskMessage::M4(_)) => None,
+        Ok(GpskMessage::Fail { .. }) => None,
+        Ok(GpskMessage::ProtectedFail { .. }) => None,
         Err(_) => None,
     }
 }
@@ -44,13 +44,13 @@ fn known_code(code: u32) -> u8
 pub fn repeated_code(body: &[u8]) -> u8
     ensures { result ≡ repeated_code (read_of None body.now) }
 {
-    match read_gpsk(body, None) {
-        Ok(GpskView::M1(_)) => 0,
-        Ok(GpskView::M2(_)) => 0,
-        Ok(GpskView::M3(_)) => 0,
-        Ok(GpskView::M4(_)) => 0,
-        Ok(GpskView::Fail { code }) => known_code(code),
-        Ok(GpskView::ProtectedFail { code, .. }) => known_code(code),
+    match read_gpsk_message(body, None) {
+        Ok(GpskMessage::M1(_)) => 0,
+        Ok(GpskMessage::M2(_)) => 0,
+        Ok(GpskMessage::M3(_)) => 0,
+        Ok(GpskMessage::M4(_)) => 0,
+        Ok(GpskMessage::Fail { code }) => known_code(code),
+        Ok(GpskMessage::ProtectedFail { code, .. }) => known_code(code),
         Err(_) => 0,
     }
 }

@@ -6,7 +6,7 @@ ghost use Rattle.tuvaddri_c.specs.Methods.{no_method_turn, discarding, taking, p
 
 use crate::session::Sent;
 use crate::turn::number_of_cause;
-use eap_method::{Decision, MethodState, PeerTurn, ServerTurn};
+use eap_method::{Decision, MethodState, PeerAnswer, ServerAnswer};
 use eap_packet::Cause;
 
 /// What a method answers.
@@ -68,25 +68,25 @@ impl TuvMethodTurn {
     }
 
     /// The result of a peer's turn.
-    pub fn of_peer(turn: PeerTurn) -> TuvMethodTurn
+    pub fn of_peer(turn: PeerAnswer) -> TuvMethodTurn
         ensures { result ≡ peer_brief turn }
     {
         match turn {
-            PeerTurn::Discard(cause) => TuvMethodTurn::discarding(cause),
-            PeerTurn::Reply { state, decision } => {
+            PeerAnswer::Discard(cause) => TuvMethodTurn::discarding(cause),
+            PeerAnswer::Reply { state, decision } => {
                 TuvMethodTurn::taking(true, number_of_method(state), number_of_decision(decision))
             }
         }
     }
 
     /// The result of a server's turn.
-    pub fn of_server(turn: ServerTurn) -> TuvMethodTurn
+    pub fn of_server(turn: ServerAnswer) -> TuvMethodTurn
         ensures { result ≡ server_brief turn }
     {
         match turn {
-            ServerTurn::Discard(cause) => TuvMethodTurn::discarding(cause),
-            ServerTurn::Request => TuvMethodTurn::taking(true, 2, 0),
-            ServerTurn::Done { success } => {
+            ServerAnswer::Discard(cause) => TuvMethodTurn::discarding(cause),
+            ServerAnswer::Request => TuvMethodTurn::taking(true, 2, 0),
+            ServerAnswer::Done { success } => {
                 if success {
                     TuvMethodTurn::taking(false, 4, 2)
                 } else {

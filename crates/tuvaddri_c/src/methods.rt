@@ -18,7 +18,6 @@ use crate::answers::{BEGUN, number_of_refusal};
 use crate::handle::TuvEnd;
 use crate::method_turn::TuvMethodTurn;
 use crate::session::{End, Known};
-use octet_lists::{Nonce, Packet, Secret};
 use eap_method::{NoRecords, PeerMethod, ServerMethod, Tags};
 use eap_packet::{Cause, Code, decode};
 use end_objects::{
@@ -26,6 +25,7 @@ use end_objects::{
     server_object, server_refusal, server_side, users_of,
 };
 use login_setup::Users;
+use octet_lists::{Nonce, Packet, Secret};
 
 /// Makes the end this peer's method. (By itself, since the compiler then builds it where it stays.)
 fn hold_peer(end: &mut End, object: PeerObject, key: Secret)
@@ -93,7 +93,11 @@ pub extern "C" fn tuv_peer_method_handle(end: &mut TuvEnd, octets: &[u8]) -> Tuv
             Ok(whole) => {
                 let mut packet = Packet::new();
                 let mut tags: Tags<NoRecords> = Tags::new();
-                let turn = TuvMethodTurn::of_peer(object.handle(whole, &mut packet, &mut tags));
+                let turn = TuvMethodTurn::of_peer(object.handle_step(
+                    whole,
+                    &mut packet,
+                    &mut tags,
+                ));
                 session.sent.take(turn.sends, &packet);
                 turn
             }
@@ -135,7 +139,7 @@ pub extern "C" fn tuv_server_method_begin(
     let mut object = server_object(first_kind(settings));
     object.begin(&own, nonce);
     let session = end.session();
-    object.first(id, &mut session.sent.packet);
+    object.first_step(id, &mut session.sent.packet);
     session.sent.fresh = true;
     hold_server(&mut session.end, object, users_of(settings));
     BEGUN
@@ -181,7 +185,7 @@ pub extern "C" fn tuv_server_method_handle(
             Ok(whole) => {
                 let mut packet = Packet::new();
                 let mut tags: Tags<NoRecords> = Tags::new();
-                let turn = object.handle(whole, next_id, &known.users, &mut packet, &mut tags);
+                let turn = object.handle_step(whole, next_id, &known.users, &mut packet, &mut tags);
                 let turn = TuvMethodTurn::of_server(turn);
                 session.sent.take(turn.sends, &packet);
                 turn

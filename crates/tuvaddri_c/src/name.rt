@@ -8,8 +8,8 @@ ghost use Rattle.tuvaddri_c.specs.Rooms.{IsWritten, octets_of};
 
 use crate::by_method::name_by;
 use crate::rooms::write_octets;
-use octet_lists::{MAX_NAME, Packet};
 use eap_packet::{Code, decode, write_plain};
+use octet_lists::{MAX_NAME, Packet};
 
 /// The name in the packet that the octets begin with.
 fn name_in<'a>(octets: &'a [u8]) -> Option<&'a [u8]>

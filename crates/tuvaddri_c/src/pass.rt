@@ -12,8 +12,8 @@ use crate::answers::{BEGUN, number_of_refusal};
 use crate::handle::TuvEnd;
 use crate::session::End;
 use crate::turn::TuvTurn;
-use octet_lists::Packet;
 use end_objects::retry_refusal;
+use octet_lists::Packet;
 use pass_through::PassThrough;
 
 /// Makes the end a pass-through that has not started, and answers 0. Its first Request has the Identifier
@@ -48,7 +48,7 @@ pub extern "C" fn tuv_pass_start(end: &mut TuvEnd) -> TuvTurn
     match &mut session.end {
         End::Pass(machine) if !machine.started() => {
             let mut packet = Packet::new();
-            let step = machine.start(&mut packet);
+            let step = machine.start_step(&mut packet);
             TuvTurn::of(&step, &packet, machine.state(), &mut session.sent)
         }
         _ => TuvTurn::none(&mut session.sent),
@@ -68,7 +68,7 @@ pub extern "C" fn tuv_pass_restart(end: &mut TuvEnd) -> TuvTurn
     match &mut session.end {
         End::Pass(machine) => {
             let mut packet = Packet::new();
-            let step = machine.restart(&mut packet);
+            let step = machine.restart_step(&mut packet);
             session.sent.clear();
             TuvTurn::of(&step, &packet, machine.state(), &mut session.sent)
         }
@@ -88,7 +88,7 @@ pub extern "C" fn tuv_pass_from_peer(end: &mut TuvEnd, octets: &[u8]) -> TuvTurn
     match &mut session.end {
         End::Pass(machine) => {
             let mut packet = Packet::new();
-            let step = machine.from_peer(octets, &mut packet);
+            let step = machine.from_peer_step(octets, &mut packet);
             TuvTurn::of(&step, &packet, machine.state(), &mut session.sent)
         }
         _ => TuvTurn::none(&mut session.sent),
@@ -107,7 +107,7 @@ pub extern "C" fn tuv_pass_from_backend(end: &mut TuvEnd, octets: &[u8]) -> TuvT
     match &mut session.end {
         End::Pass(machine) => {
             let mut packet = Packet::new();
-            let step = machine.from_backend(octets, &mut packet);
+            let step = machine.from_backend_step(octets, &mut packet);
             TuvTurn::of(&step, &packet, machine.state(), &mut session.sent)
         }
         _ => TuvTurn::none(&mut session.sent),
@@ -126,7 +126,7 @@ pub extern "C" fn tuv_pass_timeout(end: &mut TuvEnd) -> TuvTurn
     match &mut session.end {
         End::Pass(machine) if machine.has_timer() => {
             let mut packet = Packet::new();
-            let step = machine.timeout(&mut packet);
+            let step = machine.timeout_step(&mut packet);
             TuvTurn::of(&step, &packet, machine.state(), &mut session.sent)
         }
         _ => TuvTurn::none(&mut session.sent),
@@ -144,7 +144,7 @@ pub extern "C" fn tuv_pass_aaa_timeout(end: &mut TuvEnd) -> TuvTurn
     let session = end.session();
     match &mut session.end {
         End::Pass(machine) if machine.waits_for_server() => {
-            let step = machine.aaa_timeout();
+            let step = machine.aaa_timeout_step();
             TuvTurn::of(&step, &Packet::new(), machine.state(), &mut session.sent)
         }
         _ => TuvTurn::none(&mut session.sent),
@@ -162,7 +162,7 @@ pub extern "C" fn tuv_pass_aaa_noreq(end: &mut TuvEnd) -> TuvTurn
     let session = end.session();
     match &mut session.end {
         End::Pass(machine) if machine.waits_for_server() => {
-            let step = machine.aaa_noreq();
+            let step = machine.aaa_noreq_step();
             TuvTurn::of(&step, &Packet::new(), machine.state(), &mut session.sent)
         }
         _ => TuvTurn::none(&mut session.sent),

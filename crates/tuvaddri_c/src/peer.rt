@@ -17,8 +17,8 @@ use crate::answers::{BEGUN, NO_MEMORY, number_of_refusal};
 use crate::handle::TuvEnd;
 use crate::session::End;
 use crate::turn::TuvTurn;
-use octet_lists::{Nonce, Packet};
 use end_objects::{PeerObject, Settings, kinds_of, peer_objects, peer_refusal, peer_setup};
+use octet_lists::{Nonce, Packet};
 use peer_machine::PeerMachine;
 use std::alloc::Global;
 
@@ -73,7 +73,7 @@ pub extern "C" fn tuv_peer_idle(end: &mut TuvEnd) -> TuvTurn
     let session = end.session();
     match &mut session.end {
         End::Peer(machine) if !machine.ended() => {
-            let step = machine.idle();
+            let step = machine.idle_step();
             TuvTurn::of(&step, &Packet::new(), machine.state(), &mut session.sent)
         }
         _ => TuvTurn::none(&mut session.sent),
@@ -92,7 +92,7 @@ pub extern "C" fn tuv_peer_alt_accept(end: &mut TuvEnd) -> TuvTurn
     let session = end.session();
     match &mut session.end {
         End::Peer(machine) if !machine.ended() => {
-            let step = machine.alt_accept();
+            let step = machine.alt_accept_step();
             TuvTurn::of(&step, &Packet::new(), machine.state(), &mut session.sent)
         }
         _ => TuvTurn::none(&mut session.sent),
@@ -111,7 +111,7 @@ pub extern "C" fn tuv_peer_alt_reject(end: &mut TuvEnd) -> TuvTurn
     let session = end.session();
     match &mut session.end {
         End::Peer(machine) if !machine.ended() => {
-            let step = machine.alt_reject();
+            let step = machine.alt_reject_step();
             TuvTurn::of(&step, &Packet::new(), machine.state(), &mut session.sent)
         }
         _ => TuvTurn::none(&mut session.sent),

@@ -6,9 +6,9 @@ ghost use Rattle.psk_messages.specs.Reading.{read_of};
 ghost use Rattle.tuvaddri_c.specs.Psk.{psk_name, psk_session_id, fitting};
 
 use crate::session_id::{MAX_ID, SessionId};
-use octet_lists::PSK_KIND;
 use end_objects::Nonces;
-use psk_messages::{PskView, read_psk};
+use octet_lists::PSK_KIND;
+use psk_messages::{PskMessage, read_psk_message};
 
 /// ID_P of PSK-2.
 pub fn psk_name<'a>(body: &'a [u8]) -> Option<&'a [u8]>
@@ -16,11 +16,11 @@ pub fn psk_name<'a>(body: &'a [u8]) -> Option<&'a [u8]>
     ensures none { result ≡ None → psk_name (read_of body.now) ≡ None }
     ensures size { IfSome result (λ name. length name.now ≤ max_name) }
 {
-    match read_psk(body) {
-        Ok(PskView::P1(_)) => None,
-        Ok(PskView::P2(psk2)) => Some(psk2.id_p),
-        Ok(PskView::P3(_)) => None,
-        Ok(PskView::P4(_)) => None,
+    match read_psk_message(body) {
+        Ok(PskMessage::P1(_)) => None,
+        Ok(PskMessage::P2(psk2)) => Some(psk2.id_p),
+        Ok(PskMessage::P3(_)) => None,
+        Ok(PskMessage::P4(_)) => None,
         Err(_) => None,
     }
 }

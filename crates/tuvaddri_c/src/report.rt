@@ -6,9 +6,9 @@ ghost use Rattle.tuvaddri_c.specs.Reports.{report_size, both, end_held, object_h
 use crate::handle::TuvEnd;
 use crate::held::{Object, object_of};
 use crate::rooms::write_octets;
-use octet_lists::MAX_NAME;
 use eap_method::{PeerMethod, Report, ServerMethod};
 use end_objects::Nonces;
+use octet_lists::MAX_NAME;
 
 /// The octets of [`TuvReport`] on 64 bits.
 pub const REPORT_SIZE: usize = 712;

@@ -34,18 +34,18 @@ pub extern "C" fn tuv_end_restart(end: &mut TuvEnd, nonce: &Nonce) -> TuvTurn
     let session = end.session();
     match &mut session.end {
         End::Peer(machine) if machine.has_objects() => {
-            let step = machine.restart(nonce);
+            let step = machine.restart_step(nonce);
             session.sent.clear();
             TuvTurn::of(&step, &Packet::new(), machine.state(), &mut session.sent)
         }
         End::Server(machine) if machine.has_objects() => {
             let mut packet = Packet::new();
-            let step = machine.restart(nonce, &mut packet);
+            let step = machine.restart_step(nonce, &mut packet);
             session.sent.clear();
             TuvTurn::of(&step, &packet, machine.state(), &mut session.sent)
         }
         End::Backend(machine) if machine.has_objects() => {
-            let step = machine.restart(nonce);
+            let step = machine.restart_step(nonce);
             session.sent.clear();
             TuvTurn::of(&step, &Packet::new(), machine.state(), &mut session.sent)
         }

@@ -20,11 +20,11 @@ use crate::by_method::add_users;
 use crate::handle::TuvEnd;
 use crate::session::End;
 use crate::turn::TuvTurn;
-use octet_lists::{Nonce, Packet};
 use end_objects::{
     ServerObject, Settings, kinds_of, server_alone, server_objects, server_refusal,
     stand_alone_refusal,
 };
+use octet_lists::{Nonce, Packet};
 use server_machine::{Backend, Role, ServerMachine};
 use std::alloc::Global;
 
@@ -157,7 +157,7 @@ pub extern "C" fn tuv_server_start(end: &mut TuvEnd) -> TuvTurn
     match &mut session.end {
         End::Server(machine) if !machine.started() && !machine.is_backend() => {
             let mut packet = Packet::new();
-            let step = machine.start(&mut packet);
+            let step = machine.start_step(&mut packet);
             TuvTurn::of(&step, &packet, machine.state(), &mut session.sent)
         }
         _ => TuvTurn::none(&mut session.sent),
@@ -177,7 +177,7 @@ pub extern "C" fn tuv_server_timeout(end: &mut TuvEnd) -> TuvTurn
     match &mut session.end {
         End::Server(machine) if machine.has_timer() => {
             let mut packet = Packet::new();
-            let step = machine.timeout(&mut packet);
+            let step = machine.timeout_step(&mut packet);
             TuvTurn::of(&step, &packet, machine.state(), &mut session.sent)
         }
         _ => TuvTurn::none(&mut session.sent),

@@ -3,9 +3,9 @@
 ghost use Rattle.std.specs.Prelude.{All, IsTrue};
 ghost use Rattle.login_setup.specs.Setup.{fits_kind};
 
-use octet_lists::{Packet, Secret};
 use end_objects::{PeerObject, ServerObject};
 use login_setup::Users;
+use octet_lists::{Packet, Secret};
 use pass_through::PassThrough;
 use peer_machine::PeerMachine;
 use server_machine::{Backend, ServerMachine};

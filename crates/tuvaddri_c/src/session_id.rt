@@ -13,9 +13,9 @@ use crate::handle::TuvEnd;
 use crate::held::object_of;
 use crate::rooms::write_octets;
 use crate::session::End;
-use octet_lists::Octets;
 use eap_method::Report;
 use end_objects::Nonces;
+use octet_lists::Octets;
 
 /// The most octets of a Session-Id: those of EAP-PSK's.
 pub const MAX_ID: usize = 33;

@@ -5,9 +5,9 @@ ghost use Rattle.tuvaddri_c.specs.Sent.{after_silence, after_turn};
 ghost use Rattle.tuvaddri_c.specs.Turns.{turn_of, no_turn, cause_number, state_number};
 
 use crate::session::Sent;
-use octet_lists::Packet;
 use eap_method::Step;
 use eap_packet::{Cause, State};
+use octet_lists::Packet;
 
 /// The result of a call.
 #[repr(C)]

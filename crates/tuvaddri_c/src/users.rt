@@ -15,10 +15,10 @@ ghost use Rattle.tuvaddri_c.specs.Users.{has_users, TakesUser};
 use crate::answers::{BAD_KEY, BEGUN, NO_PLACE, number_of_refusal};
 use crate::handle::TuvEnd;
 use crate::session::{End, Known};
-use octet_lists::is_among;
 use eap_method::ServerMethod;
 use end_objects::{ServerObject, Settings, keyed_kinds, user_refusal, users_of};
 use login_setup::{User, Users};
+use octet_lists::is_among;
 use server_machine::{Backend, ServerMachine};
 
 /// A machine that has users: a stand-alone server or a backend.

@@ -4,7 +4,7 @@ use Rattle.std.specs.Prelude.{is_some, IfSome}
 use Rattle.eap_method.specs.Peer.{PeerShown}
 use Rattle.eap_method.specs.Server.{ServerShown}
 use Rattle.eap_world.specs.World.{HasObjects, WorldValue}
-use Rattle.eap_world.specs.declared.world.Methods.{Methods}
+use Rattle.eap_method.specs.declared.values.Methods.{Methods}
 use Rattle.world_commands.specs.Replay.{HasBoth, AreThere, IsReady}
 use Rattle.world_commands.specs.declared.replay.Replay.{Replay}
 

@@ -7,7 +7,7 @@ use Rattle.eap_world.specs.Run.{run_of}
 use Rattle.eap_world.specs.World.{Action, Called, Skipped, WorldNow, WorldOutcome, counts_after, sent_to, sent_by, act_of_call, start_call, act}
 use Rattle.eap_world.specs.World.{world_made, world_start, world_step, world_outcome, run_after}
 use Rattle.eap_world.specs.declared.told.Counts.{Counts}
-use Rattle.eap_world.specs.declared.told.Told.{Told}
+use Rattle.eap_world.specs.declared.told.Brief.{Brief}
 
 counted-events : (c : Counts) (a : Action) → (counts_after c a).events ≡ c.events + 1
 counted-events c (Skipped skip) = refl
@@ -19,11 +19,11 @@ unfolding world_step
 world_step_events w e = counted-events w.counts (act w.parties w.conversations w.sent e).action
 
 -- a world that has started, or taken an event, is one that has started
-pub start_starts : (w after : WorldNow) (told : Told) → world_start w ≡ world_outcome told after → after.started ≡ true
+pub start_starts : (w after : WorldNow) (told : Brief) → world_start w ≡ world_outcome told after → after.started ≡ true
 unfolding world_start
 start_starts w after told e = sym (ap (λ (out : WorldOutcome). out.after.started) e)
 
-pub step_starts : (w after : WorldNow) (e : Event) (told : Told) → world_step w e ≡ world_outcome told after → after.started ≡ true
+pub step_starts : (w after : WorldNow) (e : Event) (told : Brief) → world_step w e ≡ world_outcome told after → after.started ≡ true
 unfolding world_step
 step_starts w after e told same = sym (ap (λ (out : WorldOutcome). out.after.started) same)
 

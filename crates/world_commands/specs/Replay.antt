@@ -6,7 +6,7 @@ use Rattle.login_setup.specs.declared.setup.Setup.{Setup}
 use Rattle.eap_method.specs.Peer.{PeerShown, peer_kinds, have_each}
 use Rattle.eap_method.specs.Server.{ServerShown, server_kinds}
 use Rattle.eap_world.specs.World.{HasObjects, WorldNow, now_of, world_made, world_start, world_step}
-use Rattle.eap_world.specs.declared.world.Methods.{Methods}
+use Rattle.eap_method.specs.declared.values.Methods.{Methods}
 use Rattle.text_tables.specs.Words.{fault_word}
 use Rattle.scenario_text.specs.Reading.{Reading, ReadLine, read_line, finish_of}
 use Rattle.text_tables.specs.declared.fault.LineFault.{LineFault}

@@ -15,12 +15,12 @@ use crate::beginning::world_of;
 use answer_text::write_line;
 use command_driver::{Close, Command, Next, Status, Trouble, drive};
 use eap_method::{PeerMethod, ServerMethod};
-use eap_world::{Methods, Told, World};
+use eap_world::{Brief, Methods, World};
 use login_setup::Event;
 use octet_io::{Failed, Sink, Source};
-use scenario_text::{Item, ScenarioReader};
+use scenario_text::{ItemKind, ScenarioReader};
 use std::alloc::Global;
-use trace_text::{write_end, write_start, write_told};
+use trace_text::{write_end, write_start_brief, write_told_brief};
 
 /// The most events of a scenario.
 const MAX_EVENTS: u32 = 10_000;
@@ -83,11 +83,11 @@ impl<P: PeerMethod, S: ServerMethod> Replay<P, S> {
             None => Ok(Next::Goes),
             Some(methods) => {
                 let mut world = world_of(self.alloc, setup, methods);
-                match world.start() {
+                match world.start_brief() {
                     Ok(told) => {
                         let mode = world.mode();
                         let octets = world.octets_of(&told);
-                        let written = write_start(sink, mode, &told, octets, self.names);
+                        let written = write_start_brief(sink, mode, &told, octets, self.names);
                         self.world = Some(world);
                         match written {
                             Ok(()) => Ok(Next::Goes),
@@ -130,7 +130,7 @@ impl<P: PeerMethod, S: ServerMethod> Replay<P, S> {
                 if world.counts().events >= MAX_EVENTS {
                     return Ok(Next::Refuses("TooMuch", Status::TooMuch));
                 }
-                match world.step(event) {
+                match world.step_brief(event) {
                     Ok(told) => match write_outcome(sink, world, &told, names) {
                         Ok(()) => Ok(Next::Goes),
                         Err(_) => Err(Trouble::Write),
@@ -160,11 +160,11 @@ impl<P: PeerMethod, S: ServerMethod> Command for Replay<P, S> {
     #[tactic(auto, unfolding(crate::specs::Replay::replay_took, crate::specs::Replay::replay_lacks))]
     fn take<W: Sink>(&mut self, sink: &mut W, line: &[u8]) -> Result<Next, Trouble> {
         let mut event = Event::Idle;
-        match self.reader.line(line, &mut event) {
-            Ok(Item::Nothing) => Ok(Next::Goes),
-            Ok(Item::Ready) => self.start(sink),
-            Ok(Item::Event) => self.step(sink, &event),
-            Ok(Item::End) => Ok(Next::Goes),
+        match self.reader.line_into(line, &mut event) {
+            Ok(ItemKind::Nothing) => Ok(Next::Goes),
+            Ok(ItemKind::Ready) => self.start(sink),
+            Ok(ItemKind::Event) => self.step(sink, &event),
+            Ok(ItemKind::End) => Ok(Next::Goes),
             Err(fault) => Ok(Next::Refuses(fault.word(), Status::Refused)),
         }
     }
@@ -182,13 +182,13 @@ impl<P: PeerMethod, S: ServerMethod> Command for Replay<P, S> {
 fn write_outcome<W: Sink, P: PeerMethod, S: ServerMethod>(
     sink: &mut W,
     world: &World<P, S>,
-    told: &Told,
+    told: &Brief,
     names: bool,
 ) -> Result<(), Failed>
     ensures { Appends W.shown result sink.old sink.new
         (told_text names (octets_of_sent world.now.sent told.now.sent) told.now) }
 {
-    write_told(sink, told, world.octets_of(told), names)
+    write_told_brief(sink, told, world.octets_of(told), names)
 }
 
 /// Reads a scenario and writes the trace of its run, with names or without.

@@ -12,7 +12,7 @@ use crate::hearing::hear;
 use crate::peer::login::Begun;
 use crate::peer::offer::Offer;
 use eap_packet::Cause;
-use gpsk_messages::{Gpsk1, GpskView};
+use gpsk_messages::{Gpsk1, GpskMessage};
 use login_policy::pick_suite;
 
 /// GPSK-1 of a server that the peer accepts: the first suite of the list that it allows is picked.
@@ -42,7 +42,7 @@ pub fn fresh_reads<'a>(own: &Begun, body: &'a [u8]) -> Result<Offer<'a>, Cause>
 {
     match hear(body, None) {
         Err(cause) => Err(cause),
-        Ok(GpskView::M1(gpsk1)) => {
+        Ok(GpskMessage::M1(gpsk1)) => {
             if own.cred.accepts.takes(gpsk1.id_s) {
                 pick(own, &gpsk1)
             } else {

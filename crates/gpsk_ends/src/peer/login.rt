@@ -14,10 +14,10 @@ use crate::nonces::Nonces;
 use crate::peer::offer::Offer;
 use crate::records::record;
 use crate::sealing::mac_place;
-use octet_lists::{GPSK_KIND, Identity, Nonce, Octets, Packet, Suite};
 use eap_method::{Credential, Records, Report, TagList};
 use eap_packet::Code;
-use gpsk_messages::{Gpsk2, Gpsk3, Gpsk4, GpskView};
+use gpsk_messages::{Gpsk2, Gpsk3, Gpsk4, GpskMessage};
+use octet_lists::{GPSK_KIND, Identity, Nonce, Octets, Packet, Suite};
 use std::marker::Model;
 
 /// What a peer brings into a login.
@@ -97,7 +97,7 @@ impl Login {
     }
 
     /// Whether a message, which the Type-Data encodes, has the MAC of the login.
-    pub fn is_tagged(&self, view: &GpskView, body: &[u8]) -> bool
+    pub fn is_tagged(&self, view: &GpskMessage, body: &[u8]) -> bool
         requires { IsHeard (message_of view.now) body.now }
         ensures { result ≡ is_tagged_by self.now (message_of view.now) }
     {
@@ -105,7 +105,7 @@ impl Login {
     }
 
     /// Leaves the record of the MAC of a message, which the Type-Data encodes, alone in `accepted`.
-    pub fn accept<R: Records>(&self, view: &GpskView, body: &[u8], accepted: &mut TagList<R>)
+    pub fn accept<R: Records>(&self, view: &GpskMessage, body: &[u8], accepted: &mut TagList<R>)
         requires { IsHeard (message_of view.now) body.now }
         ensures { accepted.new ≡ sk_record self.now.cred.psk (message_of view.now) ∷ [] }
     {
@@ -113,7 +113,13 @@ impl Login {
     }
 
     /// Writes the Response with a message whose MAC is yet to come, with the MAC of the login.
-    fn seal<R: Records>(&self, view: &GpskView, id: u8, packet: &mut Packet, made: &mut TagList<R>)
+    fn seal<R: Records>(
+        &self,
+        view: &GpskMessage,
+        id: u8,
+        packet: &mut Packet,
+        made: &mut TagList<R>,
+    )
         requires fits { size_of (message_of view.now) + 5 ≤ 1493 }
         requires mac { length (mac_of (message_of view.now)) ≡ ks_of self.now.suite }
         ensures packet { packet.new ≡ packet_of code.Response id self.now.suite (keys_of self.now).sk (without_mac (message_of view.now)) }
@@ -133,7 +139,7 @@ impl Login {
         ensures room { HasRoom packet.new }
     {
         let suite = self.keys.suite();
-        let open = GpskView::M2(Gpsk2 {
+        let open = GpskMessage::M2(Gpsk2 {
             id_p: self.own.cred.id_p.as_slice(),
             id_s: self.id_s.as_slice(),
             rand_p: self.own.nonce,
@@ -152,7 +158,7 @@ impl Login {
         ensures record { made.new ≡ sk_record self.now.cred.psk (gpsk4_of self.now) ∷ [] }
         ensures room { HasRoom packet.new }
     {
-        let open = GpskView::M4(Gpsk4 {
+        let open = GpskMessage::M4(Gpsk4 {
             pd: &[],
             mac: mac_place(self.keys.suite()),
         });
@@ -171,7 +177,7 @@ impl Login {
         ensures record { made.new ≡ sk_record self.now.cred.psk (protected_fail_of self.now code) ∷ [] }
         ensures room { HasRoom packet.new }
     {
-        let open = GpskView::ProtectedFail {
+        let open = GpskMessage::ProtectedFail {
             code,
             mac: mac_place(self.keys.suite()),
         };

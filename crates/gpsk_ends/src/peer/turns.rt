@@ -14,7 +14,7 @@ ghost use Rattle.eap_method.specs.Room.{HasRoom, replies};
 ghost use Rattle.gpsk_ends.specs.Heard.{IsHeard};
 ghost use Rattle.gpsk_ends.specs.PeerStage.{view_in, view_of, outcome_with};
 ghost use Rattle.gpsk_ends.specs.declared.peer.stage.Phase.TheVariants.{Wait};
-ghost use Rattle.eap_method.specs.declared.turn.PeerTurn.TheVariants.{Reply};
+ghost use Rattle.eap_method.specs.declared.turn.PeerAnswer.TheVariants.{Reply};
 ghost use Rattle.eap_method.specs.declared.values.MethodState.TheVariants.{Cont};
 ghost use Rattle.eap_method.specs.declared.values.Decision.TheVariants.{Fail};
 
@@ -22,10 +22,10 @@ use crate::hearing::hear;
 use crate::peer::gpsk1::fresh_reads;
 use crate::peer::login::Login;
 use crate::peer::stage::{Phase, Stage};
-use octet_lists::Packet;
-use eap_method::{Decision, MethodState, PeerTurn, Records, Tags};
+use eap_method::{Decision, MethodState, PeerAnswer, Records, Tags};
 use eap_packet::{Cause, Code};
-use gpsk_messages::{GpskView, write_gpsk_into};
+use gpsk_messages::{GpskMessage, write_gpsk_into};
+use octet_lists::Packet;
 
 /// The login's GPSK-1 is answered by GPSK-2. `list` is the CSuite_List of GPSK-1.
 #[tactic(auto, unfolding(eap_method::specs::GpskPeer::answers))]
@@ -35,14 +35,14 @@ fn answer<R: Records>(
     list: &[u8],
     packet: &mut Packet,
     tags: &mut Tags<R>,
-) -> PeerTurn
+) -> PeerAnswer
     requires { length list.now ≤ 120 }
     ensures turn { outcome_with result packet.new tags.new (view_in login.now Wait) ≡ answers login.now id list.now }
     ensures room { HasRoom packet.new }
 {
     tags.accepted.clear();
     login.gpsk2(id, list, packet, &mut tags.made);
-    PeerTurn::Reply {
+    PeerAnswer::Reply {
         state: MethodState::Cont,
         decision: Decision::Fail,
     }
@@ -55,11 +55,11 @@ fn confirm<R: Records>(
     login: &Login,
     phase: &mut Phase,
     id: u8,
-    view: &GpskView,
+    view: &GpskMessage,
     body: &[u8],
     packet: &mut Packet,
     tags: &mut Tags<R>,
-) -> PeerTurn
+) -> PeerAnswer
     requires heard { IsHeard (message_of view.now) body.now }
     requires waits { phase.old ≡ Wait }
     ensures turn { outcome_with result packet.new tags.new (view_in login.now phase.new)
@@ -67,12 +67,12 @@ fn confirm<R: Records>(
     ensures room { replies result ≡ true → HasRoom packet.new }
 {
     if !login.is_tagged(view, body) {
-        return PeerTurn::Discard(Cause::BadTag);
+        return PeerAnswer::Discard(Cause::BadTag);
     }
     login.accept(view, body, &mut tags.accepted);
     login.gpsk4(id, packet, &mut tags.made);
     *phase = Phase::Over { good: true };
-    PeerTurn::Reply {
+    PeerAnswer::Reply {
         state: MethodState::Done,
         decision: Decision::CondSucc,
     }
@@ -86,14 +86,14 @@ fn repeat_fail<R: Records>(
     code: u32,
     packet: &mut Packet,
     tags: &mut Tags<R>,
-) -> PeerTurn
+) -> PeerAnswer
     ensures turn { outcome_with result packet.new tags.new (view_in login.now phase.new) ≡ repeats_fail login.now id code }
     ensures room { HasRoom packet.new }
 {
-    write_gpsk_into(packet, &GpskView::Fail { code }, Code::Response, id);
+    write_gpsk_into(packet, &GpskMessage::Fail { code }, Code::Response, id);
     tags.clear();
     *phase = Phase::Over { good: false };
-    PeerTurn::Reply {
+    PeerAnswer::Reply {
         state: MethodState::MayCont,
         decision: Decision::Fail,
     }
@@ -107,11 +107,11 @@ fn repeat_protected<R: Records>(
     phase: &mut Phase,
     id: u8,
     code: u32,
-    view: &GpskView,
+    view: &GpskMessage,
     body: &[u8],
     packet: &mut Packet,
     tags: &mut Tags<R>,
-) -> PeerTurn
+) -> PeerAnswer
     requires heard { IsHeard (message_of view.now) body.now }
     requires waits { phase.old ≡ Wait }
     ensures turn { outcome_with result packet.new tags.new (view_in login.now phase.new)
@@ -119,12 +119,12 @@ fn repeat_protected<R: Records>(
     ensures room { replies result ≡ true → HasRoom packet.new }
 {
     if !login.is_tagged(view, body) {
-        return PeerTurn::Discard(Cause::BadTag);
+        return PeerAnswer::Discard(Cause::BadTag);
     }
     login.accept(view, body, &mut tags.accepted);
     login.protected_fail(id, code, packet, &mut tags.made);
     *phase = Phase::Over { good: false };
-    PeerTurn::Reply {
+    PeerAnswer::Reply {
         state: MethodState::MayCont,
         decision: Decision::Fail,
     }
@@ -140,7 +140,7 @@ fn wait_reads<R: Records>(
     body: &[u8],
     packet: &mut Packet,
     tags: &mut Tags<R>,
-) -> PeerTurn
+) -> PeerAnswer
     requires size { length body.now ≤ max_type_data }
     requires waits { phase.old ≡ Wait }
     ensures turn { outcome_with result packet.new tags.new (view_in login.now phase.new)
@@ -148,20 +148,20 @@ fn wait_reads<R: Records>(
     ensures room { replies result ≡ true → HasRoom packet.new }
 {
     match hear(body, Some(login.suite())) {
-        Err(cause) => PeerTurn::Discard(cause),
+        Err(cause) => PeerAnswer::Discard(cause),
         Ok(view) => match &view {
-            GpskView::M3(gpsk3) => {
+            GpskMessage::M3(gpsk3) => {
                 if login.repeats(gpsk3) {
                     confirm(login, phase, id, &view, body, packet, tags)
                 } else {
-                    PeerTurn::Discard(Cause::FieldMismatch)
+                    PeerAnswer::Discard(Cause::FieldMismatch)
                 }
             }
-            GpskView::Fail { code } => repeat_fail(login, phase, id, *code, packet, tags),
-            GpskView::ProtectedFail { code, .. } => {
+            GpskMessage::Fail { code } => repeat_fail(login, phase, id, *code, packet, tags),
+            GpskMessage::ProtectedFail { code, .. } => {
                 repeat_protected(login, phase, id, *code, &view, body, packet, tags)
             }
-            _ => PeerTurn::Discard(Cause::WrongOp),
+            _ => PeerAnswer::Discard(Cause::WrongOp),
         },
     }
 }
@@ -184,7 +184,7 @@ pub fn hears_request<R: Records>(
     request: &[u8],
     packet: &mut Packet,
     tags: &mut Tags<R>,
-) -> PeerTurn
+) -> PeerAnswer
     requires header { 5 ≤ length request.now }
     requires size { length request.now ≤ max_packet }
     ensures turn { outcome_with result packet.new tags.new (view_of stage.new) ≡ step (view_of stage.old) request.now }
@@ -193,9 +193,9 @@ pub fn hears_request<R: Records>(
     let id = request[1];
     let body = &request[5..];
     match stage {
-        Stage::Unset => PeerTurn::Discard(Cause::WrongOp),
+        Stage::Unset => PeerAnswer::Discard(Cause::WrongOp),
         Stage::Fresh { own } => match fresh_reads(own, body) {
-            Err(cause) => PeerTurn::Discard(cause),
+            Err(cause) => PeerAnswer::Discard(cause),
             Ok(offer) => {
                 let login = Login::new(own, &offer);
                 let turn = answer(&login, id, offer.list, packet, tags);
@@ -206,7 +206,7 @@ pub fn hears_request<R: Records>(
         },
         Stage::Login { login, phase } => match phase {
             Phase::Wait => wait_reads(login, phase, id, body, packet, tags),
-            Phase::Over { good } => PeerTurn::Discard(over_cause(login, *good, body)),
+            Phase::Over { good } => PeerAnswer::Discard(over_cause(login, *good, body)),
         },
     }
 }

@@ -12,16 +12,16 @@ ghost use Rattle.eap_method.specs.declared.values.ServerSide.{ServerSide};
 ghost use Rattle.eap_method.specs.Room.{HasRoom, requests};
 ghost use Rattle.gpsk_ends.specs.Heard.{IsHeard};
 ghost use Rattle.gpsk_ends.specs.ServerStage.{outcome_with, view_in, view_of};
-ghost use Rattle.eap_method.specs.declared.turn.ServerTurn.TheVariants.{Request};
+ghost use Rattle.eap_method.specs.declared.turn.ServerAnswer.TheVariants.{Request};
 
 use crate::hearing::hear;
 use crate::server::login::Login;
 use crate::server::stage::{Alone, Phase, Stage};
-use octet_lists::{GPSK_KIND, Packet};
-use eap_method::{Records, ServerTurn, Tags};
+use eap_method::{Records, ServerAnswer, Tags};
 use eap_packet::{Cause, Code};
-use gpsk_messages::{GpskView, write_gpsk_into};
+use gpsk_messages::{GpskMessage, write_gpsk_into};
 use login_setup::{User, Users};
+use octet_lists::{GPSK_KIND, Packet};
 
 /// Failure-Code PSK Not Found (RFC 5433 section 9.3).
 pub const PSK_NOT_FOUND: u32 = 1;
@@ -33,7 +33,7 @@ fn refuse<R: Records>(next_id: u8, packet: &mut Packet, tags: &mut Tags<R>)
         outcome_with Request packet.new tags.new (refusing own nonce) ≡ refuses own nonce next_id }
     ensures room { HasRoom packet.new }
 {
-    let message = GpskView::Fail {
+    let message = GpskMessage::Fail {
         code: PSK_NOT_FOUND,
     };
     write_gpsk_into(packet, &message, Code::Request, next_id);
@@ -46,7 +46,7 @@ fn answer<R: Records>(
     login: &Login,
     barred: bool,
     next_id: u8,
-    view: &GpskView,
+    view: &GpskMessage,
     body: &[u8],
     packet: &mut Packet,
     tags: &mut Tags<R>,
@@ -81,12 +81,12 @@ fn find_user<'a>(users: &'a Users, id_p: &[u8]) -> Option<&'a User>
 fn asked_hears<R: Records>(
     stage: &mut Stage,
     next_id: u8,
-    view: &GpskView,
+    view: &GpskMessage,
     body: &[u8],
     users: &Users,
     packet: &mut Packet,
     tags: &mut Tags<R>,
-) -> ServerTurn
+) -> ServerAnswer
     requires heard { IsHeard (message_of view.now) body.now }
     requires keys { All (λ user. IsTrue (fits_kind user.kind user.psk)) users.now }
     ensures turn { (own : ServerSide) (nonce : List ℕ) → view_of stage.old ≡ asked own nonce
@@ -94,29 +94,29 @@ fn asked_hears<R: Records>(
     ensures room { requests result ≡ true → HasRoom packet.new }
 {
     let Stage::Alone { own, phase } = stage else {
-        return ServerTurn::Discard(Cause::WrongOp);
+        return ServerAnswer::Discard(Cause::WrongOp);
     };
-    let GpskView::M2(gpsk2) = view else {
-        return ServerTurn::Discard(Cause::WrongOp);
+    let GpskMessage::M2(gpsk2) = view else {
+        return ServerAnswer::Discard(Cause::WrongOp);
     };
     if !own.repeats(gpsk2) {
-        return ServerTurn::Discard(Cause::FieldMismatch);
+        return ServerAnswer::Discard(Cause::FieldMismatch);
     }
     if !own.offers(gpsk2.suite) {
-        return ServerTurn::Discard(Cause::SuiteNotOffered);
+        return ServerAnswer::Discard(Cause::SuiteNotOffered);
     }
     let Some(user) = find_user(users, gpsk2.id_p) else {
         refuse(next_id, packet, tags);
         *phase = Alone::Refusing;
-        return ServerTurn::Request;
+        return ServerAnswer::Request;
     };
     let login = Login::new(own, gpsk2, user);
     if !login.is_tagged(view, body) {
-        return ServerTurn::Discard(Cause::BadTag);
+        return ServerAnswer::Discard(Cause::BadTag);
     }
     let phase = answer(&login, user.barred, next_id, view, body, packet, tags);
     *stage = Stage::Login { login, phase };
-    ServerTurn::Request
+    ServerAnswer::Request
 }
 
 /// The Type-Data at a server that has sent GPSK-1.
@@ -127,7 +127,7 @@ pub fn asked_reads<R: Records>(
     users: &Users,
     packet: &mut Packet,
     tags: &mut Tags<R>,
-) -> ServerTurn
+) -> ServerAnswer
     requires size { length body.now ≤ max_type_data }
     requires keys { All (λ user. IsTrue (fits_kind user.kind user.psk)) users.now }
     ensures turn { (own : ServerSide) (nonce : List ℕ) → view_of stage.old ≡ asked own nonce
@@ -135,7 +135,7 @@ pub fn asked_reads<R: Records>(
     ensures room { requests result ≡ true → HasRoom packet.new }
 {
     match hear(body, None) {
-        Err(cause) => ServerTurn::Discard(cause),
+        Err(cause) => ServerAnswer::Discard(cause),
         Ok(view) => asked_hears(stage, next_id, &view, body, users, packet, tags),
     }
 }

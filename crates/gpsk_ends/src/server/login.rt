@@ -15,11 +15,11 @@ use crate::keys::Keys;
 use crate::nonces::Nonces;
 use crate::records::record;
 use crate::sealing::mac_place;
-use octet_lists::{GPSK_KIND, Identity, Nonce, Octets, Packet, Secret, Suite};
 use eap_method::{Records, Report, ServerSide, TagList};
 use eap_packet::Code;
-use gpsk_messages::{Gpsk1, Gpsk2, Gpsk3, GpskView, write_gpsk_into};
+use gpsk_messages::{Gpsk1, Gpsk2, Gpsk3, GpskMessage, write_gpsk_into};
 use login_setup::User;
+use octet_lists::{GPSK_KIND, Identity, Nonce, Octets, Packet, Secret, Suite};
 use std::marker::Model;
 
 /// Failure-Code Authorization Failure (RFC 5433 section 9.3).
@@ -56,7 +56,7 @@ impl Begun {
         ensures room { HasRoom packet.new }
     {
         let list = self.suite_list();
-        let message = GpskView::M1(Gpsk1 {
+        let message = GpskMessage::M1(Gpsk1 {
             id_s: self.side.id_s.as_slice(),
             rand_s: self.nonce,
             list: list.as_slice(),
@@ -152,7 +152,7 @@ impl Login {
     }
 
     /// Whether a message, which the Type-Data encodes, has the MAC of the login.
-    pub fn is_tagged(&self, view: &GpskView, body: &[u8]) -> bool
+    pub fn is_tagged(&self, view: &GpskMessage, body: &[u8]) -> bool
         requires { IsHeard (message_of view.now) body.now }
         ensures { result ≡ is_tagged_by self.now (message_of view.now) }
     {
@@ -160,7 +160,7 @@ impl Login {
     }
 
     /// Leaves the record of the MAC of a message, which the Type-Data encodes, alone in `accepted`.
-    pub fn accept<R: Records>(&self, view: &GpskView, body: &[u8], accepted: &mut TagList<R>)
+    pub fn accept<R: Records>(&self, view: &GpskMessage, body: &[u8], accepted: &mut TagList<R>)
         requires { IsHeard (message_of view.now) body.now }
         ensures { accepted.new ≡ sk_record self.now.psk (message_of view.now) ∷ [] }
     {
@@ -168,7 +168,13 @@ impl Login {
     }
 
     /// Writes the Request with a message whose MAC is yet to come, with the MAC of the login.
-    fn seal<R: Records>(&self, view: &GpskView, id: u8, packet: &mut Packet, made: &mut TagList<R>)
+    fn seal<R: Records>(
+        &self,
+        view: &GpskMessage,
+        id: u8,
+        packet: &mut Packet,
+        made: &mut TagList<R>,
+    )
         requires fits { size_of (message_of view.now) + 5 ≤ 1493 }
         requires mac { length (mac_of (message_of view.now)) ≡ ks_of self.now.suite }
         ensures packet { packet.new ≡ packet_of code.Request id self.now.suite (keys_of self.now).sk (without_mac (message_of view.now)) }
@@ -186,7 +192,7 @@ impl Login {
         ensures room { HasRoom packet.new }
     {
         let suite = self.keys.suite();
-        let open = GpskView::M3(Gpsk3 {
+        let open = GpskMessage::M3(Gpsk3 {
             rand_p: self.rand_p,
             rand_s: self.own.nonce,
             id_s: self.own.side.id_s.as_slice(),
@@ -203,7 +209,7 @@ impl Login {
         ensures record { made.new ≡ sk_record self.now.psk (bars_with self.now) ∷ [] }
         ensures room { HasRoom packet.new }
     {
-        let open = GpskView::ProtectedFail {
+        let open = GpskMessage::ProtectedFail {
             code: AUTHORIZATION_FAILURE,
             mac: mac_place(self.keys.suite()),
         };

@@ -22,11 +22,11 @@ use crate::hearing::hear;
 use crate::server::gpsk2::{PSK_NOT_FOUND, asked_reads};
 use crate::server::login::{AUTHORIZATION_FAILURE, Login};
 use crate::server::stage::{Alone, Phase, Stage};
-use octet_lists::{Packet, Suite};
-use eap_method::{Records, ServerTurn, Tags};
+use eap_method::{Records, ServerAnswer, Tags};
 use eap_packet::Cause;
-use gpsk_messages::GpskView;
+use gpsk_messages::GpskMessage;
 use login_setup::Users;
+use octet_lists::{Packet, Suite};
 
 /// The first Request of a server that has begun. Any other makes an empty packet, and stays as it is.
 #[tactic(auto, unfolding(eap_method::specs::GpskServer::first_step))]
@@ -48,24 +48,24 @@ pub fn ask(stage: &mut Stage, id: u8, packet: &mut Packet)
 
 /// The Type-Data at a server that has sent GPSK-Fail: the same failure ends the method. `FieldMismatch`:
 /// it is another.
-fn refusing_reads<R: Records>(body: &[u8], phase: &mut Alone, tags: &mut Tags<R>) -> ServerTurn
+fn refusing_reads<R: Records>(body: &[u8], phase: &mut Alone, tags: &mut Tags<R>) -> ServerAnswer
     requires size { length body.now ≤ max_type_data }
     requires awaits { phase.old ≡ Refusing }
     ensures { (own : ServerSide) (nonce packet : List ℕ) →
         outcome_with result packet tags.new (view_alone own nonce phase.new) ≡ refusing_reads own nonce (read_of None body.now) }
 {
     match hear(body, None) {
-        Err(cause) => ServerTurn::Discard(cause),
-        Ok(GpskView::Fail { code }) => {
+        Err(cause) => ServerAnswer::Discard(cause),
+        Ok(GpskMessage::Fail { code }) => {
             if code == PSK_NOT_FOUND {
                 tags.clear();
                 *phase = Alone::Refused;
-                ServerTurn::Done { success: false }
+                ServerAnswer::Done { success: false }
             } else {
-                ServerTurn::Discard(Cause::FieldMismatch)
+                ServerAnswer::Discard(Cause::FieldMismatch)
             }
         }
-        Ok(_) => ServerTurn::Discard(Cause::WrongOp),
+        Ok(_) => ServerAnswer::Discard(Cause::WrongOp),
     }
 }
 
@@ -74,10 +74,10 @@ fn end<R: Records>(
     login: &Login,
     phase: &mut Phase,
     success: bool,
-    view: &GpskView,
+    view: &GpskMessage,
     body: &[u8],
     tags: &mut Tags<R>,
-) -> ServerTurn
+) -> ServerAnswer
     requires { IsHeard (message_of view.now) body.now }
     ensures { (packet : List ℕ) →
         outcome_with result packet tags.new (view_in login.now phase.new)
@@ -86,7 +86,7 @@ fn end<R: Records>(
     login.accept(view, body, &mut tags.accepted);
     tags.made.clear();
     *phase = Phase::Over { good: success };
-    ServerTurn::Done { success }
+    ServerAnswer::Done { success }
 }
 
 /// The Type-Data at a server that has sent GPSK-Protected-Fail: the same failure ends the method.
@@ -97,25 +97,25 @@ fn barring_reads<R: Records>(
     phase: &mut Phase,
     body: &[u8],
     tags: &mut Tags<R>,
-) -> ServerTurn
+) -> ServerAnswer
     requires size { length body.now ≤ max_type_data }
     requires awaits { phase.old ≡ Barring }
     ensures { (packet : List ℕ) →
         outcome_with result packet tags.new (view_in login.now phase.new) ≡ barring_reads login.now (read_of (Some (ks_of login.now.suite)) body.now) }
 {
     match hear(body, Some(login.suite())) {
-        Err(cause) => ServerTurn::Discard(cause),
+        Err(cause) => ServerAnswer::Discard(cause),
         Ok(view) => match view {
-            GpskView::ProtectedFail { code, .. } => {
+            GpskMessage::ProtectedFail { code, .. } => {
                 if code != AUTHORIZATION_FAILURE {
-                    ServerTurn::Discard(Cause::FieldMismatch)
+                    ServerAnswer::Discard(Cause::FieldMismatch)
                 } else if login.is_tagged(&view, body) {
                     end(login, phase, false, &view, body, tags)
                 } else {
-                    ServerTurn::Discard(Cause::BadTag)
+                    ServerAnswer::Discard(Cause::BadTag)
                 }
             }
-            _ => ServerTurn::Discard(Cause::WrongOp),
+            _ => ServerAnswer::Discard(Cause::WrongOp),
         },
     }
 }
@@ -128,23 +128,23 @@ fn checked_reads<R: Records>(
     phase: &mut Phase,
     body: &[u8],
     tags: &mut Tags<R>,
-) -> ServerTurn
+) -> ServerAnswer
     requires size { length body.now ≤ max_type_data }
     requires awaits { phase.old ≡ Checked }
     ensures { (packet : List ℕ) →
         outcome_with result packet tags.new (view_in login.now phase.new) ≡ checked_reads login.now (read_of (Some (ks_of login.now.suite)) body.now) }
 {
     match hear(body, Some(login.suite())) {
-        Err(cause) => ServerTurn::Discard(cause),
+        Err(cause) => ServerAnswer::Discard(cause),
         Ok(view) => match view {
-            GpskView::M4(_) => {
+            GpskMessage::M4(_) => {
                 if login.is_tagged(&view, body) {
                     end(login, phase, true, &view, body, tags)
                 } else {
-                    ServerTurn::Discard(Cause::BadTag)
+                    ServerAnswer::Discard(Cause::BadTag)
                 }
             }
-            _ => ServerTurn::Discard(Cause::WrongOp),
+            _ => ServerAnswer::Discard(Cause::WrongOp),
         },
     }
 }
@@ -166,7 +166,7 @@ fn login_reads<R: Records>(
     phase: &mut Phase,
     body: &[u8],
     tags: &mut Tags<R>,
-) -> ServerTurn
+) -> ServerAnswer
     requires { length body.now ≤ max_type_data }
     ensures { (packet : List ℕ) →
         outcome_with result packet tags.new (view_in login.now phase.new)
@@ -175,7 +175,7 @@ fn login_reads<R: Records>(
     match phase {
         Phase::Barring => barring_reads(login, phase, body, tags),
         Phase::Checked => checked_reads(login, phase, body, tags),
-        Phase::Over { .. } => ServerTurn::Discard(idle_cause(Some(login.suite()), body)),
+        Phase::Over { .. } => ServerAnswer::Discard(idle_cause(Some(login.suite()), body)),
     }
 }
 
@@ -188,7 +188,7 @@ pub fn hears_response<R: Records>(
     users: &Users,
     packet: &mut Packet,
     tags: &mut Tags<R>,
-) -> ServerTurn
+) -> ServerAnswer
     requires header { 5 ≤ length response.now }
     requires size { length response.now ≤ max_packet }
     requires keys { All (λ user. IsTrue (fits_kind user.kind user.psk)) users.now }
@@ -197,11 +197,11 @@ pub fn hears_response<R: Records>(
 {
     let body = &response[5..];
     match stage {
-        Stage::Unset => ServerTurn::Discard(Cause::WrongOp),
+        Stage::Unset => ServerAnswer::Discard(Cause::WrongOp),
         Stage::Alone { phase, .. } => match phase {
             Alone::Asked => asked_reads(stage, next_id, body, users, packet, tags),
             Alone::Refusing => refusing_reads(body, phase, tags),
-            Alone::Begun | Alone::Refused => ServerTurn::Discard(idle_cause(None, body)),
+            Alone::Begun | Alone::Refused => ServerAnswer::Discard(idle_cause(None, body)),
         },
         Stage::Login { login, phase } => login_reads(login, phase, body, tags),
     }

@@ -8,9 +8,9 @@ use crate::nonces::Nonces;
 use crate::octets::rand_of;
 use crate::records::{add_mac_p, add_mac_s};
 use cmac_mac::CmacKey;
-use octet_lists::{Identity, Nonce, Octets, PSK_KIND, Secret};
 use eap_method::{Credential, Records, Report, TagList, mac_p, mac_s};
 use login_keys::{PskKeys, PskLong, psk_session};
+use octet_lists::{Identity, Nonce, Octets, PSK_KIND, Secret};
 use psk_messages::Psk1;
 use std::marker::Model;
 

@@ -3,7 +3,7 @@
 ghost use Rattle.std.specs.Prelude.{◌≡◌, ◌≤◌, ◌<◌, [], length, not, true, None, IfOk};
 ghost use Rattle.eap_packet.specs.declared.cause.Cause.TheVariants.{BadTag};
 ghost use Rattle.psk_messages.specs.Message.{psk4, message_of};
-ghost use Rattle.psk_messages.specs.declared.view.PskView.TheVariants.{P3};
+ghost use Rattle.psk_messages.specs.declared.view.PskMessage.TheVariants.{P3};
 ghost use Rattle.eap_method.specs.Room.{HasRoom, replies};
 ghost use Rattle.eap_method.specs.Turns.{fault_if};
 ghost use Rattle.eap_method.specs.PskTags.{psk_response, blank_tag, hidden_octet, result_fault, result_of};
@@ -16,17 +16,17 @@ use crate::channel::{DONE_FAILURE, DONE_SUCCESS, check_result, open, seal_in};
 use crate::peer::login::Login;
 use crate::peer::stage::Phase;
 use crate::records::add_channel;
-use octet_lists::{Packet, equal_in_full};
-use eap_method::{Decision, MethodState, PeerTurn, Records, TagList, Tags};
+use eap_method::{Decision, MethodState, PeerAnswer, Records, TagList, Tags};
 use eap_packet::{Cause, Code};
-use psk_messages::{Channel, Psk3, Psk4, PskView, write_psk_into};
+use octet_lists::{Packet, equal_in_full};
+use psk_messages::{Channel, Psk3, Psk4, PskMessage, write_psk_into};
 
 /// Writes PSK-4 with PCHANNEL still blank.
 fn write_psk4(login: &Login, id: u8, packet: &mut Packet)
     ensures packet { packet.new ≡ psk_response id (psk4 login.now.rand_s 1 blank_tag 0) }
     ensures room { HasRoom packet.new }
 {
-    let message = PskView::P4(Psk4 {
+    let message = PskMessage::P4(Psk4 {
         rand_s: *login.rand_s(),
         channel: Channel {
             nonce: 1,
@@ -59,7 +59,7 @@ fn confirm<R: Records>(
     octet: u8,
     packet: &mut Packet,
     tags: &mut Tags<R>,
-) -> PeerTurn
+) -> PeerAnswer
     requires { tags.old.made ≡ [] }
     ensures turn { outcome_with result packet.new tags.new (in_phase phase.new login.now) ≡ confirms login.now id (result_of octet) tags.old.accepted None }
     ensures room { HasRoom packet.new }
@@ -67,14 +67,14 @@ fn confirm<R: Records>(
     if octet / 64 == DONE_SUCCESS {
         psk4(login, id, DONE_SUCCESS, packet, &mut tags.made);
         *phase = Phase::Over { good: true };
-        PeerTurn::Reply {
+        PeerAnswer::Reply {
             state: MethodState::Done,
             decision: Decision::UncondSucc,
         }
     } else {
         psk4(login, id, DONE_FAILURE, packet, &mut tags.made);
         *phase = Phase::Over { good: false };
-        PeerTurn::Reply {
+        PeerAnswer::Reply {
             state: MethodState::MayCont,
             decision: Decision::Fail,
         }
@@ -138,7 +138,7 @@ pub fn hears_psk3<R: Records>(
     psk3: &Psk3,
     packet: &mut Packet,
     tags: &mut Tags<R>,
-) -> PeerTurn
+) -> PeerAnswer
     requires header { length header.now ≤ 22 }
     requires waits { phase.old ≡ Wait }
     ensures turn { outcome_with result packet.new tags.new (in_phase phase.new login.now)
@@ -146,7 +146,7 @@ pub fn hears_psk3<R: Records>(
     ensures room { replies result ≡ true → HasRoom packet.new }
 {
     match check_psk3(login, header, psk3) {
-        Err(cause) => PeerTurn::Discard(cause),
+        Err(cause) => PeerAnswer::Discard(cause),
         Ok(octet) => {
             tags.clear();
             add_psk3(login, header, psk3, &mut tags.accepted);

@@ -5,7 +5,7 @@ ghost use Rattle.octet_lists.specs.Sizes.{max_name};
 ghost use Rattle.psk_messages.specs.Message.{psk2};
 ghost use Rattle.psk_messages.specs.Reading.{read_of};
 ghost use Rattle.eap_method.specs.Room.{HasRoom, replies};
-ghost use Rattle.eap_method.specs.declared.turn.PeerTurn.TheVariants.{Reply};
+ghost use Rattle.eap_method.specs.declared.turn.PeerAnswer.TheVariants.{Reply};
 ghost use Rattle.eap_method.specs.declared.values.MethodState.TheVariants.{Cont};
 ghost use Rattle.eap_method.specs.declared.values.Decision.TheVariants.{Fail};
 ghost use Rattle.eap_method.specs.Turns.{id_of, body_of};
@@ -18,10 +18,10 @@ use crate::octets::{header_of, idle_cause, message_in};
 use crate::peer::login::{Begun, Login};
 use crate::peer::psk4::hears_psk3;
 use crate::peer::stage::{Phase, Stage};
-use octet_lists::Packet;
-use eap_method::{Decision, MethodState, PeerTurn, Records, Tags};
+use eap_method::{Decision, MethodState, PeerAnswer, Records, Tags};
 use eap_packet::{Cause, Code};
-use psk_messages::{Psk1, Psk2, PskView, write_psk_into};
+use octet_lists::Packet;
+use psk_messages::{Psk1, Psk2, PskMessage, write_psk_into};
 
 /// A Request at a peer that has begun: PSK-1 of a server that it accepts. `UnknownServer`: it doesn't
 /// accept the server's name.
@@ -33,7 +33,7 @@ fn fresh_reads<'a>(own: &Begun, request: &'a [u8]) -> Result<Psk1<'a>, Cause>
 {
     match message_in(request) {
         Err(cause) => Err(cause),
-        Ok(PskView::P1(psk1)) => {
+        Ok(PskMessage::P1(psk1)) => {
             if own.cred.accepts.takes(psk1.id_s) {
                 Ok(psk1)
             } else {
@@ -49,7 +49,7 @@ fn write_psk2(login: &Login, id: u8, mac: &[u8; 16], packet: &mut Packet)
     ensures packet { packet.new ≡ psk_response id (psk2 login.now.rand_s (rand_p_of login.now) mac.now login.now.cred.id_p) }
     ensures room { HasRoom packet.new }
 {
-    let message = PskView::P2(Psk2 {
+    let message = PskMessage::P2(Psk2 {
         rand_s: *login.rand_s(),
         rand_p: login.rand_p(),
         mac: *mac,
@@ -60,7 +60,7 @@ fn write_psk2(login: &Login, id: u8, mac: &[u8; 16], packet: &mut Packet)
 
 /// The login's PSK-1 is answered by PSK-2.
 #[tactic(auto, unfolding(eap_method::specs::PskPeer::answers))]
-fn answer<R: Records>(login: &Login, id: u8, packet: &mut Packet, tags: &mut Tags<R>) -> PeerTurn
+fn answer<R: Records>(login: &Login, id: u8, packet: &mut Packet, tags: &mut Tags<R>) -> PeerAnswer
     ensures turn { outcome_with result packet.new tags.new (wait login.now) ≡ answers login.now id }
     ensures room { HasRoom packet.new }
 {
@@ -68,7 +68,7 @@ fn answer<R: Records>(login: &Login, id: u8, packet: &mut Packet, tags: &mut Tag
     write_psk2(login, id, &mac, packet);
     tags.clear();
     login.add_mac_p(&mut tags.made, &mac);
-    PeerTurn::Reply {
+    PeerAnswer::Reply {
         state: MethodState::Cont,
         decision: Decision::Fail,
     }
@@ -81,7 +81,7 @@ fn wait_reads<R: Records>(
     request: &[u8],
     packet: &mut Packet,
     tags: &mut Tags<R>,
-) -> PeerTurn
+) -> PeerAnswer
     requires size { 5 ≤ length request.now }
     requires waits { phase.old ≡ Wait }
     ensures turn { outcome_with result packet.new tags.new (in_phase phase.new login.now)
@@ -89,12 +89,12 @@ fn wait_reads<R: Records>(
     ensures room { replies result ≡ true → HasRoom packet.new }
 {
     match message_in(request) {
-        Err(cause) => PeerTurn::Discard(cause),
-        Ok(PskView::P3(psk3)) => {
+        Err(cause) => PeerAnswer::Discard(cause),
+        Ok(PskMessage::P3(psk3)) => {
             let header = header_of(request);
             hears_psk3(login, phase, request[1], header, &psk3, packet, tags)
         }
-        Ok(_) => PeerTurn::Discard(Cause::WrongOp),
+        Ok(_) => PeerAnswer::Discard(Cause::WrongOp),
     }
 }
 
@@ -105,15 +105,15 @@ pub fn hears_request<R: Records>(
     request: &[u8],
     packet: &mut Packet,
     tags: &mut Tags<R>,
-) -> PeerTurn
+) -> PeerAnswer
     requires { 5 ≤ length request.now }
     ensures turn { outcome_with result packet.new tags.new (view_of stage.new) ≡ step (view_of stage.old) request.now }
     ensures room { replies result ≡ true → HasRoom packet.new }
 {
     match stage {
-        Stage::Unset => PeerTurn::Discard(Cause::WrongOp),
+        Stage::Unset => PeerAnswer::Discard(Cause::WrongOp),
         Stage::Fresh { own } => match fresh_reads(own, request) {
-            Err(cause) => PeerTurn::Discard(cause),
+            Err(cause) => PeerAnswer::Discard(cause),
             Ok(psk1) => {
                 let login = Login::new(own, &psk1);
                 let turn = answer(&login, request[1], packet, tags);
@@ -124,7 +124,7 @@ pub fn hears_request<R: Records>(
         },
         Stage::Known { login, phase } => match phase {
             Phase::Wait => wait_reads(login, phase, request, packet, tags),
-            Phase::Over { .. } => PeerTurn::Discard(idle_cause(request)),
+            Phase::Over { .. } => PeerAnswer::Discard(idle_cause(request)),
         },
     }
 }

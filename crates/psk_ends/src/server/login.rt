@@ -12,10 +12,10 @@ use crate::nonces::Nonces;
 use crate::octets::rand_of;
 use crate::records::{add_mac_p, add_mac_s};
 use cmac_mac::CmacKey;
-use octet_lists::{Identity, Nonce, Octets, PSK_KIND, Secret};
 use eap_method::{Records, Report, ServerSide, TagList, mac_p, mac_s};
 use login_keys::{PskKeys, psk_session};
 use login_setup::User;
+use octet_lists::{Identity, Nonce, Octets, PSK_KIND, Secret};
 use psk_messages::Psk2;
 use std::marker::Model;
 

@@ -7,7 +7,7 @@ ghost use Rattle.login_setup.specs.Setup.{fits_kind};
 ghost use Rattle.login_setup.specs.Users.{user_of};
 ghost use Rattle.psk_messages.specs.Message.{psk3};
 ghost use Rattle.psk_messages.specs.Reading.{read_of};
-ghost use Rattle.eap_method.specs.declared.turn.ServerTurn.TheVariants.{Request};
+ghost use Rattle.eap_method.specs.declared.turn.ServerAnswer.TheVariants.{Request};
 ghost use Rattle.eap_method.specs.Room.{HasRoom};
 ghost use Rattle.eap_method.specs.Turns.{body_of};
 ghost use Rattle.eap_method.specs.PskTags.{psk_request, blank_tag};
@@ -19,19 +19,19 @@ use crate::keys::long_keys;
 use crate::octets::{message_in, rand_of};
 use crate::server::login::{Begun, Login, UserPsk2};
 use cmac_mac::CmacKey;
-use octet_lists::{PSK_KIND, Packet, equal_in_full};
 use eap_method::{Records, TagList, Tags};
 use eap_packet::{Cause, Code};
 use login_keys::PskLong;
 use login_setup::{User, Users};
-use psk_messages::{Channel, Psk2, Psk3, PskView, write_psk_into};
+use octet_lists::{PSK_KIND, Packet, equal_in_full};
+use psk_messages::{Channel, Psk2, Psk3, PskMessage, write_psk_into};
 
 /// Writes PSK-3 with this MAC_S, PCHANNEL still blank.
 fn write_psk3(login: &Login, id: u8, mac: &[u8; 16], packet: &mut Packet)
     ensures packet { packet.new ≡ psk_request id (psk3 (rand_s_of login.now) mac.now 0 blank_tag 0) }
     ensures room { HasRoom packet.new }
 {
-    let message = PskView::P3(Psk3 {
+    let message = PskMessage::P3(Psk3 {
         rand_s: login.rand_s(),
         mac: *mac,
         channel: Channel {
@@ -124,7 +124,7 @@ pub fn asked_reads<'a>(
 {
     match message_in(response) {
         Err(cause) => Err(cause),
-        Ok(PskView::P2(psk2)) => {
+        Ok(PskMessage::P2(psk2)) => {
             if psk2.rand_s.as_slice() == rand_of(&own.nonce).as_slice() {
                 find(own, &psk2, users)
             } else {

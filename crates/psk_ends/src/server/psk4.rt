@@ -3,7 +3,7 @@
 ghost use Rattle.std.specs.Prelude.{◌≡◌, ℕ, ◌≤◌, List, ◌∷◌, [], length, not, IfOk};
 ghost use Rattle.eap_packet.specs.declared.cause.Cause.TheVariants.{BadTag};
 ghost use Rattle.psk_messages.specs.Message.{message_of};
-ghost use Rattle.psk_messages.specs.declared.view.PskView.TheVariants.{P4};
+ghost use Rattle.psk_messages.specs.declared.view.PskMessage.TheVariants.{P4};
 ghost use Rattle.eap_method.specs.Turns.{fault_if};
 ghost use Rattle.eap_method.specs.PskTags.{hidden_octet, is_sealed, result_fault, result_of, tek_record};
 ghost use Rattle.eap_method.specs.PskServer.{keys_of, psk4_fault, both_succeed, checked_hears};
@@ -15,7 +15,7 @@ use crate::channel::{DONE_SUCCESS, check_result, open};
 use crate::records::add_channel;
 use crate::server::login::Login;
 use crate::server::stage::KnownPhase;
-use eap_method::{Records, ServerTurn, TagList, Tags};
+use eap_method::{Records, ServerAnswer, TagList, Tags};
 use eap_packet::Cause;
 use psk_messages::Psk4;
 
@@ -77,20 +77,20 @@ pub fn hears_psk4<R: Records>(
     header: &[u8],
     psk4: &Psk4,
     tags: &mut Tags<R>,
-) -> ServerTurn
+) -> ServerAnswer
     requires header { length header.now ≤ 22 }
     requires awaits { phase.old ≡ Checked }
     ensures { (packet : List ℕ) → outcome_with result packet tags.new (in_known phase.new login.now)
         ≡ checked_hears login.now header.now (message_of (P4 psk4.now)) }
 {
     match check_psk4(login, header, psk4) {
-        Err(cause) => ServerTurn::Discard(cause),
+        Err(cause) => ServerAnswer::Discard(cause),
         Ok(octet) => {
             tags.clear();
             add_psk4(login, header, psk4, &mut tags.accepted);
             let success = end(login, octet);
             *phase = KnownPhase::Over { success };
-            ServerTurn::Done { success }
+            ServerAnswer::Done { success }
         }
     }
 }

@@ -15,11 +15,11 @@ use crate::server::login::{Begun, Login};
 use crate::server::psk3::{answer, asked_reads};
 use crate::server::psk4::hears_psk4;
 use crate::server::stage::{EarlyPhase, KnownPhase, Stage};
-use octet_lists::Packet;
-use eap_method::{Records, ServerTurn, Tags};
+use eap_method::{Records, ServerAnswer, Tags};
 use eap_packet::{Cause, Code};
 use login_setup::Users;
-use psk_messages::{Psk1, PskView, write_psk_into};
+use octet_lists::Packet;
+use psk_messages::{Psk1, PskMessage, write_psk_into};
 
 /// Writes PSK-1 (RFC 4764 section 5.1).
 #[tactic(auto, unfolding(eap_method::specs::PskServer::first))]
@@ -27,7 +27,7 @@ fn write_psk1(own: &Begun, id: u8, packet: &mut Packet)
     ensures first { packet.new ≡ first own.now.side own.now.nonce id }
     ensures room { HasRoom packet.new }
 {
-    let message = PskView::P1(Psk1 {
+    let message = PskMessage::P1(Psk1 {
         rand_s: rand_of(&own.nonce),
         id_s: own.side.id_s.as_slice(),
     });
@@ -59,16 +59,16 @@ fn checked_reads<R: Records>(
     phase: &mut KnownPhase,
     response: &[u8],
     tags: &mut Tags<R>,
-) -> ServerTurn
+) -> ServerAnswer
     requires size { 5 ≤ length response.now }
     requires awaits { phase.old ≡ Checked }
     ensures { (packet : List ℕ) → outcome_with result packet tags.new (in_known phase.new login.now)
         ≡ checked_reads login.now (header_of response.now) (read_of (body_of response.now)) }
 {
     match message_in(response) {
-        Err(cause) => ServerTurn::Discard(cause),
-        Ok(PskView::P4(psk4)) => hears_psk4(login, phase, header_of(response), &psk4, tags),
-        Ok(_) => ServerTurn::Discard(Cause::WrongOp),
+        Err(cause) => ServerAnswer::Discard(cause),
+        Ok(PskMessage::P4(psk4)) => hears_psk4(login, phase, header_of(response), &psk4, tags),
+        Ok(_) => ServerAnswer::Discard(Cause::WrongOp),
     }
 }
 
@@ -81,21 +81,21 @@ pub fn hears_response<R: Records>(
     users: &Users,
     packet: &mut Packet,
     tags: &mut Tags<R>,
-) -> ServerTurn
+) -> ServerAnswer
     requires size { 5 ≤ length response.now }
     requires keys { All (λ user. IsTrue (fits_kind user.kind user.psk)) users.now }
     ensures turn { outcome_with result packet.new tags.new (view_of stage.new) ≡ step users.now next_id (view_of stage.old) response.now }
     ensures room { requests result ≡ true → HasRoom packet.new }
 {
     match stage {
-        Stage::Unset => ServerTurn::Discard(Cause::WrongOp),
+        Stage::Unset => ServerAnswer::Discard(Cause::WrongOp),
         Stage::Early { own, phase } => match phase {
             EarlyPhase::Asked => match asked_reads(own, response, users) {
-                Err(cause) => ServerTurn::Discard(cause),
+                Err(cause) => ServerAnswer::Discard(cause),
                 Ok(None) => {
                     tags.clear();
                     *phase = EarlyPhase::Refused;
-                    ServerTurn::Done { success: false }
+                    ServerAnswer::Done { success: false }
                 }
                 Ok(Some(found)) => {
                     let mac = found.psk2.mac;
@@ -103,15 +103,15 @@ pub fn hears_response<R: Records>(
                     answer(&login, &mac, next_id, packet, tags);
                     let phase = KnownPhase::Checked;
                     *stage = Stage::Known { login, phase };
-                    ServerTurn::Request
+                    ServerAnswer::Request
                 }
             },
-            EarlyPhase::Begun => ServerTurn::Discard(idle_cause(response)),
-            EarlyPhase::Refused => ServerTurn::Discard(idle_cause(response)),
+            EarlyPhase::Begun => ServerAnswer::Discard(idle_cause(response)),
+            EarlyPhase::Refused => ServerAnswer::Discard(idle_cause(response)),
         },
         Stage::Known { login, phase } => match phase {
             KnownPhase::Checked => checked_reads(login, phase, response, tags),
-            KnownPhase::Over { .. } => ServerTurn::Discard(idle_cause(response)),
+            KnownPhase::Over { .. } => ServerAnswer::Discard(idle_cause(response)),
         },
     }
 }

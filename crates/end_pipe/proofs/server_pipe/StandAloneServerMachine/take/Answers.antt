@@ -8,25 +8,25 @@ use Rattle.end_pipe.proofs.server_pipe.StandAloneServerMachine.take.Goals as goa
 pub invariant_of-self : goal.invariant_of-self
 invariant_of-self g c =
     let shown = g.M.ServerMethod.server_shown in
-    (still_serves (now_of shown c.self.inside.machine) (now_of shown c.deliver.new.self) (Some (octets c.as_slice.result.now)) _ c.deliver.ensures.step
+    (still_serves (now_of shown c.self.inside.machine) (now_of shown c.deliver_step.new.self) (Some (octets c.as_slice.result.now)) _ c.deliver_step.ensures.step
     (record { role = c.self.invariant; started = rw c.self.view_is c.requires.going })).role
 
 pub returns-in-Octets-clause-going : goal.returns-in-Octets-clause-going
 returns-in-Octets-clause-going g c =
     let shown = g.M.ServerMethod.server_shown in
-    (still_serves (now_of shown c.self.inside.machine) (now_of shown c.deliver.new.self) (Some (octets c.as_slice.result.now)) _ c.deliver.ensures.step
+    (still_serves (now_of shown c.self.inside.machine) (now_of shown c.deliver_step.new.self) (Some (octets c.as_slice.result.now)) _ c.deliver_step.ensures.step
     (record { role = c.self.invariant; started = rw c.self.view_is c.requires.going })).started
 
 pub invariant_of-self-in-Timeout : goal.invariant_of-self-in-Timeout
 invariant_of-self-in-Timeout g c =
     let shown = g.M.ServerMethod.server_shown in
-    (timer_serves (now_of shown c.self.inside.machine) (now_of shown c.timeout.new.self) _
-    (rw c.self.view_is (rw c.in-Timeout.is at c.requires.heard)) c.timeout.ensures.step
+    (timer_serves (now_of shown c.self.inside.machine) (now_of shown c.timeout_step.new.self) _
+    (rw c.self.view_is (rw c.in-Timeout.is at c.requires.heard)) c.timeout_step.ensures.step
     (record { role = c.self.invariant; started = rw c.self.view_is c.requires.going })).role
 
 pub returns-in-Timeout-clause-going : goal.returns-in-Timeout-clause-going
 returns-in-Timeout-clause-going g c =
     let shown = g.M.ServerMethod.server_shown in
-    (timer_serves (now_of shown c.self.inside.machine) (now_of shown c.timeout.new.self) _
-    (rw c.self.view_is (rw c.in-Timeout.is at c.requires.heard)) c.timeout.ensures.step
+    (timer_serves (now_of shown c.self.inside.machine) (now_of shown c.timeout_step.new.self) _
+    (rw c.self.view_is (rw c.in-Timeout.is at c.requires.heard)) c.timeout_step.ensures.step
     (record { role = c.self.invariant; started = rw c.self.view_is c.requires.going })).started

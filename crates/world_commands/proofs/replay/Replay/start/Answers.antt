@@ -12,6 +12,6 @@ pub returns-in-Ok-written-clause-ready_after : goal.returns-in-Ok-written-clause
 returns-in-Ok-written-clause-ready_after g c =
     let peer_shown = g.P.PeerMethod.peer_shown in
     let server_shown = g.S.ServerMethod.server_shown in
-    ready_in peer_shown server_shown _ c.start.new.self refl
-    (start_starts _ (now_of peer_shown server_shown c.start.new.self) c.in-Ok-start.told c.in-Ok-start.ensures.told)
-    c.start.ensures.objects
+    ready_in peer_shown server_shown _ c.start_brief.new.self refl
+    (start_starts _ (now_of peer_shown server_shown c.start_brief.new.self) c.in-Ok-start_brief.told c.in-Ok-start_brief.ensures.told)
+    c.start_brief.ensures.objects

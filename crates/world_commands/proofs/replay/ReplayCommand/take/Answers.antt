@@ -16,7 +16,7 @@ pub returns-in-Ok-Ready-clause-answers : goal.returns-in-Ok-Ready-clause-answers
 unfolding replay_took replay_lacks
 returns-in-Ok-Ready-clause-answers g c =
     let seen = seen_of g.P.PeerMethod.peer_shown g.S.ServerMethod.server_shown in
-    let now = c.line.new.self in
+    let now = c.line_into.new.self in
     let Q : Result ReadLine LineFault → Type 0 =
     λ x. AnswersLine g.W.Sink.shown c.start.result c.args.sink.now c.start.new.sink (took_reading (seen c.args.self.now) x) (reading_lacks x) (seen c.start.new.self) in
     from_ready (setup_of now.settings) now (read_line c.args.self.now.reader c.args.line.now) Q (rw c.in-Ok-Ready.field-0-is at c.in-Ok-Ready.ensures.ready) (rw c.in-Ok-Ready.field-0-is at c.in-Ok-Ready.ensures.read) c.start.ensures.answers

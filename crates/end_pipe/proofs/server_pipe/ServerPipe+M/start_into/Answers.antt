@@ -1,5 +1,5 @@
 use Rattle.end_pipe.proofs.Folding.{starts_so}
-use Rattle.end_pipe.proofs.server_pipe.ServerPipe+M.start.Goals as goal
+use Rattle.end_pipe.proofs.server_pipe.ServerPipe+M.start_into.Goals as goal
 
 pub returns-clause-stands : goal.returns-clause-stands
 returns-clause-stands g c setup first_id max_retrans unstarted =

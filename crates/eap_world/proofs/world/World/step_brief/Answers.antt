@@ -1,7 +1,7 @@
 use Rattle.std.proofs.Common.{◌≡◌}
 use Rattle.eap_world.specs.World.{now_of}
 use Rattle.eap_world.proofs.EventByEvent.{run_goes_on}
-use Rattle.eap_world.proofs.world.World.step.Goals as goal
+use Rattle.eap_world.proofs.world.World.step_brief.Goals as goal
 
 pub returns-clause-run : goal.returns-clause-run
 returns-clause-run g c =

@@ -2,7 +2,7 @@
 use Rattle.std.proofs.Common.{◌<◌, arith}
 use Rattle.std.proofs.lemmas.List.Elements.{All-from_get_or}
 use Rattle.psk_messages.proofs.Grammar.{spelled_if_heard, none_if_refused}
-use Rattle.psk_messages.proofs.reading.read_psk.Goals as goal
+use Rattle.psk_messages.proofs.reading.read_psk_message.Goals as goal
 
 pub returns-clause-spelled : goal.returns-clause-spelled
 returns-clause-spelled c =

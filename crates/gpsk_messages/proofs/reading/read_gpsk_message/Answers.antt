@@ -2,7 +2,7 @@
 use Rattle.std.proofs.Common.{◌<◌, arith}
 use Rattle.std.proofs.lemmas.List.Elements.{All-from_get_or}
 use Rattle.gpsk_messages.proofs.Grammar.{spelled_if_heard, refused_if_heard}
-use Rattle.gpsk_messages.proofs.reading.read_gpsk.Goals as goal
+use Rattle.gpsk_messages.proofs.reading.read_gpsk_message.Goals as goal
 
 pub returns-clause-spelled : goal.returns-clause-spelled
 returns-clause-spelled c =
