@@ -7,10 +7,13 @@ ghost use Rattle.world_commands.specs.Replay.{HasBoth};
 
 pub(crate) use command_driver::Status;
 use eap_login::eap_login;
-use eap_world::{Methods, World};
-use end_objects::{PeerObject, ServerObject, all_peers, all_servers};
+use eap_method::Methods;
+use eap_world::World;
+use end_objects::{PeerObject, ServerObject, peer_object, server_object};
+use login_run::methods_of;
 use login_setup::Setup;
 use octet_io::{MemSink, MemSource};
+use octet_lists::{GPSK_KIND, PSK_KIND};
 use std::alloc::{AllocError, Global};
 use world_commands::world_of;
 
@@ -21,10 +24,13 @@ pub(crate) type ObjectWorld = World<PeerObject, ServerObject>;
 fn methods(alloc: Global) -> Result<Methods<PeerObject, ServerObject>, AllocError>
     ensures { IfOk result (HasBoth peer_object_shown server_object_shown) }
 {
-    Ok(Methods {
-        peer: all_peers(alloc)?,
-        server: all_servers(alloc)?,
-    })
+    methods_of(
+        alloc,
+        peer_object(GPSK_KIND),
+        peer_object(PSK_KIND),
+        server_object(GPSK_KIND),
+        server_object(PSK_KIND),
+    )
 }
 
 /// The world of these settings.

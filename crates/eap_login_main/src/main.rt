@@ -1,9 +1,15 @@
 //! Replays EAP logins by shared keys from recorded schedules.
 #![tactic(auto)]
 
-use login_run::run;
-use octet_io::{StdSink, StdSource};
-use std::env;
+use command_driver::Status;
+use eap_method::{PeerMethod, ServerMethod};
+use gpsk_ends::{GpskPeer, GpskServer};
+use login_run::{methods_of, run};
+use octet_io::{Sink, Source, StdSink, StdSource};
+use psk_ends::{PskPeer, PskServer};
+use std::alloc::{AllocError, Global};
+use std::env::{self, Args};
+use std::io;
 use std::process::ExitCode;
 
 /// Answers to its words over standard input and output, neither of which is buffered: the source is read up
@@ -11,5 +17,24 @@ use std::process::ExitCode;
 fn main(rt: HostRuntime) -> ExitCode {
     let mut source = StdSource::new(rt.stdin());
     let mut sink = StdSink::new(rt.stdout());
-    ExitCode::from(run(rt.alloc(), env::args(&rt), &mut source, &mut sink))
+    match run_over_boxes(rt.alloc(), env::args(&rt), &mut source, &mut sink) {
+        Ok(number) => ExitCode::from(number),
+        Err(_) => ExitCode::from(Status::Memory.number()),
+    }
+}
+
+/// Makes an object of each method for each end, in a box, hands them in, and gives the exit status. An `Err` is want of
+/// memory, before anything is read or written.
+fn run_over_boxes<S: Source, W: Sink>(
+    alloc: Global,
+    args: io::Result<Args>,
+    source: &mut S,
+    sink: &mut W,
+) -> Result<u8, AllocError> {
+    let gpsk_peer: Box<dyn PeerMethod> = Box::new(alloc, GpskPeer::new())?;
+    let psk_peer: Box<dyn PeerMethod> = Box::new(alloc, PskPeer::new())?;
+    let gpsk_server: Box<dyn ServerMethod> = Box::new(alloc, GpskServer::new())?;
+    let psk_server: Box<dyn ServerMethod> = Box::new(alloc, PskServer::new())?;
+    let methods = methods_of(alloc, gpsk_peer, psk_peer, gpsk_server, psk_server)?;
+    Ok(run(alloc, args, source, sink, methods))
 }

@@ -9,25 +9,6 @@ use Rattle.login_setup.specs.Setup.{are_kinds, fits_kind}
 use Rattle.eap_method.specs.Peer.{have_each}
 use Rattle.end_objects.specs.Settings.{SettingsValue, all_kinds, kind_if, keyed_kinds, key_for}
 
--- ---- where there is an object of each of them, there is one of each method that settings can name
-
-is_listed : (kind : ℕ) → is_kind kind ≡ true → is_among all_kinds kind ≡ true
-is_listed kind known =
-    elim (or_cases (eqb kind psk_kind) (eqb kind gpsk_kind) known) [
-      | inl is_psk ↦ subst (λ k. is_among all_kinds k ≡ true) (sym (eqb-true kind psk_kind is_psk)) refl
-      | inr is_gpsk ↦ subst (λ k. is_among all_kinds k ≡ true) (sym (eqb-true kind gpsk_kind is_gpsk)) refl
-    ]
-
-are_listed : (kinds : List ℕ) → list_all is_kind kinds ≡ true → have_each all_kinds kinds ≡ true
-are_listed [] known = refl
-are_listed (kind ∷ rest) known =
-    let parts = and_parts (is_kind kind) (list_all is_kind rest) known in
-    and_from (is_among all_kinds kind) (list_all (is_among all_kinds) rest) (is_listed kind parts.0) (are_listed rest parts.1)
-
-pub all_have : (methods : List ℕ) → methods ≡ all_kinds → (kinds : List ℕ) → IsTrue (are_kinds kinds) → have_each methods kinds ≡ true
-all_have methods all kinds sound =
-    rw all (are_listed kinds (and_parts (list_all is_kind kinds) (are_distinct kinds) sound).0)
-
 -- ---- a key that fits is of one of them
 
 one_of_both : (psk gpsk short wide : Bool) → (if psk then short else (gpsk && wide)) ≡ true → (psk || gpsk) ≡ true

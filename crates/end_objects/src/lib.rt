@@ -7,7 +7,7 @@ mod refusals;
 mod settings;
 mod soundness;
 
-pub use making::{all_peers, all_servers, peer_objects, server_objects};
+pub use making::{peer_objects, server_objects};
 pub use objects::{Nonces, PeerObject, ServerObject, peer_object, server_object};
 pub use refusals::{
     Refusal, peer_refusal, retry_refusal, server_refusal, stand_alone_refusal, user_refusal,

@@ -1,6 +1,6 @@
 //! Making the objects of methods, as a machine takes them.
 
-ghost use Rattle.std.specs.Prelude.{◌≡◌, ◌++◌, ℕ, List, true, map, IfOk, OnOk, IsTrue};
+ghost use Rattle.std.specs.Prelude.{◌≡◌, ◌++◌, true, map, IfOk, OnOk, IsTrue};
 ghost use Rattle.std.specs.List.{list_all};
 ghost use Rattle.octet_lists.specs.Among.{is_kind};
 ghost use Rattle.login_setup.specs.Setup.{are_kinds};
@@ -9,7 +9,6 @@ ghost use Rattle.eap_method.specs.Server.{server_kinds};
 ghost use Rattle.end_objects.specs.Objects.{peer_object_shown, server_object_shown};
 
 use crate::objects::{PeerObject, ServerObject, peer_object, server_object};
-use crate::settings::ALL_KINDS;
 use std::alloc::{AllocError, Global};
 
 /// The objects of a peer with these methods, one for each, in their order. An `Err` is want of memory.
@@ -64,24 +63,4 @@ fn add_servers(objects: &mut Vec<ServerObject>, kinds: &[u8]) -> Result<(), Allo
             add_servers(objects, rest)
         }
     }
-}
-
-/// A peer's objects of all methods, and so one of each that its settings can name. An `Err` is want of memory.
-#[tactic(auto, using(crate::proofs::AllKinds::all_have))]
-pub fn all_peers(alloc: Global) -> Result<Vec<PeerObject>, AllocError>
-    ensures { IfOk result (λ objects. (kinds : List ℕ) → IsTrue (are_kinds kinds)
-        → have_each (peer_kinds (map peer_object_shown objects.items)) kinds ≡ true) }
-{
-    let objects = peer_objects(alloc, &ALL_KINDS)?;
-    Ok(objects)
-}
-
-/// A server's objects of all methods, and so one of each that its settings can name. An `Err` is want of memory.
-#[tactic(auto, using(crate::proofs::AllKinds::all_have))]
-pub fn all_servers(alloc: Global) -> Result<Vec<ServerObject>, AllocError>
-    ensures { IfOk result (λ objects. (kinds : List ℕ) → IsTrue (are_kinds kinds)
-        → have_each (server_kinds (map server_object_shown objects.items)) kinds ≡ true) }
-{
-    let objects = server_objects(alloc, &ALL_KINDS)?;
-    Ok(objects)
 }

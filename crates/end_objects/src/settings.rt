@@ -15,7 +15,7 @@ use octet_lists::{GPSK_KIND, Identity, Kinds, Nonce, Octets, PSK_KIND, Secret, S
 pub const SETTINGS_SIZE: usize = 80;
 
 /// The methods that there are: those of an end whose settings name none and have no key.
-pub(crate) const ALL_KINDS: [u8; 2] = [GPSK_KIND, PSK_KIND];
+const ALL_KINDS: [u8; 2] = [GPSK_KIND, PSK_KIND];
 
 /// The configuration of an end: its own name, and of the other end the name and the keys that both share. A field
 /// that is 0, or has no octets, has its default. Nothing is read from a slice without octets.
