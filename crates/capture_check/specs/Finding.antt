@@ -28,3 +28,8 @@ finding_of users before to_peer octets = finding_in users (kept_of users before)
 -- what a checker keeps is what counts of these packets, all that it has seen
 unfoldable pub StandsFor : Kept → List User → List Captured → Type 0
 StandsFor kept users packets = kept ≡ kept_of users packets
+
+-- a checker with its users, and what it keeps
+pub record Checking : Type 0 where
+  pub users : List User
+  pub kept : Kept

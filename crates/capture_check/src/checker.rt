@@ -81,22 +81,33 @@ impl Judge {
         ensures judged { result ≡ finding_in users.now self.old to_peer octets.now }
         ensures kept { self.new ≡ kept_next users.now self.old to_peer octets.now }
     {
-        judge(&mut self.kept, users, to_peer, octets)
+        judge_octets(&mut self.kept, users, to_peer, octets)
     }
 }
 
-/// The same with the users, for a caller that has no other need of them.
+/// Judges the packets of a capture as [`Judge`] does, under the keys of the users that it was made with.
 #[derive(Drop)]
 pub struct Checker {
     users: Users,
     judge: Judge,
-    ghost keys: { All (λ user. IsTrue (fits_kind user.kind user.psk)) users },
+}
+
+impl Model for Checker {
+    ghost use Rattle.capture_check.specs.Finding.{Checking};
+
+    ghost Value = { Checking };
+
+    ghost view = { λ c. record { users = c.users; kept = c.judge } };
+
+    ghost invariant = { λ c. All (λ user. IsTrue (fits_kind user.kind user.psk)) c.users };
 }
 
 impl Checker {
     /// A checker that has seen no packet. The users have keys of 16 octets for EAP-PSK, of 32 to 64 for EAP-GPSK.
     pub fn new(users: Users) -> Checker
         requires { All (λ user. IsTrue (fits_kind user.kind user.psk)) users }
+        ensures users { result.users ≡ users }
+        ensures stands { StandsFor result.kept users [] }
     {
         Checker {
             users,
@@ -106,7 +117,13 @@ impl Checker {
 
     /// The finding of the next packet, which goes to the peer or comes from it.
     pub fn packet(&mut self, to_peer: bool, octets: &[u8]) -> Finding
-        ensures { result ≡ finding_in self.old.users self.old.judge to_peer octets.now }
+        // If it has seen a list of packets, the answer is the finding of the packet after these, and then
+        // it has seen the list with the packet.
+        ensures finding { (packets : List Captured) → StandsFor self.old.kept self.old.users packets
+            → result ≡ finding_of self.old.users packets to_peer octets.now }
+        ensures stands { (packets : List Captured) → StandsFor self.old.kept self.old.users packets
+            → StandsFor self.new.kept self.old.users (packets ++ (record { to_peer = to_peer; octets = octets.now }) ∷ []) }
+        ensures users { self.new.users ≡ self.old.users }
     {
         self.judge.packet(&self.users, to_peer, octets)
     }
@@ -114,7 +131,7 @@ impl Checker {
 
 /// The finding of a packet, and what is kept after it.
 #[tactic(auto, unfolding(crate::specs::Heard::heard_of))]
-fn judge(kept: &mut Kept, users: &Users, to_peer: bool, octets: &[u8]) -> Finding
+fn judge_octets(kept: &mut Kept, users: &Users, to_peer: bool, octets: &[u8]) -> Finding
     requires keys { All (λ user. IsTrue (fits_kind user.kind user.psk)) users.now }
     requires key { HasKey kept.old.gpsk }
     ensures finding { result ≡ heard_finding users.now kept.old octets.now (heard_of to_peer octets.now) }
