@@ -34,12 +34,24 @@ pub trait PeerMethod: Drop {
     fn handle(&mut self, request: &[u8]) -> PeerTurn
         requires { IsRequest (peer_kind (peer_shown self.old)) request.now }
         ensures turn { peer_step (peer_shown self.old) request.now ≡ record { turn = peer_turn_of result; after = peer_shown self.new } }
-        ensures room { PeerTurnHasRoom result };
+        ensures room { PeerTurnHasRoom result }
+    {
+        let mut packet = Packet::new();
+        let mut tags = Tags::new();
+        let answer = self.handle_into(request, &mut packet, &mut tags);
+        answer.with(packet, tags)
+    }
 
-    /// The same, where the caller lends room. The Response is written into
-    /// `packet` in place of what was there, the records of its tags into `tags`. It leaves room for an
-    /// Expanded Type: it has at most 1,493 octets. A discard leaves no record, and `packet` is then
-    /// unspecified.
+    /// The same in place: the Response is written into `packet` in place of what was there, the records of its tags into
+    /// `tags`. A discard leaves no record, and `packet` is then unspecified.
+    fn handle_into(&mut self, request: &[u8], packet: &mut Packet, tags: &mut Tags) -> PeerAnswer
+        requires { IsRequest (peer_kind (peer_shown self.old)) request.now }
+        ensures turn { peer_step (peer_shown self.old) request.now
+            ≡ record { turn = peer_turn_with result packet.new tags.new; after = peer_shown self.new } }
+        ensures tags { tags.new ≡ peer_tags (peer_turn_with result packet.new tags.new) }
+        ensures room { replies result ≡ true → HasRoom packet.new };
+
+    /// The same, with room for the records or none.
     fn handle_step<R: Records>(
         &mut self,
         request: &[u8],
@@ -70,8 +82,8 @@ impl PeerMethod for Box<dyn PeerMethod> {
         (**self).begin(cred, nonce)
     }
 
-    fn handle(&mut self, request: &[u8]) -> PeerTurn {
-        (**self).handle(request)
+    fn handle_into(&mut self, request: &[u8], packet: &mut Packet, tags: &mut Tags) -> PeerAnswer {
+        (**self).handle_into(request, packet, tags)
     }
 
     fn handle_step<R: Records>(
@@ -80,22 +92,10 @@ impl PeerMethod for Box<dyn PeerMethod> {
         packet: &mut Packet,
         tags: &mut Tags<R>,
     ) -> PeerAnswer {
-        match (**self).handle(request) {
-            PeerTurn::Discard(cause) => {
-                tags.clear();
-                PeerAnswer::Discard(cause)
-            }
-            PeerTurn::Reply {
-                packet: sent,
-                state,
-                decision,
-                tags: records,
-            } => {
-                packet.set(sent.as_slice());
-                tags.set(&records);
-                PeerAnswer::Reply { state, decision }
-            }
-        }
+        let mut records = Tags::new();
+        let answer = (**self).handle_into(request, packet, &mut records);
+        tags.set(&records);
+        answer
     }
 
     fn report(&self) -> Option<Report> {

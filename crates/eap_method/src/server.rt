@@ -34,13 +34,15 @@ pub trait ServerMethod: Drop {
     fn first(&mut self, id: u8) -> Packet
         requires { has_begun (server_shown self.old) ≡ true }
         ensures first { server_first_step (server_shown self.old) id ≡ record { packet = result; after = server_shown self.new } }
-        ensures room { HasRoom result };
+        ensures room { HasRoom result }
+    {
+        let mut packet = Packet::new();
+        self.first_into(id, &mut packet);
+        packet
+    }
 
-    /// Writes the method's first Request, with this Identifier, into `packet` in place of what was
-    /// there: at most 1,493 octets, so that an Expanded Type has room. The object has begun and made none.
-    fn first_step(&mut self, id: u8, packet: &mut Packet)
-    where
-        Self: Sized,
+    /// The same in place: the Request is written into `packet` in place of what was there.
+    fn first_into(&mut self, id: u8, packet: &mut Packet)
         requires { has_begun (server_shown self.old) ≡ true }
         ensures first { server_first_step (server_shown self.old) id ≡ record { packet = packet.new; after = server_shown self.new } }
         ensures room { HasRoom packet.new };
@@ -53,13 +55,32 @@ pub trait ServerMethod: Drop {
         requires keys { All (λ user. IsTrue (fits_kind user.kind user.psk)) users.now }
         ensures turn { server_step users.now next_id (server_shown self.old) response.now
             ≡ record { turn = server_turn_of result; after = server_shown self.new } }
-        ensures room { ServerTurnHasRoom result };
+        ensures room { ServerTurnHasRoom result }
+    {
+        let mut packet = Packet::new();
+        let mut tags = Tags::new();
+        let answer = self.handle_into(response, next_id, users, &mut packet, &mut tags);
+        answer.with(packet, tags)
+    }
 
-    /// The same, where the caller lends room. A Request that follows has
-    /// the Identifier `next_id` and is written into `packet` in place of what was there, the records of
-    /// the turn's tags into `tags`. It leaves room for an Expanded Type: it has at most 1,493 octets. A
-    /// discard leaves no record; without a Request `packet` is unspecified. The users' keys have 16
-    /// octets for EAP-PSK, 32 to 64 for EAP-GPSK.
+    /// The same in place: a Request that follows is written into `packet` in place of what was there, the records of the
+    /// turn's tags into `tags`. A discard leaves no record; without a Request `packet` is unspecified.
+    fn handle_into(
+        &mut self,
+        response: &[u8],
+        next_id: u8,
+        users: &Users,
+        packet: &mut Packet,
+        tags: &mut Tags,
+    ) -> ServerAnswer
+        requires response { IsResponse (server_kind (server_shown self.old)) response.now }
+        requires keys { All (λ user. IsTrue (fits_kind user.kind user.psk)) users.now }
+        ensures turn { server_step users.now next_id (server_shown self.old) response.now
+            ≡ record { turn = server_turn_with result packet.new tags.new; after = server_shown self.new } }
+        ensures tags { tags.new ≡ server_tags (server_turn_with result packet.new tags.new) }
+        ensures room { requests result ≡ true → HasRoom packet.new };
+
+    /// The same, with room for the records or none.
     fn handle_step<R: Records>(
         &mut self,
         response: &[u8],
@@ -93,17 +114,19 @@ impl ServerMethod for Box<dyn ServerMethod> {
         (**self).begin(own, nonce)
     }
 
-    fn first(&mut self, id: u8) -> Packet {
-        (**self).first(id)
+    fn first_into(&mut self, id: u8, packet: &mut Packet) {
+        (**self).first_into(id, packet)
     }
 
-    fn first_step(&mut self, id: u8, packet: &mut Packet) {
-        let first = (**self).first(id);
-        packet.set(first.as_slice());
-    }
-
-    fn handle(&mut self, response: &[u8], next_id: u8, users: &Users) -> ServerTurn {
-        (**self).handle(response, next_id, users)
+    fn handle_into(
+        &mut self,
+        response: &[u8],
+        next_id: u8,
+        users: &Users,
+        packet: &mut Packet,
+        tags: &mut Tags,
+    ) -> ServerAnswer {
+        (**self).handle_into(response, next_id, users, packet, tags)
     }
 
     fn handle_step<R: Records>(
@@ -114,27 +137,10 @@ impl ServerMethod for Box<dyn ServerMethod> {
         packet: &mut Packet,
         tags: &mut Tags<R>,
     ) -> ServerAnswer {
-        match (**self).handle(response, next_id, users) {
-            ServerTurn::Discard(cause) => {
-                tags.clear();
-                ServerAnswer::Discard(cause)
-            }
-            ServerTurn::Request {
-                packet: sent,
-                tags: records,
-            } => {
-                packet.set(sent.as_slice());
-                tags.set(&records);
-                ServerAnswer::Request
-            }
-            ServerTurn::Done {
-                success,
-                tags: records,
-            } => {
-                tags.set(&records);
-                ServerAnswer::Done { success }
-            }
-        }
+        let mut records = Tags::new();
+        let answer = (**self).handle_into(response, next_id, users, packet, &mut records);
+        tags.set(&records);
+        answer
     }
 
     fn report(&self) -> Option<Report> {

@@ -54,7 +54,7 @@ pub fn offer_method<M: ServerMethod>(
         Some((first, rest)) => {
             if first.kind() == kind {
                 first.begin(own, nonce);
-                first.first_step(id, packet);
+                first.first_into(id, packet);
                 true
             } else {
                 offer_method(rest, kind, own, nonce, id, packet)

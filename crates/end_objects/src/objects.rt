@@ -7,8 +7,8 @@ ghost use Rattle.eap_method.specs.Server.{server_kind};
 ghost use Rattle.end_objects.specs.Objects.{peer_object_shown, server_object_shown};
 
 use eap_method::{
-    Credential, PeerAnswer, PeerMethod, PeerTurn, Records, Report, ServerAnswer, ServerMethod,
-    ServerSide, ServerTurn, Tags,
+    Credential, PeerAnswer, PeerMethod, Records, Report, ServerAnswer, ServerMethod, ServerSide,
+    Tags,
 };
 use gpsk_ends::{GpskPeer, GpskServer};
 use login_setup::Users;
@@ -109,11 +109,8 @@ impl PeerMethod for PeerObject {
         }
     }
 
-    fn handle(&mut self, request: &[u8]) -> PeerTurn {
-        match self {
-            PeerObject::Psk(peer) => peer.handle(request),
-            PeerObject::Gpsk(peer) => peer.handle(request),
-        }
+    fn handle_into(&mut self, request: &[u8], packet: &mut Packet, tags: &mut Tags) -> PeerAnswer {
+        self.handle_step(request, packet, tags)
     }
 
     fn handle_step<R: Records>(
@@ -211,25 +208,22 @@ impl ServerMethod for ServerObject {
         }
     }
 
-    fn first(&mut self, id: u8) -> Packet {
+    fn first_into(&mut self, id: u8, packet: &mut Packet) {
         match self {
-            ServerObject::Psk(server) => server.first(id),
-            ServerObject::Gpsk(server) => server.first(id),
+            ServerObject::Psk(server) => server.first_into(id, packet),
+            ServerObject::Gpsk(server) => server.first_into(id, packet),
         }
     }
 
-    fn first_step(&mut self, id: u8, packet: &mut Packet) {
-        match self {
-            ServerObject::Psk(server) => server.first_step(id, packet),
-            ServerObject::Gpsk(server) => server.first_step(id, packet),
-        }
-    }
-
-    fn handle(&mut self, response: &[u8], next_id: u8, users: &Users) -> ServerTurn {
-        match self {
-            ServerObject::Psk(server) => server.handle(response, next_id, users),
-            ServerObject::Gpsk(server) => server.handle(response, next_id, users),
-        }
+    fn handle_into(
+        &mut self,
+        response: &[u8],
+        next_id: u8,
+        users: &Users,
+        packet: &mut Packet,
+        tags: &mut Tags,
+    ) -> ServerAnswer {
+        self.handle_step(response, next_id, users, packet, tags)
     }
 
     fn handle_step<R: Records>(

@@ -12,7 +12,7 @@ use crate::nonces::Nonces;
 use crate::peer::login::Begun;
 use crate::peer::stage::{Phase, Stage};
 use crate::peer::turns::hears_request;
-use eap_method::{Credential, PeerAnswer, PeerMethod, PeerTurn, Records, Report, Tags};
+use eap_method::{Credential, PeerAnswer, PeerMethod, Records, Report, Tags};
 use octet_lists::{Nonce, PSK_KIND, Packet};
 use std::marker::Model;
 
@@ -90,11 +90,8 @@ impl PeerMethod for PskPeer {
         };
     }
 
-    fn handle(&mut self, request: &[u8]) -> PeerTurn {
-        let mut packet = Packet::new();
-        let mut tags = Tags::new();
-        let turn = self.handle_step(request, &mut packet, &mut tags);
-        turn.with(packet, tags)
+    fn handle_into(&mut self, request: &[u8], packet: &mut Packet, tags: &mut Tags) -> PeerAnswer {
+        self.handle_step(request, packet, tags)
     }
 
     #[tactic(auto, unfolding(eap_method::specs::Peer::peer_step))]

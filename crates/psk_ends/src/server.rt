@@ -13,7 +13,7 @@ use crate::nonces::Nonces;
 use crate::server::login::Begun;
 use crate::server::stage::{EarlyPhase, KnownPhase, Stage};
 use crate::server::turns::{ask, hears_response};
-use eap_method::{Records, Report, ServerAnswer, ServerMethod, ServerSide, ServerTurn, Tags};
+use eap_method::{Records, Report, ServerAnswer, ServerMethod, ServerSide, Tags};
 use login_setup::Users;
 use octet_lists::{Nonce, PSK_KIND, Packet};
 use std::marker::Model;
@@ -107,22 +107,20 @@ impl ServerMethod for PskServer {
         };
     }
 
-    fn first(&mut self, id: u8) -> Packet {
-        let mut packet = Packet::new();
-        self.first_step(id, &mut packet);
-        packet
-    }
-
     #[tactic(auto, unfolding(eap_method::specs::Server::server_first_step))]
-    fn first_step(&mut self, id: u8, packet: &mut Packet) {
+    fn first_into(&mut self, id: u8, packet: &mut Packet) {
         ask(&mut self.stage, id, packet);
     }
 
-    fn handle(&mut self, response: &[u8], next_id: u8, users: &Users) -> ServerTurn {
-        let mut packet = Packet::new();
-        let mut tags = Tags::new();
-        let turn = self.handle_step(response, next_id, users, &mut packet, &mut tags);
-        turn.with(packet, tags)
+    fn handle_into(
+        &mut self,
+        response: &[u8],
+        next_id: u8,
+        users: &Users,
+        packet: &mut Packet,
+        tags: &mut Tags,
+    ) -> ServerAnswer {
+        self.handle_step(response, next_id, users, packet, tags)
     }
 
     #[tactic(auto, unfolding(eap_method::specs::Server::server_step))]

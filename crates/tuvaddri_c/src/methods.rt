@@ -139,7 +139,7 @@ pub extern "C" fn tuv_server_method_begin(
     let mut object = server_object(first_kind(settings));
     object.begin(&own, nonce);
     let session = end.session();
-    object.first_step(id, &mut session.sent.packet);
+    object.first_into(id, &mut session.sent.packet);
     session.sent.fresh = true;
     hold_server(&mut session.end, object, users_of(settings));
     BEGUN

@@ -11,11 +11,11 @@ returns-in-None-clause-offer g t c = λ order is_proposed.
 pub returns-then-kind-clause-offer : goal.returns-then-kind-clause-offer
 returns-then-kind-clause-offer g t c = λ order is_proposed.
     rw c.in-Some.ensures.cases.0
-    (offer_hit _ _ _ order _ _ _ _ _ _ c.begin.ensures c.first_step.ensures.first (sym c.kind.ensures ∙ c.if-kind.true) is_proposed)
+    (offer_hit _ _ _ order _ _ _ _ _ _ c.begin.ensures c.first_into.ensures.first (sym c.kind.ensures ∙ c.if-kind.true) is_proposed)
 
 pub returns-then-kind-clause-kinds : goal.returns-then-kind-clause-kinds
 returns-then-kind-clause-kinds g t c =
-    rw c.in-Some.ensures.cases.0 (rw (offer_kind _ _ _ _ _ _ _ c.begin.ensures c.first_step.ensures.first) refl)
+    rw c.in-Some.ensures.cases.0 (rw (offer_kind _ _ _ _ _ _ _ c.begin.ensures c.first_into.ensures.first) refl)
 
 pub returns-else-kind-clause-offer : goal.returns-else-kind-clause-offer
 returns-else-kind-clause-offer g t c = λ order is_proposed.
@@ -25,7 +25,7 @@ returns-else-kind-clause-offer g t c = λ order is_proposed.
 pub returns-then-kind-clause-unnamed : goal.returns-then-kind-clause-unnamed
 returns-then-kind-clause-unnamed g t c = λ order is_proposed.
     rw c.in-Some.ensures.cases.0
-    (server_hit order _ _ _ _ (offer_kind _ _ _ _ _ _ _ c.begin.ensures c.first_step.ensures.first) (sym c.kind.ensures ∙ c.if-kind.true) is_proposed)
+    (server_hit order _ _ _ _ (offer_kind _ _ _ _ _ _ _ c.begin.ensures c.first_into.ensures.first) (sym c.kind.ensures ∙ c.if-kind.true) is_proposed)
 
 pub returns-else-kind-clause-unnamed : goal.returns-else-kind-clause-unnamed
 returns-else-kind-clause-unnamed g t c = λ order is_proposed.
