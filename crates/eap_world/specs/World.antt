@@ -48,6 +48,8 @@ use Rattle.eap_world.specs.declared.told.Counts.{Counts}
 use Rattle.eap_world.specs.declared.told.Named.{Named}
 use Rattle.eap_world.specs.declared.told.SentNumber.{SentNumber}
 use Rattle.eap_world.specs.declared.told.Brief.{Brief}
+use Rattle.eap_world.specs.declared.told.SentPacket.{SentPacket}
+use Rattle.eap_world.specs.declared.told.Told.{Told}
 use Rattle.eap_world.specs.declared.told.Skip.{Skip}
 use Rattle.eap_world.specs.declared.told.Skip.TheVariants.{NoParty, Unsent, Place, Ended, NoTimer, NoNonce}
 use Rattle.eap_world.specs.declared.world.Held.{Held}
@@ -612,6 +614,29 @@ octets_numbered sent n = option_map (λ (packet : Sent). packet.octets) (packet_
 abbrev pub octets_of_sent : List Sent → Option SentNumber → List ℕ
 octets_of_sent sent None = []
 octets_of_sent sent (Some packet) = octets_of (packet_numbered sent packet.number)
+
+-- a result that has its packet: without its octets, and these
+abbrev pub number_of : SentPacket → SentNumber
+number_of sent = record { number = sent.number; port = sent.port }
+
+abbrev pub brief_of : Told → Brief
+brief_of told = record {
+  event = told.event;
+  party = told.party;
+  path = told.path;
+  cause = told.cause;
+  skip = told.skip;
+  sent = option_map number_of told.sent;
+  named = told.named;
+}
+
+abbrev pub packet_octets : Option SentPacket → List ℕ
+packet_octets None = []
+packet_octets (Some sent) = sent.packet
+
+abbrev pub if_sent : Option SentNumber → List ℕ → List ℕ
+if_sent None octets = []
+if_sent (Some sent) octets = octets
 
 abbrev pub told_octets : WorldOutcome → List ℕ
 told_octets out = octets_of_sent out.after.sent out.told.sent

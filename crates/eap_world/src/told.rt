@@ -1,5 +1,8 @@
 //! The result of an event.
 
+ghost use Rattle.std.specs.Prelude.{◌≡◌, option_map};
+ghost use Rattle.eap_world.specs.World.{if_sent, number_of, packet_octets};
+
 use eap_method::Report;
 use eap_packet::{Cause, Path};
 use login_setup::{Party, Port};
@@ -96,4 +99,19 @@ pub struct Counts {
     pub deliveries: u32,
     /// Those whose octets the party discarded.
     pub discards: u32,
+}
+
+/// What was sent with its octets; none if nothing was.
+pub(crate) fn sent_with(sent: Option<SentNumber>, packet: Packet) -> Option<SentPacket>
+    ensures number { option_map number_of result ≡ sent }
+    ensures octets { packet_octets result ≡ if_sent sent packet }
+{
+    match sent {
+        None => None,
+        Some(SentNumber { number, port }) => Some(SentPacket {
+            number,
+            port,
+            packet,
+        }),
+    }
 }

@@ -1,7 +1,7 @@
 //! Both ends of a login over events.
 
 ghost use Rattle.std.specs.Prelude.{◌≡◌, ◌↔◌, ◌≤◌, ◌<◌, ◌+◌, ◌-◌, ◌^◌, ◌++◌, ℕ, List, true, false, map, length, IsTrue};
-ghost use Rattle.std.specs.Prelude.{Bool, MatchResult, IfOk, None, option_copied, vec_len, vec_capacity};
+ghost use Rattle.std.specs.Prelude.{Bool, MatchResult, IfOk, IfSome, None, option_copied, vec_len, vec_capacity};
 ghost use Rattle.octet_lists.specs.Sizes.{max_packet};
 ghost use Rattle.login_setup.specs.Setup.{IsSoundPeer, IsSoundServer, HasKeys};
 ghost use Rattle.login_setup.specs.declared.event.Event.TheVariants.{Restart};
@@ -14,7 +14,7 @@ ghost use Rattle.eap_world.specs.Sent.{Sent};
 use crate::act::{Action, Did, Machines};
 use crate::conversations::Conversations;
 use crate::store::Store;
-use crate::told::{Brief, Counts, Named, SentNumber, SentPacket, Skip, Told};
+use crate::told::{Brief, Counts, Named, SentNumber, Skip, Told, sent_with};
 use crate::verdict::{Verdict, judge_reports};
 use eap_method::{Kept, Methods, PeerMethod, Report, ServerMethod, Step, Tags};
 use eap_packet::{Path, State};
@@ -92,7 +92,7 @@ impl<P: PeerMethod, S: ServerMethod> World<P, S> {
     ghost use Rattle.eap_world.specs.Run.{BeginsRun, GoesOn};
     ghost use Rattle.tag_book.specs.Book.{tags_verdict, tags_verdict_either};
     ghost use Rattle.eap_world.specs.Judgement.{verdict_of};
-    ghost use Rattle.eap_world.specs.World.{HasObjects, KeepObjects, KeepsObjects, NamesAlike, Tells, world_made, world_start, world_step, now_of};
+    ghost use Rattle.eap_world.specs.World.{HasObjects, KeepObjects, KeepsObjects, NamesAlike, Tells, brief_of, packet_octets, world_made, world_start, world_step, now_of};
     ghost use Rattle.eap_world.specs.World.{octets_numbered, octets_of_sent, pass_state, state_of};
 
     /// The world of a setup, in which the peer has begun and the server, or the pass-through, hasn't started.
@@ -197,7 +197,13 @@ impl<P: PeerMethod, S: ServerMethod> World<P, S> {
     pub fn start(&mut self) -> Result<Told, Memory>
         requires unstarted { self.old.started ≡ false }
         requires objects { HasObjects P.peer_shown S.server_shown self.old }
+        ensures told { MatchResult result
+            (λ told. Tells P.peer_shown S.server_shown (world_start (now_of P.peer_shown S.server_shown self.old)) (brief_of told) self.new)
+            (λ _. self.new ≡ self.old) }
+        ensures octets { IfOk result (λ told. packet_octets told.sent ≡ octets_of_sent self.new.sent (brief_of told).sent) }
         ensures run { IfOk result (λ told. BeginsRun P.peer_shown S.server_shown self.old self.new) }
+        ensures kept { KeepsObjects P.peer_shown S.server_shown self.old self.new }
+        ensures names { NamesAlike self.old self.new }
         ensures objects { HasObjects P.peer_shown S.server_shown self.new }
     {
         let brief = self.start_brief()?;
@@ -209,7 +215,14 @@ impl<P: PeerMethod, S: ServerMethod> World<P, S> {
         requires started { self.old.started ≡ true }
         requires objects { HasObjects P.peer_shown S.server_shown self.old }
         requires room { self.old.counts.events < 1000000 }
+        ensures told { MatchResult result
+            (λ told. Tells P.peer_shown S.server_shown (world_step (now_of P.peer_shown S.server_shown self.old) event.now) (brief_of told) self.new)
+            (λ _. self.new ≡ self.old) }
+        ensures octets { IfOk result (λ told. packet_octets told.sent ≡ octets_of_sent self.new.sent (brief_of told).sent) }
         ensures run { IfOk result (λ told. GoesOn P.peer_shown S.server_shown event.now self.old self.new) }
+        ensures packets { length self.new.sent ≤ self.new.counts.events + 1 }
+        ensures kept { KeepsObjects P.peer_shown S.server_shown self.old self.new }
+        ensures names { NamesAlike self.old self.new }
         ensures objects { HasObjects P.peer_shown S.server_shown self.new }
     {
         let brief = self.step_brief(event)?;
@@ -217,23 +230,18 @@ impl<P: PeerMethod, S: ServerMethod> World<P, S> {
     }
 
     /// The result of an event with the packet that was sent.
-    fn whole(&self, brief: Brief) -> Told {
-        let mut packet = Packet::new();
-        packet.append(self.octets_of(&brief));
+    fn whole(&self, brief: Brief) -> Told
+        ensures brief { brief_of result ≡ brief }
+        ensures octets { packet_octets result.sent ≡ octets_of_sent self.now.sent brief.sent }
+    {
+        let packet = Packet::of(self.octets_of(&brief));
         Told {
             event: brief.event,
             party: brief.party,
             path: brief.path,
             cause: brief.cause,
             skip: brief.skip,
-            sent: match brief.sent {
-                None => None,
-                Some(SentNumber { number, port }) => Some(SentPacket {
-                    number,
-                    port,
-                    packet,
-                }),
-            },
+            sent: sent_with(brief.sent, packet),
             named: brief.named,
         }
     }
@@ -319,7 +327,8 @@ impl<P: PeerMethod, S: ServerMethod> World<P, S> {
     /// The octets of the packet of this number, counted from 1 in the order of sending (RFC 3748 section
     /// 4); None if none was sent with it.
     pub fn packet(&self, number: u32) -> Option<&[u8]>
-        ensures { option_copied result ≡ octets_numbered self.now.sent number }
+        ensures octets { option_copied result ≡ octets_numbered self.now.sent number }
+        ensures fits { IfSome result (λ octets. length octets.now ≤ max_packet) }
     {
         match self.sent.get(number) {
             None => None,
@@ -329,7 +338,8 @@ impl<P: PeerMethod, S: ServerMethod> World<P, S> {
 
     /// The octets of the packet that was reported; no octets if none was sent, or not in this world.
     pub fn octets_of(&self, told: &Brief) -> &[u8]
-        ensures { result.now ≡ octets_of_sent self.now.sent told.now.sent }
+        ensures octets { result.now ≡ octets_of_sent self.now.sent told.now.sent }
+        ensures fits { length result.now ≤ max_packet }
     {
         match told.sent {
             None => &[],

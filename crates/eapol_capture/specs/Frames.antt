@@ -3,6 +3,8 @@ use Rattle.std.specs.Prelude.{ℕ, ◌-◌, List, length, take, drop, slice_inde
 use Rattle.std.specs.Int.{w16, from_be_bytes}
 use Rattle.eapol_capture.specs.declared.frame.FrameContents.{FrameContents}
 use Rattle.eapol_capture.specs.declared.frame.FrameContents.TheVariants.{Other, Cut, Eap}
+use Rattle.eapol_capture.specs.declared.frame.FrameFinding.{FrameFinding}
+use Rattle.eapol_capture.specs.declared.frame.FrameFinding.TheVariants as whole
 
 -- what a frame carries: no EAP packet, one that is cut, or this one
 pub data Carried : Type 0 where
@@ -46,3 +48,15 @@ abbrev pub finding_value : FrameContents → Carried
 finding_value Other = other
 finding_value Cut = cut
 finding_value (Eap octets) = eap octets.now
+
+-- the same of an answer that has the octets
+abbrev pub whole_value : FrameFinding → Carried
+whole_value whole.Other = other
+whole_value whole.Cut = cut
+whole_value (whole.Eap octets) = eap octets
+
+-- how many octets of a packet are carried
+abbrev pub size_of : Carried → ℕ
+size_of other = 0
+size_of cut = 0
+size_of (eap octets) = length octets

@@ -1,7 +1,7 @@
 //! EAP packets in Ethernet frames.
 
 ghost use Rattle.std.specs.Prelude.{◌≡◌, ◌≤◌, length, nat_lt};
-ghost use Rattle.eapol_capture.specs.Frames.{contents_of, finding_value, body_of, type_of, body_length};
+ghost use Rattle.eapol_capture.specs.Frames.{contents_of, finding_value, whole_value, size_of, body_of, type_of, body_length};
 
 use octet_lists::{Octets, array_of};
 
@@ -61,7 +61,8 @@ fn body_length(frame: &[u8]) -> usize
 /// The EAP packet in a frame with EAPOL's header, if it is whole.
 fn body_of<'a>(frame: &'a [u8]) -> FrameContents<'a>
     requires { 18 ≤ length frame.now }
-    ensures { finding_value result ≡ body_of frame.now }
+    ensures value { finding_value result ≡ body_of frame.now }
+    ensures few { size_of (finding_value result) ≤ 2000 }
 {
     let size = body_length(frame);
     let body = &frame[EAPOL..];
@@ -85,7 +86,8 @@ fn is_short(frame: &[u8]) -> bool
 /// 888e, or it has 18 octets or more and EAPOL's type isn't 0. Octets past the body are padding.
 #[tactic(auto, unfolding(crate::specs::Frames::contents_of))]
 pub fn contents_of_frame<'a>(frame: &'a [u8]) -> FrameContents<'a>
-    ensures { finding_value result ≡ contents_of frame.now }
+    ensures value { finding_value result ≡ contents_of frame.now }
+    ensures few { size_of (finding_value result) ≤ 2000 }
 {
     if frame.len() < ETHERNET || type_of(frame) != EAPOL_TYPE {
         FrameContents::Other
@@ -98,8 +100,10 @@ pub fn contents_of_frame<'a>(frame: &'a [u8]) -> FrameContents<'a>
     }
 }
 
-/// What an Ethernet frame carries, as [`contents_of_frame`] says.
-pub fn eap_of_frame(frame: &[u8]) -> FrameFinding {
+/// What an Ethernet frame carries, as [`contents_of_frame`] says, with its octets.
+pub fn eap_of_frame(frame: &[u8]) -> FrameFinding
+    ensures { whole_value result ≡ contents_of frame.now }
+{
     match contents_of_frame(frame) {
         FrameContents::Other => FrameFinding::Other,
         FrameContents::Cut => FrameFinding::Cut,

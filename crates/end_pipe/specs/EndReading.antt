@@ -1,5 +1,5 @@
 -- An end's text: what has been read, and what each line adds.
-use Rattle.std.specs.Prelude.{ℕ, List, Bool, false, if◌then◌else◌, codes, Option, Some, None, Result, IsOk, is_err}
+use Rattle.std.specs.Prelude.{◌≡◌, ◌≤◌, ℕ, List, Bool, true, false, unwrap_or, Ok, if◌then◌else◌, codes, Option, Some, None, Result, IsOk, is_err}
 use Rattle.std.specs.Str.{bytes_eq}
 use Rattle.text_tables.specs.Phases as phases
 use Rattle.text_tables.specs.Texts as texts
@@ -10,7 +10,9 @@ use Rattle.text_tables.specs.declared.phase.Phase.{Phase}
 use Rattle.text_tables.specs.declared.phase.Phase.TheVariants as phase
 use Rattle.scenario_text.specs.Reading as scenario
 use Rattle.scenario_text.specs.Reading.{no_settings, has_setting, with_setting, peer_setup_of, server_setup_of}
-use Rattle.scenario_text.specs.Valid.{IsValidSetting}
+use Rattle.scenario_text.specs.Valid.{IsValidSetting, IsValidPeer, IsValidServer}
+use Rattle.login_setup.specs.declared.setup.PeerSetup.{PeerSetup}
+use Rattle.login_setup.specs.declared.setup.ServerSetup.{ServerSetup}
 use Rattle.scenario_text.specs.declared.entry.Entry as told
 use Rattle.scenario_text.specs.declared.scenario.ItemKind as answer
 use Rattle.scenario_text.specs.declared.settings.Settings.{Settings}
@@ -18,6 +20,8 @@ use Rattle.end_pipe.specs.EndContents.{Entry, entry_of}
 use Rattle.end_pipe.specs.EndContents as entry
 use Rattle.end_pipe.specs.EndTable.{row_of, end_words}
 use Rattle.end_pipe.specs.declared.input.EndInput.{EndInput}
+use Rattle.end_pipe.specs.declared.reader.EndItem.{EndItem}
+use Rattle.end_pipe.specs.declared.reader.EndItem.TheVariants as whole
 use Rattle.end_pipe.specs.declared.table.EndWord.{EndWord}
 use Rattle.end_pipe.specs.declared.table.EndWord.TheVariants as word
 use Rattle.end_pipe.specs.declared.table.Role.{Role}
@@ -53,6 +57,38 @@ item_with answer.TheVariants.Nothing after input = Nothing
 item_with answer.TheVariants.Ready after input = Ready
 item_with answer.TheVariants.Event after input = Input input
 item_with answer.TheVariants.End after input = End
+
+-- the same of an answer that has the settings
+abbrev pub item_value : EndItem → Item
+item_value whole.Nothing = Nothing
+item_value (whole.ReadyPeer setup) = Ready
+item_value (whole.ReadyServer setup first_id max_retrans) = Ready
+item_value (whole.Line input) = Input input
+item_value whole.End = End
+
+-- the settings of the peer's text are these, each within its limits
+pub record IsReadyPeer (setup : PeerSetup) (r : EndReading) : Type 0 where
+  pub role : r.role ≡ Peer
+  pub setup : peer_setup_of r.settings ≡ Ok setup
+  pub valid : IsValidPeer setup
+
+-- those of the server's text, with the first Identifier and MaxRetrans (RFC 4137 section 5.1.2)
+pub record IsReadyServer (setup : ServerSetup) (first_id max_retrans : ℕ) (r : EndReading) : Type 0 where
+  pub role : r.role ≡ Server
+  pub setup : server_setup_of r.settings ≡ Ok setup
+  pub valid : IsValidServer setup
+  pub first_id : first_id ≡ unwrap_or r.settings.first_id 0
+  pub max_retrans : max_retrans ≡ unwrap_or r.settings.max_retrans 4
+  pub few : max_retrans ≤ 10
+
+abbrev pub IsReady : EndItem → EndReading → Type 0
+IsReady (whole.ReadyPeer setup) r = IsReadyPeer setup r
+IsReady (whole.ReadyServer setup first_id max_retrans) r = IsReadyServer setup first_id max_retrans r
+IsReady other r = Unit {0}
+
+-- the text of the server or of the peer
+abbrev pub role_of : Bool → Role
+role_of server = if server then Server else Peer
 
 -- a setting that the end needs isn't there
 abbrev pub lacks_some : Role → Settings → Bool

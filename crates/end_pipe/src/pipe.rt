@@ -88,7 +88,11 @@ impl<E: Machine> EndPipe<E> {
     /// The same, with the packet and the records in its answer.
     pub fn step(&mut self, input: &EndInput) -> EndTold
         requires { E.is_going self.old.machine }
+        ensures step { end_step E.table (end_now E.shown self.old) input.now ≡ outcome result (end_now E.shown self.new) }
         ensures going { E.is_going self.new.machine }
+        ensures goes_on { (begun : EndNow E.Now) (inputs : List EndInput)
+            → StandsFor (end_step E.table) begun inputs (end_now E.shown self.old)
+            → GoesOn (end_step E.table) begun inputs input.now result (end_now E.shown self.new) }
     {
         let mut packet = Packet::new();
         let mut tags = Tags::new();

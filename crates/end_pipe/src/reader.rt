@@ -1,11 +1,11 @@
 //! Reading an end's text, line by line: its header, its settings, the line `events`, its inputs, the line `end`. After
 //! the header an empty line and one that begins with `#` are ignored.
 
-ghost use Rattle.std.specs.Prelude.{◌≡◌, ◌≤◌, unwrap_or, IfOk, OnErr};
+ghost use Rattle.std.specs.Prelude.{◌≡◌, ◌≤◌, unwrap_or, IfOk, IsOk, OnErr};
 ghost use Rattle.text_tables.specs.Texts.{line_result};
 ghost use Rattle.scenario_text.specs.Reading.{peer_setup_of, server_setup_of};
 ghost use Rattle.scenario_text.specs.Valid.{IsValidPeer, IsValidServer};
-ghost use Rattle.end_pipe.specs.EndReading.{HasSetup, finish_of, item_with, lacks_some};
+ghost use Rattle.end_pipe.specs.EndReading.{AreWhole, HasSetup, IsReady, finish_of, item_value, item_with, lacks_some, role_of};
 ghost use Rattle.end_pipe.specs.EndReading as reading;
 
 use crate::entry::entry_of;
@@ -74,13 +74,19 @@ impl EndReader {
     }
 
     /// A reader of the server's text, or else of the peer's, that has read no line.
-    pub fn new(server: bool) -> EndReader {
+    pub fn new(server: bool) -> EndReader
+        ensures { result ≡ reading.unread (role_of server) }
+    {
         EndReader::of_role(if server { Role::Server } else { Role::Peer })
     }
 
     /// Reads the next line, without its end, and says what it says, whole. The line is refused with its first fault, and
     /// then the reader is as it was.
-    pub fn line(&mut self, line: &[u8]) -> Result<EndItem, LineFault> {
+    pub fn line(&mut self, line: &[u8]) -> Result<EndItem, LineFault>
+        ensures read { reading.read_line self.old line.now ≡ line_result (λ item after none. item_value item) result self.new (tt {0}) }
+        ensures ready { IfOk result (λ item. IsReady item self.new) }
+        ensures unchanged { OnErr result (self.new ≡ self.old) }
+    {
         let mut input = EndInput::Idle;
         match self.line_into(line, &mut input)? {
             ItemKind::Nothing => Ok(EndItem::Nothing),
@@ -90,7 +96,14 @@ impl EndReader {
         }
     }
 
-    fn ready(&self) -> Result<EndItem, LineFault> {
+    /// The settings of the end, which are whole.
+    #[tactic(auto, using(crate::proofs::EndValid::few_retrans))]
+    fn ready(&self) -> Result<EndItem, LineFault>
+        requires { AreWhole self.now.role self.now.settings }
+        ensures said { IfOk result (λ item. item_value item ≡ reading.Ready) }
+        ensures ready { IfOk result (λ item. IsReady item self.now) }
+        ensures whole { IsOk result }
+    {
         match self.role {
             Role::Peer => Ok(EndItem::ReadyPeer(self.peer_setup()?)),
             Role::Server => Ok(EndItem::ReadyServer(

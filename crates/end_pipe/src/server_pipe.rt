@@ -72,7 +72,11 @@ impl<M: ServerMethod> ServerPipe<M> {
     /// The same, with the packet and the records in its answer.
     pub fn start(&mut self) -> EndTold
         requires { is_started self.old.machine.vars ≡ false }
+        ensures start { server_starts (server_end M.server_shown self.old) ≡ outcome result (server_end M.server_shown self.new) }
         ensures started { is_started self.new.machine.vars ≡ true }
+        ensures stands { (setup : ServerSetup) (first_id max_retrans : ℕ)
+            → server_end M.server_shown self.old ≡ server_unstarted setup first_id max_retrans
+            → ServerStandsFor setup first_id max_retrans [] (server_end M.server_shown self.new) }
     {
         let mut packet = Packet::new();
         let mut tags = Tags::new();

@@ -5,6 +5,7 @@ ghost use Rattle.std.specs.Prelude.{◌≡◌, [], None, true, false};
 use eap_method::{Report, Step, Tags};
 use eap_packet::{Cause, Path};
 use octet_lists::Packet;
+use std::marker::Model;
 
 /// What an end does at its start or at an input. The packet that it sends and the records of its tags are in the
 /// buffers passed to the call.
@@ -18,7 +19,8 @@ pub struct EndStep {
     pub named: Option<Report>,
 }
 
-/// What an end does at its start or at an input, with the packet that it sends and the records of its tags.
+/// What an end does at its start or at an input, with the packet that it sends and the records of its tags. Contracts see
+/// the machine's step as one value.
 #[derive(Drop)]
 pub struct EndTold {
     /// The states that its machine enters, in order.
@@ -35,9 +37,25 @@ pub struct EndTold {
     pub tags: Tags,
 }
 
+impl Model for EndTold {
+    ghost use Rattle.end_pipe.specs.EndRun.{EndTold};
+
+    ghost Value = { EndTold };
+
+    ghost view = { λ t. record {
+      step = record { path = t.path; cause = t.cause; sent = t.sent; tags = t.tags };
+      skipped = t.skipped;
+      named = t.named;
+    } };
+}
+
 impl EndStep {
+    ghost use Rattle.end_pipe.specs.EndRun.{told_with};
+
     /// The step with the packet and the records that its call wrote.
-    pub fn with(self, packet: Packet, tags: Tags) -> EndTold {
+    pub fn with(self, packet: Packet, tags: Tags) -> EndTold
+        ensures { result ≡ told_with self packet tags }
+    {
         EndTold {
             path: self.step.path,
             cause: self.step.cause,

@@ -1,5 +1,5 @@
 -- A capture: the table of its lines, what has been read, and what each line adds.
-use Rattle.std.specs.Prelude.{ℕ, List, [], ◌∷◌, length, nat_le, Bool, true, false, if◌then◌else◌, codes, Option, Some, None, Result, is_some, IsTrue}
+use Rattle.std.specs.Prelude.{◌≡◌, ℕ, List, [], ◌∷◌, length, nat_le, Bool, true, false, if◌then◌else◌, codes, Option, Some, None, Result, is_some, IsTrue}
 use Rattle.std.specs.Str.{bytes_eq}
 use Rattle.login_setup.specs.Setup.{fits_kind}
 use Rattle.login_setup.specs.Users.{user_of}
@@ -21,6 +21,8 @@ use Rattle.request_text.specs.declared.capture_line.CaptureEntry.{CaptureEntry}
 use Rattle.request_text.specs.declared.capture_line.CaptureEntry.TheVariants as entry
 use Rattle.request_text.specs.declared.capture.CaptureItemKind.{CaptureItemKind}
 use Rattle.request_text.specs.declared.capture.CaptureItemKind.TheVariants as item
+use Rattle.request_text.specs.declared.capture.CaptureItem.{CaptureItem}
+use Rattle.request_text.specs.declared.capture.CaptureItem.TheVariants as whole
 
 -- each keyword, and what the words after it stand for
 abbrev pub row_of : CaptureWord → Row
@@ -109,3 +111,15 @@ finish_of c = phases.finish_of c.phase
 abbrev pub HasKey : CaptureEntry → Type 0
 HasKey (entry.User user) = IsTrue (fits_kind user.kind user.psk)
 HasKey other = Unit {0}
+
+-- what a line says, but for the users
+abbrev pub item_kind : CaptureItem → CaptureItemKind
+item_kind whole.Nothing = item.Nothing
+item_kind (whole.Ready users) = item.Ready
+item_kind (whole.Packet to_peer octets) = item.Packet to_peer octets
+item_kind whole.End = item.End
+
+-- at the line `packets` it says these users
+abbrev pub HasUsers : CaptureItem → List User → Type 0
+HasUsers (whole.Ready told) users = told ≡ users
+HasUsers other users = Unit {0}

@@ -1,9 +1,9 @@
 //! Reading a capture, line by line: its header, its users, the line `packets`, its packets, the line
 //! `end`. After the header an empty line and one that begins with `#` are ignored.
 
-ghost use Rattle.std.specs.Prelude.{◌≡◌, [], All, IsTrue, OnErr};
+ghost use Rattle.std.specs.Prelude.{◌≡◌, [], All, IsTrue, IfOk, OnErr};
 ghost use Rattle.login_setup.specs.Setup.{fits_kind};
-ghost use Rattle.request_text.specs.Captures.{finish_of};
+ghost use Rattle.request_text.specs.Captures.{finish_of, item_kind, HasUsers};
 ghost use Rattle.request_text.specs.Captures as captures;
 ghost use Rattle.text_tables.specs.Texts.{line_result};
 ghost use Rattle.text_tables.specs.declared.phase.Phase.TheVariants as phase;
@@ -80,9 +80,14 @@ impl CaptureReader {
         read_line(self, line, &mut ())
     }
 
-    /// Reads the next line, without its end, and says what it says, whole. The line is refused with its first fault, and
-    /// then the reader is as it was.
-    pub fn line(&mut self, line: &[u8]) -> Result<CaptureItem, LineFault> {
+    /// Reads the next line, without its end, and says what it says, whole: the users have keys of their methods' sizes. The
+    /// line is refused with its first fault, and then the reader is as it was.
+    pub fn line(&mut self, line: &[u8]) -> Result<CaptureItem, LineFault>
+        ensures read { captures.read_line self.old line.now ≡ line_result (λ item after none. item_kind item) result self.new (tt {0}) }
+        ensures users { IfOk result (λ item. HasUsers item self.new.users) }
+        ensures keys { All (λ user. IsTrue (fits_kind user.kind user.psk)) self.new.users }
+        ensures unchanged { OnErr result (self.new ≡ self.old) }
+    {
         match self.line_into(line)? {
             CaptureItemKind::Nothing => Ok(CaptureItem::Nothing),
             CaptureItemKind::Ready => Ok(CaptureItem::Ready(self.users.copy())),

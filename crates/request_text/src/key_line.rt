@@ -1,6 +1,6 @@
 //! Requests for ciphers, MACs and keys.
 
-ghost use Rattle.std.specs.Prelude.{◌≡◌, ◌≢◌, [], true, Ok, IfErr};
+ghost use Rattle.std.specs.Prelude.{◌≡◌, ◌≢◌, [], true, Ok, IfErr, IfOk, IfSome};
 ghost use Rattle.text_tables.specs.Words.{words};
 ghost use Rattle.request_text.specs.declared.key_line.KeyLine.TheVariants as key;
 ghost use Rattle.text_tables.specs.Fits.{Fits};
@@ -144,7 +144,10 @@ pub fn read_key_line_into(line: &[u8], asked: &mut KeyLine) -> Result<bool, Line
 }
 
 /// The same, with the request in its answer.
-pub fn read_key_line(line: &[u8]) -> Result<Option<KeyLine>, LineFault> {
+pub fn read_key_line(line: &[u8]) -> Result<Option<KeyLine>, LineFault>
+    ensures value { result ≡ key_line line.now }
+    ensures sizes { IfOk result (λ asked. IfSome asked HasSizes) }
+{
     let mut asked = KeyLine::new();
     if read_key_line_into(line, &mut asked)? {
         Ok(Some(asked))

@@ -5,7 +5,8 @@ ghost use Rattle.std.specs.Prelude.{◌≡◌, IfOk, OnErr};
 ghost use Rattle.text_tables.specs.Texts.{line_result};
 ghost use Rattle.scenario_text.specs.Reading.{no_settings, item_with, setup_of, finish_of, HasSetup};
 ghost use Rattle.scenario_text.specs.Reading as reading;
-ghost use Rattle.scenario_text.specs.Valid.{IsValidSetup};
+ghost use Rattle.scenario_text.specs.Items.{item_value};
+ghost use Rattle.scenario_text.specs.Valid.{IsValidSetup, IsValidItem};
 
 use crate::entry::{Entry, item_of};
 use crate::keyword::{Keyword, keywords_in};
@@ -81,9 +82,13 @@ impl ScenarioReader {
         read_line(self, line, event)
     }
 
-    /// Reads the next line, without its end, and says what it says, whole. The line is refused with its first fault, and
-    /// then the reader is as it was.
-    pub fn line(&mut self, line: &[u8]) -> Result<Item, LineFault> {
+    /// Reads the next line, without its end, and says what it says, whole: its settings are each within its limits. The line
+    /// is refused with its first fault, and then the reader is as it was.
+    pub fn line(&mut self, line: &[u8]) -> Result<Item, LineFault>
+        ensures read { reading.read_line self.old line.now ≡ line_result (λ item after none. item_value item) result self.new (tt {0}) }
+        ensures valid { IfOk result (λ item. IsValidItem (item_value item)) }
+        ensures unchanged { OnErr result (self.new ≡ self.old) }
+    {
         let mut event = Event::Idle;
         match self.line_into(line, &mut event)? {
             ItemKind::Nothing => Ok(Item::Nothing),

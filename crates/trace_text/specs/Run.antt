@@ -99,8 +99,12 @@ shown_text names octets told = sent_text told.event octets told.sent
 abbrev pub acted_text : Bool → List ℕ → Brief → List ℕ
 acted_text names octets told = party_text told.event told.party told.path ++ (cause_text told.event told.cause ++ shown_text names octets told)
 
+-- the line of a skipped event
+abbrev pub skip_text : ℕ → Skip → List ℕ
+skip_text event skip = concat (decimal event ∷ codes " skip " ∷ skip_word skip ∷ codes "\n" ∷ [])
+
 abbrev pub told_by : Bool → List ℕ → Brief → Option Skip → List ℕ
-told_by names octets told (Some skip) = concat (decimal told.event ∷ codes " skip " ∷ skip_word skip ∷ codes "\n" ∷ [])
+told_by names octets told (Some skip) = skip_text told.event skip
 told_by names octets told None = acted_text names octets told
 
 -- the lines of an event, with the octets of packets and the names of keys or without; the packet that was

@@ -5,10 +5,10 @@ ghost use Rattle.std.specs.Prelude.{◌≡◌, Some, slice_index, [], ◌∷◌,
 ghost use Rattle.std.specs.List.{concat};
 ghost use Rattle.answer_text.specs.Writes.{Appends, Puts};
 ghost use Rattle.trace_text.specs.Run.{party_word, port_word, skip_word, code_word, party_text};
-ghost use Rattle.trace_text.specs.Run.{sent_text, octets_text, key_names_line, keys_line, keys_text, acted_text};
+ghost use Rattle.trace_text.specs.Run.{sent_text, octets_text, key_names_line, keys_line, keys_text, acted_text, skip_text};
 ghost use Rattle.trace_text.specs.Run.{told_text, peer_start_text, server_start_text, start_text, stands_text, counts_text, fresh_text, fresh_told, tags_text, verdict_word};
 ghost use Rattle.trace_text.specs.Run.{result_text, end_text_of, end_text, pass_state_line, state_line};
-ghost use Rattle.eap_world.specs.World.{now_of};
+ghost use Rattle.eap_world.specs.World.{brief_of, now_of, packet_octets};
 
 use answer_text::Piece::{Hex, Leading, Line, Number, Text};
 use answer_text::{
@@ -272,14 +272,7 @@ pub fn write_told_brief<W: Sink>(
 {
     match told.skip {
         None => write_acted(sink, told, octets, names),
-        Some(skip) => write_pieces(
-            sink,
-            &[
-                Leading(u64::from(told.event), b" skip "),
-                Text(name_of_skip(skip).as_bytes()),
-                Text(b"\n"),
-            ],
-        ),
+        Some(skip) => write_skip(sink, told.event, skip),
     }
 }
 
@@ -300,12 +293,38 @@ fn write_acted<W: Sink>(
     write_keys(sink, told.event, &told.named, names)
 }
 
-/// Writes the lines of an event, as [`write_told_brief`], of an answer that has its packet.
-pub fn write_told<W: Sink>(sink: &mut W, told: &Told, names: bool) -> Result<(), Failed> {
-    if told.skip.is_some() {
-        return write_skip(sink, told.event, told.skip);
+/// Writes the line of a skipped event.
+fn write_skip<W: Sink>(sink: &mut W, event: u32, skip: Skip) -> Result<(), Failed>
+    ensures { Appends W.shown result sink.old sink.new (skip_text event skip) }
+{
+    write_pieces(
+        sink,
+        &[
+            Leading(u64::from(event), b" skip "),
+            Text(name_of_skip(skip).as_bytes()),
+            Text(b"\n"),
+        ],
+    )
+}
+
+/// Writes the lines of an event, as [`write_told_brief`], of a result that has its packet.
+#[tactic(auto, unfolding(crate::specs::Run::told_text))]
+pub fn write_told<W: Sink>(sink: &mut W, told: &Told, names: bool) -> Result<(), Failed>
+    ensures { Appends W.shown result sink.old sink.new (told_text names (packet_octets told.now.sent) (brief_of told.now)) }
+{
+    match told.skip {
+        None => write_acted_whole(sink, told, names),
+        Some(skip) => write_skip(sink, told.event, skip),
     }
-    let (octets, sent) = sent_of(told);
+}
+
+/// Writes the lines of an event that wasn't skipped, of a result that has its packet.
+#[tactic(auto, using(answer_text::proofs::Fronts::appends_both, answer_text::proofs::Fronts::appends_front))]
+fn write_acted_whole<W: Sink>(sink: &mut W, told: &Told, names: bool) -> Result<(), Failed>
+    ensures { Appends W.shown result sink.old sink.new (acted_text names (packet_octets told.now.sent) (brief_of told.now)) }
+{
+    let sent = number_sent(told);
+    let octets = octets_sent(told);
     write_party(sink, told.event, told.party, told.path.as_slice())?;
     write_cause(sink, told.event, told.cause)?;
     write_sent(sink, told.event, octets, &sent)?;
@@ -313,42 +332,39 @@ pub fn write_told<W: Sink>(sink: &mut W, told: &Told, names: bool) -> Result<(),
     write_keys(sink, told.event, &told.named, names)
 }
 
-/// Writes the line of a skipped event.
-fn write_skip<W: Sink>(sink: &mut W, event: u32, skip: Option<Skip>) -> Result<(), Failed> {
-    match skip {
-        None => write_nothing(sink),
-        Some(skip) => write_pieces(
-            sink,
-            &[
-                Leading(u64::from(event), b" skip "),
-                Text(name_of_skip(skip).as_bytes()),
-                Text(b"\n"),
-            ],
-        ),
-    }
-}
-
-/// The octets of the packet that was sent, and its number and port.
-fn sent_of<'a>(told: &'a Told) -> (&'a [u8], Option<SentNumber>) {
+/// The number and the port of the packet that was sent.
+fn number_sent(told: &Told) -> Option<SentNumber>
+    ensures { result ≡ (brief_of told.now).sent }
+{
     match &told.sent {
-        None => (&[], None),
-        Some(sent) => (
-            sent.packet.as_slice(),
-            Some(SentNumber {
-                number: sent.number,
-                port: sent.port,
-            }),
-        ),
+        None => None,
+        Some(sent) => Some(SentNumber {
+            number: sent.number,
+            port: sent.port,
+        }),
     }
 }
 
-/// Writes the lines of the start, as [`write_start_brief`], of an answer that has its packet.
+/// The octets of the packet that was sent.
+fn octets_sent(told: &Told) -> &[u8]
+    ensures { result.now ≡ packet_octets told.now.sent }
+{
+    match &told.sent {
+        None => &[],
+        Some(sent) => sent.packet.as_slice(),
+    }
+}
+
+/// Writes the lines of the start, as [`write_start_brief`], of a result that has its packet.
+#[tactic(auto, using(answer_text::proofs::Fronts::appends_both, answer_text::proofs::Fronts::appends_front))]
 pub fn write_start<W: Sink>(
     sink: &mut W,
     mode: Mode,
     told: &Told,
     names: bool,
-) -> Result<(), Failed> {
+) -> Result<(), Failed>
+    ensures { Appends W.shown result sink.old sink.new (start_text mode names (packet_octets told.now.sent) (brief_of told.now)) }
+{
     write_peer_start(sink)?;
     write_told(sink, told, names)?;
     write_server_start(sink, mode)
