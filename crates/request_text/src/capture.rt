@@ -85,7 +85,7 @@ impl CaptureReader {
     pub fn line(&mut self, line: &[u8]) -> Result<CaptureItem, LineFault>
         ensures read { captures.read_line self.old line.now ≡ line_result (λ item after none. item_kind item) result self.new (tt {0}) }
         ensures users { IfOk result (λ item. HasUsers item self.new.users) }
-        ensures keys { All (λ user. IsTrue (fits_kind user.kind user.psk)) self.new.users }
+        ensures keys { IfOk result (λ item. All (λ user. IsTrue (fits_kind user.kind user.psk)) self.new.users) }
         ensures unchanged { OnErr result (self.new ≡ self.old) }
     {
         match self.line_into(line)? {
