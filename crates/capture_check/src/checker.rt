@@ -93,6 +93,8 @@ pub struct Checker {
 }
 
 impl Model for Checker {
+    ghost use Rattle.std.specs.Prelude.{All, IsTrue};
+    ghost use Rattle.login_setup.specs.Setup.{fits_kind};
     ghost use Rattle.capture_check.specs.Finding.{Checking};
 
     ghost Value = { Checking };
