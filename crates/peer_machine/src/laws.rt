@@ -1,6 +1,6 @@
 //! Laws of the peer (RFC 4137 section 4). Each is the contract of a function that does nothing.
 
-ghost use Rattle.peer_machine.specs.Laws.{DiscardsKeep};
+ghost use Rattle.peer_machine.specs.Laws.{DiscardsKeep, WonStaysWon};
 ghost use Rattle.peer_machine.specs.Rows.{PeerAnswersAreRows};
 
 /// An input that is discarded changes no variable and no method's view, sends nothing and makes no
@@ -14,4 +14,10 @@ pub fn discards_keep()
 #[tactic(auto, using(crate::proofs::PeerRows::peer_answers_are_rows))]
 pub fn answers_are_rows()
     ensures { PeerAnswersAreRows }
+{}
+
+/// Once its method has decided for a success that nothing can undo, no octets, no timeout and no report of a success lead the peer to FAILURE.
+#[tactic(auto, using(crate::proofs::Winning::won_stays_won))]
+pub fn won_stays_won()
+    ensures { WonStaysWon }
 {}
