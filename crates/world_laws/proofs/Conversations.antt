@@ -55,6 +55,8 @@ module _ (setup : Setup) (last : WorldNow) (ps : List OfPeer) (ss : List OfServe
     peers_match = matching.peers_match setup last ps ss all;
     psk_peers_match = psk.psk_peers_match setup last ps ss all;
     psk_servers_back = psk.psk_servers_back setup last ps ss all;
+    psk_servers_confirm = λ honest fresh s s_is s_in by_psk p p_is rests.
+        (psk.psk_servers_confirm setup last ps ss all honest fresh s s_is s_in by_psk p p_is rests ∙ peers_lead honest fresh s s_is s_in p p_is rests);
     peers_lead = peers_lead;
     servers_lead = matching.servers_lead setup last ps ss all;
     same_keys = matching.same_keys setup last ps ss all;
@@ -145,16 +147,17 @@ module _ (setup : Setup) (events : List Event) (whole : IsWhole setup) where
     server_few = λ s is_one. server_few _ s.now s.accepted s.made (servers_known s is_one).stands;
   }
 
+  pub run_known : AllKnown setup last (peer_conversations setup events) (server_conversations setup events)
+  run_known = record {
+    peers = peers_known;
+    servers = servers_known;
+    peers_two = peers_told.two;
+    servers_two = servers_told.two;
+    are = all_are;
+  }
+
   run_matches : Match last (peer_conversations setup events) (server_conversations setup events)
-  run_matches =
-      they_match setup last (peer_conversations setup events) (server_conversations setup events)
-      (record {
-        peers = peers_known;
-        servers = servers_known;
-        peers_two = peers_told.two;
-        servers_two = servers_told.two;
-        are = all_are;
-      })
+  run_matches = they_match setup last (peer_conversations setup events) (server_conversations setup events) run_known
 
 pub conversations_match : ConversationsMatch
 conversations_match = run_matches

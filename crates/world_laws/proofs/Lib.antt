@@ -155,3 +155,7 @@ mod WorkedExpanded
 mod WorkedFreshness
 -- The conversations of both ends, on what they rest, and whether they are fresh, computed from the definitions alone.
 mod WorkedMatching
+-- Matching conversations of one user of the server.
+pub mod UnderKey
+-- A book that is honest is honest under each key.
+pub mod HonestUnder

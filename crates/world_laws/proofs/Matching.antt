@@ -46,7 +46,7 @@ pub record ServerKnown (setup : ServerSetup) (s : OfServer) : Type 0 where
 -- ---- what a conversation that rests on another tells of it
 
 -- the first tag that it accepted is made there
-is_first : (accepted made : List TagRecord) (tag : TagRecord) (more : List TagRecord) → accepted ≡ tag ∷ more → RestsOn accepted made → IsIn tag made
+pub is_first : (accepted made : List TagRecord) (tag : TagRecord) (more : List TagRecord) → accepted ≡ tag ∷ more → RestsOn accepted made → IsIn tag made
 is_first accepted made tag more first r = (first_in accepted made r.tag r.more r.first r.is_made).is tag more first
 
 -- what a server in SUCCESS holds, and asks of the peer
@@ -59,7 +59,7 @@ module _ (setup : Setup) where
   pub peer_told : (p : OfPeer) → PeerKnown setup.peer p → PeerTold setup.peer (peer_nonce p) (peer_holds p) p.accepted p.made
   peer_told p known = record { selected = p.now.vars.selected; views = p.now.views; tags = known.stands.tags; held_is = refl }
 
-  server_told : (s : OfServer) → ServerKnown setup.server s → ServerTold setup.server (server_nonce s) (server_holds s) s.accepted s.made
+  pub server_told : (s : OfServer) → ServerKnown setup.server s → ServerTold setup.server (server_nonce s) (server_holds s) s.accepted s.made
   server_told s known = record { current = s.now.vars.current; views = s.now.views; tags = known.stands.tags; held_is = refl }
 
   pub peer_won : (p : OfPeer) → PeerKnown setup.peer p → is_success p.now.vars.state ≡ true
@@ -72,7 +72,7 @@ module _ (setup : Setup) where
   server_won s known s_in = server_succeeds (servers.own_nonce setup.server (server_nonce s)) s.now s.accepted s.made known.stands.tags (known.stands.sure s_in)
 
   -- what a server asks that holds a nonce
-  server_asking : (s : OfServer) → ServerKnown setup.server s → (foreign : List ℕ) → server_holds s ≡ Some foreign
+  pub server_asking : (s : OfServer) → ServerKnown setup.server s → (foreign : List ℕ) → server_holds s ≡ Some foreign
       → AsksPeer setup.server (server_nonce s) foreign s.accepted
   server_asking s known foreign holds =
       server_asks setup.server (server_nonce s) foreign known.size (server_holds s) s.accepted s.made (server_told s known) holds
@@ -82,15 +82,15 @@ module _ (setup : Setup) where
       let held = success.server_holds (servers.own_nonce setup.server (server_nonce s)) s.now s.accepted s.made (server_won s known s_in) in
       record { foreign = held.foreign; holds = held.is; asks = server_asking s known held.foreign held.is }
 
-  peer_in : (p : OfPeer) → PeerKnown setup.peer p → is_success p.now.vars.state ≡ true → AsksServer (peer_nonce p) p.accepted
+  pub peer_in : (p : OfPeer) → PeerKnown setup.peer p → is_success p.now.vars.state ≡ true → AsksServer (peer_nonce p) p.accepted
   peer_in p known p_in = peer_asks setup.peer (peer_nonce p) p.now p.accepted p.made known.size (peer_won p known p_in)
 
   -- a tag tells both nonces of the peer's conversation that made it, and the peer's of the server's
-  made_by : (p : OfPeer) → PeerKnown setup.peer p → (t : TagRecord) (own foreign : List ℕ) → MadeByPeer t own foreign → IsIn t p.made
+  pub made_by : (p : OfPeer) → PeerKnown setup.peer p → (t : TagRecord) (own foreign : List ℕ) → MadeByPeer t own foreign → IsIn t p.made
       → (front (peer_nonce p) ≡ own) × (peer_holds p ≡ Some foreign)
   made_by p known t own foreign made is = made.tells setup.peer (peer_nonce p) (peer_holds p) p.accepted p.made known.size (peer_told p known) is
 
-  made_at : (s : OfServer) → ServerKnown setup.server s → (t : TagRecord) (foreign : List ℕ) → MadeByServer t foreign → IsIn t s.made
+  pub made_at : (s : OfServer) → ServerKnown setup.server s → (t : TagRecord) (foreign : List ℕ) → MadeByServer t foreign → IsIn t s.made
       → server_holds s ≡ Some foreign
   made_at s known t foreign made is = made.tells setup.server (server_nonce s) (server_holds s) s.accepted s.made (server_told s known) is
 
@@ -102,20 +102,20 @@ module _ (setup : Setup) where
       made_by p p_known a.asks.tag a.foreign (front (server_nonce s)) a.asks.made (is_first s.accepted p.made a.asks.tag a.asks.rest a.asks.first r)
 
   -- one of the peer in SUCCESS that rests on one of the server
-  peer_on : (p : OfPeer) → PeerKnown setup.peer p → is_success p.now.vars.state ≡ true → (s : OfServer) → ServerKnown setup.server s
+  pub peer_on : (p : OfPeer) → PeerKnown setup.peer p → is_success p.now.vars.state ≡ true → (s : OfServer) → ServerKnown setup.server s
       → RestsOn p.accepted s.made → server_holds s ≡ Some (front (peer_nonce p))
   peer_on p known p_in s s_known r =
       let a = peer_in p known p_in in
       made_at s s_known a.tag (front (peer_nonce p)) a.made (is_first p.accepted s.made a.tag a.rest a.first r)
 
   -- one of the server that rests on one of the peer; and one of the peer in SUCCESS that rests on one of the server
-  server_one : (s : OfServer) → ServerKnown setup.server s → (p : OfPeer) → PeerKnown setup.peer p → RestsOn s.accepted p.made → AreOfOne p s
+  pub server_one : (s : OfServer) → ServerKnown setup.server s → (p : OfPeer) → PeerKnown setup.peer p → RestsOn s.accepted p.made → AreOfOne p s
   server_one s known p p_known r =
       let are = resting.server_on setup.peer setup.server (peer_nonce p) (server_nonce s) p_known.size known.size p.now.vars.selected p.now.views
       s.now.vars.current s.now.views _ _ known.stands.tags _ _ p_known.stands.tags r.tag r.more r.first r.is_made in
       record { method = are.method; whole = are.whole }
 
-  peer_one : (p : OfPeer) → PeerKnown setup.peer p → is_success p.now.vars.state ≡ true → (s : OfServer) → ServerKnown setup.server s
+  pub peer_one : (p : OfPeer) → PeerKnown setup.peer p → is_success p.now.vars.state ≡ true → (s : OfServer) → ServerKnown setup.server s
       → RestsOn p.accepted s.made → AreOfOne p s
   peer_one p known p_in s s_known r =
       let are = resting.peer_on setup.peer setup.server (peer_nonce p) (server_nonce s) known.size s_known.size p.now s.now.vars.current s.now.views
@@ -123,7 +123,7 @@ module _ (setup : Setup) where
       record { method = are.method; whole = are.whole }
 
   -- two in SUCCESS that rest on each other agree
-  reports_agree : (p : OfPeer) → PeerKnown setup.peer p → is_success p.now.vars.state ≡ true → (s : OfServer) → ServerKnown setup.server s
+  pub reports_agree : (p : OfPeer) → PeerKnown setup.peer p → is_success p.now.vars.state ≡ true → (s : OfServer) → ServerKnown setup.server s
       → is_success s.now.vars.state ≡ true → RestsOn p.accepted s.made → RestsOn s.accepted p.made → ReportsAgree p s
   reports_agree p known p_in s s_known s_in on back =
       let peer_setup = peers.own_nonce setup.peer (peer_nonce p) in
@@ -181,7 +181,7 @@ module _ (setup : Setup) (last : WorldNow) (ps : List OfPeer) (ss : List OfServe
   -- ---- the server's
 
   -- a tag that no conversation of the server can have made is none that it made
-  not_servers : (t : TagRecord) → NotByServer setup.server t → IsIn t (tags_by end.Server Made last.book) → ⊥
+  pub not_servers : (t : TagRecord) → NotByServer setup.server t → IsIn t (tags_by end.Server Made last.book) → ⊥
   not_servers t alien is =
       let m = made_in t ss (subst (λ (l : List TagRecord). IsIn t l) all.are.server_made is) in
       let known = all.servers m.by m.is_one in

@@ -35,7 +35,7 @@ pub record HasPsk4 (nonce : List ℕ) (accepted : List TagRecord) : Type 0 where
 
 pub psk4_taken : (setup : ServerSetup) (nonce : List ℕ) (login : psk_server.Login) (good : Bool) (accepted made : List TagRecord)
     → PskServerTags (servers.own_nonce setup nonce) (psk_server.over login good) accepted made → HasPsk4 nonce accepted
-psk4_taken setup nonce login _ _ _ (psk_over _ _ header sealed id facts r_sent rand_in) = record {
+psk4_taken setup nonce login _ _ _ (psk_over _ _ header sealed id facts r_sent rand_in r_came) = record {
   psk = login.psk;
   header = header;
   sealed = sealed;

@@ -54,6 +54,15 @@ pub header_made : (login : psk.Login) (id : ℕ) → length login.rand_s ≡ 16 
 unfolding psk.psk4_header packets.spelled messages.spelled
 header_made login id size = take_at login.rand_s _ 16 size
 
+-- tags over equal octets have equal sealed octets
+one_octet : (sealed sealed' : ℕ) → ◌≡◌ {A = List ℕ} (sealed ∷ []) (sealed' ∷ []) → sealed ≡ sealed'
+one_octet sealed sealed' e = cc
+
+pub same_sealed : (header other : List ℕ) (sealed sealed' : ℕ) → channel_octets 1 header sealed ≡ channel_octets 1 other sealed' → sealed ≡ sealed'
+unfolding channel_octets channel_nonce
+same_sealed header other sealed sealed' e =
+    one_octet sealed sealed' (ends 1 header (sealed ∷ []) other (sealed' ∷ []) refl refl (fronts 16 (channel_nonce 1) _ (channel_nonce 1) _ refl refl e).1).1
+
 -- tags over equal octets have equal headers
 pub same_header : (header other : List ℕ) (sealed sealed' : ℕ) → channel_octets 1 header sealed ≡ channel_octets 1 other sealed' → header ≡ other
 unfolding channel_octets channel_nonce

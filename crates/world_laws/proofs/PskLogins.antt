@@ -1,5 +1,5 @@
 -- The login of an end that has succeeded by EAP-PSK is that of the other end's conversation on whose tags it rests.
-use Rattle.std.proofs.Common.{◌≡◌, ℕ, true, List, ◌∷◌, ◌++◌, length, Option, Some, refl, sym, ap, subst, ◌∙◌, arith, inl, inr}
+use Rattle.std.proofs.Common.{◌≡◌, ℕ, Bool, true, false, List, ◌∷◌, ◌++◌, length, Option, Some, refl, sym, ap, subst, ◌∙◌, arith, inl, inr}
 use Rattle.login_setup.specs.declared.setup.PeerSetup.{PeerSetup}
 use Rattle.login_setup.specs.declared.setup.ServerSetup.{ServerSetup}
 use Rattle.octet_lists.specs.Among.{psk_kind, gpsk_kind}
@@ -9,8 +9,9 @@ use Rattle.eap_method.specs.declared.tags.TagRecord.{TagRecord}
 use Rattle.eap_method.specs.declared.values.Report.{Report}
 use Rattle.eap_method.specs.PskPeer as peer
 use Rattle.eap_method.specs.PskServer as server
-use Rattle.eap_method.specs.PskTags.{ak_record, rand_of, mac_p_octets}
+use Rattle.eap_method.specs.PskTags.{ak_record, rand_of, mac_p_octets, hidden_octet, octet_with, result_of, done_success}
 use Rattle.eap_method.specs.Server.{side_of}
+use Rattle.method_laws.proofs.PskChannel.{sealed_opened}
 use Rattle.peer_machine.specs.PeerTable.{PeerNow}
 use Rattle.server_machine.specs.ServerTable.{ServerNow}
 use Rattle.world_laws.specs.Alone.{SameKeys}
@@ -25,6 +26,7 @@ use Rattle.world_laws.proofs.Fields.{ends}
 use Rattle.world_laws.proofs.Leads.{LeadsTo, LoginOf, PeersLogin, ServersLogin, own_key, own_name}
 use Rattle.world_laws.proofs.PskAgrees as agrees
 use Rattle.world_laws.proofs.PskFields.{front_size}
+use Rattle.world_laws.proofs.PskHeaders.{same_sealed}
 use Rattle.world_laws.proofs.PskPeerTells.{labels_apart}
 use Rattle.world_laws.proofs.SucceedingEnds.{FirstIn, first_in}
 
@@ -34,7 +36,7 @@ pub first_method : (setup : ServerSetup) (view : server.View) (accepted made : L
 first_method setup _ _ _ (psk_server_stands.psk_asked ordered) tag more first = no_tag tag more first
 first_method setup _ _ _ psk_server_stands.psk_refused tag more first = no_tag tag more first
 first_method setup _ _ _ (psk_server_stands.psk_checked login id facts) tag more first = ap (λ (t : TagRecord). t.method) (first_is _ tag _ more first)
-first_method setup _ _ _ (psk_server_stands.psk_over login good header sealed id facts r_sent rand_in) tag more first =
+first_method setup _ _ _ (psk_server_stands.psk_over login good header sealed id facts r_sent rand_in r_came) tag more first =
     ap (λ (t : TagRecord). t.method) (first_is _ tag _ more first)
 
 -- equal octets under MAC_P
@@ -92,7 +94,7 @@ module _ (peer_setup : PeerSetup) (server_setup : ServerSetup) (peer_nonce : len
     server_leads _ _ _ (psk_server_stands.psk_asked ordered) is first = elim is [ ]
     server_leads _ _ _ (psk_server_stands.psk_checked other other_id checked) is first = checked_leads other other_id checked is (first.is _ _ refl)
     server_leads _ _ _ psk_server_stands.psk_refused is first = elim is [ ]
-    server_leads _ _ _ (psk_server_stands.psk_over other good header sealed other_id checked r_sent rand_in) is first =
+    server_leads _ _ _ (psk_server_stands.psk_over other good header sealed other_id checked r_sent rand_in r_came) is first =
         checked_leads other other_id checked is (first.is _ _ refl)
 
   pub peers_login : (now : PeerNow) (login : peer.Login) → PskBegun peer_setup login → now.vars.selected ≡ Some psk_kind → now.views.psk ≡ peer.over login true
@@ -167,6 +169,61 @@ module _ (peer_setup : PeerSetup) (server_setup : ServerSetup) (peer_nonce : len
     rests_leads _ _ _ (psk_peer_stands.psk_over other good their_header their_sealed their_id facts) is back =
         elim (among_two _ _ _ is) [
           | inl e ↦ over_leads other facts e ((first_in _ _ back.tag back.more back.first back.is_made).is _ _ refl)
+          | inr e ↦ labels_apart (ap (λ (r : TagRecord). r.label) e)
+        ]
+
+  -- ---- where PSK-4 says DONE_SUCCESS, the login of the peer that made it has succeeded
+
+  -- a view of a peer whose login has succeeded
+  pub record HasWon (view : peer.View) : Type 0 where
+    pub login : peer.Login
+    pub in_view : view ≡ peer.over login true
+    pub facts : PskBegun peer_setup login
+
+  module _ (login : server.Login) (checked : PskChecked server_setup login) (header : List ℕ) (sealed : ℕ)
+      (r_came : result_of (hidden_octet (server.keys_of login).tek 1 sealed) ≡ done_success) where
+    same_tek : (other : peer.Login) → other.cred.psk ≡ login.psk → rand_of other.nonce ≡ login.rand_p → (server.keys_of login).tek ≡ (peer.keys_of other).tek
+    unfolding peer.keys_of server.keys_of
+    same_tek other key rand = rw (key, rand) refl
+
+    their_octet : (other : peer.Login) (id r : ℕ) → hidden_octet (peer.keys_of other).tek 1 (peer.psk4_octet other id r) ≡ octet_with r
+    unfolding peer.psk4_sealed
+    their_octet other id r = sealed_opened _ _ _ _
+
+    -- the result in it is the one with which the peer's login ended
+    their_result : (other : peer.Login) (id r : ℕ) → other.cred.psk ≡ login.psk → rand_of other.nonce ≡ login.rand_p → sealed ≡ peer.psk4_octet other id r
+        → result_of (octet_with r) ≡ done_success
+    their_result other id r key rand same =
+        ap result_of
+        (sym (their_octet other id r) ∙ ap (λ (octet : ℕ). hidden_octet (peer.keys_of other).tek 1 octet) (sym same)
+        ∙ ap (λ (tek : List ℕ). hidden_octet tek 1 sealed) (sym (same_tek other key rand)))
+        ∙ r_came
+
+    by_result : (other : peer.Login) (good : Bool) (id : ℕ) → PskBegun peer_setup other → other.cred.psk ≡ login.psk → rand_of other.nonce ≡ login.rand_p
+        → sealed ≡ peer.psk4_octet other id (psk_peer_stands.result_for good) → HasWon (peer.over other good)
+    by_result other true id facts key rand same = record { login = other; in_view = refl; facts = facts }
+    by_result other false id facts key rand same = absurd (omega (arith, their_result other id 3 key rand same))
+
+    by_both : (other : peer.Login) (good : Bool) (id : ℕ) → PskBegun peer_setup other → psk_server_stands.psk2_record login ≡ psk_peer_stands.psk2_record other
+        → IsIn (psk_server_stands.psk4_taken login header sealed) (psk_peer_stands.psk2_record other ∷ peer.psk4_record other id (psk_peer_stands.result_for good))
+        → HasWon (peer.over other good)
+    by_both other good id facts e last =
+        let macs = same_mac_p other login (front_size other.nonce (omega (arith, ap length facts.nonce, peer_nonce))) checked.size facts.size
+        (front_size login.nonce (omega (arith, ap length checked.nonce, server_nonce))) (ap (λ (r : TagRecord). r.octets) e) in
+        elim (among_two _ _ _ last) [
+          | inl f ↦ labels_apart (sym (ap (λ (r : TagRecord). r.label) f))
+          | inr f ↦ by_result other good id facts (sym (ap (λ (r : TagRecord). r.psk) e)) macs.rand_p
+              (same_sealed header (peer.psk4_header other id) _ _ (ap (λ (r : TagRecord). r.octets) f))
+        ]
+
+    pub confirms : (view : peer.View) (accepted made : List TagRecord) → PskPeerTags peer_setup view accepted made
+        → IsIn (psk_server_stands.psk2_record login) made → IsIn (psk_server_stands.psk4_taken login header sealed) made → HasWon view
+    confirms _ _ _ psk_peer_stands.psk_unset is last = elim is [ ]
+    confirms _ _ _ (psk_peer_stands.psk_fresh allowed) is last = elim is [ ]
+    confirms _ _ _ (psk_peer_stands.psk_waits other facts) is last = labels_apart (sym (ap (λ (r : TagRecord). r.label) (among_one _ _ last)))
+    confirms _ _ _ (psk_peer_stands.psk_over other good their_header their_sealed their_id facts) is last =
+        elim (among_two _ _ _ is) [
+          | inl e ↦ by_both other good their_id facts e last
           | inr e ↦ labels_apart (ap (λ (r : TagRecord). r.label) e)
         ]
 

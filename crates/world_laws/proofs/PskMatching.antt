@@ -1,17 +1,23 @@
 -- Matching conversations by EAP-PSK: one of the peer on which one of the server in SUCCESS rests does rest on that; and the peer's
 -- match also where tags came back to it.
-use Rattle.std.proofs.Common.{◌≡◌, true, List, [], Some, refl, sym, subst, ◌∙◌, inl, inr}
+use Rattle.std.proofs.Common.{◌≡◌, ℕ, true, List, [], ◌∷◌, drop, Option, Some, refl, sym, ap, subst, ◌∙◌, inl, inr}
 use Rattle.login_setup.specs.declared.setup.Setup.{Setup}
 use Rattle.octet_lists.specs.Among.{gpsk_kind, psk_kind}
 use Rattle.eap_method.specs.declared.tags.TagRecord.{TagRecord}
-use Rattle.eap_method.specs.PskTags.{tek_record}
+use Rattle.eap_method.specs.PskServer as psk_server
+use Rattle.eap_method.specs.PskTags.{done_success, hidden_octet, result_of, tek_record}
+use Rattle.peer_machine.specs.PeerTable as peers
+use Rattle.peer_machine.specs.PeerTable.{peer_reports}
 use Rattle.server_machine.specs.ServerTable as servers
 use Rattle.tag_book.specs.Book.{first_broken, tags_verdict, tags_verdict_either}
 use Rattle.eap_world.specs.Conversations.{front}
-use Rattle.world_laws.specs.ByMethod.{ServerHasSucceeded, gpsk_server_succeeded, psk_server_succeeded}
+use Rattle.world_laws.specs.ByMethod.{ServerHasSucceeded, gpsk_server_succeeded, peer_login, psk_server_succeeded}
 use Rattle.world_laws.specs.EachConversation.{IsOneOf, OfPeer, OfServer, all_made, peer_holds, peer_nonce, server_holds, server_nonce}
 use Rattle.world_laws.specs.Matching.{PeerMatches, RestsOn}
-use Rattle.world_laws.specs.Records.{IsIn, tags_by}
+use Rattle.world_laws.specs.PskPeerStands.{psk_peer_login}
+use Rattle.world_laws.specs.PskServerStands.{PskChecked, PskServerTags, psk_over, psk2_record}
+use Rattle.world_laws.specs.PskServerStands.{psk4_taken as psk4_record_of}
+use Rattle.world_laws.specs.Records.{IsIn, here, later, tags_by}
 use Rattle.world_laws.proofs.HonestOfEither.{honest_of_either, none_if_honest}
 use Rattle.world_laws.proofs.HonestOther.{honest_other}
 use Rattle.world_laws.proofs.Matching.{AllKnown, ServerKnown}
@@ -19,9 +25,13 @@ use Rattle.world_laws.proofs.Matching as matching
 use Rattle.world_laws.proofs.OneLogin.{one_held}
 use Rattle.world_laws.proofs.OneMethod.{apart}
 use Rattle.world_laws.proofs.OneOf.{accepted_in, made_in}
+use Rattle.world_laws.proofs.PeerByMethod.{made_by_psk as peer_made_by_psk}
+use Rattle.world_laws.proofs.PskAgrees.{peer_reported}
+use Rattle.world_laws.proofs.PskLogins as logins
 use Rattle.world_laws.proofs.PskAnswered.{HasAsked, HasPsk4, has_asked, psk4_taken}
 use Rattle.world_laws.proofs.PskReflected.{AsksAnother, asks_another}
 use Rattle.world_laws.proofs.ServerByMethod.{told_by_psk}
+use Rattle.world_laws.proofs.SucceedingEnds.{first_in}
 use Rattle.world_laws.proofs.TagsOfEnds.{honest_tags}
 use Rattle.eap_world.specs.Judgement.{is_success}
 use Rattle.eap_world.specs.World.{WorldNow}
@@ -58,8 +68,13 @@ module _ (setup : Setup) (last : WorldNow) (ps : List OfPeer) (ss : List OfServe
       let same = matching.the_same_server setup last ps ss all fresh r.on s r.is_one s_is (one_held (peer_holds q) _ _ b.hold.rand_s h.holds) in
       (subst (λ (t : OfServer). RestsOn q.accepted t.made) same r.rests, subst (λ (t : OfServer). server_holds t ≡ Some (front (peer_nonce q))) same r.rand_p)
 
+  -- it has made that PSK-4, and rests on the server's
+  pub record Answers (s : OfServer) (is : HasPsk4 (server_nonce s) s.accepted) (p : OfPeer) : Type 0 where
+    pub rests : RestsOn p.accepted s.made
+    pub made : IsIn (tek_record is.psk 1 is.header is.sealed is.tag) p.made
+
   psk_back : tags_verdict last.book ≡ Honest → last.conversations.fresh ≡ true → (s : OfServer) → IsOneOf s ss → is_success s.now.vars.state ≡ true
-      → HasPsk4 (server_nonce s) s.accepted → (p : OfPeer) → IsOneOf p ps → RestsOn s.accepted p.made → RestsOn p.accepted s.made
+      → (is : HasPsk4 (server_nonce s) s.accepted) → (p : OfPeer) → IsOneOf p ps → RestsOn s.accepted p.made → Answers s is p
   psk_back honest fresh s s_is s_in is p p_is rests =
       let listed : IsIn (tek_record is.psk 1 is.header is.sealed is.tag) (tags_by end.Server Accepted last.book) =
       subst (λ (l : List TagRecord). IsIn (tek_record is.psk 1 is.header is.sealed is.tag) l) (sym all.are.server_accepted) (accepted_in _ s ss s_is is.is_in) in
@@ -74,11 +89,68 @@ module _ (setup : Setup) (last : WorldNow) (ps : List OfPeer) (ss : List OfServe
       let asking = matching.server_in setup s s_known s_in in
       let same = matching.the_same setup last ps ss all fresh m.by p m.is_one p_is
       (one_held (server_holds s) _ _ a.1 asking.holds ∙ sym (matching.server_on setup s s_known s_in p (all.peers p p_is) rests).0) in
-      subst (λ (q : OfPeer). RestsOn q.accepted s.made) same a.0
+      record {
+        rests = subst (λ (q : OfPeer). RestsOn q.accepted s.made) same a.0;
+        made = subst (λ (q : OfPeer). IsIn (tek_record is.psk 1 is.header is.sealed is.tag) q.made) same m.is_in;
+      }
 
   pub psk_servers_back : tags_verdict last.book ≡ Honest → last.conversations.fresh ≡ true → (s : OfServer) → IsOneOf s ss → is_success s.now.vars.state ≡ true
       → s.now.vars.current ≡ Some psk_kind → (p : OfPeer) → IsOneOf p ps → RestsOn s.accepted p.made → RestsOn p.accepted s.made
-  psk_servers_back honest fresh s s_is s_in by_psk = psk_back honest fresh s s_is s_in (psk4_in s (all.servers s s_is) s_in by_psk)
+  psk_servers_back honest fresh s s_is s_in by_psk p p_is rests = (psk_back honest fresh s s_is s_in (psk4_in s (all.servers s s_is) s_in by_psk) p p_is rests).rests
+
+  -- ---- by EAP-PSK the login of that peer has succeeded
+
+  -- one of the server in SUCCESS by EAP-PSK has accepted a PSK-4 that says DONE_SUCCESS
+  record HasConfirmed (s : OfServer) : Type 0 where
+    pub login : psk_server.Login
+    pub header : List ℕ
+    pub sealed : ℕ
+    pub checked : PskChecked (servers.own_nonce setup.server (server_nonce s)) login
+    pub more : List TagRecord
+    pub first : s.accepted ≡ psk2_record login ∷ more
+    pub is_in : IsIn (psk4_record_of login header sealed) s.accepted
+    pub rand_in : drop 6 header ≡ front (server_nonce s)
+    pub r_came : result_of (hidden_octet (psk_server.keys_of login).tek 1 sealed) ≡ done_success
+
+  confirmed_by : (s : OfServer) (login : psk_server.Login) (accepted made : List TagRecord) → s.accepted ≡ accepted
+      → PskServerTags (servers.own_nonce setup.server (server_nonce s)) (psk_server.over login true) accepted made → HasConfirmed s
+  confirmed_by s login _ _ e (psk_over _ _ header sealed id facts r_sent rand_in r_came) = record {
+    login = login;
+    header = header;
+    sealed = sealed;
+    checked = facts;
+    more = _;
+    first = e;
+    is_in = subst (λ (l : List TagRecord). IsIn (psk4_record_of login header sealed) l) (sym e) (later _ _ (here _));
+    rand_in = rand_in ∙ ap front facts.nonce;
+    r_came = r_came refl;
+  }
+
+  confirmed : (s : OfServer) → ServerKnown setup.server s → is_success s.now.vars.state ≡ true → s.now.vars.current ≡ Some psk_kind → HasConfirmed s
+  confirmed s known s_in by_psk = of_success (known.stands.sure s_in)
+    where
+      of_success : ServerHasSucceeded s.now.vars.current s.now.views → HasConfirmed s
+      of_success (psk_server_succeeded login is_current in_view) =
+          confirmed_by s login s.accepted s.made refl
+          (told_by_psk (servers.own_nonce setup.server (server_nonce s)) s.now.vars.current s.now.views _ s.accepted s.made is_current in_view
+          known.stands.tags)
+      of_success (gpsk_server_succeeded login is_current in_view) = apart s.now.vars.current gpsk_kind psk_kind refl is_current by_psk
+
+  pub psk_servers_confirm : tags_verdict last.book ≡ Honest → last.conversations.fresh ≡ true → (s : OfServer) → IsOneOf s ss → is_success s.now.vars.state ≡ true
+      → s.now.vars.current ≡ Some psk_kind → (p : OfPeer) → IsOneOf p ps → RestsOn s.accepted p.made
+      → peer_reports p.now ≡ peer_login p.now.vars.selected p.now.views
+  psk_servers_confirm honest fresh s s_is s_in by_psk p p_is rests =
+      let c = confirmed s (all.servers s s_is) s_in by_psk in
+      let is : HasPsk4 (server_nonce s) s.accepted =
+      record { psk = c.login.psk; header = c.header; sealed = c.sealed; tag = _; is_in = c.is_in; rand_in = c.rand_in } in
+      let known = all.peers p p_is in
+      let a = psk_back honest fresh s s_is s_in is p p_is rests in
+      let by = peer_made_by_psk (peers.own_nonce setup.peer (peer_nonce p)) p.now.vars.selected p.now.views p.accepted p.made _ known.stands.tags a.made refl in
+      let won = logins.confirms (peers.own_nonce setup.peer (peer_nonce p)) (servers.own_nonce setup.server (server_nonce s)) known.size (all.servers s s_is).size
+      c.login c.checked c.header c.sealed c.r_came p.now.views.psk p.accepted p.made by.1
+      ((first_in s.accepted p.made rests.tag rests.more rests.first rests.is_made).is _ _ c.first) a.made in
+      peer_reported (peers.own_nonce setup.peer (peer_nonce p)) won.login won.facts p.now by.0 won.in_view
+      ∙ sym (ap (λ (o : Option ℕ). peer_login o p.now.views) by.0 ∙ ap psk_peer_login won.in_view)
 
   -- ---- by EAP-PSK a tag that came back to the peer is none of its own
 

@@ -46,7 +46,7 @@ module _ (key id_s rand_p mac : List ℕ) (p_size : length rand_p ≡ 16) where
   psk_view_tells setup _ _ _ (psk_asked ordered) is = elim is [ ]
   psk_view_tells setup _ _ _ (psk_checked login id facts) is = psk3_tells setup login id facts is
   psk_view_tells setup _ _ _ psk_refused is = elim is [ ]
-  psk_view_tells setup _ _ _ (psk_over login good header sealed id facts r_sent rand_in) is = psk3_tells setup login id facts is
+  psk_view_tells setup _ _ _ (psk_over login good header sealed id facts r_sent rand_in r_came) is = psk3_tells setup login id facts is
 
   psk_tags_tell : (setup : ServerSetup) (current : Option ℕ) (views : ServerViews) (accepted made : List TagRecord)
       → ServerTags setup current views accepted made → IsIn mac_s_tag made → server_foreign current views ≡ Some rand_p
@@ -106,7 +106,7 @@ module _ (setup : ServerSetup) (nonce : List ℕ) (login : psk.Login) (facts : P
   psk2_not_in other _ _ _ (psk_asked ordered) is = elim is [ ]
   psk2_not_in other _ _ _ (psk_checked theirs id checked) is = not_psk3 other theirs id checked is
   psk2_not_in other _ _ _ psk_refused is = elim is [ ]
-  psk2_not_in other _ _ _ (psk_over theirs good header sealed id checked r_sent rand_in) is = not_psk3 other theirs id checked is
+  psk2_not_in other _ _ _ (psk_over theirs good header sealed id checked r_sent rand_in r_came) is = not_psk3 other theirs id checked is
 
   psk2_alien : NotByServer setup psk2_tag
   psk2_alien = record {
@@ -142,7 +142,7 @@ module _ (setup : ServerSetup) (nonce foreign : List ℕ) (size : length nonce �
   psk_view_asks _ _ _ (psk_asked ordered) holds = absurd cc
   psk_view_asks _ _ _ (psk_checked login id facts) holds = psk_asks login _ facts holds
   psk_view_asks _ _ _ psk_refused holds = absurd cc
-  psk_view_asks _ _ _ (psk_over login good header sealed id facts r_sent rand_in) holds = psk_asks login _ facts holds
+  psk_view_asks _ _ _ (psk_over login good header sealed id facts r_sent rand_in r_came) holds = psk_asks login _ facts holds
 
 pub psk3_asks : (setup : PeerSetup) (nonce : List ℕ) (login : psk_peer.Login) (header : List ℕ) (sealed : ℕ) → length nonce ≡ 32
     → PskBegun (peers.own_nonce setup nonce) login → AsksServer nonce (psk3_taken login header sealed)

@@ -11,7 +11,7 @@ use Rattle.eax_mode.specs.Eax.{eax_tag}
 use Rattle.eap_method.specs.declared.tags.TagRecord.{TagRecord}
 use Rattle.eap_method.specs.declared.values.ServerSide.{ServerSide}
 use Rattle.eap_method.specs.PskServer as psk
-use Rattle.eap_method.specs.PskTags.{ak_record, tek_record, channel_nonce}
+use Rattle.eap_method.specs.PskTags.{ak_record, tek_record, channel_nonce, hidden_octet, result_of}
 use Rattle.eap_method.specs.Server.{side_of}
 use Rattle.eap_method.specs.Turns.{ServerOutcome, body_of}
 use Rattle.method_laws.specs.PskServerRows as psk_row
@@ -41,7 +41,7 @@ pub psk_none : (setup : ServerSetup) (view : psk.View) (accepted made : List Tag
 psk_none setup _ _ _ (psk_asked ordered) e = refl
 psk_none setup _ _ _ (psk_checked login id facts) e = absurd cc
 psk_none setup _ _ _ psk_refused e = refl
-psk_none setup _ _ _ (psk_over login good header sealed id facts r_sent rand_in) e = absurd cc
+psk_none setup _ _ _ (psk_over login good header sealed id facts r_sent rand_in r_came) e = absurd cc
 
 -- ---- the Request
 
@@ -94,13 +94,14 @@ module _ (setup : ServerSetup) where
       })))
 
   psk_ends : (login : psk.Login) (good : Bool) (header tag : List ℕ) (sealed : ℕ) → (good ≡ true → login.r ≡ 2)
-      → drop 6 header ≡ psk.rand_s_of login → (accepted made : List TagRecord) → PskServerTags setup (psk.checked login) accepted made
+      → drop 6 header ≡ psk.rand_s_of login → (good ≡ true → result_of (hidden_octet (psk.keys_of login).tek 1 sealed) ≡ 2)
+      → (accepted made : List TagRecord) → PskServerTags setup (psk.checked login) accepted made
       → eax_tag (psk.keys_of login).tek (channel_nonce 1) header (sealed ∷ []) ≡ tag
       → PskServerTags setup (psk.over login good) (accepted ++ tek_record login.psk 1 header sealed tag ∷ []) (made ++ [])
-  psk_ends login good header tag sealed r_sent rand_in _ _ (psk_checked _ id facts) has_tag =
+  psk_ends login good header tag sealed r_sent rand_in r_came _ _ (psk_checked _ id facts) has_tag =
       subst
       (λ (t : List ℕ). PskServerTags setup (psk.over login good) (psk2_record login ∷ tek_record login.psk 1 header sealed t ∷ []) (psk.psk3_records login id))
-      has_tag (psk_over login good header sealed id facts r_sent rand_in)
+      has_tag (psk_over login good header sealed id facts r_sent rand_in r_came)
 
   module _ (next_id : ℕ) (octets : List ℕ) (accepted made : List TagRecord) where
     pub psk_turned : (view : psk.View) (out : ServerOutcome psk.View) → PskServerTags setup view accepted made
@@ -113,14 +114,14 @@ module _ (setup : ServerSetup) where
         requests _ _ _
         (psk_answers own nonce rand_s rand_p mac id_p _ user next_id accepted made (at_psk setup accepted made view _ in_view told)
         is_read known has_mac)
-    psk_turned view _ told (psk_row.ends_success login rand_s _ tag sealed in_view is_read own_nonce _ _ has_tag _ _ own_success _) =
+    psk_turned view _ told (psk_row.ends_success login rand_s _ tag sealed in_view is_read own_nonce _ _ has_tag _ _ own_success their_success) =
         ends true _ _
-        (psk_ends login true _ tag sealed (λ _. own_success) (header_read octets rand_s _ tag sealed is_read ∙ own_nonce) accepted made
+        (psk_ends login true _ tag sealed (λ _. own_success) (header_read octets rand_s _ tag sealed is_read ∙ own_nonce) (λ _. their_success) accepted made
         (at_psk setup accepted made view _ in_view told) has_tag)
         (λ _. (login, refl))
     psk_turned view _ told (psk_row.ends_failure login rand_s _ tag sealed in_view is_read own_nonce _ _ has_tag _ _ _ _) =
         ends false _ _
-        (psk_ends login false _ tag sealed (λ e. absurd (false≢true e)) (header_read octets rand_s _ tag sealed is_read ∙ own_nonce) accepted made
+        (psk_ends login false _ tag sealed (λ e. absurd (false≢true e)) (header_read octets rand_s _ tag sealed is_read ∙ own_nonce) (λ e. absurd (false≢true e)) accepted made
         (at_psk setup accepted made view _ in_view told) has_tag)
         (λ e. absurd (false≢true e))
 
@@ -136,5 +137,5 @@ psk_method setup _ _ _ t (psk_asked ordered) is = elim is [ ]
 psk_method setup _ _ _ t (psk_checked login id facts) is =
     elim (among_two _ _ _ is) [ inl e ↦ ap (λ (r : TagRecord). r.method) e | inr e ↦ ap (λ (r : TagRecord). r.method) e ]
 psk_method setup _ _ _ t psk_refused is = elim is [ ]
-psk_method setup _ _ _ t (psk_over login good header sealed id facts r_sent rand_in) is =
+psk_method setup _ _ _ t (psk_over login good header sealed id facts r_sent rand_in r_came) is =
     elim (among_two _ _ _ is) [ inl e ↦ ap (λ (r : TagRecord). r.method) e | inr e ↦ ap (λ (r : TagRecord). r.method) e ]

@@ -106,7 +106,7 @@ module _ (setup : PeerSetup) (now : PeerNow) where
 module _ (setup : ServerSetup) (now : ServerNow) where
   server_psk : (login : psk_server.Login) → now.vars.current ≡ Some psk_kind → now.views.psk ≡ Some (psk_server.over login true)
       → (accepted made : List TagRecord) → psk_server_stands.PskServerTags setup (psk_server.over login true) accepted made → ServerSucceeds setup now accepted made
-  server_psk login is_current in_view _ _ (psk_server_stands.psk_over _ _ header sealed id facts r_sent rand_in) =
+  server_psk login is_current in_view _ _ (psk_server_stands.psk_over _ _ header sealed id facts r_sent rand_in r_came) =
       of_psk login header sealed id is_current in_view facts (r_sent refl)
 
   server_gpsk : (login : gpsk_server.Login) → now.vars.current ≡ Some gpsk_kind → now.views.gpsk ≡ Some (gpsk_server.over login true)

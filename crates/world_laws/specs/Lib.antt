@@ -17,4 +17,5 @@ pub mod Alone
 pub mod PskReflected
 pub mod EachConversation
 pub mod Matching
+pub mod UnderKey
 pub mod Passing

@@ -129,6 +129,10 @@ pub record Match (w : WorldNow) (peers : List OfPeer) (servers : List OfServer) 
   pub psk_servers_back : tags_verdict w.book ≡ Honest → w.conversations.fresh ≡ true
       → (s : OfServer) → IsOneOf s servers → is_success s.now.vars.state ≡ true → s.now.vars.current ≡ Some psk_kind
       → (p : OfPeer) → IsOneOf p peers → RestsOn s.accepted p.made → RestsOn p.accepted s.made
+  -- and its login has succeeded, with just what that reports: PSK-4 says DONE_SUCCESS under a key that both derive
+  pub psk_servers_confirm : tags_verdict w.book ≡ Honest → w.conversations.fresh ≡ true
+      → (s : OfServer) → IsOneOf s servers → is_success s.now.vars.state ≡ true → s.now.vars.current ≡ Some psk_kind
+      → (p : OfPeer) → IsOneOf p peers → RestsOn s.accepted p.made → peer_reports p.now ≡ server_reports s.now
   -- the login of the one of the peer on which one of the server in SUCCESS rests leads to just what that reports: names, suite and keys
   pub peers_lead : tags_verdict w.book ≡ Honest → w.conversations.fresh ≡ true
       → (s : OfServer) → IsOneOf s servers → is_success s.now.vars.state ≡ true

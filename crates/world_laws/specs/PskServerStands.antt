@@ -8,7 +8,7 @@ use Rattle.eax_mode.specs.Eax.{eax_tag}
 use Rattle.eap_method.specs.declared.tags.TagRecord.{TagRecord}
 use Rattle.eap_method.specs.declared.values.Report.{Report}
 use Rattle.eap_method.specs.PskServer as psk
-use Rattle.eap_method.specs.PskTags.{ak_record, tek_record, channel_nonce, done_success}
+use Rattle.eap_method.specs.PskTags.{ak_record, tek_record, channel_nonce, done_success, hidden_octet, result_of}
 use Rattle.eap_method.specs.Server.{side_of}
 
 -- RAND_P
@@ -60,7 +60,8 @@ pub data PskServerTags (setup : ServerSetup) : psk.View → List TagRecord → L
       → PskServerTags setup (psk.checked login) (psk2_record login ∷ []) (psk.psk3_records login id)
   -- the user is unknown
   psk_refused : PskServerTags setup (psk.refused (side_of setup) setup.nonce) [] []
-  -- PSK-4 is accepted too, whose header ends in RAND_S
+  -- PSK-4 is accepted too, whose header ends in RAND_S; after a success both PSK-3 and PSK-4 said DONE_SUCCESS
   psk_over : (login : psk.Login) (good : Bool) (header : List ℕ) (sealed id : ℕ) (facts : PskChecked setup login)
       (r_sent : good ≡ true → login.r ≡ done_success) (rand_in : drop 6 header ≡ psk.rand_s_of login)
+      (r_came : good ≡ true → result_of (hidden_octet (psk.keys_of login).tek 1 sealed) ≡ done_success)
       → PskServerTags setup (psk.over login good) (psk2_record login ∷ psk4_taken login header sealed ∷ []) (psk.psk3_records login id)

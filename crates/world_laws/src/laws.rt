@@ -9,6 +9,7 @@ ghost use Rattle.world_laws.specs.Matching.{ConversationsAreAll, ConversationsMa
 ghost use Rattle.world_laws.specs.Passing.{PassCarries, PassIsAlone, PassIsHanded, PassLearnsNothing};
 ghost use Rattle.world_laws.specs.PskReflected.{ReflectedEndsAgree};
 ghost use Rattle.world_laws.specs.SingleSteps.{StepsAreLawful};
+ghost use Rattle.world_laws.specs.UnderKey.{ConversationsMatchUnder, HonestUnder};
 
 /// An event that an end discards changes nothing but the counts and which of the nonces that are left have been seen in
 /// a delivery: no variable and no method's view at either end, nothing sent and nothing in the book. If each report
@@ -107,6 +108,17 @@ pub fn reflected_ends_agree()
 /// Two that rest so are of one method, and by EAP-GPSK have all 32 octets of each other's nonces.
 pub fn conversations_match()
     ensures { ConversationsMatch }
+{}
+
+/// The same of one user of the server, whatever its other users do with keys of their own, and whoever they are: what is asked of tags is
+/// asked of those under the key that the peer has for a method, and of no other.
+pub fn conversations_match_under_a_key()
+    ensures { ConversationsMatchUnder }
+{}
+
+/// What [`conversations_match_under_a_key`] asks of tags follows from what [`conversations_match`] asks.
+pub fn honest_under_a_key()
+    ensures { HonestUnder }
 {}
 
 /// The conversations of [`conversations_match`] are all: each end has one for each time that it has begun, in order and

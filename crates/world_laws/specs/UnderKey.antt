@@ -1,0 +1,56 @@
+-- Matching conversations of one user of the server, whatever its other users do: what is asked of tags is asked of those under the key
+-- that the peer shares with the server, and of no other.
+use Rattle.std.specs.Prelude.{◌≡◌, ℕ, List, [], ◌∷◌, true, if◌then◌else◌, Some}
+use Rattle.std.specs.Str.{bytes_eq}
+use Rattle.login_setup.specs.declared.setup.Setup.{Setup}
+use Rattle.login_setup.specs.declared.users.User.{User}
+use Rattle.login_setup.specs.declared.event.Event.{Event}
+use Rattle.login_setup.specs.Users.{user_of}
+use Rattle.eap_method.specs.declared.values.Report.{Report}
+use Rattle.eap_method.specs.Peer.{key_for}
+use Rattle.server_machine.specs.ServerTable.{server_reports}
+use Rattle.tag_book.specs.declared.book.Entry.{Entry}
+use Rattle.tag_book.specs.declared.book.TagsVerdict.TheVariants.{Honest}
+use Rattle.tag_book.specs.Book.{tags_verdict, tags_verdict_either}
+use Rattle.eap_world.specs.Judgement.{is_success}
+use Rattle.eap_world.specs.Run.{run_of}
+use Rattle.eap_world.specs.World.{WorldNow}
+use Rattle.world_laws.specs.Agreement.{IsWhole}
+use Rattle.world_laws.specs.EachConversation.{IsOneOf, OfPeer, OfServer, peer_conversations, server_conversations}
+use Rattle.world_laws.specs.Matching.{PeerMatches, ReportsAgree, RestsOn, ServerMatches}
+
+-- the entries of a book whose tags are under this shared key
+unfoldable pub under : List ℕ → List Entry → List Entry
+under key [] = []
+under key (e ∷ rest) = if bytes_eq e.tag.psk key then e ∷ under key rest else under key rest
+
+-- what a conversation of the server reports is of a user of this key
+pub record IsOfKey (setup : Setup) (key : List ℕ) (s : OfServer) : Type 0 where
+  pub report : Report
+  pub holds : server_reports s.now ≡ Some report
+  pub user : User
+  pub known : user_of setup.server.users report.id_p report.method ≡ Some user
+  pub is_key : user.psk ≡ key
+
+-- what holds of the peer's conversations by a method, and of those of the server with a user of the same key
+pub record MatchUnder (setup : Setup) (kind : ℕ) (w : WorldNow) (peers : List OfPeer) (servers : List OfServer) : Type 0 where
+  pub peers_match : tags_verdict (under (key_for setup.peer kind) w.book) ≡ Honest → w.conversations.fresh ≡ true
+      → (p : OfPeer) → IsOneOf p peers → is_success p.now.vars.state ≡ true → p.now.vars.selected ≡ Some kind → PeerMatches peers servers p
+  pub servers_match : tags_verdict_either (under (key_for setup.peer kind) w.book) ≡ Honest → w.conversations.fresh ≡ true
+      → (s : OfServer) → IsOneOf s servers → is_success s.now.vars.state ≡ true → IsOfKey setup (key_for setup.peer kind) s → ServerMatches peers servers s
+  pub both_agree : tags_verdict (under (key_for setup.peer kind) w.book) ≡ Honest → w.conversations.fresh ≡ true
+      → (p : OfPeer) → IsOneOf p peers → is_success p.now.vars.state ≡ true → p.now.vars.selected ≡ Some kind
+      → (s : OfServer) → IsOneOf s servers → is_success s.now.vars.state ≡ true
+      → RestsOn s.accepted p.made → RestsOn p.accepted s.made × ReportsAgree p s
+
+abbrev pub ConversationsMatchUnder : Type 0
+ConversationsMatchUnder =
+    (setup : Setup) (events : List Event) (kind : ℕ) → IsWhole setup
+    → MatchUnder setup kind (run_of setup events) (peer_conversations setup events) (server_conversations setup events)
+
+-- a book that is honest is honest under each key
+abbrev pub HonestUnder : Type 0
+HonestUnder =
+    (key : List ℕ) (book : List Entry)
+    → (tags_verdict book ≡ Honest → tags_verdict (under key book) ≡ Honest)
+    × (tags_verdict_either book ≡ Honest → tags_verdict_either (under key book) ≡ Honest)
