@@ -17,4 +17,4 @@ pub mod Restarting
 -- The Identifier of a packet is the second octet of what begins with it, and of its plain form.
 pub mod Identifiers
 -- A success that nothing can undo stays.
-pub mod Winning
+pub mod UnconditionalSuccess

@@ -21,7 +21,7 @@ abbrev pub is_failed : State → Bool
 is_failed s = elim s [ state.Failure ↦ true | state.TimeoutFailure ↦ true | _ ↦ false ]
 
 -- the method is over and has decided for a success that nothing can undo (UNCOND_SUCC), and the peer hasn't failed
-pub record HasWon (now : PeerNow) : Type 0 where
+pub record HasUnconditionalSuccess (now : PeerNow) : Type 0 where
   pub kind : ℕ
   pub selected : now.vars.selected ≡ Some kind
   pub over : is_done now.vars.method_state ≡ true
@@ -29,7 +29,7 @@ pub record HasWon (now : PeerNow) : Type 0 where
   pub stands : is_failed now.vars.state ≡ false
 
 -- it stays so whatever octets come and whatever the lower layer reports but a failure, till a new conversation
-abbrev pub WonStaysWon : Type 0
-WonStaysWon =
-    (now : PeerNow) (input : PeerInput) → HasWon now → (input ≡ alt_reject → ⊥) → ((nonce : List ℕ) → input ≡ restart nonce → ⊥)
-    → HasWon (peer_takes now input).after
+abbrev pub UnconditionalSuccessStays : Type 0
+UnconditionalSuccessStays =
+    (now : PeerNow) (input : PeerInput) → HasUnconditionalSuccess now → (input ≡ alt_reject → ⊥) → ((nonce : List ℕ) → input ≡ restart nonce → ⊥)
+    → HasUnconditionalSuccess (peer_takes now input).after

@@ -1,6 +1,6 @@
 //! Laws of the peer (RFC 4137 section 4). Each is the contract of a function that does nothing.
 
-ghost use Rattle.peer_machine.specs.Laws.{DiscardsKeep, WonStaysWon};
+ghost use Rattle.peer_machine.specs.Laws.{DiscardsKeep, UnconditionalSuccessStays};
 ghost use Rattle.peer_machine.specs.Rows.{PeerAnswersAreRows};
 
 /// An input that is discarded changes no variable and no method's view, sends nothing and makes no
@@ -17,7 +17,7 @@ pub fn answers_are_rows()
 {}
 
 /// Once its method has decided for a success that nothing can undo, no octets, no timeout and no report of a success lead the peer to FAILURE.
-#[tactic(auto, using(crate::proofs::Winning::won_stays_won))]
-pub fn won_stays_won()
-    ensures { WonStaysWon }
+#[tactic(auto, using(crate::proofs::UnconditionalSuccess::unconditional_success_stays))]
+pub fn unconditional_success_stays()
+    ensures { UnconditionalSuccessStays }
 {}

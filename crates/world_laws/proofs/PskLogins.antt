@@ -175,7 +175,7 @@ module _ (peer_setup : PeerSetup) (server_setup : ServerSetup) (peer_nonce : len
   -- ---- where PSK-4 says DONE_SUCCESS, the login of the peer that made it has succeeded
 
   -- a view of a peer whose login has succeeded
-  pub record HasWon (view : peer.View) : Type 0 where
+  pub record HasUnconditionalSuccess (view : peer.View) : Type 0 where
     pub login : peer.Login
     pub in_view : view ≡ peer.over login true
     pub facts : PskBegun peer_setup login
@@ -200,13 +200,13 @@ module _ (peer_setup : PeerSetup) (server_setup : ServerSetup) (peer_nonce : len
         ∙ r_came
 
     by_result : (other : peer.Login) (good : Bool) (id : ℕ) → PskBegun peer_setup other → other.cred.psk ≡ login.psk → rand_of other.nonce ≡ login.rand_p
-        → sealed ≡ peer.psk4_octet other id (psk_peer_stands.result_for good) → HasWon (peer.over other good)
+        → sealed ≡ peer.psk4_octet other id (psk_peer_stands.result_for good) → HasUnconditionalSuccess (peer.over other good)
     by_result other true id facts key rand same = record { login = other; in_view = refl; facts = facts }
     by_result other false id facts key rand same = absurd (omega (arith, their_result other id 3 key rand same))
 
     by_both : (other : peer.Login) (good : Bool) (id : ℕ) → PskBegun peer_setup other → psk_server_stands.psk2_record login ≡ psk_peer_stands.psk2_record other
         → IsIn (psk_server_stands.psk4_taken login header sealed) (psk_peer_stands.psk2_record other ∷ peer.psk4_record other id (psk_peer_stands.result_for good))
-        → HasWon (peer.over other good)
+        → HasUnconditionalSuccess (peer.over other good)
     by_both other good id facts e last =
         let macs = same_mac_p other login (front_size other.nonce (omega (arith, ap length facts.nonce, peer_nonce))) checked.size facts.size
         (front_size login.nonce (omega (arith, ap length checked.nonce, server_nonce))) (ap (λ (r : TagRecord). r.octets) e) in
@@ -217,7 +217,7 @@ module _ (peer_setup : PeerSetup) (server_setup : ServerSetup) (peer_nonce : len
         ]
 
     pub confirms : (view : peer.View) (accepted made : List TagRecord) → PskPeerTags peer_setup view accepted made
-        → IsIn (psk_server_stands.psk2_record login) made → IsIn (psk_server_stands.psk4_taken login header sealed) made → HasWon view
+        → IsIn (psk_server_stands.psk2_record login) made → IsIn (psk_server_stands.psk4_taken login header sealed) made → HasUnconditionalSuccess view
     confirms _ _ _ psk_peer_stands.psk_unset is last = elim is [ ]
     confirms _ _ _ (psk_peer_stands.psk_fresh allowed) is last = elim is [ ]
     confirms _ _ _ (psk_peer_stands.psk_waits other facts) is last = labels_apart (sym (ap (λ (r : TagRecord). r.label) (among_one _ _ last)))
