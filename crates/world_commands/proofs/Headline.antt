@@ -11,6 +11,8 @@ use Rattle.world_laws.proofs.HonestOfEither.{honest_of_either}
 use Rattle.world_laws.proofs.HonestRuns.{honest_ends_agree}
 use Rattle.world_laws.proofs.Passing.{pass_carries, pass_is_alone}
 use Rattle.world_laws.proofs.PskReflected.{reflected_ends_agree}
+use Rattle.world_laws.proofs.SingleSteps.{steps_are_lawful}
+use Rattle.world_laws.proofs.UnderKey.{conversations_match_under}
 use Rattle.world_laws.proofs.Whose.{honest_names_are_theirs}
 use Rattle.scenario_text.specs.Reading.{Reading, ReadLine, no_settings, read_line}
 use Rattle.scenario_text.specs.Valid.{AreValid, IsValidSetup, IsValidItem, IsValidReadLine}
@@ -83,9 +85,11 @@ headline octets setup is =
       reflected = reflected_ends_agree setup events whole;
       tells = one_end_tells setup events whole;
       matching = conversations_match setup events whole;
+      under_key = λ kind. conversations_match_under setup events kind whole;
       all = conversations_are_all setup events whole;
       pass = pass_is_alone setup events;
       carries = pass_carries setup events;
       few_tags = few_tags setup events;
       few_packets = few_packets setup events;
+      lawful = steps_are_lawful setup events;
     }

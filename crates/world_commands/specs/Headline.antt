@@ -14,7 +14,9 @@ use Rattle.world_laws.specs.EachConversation.{peer_conversations, server_convers
 use Rattle.world_laws.specs.Matching.{AreAll, Match}
 use Rattle.world_laws.specs.Passing.{Carries, IsAlone}
 use Rattle.world_laws.specs.PskReflected.{AgreesReflected}
-use Rattle.eap_world.specs.World.{WorldNow}
+use Rattle.world_laws.specs.SingleSteps.{IsLawful}
+use Rattle.world_laws.specs.UnderKey.{MatchUnder}
+use Rattle.eap_world.specs.World.{WorldNow, world_step}
 use Rattle.answer_text.specs.Lines.{HasLine}
 use Rattle.world_commands.specs.Scenario.{scenario_of}
 use Rattle.command_driver.specs.declared.status.Status.{Status}
@@ -22,9 +24,10 @@ use Rattle.command_driver.specs.declared.status.Status.TheVariants.{Done}
 
 -- after the events: two ends that both succeed agree, and what they report is their own, over tags and nonces as the
 -- laws require; so do they over tags that came back to their maker, if the peer has succeeded by EAP-PSK; what one
--- end's success implies by itself; the conversations of both ends match, past and present, and they are all; what the
+-- end's success implies by itself; the conversations of both ends match, past and present, and they are all; so do
+-- those of one user, whatever the server's other users do, if the tags under that user's key are honest; what the
 -- pass-through sends is determined by what came to it alone, and came to it; a book whose tags are honest is honest of
--- either end, and it is small; and at most one packet more was sent than there were events
+-- either end, and it is small; at most one packet more was sent than there were events; the next step is lawful
 pub record KeepsAgreement (setup : Setup) (events : List Event) (w : WorldNow) : Type 0 where
   pub of_either : tags_verdict w.book ≡ Honest → tags_verdict_either w.book ≡ Honest
   pub agrees : AgreesWhereHonest w
@@ -32,11 +35,13 @@ pub record KeepsAgreement (setup : Setup) (events : List Event) (w : WorldNow) :
   pub reflected : AgreesReflected setup w
   pub tells : TellsAlone setup w
   pub matching : Match w (peer_conversations setup events) (server_conversations setup events)
+  pub under_key : (kind : ℕ) → MatchUnder setup kind w (peer_conversations setup events) (server_conversations setup events)
   pub all : AreAll setup w (peer_conversations setup events) (server_conversations setup events)
   pub pass : setup.mode ≡ Through → IsAlone setup events
   pub carries : setup.mode ≡ Through → Carries setup events
   pub few_tags : HasFewTags w.conversations.begun w.book
   pub few_packets : length w.sent ≤ w.counts.events + 1
+  pub lawful : (e : Event) → IsLawful w e (world_step w e)
 
 -- so it is after the events of the scenario that an input is
 abbrev pub HonestEndsAgree : List ℕ → Type 0
