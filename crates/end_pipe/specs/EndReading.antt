@@ -69,16 +69,16 @@ item_value whole.End = End
 -- the settings of the peer's text are these, each within its limits
 pub record IsReadyPeer (setup : PeerSetup) (r : EndReading) : Type 0 where
   pub role : r.role ≡ Peer
-  pub setup : peer_setup_of r.settings ≡ Ok setup
+  pub made : peer_setup_of r.settings ≡ Ok setup
   pub valid : IsValidPeer setup
 
 -- those of the server's text, with the first Identifier and MaxRetrans (RFC 4137 section 5.1.2)
 pub record IsReadyServer (setup : ServerSetup) (first_id max_retrans : ℕ) (r : EndReading) : Type 0 where
   pub role : r.role ≡ Server
-  pub setup : server_setup_of r.settings ≡ Ok setup
+  pub made : server_setup_of r.settings ≡ Ok setup
   pub valid : IsValidServer setup
-  pub first_id : first_id ≡ unwrap_or r.settings.first_id 0
-  pub max_retrans : max_retrans ≡ unwrap_or r.settings.max_retrans 4
+  pub first : first_id ≡ unwrap_or r.settings.first_id 0
+  pub retrans : max_retrans ≡ unwrap_or r.settings.max_retrans 4
   pub few : max_retrans ≤ 10
 
 abbrev pub IsReady : EndItem → EndReading → Type 0
