@@ -102,7 +102,11 @@ class Scenario:
 
     def psk(self, end, kind):
         """The key of an end for a method."""
-        return self.peer_psk[kind] if end.who == "peer" else self.users[self.id_p.decode(), kind][0]
+        return self.peer_psk[kind] if end.who == "peer" else self.users[self.name(end).decode(), kind][0]
+
+    def name(self, end):
+        """The peer's name, as an end has it."""
+        return end.id_p or self.id_p
 
 
 class End:
@@ -110,6 +114,7 @@ class End:
 
     def __init__(self, who, nonce):
         self.who, self.own, self.other, self.kind, self.heard, self.suite = who, nonce, None, None, None, None
+        self.id_p = None  # the name in the GPSK-2 that the server heard
         self.asked_expanded = False  # whether the peer's last Request is of Type 254
 
     def nonces(self):
@@ -128,6 +133,7 @@ class End:
             self.suite = next((it[5] for it in listed if it in scenario.known), None)
         elif (self.who, given[0], kind, message) == ("server", 2, 51, 2):
             at = 8 + int.from_bytes(given[6:8], "big")
+            self.id_p = given[8:at]
             at += 2 + int.from_bytes(given[at : at + 2], "big")
             self.other = given[at : at + 32]
             at += 64
@@ -148,7 +154,7 @@ class End:
         if kind == 5:
             return packet(code, number, bytes([51, 5]) + struct.pack(">I", 1))
         nonce_p, nonce_s = self.nonces()
-        key = gpsk_keys(self.suite, it.psk(self, "51"), nonce_p, it.id_p, nonce_s, it.id_s)["sk"]
+        key = gpsk_keys(self.suite, it.psk(self, "51"), nonce_p, it.name(self), nonce_s, it.id_s)["sk"]
         if kind == 2:
             body = sized(it.id_p) + sized(it.id_s) + nonce_p + nonce_s + sized(self.heard) + suite(self.suite) + sized(b"")
         elif kind == 3:
@@ -204,7 +210,7 @@ class End:
         if self.kind == 47:
             keys = psk_keys(scenario.psk(self, "47"), nonce_p[:16])
         else:
-            keys = gpsk_keys(self.suite, scenario.psk(self, "51"), nonce_p, scenario.id_p, nonce_s, scenario.id_s)
+            keys = gpsk_keys(self.suite, scenario.psk(self, "51"), nonce_p, scenario.name(self), nonce_s, scenario.id_s)
         return [hashlib.sha256(b"eap-key-name\0" + keys[it]).digest()[:8].hex() for it in ("msk", "emsk")]
 
 
