@@ -22,7 +22,7 @@ whole_with : (peer_nonce server_nonce key : List ℕ)
     → length peer_nonce ≡ 32 → length server_nonce ≡ 32 → length key ≡ 32 → IsWhole (setup_with peer_nonce server_nonce key)
 whole_with peer_nonce server_nonce key p s k = record {
   peer = search rules;
-  keys = search rules;
+  keys = refl;
   server = search rules;
   peer_nonce = p;
   server_nonce = s;

@@ -27,7 +27,8 @@ alice nonce key = record {
   accepts = One (codes "srv");
   methods = login_methods;
   suites = 1 ∷ 2 ∷ [];
-  keys = record { kind = gpsk_kind; psk = key } ∷ [];
+  psk47 = None;
+  psk51 = Some key;
   nonce = nonce;
   expanded = false;
 }

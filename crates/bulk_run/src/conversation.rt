@@ -17,9 +17,7 @@ use crate::summary::Summary;
 use crate::turn::{begin, take, take_chosen};
 use eap_method::{PeerMethod, ServerMethod};
 use eap_world::{Memory, Methods, World};
-use login_setup::{
-    Accepts, Event, Key, Keys, Later, Mode, PeerSetup, ServerSetup, Setup, User, Users,
-};
+use login_setup::{Accepts, Event, Later, Mode, PeerSetup, ServerSetup, Setup, User, Users};
 use octet_lists::{GPSK_KIND, Identity, Kinds, Nonce, Secret, Suites};
 use std::alloc::Global;
 
@@ -78,17 +76,13 @@ pub fn converse<P: PeerMethod, S: ServerMethod>(
 fn alice(nonce: Nonce, key: &Nonce) -> PeerSetup
     ensures { result ≡ alice nonce key.now }
 {
-    let mut keys = Keys::new();
-    keys.push(Key {
-        kind: GPSK_KIND,
-        psk: Secret::of(key),
-    });
     PeerSetup {
         name: Identity::of(PEER),
         accepts: Accepts::One(Identity::of(SERVER)),
         methods: Kinds::of(&[GPSK_KIND]),
         suites: Suites::of(&[1, 2]),
-        keys,
+        psk47: None,
+        psk51: Some(Secret::of(key)),
         nonce,
         expanded: false,
     }

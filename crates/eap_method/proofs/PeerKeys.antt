@@ -1,31 +1,23 @@
 -- The key that a peer brings into a method that it allows fits it.
-use Rattle.std.proofs.Common.{◌≡◌, ℕ, List, [], ◌∷◌, Bool, true, false, IsTrue, Option, Some, refl, subst}
-use Rattle.std.specs.Prelude.{◌==◌, if◌then◌else◌, IsSome, All}
-use Rattle.std.proofs.lemmas.Bool.{eqb-true}
-use Rattle.std.proofs.lemmas.List.Elements.{All-head, All-tail}
-use Rattle.login_setup.specs.Keys.{key_of}
-use Rattle.login_setup.specs.declared.keys.Key.{Key}
+use Rattle.std.proofs.Common.{◌≡◌, ℕ, List, [], true, IsTrue, Option, Some, None}
+use Rattle.std.specs.Prelude.{unwrap_or, is_some, IfSome}
 use Rattle.login_setup.specs.declared.setup.PeerSetup.{PeerSetup}
-use Rattle.octet_lists.specs.Among.{is_among}
-use Rattle.login_setup.specs.Setup.{fits_kind, IsSoundPeer, HasKeys}
-use Rattle.eap_method.specs.Peer.{key_or_none, credential_for}
+use Rattle.octet_lists.specs.Among.{psk_kind, gpsk_kind, is_among}
+use Rattle.login_setup.specs.Setup.{key_of, fits_kind, IsSoundPeer, HasKeys}
+use Rattle.eap_method.specs.Peer.{PeerShown, psk, gpsk, peer_kind, credential_for}
+use Rattle.eap_method.proofs.Amongs.{each_one}
 
-first_or_later : (test : Bool) (key : Key) (later : Option Key) (kind : ℕ) → (test ≡ true → IsTrue (fits_kind kind key.psk))
-    → (IsSome later → IsTrue (fits_kind kind (key_or_none later))) → IsSome (if test then Some key else later) → IsTrue (fits_kind kind (key_or_none (if test then Some key else later)))
-first_or_later true key later kind here next is_there = here refl
-first_or_later false key later kind here next is_there = next is_there
+-- a key that is there fits its method
+key_fits : (kind : ℕ) (key : Option (List ℕ)) → IfSome key (λ octets. IsTrue (fits_kind kind octets)) → is_some key ≡ true → IsTrue (fits_kind kind (unwrap_or key []))
+key_fits kind None fits is_there = absurd (cc is_there)
+key_fits kind (Some octets) fits is_there = fits
 
--- the key for a method that is there fits it
-key_fits : (keys : List Key) (kind : ℕ) → All (λ key. IsTrue (fits_kind key.kind key.psk)) keys → IsSome (key_of keys kind)
-    → IsTrue (fits_kind kind (key_or_none (key_of keys kind)))
-key_fits [] kind fit is_there = absurd (cc is_there)
-key_fits (key ∷ rest) kind fit is_there =
-    let fits = λ (key : Key). IsTrue (fits_kind key.kind key.psk) in
-    first_or_later (key.kind == kind) key (key_of rest kind) kind
-    (λ is. subst (λ kind. IsTrue (fits_kind kind key.psk)) (eqb-true key.kind kind is) (All-head fits key rest fit))
-    (key_fits rest kind (All-tail fits key rest fit)) is_there
+fits_each : (setup : PeerSetup) (s : PeerShown) → IsSoundPeer setup → is_some (key_of setup (peer_kind s)) ≡ true → IsTrue (fits_kind (peer_kind s) (unwrap_or (key_of setup (peer_kind s)) []))
+fits_each setup (psk view) sound is_there = key_fits psk_kind setup.psk47 sound.psk47 is_there
+fits_each setup (gpsk view) sound is_there = key_fits gpsk_kind setup.psk51 sound.psk51 is_there
 
-pub credential_fits : (setup : PeerSetup) (kind : ℕ) → IsSoundPeer setup → HasKeys setup → is_among setup.methods kind ≡ true
-    → IsTrue (fits_kind kind (credential_for setup kind).psk)
+pub credential_fits : (setup : PeerSetup) (s : PeerShown) → IsSoundPeer setup → HasKeys setup → is_among setup.methods (peer_kind s) ≡ true
+    → IsTrue (fits_kind (peer_kind s) (credential_for setup (peer_kind s)).psk)
 unfolding credential_for
-credential_fits setup kind sound keys is_allowed = key_fits setup.keys kind sound.keys (keys kind is_allowed)
+credential_fits setup s sound keys is_allowed =
+    let is_there = each_one (λ kind. is_some (key_of setup kind)) setup.methods (peer_kind s) keys is_allowed in fits_each setup s sound is_there

@@ -1,8 +1,7 @@
 -- The peer's methods by kind: what an object is, its state, and its calls.
-use Rattle.std.specs.Prelude.{◌≡◌, ℕ, List, [], ◌∷◌, Bool, ◌==◌, if◌then◌else◌, Option, Some, None, map}
+use Rattle.std.specs.Prelude.{◌≡◌, ℕ, List, [], ◌∷◌, Bool, ◌==◌, if◌then◌else◌, Option, Some, None, unwrap_or, map}
 use Rattle.std.specs.List.{list_all}
-use Rattle.login_setup.specs.Keys.{key_of}
-use Rattle.login_setup.specs.declared.keys.Key.{Key}
+use Rattle.login_setup.specs.Setup.{key_of}
 use Rattle.login_setup.specs.declared.setup.PeerSetup.{PeerSetup}
 use Rattle.octet_lists.specs.Among.{psk_kind, gpsk_kind, is_among}
 use Rattle.eap_packet.specs.Packet.{request, spelled, IsPacket}
@@ -109,12 +108,8 @@ peer_report_of kind views =
     else None
 
 -- what the peer of these settings brings into a method: the key is the one for it, or none
-abbrev pub key_or_none : Option Key → List ℕ
-key_or_none None = []
-key_or_none (Some key) = key.psk
-
 abbrev pub key_for : PeerSetup → ℕ → List ℕ
-key_for setup kind = key_or_none (key_of setup.keys kind)
+key_for setup kind = unwrap_or (key_of setup kind) []
 
 unfoldable pub credential_for : PeerSetup → ℕ → Credential
 credential_for setup kind = record { id_p = setup.name; accepts = setup.accepts; suites = setup.suites; psk = key_for setup kind }

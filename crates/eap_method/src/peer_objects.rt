@@ -121,8 +121,8 @@ fn credential_for(setup: &PeerSetup, kind: u8) -> Credential
 fn key_for(setup: &PeerSetup, kind: u8) -> Secret
     ensures { result ≡ key_for setup.now kind }
 {
-    match setup.keys.find(kind) {
+    match setup.key(kind) {
         None => Secret::new(),
-        Some(key) => key.psk.copy(),
+        Some(key) => key.copy(),
     }
 }

@@ -1,24 +1,24 @@
 -- What is known of settings that aren't refused.
-use Rattle.std.proofs.Common.{◌≡◌, ℕ, ◌<◌, ◌≤◌, List, [], ◌∷◌, length, map, Bool, true, false, Option, Some, None, IsTrue, refl, ◌∙◌, arith, eq-eqb}
-use Rattle.std.specs.Prelude.{◌&&◌, ◌||◌, not, ◌==◌, if◌then◌else◌, slice_index, IsSome, All}
+use Rattle.std.proofs.Common.{◌≡◌, ℕ, ◌<◌, ◌≤◌, List, [], ◌∷◌, ◌++◌, length, map, Bool, true, false, None, IsTrue, refl, ◌∙◌, arith, eq-eqb}
+use Rattle.std.specs.Prelude.{◌&&◌, ◌||◌, not, ◌==◌, if◌then◌else◌, slice_index, slice_index_or, is_some, All}
 use Rattle.std.specs.List.{list_all}
 use Rattle.std.proofs.lemmas.Bool.{and_parts, or_left, or_parts}
-use Rattle.std.proofs.lemmas.List.Elements.{All-map, All-nil}
+use Rattle.std.proofs.lemmas.List.Elements.{All-nil}
 use Rattle.std.proofs.lemmas.List.Folds.{list_all-map}
-use Rattle.std.proofs.lemmas.List.Sums.{AllPass-from_list_all}
-use Rattle.octet_lists.specs.Among.{is_kind, is_among, are_distinct, is_filled}
+use Rattle.std.proofs.lemmas.List.Sums.{AllPass-from_list_all, list_all-from_AllPass}
+use Rattle.octet_lists.specs.Among.{psk_kind, gpsk_kind, is_kind, is_among, are_distinct, is_filled}
 use Rattle.octet_lists.specs.Sizes.{max_name}
-use Rattle.login_setup.specs.Keys.{key_of}
-use Rattle.login_setup.specs.Setup.{are_kinds, are_suites, fits_kind, IsSoundPeer, HasKeys, IsSoundServer}
+use Rattle.login_setup.specs.Setup.{key_of, are_kinds, are_suites, fits_kind, IsSoundPeer, HasKeys, IsSoundServer}
+use Rattle.login_setup.specs.declared.setup.PeerSetup.{PeerSetup}
 use Rattle.login_setup.specs.declared.users.User.{User}
-use Rattle.end_objects.specs.Settings.{SettingsValue, or_else, keyed_kinds, named_kinds, all_kinds, kinds_of, first_kind, suites_of, key_for, key_with, peer_setup_of, user_with, users_of, server_setup_of}
+use Rattle.end_objects.specs.Settings.{SettingsValue, or_else, kind_if, keyed_kinds, named_kinds, all_kinds, kinds_of, first_kind, suites_of, key_for, key_or_none, peer_setup_of, user_with, users_of, server_setup_of}
 use Rattle.end_objects.specs.Refusals.{refuse_if, has_other_size, has_gap, has_bad_methods, has_bad_suites, is_name, has_long_other, has_keys, has_key_of_user, end_refusal, peer_refusal, server_refusal, user_refusal, IsSoundOther}
 use Rattle.eap_method.specs.Peer.{have_each}
 use Rattle.eap_method.proofs.Amongs.{each_one}
 use Rattle.end_objects.specs.Soundness.{is_sound_user}
 use Rattle.end_objects.specs.declared.refusals.Refusal.{Refusal}
 use Rattle.end_objects.specs.declared.refusals.Refusal.TheVariants as refusal
-use Rattle.end_objects.proofs.AllKinds.{kind_of_key, key_size}
+use Rattle.end_objects.proofs.AllKinds.{kind_of_key, both_fit, key_size}
 use Rattle.end_objects.proofs.Sound.{have_keys, have_kinds}
 
 -- ---- tests
@@ -153,33 +153,36 @@ first_is_kind told h = first_is_known (kinds_of told) (kinds_are_some told) h
 
 -- ---- a peer's keys
 
-some_if : {A : Type 0} (test later : Bool) (it : A) (others : Option A) → (later ≡ true → IsSome others) → (test || later) ≡ true
-    → IsSome (if test then Some it else others)
-some_if true later it others next h = refl
-some_if false later it others next h = next h
-
--- there is a key for each method that has octets of one
-keyed_has : (told : SettingsValue) (kinds : List ℕ) (kind : ℕ) → is_among kinds kind ≡ true → IsSome (key_of (map (key_with told) kinds) kind)
-keyed_has told [] kind h = absurd (cc h)
-keyed_has told (first ∷ rest) kind h =
-    some_if (first == kind) (is_among rest kind) (key_with told first) (key_of (map (key_with told) rest) kind) (keyed_has told rest kind) h
-
 pub peer_is_sound : (told : SettingsValue) (nonce : List ℕ) → peer_refusal told ≡ None → IsSoundPeer (peer_setup_of told nonce)
 unfolding peer_setup_of
-peer_is_sound told nonce none = let p = peer_passes told none in record {
-  methods = p.kinds;
-  suites = p.suites;
-  keys = All-map (λ key. IsTrue (fits_kind key.kind key.psk)) (key_with told) (keyed_kinds told)
-      (AllPass-from_list_all (key_fits told) (keyed_kinds told) (keys_fit (kinds_of told) told p.keys));
-}
+peer_is_sound told nonce none =
+    let p = peer_passes told none in let both = both_fit told (keys_fit (kinds_of told) told p.keys) in record {
+      methods = p.kinds;
+      suites = p.suites;
+      psk47 = both.0;
+      psk51 = both.1;
+    }
 
 -- a method that the settings name has a key
 kind_is_keyed : (told : SettingsValue) (kind : ℕ) → peer_refusal told ≡ None → is_among (kinds_of told) kind ≡ true → is_among (keyed_kinds told) kind ≡ true
 kind_is_keyed told kind none is = each_one (is_among (keyed_kinds told)) (kinds_of told) kind (are_keyed (kinds_of told) told (peer_passes told none).keys) is
 
+-- there is a key for each method that has octets of one
+keyed_have : (setup : PeerSetup) (psk gpsk : List ℕ)
+    → list_all (λ kind. is_some (key_of (record setup { psk47 = key_or_none psk; psk51 = key_or_none gpsk }) kind)) (kind_if gpsk gpsk_kind ++ kind_if psk psk_kind) ≡ true
+keyed_have setup [] [] = refl
+keyed_have setup [] (octet ∷ rest) = refl
+keyed_have setup (octet ∷ rest) [] = refl
+keyed_have setup (octet ∷ rest) (other ∷ more) = refl
+
 pub peer_has_keys : (told : SettingsValue) (nonce : List ℕ) → peer_refusal told ≡ None → HasKeys (peer_setup_of told nonce)
-unfolding peer_setup_of
-peer_has_keys told nonce none kind is = keyed_has told (keyed_kinds told) kind (kind_is_keyed told kind none is)
+unfolding peer_setup_of keyed_kinds
+peer_has_keys told nonce none =
+    let setup = peer_setup_of told nonce in let has = λ kind. is_some (key_of setup kind) in
+    let keyed = are_keyed (kinds_of told) told (peer_passes told none).keys in
+    list_all-from_AllPass has (kinds_of told) (λ k d below.
+    each_one has (keyed_kinds told) (slice_index_or (kinds_of told) k d) (keyed_have setup told.psk_key told.gpsk_key)
+    (AllPass-from_list_all (is_among (keyed_kinds told)) (kinds_of told) keyed k d below))
 
 -- ---- the key for the first method of a peer
 

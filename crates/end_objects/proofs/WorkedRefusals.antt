@@ -98,7 +98,8 @@ made : peer_setup_of (record both { suites = 2 ∷ 0 ∷ []; expanded = 1 }) (re
   accepts = One (codes "srv");
   methods = 51 ∷ 47 ∷ [];
   suites = 2 ∷ [];
-  keys = record { kind = 51; psk = key 32 } ∷ record { kind = 47; psk = key 16 } ∷ [];
+  psk47 = Some (key 16);
+  psk51 = Some (key 32);
   nonce = replicate 32 17;
   expanded = true;
 }
@@ -110,7 +111,8 @@ one_key : peer_setup_of (record (end (key 16) [] none) { other = [] }) (replicat
   accepts = Any;
   methods = 47 ∷ [];
   suites = 1 ∷ 2 ∷ [];
-  keys = record { kind = 47; psk = key 16 } ∷ [];
+  psk47 = Some (key 16);
+  psk51 = None;
   nonce = replicate 32 17;
   expanded = false;
 }

@@ -1,18 +1,14 @@
 -- Settings that are sound and settings that aren't, of a peer and of a server, at worked values.
-use Rattle.std.proofs.Common.{◌≡◌, ℕ, Bool, true, false, List, [], ◌∷◌, replicate, refl, sym, ◌∙◌, arith, IsTrue}
+use Rattle.std.proofs.Common.{◌≡◌, ℕ, Bool, false, List, [], ◌∷◌, Option, Some, None, replicate, refl, sym, ◌∙◌, arith, IsTrue}
 use Rattle.std.specs.Prelude.{codes}
-use Rattle.std.specs.List.{list_all}
 use Rattle.std.proofs.lemmas.Bool.{true≢false}
 use Rattle.std.proofs.lemmas.List.Elements.{All-from_recursion}
 use Rattle.octet_lists.specs.Among.{is_kind}
-use Rattle.login_setup.specs.Setup.{IsSoundPeer, HasKeys, IsSoundServer, are_kinds, are_suites, fits_kind}
-use Rattle.login_setup.specs.declared.keys.Key.{Key}
+use Rattle.login_setup.specs.Setup.{IsSoundPeer, HasKeys, IsSoundServer, fits_kind}
 use Rattle.login_setup.specs.declared.setup.Accepts.TheVariants.{Any}
 use Rattle.login_setup.specs.declared.setup.PeerSetup.{PeerSetup}
 use Rattle.login_setup.specs.declared.setup.ServerSetup.{ServerSetup}
 use Rattle.login_setup.specs.declared.users.User.{User}
-use Rattle.end_objects.specs.Soundness.{is_sound_key, has_key}
-use Rattle.end_objects.proofs.Sound.{keys_fit, each_has}
 
 -- what must be true isn't where it is computed to be false
 not_so : (b : Bool) → b ≡ false → IsTrue b → ⊥
@@ -23,19 +19,17 @@ both = 1 ∷ 2 ∷ []
 
 -- ---- a peer with these methods and suites, and keys of so many octets
 
-abbrev key : ℕ → ℕ → Key
-key kind size = record { kind = kind; psk = replicate size 7 }
+abbrev key : ℕ → Option (List ℕ)
+key size = Some (replicate size 7)
 
-abbrev keys : ℕ → ℕ → List Key
-keys psk_size gpsk_size = key 47 psk_size ∷ key 51 gpsk_size ∷ []
-
-abbrev peer : List ℕ → List ℕ → List Key → PeerSetup
-peer methods suites known = record {
+abbrev peer : List ℕ → List ℕ → Option (List ℕ) → Option (List ℕ) → PeerSetup
+peer methods suites psk47 psk51 = record {
   name = codes "alice";
   accepts = Any;
   methods = methods;
   suites = suites;
-  keys = known;
+  psk47 = psk47;
+  psk51 = psk51;
   nonce = replicate 32 17;
   expanded = false;
 }
@@ -43,65 +37,61 @@ peer methods suites known = record {
 abbrev IsTaken : PeerSetup → Type 0
 IsTaken setup = IsSoundPeer setup × HasKeys setup
 
-taken : (setup : PeerSetup) → are_kinds setup.methods ≡ true → are_suites setup.suites ≡ true → list_all is_sound_key setup.keys ≡ true
-    → list_all (has_key setup.keys) setup.methods ≡ true → IsTaken setup
-taken setup kinds suites fit has = (record { methods = kinds; suites = suites; keys = keys_fit setup.keys fit }, each_has setup.keys setup.methods has)
+both_methods : IsTaken (peer (51 ∷ 47 ∷ []) both (key 16) (key 32))
+both_methods = (record { methods = refl; suites = refl; psk47 = refl; psk51 = refl }, refl)
 
-both_methods : IsTaken (peer (51 ∷ 47 ∷ []) both (keys 16 32))
-both_methods = taken _ refl refl refl refl
+gpsk_alone : IsTaken (peer (51 ∷ []) (1 ∷ []) (key 16) (key 64))
+gpsk_alone = (record { methods = refl; suites = refl; psk47 = refl; psk51 = refl }, refl)
 
-gpsk_alone : IsTaken (peer (51 ∷ []) (1 ∷ []) (keys 16 64))
-gpsk_alone = taken _ refl refl refl refl
+psk_alone : IsTaken (peer (47 ∷ []) both (key 16) None)
+psk_alone = (record { methods = refl; suites = refl; psk47 = refl; psk51 = tt }, refl)
 
-psk_alone : IsTaken (peer (47 ∷ []) both (key 47 16 ∷ []))
-psk_alone = taken _ refl refl refl refl
-
-neither : IsTaken (peer [] both [])
-neither = taken _ refl refl refl refl
+neither : IsTaken (peer [] both None None)
+neither = (record { methods = refl; suites = refl; psk47 = tt; psk51 = tt }, refl)
 
 -- a key is missing
-no_psk_key : IsTaken (peer (51 ∷ 47 ∷ []) both (key 51 32 ∷ [])) → ⊥
-no_psk_key t = not_so _ refl (t.1 47 refl)
+no_psk_key : IsTaken (peer (51 ∷ 47 ∷ []) both None (key 32)) → ⊥
+no_psk_key t = not_so _ refl t.1
 
-no_gpsk_key : IsTaken (peer (51 ∷ 47 ∷ []) both (key 47 16 ∷ [])) → ⊥
-no_gpsk_key t = not_so _ refl (t.1 51 refl)
+no_gpsk_key : IsTaken (peer (51 ∷ 47 ∷ []) both (key 16) None) → ⊥
+no_gpsk_key t = not_so _ refl t.1
 
 -- a key has another size, also where its method isn't allowed
-short_psk_key : IsTaken (peer (47 ∷ []) both (key 47 15 ∷ [])) → ⊥
-short_psk_key t = not_so _ refl (t.0.keys 0 (key 47 15) (omega arith))
+short_psk_key : IsTaken (peer (47 ∷ []) both (key 15) None) → ⊥
+short_psk_key t = not_so _ refl t.0.psk47
 
-long_psk_key : IsTaken (peer (47 ∷ []) both (key 47 17 ∷ [])) → ⊥
-long_psk_key t = not_so _ refl (t.0.keys 0 (key 47 17) (omega arith))
+long_psk_key : IsTaken (peer (47 ∷ []) both (key 17) None) → ⊥
+long_psk_key t = not_so _ refl t.0.psk47
 
-short_gpsk_key : IsTaken (peer (51 ∷ []) both (key 51 31 ∷ [])) → ⊥
-short_gpsk_key t = not_so _ refl (t.0.keys 0 (key 51 31) (omega arith))
+short_gpsk_key : IsTaken (peer (51 ∷ []) both None (key 31)) → ⊥
+short_gpsk_key t = not_so _ refl t.0.psk51
 
-empty_psk_key : IsTaken (peer (51 ∷ []) both (keys 0 32)) → ⊥
-empty_psk_key t = not_so _ refl (t.0.keys 0 (key 47 0) (omega arith))
+empty_psk_key : IsTaken (peer (51 ∷ []) both (key 0) (key 32)) → ⊥
+empty_psk_key t = not_so _ refl t.0.psk47
 
-idle_gpsk_key : IsTaken (peer (47 ∷ []) both (keys 16 16)) → ⊥
-idle_gpsk_key t = not_so _ refl (t.0.keys 1 (key 51 16) (omega arith))
+idle_gpsk_key : IsTaken (peer (47 ∷ []) both (key 16) (key 16)) → ⊥
+idle_gpsk_key t = not_so _ refl t.0.psk51
 
 -- another method, one twice; no suite, another suite, one twice
-other_method : IsTaken (peer (4 ∷ []) both (keys 16 32)) → ⊥
+other_method : IsTaken (peer (4 ∷ []) both (key 16) (key 32)) → ⊥
 other_method t = not_so _ refl t.0.methods
 
-expanded_method : IsTaken (peer (51 ∷ 254 ∷ []) both (keys 16 32)) → ⊥
+expanded_method : IsTaken (peer (51 ∷ 254 ∷ []) both (key 16) (key 32)) → ⊥
 expanded_method t = not_so _ refl t.0.methods
 
-method_twice : IsTaken (peer (47 ∷ 47 ∷ []) both (keys 16 32)) → ⊥
+method_twice : IsTaken (peer (47 ∷ 47 ∷ []) both (key 16) (key 32)) → ⊥
 method_twice t = not_so _ refl t.0.methods
 
-no_suite : IsTaken (peer (51 ∷ 47 ∷ []) [] (keys 16 32)) → ⊥
+no_suite : IsTaken (peer (51 ∷ 47 ∷ []) [] (key 16) (key 32)) → ⊥
 no_suite t = not_so _ refl t.0.suites
 
-suite_zero : IsTaken (peer (51 ∷ 47 ∷ []) (0 ∷ []) (keys 16 32)) → ⊥
+suite_zero : IsTaken (peer (51 ∷ 47 ∷ []) (0 ∷ []) (key 16) (key 32)) → ⊥
 suite_zero t = not_so _ refl t.0.suites
 
-suite_three : IsTaken (peer (51 ∷ 47 ∷ []) (1 ∷ 3 ∷ []) (keys 16 32)) → ⊥
+suite_three : IsTaken (peer (51 ∷ 47 ∷ []) (1 ∷ 3 ∷ []) (key 16) (key 32)) → ⊥
 suite_three t = not_so _ refl t.0.suites
 
-suite_twice : IsTaken (peer (51 ∷ 47 ∷ []) (2 ∷ 2 ∷ []) (keys 16 32)) → ⊥
+suite_twice : IsTaken (peer (51 ∷ 47 ∷ []) (2 ∷ 2 ∷ []) (key 16) (key 32)) → ⊥
 suite_twice t = not_so _ refl t.0.suites
 
 -- ---- a server with these methods and suites, and two users of these kinds with keys of so many octets

@@ -1,7 +1,6 @@
 -- The settings of an end, from what a program gives.
-use Rattle.std.specs.Prelude.{ℕ, List, [], ◌∷◌, ◌++◌, map, slice_index, Bool, ◌==◌, not, if◌then◌else◌}
+use Rattle.std.specs.Prelude.{ℕ, List, [], ◌∷◌, ◌++◌, map, slice_index, Bool, ◌==◌, not, if◌then◌else◌, Option, Some, None}
 use Rattle.octet_lists.specs.Among.{psk_kind, gpsk_kind, is_filled}
-use Rattle.login_setup.specs.declared.keys.Key.{Key}
 use Rattle.login_setup.specs.declared.setup.Accepts.{Accepts}
 use Rattle.login_setup.specs.declared.setup.Accepts.TheVariants.{Any, One}
 use Rattle.login_setup.specs.declared.setup.PeerSetup.{PeerSetup}
@@ -79,8 +78,10 @@ suites_of told = or_else (numbers_of told.suites) (1 ∷ 2 ∷ [])
 abbrev pub key_for : SettingsValue → ℕ → List ℕ
 key_for told kind = if kind == psk_kind then told.psk_key else told.gpsk_key
 
-abbrev pub key_with : SettingsValue → ℕ → Key
-key_with told kind = record { kind = kind; psk = key_for told kind }
+-- a key of these octets, or none if there are none
+abbrev pub key_or_none : List ℕ → Option (List ℕ)
+key_or_none [] = None
+key_or_none (octet ∷ rest) = Some (octet ∷ rest)
 
 -- whether a field is set: it isn't 0
 abbrev pub is_set : ℕ → Bool
@@ -98,7 +99,8 @@ peer_setup_of told nonce = record {
   accepts = accepts_of told.other;
   methods = kinds_of told;
   suites = suites_of told;
-  keys = map (key_with told) (keyed_kinds told);
+  psk47 = key_or_none told.psk_key;
+  psk51 = key_or_none told.gpsk_key;
   nonce = nonce;
   expanded = is_set told.expanded;
 }

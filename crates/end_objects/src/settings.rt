@@ -1,14 +1,14 @@
 //! The settings of an end, as a program gives them: octets and numbers.
 
-ghost use Rattle.std.specs.Prelude.{◌≡◌, ◌≤◌, ℕ, [], length, map, true, None, All, IsTrue};
+ghost use Rattle.std.specs.Prelude.{◌≡◌, ◌≤◌, [], length, map, true, None, All, IsTrue};
 ghost use Rattle.octet_lists.specs.Among.{is_among, is_kind};
 ghost use Rattle.octet_lists.specs.Sizes.{max_name};
 ghost use Rattle.login_setup.specs.Setup.{are_kinds, fits_kind, IsSoundPeer, HasKeys, IsSoundServer};
-ghost use Rattle.end_objects.specs.Settings.{settings_of, or_else, numbers_of, keyed_kinds, named_kinds, kinds_of, first_kind, suites_of, key_for, key_with, accepts_of, peer_setup_of, user_with, users_of, server_setup_of, credential_of, side_of};
+ghost use Rattle.end_objects.specs.Settings.{settings_of, or_else, numbers_of, keyed_kinds, named_kinds, kinds_of, first_kind, suites_of, key_for, key_or_none, accepts_of, peer_setup_of, user_with, users_of, server_setup_of, credential_of, side_of};
 ghost use Rattle.end_objects.specs.Refusals.{peer_refusal, server_refusal, IsSoundOther};
 
 use eap_method::{Credential, ServerSide};
-use login_setup::{Accepts, Key, Keys, PeerSetup, ServerSetup, User, Users};
+use login_setup::{Accepts, PeerSetup, ServerSetup, User, Users};
 use octet_lists::{GPSK_KIND, Identity, Kinds, Nonce, Octets, PSK_KIND, Secret, Suites};
 
 /// The octets of [`Settings`] on 64 bits.
@@ -131,20 +131,15 @@ pub fn key_for<'a>(settings: &Settings<'a>, kind: u8) -> &'a [u8]
     }
 }
 
-/// The keys that there are, that for EAP-GPSK first.
-fn keys_of(settings: &Settings) -> Keys
-    requires { (kind : ℕ) → length (key_for (settings_of settings.now) kind) ≤ 64 }
-    ensures { result ≡ map (key_with (settings_of settings.now)) (keyed_kinds (settings_of settings.now)) }
+/// A key of these octets, or none if there are none.
+fn key_or_none(octets: &[u8]) -> Option<Secret>
+    requires { length octets.now ≤ 64 }
+    ensures { result ≡ key_or_none octets.now }
 {
-    let kinds = keyed_kinds(settings);
-    let mut keys = Keys::new();
-    for kind in kinds.as_slice() {
-        keys.push(Key {
-            kind: *kind,
-            psk: Secret::of(key_for(settings, *kind)),
-        });
+    match octets {
+        [] => None,
+        [_, ..] => Some(Secret::of(octets)),
     }
-    keys
 }
 
 /// A server of this name alone, or any if it is empty.
@@ -173,7 +168,8 @@ pub fn peer_setup(settings: &Settings, nonce: &Nonce) -> PeerSetup
 fn peer_setup_from(settings: &Settings, nonce: &Nonce) -> PeerSetup
     requires name { length settings.now.name.now ≤ max_name }
     requires other { length settings.now.other.now ≤ max_name }
-    requires keys { (kind : ℕ) → length (key_for (settings_of settings.now) kind) ≤ 64 }
+    requires psk { length settings.now.psk_key.now ≤ 64 }
+    requires gpsk { length settings.now.gpsk_key.now ≤ 64 }
     ensures { result ≡ peer_setup_of (settings_of settings.now) nonce.now }
 {
     PeerSetup {
@@ -181,7 +177,8 @@ fn peer_setup_from(settings: &Settings, nonce: &Nonce) -> PeerSetup
         accepts: accepts(settings.other),
         methods: kinds_of(settings),
         suites: suites_of(settings),
-        keys: keys_of(settings),
+        psk47: key_or_none(settings.psk_key),
+        psk51: key_or_none(settings.gpsk_key),
         nonce: *nonce,
         expanded: settings.expanded != 0,
     }

@@ -5,24 +5,23 @@ ghost use Rattle.std.specs.List.{list_all};
 ghost use Rattle.octet_lists.specs.Among.{is_kind, are_distinct};
 ghost use Rattle.login_setup.specs.Setup.{are_kinds, are_suites, fits_kind};
 ghost use Rattle.login_setup.specs.Setup.{IsSoundPeer, HasKeys, IsSoundServer};
-ghost use Rattle.end_objects.specs.Soundness.{is_suite, is_sound_key, has_key, is_sound_user};
+ghost use Rattle.end_objects.specs.Soundness.{is_suite, is_sound_key, is_sound_user};
 
-use login_setup::{Key, Keys, PeerSetup, ServerSetup, User};
-use octet_lists::{GPSK_KIND, PSK_KIND, is_among};
+use login_setup::{PeerSetup, ServerSetup, User};
+use octet_lists::{GPSK_KIND, PSK_KIND, Secret, is_among};
 
 /// Whether a peer's machine and world accept these settings, as `PeerMachine::new` and `World::new` ask. Its methods
 /// are of 47 (EAP-PSK) and 51 (EAP-GPSK), each at most once; its suites of 1 and 2, at least one and each at most
 /// once; a key for 47 has 16 octets, one for 51 has 32 to 64, also if the method isn't allowed; and it has a key
 /// for each method that it allows.
-#[tactic(auto, using(crate::proofs::Sound::keys_fit, crate::proofs::Sound::keys_pass, crate::proofs::Sound::each_has, crate::proofs::Sound::all_have))]
 pub fn is_sound_peer(setup: &PeerSetup) -> bool
     ensures { IsTrue result ↔ (IsSoundPeer setup.now × HasKeys setup.now) }
 {
-    let allowed = setup.methods.as_slice();
-    are_kinds(allowed)
+    are_kinds(setup.methods.as_slice())
         && are_suites(setup.suites.as_slice())
-        && are_fitting(setup.keys.as_slice())
-        && has_each(&setup.keys, allowed)
+        && is_sound_key(PSK_KIND, &setup.psk47)
+        && is_sound_key(GPSK_KIND, &setup.psk51)
+        && setup.has_keys()
 }
 
 /// Whether a server's machine and world accept these settings, as `ServerMachine::new`, `ServerMachine::in_role`,
@@ -92,18 +91,14 @@ fn are_distinct(numbers: &[u8]) -> bool
     }
 }
 
-/// Whether each key fits its method.
-fn are_fitting(keys: &[Key]) -> bool
-    ensures { result ≡ list_all is_sound_key keys.now }
+/// Whether the key for this method, if there is one, fits it.
+fn is_sound_key(kind: u8, key: &Option<Secret>) -> bool
+    ensures { result ≡ is_sound_key kind key.now }
 {
-    keys.iter().all(|key| fits(key.kind, key.psk.as_slice()))
-}
-
-/// Whether there is a key for each of these methods.
-fn has_each(keys: &Keys, kinds: &[u8]) -> bool
-    ensures { result ≡ list_all (has_key keys.now) kinds.now }
-{
-    kinds.iter().all(|kind| keys.find(*kind).is_some())
+    match key {
+        None => true,
+        Some(psk) => fits(kind, psk.as_slice()),
+    }
 }
 
 /// Whether each user is of one of the two methods and has a key that fits it.

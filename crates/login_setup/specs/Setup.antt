@@ -1,9 +1,8 @@
 -- When the settings of an end are sound: its methods, its suites and its keys.
-use Rattle.std.specs.Prelude.{◌≡◌, ℕ, List, [], length, Bool, true, ◌==◌, ◌&&◌, ◌||◌, if◌then◌else◌, nat_le, IsTrue, IsSome, All}
+use Rattle.std.specs.Prelude.{ℕ, List, [], length, Bool, true, ◌==◌, ◌&&◌, ◌||◌, if◌then◌else◌, nat_le, IsTrue, Option, None, is_some, IfSome, All}
 use Rattle.std.specs.List.{list_all}
 use Rattle.std.specs.Str.{bytes_eq}
-use Rattle.octet_lists.specs.Among.{is_among, are_distinct, is_filled, psk_kind, gpsk_kind, is_kind}
-use Rattle.login_setup.specs.Keys.{key_of}
+use Rattle.octet_lists.specs.Among.{are_distinct, is_filled, psk_kind, gpsk_kind, is_kind}
 use Rattle.login_setup.specs.declared.setup.Accepts.{Accepts}
 use Rattle.login_setup.specs.declared.setup.Accepts.TheVariants.{Any, One}
 use Rattle.login_setup.specs.declared.setup.Later.{Later}
@@ -33,11 +32,19 @@ accepts_name (One accepted) name = bytes_eq accepted name
 abbrev pub no_later : Later
 no_later = record { version = 1; peer = []; server = [] }
 
+-- the peer's key for a method
+abbrev pub key_of : PeerSetup → ℕ → Option (List ℕ)
+key_of setup kind =
+    if kind == psk_kind then setup.psk47
+    else if kind == gpsk_kind then setup.psk51
+    else None
+
 -- the settings of a peer are sound
 pub record IsSoundPeer (setup : PeerSetup) : Type 0 where
   pub methods : IsTrue (are_kinds setup.methods)
   pub suites : IsTrue (are_suites setup.suites)
-  pub keys : All (λ key. IsTrue (fits_kind key.kind key.psk)) setup.keys
+  pub psk47 : IfSome setup.psk47 (λ key. IsTrue (fits_kind psk_kind key))
+  pub psk51 : IfSome setup.psk51 (λ key. IsTrue (fits_kind gpsk_kind key))
 
 -- the settings of a server are sound
 pub record IsSoundServer (setup : ServerSetup) : Type 0 where
@@ -47,5 +54,8 @@ pub record IsSoundServer (setup : ServerSetup) : Type 0 where
   pub keys : All (λ user. IsTrue (fits_kind user.kind user.psk)) setup.users
 
 -- a peer has a key for each method that it allows
+abbrev pub has_keys : PeerSetup → Bool
+has_keys setup = list_all (λ kind. is_some (key_of setup kind)) setup.methods
+
 abbrev pub HasKeys : PeerSetup → Type 0
-HasKeys setup = (kind : ℕ) → is_among setup.methods kind ≡ true → IsSome (key_of setup.keys kind)
+HasKeys setup = IsTrue (has_keys setup)

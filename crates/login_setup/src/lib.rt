@@ -2,13 +2,11 @@
 #![tactic(auto)]
 
 mod event;
-mod keys;
 mod nonces;
 mod setup;
 mod users;
 
 pub use event::Event;
-pub use keys::{Key, Keys, MAX_KEYS};
 pub use nonces::Nonces;
 pub use setup::{Accepts, Later, Mode, Party, PeerSetup, Port, ServerSetup, Setup};
 pub use users::{MAX_USERS, User, Users};

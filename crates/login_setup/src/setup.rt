@@ -1,12 +1,11 @@
 //! The settings of a run: what each end is configured with before it begins.
 
-ghost use Rattle.std.specs.Prelude.{◌≡◌};
-ghost use Rattle.login_setup.specs.Setup.{accepts_name, no_later};
+ghost use Rattle.std.specs.Prelude.{◌≡◌, option_copied};
+ghost use Rattle.login_setup.specs.Setup.{accepts_name, key_of, has_keys, no_later};
 
-use crate::keys::Keys;
 use crate::nonces::Nonces;
 use crate::users::Users;
-use octet_lists::{Identity, Kinds, Nonce, Suites};
+use octet_lists::{GPSK_KIND, Identity, Kinds, Nonce, PSK_KIND, Secret, Suites};
 
 /// Whether the server answers by itself, or behind a pass-through authenticator.
 #[derive(Clone, Copy, PartialEq, Eq, Debug)]
@@ -75,8 +74,10 @@ pub struct PeerSetup {
     pub methods: Kinds,
     /// The EAP-GPSK suites that it allows, 1 or 2, each at most once.
     pub suites: Suites,
-    /// Its keys: of 16 octets for EAP-PSK, of 32 to 64 for EAP-GPSK.
-    pub keys: Keys,
+    /// Its key for EAP-PSK, of 16 octets.
+    pub psk47: Option<Secret>,
+    /// Its key for EAP-GPSK, of 32 to 64 octets.
+    pub psk51: Option<Secret>,
     /// The octets from which its nonce is taken.
     pub nonce: Nonce,
     /// Whether it reads Expanded Types (RFC 3748 section 5.7).
@@ -84,6 +85,29 @@ pub struct PeerSetup {
 }
 
 impl PeerSetup {
+    /// The key for this method, or None if there is none.
+    pub fn key(&self, kind: u8) -> Option<&Secret>
+        ensures { option_copied result ≡ key_of self.now kind }
+    {
+        if kind == PSK_KIND {
+            self.psk47.as_ref()
+        } else if kind == GPSK_KIND {
+            self.psk51.as_ref()
+        } else {
+            None
+        }
+    }
+
+    /// True if it has a key for each method that it allows.
+    pub fn has_keys(&self) -> bool
+        ensures { result ≡ has_keys self.now }
+    {
+        self.methods
+            .as_slice()
+            .iter()
+            .all(|kind| self.key(*kind).is_some())
+    }
+
     /// An equal value.
     pub fn copy(&self) -> PeerSetup
         ensures { result ≡ self.now }
@@ -93,7 +117,8 @@ impl PeerSetup {
             accepts: self.accepts.copy(),
             methods: self.methods.copy(),
             suites: self.suites.copy(),
-            keys: self.keys.copy(),
+            psk47: self.psk47.as_ref().map(|key| key.copy()),
+            psk51: self.psk51.as_ref().map(|key| key.copy()),
             nonce: self.nonce,
             expanded: self.expanded,
         }

@@ -1,7 +1,7 @@
 //! Lists of octets, and copies of settings.
 
 use octet_lists::Octets;
-use login_setup::{Accepts, Key, Keys, Later, Mode, PeerSetup, ServerSetup, Setup, Users};
+use login_setup::{Accepts, Later, Mode, PeerSetup, ServerSetup, Setup, Users};
 
 /// Whether a list of two octets, which has room for four, answers each call so and has the octets that fit.
 fn takes_what_fits() -> bool {
@@ -35,17 +35,13 @@ fn lists_have_what_fits(rt: HostRuntime) {
 
 /// The settings of anna, who allows EAP-GPSK and then EAP-PSK, and of a server.
 fn settings() -> Setup {
-    let mut keys = Keys::new();
-    keys.push(Key {
-        kind: 51,
-        psk: Octets::of(&[7; 32]),
-    });
     let peer = PeerSetup {
         name: Octets::of(b"anna"),
         accepts: Accepts::One(Octets::of(b"server")),
         methods: Octets::of(&[51, 47]),
         suites: Octets::of(&[2]),
-        keys,
+        psk47: None,
+        psk51: Octets::from_slice(&[7; 32]),
         nonce: [1; 32],
         expanded: false,
     };
@@ -72,7 +68,7 @@ fn is_copied() -> bool {
     let copied = settings().copy();
     (copied.first_id == 9)
         & (copied.peer.methods.as_slice() == [51, 47].as_slice())
-        & copied.peer.keys.find(51).is_some()
+        & copied.peer.key(51).is_some()
         & (copied.server.name.as_slice() == b"server".as_slice())
 }
 

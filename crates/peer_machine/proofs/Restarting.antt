@@ -5,4 +5,4 @@ use Rattle.login_setup.specs.declared.setup.PeerSetup.{PeerSetup}
 use Rattle.peer_machine.specs.PeerTable.{own_nonce}
 
 pub still_sound : (setup : PeerSetup) (nonce : List ℕ) → IsSoundPeer setup → IsSoundPeer (own_nonce setup nonce)
-still_sound setup nonce is = record { methods = is.methods; suites = is.suites; keys = is.keys }
+still_sound setup nonce is = record { methods = is.methods; suites = is.suites; psk47 = is.psk47; psk51 = is.psk51 }

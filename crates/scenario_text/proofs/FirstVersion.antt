@@ -1,12 +1,13 @@
 -- No line of the first version tells of a later conversation.
-use Rattle.std.proofs.Common.{◌≡◌, ℕ, List, [], ◌∷◌, ◌++◌, map, Bool, true, false, ◌||◌, find, unwrap_or, inl, inr, refl, sym, ap, subst, ◌∙◌}
+use Rattle.std.proofs.Common.{◌≡◌, ℕ, List, [], ◌∷◌, ◌++◌, map, Bool, true, false, ◌||◌, ◌==◌, cond, find, unwrap_or, inl, inr, refl, sym, ap, subst, ◌∙◌}
 use Rattle.std.proofs.lemmas.Bool.{cases_Bool, or_parts}
 use Rattle.std.specs.List.{list_any}
 use Rattle.std.specs.Str.{bytes_eq}
+use Rattle.octet_lists.specs.Among.{psk_kind}
 use Rattle.login_setup.specs.declared.event.Event.{Event}
 use Rattle.login_setup.specs.declared.setup.Setup.{Setup}
 use Rattle.text_tables.specs.Words.{words}
-use Rattle.text_tables.specs.Fields.{word_in}
+use Rattle.text_tables.specs.Fields.{word_in, kind_of, octets_of}
 use Rattle.text_tables.specs.Rows.{keyword_in}
 use Rattle.scenario_text.specs.Keywords.{row_of, keywords}
 use Rattle.scenario_text.specs.Entries.{item_of, keyword_of, said_by}
@@ -51,8 +52,13 @@ keyword-first : (line : List ℕ) → is_later (keyword_of First line) ≡ false
 unfolding keyword_in
 keyword-first line = found-has (λ k. bytes_eq (word_in (words line) 0) (row_of k).word) is_later keywords key.End refl refl
 
+key-first : (b : Bool) (k : List ℕ) → sets_later (cond b (setting.PeerPsk47 k) (setting.PeerPsk51 k)) ≡ false
+key-first true k = refl
+key-first false k = refl
+
 item-first : (k : Keyword) (ws : List (List ℕ)) → is_later k ≡ false → tells_later (item_of k ws) ≡ false
 unfolding item_of
+item-first key.PeerPsk ws h = key-first (kind_of (word_in ws 1) == psk_kind) (octets_of (word_in ws 2))
 item-first key.PeerExpanded ws h = h
 item-first key.ServerExpanded ws h = h
 item-first key.Restart ws h = h

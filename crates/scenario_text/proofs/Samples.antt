@@ -1,5 +1,5 @@
 -- Lines, and a whole scenario, read by the definitions alone.
-use Rattle.std.proofs.Common.{◌≡◌, List, ℕ, true, false, [], ◌∷◌, ◌++◌, replicate, Some, find, Result, Ok, Err, refl}
+use Rattle.std.proofs.Common.{◌≡◌, List, ℕ, true, false, [], ◌∷◌, ◌++◌, replicate, Some, None, find, Result, Ok, Err, refl}
 use Rattle.std.specs.Prelude.{codes}
 use Rattle.login_setup.specs.Setup.{no_later}
 use Rattle.login_setup.specs.declared.setup.Later.{Later}
@@ -98,7 +98,8 @@ setup later = record {
     accepts = Any;
     methods = [];
     suites = 1 ∷ 2 ∷ [];
-    keys = [];
+    psk47 = None;
+    psk51 = None;
     nonce = replicate 32 0;
     expanded = false;
   };

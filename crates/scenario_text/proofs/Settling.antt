@@ -1,27 +1,24 @@
 -- Settings that come one after another, the values that their lines give, and the users among them.
 use Rattle.std.proofs.Common.{◌≡◌, ℕ, zero, suc, ◌<◌, ◌≤◌, List, [], ◌∷◌, ◌++◌, length, get_or, Bool, true, false, nat_le, Option, Some, None, find}
-use Rattle.std.proofs.Common.{is_some, unwrap_or, ◌==◌, not, ◌&&◌, nat_lt, Result, Ok, Err, IfOk, refl, sym, ap, ap₂, subst, ◌∙◌, arith, append_assoc, append-nil, length-append, lit≤, not-suc-le-zero}
-use Rattle.std.proofs.lemmas.Bool.{cond_both, or_parts, leb-false, lt-leb, lt-ltb, ltb-true}
+use Rattle.std.proofs.Common.{is_some, unwrap_or, not, ◌&&◌, nat_lt, Result, Ok, Err, IfOk, refl, sym, ap, ap₂, subst, ◌∙◌, arith, append_assoc, append-nil, length-append, lit≤, not-suc-le-zero}
+use Rattle.std.proofs.lemmas.Bool.{cond_both, leb-false, lt-leb, lt-ltb, ltb-true}
 use Rattle.std.proofs.lemmas.List.{get_or_append_left}
 use Rattle.std.proofs.Math.Seq.{get_or-append_seam}
-use Rattle.std.proofs.lemmas.List.Quantifiers.{all_pairs_push}
-use Rattle.login_setup.specs.Keys.{key_of}
-use Rattle.login_setup.specs.Setup.{no_later}
-use Rattle.login_setup.specs.Users.{user_of, is_named, HasRoom}
-use Rattle.login_setup.specs.declared.keys.Key.{Key}
+use Rattle.login_setup.specs.Setup.{no_later, has_keys}
+use Rattle.login_setup.specs.Users.{user_of, is_named, HasRoom, AreDistinct}
 use Rattle.login_setup.specs.declared.users.User.{User}
 use Rattle.login_setup.specs.declared.setup.Later.{Later}
 use Rattle.login_setup.specs.declared.setup.PeerSetup.{PeerSetup}
 use Rattle.login_setup.specs.declared.setup.ServerSetup.{ServerSetup}
 use Rattle.login_setup.specs.declared.setup.Setup.{Setup}
-use Rattle.login_setup.proofs.UserLists.{find_none}
+use Rattle.login_setup.proofs.UserLists.{AreDistinct-push}
 use Rattle.text_tables.specs.Fields.{◌>>=◌}
 use Rattle.text_tables.specs.Users.{with_user}
 use Rattle.text_tables.proofs.Adding.{empty, with_user_is, with_user_holds}
-use Rattle.scenario_text.specs.Reading.{settings_of_version, has_setting, with_later, with_nonce, is_full, with_setting, has_key, with_key, both_suites, given_or_missing, have_keys, later_nonces, later_of, peer_setup_of, server_setup_of, setup_of}
-use Rattle.scenario_text.specs.Valid.{AreApart, AreUsers, AreKeys, AreFew, IsKept}
+use Rattle.scenario_text.specs.Reading.{settings_of_version, has_setting, with_later, with_nonce, is_full, with_setting, both_suites, given_or_missing, keyed_or_missing, later_nonces, later_of, peer_setup_of, server_setup_of, setup_of}
+use Rattle.scenario_text.specs.Valid.{AreUsers, AreFew, IsKept}
 use Rattle.scenario_text.specs.Versions.{has_later, most_later}
-use Rattle.scenario_text.specs.Whole.{Values, no_values, with_value, values_of, IsGivenOr, AreNoncesOf, MakesPeer, MakesServer, MakesSetup}
+use Rattle.scenario_text.specs.Whole.{Values, no_values, with_value, values_of, IsGivenOr, IsGivenOrNone, AreNoncesOf, MakesPeer, MakesServer, MakesSetup}
 use Rattle.text_tables.specs.declared.fault.LineFault.{LineFault}
 use Rattle.text_tables.specs.declared.fault.LineFault.TheVariants.{Missing}
 use Rattle.scenario_text.specs.declared.entry.Setting.{Setting}
@@ -31,29 +28,13 @@ use Rattle.scenario_text.specs.declared.settings.Settings.{Settings}
 use Rattle.scenario_text.specs.declared.version.Version.{Version}
 use Rattle.scenario_text.specs.declared.version.Version.TheVariants.{First, Second}
 
-none-apart : {A : Type 0} (most : ℕ) (same : A → A → Bool) → AreApart most same []
-none-apart most same = record { few = omega arith; distinct = λ i j d low high. absurd (not-suc-le-zero high) }
-
-push-apart : {A : Type 0} (most : ℕ) (same : A → A → Bool) (xs : List A) (x : A) → AreApart most same xs → length xs < most → find (same x) xs ≡ None →
-    AreApart most same (xs ++ x ∷ [])
-push-apart most same xs x h below absent = record {
-  few = omega (arith, length-append xs (x ∷ []));
-  distinct = all_pairs_push (λ a b. same b a ≡ false) xs x h.distinct (λ k d within. find_none (same x) xs absent k d within);
-}
+no-users : AreUsers []
+no-users = record { few = lit≤ tt; distinct = λ i j d low high. absurd (not-suc-le-zero high) }
 
 users-kept : (users : List User) (user : User) → AreUsers users → AreUsers (with_user users user)
-users-kept users user h = with_user_holds AreUsers users user h (λ r. push-apart 16 (λ one. is_named one.name one.kind) users user h r.few r.absent)
-
--- what holds of the keys holds with one more
-pub with-key : (P : List Key → Type 0) (keys : List Key) (key : Key) → P keys → (has_key keys key.kind ≡ false → P (keys ++ key ∷ [])) → P (with_key keys key)
-unfolding with_key
-with-key P keys key h more = cond_both (has_key keys key.kind) keys (keys ++ key ∷ []) P (λ e. h) more
-
-keys-kept : (keys : List Key) (key : Key) → AreKeys keys → AreKeys (with_key keys key)
-keys-kept keys key h =
-    with-key AreKeys keys key h (λ n.
-    let parts = or_parts (nat_le 2 (length keys)) (is_some (key_of keys key.kind)) n in
-    push-apart 2 (λ one other. other.kind == one.kind) keys key h (leb-false 2 (length keys) parts.0) (empty (key_of keys key.kind) parts.1))
+users-kept users user h =
+    with_user_holds AreUsers users user h (λ r.
+    record { few = omega (arith, length-append users (user ∷ []), r.few); distinct = AreDistinct-push users user (h.distinct) (r.absent) })
 
 later-few : (version : Version) (later : List (List ℕ)) (nonce : List ℕ) → length later ≤ most_later version → length (with_later version later nonce) ≤ most_later version
 unfolding with_later
@@ -67,16 +48,15 @@ few-kept Second None nonce h = lit≤ tt
 few-kept version (Some given) nonce h = later-few version given.later nonce h
 
 pub none-kept : (version : Version) → IsKept (settings_of_version version)
-none-kept version = record { users = none-apart _ _; keys = none-apart _ _; peer_nonces = tt; server_nonces = tt }
+none-kept version = record { users = no-users; peer_nonces = tt; server_nonces = tt }
 
 pub kept : (s : Settings) (x : Setting) → IsKept s → IsKept (with_setting s x)
-kept s (setting.User user) h = record { users = users-kept s.users user h.users; keys = h.keys; peer_nonces = h.peer_nonces; server_nonces = h.server_nonces }
-kept s (setting.PeerKey key) h = record { users = h.users; keys = keys-kept s.peer_keys key h.keys; peer_nonces = h.peer_nonces; server_nonces = h.server_nonces }
+kept s (setting.User user) h = record { users = users-kept s.users user h.users; peer_nonces = h.peer_nonces; server_nonces = h.server_nonces }
 kept s (setting.PeerNonce nonce) h =
-    record { users = h.users; keys = h.keys; peer_nonces = few-kept s.version s.peer_nonces nonce h.peer_nonces; server_nonces = h.server_nonces }
+    record { users = h.users; peer_nonces = few-kept s.version s.peer_nonces nonce h.peer_nonces; server_nonces = h.server_nonces }
 kept s (setting.ServerNonce nonce) h =
-    record { users = h.users; keys = h.keys; peer_nonces = h.peer_nonces; server_nonces = few-kept s.version s.server_nonces nonce h.server_nonces }
-kept s other h = record { users = h.users; keys = h.keys; peer_nonces = h.peer_nonces; server_nonces = h.server_nonces }
+    record { users = h.users; peer_nonces = h.peer_nonces; server_nonces = few-kept s.version s.server_nonces nonce h.server_nonces }
+kept s other h = record { users = h.users; peer_nonces = h.peer_nonces; server_nonces = h.server_nonces }
 
 -- a setting leaves the version
 pub same-version : (s : Settings) (x : Setting) → (with_setting s x).version ≡ s.version
@@ -101,7 +81,8 @@ joined s v = record {
   peer_server = plus s.peer_server v.peer_server;
   peer_methods = plus s.peer_methods v.peer_methods;
   peer_suites = plus s.peer_suites v.peer_suites;
-  keys = s.peer_keys ++ v.keys;
+  peer_psk47 = plus s.peer_psk47 v.peer_psk47;
+  peer_psk51 = plus s.peer_psk51 v.peer_psk51;
   peer_nonce = plus_nonces s.peer_nonces v.peer_nonce;
   server_name = plus s.server_name v.server_name;
   server_methods = plus s.server_methods v.server_methods;
@@ -141,10 +122,6 @@ pushed users user h = with_user_is users (users ++ user ∷ []) user (λ k. refl
 added : (users : List User) (user : User) (rest : List User) → HasRoom users user → users ++ user ∷ rest ≡ with_user users user ++ rest
 added users user rest h = sym (append_assoc users (user ∷ []) rest) ∙ ap (λ l. l ++ rest) (pushed users user h)
 
-key-added : (keys : List Key) (key : Key) (rest : List Key) → has_key keys key.kind ≡ false → keys ++ key ∷ rest ≡ with_key keys key ++ rest
-unfolding with_key
-key-added keys key rest n = rw n (sym (append_assoc keys (key ∷ []) rest))
-
 -- so does a nonce for which there is room
 later-added : (later : List (List ℕ)) (nonce : List ℕ) (rest : List (List ℕ)) → nat_le 15 (length later) ≡ false → later ++ nonce ∷ rest ≡ with_later Second later nonce ++ rest
 unfolding with_later
@@ -161,7 +138,6 @@ nonce-added Second (Some given) nonce rest f n = ap (λ l. given.first ∷ l) (l
 -- a new setting goes from what comes to what is set
 moves : (s : Settings) (x : Setting) (v : Values) → is_over s x ≡ false → has_setting s x ≡ false → joined s (with_value x v) ≡ joined (with_setting s x) v
 moves s (setting.User a) v f n = ap (λ l. record (joined s v) { users = l }) (added s.users a v.users (room s.users a f n))
-moves s (setting.PeerKey a) v f n = ap (λ l. record (joined s v) { keys = l }) (key-added s.peer_keys a v.keys n)
 moves s (setting.PeerNonce a) v f n = ap (λ l. record (joined s v) { peer_nonce = l }) (nonce-added s.version s.peer_nonces a v.peer_nonce f n)
 moves s (setting.ServerNonce a) v f n = ap (λ l. record (joined s v) { server_nonce = l }) (nonce-added s.version s.server_nonces a v.server_nonce f n)
 moves s other v f n = rw fresh refl
@@ -192,6 +168,13 @@ given-or : {A : Type 0} (slot : Option A) (d : A) → IsGivenOr d (plus slot [])
 given-or None d = refl
 given-or (Some a) d = refl
 
+given-or-none : {A : Type 0} (slot : Option A) → IsGivenOrNone (plus slot []) slot
+given-or-none None = refl
+given-or-none (Some a) = refl
+
+keyed-given : (Q : PeerSetup → Type 0) (peer : PeerSetup) → (has_keys peer ≡ true → Q peer) → IfOk (keyed_or_missing peer) Q
+keyed-given Q peer h = cond_both (has_keys peer) (Ok peer) (Err Missing) (λ x. IfOk x Q) h (λ e. tt)
+
 nonces-given : (version : Version) (slot : Option GivenNonces) (given : GivenNonces) → AreFew version slot → slot ≡ Some given →
     AreNoncesOf version (plus_nonces slot []) given.first (later_nonces slot)
 nonces-given version None given few e = absurd cc
@@ -213,18 +196,18 @@ peers-given s h =
     with_needed Q s.peer_server _ (λ accepts b.
     with_needed Q s.peer_methods _ (λ methods c.
     with_given Q s.peer_nonces _ (λ nonces d.
-    cond_both (have_keys s.peer_keys methods) _ (Err Missing) (λ x. IfOk x Q) (λ f.
+    keyed-given Q _ (λ f.
     record {
       name = a;
       accepts = b;
       methods = c;
       suites = given-or s.peer_suites both_suites;
-      keys = append-nil s.peer_keys;
-      distinct_keys = h.keys;
-      has_keys = f;
+      psk47 = given-or-none s.peer_psk47;
+      psk51 = given-or-none s.peer_psk51;
+      keys = f;
       nonces = nonces-given s.version s.peer_nonces nonces h.peer_nonces d;
       expanded = given-or s.peer_expanded false;
-    }) (λ f. tt)))))
+    })))))
 
 pub servers-given : (s : Settings) → IsKept s → IfOk (server_setup_of s) (MakesServer s.version (joined s no_values) (later_nonces s.server_nonces))
 unfolding server_setup_of
@@ -261,26 +244,20 @@ once-or : {A : Type 0} (slot : Option A) (d a b : A) (xs : List A) → IsGivenOr
 once-or None d a b xs e = refl
 once-or (Some c) d a b xs e = absurd e
 
-none-passes : {A : Type 0} (p : A → Bool) (xs : List A) → ((k : ℕ) (d : A) → k < length xs → p (get_or xs k d) ≡ false) → is_some (find p xs) ≡ false
+once-or-none : {A : Type 0} (slot : Option A) (a : A) (b : Option A) (xs : List A) → IsGivenOrNone (plus slot (a ∷ xs)) b → is_some slot ≡ false
+once-or-none None a b xs e = refl
+once-or-none (Some c) a b xs e = absurd e
+
+none-passes : (p : User → Bool) (users : List User) → ((k : ℕ) (d : User) → k < length users → p (get_or users k d) ≡ false) → is_some (find p users) ≡ false
 none-passes p [] h = refl
 none-passes p (x ∷ rest) h = let e : p x ≡ false = h zero x (omega arith) in rw e (none-passes p rest (λ k d below. h (suc k) d (omega arith)))
 
-few-left : {A : Type 0} (most : ℕ) (xs : List A) (x : A) (rest : List A) → length (xs ++ x ∷ rest) ≤ most → nat_le most (length xs) ≡ false
-few-left most xs x rest h = lt-leb most (length xs) (omega (arith, length-append xs (x ∷ rest)))
-
--- none before it is the same
-unique : {A : Type 0} (most : ℕ) (same : A → A → Bool) (xs : List A) (x : A) (rest : List A) → AreApart most same (xs ++ x ∷ rest) → is_some (find (same x) xs) ≡ false
-unique most same xs x rest h =
-    none-passes (same x) xs (λ k d below.
-    let first : get_or (xs ++ x ∷ rest) k d ≡ get_or xs k d = get_or_append_left xs (x ∷ rest) d k below in
-    let second : get_or (xs ++ x ∷ rest) (length xs) d ≡ x = get_or-append_seam xs x rest d in
-    rw (first, second) at (h.distinct k (length xs) d below (omega (arith, length-append xs (x ∷ rest)))))
-
-key-new : (keys : List Key) (key : Key) (rest : List Key) → AreKeys (keys ++ key ∷ rest) → has_key keys key.kind ≡ false
-key-new keys key rest h =
-    let few = few-left 2 keys key rest h.few in
-    let absent = unique 2 (λ one other. other.kind == one.kind) keys key rest h in
-    rw (few, absent) refl
+unique : (users : List User) (user : User) (rest : List User) → AreDistinct (users ++ user ∷ rest) → is_some (user_of users user.name user.kind) ≡ false
+unique users user rest h =
+    none-passes (is_named user.name user.kind) users (λ k d below.
+    let first : get_or (users ++ user ∷ rest) k d ≡ get_or users k d = get_or_append_left users (user ∷ rest) d k below in
+    let second : get_or (users ++ user ∷ rest) (length users) d ≡ user = get_or-append_seam users user rest d in
+    rw (first, second) at (h k (length users) d below (omega (arith, length-append users (user ∷ rest)))))
 
 -- nonces that are no more than the version has leave room for the one that comes
 nonce-new : (version : Version) (slot : Option GivenNonces) (a first : List ℕ) (rest later : List (List ℕ)) → AreNoncesOf version (plus_nonces slot (a ∷ rest)) first later →
@@ -300,14 +277,16 @@ nonce-room Second (Some given) a first rest later h =
     lt-leb 15 (length given.later) (omega (arith, few, length-append given.later (a ∷ rest), ap length h.given))
 
 new-of : (s : Settings) (x : Setting) (v : Values) (setup : Setup) → MakesSetup s.version (joined s (with_value x v)) setup → has_setting s x ≡ false
-new-of s (setting.PeerKey a) v setup h = key-new s.peer_keys a v.keys (subst AreKeys (sym (h.peer.keys)) (h.peer.distinct_keys))
-new-of s (setting.User a) v setup h = unique 16 (λ one. is_named one.name one.kind) s.users a v.users (subst AreUsers (sym (h.server.users)) (h.server.distinct_users))
+new-of s (setting.User a) v setup h = unique s.users a v.users (subst AreDistinct (sym (h.server.users)) (h.server.distinct_users.distinct))
 new-of s (setting.PeerNonce a) v setup h = nonce-new s.version s.peer_nonces a _ v.peer_nonce _ (h.peer.nonces)
 new-of s (setting.ServerNonce a) v setup h = nonce-new s.version s.server_nonces a _ v.server_nonce _ (h.server.nonces)
-new-of s other v setup h = search (once, once-or)
+new-of s other v setup h = search (once, once-or, once-or-none)
+
+few-left : (users : List User) (user : User) (rest all : List User) → users ++ user ∷ rest ≡ all → length all ≤ 16 → nat_le 16 (length users) ≡ false
+few-left users user rest all e h = lt-leb 16 (length users) (omega (arith, length-append users (user ∷ rest), ap length e))
 
 fits-of : (s : Settings) (x : Setting) (v : Values) (setup : Setup) → MakesSetup s.version (joined s (with_value x v)) setup → is_over s x ≡ false
-fits-of s (setting.User a) v setup h = few-left 16 s.users a v.users (subst (λ users. length users ≤ 16) (sym (h.server.users)) (h.server.distinct_users.few))
+fits-of s (setting.User a) v setup h = few-left s.users a v.users setup.server.users (h.server.users) (h.server.distinct_users.few)
 fits-of s (setting.PeerNonce a) v setup h = nonce-room s.version s.peer_nonces a _ v.peer_nonce _ (h.peer.nonces)
 fits-of s (setting.ServerNonce a) v setup h = nonce-room s.version s.server_nonces a _ v.server_nonce _ (h.server.nonces)
 fits-of s other v setup h = refl
@@ -329,6 +308,13 @@ set-or : {A : Type 0} (slot : Option A) (d b : A) → IsGivenOr d (plus slot [])
 set-or None d b e = sym e
 set-or (Some a) d b e = sym e
 
+set-or-none : {A : Type 0} (slot key : Option A) → IsGivenOrNone (plus slot []) key → slot ≡ key
+set-or-none None key e = sym e
+set-or-none (Some a) key e = sym e
+
+keyed-set : (peer : PeerSetup) → has_keys peer ≡ true → keyed_or_missing peer ≡ Ok peer
+keyed-set peer e = rw e refl
+
 -- the nonces too
 pub nonces-set : (slot : Option GivenNonces) (first : List ℕ) (later : List (List ℕ)) → plus_nonces slot [] ≡ first ∷ later → slot ≡ Some (record { first = first; later = later })
 nonces-set None first later e = absurd cc
@@ -344,11 +330,11 @@ peers-set version s later peer h =
     let accepts = set-is s.peer_server peer.accepts (h.accepts) in
     let methods = set-is s.peer_methods peer.methods (h.methods) in
     let nonces = nonces-set s.peer_nonces peer.nonce later (h.nonces.given) in
-    let keys : s.peer_keys ≡ peer.keys = sym (append-nil s.peer_keys) ∙ h.keys in
-    let given_or_missing = h.has_keys in
+    let psk47 = set-or-none s.peer_psk47 peer.psk47 (h.psk47) in
+    let psk51 = set-or-none s.peer_psk51 peer.psk51 (h.psk51) in
     let suites = set-or s.peer_suites both_suites peer.suites (h.suites) in
     let expanded = set-or s.peer_expanded false peer.expanded (h.expanded) in
-    rw (name, accepts, methods, nonces, keys, given_or_missing, suites, expanded) refl
+    rw (name, accepts, methods, nonces, psk47, psk51, suites, expanded) (keyed-set peer h.keys)
 
 servers-set : (version : Version) (s : Settings) (later : List (List ℕ)) (server : ServerSetup) → MakesServer version (joined s no_values) later server → server_setup_of s ≡ Ok server
 unfolding server_setup_of

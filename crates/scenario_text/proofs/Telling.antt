@@ -1,12 +1,13 @@
 -- What a line can say at each place of a scenario; lines that are read in order are those of a scenario.
-use Rattle.std.proofs.Common.{◌≡◌, ℕ, List, Bool, true, false, Option, None, Result, Ok, Err, is_err, inl, inr, refl, sym, ap, subst, ◌∙◌, [], ◌∷◌, ◌++◌, map, Some}
+use Rattle.std.proofs.Common.{◌≡◌, ℕ, List, Bool, true, false, cond, ◌==◌, Option, None, Result, Ok, Err, is_err, inl, inr, refl, sym, ap, subst, ◌∙◌, [], ◌∷◌, ◌++◌, map, Some}
 use Rattle.std.proofs.lemmas.Bool.{cases_Bool}
 use Rattle.std.proofs.lemmas.Slice.Eq.{bytes_eq-Decides}
 use Rattle.std.specs.Str.{bytes_eq}
+use Rattle.octet_lists.specs.Among.{psk_kind}
 use Rattle.login_setup.specs.declared.setup.Setup.{Setup}
 use Rattle.login_setup.specs.declared.event.Event.{Event}
 use Rattle.text_tables.specs.Words.{words, is_passed_over}
-use Rattle.text_tables.specs.Fields.{◌>>=◌}
+use Rattle.text_tables.specs.Fields.{kind_of, word_in, ◌>>=◌}
 use Rattle.text_tables.specs.Phases.{may_stand}
 use Rattle.text_tables.specs.Texts as texts
 use Rattle.text_tables.specs.Texts.{read_at, read_begin, read_body}
@@ -22,6 +23,7 @@ use Rattle.text_tables.specs.declared.fault.LineFault.{LineFault}
 use Rattle.scenario_text.specs.declared.keyword.Keyword.{Keyword}
 use Rattle.scenario_text.specs.declared.keyword.Keyword.TheVariants as key
 use Rattle.scenario_text.specs.declared.entry.Setting.{Setting}
+use Rattle.scenario_text.specs.declared.entry.Setting.TheVariants as setting
 use Rattle.scenario_text.specs.declared.settings.Settings.{Settings}
 use Rattle.scenario_text.specs.declared.version.Version.{Version}
 use Rattle.scenario_text.specs.declared.version.Version.TheVariants.{First, Second}
@@ -38,9 +40,13 @@ abbrev is_late : Settings → Entry → Bool
 is_late s (entry.Set v) = is_over s v
 is_late s e = false
 
+no-key : (s : Settings) (b : Bool) (k : List ℕ) → false ≡ is_over s (cond b (setting.PeerPsk47 k) (setting.PeerPsk51 k))
+no-key s true k = refl
+no-key s false k = refl
+
 crowded : (s : Settings) (k : Keyword) (ws : List (List ℕ)) → is_crowded s k ≡ is_late s (item_of k ws)
 unfolding item_of
-crowded s key.User ws = refl
+crowded s key.PeerPsk ws = no-key s (kind_of (word_in ws 1) == psk_kind) _
 crowded s other ws = refl
 
 -- nothing keeps a line from standing where it does

@@ -1,14 +1,12 @@
 -- What has been read is within its limits, line by line.
-use Rattle.std.proofs.Common.{◌≡◌, ◌==◌, ℕ, ◌≤◌, ◌<◌, ◌⊎◌, inl, inr, Bool, true, false, ◌||◌, ◌&&◌, List, [], ◌∷◌, ◌++◌, nat_lt, length, Option, Some, None, IfSome, Result, Ok, Err, IfOk, IsOk, is_err, is_some}
+use Rattle.std.proofs.Common.{◌≡◌, ◌==◌, ℕ, ◌≤◌, ◌<◌, ◌⊎◌, inl, inr, Bool, true, false, ◌||◌, ◌&&◌, List, [], ◌∷◌, ◌++◌, nat_lt, length, Option, Some, None, IfSome, Result, Ok, Err, IfOk, IsOk, is_err}
 use Rattle.std.proofs.Common.{refl, sym, subst, ◌∙◌, lit<, lit≤, append-nil, IsTrue, codes, leb, arith, All}
-use Rattle.std.proofs.lemmas.Bool.{and_parts, eqb-true, leb-false, cond_both, cases_Bool, eq-eqb, true≢false}
+use Rattle.std.proofs.lemmas.Bool.{leb-false, cond_both, cases_Bool, eq-eqb, true≢false}
 use Rattle.std.proofs.lemmas.List.Elements.{All-nil, All-push, All-weaker}
 use Rattle.std.proofs.lemmas.Result.{IfOk-weaker}
 use Rattle.std.proofs.lemmas.Slice.Eq.{bytes_eq-Decides}
 use Rattle.std.specs.Str.{bytes_eq}
-use Rattle.std.specs.List.{list_all}
-use Rattle.login_setup.specs.Keys.{key_of}
-use Rattle.octet_lists.specs.Among.{is_among, psk_kind, gpsk_kind, is_kind}
+use Rattle.octet_lists.specs.Among.{psk_kind, gpsk_kind, is_kind}
 use Rattle.login_setup.specs.Setup.{are_kinds, are_suites, fits_kind, no_later}
 use Rattle.login_setup.specs.declared.event.Event.{Event}
 use Rattle.login_setup.specs.declared.setup.Accepts.TheVariants.{Any, One}
@@ -16,19 +14,19 @@ use Rattle.login_setup.specs.declared.setup.PeerSetup.{PeerSetup}
 use Rattle.login_setup.specs.declared.setup.ServerSetup.{ServerSetup}
 use Rattle.login_setup.specs.declared.setup.Setup.{Setup}
 use Rattle.text_tables.specs.Words.{words}
-use Rattle.text_tables.specs.Fields.{word_in, is_dash, spells_kind, kind_of, spells_suite, suite_of}
+use Rattle.text_tables.specs.Fields.{word_in, is_dash, octets_of, spells_kind, kind_of, spells_suite, suite_of}
 use Rattle.text_tables.specs.Rows.{is_kind_or_none}
 use Rattle.text_tables.specs.Texts as texts
 use Rattle.text_tables.specs.Texts.{read_body}
 use Rattle.text_tables.specs.Fits.{IsName, IsOther, Fits}
 use Rattle.scenario_text.specs.Keywords.{row_of, keywords_in}
-use Rattle.scenario_text.specs.Entries.{accepts_of, kinds_of, suites_of, item_of, keyword_of, said_by}
+use Rattle.scenario_text.specs.Entries.{accepts_of, kinds_of, suites_of, key_setting, item_of, keyword_of, said_by}
 use Rattle.scenario_text.specs.Contents.{Entry, entry_with}
 use Rattle.scenario_text.specs.Contents as entry
 use Rattle.scenario_text.specs.Reading.{Reading, ReadLine, with_setting, with_later, with_nonce, no_settings, settings_of_version, both_suites, peer_setup_of, server_setup_of, later_nonces, setup_of, ready, scenario, line_of_entry, read_line}
-use Rattle.scenario_text.specs.Valid.{AcceptsName, IsValidUser, IsValidKey, IsNonce, IsValidSetting, IsValidEntry, IsValidTold, AreValidNonces, AreValid, IsValidPeer, IsValidServer, IsValidSetup, IsValidItem, IsValidReadLine}
+use Rattle.scenario_text.specs.Valid.{AcceptsName, IsValidUser, IsNonce, IsValidSetting, IsValidEntry, IsValidTold, AreValidNonces, AreValid, IsValidPeer, IsValidServer, IsValidSetup, IsValidItem, IsValidReadLine}
 use Rattle.scenario_text.specs.Versions.{most_later}
-use Rattle.scenario_text.specs.Whole.{IsFaultless, Values, no_values, IsGivenOr, AreNoncesOf, MakesPeer, MakesServer, MakesSetup}
+use Rattle.scenario_text.specs.Whole.{IsFaultless, Values, no_values, IsGivenOr, IsGivenOrNone, AreNoncesOf, MakesPeer, MakesServer, MakesSetup}
 use Rattle.scenario_text.specs.declared.entry.Entry as told
 use Rattle.scenario_text.specs.declared.entry.Setting.{Setting}
 use Rattle.scenario_text.specs.declared.entry.Setting.TheVariants as setting
@@ -45,7 +43,7 @@ use Rattle.text_tables.proofs.Fitting.{faultless-fits}
 use Rattle.text_tables.proofs.Reading.{stepped}
 use Rattle.scenario_text.proofs.Telling.{step-cases, read_line_from_unread}
 use Rattle.text_tables.proofs.Adding.{with_user-all}
-use Rattle.scenario_text.proofs.Settling.{plus, plus_nonces, joined, none-kept, kept, with-key, nonces-set, peers-given, servers-given, all-given, none-later}
+use Rattle.scenario_text.proofs.Settling.{plus, plus_nonces, joined, none-kept, kept, nonces-set, peers-given, servers-given, all-given, none-later}
 
 accepts-valid : (word : List ℕ) → IsName word → AcceptsName (accepts_of word)
 accepts-valid word h = cond_both (bytes_eq word (codes "any")) Any (One word) AcceptsName (λ e. tt) (λ e. h)
@@ -115,6 +113,13 @@ suites-valid ws h k =
     (λ one. one-suite (word_in ws 1))
     (λ two. two-suites (word_in ws 1) (word_in ws 2) h (k (leb-false (length ws) 2 two)))
 
+key-valid : (word key : List ℕ) → IsTrue (fits_kind (kind_of word) key) → IsValidSetting (key_setting (kind_of word) key)
+key-valid word key h =
+    elim (cases_Bool (bytes_eq word (codes "47"))) [
+      | inl e ↦ rw e (rw e at h)
+      | inr e ↦ rw e (rw e at h)
+    ]
+
 pub item_of_valid : (k : Keyword) (ws : List (List ℕ)) → Fits (row_of k) ws → IsValidEntry (item_of k ws)
 unfolding item_of
 item_of_valid key.FirstId ws h = omega (arith, h.fields.0.most)
@@ -123,7 +128,7 @@ item_of_valid key.PeerName ws h = h.fields.0
 item_of_valid key.PeerServer ws h = accepts-valid (word_in ws 1) (h.fields.0)
 item_of_valid key.PeerMethods ws h = kinds-valid ws (h.fields.0) (h.fields.1.0)
 item_of_valid key.PeerSuites ws h = suites-valid ws (h.fields.0) (h.fields.1.0)
-item_of_valid key.PeerPsk ws h = h.fields.1.0.fits
+item_of_valid key.PeerPsk ws h = key-valid (word_in ws 1) (octets_of (word_in ws 2)) (h.fields.1.0.fits)
 item_of_valid key.PeerNonce ws h = omega (arith, h.fields.0.least, h.fields.0.most)
 item_of_valid key.ServerName ws h = h.fields.0
 item_of_valid key.ServerMethods ws h = kinds-valid ws (h.fields.0) (h.fields.1.0)
@@ -149,7 +154,8 @@ begun_valid version = record {
   peer_server = tt;
   peer_methods = tt;
   peer_suites = tt;
-  peer_keys = All-nil IsValidKey;
+  peer_psk47 = tt;
+  peer_psk51 = tt;
   peer_nonces = tt;
   server_name = tt;
   server_methods = tt;
@@ -176,23 +182,11 @@ nonces-valid version (Some given) nonce h k = record { first = h.first; later = 
 pub with_setting_valid : (s : Settings) (v : Setting) → AreValid s → IsValidSetting v → AreValid (with_setting s v)
 with_setting_valid s (setting.User user) h k =
     assumption (with_user-all IsValidUser s.users user h.users k, kept s (setting.User user) h.kept)
-with_setting_valid s (setting.PeerKey key) h k =
-    assumption (with-key (All IsValidKey) s.peer_keys key h.peer_keys (λ e. All-push IsValidKey s.peer_keys key h.peer_keys k), kept s (setting.PeerKey key) h.kept)
 with_setting_valid s (setting.PeerNonce nonce) h k =
     assumption (nonces-valid s.version s.peer_nonces nonce h.peer_nonces k, kept s (setting.PeerNonce nonce) h.kept)
 with_setting_valid s (setting.ServerNonce nonce) h k =
     assumption (nonces-valid s.version s.server_nonces nonce h.server_nonces k, kept s (setting.ServerNonce nonce) h.kept)
 with_setting_valid s other h k = assumption (kept s other h.kept)
-
--- what holds of all numbers holds of each among them
-each-among : (p : ℕ → Bool) (xs : List ℕ) → list_all p xs ≡ true → (x : ℕ) → is_among xs x ≡ true → p x ≡ true
-each-among p [] h x e = absurd cc
-each-among p (y ∷ xs) h x e =
-    let parts = and_parts (p y) (list_all p xs) h in
-    elim (cases_Bool (y == x)) [
-      | inl k ↦ subst (λ z. p z ≡ true) (eqb-true y x k) parts.0
-      | inr k ↦ each-among p xs parts.1 x (rw k at e)
-    ]
 
 -- what holds of a slot holds of the value that is given, or else of the default
 held : {A : Type 0} (P : A → Type 0) (slot : Option A) (a : A) → IfSome slot P → plus slot [] ≡ a ∷ [] → P a
@@ -202,6 +196,10 @@ held P (Some b) a h e = let same : b ≡ a = cc in subst P same h
 held-or : {A : Type 0} (P : A → Type 0) (slot : Option A) (d a : A) → IfSome slot P → P d → IsGivenOr d (plus slot []) a → P a
 held-or P None d a h k e = subst P (sym e) k
 held-or P (Some b) d a h k e = subst P (sym e) h
+
+held-key : {A : Type 0} (P : A → Type 0) (slot key : Option A) → IfSome slot P → IsGivenOrNone (plus slot []) key → IfSome key P
+held-key P None key h e = rw e tt
+held-key P (Some b) key h e = rw e h
 
 -- and of the nonces
 held-nonces : (version : Version) (slot : Option GivenNonces) (first : List ℕ) (later : List (List ℕ)) → IfSome slot AreValidNonces →
@@ -218,9 +216,10 @@ valid-peer version s later peer h m = record {
   sound = record {
     methods = held (λ kinds. IsTrue (are_kinds kinds)) s.peer_methods peer.methods h.peer_methods m.methods;
     suites = held-or (λ suites. IsTrue (are_suites suites)) s.peer_suites both_suites peer.suites h.peer_suites refl m.suites;
-    keys = subst (All IsValidKey) (sym (append-nil s.peer_keys) ∙ m.keys) h.peer_keys;
+    psk47 = held-key (λ key. IsTrue (fits_kind psk_kind key)) s.peer_psk47 peer.psk47 h.peer_psk47 m.psk47;
+    psk51 = held-key (λ key. IsTrue (fits_kind gpsk_kind key)) s.peer_psk51 peer.psk51 h.peer_psk51 m.psk51;
   };
-  keys = λ kind e. each-among (λ kind. is_some (key_of peer.keys kind)) peer.methods m.has_keys kind e;
+  keys = m.keys;
   name = held IsName s.peer_name peer.name h.peer_name m.name;
   accepts = held AcceptsName s.peer_server peer.accepts h.peer_server m.accepts;
   nonce = (held-nonces version s.peer_nonces peer.nonce later h.peer_nonces m.nonces).first;

@@ -1,6 +1,7 @@
 -- The lines of a scenario: what each says, if no fault keeps it from that.
-use Rattle.std.specs.Prelude.{ℕ, List, [], ◌∷◌, length, Bool, nat_le, if◌then◌else◌, codes, unwrap_or}
+use Rattle.std.specs.Prelude.{ℕ, List, [], ◌∷◌, length, Bool, ◌==◌, nat_le, if◌then◌else◌, codes, unwrap_or}
 use Rattle.std.specs.Str.{bytes_eq}
+use Rattle.octet_lists.specs.Among.{psk_kind}
 use Rattle.login_setup.specs.declared.setup.Mode.{Mode}
 use Rattle.login_setup.specs.declared.setup.Mode.TheVariants as mode
 use Rattle.login_setup.specs.declared.setup.Accepts.{Accepts}
@@ -18,6 +19,7 @@ use Rattle.text_tables.specs.declared.fault.LineFault.{LineFault}
 use Rattle.scenario_text.specs.declared.keyword.Keyword.{Keyword}
 use Rattle.scenario_text.specs.declared.keyword.Keyword.TheVariants as key
 use Rattle.scenario_text.specs.declared.version.Version.{Version}
+use Rattle.scenario_text.specs.declared.entry.Setting.{Setting}
 use Rattle.scenario_text.specs.declared.entry.Setting.TheVariants as setting
 use Rattle.scenario_text.specs.Contents.{Entry}
 use Rattle.scenario_text.specs.Contents.{Set, Events, Happens, End}
@@ -41,6 +43,10 @@ abbrev pub suites_of : List (List ℕ) → List ℕ
 suites_of ws =
     if nat_le (length ws) 2 then suite_of (word_in ws 1) ∷ []
     else suite_of (word_in ws 1) ∷ suite_of (word_in ws 2) ∷ []
+
+-- the peer's key for a method
+abbrev pub key_setting : ℕ → List ℕ → Setting
+key_setting kind key = if kind == psk_kind then setting.PeerPsk47 key else setting.PeerPsk51 key
 
 abbrev pub port_of : List ℕ → Port
 port_of word =
@@ -70,7 +76,7 @@ item_of key.PeerName ws = Set (setting.PeerName (word_in ws 1))
 item_of key.PeerServer ws = Set (setting.PeerServer (accepts_of (word_in ws 1)))
 item_of key.PeerMethods ws = Set (setting.PeerMethods (kinds_of ws))
 item_of key.PeerSuites ws = Set (setting.PeerSuites (suites_of ws))
-item_of key.PeerPsk ws = Set (setting.PeerKey (record { kind = kind_of (word_in ws 1); psk = octets_of (word_in ws 2) }))
+item_of key.PeerPsk ws = Set (key_setting (kind_of (word_in ws 1)) (octets_of (word_in ws 2)))
 item_of key.PeerNonce ws = Set (setting.PeerNonce (octets_of (word_in ws 1)))
 item_of key.ServerName ws = Set (setting.ServerName (word_in ws 1))
 item_of key.ServerMethods ws = Set (setting.ServerMethods (kinds_of ws))

@@ -1,8 +1,6 @@
 -- A scenario, line by line: what has been read, and what each line adds.
-use Rattle.std.specs.Prelude.{ℕ, List, [], ◌∷◌, ◌++◌, length, nat_le, nat_lt, not, ◌&&◌, ◌||◌, Bool, false, if◌then◌else◌, Option, Some, None, Result, Ok, Err, IsOk, ok_or, is_err, is_some, unwrap_or}
-use Rattle.std.specs.List.{list_all}
-use Rattle.login_setup.specs.Keys.{key_of, max_keys}
-use Rattle.login_setup.specs.declared.keys.Key.{Key}
+use Rattle.std.specs.Prelude.{ℕ, List, [], ◌∷◌, ◌++◌, length, nat_le, nat_lt, not, ◌&&◌, Bool, false, if◌then◌else◌, Option, Some, None, Result, Ok, Err, IsOk, ok_or, is_err, is_some, unwrap_or}
+use Rattle.login_setup.specs.Setup.{has_keys}
 use Rattle.login_setup.specs.Users.{user_of, max_users}
 use Rattle.login_setup.specs.declared.setup.Later.{Later}
 use Rattle.login_setup.specs.declared.setup.PeerSetup.{PeerSetup}
@@ -47,9 +45,10 @@ no_settings = record {
   peer_server = None;
   peer_methods = None;
   peer_suites = None;
+  peer_psk47 = None;
+  peer_psk51 = None;
   peer_nonces = None;
   peer_expanded = None;
-  peer_keys = [];
   server_name = None;
   server_methods = None;
   server_suites = None;
@@ -70,14 +69,6 @@ abbrev pub with_nonce : Version → Option GivenNonces → List ℕ → Option G
 with_nonce v None nonce = Some (record { first = nonce; later = [] })
 with_nonce v (Some given) nonce = Some (record given { later = with_later v given.later nonce })
 
--- a key for the method, or as many as there are methods
-abbrev pub has_key : List Key → ℕ → Bool
-has_key keys kind = nat_le max_keys (length keys) || is_some (key_of keys kind)
-
--- the keys with one more, unless there is one for its method, or as many as there are methods
-unfoldable pub with_key : List Key → Key → List Key
-with_key keys key = if has_key keys key.kind then keys else keys ++ key ∷ []
-
 -- 16 nonces
 abbrev pub is_full : Option GivenNonces → Bool
 is_full None = false
@@ -92,7 +83,8 @@ has_setting s (setting.PeerName v) = is_some s.peer_name
 has_setting s (setting.PeerServer v) = is_some s.peer_server
 has_setting s (setting.PeerMethods v) = is_some s.peer_methods
 has_setting s (setting.PeerSuites v) = is_some s.peer_suites
-has_setting s (setting.PeerKey key) = has_key s.peer_keys key.kind
+has_setting s (setting.PeerPsk47 v) = is_some s.peer_psk47
+has_setting s (setting.PeerPsk51 v) = is_some s.peer_psk51
 has_setting s (setting.PeerNonce v) = not (has_later s.version) && is_some s.peer_nonces
 has_setting s (setting.ServerName v) = is_some s.server_name
 has_setting s (setting.ServerMethods v) = is_some s.server_methods
@@ -111,7 +103,8 @@ with_setting s (setting.PeerName v) = record s { peer_name = Some v }
 with_setting s (setting.PeerServer v) = record s { peer_server = Some v }
 with_setting s (setting.PeerMethods v) = record s { peer_methods = Some v }
 with_setting s (setting.PeerSuites v) = record s { peer_suites = Some v }
-with_setting s (setting.PeerKey key) = record s { peer_keys = with_key s.peer_keys key }
+with_setting s (setting.PeerPsk47 v) = record s { peer_psk47 = Some v }
+with_setting s (setting.PeerPsk51 v) = record s { peer_psk51 = Some v }
 with_setting s (setting.PeerNonce v) = record s { peer_nonces = with_nonce s.version s.peer_nonces v }
 with_setting s (setting.ServerName v) = record s { server_name = Some v }
 with_setting s (setting.ServerMethods v) = record s { server_methods = Some v }
@@ -129,9 +122,9 @@ given_or_missing slot = ok_or slot fault.Missing
 abbrev pub both_suites : List ℕ
 both_suites = 1 ∷ 2 ∷ []
 
--- a key for each of these methods
-abbrev pub have_keys : List Key → List ℕ → Bool
-have_keys keys methods = list_all (λ kind. is_some (key_of keys kind)) methods
+-- a peer needs a key for each method that it allows
+abbrev pub keyed_or_missing : PeerSetup → Result PeerSetup LineFault
+keyed_or_missing peer = if has_keys peer then Ok peer else Err fault.Missing
 
 -- the settings of the peer, of the server, of the run, if none that is needed is missing
 unfoldable pub peer_setup_of : Settings → Result PeerSetup LineFault
@@ -140,15 +133,16 @@ peer_setup_of s = do
   accepts ← given_or_missing s.peer_server
   methods ← given_or_missing s.peer_methods
   nonces ← given_or_missing s.peer_nonces
-  if have_keys s.peer_keys methods then Ok (record {
+  keyed_or_missing (record {
     name = name;
     accepts = accepts;
     methods = methods;
     suites = unwrap_or s.peer_suites both_suites;
-    keys = s.peer_keys;
+    psk47 = s.peer_psk47;
+    psk51 = s.peer_psk51;
     nonce = nonces.first;
     expanded = unwrap_or s.peer_expanded false;
-  }) else Err fault.Missing
+  })
 
 unfoldable pub server_setup_of : Settings → Result ServerSetup LineFault
 server_setup_of s = do

@@ -1,10 +1,8 @@
 -- What every setting that was read keeps: its number, its name or its nonce is within its limits.
-use Rattle.std.specs.Prelude.{◌≡◌, ◌==◌, Bool, false, ◌≤◌, ◌<◌, length, IfSome, IsTrue, All, AllPairs, Option, ℕ, List}
-use Rattle.octet_lists.specs.Among.{is_kind}
+use Rattle.std.specs.Prelude.{◌≡◌, ◌==◌, false, ◌≤◌, ◌<◌, length, IfSome, IsTrue, All, Option, ℕ, List}
+use Rattle.octet_lists.specs.Among.{psk_kind, gpsk_kind, is_kind}
 use Rattle.login_setup.specs.Setup.{are_kinds, are_suites, fits_kind, no_later, IsSoundPeer, IsSoundServer, HasKeys}
-use Rattle.login_setup.specs.Keys.{max_keys}
-use Rattle.login_setup.specs.Users.{is_named, max_users}
-use Rattle.login_setup.specs.declared.keys.Key.{Key}
+use Rattle.login_setup.specs.Users.{AreDistinct, max_users}
 use Rattle.login_setup.specs.declared.users.User.{User}
 use Rattle.login_setup.specs.declared.setup.Accepts.{Accepts}
 use Rattle.login_setup.specs.declared.setup.Accepts.TheVariants.{Any, One}
@@ -37,10 +35,6 @@ pub record IsValidUser (user : User) : Type 0 where
   pub kind : IsTrue (is_kind user.kind)
   pub psk : IsTrue (fits_kind user.kind user.psk)
 
--- a key fits its method
-abbrev pub IsValidKey : Key → Type 0
-IsValidKey key = IsTrue (fits_kind key.kind key.psk)
-
 abbrev pub IsNonce : List ℕ → Type 0
 IsNonce nonce = length nonce ≡ 32
 
@@ -52,7 +46,8 @@ IsValidSetting (setting.PeerName name) = IsName name
 IsValidSetting (setting.PeerServer accepts) = AcceptsName accepts
 IsValidSetting (setting.PeerMethods kinds) = IsTrue (are_kinds kinds)
 IsValidSetting (setting.PeerSuites suites) = IsTrue (are_suites suites)
-IsValidSetting (setting.PeerKey key) = IsValidKey key
+IsValidSetting (setting.PeerPsk47 key) = IsTrue (fits_kind psk_kind key)
+IsValidSetting (setting.PeerPsk51 key) = IsTrue (fits_kind gpsk_kind key)
 IsValidSetting (setting.PeerNonce nonce) = IsNonce nonce
 IsValidSetting (setting.ServerName name) = IsName name
 IsValidSetting (setting.ServerMethods kinds) = IsTrue (are_kinds kinds)
@@ -71,17 +66,10 @@ abbrev pub IsValidTold : told.Entry → Type 0
 IsValidTold (told.TheVariants.Set v) = IsValidSetting v
 IsValidTold other = Unit {0}
 
--- few, and none the same as one after it
-pub record AreApart {A : Type 0} (most : ℕ) (is_same : A → A → Bool) (xs : List A) : Type 0 where
-  pub few : length xs ≤ most
-  pub distinct : AllPairs (λ a b. is_same b a ≡ false) xs
-
--- users with names and methods of their own, keys with methods of their own
-abbrev pub AreUsers : List User → Type 0
-AreUsers users = AreApart max_users (λ user. is_named user.name user.kind) users
-
-abbrev pub AreKeys : List Key → Type 0
-AreKeys keys = AreApart max_keys (λ key other. other.kind == key.kind) keys
+-- users that are few and distinct
+pub record AreUsers (users : List User) : Type 0 where
+  pub few : length users ≤ max_users
+  pub distinct : AreDistinct users
 
 pub record AreValidNonces (given : GivenNonces) : Type 0 where
   pub first : IsNonce given.first
@@ -94,7 +82,6 @@ AreFew version slot = IfSome slot (λ given. length given.later ≤ most_later v
 -- what comes on several lines
 pub record IsKept (s : Settings) : Type 0 where
   pub users : AreUsers s.users
-  pub keys : AreKeys s.peer_keys
   pub peer_nonces : AreFew s.version s.peer_nonces
   pub server_nonces : AreFew s.version s.server_nonces
 
@@ -106,7 +93,8 @@ pub record AreValid (s : Settings) : Type 0 where
   pub peer_server : IfSome s.peer_server AcceptsName
   pub peer_methods : IfSome s.peer_methods (λ kinds. IsTrue (are_kinds kinds))
   pub peer_suites : IfSome s.peer_suites (λ suites. IsTrue (are_suites suites))
-  pub peer_keys : All IsValidKey s.peer_keys
+  pub peer_psk47 : IfSome s.peer_psk47 (λ key. IsTrue (fits_kind psk_kind key))
+  pub peer_psk51 : IfSome s.peer_psk51 (λ key. IsTrue (fits_kind gpsk_kind key))
   pub peer_nonces : IfSome s.peer_nonces AreValidNonces
   pub server_name : IfSome s.server_name IsName
   pub server_methods : IfSome s.server_methods (λ kinds. IsTrue (are_kinds kinds))

@@ -1,8 +1,7 @@
 -- What a scenario is, by all its lines: its settings, its events, and what reading it makes of them.
 use Rattle.std.specs.Prelude.{◌≡◌, ℕ, ◌≤◌, List, [], ◌∷◌, ◌++◌, length, map, filter, not, All, Option, Some, None, Bool, true, false, Result, Ok}
 use Rattle.std.specs.List.{list_any}
-use Rattle.login_setup.specs.Setup.{no_later}
-use Rattle.login_setup.specs.declared.keys.Key.{Key}
+use Rattle.login_setup.specs.Setup.{no_later, HasKeys}
 use Rattle.login_setup.specs.declared.users.User.{User}
 use Rattle.login_setup.specs.declared.setup.Mode.{Mode}
 use Rattle.login_setup.specs.declared.setup.Accepts.{Accepts}
@@ -15,8 +14,8 @@ use Rattle.text_tables.specs.Words.{is_passed_over}
 use Rattle.text_tables.specs.Fields.{◌>>=◌}
 use Rattle.scenario_text.specs.Entries.{has_fault, said_by}
 use Rattle.scenario_text.specs.Contents.{Set, Events, Happens, End}
-use Rattle.scenario_text.specs.Reading.{Reading, no_settings, read_line, finish_of, both_suites, have_keys}
-use Rattle.scenario_text.specs.Valid.{AreUsers, AreKeys}
+use Rattle.scenario_text.specs.Reading.{Reading, no_settings, read_line, finish_of, both_suites}
+use Rattle.scenario_text.specs.Valid.{AreUsers}
 use Rattle.scenario_text.specs.Versions.{header, version_number, most_later}
 use Rattle.scenario_text.specs.Items.{Item}
 use Rattle.scenario_text.specs.Items as item
@@ -36,7 +35,8 @@ pub record Values : Type 0 where
   pub peer_server : List Accepts
   pub peer_methods : List (List ℕ)
   pub peer_suites : List (List ℕ)
-  pub keys : List Key
+  pub peer_psk47 : List (List ℕ)
+  pub peer_psk51 : List (List ℕ)
   pub peer_nonce : List (List ℕ)
   pub server_name : List (List ℕ)
   pub server_methods : List (List ℕ)
@@ -55,7 +55,8 @@ no_values = record {
   peer_server = [];
   peer_methods = [];
   peer_suites = [];
-  keys = [];
+  peer_psk47 = [];
+  peer_psk51 = [];
   peer_nonce = [];
   server_name = [];
   server_methods = [];
@@ -74,7 +75,8 @@ with_value (setting.PeerName v) rest = record rest { peer_name = v ∷ rest.peer
 with_value (setting.PeerServer v) rest = record rest { peer_server = v ∷ rest.peer_server }
 with_value (setting.PeerMethods v) rest = record rest { peer_methods = v ∷ rest.peer_methods }
 with_value (setting.PeerSuites v) rest = record rest { peer_suites = v ∷ rest.peer_suites }
-with_value (setting.PeerKey v) rest = record rest { keys = v ∷ rest.keys }
+with_value (setting.PeerPsk47 v) rest = record rest { peer_psk47 = v ∷ rest.peer_psk47 }
+with_value (setting.PeerPsk51 v) rest = record rest { peer_psk51 = v ∷ rest.peer_psk51 }
 with_value (setting.PeerNonce v) rest = record rest { peer_nonce = v ∷ rest.peer_nonce }
 with_value (setting.ServerName v) rest = record rest { server_name = v ∷ rest.server_name }
 with_value (setting.ServerMethods v) rest = record rest { server_methods = v ∷ rest.server_methods }
@@ -98,6 +100,12 @@ IsGivenOr default [] value = value ≡ default
 IsGivenOr default (given ∷ []) value = value ≡ given
 IsGivenOr default (given ∷ again ∷ rest) value = ⊥
 
+-- one that the run may lack
+abbrev pub IsGivenOrNone : {A : Type 0} → List A → Option A → Type 0
+IsGivenOrNone [] slot = slot ≡ None
+IsGivenOrNone (given ∷ []) slot = slot ≡ Some given
+IsGivenOrNone (given ∷ again ∷ rest) slot = ⊥
+
 -- the nonces of an end, in the order of their lines: the first conversation's, and in the second version at most 15 later ones
 pub record AreNoncesOf (version : Version) (values : List (List ℕ)) (first : List ℕ) (later : List (List ℕ)) : Type 0 where
   pub given : values ≡ first ∷ later
@@ -109,9 +117,9 @@ pub record MakesPeer (version : Version) (v : Values) (later : List (List ℕ)) 
   pub accepts : IsGiven v.peer_server peer.accepts
   pub methods : IsGiven v.peer_methods peer.methods
   pub suites : IsGivenOr both_suites v.peer_suites peer.suites
-  pub keys : v.keys ≡ peer.keys
-  pub distinct_keys : AreKeys peer.keys
-  pub has_keys : have_keys peer.keys peer.methods ≡ true
+  pub psk47 : IsGivenOrNone v.peer_psk47 peer.psk47
+  pub psk51 : IsGivenOrNone v.peer_psk51 peer.psk51
+  pub keys : HasKeys peer
   pub nonces : AreNoncesOf version v.peer_nonce peer.nonce later
   pub expanded : IsGivenOr false v.peer_expanded peer.expanded
 

@@ -6,11 +6,11 @@ ghost use Rattle.text_tables.specs.Words.{words};
 ghost use Rattle.scenario_text.specs.Contents.{entry_with};
 ghost use Rattle.text_tables.specs.Fits.{Fits};
 ghost use Rattle.scenario_text.specs.Keywords.{row_of};
-ghost use Rattle.scenario_text.specs.Entries.{accepts_of, kinds_of, suites_of, port_of, party_of, is_yes, mode_of, item_of, IsSet};
+ghost use Rattle.scenario_text.specs.Entries.{accepts_of, kinds_of, suites_of, key_setting, port_of, party_of, is_yes, mode_of, item_of, IsSet};
 
 use crate::keyword::Keyword;
-use login_setup::{Accepts, Event, Key, Mode, Party, Port, User};
-use octet_lists::{Identity, Kinds, Nonce, Suites};
+use login_setup::{Accepts, Event, Mode, Party, Port, User};
+use octet_lists::{Identity, Kinds, Nonce, PSK_KIND, Secret, Suites};
 use text_tables::{array, kind_of, name, number, octets, suite_of, word_count, word_in};
 
 /// A setting with its value.
@@ -23,7 +23,8 @@ pub enum Setting {
     PeerServer(Accepts),
     PeerMethods(Kinds),
     PeerSuites(Suites),
-    PeerKey(Key),
+    PeerPsk47(Secret),
+    PeerPsk51(Secret),
     PeerNonce(Nonce),
     ServerName(Identity),
     ServerMethods(Kinds),
@@ -145,10 +146,7 @@ fn set_by(keyword: Keyword, line: &[u8]) -> Entry
         Keyword::PeerServer => Entry::Set(Setting::PeerServer(accepts_of(first))),
         Keyword::PeerMethods => Entry::Set(Setting::PeerMethods(kinds_of(line))),
         Keyword::PeerSuites => Entry::Set(Setting::PeerSuites(suites_of(line))),
-        Keyword::PeerPsk => Entry::Set(Setting::PeerKey(Key {
-            kind: kind_of(first),
-            psk: octets(word_in(line, 2)),
-        })),
+        Keyword::PeerPsk => Entry::Set(key_setting(kind_of(first), octets(word_in(line, 2)))),
         Keyword::PeerNonce => Entry::Set(Setting::PeerNonce(array(first))),
         Keyword::ServerName => Entry::Set(Setting::ServerName(name(first))),
         Keyword::ServerMethods => Entry::Set(Setting::ServerMethods(kinds_of(line))),
@@ -203,6 +201,17 @@ fn suites_of(line: &[u8]) -> Suites
         suites.push(suite_of(word_in(line, 2)));
     }
     suites
+}
+
+/// The peer's key for a method, as a setting.
+fn key_setting(kind: u8, key: Secret) -> Setting
+    ensures { result ≡ key_setting kind key }
+{
+    if kind == PSK_KIND {
+        Setting::PeerPsk47(key)
+    } else {
+        Setting::PeerPsk51(key)
+    }
 }
 
 /// A port at which a packet can be delivered.

@@ -1,17 +1,14 @@
 //! The settings of a scenario that have been read so far.
 
 ghost use Rattle.std.specs.Prelude.{◌≡◌, ◌∷◌, [], unwrap_or, is_err};
-ghost use Rattle.scenario_text.specs.Reading.{no_settings, is_full, with_later, with_nonce, has_setting, with_setting, has_key, with_key, both_suites, have_keys};
+ghost use Rattle.scenario_text.specs.Reading.{no_settings, is_full, with_later, with_nonce, has_setting, with_setting, both_suites};
 ghost use Rattle.scenario_text.specs.Reading.{later_nonces, later_of, peer_setup_of, server_setup_of, setup_of, is_crowded};
 
 use crate::entry::Setting;
 use crate::keyword::Keyword;
 use crate::version::Version;
-use login_setup::{
-    Accepts, Key, Keys, Later, MAX_KEYS, MAX_USERS, Mode, Nonces, PeerSetup, ServerSetup, Setup,
-    Users,
-};
-use octet_lists::{Identity, Kinds, Nonce, Suites};
+use login_setup::{Accepts, Later, MAX_USERS, Mode, Nonces, PeerSetup, ServerSetup, Setup, Users};
+use octet_lists::{Identity, Kinds, Nonce, Secret, Suites};
 use text_tables::{LineFault, add_user};
 
 /// The nonces of an end that have come, at most 16.
@@ -35,9 +32,10 @@ pub struct Settings {
     pub peer_server: Option<Accepts>,
     pub peer_methods: Option<Kinds>,
     pub peer_suites: Option<Suites>,
+    pub peer_psk47: Option<Secret>,
+    pub peer_psk51: Option<Secret>,
     pub peer_nonces: Option<GivenNonces>,
     pub peer_expanded: Option<bool>,
-    pub peer_keys: Keys,
     pub server_name: Option<Identity>,
     pub server_methods: Option<Kinds>,
     pub server_suites: Option<Suites>,
@@ -60,9 +58,10 @@ impl Settings {
             peer_server: None,
             peer_methods: None,
             peer_suites: None,
+            peer_psk47: None,
+            peer_psk51: None,
             peer_nonces: None,
             peer_expanded: None,
-            peer_keys: Keys::new(),
             server_name: None,
             server_methods: None,
             server_suites: None,
@@ -103,7 +102,8 @@ impl Settings {
             Setting::PeerServer(_) => self.peer_server.is_some(),
             Setting::PeerMethods(_) => self.peer_methods.is_some(),
             Setting::PeerSuites(_) => self.peer_suites.is_some(),
-            Setting::PeerKey(key) => has_key(&self.peer_keys, key.kind),
+            Setting::PeerPsk47(_) => self.peer_psk47.is_some(),
+            Setting::PeerPsk51(_) => self.peer_psk51.is_some(),
             Setting::PeerNonce(_) => !self.version.has_later() && self.peer_nonces.is_some(),
             Setting::ServerName(_) => self.server_name.is_some(),
             Setting::ServerMethods(_) => self.server_methods.is_some(),
@@ -127,7 +127,8 @@ impl Settings {
             Setting::PeerServer(accepts) => self.peer_server = Some(accepts),
             Setting::PeerMethods(kinds) => self.peer_methods = Some(kinds),
             Setting::PeerSuites(suites) => self.peer_suites = Some(suites),
-            Setting::PeerKey(key) => add_key(&mut self.peer_keys, key),
+            Setting::PeerPsk47(key) => self.peer_psk47 = Some(key),
+            Setting::PeerPsk51(key) => self.peer_psk51 = Some(key),
             Setting::PeerNonce(nonce) => add_nonce(self.version, &mut self.peer_nonces, nonce),
             Setting::ServerName(name) => self.server_name = Some(name),
             Setting::ServerMethods(kinds) => self.server_methods = Some(kinds),
@@ -177,18 +178,21 @@ impl Settings {
         let accepts = self.peer_server.as_ref().ok_or(LineFault::Missing)?;
         let methods = self.peer_methods.as_ref().ok_or(LineFault::Missing)?;
         let nonces = self.peer_nonces.as_ref().ok_or(LineFault::Missing)?;
-        if !have_keys(&self.peer_keys, methods.as_slice()) {
-            return Err(LineFault::Missing);
-        }
-        Ok(PeerSetup {
+        let peer = PeerSetup {
             name: name.copy(),
             accepts: accepts.copy(),
             methods: methods.copy(),
             suites: suites_or_both(&self.peer_suites),
-            keys: self.peer_keys.copy(),
+            psk47: self.peer_psk47.as_ref().map(|key| key.copy()),
+            psk51: self.peer_psk51.as_ref().map(|key| key.copy()),
             nonce: nonces.first,
             expanded: self.peer_expanded.unwrap_or(false),
-        })
+        };
+        if peer.has_keys() {
+            Ok(peer)
+        } else {
+            Err(LineFault::Missing)
+        }
     }
 
     /// The settings of the server, or `Missing` if one that it needs has not come.
@@ -259,30 +263,6 @@ fn later_nonces(slot: &Option<GivenNonces>) -> Nonces
         None => Nonces::new(),
         Some(given) => given.later.copy(),
     }
-}
-
-/// True if a key for the method has come, or as many as there are methods.
-fn has_key(keys: &Keys, kind: u8) -> bool
-    ensures { result ≡ has_key keys.now kind }
-{
-    keys.as_slice().len() >= MAX_KEYS || keys.find(kind).is_some()
-}
-
-/// Adds a key, unless one for its method is there, or as many as there are methods.
-#[tactic(auto, unfolding(crate::specs::Reading::with_key))]
-fn add_key(keys: &mut Keys, key: Key)
-    ensures { keys.new ≡ with_key keys.old key }
-{
-    if !has_key(keys, key.kind) {
-        keys.push(key);
-    }
-}
-
-/// True if each of these methods has a key.
-fn have_keys(keys: &Keys, methods: &[u8]) -> bool
-    ensures { result ≡ have_keys keys.now methods.now }
-{
-    methods.iter().all(|kind| keys.find(*kind).is_some())
 }
 
 /// The suites that were set, or else both.

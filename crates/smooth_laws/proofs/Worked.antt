@@ -1,13 +1,12 @@
 -- Worked values of the definitions: how many deliveries, between which ends.
-use Rattle.std.proofs.Common.{◌≡◌, List, [], ◌∷◌, Bool, true, false, None, Some, refl, arith, IsTrue}
-use Rattle.std.specs.Prelude.{ℕ, ◌==◌, ◌||◌, if◌then◌else◌, IsSome, codes, length, replicate}
+use Rattle.std.proofs.Common.{◌≡◌, List, [], ◌∷◌, false, None, Some, refl, arith, IsTrue}
+use Rattle.std.specs.Prelude.{ℕ, codes, length, replicate}
 use Rattle.std.proofs.lemmas.List.Elements.{All-from_recursion}
 use Rattle.login_setup.specs.declared.event.Event.TheVariants.{Deliver}
 use Rattle.login_setup.specs.declared.setup.Accepts.TheVariants.{One}
 use Rattle.login_setup.specs.declared.setup.Mode.{Mode}
 use Rattle.login_setup.specs.declared.setup.Mode.TheVariants.{Alone, Through}
 use Rattle.login_setup.specs.declared.setup.Setup.{Setup}
-use Rattle.login_setup.specs.declared.keys.Key.{Key}
 use Rattle.login_setup.specs.declared.users.User.{User}
 use Rattle.octet_lists.specs.Among.{is_kind}
 use Rattle.login_setup.specs.Setup.{fits_kind, no_later}
@@ -28,7 +27,8 @@ example_setup runs allowed order = record {
     accepts = One (codes "srv");
     methods = allowed;
     suites = 1 ∷ 2 ∷ [];
-    keys = record { kind = 51; psk = replicate 32 81 } ∷ record { kind = 47; psk = replicate 16 71 } ∷ [];
+    psk47 = Some (replicate 16 71);
+    psk51 = Some (replicate 32 81);
     nonce = replicate 32 17;
     expanded = false;
   };
@@ -107,22 +107,12 @@ fit_after_nak = record {
   reads = λ is. is;
 }
 
-one_of_two : {A : Type 0} (first second : Bool) (one two : A) → (first || (second || false)) ≡ true
-    → IsSome (if first then Some one else (if second then Some two else None))
-one_of_two true second one two h = refl
-one_of_two false true one two h = refl
-one_of_two false false one two h = absurd (cc h)
-
 -- and their setup is whole
 whole_at_once : IsWhole (example_setup Alone both both)
 unfolding example_setup both user_of_kind
 whole_at_once = record {
-  peer = record {
-    methods = refl;
-    suites = refl;
-    keys = All-from_recursion (λ (key : Key). IsTrue (fits_kind key.kind key.psk)) (example_setup Alone both both).peer.keys (refl, (refl, tt));
-  };
-  keys = λ kind is. one_of_two (51 == kind) (47 == kind) _ _ is;
+  peer = record { methods = refl; suites = refl; psk47 = refl; psk51 = refl };
+  keys = refl;
   server = record {
     methods = refl;
     suites = refl;

@@ -4,9 +4,7 @@ use Rattle.std.specs.Prelude.{◌++◌, ℕ, List, ◌∷◌, length, take, repl
 use Rattle.octet_lists.specs.Among.{gpsk_kind}
 use Rattle.octet_lists.specs.Suite.{ks_of, suite_octets}
 use Rattle.octet_lists.specs.declared.suite.Suite.{Suite}
-use Rattle.login_setup.specs.Keys.{key_of}
 use Rattle.login_setup.specs.Users.{user_of}
-use Rattle.login_setup.specs.declared.keys.Key.{Key}
 use Rattle.login_setup.specs.declared.users.User.{User}
 use Rattle.eap_packet.specs.declared.cause.Cause.{Cause}
 use Rattle.gpsk_messages.specs.Message.{Message, gpsk2, fail, protected_fail}
@@ -34,14 +32,11 @@ repeated_code read = 0
 abbrev pub key_in : List User → List ℕ → Option (List ℕ)
 key_in users name = option_map (λ user. user.psk) (user_of users name gpsk_kind)
 
-abbrev pub own_key : List Key → Option (List ℕ)
-own_key keys = option_map (λ key. key.psk) (key_of keys gpsk_kind)
-
 abbrev pub end_key : End → List ℕ → Option (List ℕ)
 end_key ends.Closed name = None
 end_key (ends.PeerMethod object key) name = Some key
 end_key (ends.ServerMethod object known) name = key_in known.users name
-end_key (ends.Peer m) name = own_key m.vars.setup.keys
+end_key (ends.Peer m) name = m.vars.setup.psk51
 end_key (ends.Server m) name = key_in m.vars.setup.users name
 end_key (ends.Backend m) name = key_in m.vars.setup.users name
 end_key (ends.Pass m) name = None

@@ -5,7 +5,7 @@ ghost use Rattle.std.specs.Prelude.{◌≡◌, ◌≤◌, length, Some, None, If
 ghost use Rattle.octet_lists.specs.Sizes.{max_name};
 ghost use Rattle.octet_lists.specs.Suite.{ks_of};
 ghost use Rattle.gpsk_messages.specs.Reading.{read_of};
-ghost use Rattle.tuvaddri_c.specs.Gpsk.{gpsk_name, known_code, repeated_code, key_in, own_key, end_key, front_of, gpsk_session_id, keyed_id};
+ghost use Rattle.tuvaddri_c.specs.Gpsk.{gpsk_name, known_code, repeated_code, key_in, end_key, front_of, gpsk_session_id, keyed_id};
 
 use crate::session::End;
 use crate::session_id::SessionId;
@@ -13,7 +13,7 @@ use eap_method::Report;
 use end_objects::Nonces;
 use gpsk_messages::{GpskMessage, read_gpsk_message};
 use login_keys::gkdf;
-use login_setup::{Keys, Users};
+use login_setup::Users;
 use octet_lists::{GPSK_KIND, Secret, Suite};
 
 /// ID_Peer of GPSK-2.
@@ -62,13 +62,6 @@ fn key_in(users: &Users, name: &[u8]) -> Option<Secret>
     users.find(name, GPSK_KIND).map(|user| user.psk.copy())
 }
 
-/// The peer's own key.
-fn own_key(keys: &Keys) -> Option<Secret>
-    ensures { result ≡ own_key keys.now }
-{
-    keys.find(GPSK_KIND).map(|key| key.psk.copy())
-}
-
 /// The shared key, a server's for the peer of this name.
 pub fn key_of(end: &End, name: &[u8]) -> Option<Secret>
     ensures { result ≡ end_key end.now name.now }
@@ -77,7 +70,7 @@ pub fn key_of(end: &End, name: &[u8]) -> Option<Secret>
         End::Closed => None,
         End::PeerMethod(_, key) => Some(key.copy()),
         End::ServerMethod(_, known) => key_in(&known.users, name),
-        End::Peer(machine) => own_key(&machine.setup().keys),
+        End::Peer(machine) => machine.setup().psk51.as_ref().map(|key| key.copy()),
         End::Server(machine) => key_in(&machine.setup().users, name),
         End::Backend(machine) => key_in(&machine.setup().users, name),
         End::Pass(_) => None,

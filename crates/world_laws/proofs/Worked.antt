@@ -41,7 +41,8 @@ example_setup = record {
     accepts = One (codes "srv");
     methods = [];
     suites = 1 ∷ 2 ∷ [];
-    keys = [];
+    psk47 = None;
+    psk51 = None;
     nonce = replicate 32 17;
     expanded = false;
   };

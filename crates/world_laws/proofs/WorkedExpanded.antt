@@ -1,5 +1,5 @@
 -- A proposal that is refused between ends that read Expanded Types (RFC 3748 section 5.7), computed from the definitions alone.
-use Rattle.std.proofs.Common.{◌≡◌, List, [], ◌∷◌, ◌++◌, true, refl}
+use Rattle.std.proofs.Common.{◌≡◌, List, [], ◌∷◌, ◌++◌, true, None, refl}
 use Rattle.std.specs.Prelude.{codes, map, replicate}
 use Rattle.login_setup.specs.Setup.{no_later}
 use Rattle.login_setup.specs.declared.setup.Setup.{Setup}
@@ -34,7 +34,8 @@ refusing_setup = record {
     accepts = One (codes "srv");
     methods = [];
     suites = 1 ∷ 2 ∷ [];
-    keys = [];
+    psk47 = None;
+    psk51 = None;
     nonce = replicate 32 17;
     expanded = true;
   };

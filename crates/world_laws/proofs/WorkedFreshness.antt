@@ -1,5 +1,5 @@
 -- What is heard, used and fresh, computed from the definitions alone.
-use Rattle.std.proofs.Common.{◌≡◌, ℕ, ◌∷◌, ◌++◌, List, [], true, false, take, drop, refl, Some}
+use Rattle.std.proofs.Common.{◌≡◌, ℕ, ◌∷◌, ◌++◌, List, [], true, false, take, drop, refl, Some, None}
 use Rattle.std.specs.Prelude.{codes, replicate}
 use Rattle.login_setup.specs.declared.event.Event.{Event}
 use Rattle.login_setup.specs.declared.event.Event.TheVariants.{Inject, Restart}
@@ -54,7 +54,8 @@ setup_with second = record {
     accepts = One (codes "srv");
     methods = [];
     suites = 1 ∷ 2 ∷ [];
-    keys = [];
+    psk47 = None;
+    psk51 = None;
     nonce = replicate 32 17;
     expanded = false;
   };

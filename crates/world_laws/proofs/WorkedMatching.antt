@@ -1,6 +1,6 @@
 -- The conversations of both ends, on what they rest, and whether they are fresh, computed from the definitions alone: two logins,
 -- between them a conversation over the packets of the first, as in examples/three-logins.scenario.
-use Rattle.std.proofs.Common.{◌≡◌, ℕ, ◌+◌, Bool, true, false, List, [], ◌∷◌, ◌++◌, refl, ap, arith}
+use Rattle.std.proofs.Common.{◌≡◌, ℕ, ◌+◌, Bool, true, false, List, [], ◌∷◌, ◌++◌, None, refl, ap, arith}
 use Rattle.std.specs.Prelude.{codes, map, replicate, slice_index}
 use Rattle.login_setup.specs.declared.event.Event.{Event}
 use Rattle.login_setup.specs.declared.event.Event.TheVariants.{Restart}
@@ -38,7 +38,8 @@ setup = record {
     accepts = One (codes "srv");
     methods = [];
     suites = 1 ∷ 2 ∷ [];
-    keys = [];
+    psk47 = None;
+    psk51 = None;
     nonce = replicate 32 17;
     expanded = false;
   };

@@ -1,12 +1,11 @@
 use Rattle.std.proofs.Common.{◌∙◌}
-use Rattle.eap_method.specs.Peer.{peer_kind}
 use Rattle.eap_method.proofs.PeerKeys.{credential_fits}
 use Rattle.eap_method.proofs.PeerViews.{begins, stays}
 use Rattle.eap_method.proofs.peer_objects.begin_one.Goals as goal
 
 pub begin-requires : goal.begin-requires
 begin-requires g c =
-    rw (c.credential_for.ensures, c.kind-kind.ensures) (credential_fits c.args.setup.now (peer_kind (g.M.PeerMethod.peer_shown c.args.method.now)) c.requires.sound c.requires.keys (cc))
+    rw (c.credential_for.ensures, c.kind-kind.ensures) (credential_fits c.args.setup.now (g.M.PeerMethod.peer_shown c.args.method.now) c.requires.sound c.requires.keys (cc))
 
 pub returns-then-peer_allows : goal.returns-then-peer_allows
 returns-then-peer_allows g c =
