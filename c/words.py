@@ -57,7 +57,7 @@ def faults(path):
     version = re.search(r"^#define TUV_VERSION (\d+)$", text_of("tuvaddri.h"), re.M)[1]
     ident = ctypes.c_char.in_dll(library, "tuv_ident")
     said = ctypes.string_at(ctypes.addressof(ident)).decode()
-    if not re.fullmatch(rf"tuvaddri {version} ([0-9a-f]{{7,}}\+?|unknown)", said):
+    if not re.fullmatch(rf"tuvaddri {version} ([0-9a-f]{{7,}}\+?|unknown)( unchecked)?", said):
         yield f"tuv_ident is {said}"
     if library.tuv_version() != int(version):
         yield "tuv_version is another than the header's"
