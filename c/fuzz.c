@@ -22,6 +22,11 @@
  *   with the reasons that the header gives; then each end begins again by a
  *   restart, without memory or a report, and it ends as before.
  *
+ * Whatever is handed in or written to ends before a page that can't be touched:
+ * octets, nonces, rooms, reports, and settings of as many octets as their `size`
+ * says (or of `size` alone, where it is over what the header reads).  Names,
+ * keys, Identifiers, sizes and counts are at one of their limits in one of eight.
+ *
  * heap.c is compiled with -Dmalloc=fuzz_malloc: in between each allocation of a
  * login fails in its turn, and what was refused succeeds when it is asked
  * again. */
@@ -29,6 +34,8 @@
 #include <stdio.h>
 #include <stdlib.h>
 #include <string.h>
+#include <sys/mman.h>
+#include <unistd.h>
 #include "fuzz.h"
 
 void *fuzz_malloc(size_t size);
@@ -58,7 +65,6 @@ static enum call by;
 enum setting setting;
 struct tuv_settings told[2], user;
 unsigned int user_after;
-static uint8_t keys[4][TUV_KEY_MAX], names[2][TUV_NAME_MAX];
 bool keys_agree;
 static unsigned long calls, logins, again, discarded, misplaced, refused, failed;
 static uint64_t state;
@@ -69,10 +75,65 @@ static uint32_t any(uint32_t below)
 	return (uint32_t) (state >> 33) % below;
 }
 
+/* Any number of these, in one of eight the least or the greatest. */
+static uint32_t among(uint32_t least, uint32_t most)
+{
+	if (any(8) == 0)
+		return any(2) ? least : most;
+	return least + any(most - least + 1);
+}
+
 static void fill(uint8_t *at, size_t len)
 {
 	while (len--)
 		*at++ = any(256);
+}
+
+/* Places that end before a page which can't be touched, each used again after
+ * PLACES more: those of one call, and those of one login. */
+enum { PLACES = 64, ROOM = 8192 };
+struct pool {
+	uint8_t *places[PLACES];
+	unsigned int next;
+};
+static struct pool passing, lasting;
+
+static uint8_t *guarded(struct pool *pool, size_t len)
+{
+	uint8_t **at = &pool->places[pool->next++ % PLACES];
+	size_t page = sysconf(_SC_PAGESIZE);
+	size_t room = ROOM > page ? ROOM : page;
+
+	if (!*at) {
+		*at = mmap(NULL, room + page, PROT_READ | PROT_WRITE,
+			   MAP_PRIVATE | MAP_ANONYMOUS, -1, 0);
+		if (*at == MAP_FAILED || mprotect(*at + room, page, PROT_NONE))
+			exit(5);
+	}
+	return *at + room - len;
+}
+
+/* Octets for one call. */
+static uint8_t *copied(const void *octets, size_t len)
+{
+	return memcpy(guarded(&passing, len), octets, len);
+}
+
+/* Octets for one login. */
+static struct tuv_octets kept_octets(const uint8_t *octets, size_t len)
+{
+	uint8_t *at = guarded(&lasting, len);
+
+	memcpy(at, octets, len);
+	return (struct tuv_octets) { at, len };
+}
+
+static struct tuv_octets new_octets(size_t len)
+{
+	uint8_t *at = guarded(&lasting, len);
+
+	fill(at, len);
+	return (struct tuv_octets) { at, len };
 }
 
 static void fail(const char *why)
@@ -117,7 +178,7 @@ static struct turn of_method(struct tuv_method_turn turn)
 static const uint8_t *fresh(enum handle h)
 {
 	fill(models[h].nonce, TUV_NONCE_LEN);
-	return models[h].nonce;
+	return copied(models[h].nonce, TUV_NONCE_LEN);
 }
 
 /* A restart's nonce counts where it has its place. */
@@ -127,7 +188,7 @@ static struct tuv_turn restarted(enum handle h)
 	struct tuv_turn turn;
 
 	fill(nonce, sizeof(nonce));
-	turn = tuv_end_restart(&ends[h], nonce);
+	turn = tuv_end_restart(&ends[h], copied(nonce, sizeof(nonce)));
 	if (!turn.misplaced)
 		memcpy(models[h].nonce, nonce, sizeof(nonce));
 	return turn;
@@ -143,7 +204,7 @@ static struct turn call_of(enum handle h, enum call c, const uint8_t *at,
 	case PEER_METHOD: return of_method(tuv_peer_method_handle(end, at, len));
 	case SERVER_METHOD:
 		return of_method(tuv_server_method_handle(end, at, len,
-							  any(256)));
+							  among(0, 255)));
 	case FROM_PEER: return of(tuv_pass_from_peer(end, at, len));
 	case FROM_BACKEND: return of(tuv_pass_from_backend(end, at, len));
 	case START: return of(tuv_server_start(end));
@@ -179,13 +240,17 @@ static void route(enum handle h, enum call c)
 static size_t ask(enum handle h, size_t (*which)(struct tuv_end *, uint8_t *, size_t),
 		  struct packet *packet)
 {
-	uint8_t small[3] = { 1, 2, 3 };
+	static const uint8_t untouched[3] = { 1, 2, 3 };
+	uint8_t *small = copied(untouched, sizeof(untouched)), *room;
 
-	packet->len = which(&ends[h], small, sizeof(small));
-	if (packet->len > TUV_PACKET_MAX || small[0] != 1 || small[1] != 2 ||
-	    small[2] != 3 ||
-	    which(&ends[h], packet->octets, packet->len) != packet->len)
+	packet->len = which(&ends[h], small, sizeof(untouched));
+	if (packet->len > TUV_PACKET_MAX ||
+	    memcmp(small, untouched, sizeof(untouched)) != 0)
 		fail("a packet is cut or lost");
+	room = guarded(&passing, packet->len);
+	if (which(&ends[h], room, packet->len) != packet->len)
+		fail("a packet is lost");
+	memcpy(packet->octets, room, packet->len);
 	return packet->len;
 }
 
@@ -221,8 +286,8 @@ static bool is_first(const struct packet *p)
 /* The name in what the peer has sent is the peer's. */
 static void hold_name(void)
 {
-	uint8_t room[TUV_NAME_MAX];
-	size_t len = tuv_response_name(sent.octets, sent.len, room);
+	uint8_t *room = guarded(&passing, TUV_NAME_MAX);
+	size_t len = tuv_response_name(copied(sent.octets, sent.len), sent.len, room);
 
 	calls++;
 	if (len != (is_first(&sent) ? told[0].name.len : 0) ||
@@ -248,17 +313,42 @@ static bool known(const struct tuv_octets *name, const uint8_t *at, uint8_t len)
 	return name->len == len && memcmp(name->at, at, len) == 0;
 }
 
+/* A report of another size: of less, or of more, octets. */
+static void ask_otherwise(enum handle h)
+{
+	size_t size = any(2) ? among(sizeof(size), sizeof(struct tuv_report) - 1)
+			     : sizeof(struct tuv_report) + among(1, 64);
+	size_t room = (size + 7) / 8 * 8, i;
+	uint8_t *at = memset(guarded(&passing, room), 0, room);
+
+	memcpy(at, &size, sizeof(size));
+	remember(h);
+	if (tuv_end_report(&ends[h], (void *) at))
+		fail("a report of another size");
+	for (i = sizeof(size); i < room; i++)
+		if (at[i])
+			fail("a report of another size is written");
+	same(h, 0, "a report of another size changes the end");
+}
+
 /* An end's report has what is its own. */
 static bool report(enum handle h, struct tuv_report *r)
 {
+	struct tuv_report *at;
+	bool has;
+
+	ask_otherwise(h);
 	memset(r, 0, sizeof(*r));
-	remember(h);
-	if (tuv_end_report(&ends[h], r))
-		fail("a report of another size");
 	r->size = sizeof(*r);
-	if (!tuv_end_report(&ends[h], r))
-		return false;
+	at = (void *) copied(r, sizeof(*r));
+	remember(h);
+	has = tuv_end_report(&ends[h], at);
 	same(h, 0, "a report changes the end");
+	if (!has && memcmp(at, r, sizeof(*r)) != 0)
+		fail("a report is written where there is none");
+	if (!has)
+		return false;
+	*r = *at;
 	if (r->rand_length != (r->method == TUV_KIND_PSK ? 16 : 32) ||
 	    memcmp(h == PEER ? r->peer_rand : r->server_rand, models[h].nonce,
 		   r->rand_length) != 0)
@@ -273,13 +363,18 @@ static bool report(enum handle h, struct tuv_report *r)
 static size_t identify(enum handle h, const struct tuv_report *r,
 		       uint8_t ids[2][TUV_SESSION_ID_MAX])
 {
+	uint8_t *rooms[2];
 	size_t len;
 
 	memset(ids, 0, 2 * sizeof(ids[0]));
+	rooms[0] = copied(ids[0], sizeof(ids[0]));
+	rooms[1] = copied(ids[1], sizeof(ids[1]));
 	remember(h);
-	len = tuv_end_session_id(&ends[h], ids[0]);
-	if (tuv_end_session_id_wpa(&ends[h], ids[1]) != len)
+	len = tuv_end_session_id(&ends[h], rooms[0]);
+	if (tuv_end_session_id_wpa(&ends[h], rooms[1]) != len)
 		fail("Session-Ids of two lengths");
+	memcpy(ids[0], rooms[0], sizeof(ids[0]));
+	memcpy(ids[1], rooms[1], sizeof(ids[1]));
 	same(h, 0, "a Session-Id changes the end");
 	if (r && (len != (r->method == TUV_KIND_PSK ? 33 : 17) ||
 		  ids[0][0] != r->method || ids[1][0] != r->method))
@@ -364,21 +459,17 @@ static void judge(enum handle h, enum call c, struct turn turn)
 		m->last.len = 0;
 }
 
-/* A call with these octets, which are handed in as a block of just their size. */
+/* A call with these octets. */
 static void call(enum handle h, enum call c, const uint8_t *octets, size_t len)
 {
-	uint8_t *copy = malloc(len ? len : 1), room[TUV_NAME_MAX];
 	unsigned long blocks = allocations;
 	struct turn turn;
 
-	if (!copy)
-		exit(5);
-	memcpy(copy, octets, len);
-	if (tuv_response_name(copy, len, room) > TUV_NAME_MAX)
+	if (tuv_response_name(copied(octets, len), len,
+			      guarded(&passing, TUV_NAME_MAX)) > TUV_NAME_MAX)
 		fail("a name is too long");
 	remember(h);
-	turn = call_of(h, c, copy, len);
-	free(copy);
+	turn = call_of(h, c, copied(octets, len), len);
 	if (allocations != blocks)
 		fail("a call takes memory");
 	discarded += turn.discards;
@@ -390,20 +481,44 @@ static void call(enum handle h, enum call c, const uint8_t *octets, size_t len)
 	hold_reason(h);
 }
 
+/* A size that no struct has had, or the size of a later one. */
+static size_t other_size(void)
+{
+	switch (any(6)) {
+	case 0: return 0;
+	case 1: return among(0, SETTINGS_FIRST - 1);
+	case 2: return among(SETTINGS_MOST + 1, UINT32_MAX - 1);
+	case 3: return SIZE_MAX;
+	default: return among(SETTINGS_FIRST, SETTINGS_MOST);
+	}
+}
+
+/* Settings as they are handed in: what they say is there of them, and what lies
+ * behind the struct that is known here is 0, or not. */
+static const struct tuv_settings *handed(const struct tuv_settings *s)
+{
+	size_t size = s->size > SETTINGS_MOST || s->size < sizeof(s->size)
+		? sizeof(s->size) : (s->size + 7) / 8 * 8;
+	uint8_t *at = memset(guarded(&passing, size), 0, size);
+
+	memcpy(at, s, size < sizeof(*s) ? size : sizeof(*s));
+	if (size > sizeof(*s) && any(2))
+		at[among(sizeof(*s), s->size - 1)] = 1;
+	return (void *) at;
+}
+
 /* Settings of which one thing may be wrong. */
 static struct tuv_settings spoiled(struct tuv_settings s)
 {
-	static const uint8_t long_name[TUV_NAME_MAX + 1];
-
 	switch (any(10)) {
-	case 0: s.size = any(200); break;
+	case 0: s.size = other_size(); break;
 	case 1: s.methods[any(2)] = any(2) ? any(256) : TUV_KIND_PSK; break;
 	case 2: s.suites[any(2)] = any(4); break;
 	case 3: s.name.len = 0; break;
-	case 4: s.name.at = long_name; s.name.len = sizeof(long_name); break;
-	case 5: s.other.at = long_name; s.other.len = sizeof(long_name); break;
-	case 6: s.psk_key.at = keys[0]; s.psk_key.len = any(TUV_KEY_MAX); break;
-	case 7: s.gpsk_key.at = keys[1]; s.gpsk_key.len = any(TUV_KEY_MAX + 1); break;
+	case 4: s.name = new_octets(TUV_NAME_MAX + 1); break;
+	case 5: s.other = new_octets(TUV_NAME_MAX + 1); break;
+	case 6: s.psk_key = new_octets(among(0, TUV_KEY_MAX)); break;
+	case 7: s.gpsk_key = new_octets(among(0, TUV_KEY_MAX + 1)); break;
 	case 8: s.other = TUV_ANY; break;
 	default: break;
 	}
@@ -414,14 +529,14 @@ static uint8_t begin_of(enum handle h, const struct tuv_settings *s,
 			const uint8_t *nonce, uint8_t retries)
 {
 	switch (role_of(h)) {
-	case A_PASS: return tuv_pass_begin(&ends[h], any(256), retries);
+	case A_PASS: return tuv_pass_begin(&ends[h], among(0, 255), retries);
 	case A_PEER_METHOD: return tuv_peer_method_begin(&ends[h], s, nonce);
 	case A_SERVER_METHOD:
-		return tuv_server_method_begin(&ends[h], s, nonce, any(256));
+		return tuv_server_method_begin(&ends[h], s, nonce, among(0, 255));
 	case A_PEER: return tuv_peer_begin(&ends[h], s, nonce);
 	case A_BACKEND: return tuv_backend_begin(&ends[h], s, nonce);
 	default:
-		return tuv_server_begin(&ends[h], s, nonce, any(256), retries);
+		return tuv_server_begin(&ends[h], s, nonce, among(0, 255), retries);
 	}
 }
 
@@ -434,7 +549,8 @@ static uint8_t begin(enum handle h, const struct tuv_settings *s,
 
 	fill(nonce, sizeof(nonce));
 	remember(h);
-	answer = begin_of(h, s, nonce, retries);
+	s = handed(s);
+	answer = begin_of(h, s, copied(nonce, sizeof(nonce)), retries);
 	if (answer != judged(h, s, retries))
 		fail("a begin is refused otherwise than the header says");
 	if (answer != TUV_BEGUN) {
@@ -461,6 +577,7 @@ static void give(enum handle h, const struct tuv_settings *s, bool by_method)
 	uint8_t answer;
 
 	remember(h);
+	s = handed(s);
 	answer = by_method ? tuv_server_method_user(&ends[h], s)
 			   : tuv_server_user(&ends[h], s);
 	if (answer != judged_user(h, s, by_method))
@@ -490,7 +607,7 @@ static void begin_spoiled(enum handle h)
 {
 	struct tuv_settings s = spoiled(told[h == SERVER]);
 
-	if (begin(h, &s, any(20)) == TUV_BEGUN &&
+	if (begin(h, &s, among(0, 20)) == TUV_BEGUN &&
 	    begin(h, &told[h == SERVER], 3) != TUV_BEGUN)
 		fail("a sound begin was refused");
 	if (h == SERVER && models[h].role != CLOSED)
@@ -511,10 +628,10 @@ static void disturb(void)
 	case 1: p.len = any(p.len + 1); break;
 	case 2: fill(p.octets + p.len, 4); p.len += any(5); break;
 	case 3:
-		p.len = 4 + any(60);
+		p.len = any(8) == 0 ? TUV_PACKET_MAX : 4 + any(60);
 		fill(p.octets, p.len);
 		p.octets[0] = any(5);	/* Code; then the Length is right */
-		p.octets[2] = 0;
+		p.octets[2] = p.len >> 8;
 		p.octets[3] = p.len;
 		if (p.len > 4 && any(2))
 			p.octets[4] = any(3) ? 254 : 2;
@@ -536,6 +653,8 @@ static void first_call(void)
 		     setting == ALONE ? START : PASS_START, sent.octets, 0);
 }
 
+static const struct tuv_octets none = { NULL, 0 };
+
 static void list(uint8_t at[2], uint8_t one, uint8_t other)
 {
 	at[0] = any(5) == 0 ? 0 : any(2) ? one : other;
@@ -543,25 +662,34 @@ static void list(uint8_t at[2], uint8_t one, uint8_t other)
 }
 
 /* A name of 1 to 253 octets, mostly a short one. */
-static struct tuv_octets new_name(uint8_t *at)
+static struct tuv_octets new_name(void)
 {
-	size_t len = 1 + (any(4) ? any(8) : any(TUV_NAME_MAX));
+	return new_octets(any(4) ? among(1, 8) : among(1, TUV_NAME_MAX));
+}
 
-	fill(at, len);
-	return (struct tuv_octets) { at, len };
+/* The same key at the other end, or one that differs in one bit. */
+static struct tuv_octets other_key(struct tuv_octets key)
+{
+	uint8_t copy[TUV_KEY_MAX];
+
+	memcpy(copy, key.at, key.len);
+	if (!keys_agree)
+		copy[any(key.len)] ^= 1 << any(8);
+	return kept_octets(copy, key.len);
 }
 
 /* Keys for the methods of these settings; for those of a list of none any. */
-static void new_keys(struct tuv_settings *s, uint8_t *psk, uint8_t *gpsk, size_t len)
+static void new_keys(struct tuv_settings *s, struct tuv_octets psk,
+		     struct tuv_octets gpsk)
 {
 	unsigned int which = any(3);
 	bool lists = s->methods[0] != 0;
 
-	s->psk_key = s->gpsk_key = (struct tuv_octets) { NULL, 0 };
+	s->psk_key = s->gpsk_key = none;
 	if (lists ? has_method(s, TUV_KIND_PSK) : which != 1)
-		s->psk_key = (struct tuv_octets) { psk, 16 };
+		s->psk_key = psk;
 	if (lists ? has_method(s, TUV_KIND_GPSK) : which != 2)
-		s->gpsk_key = (struct tuv_octets) { gpsk, len };
+		s->gpsk_key = gpsk;
 }
 
 /* A login with new names, keys and nonces; both ends' keys differ in one of
@@ -569,48 +697,41 @@ static void new_keys(struct tuv_settings *s, uint8_t *psk, uint8_t *gpsk, size_t
 static void prepare(void)
 {
 	struct tuv_settings *s = &told[0], *t = &told[1];
-	size_t len = 32 + any(33);
+	struct tuv_octets psk = new_octets(16);
+	struct tuv_octets gpsk = new_octets(among(32, TUV_KEY_MAX));
+	struct tuv_octets others_psk, others_gpsk;
 
 	setting = any(3);
 	memset(told, 0, sizeof(told));
 	s->size = t->size = sizeof(*s);
-	fill(keys[0], 16);
-	fill(keys[1], len);
-	memcpy(keys[2], keys[0], 2 * sizeof(keys[0]));
 	keys_agree = any(8) != 0;
-	if (!keys_agree) {
-		keys[2][any(16)] ^= 1 << any(8);
-		keys[3][any(len)] ^= 1 << any(8);
-	}
+	others_psk = other_key(psk);
+	others_gpsk = other_key(gpsk);
 	list(s->methods, TUV_KIND_PSK, TUV_KIND_GPSK);
 	list(s->suites, 1, 2);
 	list(t->methods, TUV_KIND_PSK, TUV_KIND_GPSK);
 	list(t->suites, 1, 2);
 	if (setting == METHODS)
 		memcpy(t->methods, s->methods, sizeof(s->methods));
-	new_keys(s, keys[0], keys[1], len);
-	new_keys(t, keys[2], keys[3], len);
+	new_keys(s, psk, gpsk);
+	new_keys(t, others_psk, others_gpsk);
 	if (setting == METHODS && !s->methods[0]) {
-		t->psk_key.len = s->psk_key.len;
-		t->gpsk_key.len = s->gpsk_key.len;
-		t->psk_key.at = keys[2];
-		t->gpsk_key.at = keys[3];
+		t->psk_key = s->psk_key.len ? others_psk : none;
+		t->gpsk_key = s->gpsk_key.len ? others_gpsk : none;
 	}
-	s->name = new_name(names[0]);
-	t->name = new_name(names[1]);
+	s->name = new_name();
+	t->name = new_name();
 	s->other = any(3) ? t->name : TUV_ANY;
 	t->other = s->name;
-	if (any(8) == 0)
-		t->other.len = s->name.len > 1 ? s->name.len - 1 : 0;
-	if (t->other.len == 0)	/* it is the peer's whole name after all */
-		t->other = s->name;
+	if (any(8) == 0 && s->name.len > 1)
+		t->other = kept_octets(s->name.at, s->name.len - 1);
 	t->barred = any(8) == 0;
 	s->expanded = any(3) == 0;
 	t->expanded = any(3) == 0;
 	user = *t;
 	user_after = any(3) ? 0 : setting == METHODS ? 1 : 1 + any(3);
 	if (user_after) {
-		t->other = t->psk_key = t->gpsk_key = (struct tuv_octets) { NULL, 0 };
+		t->other = t->psk_key = t->gpsk_key = none;
 		t->barred = any(2);
 		/* (the one method that it begins with is the user's) */
 		if (setting == METHODS && !t->methods[0])
@@ -723,7 +844,7 @@ static void login(unsigned int disturbances)
 
 	prepare();
 	for (i = 0; i < HANDLES; i++)
-		if (begin(i, &told[i == SERVER], 3) != TUV_BEGUN)
+		if (begin(i, &told[i == SERVER], among(0, 10)) != TUV_BEGUN)
 			fail("a sound begin was refused");
 	first_call();
 	both = carry(disturbances);
@@ -739,7 +860,7 @@ static void login(unsigned int disturbances)
 static void be_silent(void)
 {
 	enum handle h = any(2) ? SERVER : PASS;
-	unsigned int i, retries = any(11);
+	unsigned int i, retries = among(0, 10);
 
 	prepare();
 	setting = ALONE;
@@ -769,15 +890,15 @@ static void drop(struct tuv_end *end)
  * one did fail. */
 static bool starved(enum handle h, struct tuv_end *end)
 {
-	const struct tuv_settings *s = &told[h == SERVER];
+	const struct tuv_settings *s = handed(&told[h != PEER]);
 	unsigned int i;
 
 	for (i = 0; i < 2; i++) {
 		uint8_t answer = h == PEER
 			? tuv_peer_begin(end, s, fresh(PEER))
 			: h == SERVER
-			? tuv_server_begin(end, s, fresh(SERVER), 0, 3)
-			: tuv_backend_begin(end, &told[1], fresh(SERVER));
+			? tuv_server_begin(end, s, fresh(SERVER), among(0, 255), among(0, 10))
+			: tuv_backend_begin(end, s, fresh(SERVER));
 
 		calls++;
 		if (answer == TUV_BEGUN)
@@ -819,7 +940,7 @@ static void starve(void)
 
 static void make_ends(void)
 {
-	int i;
+	int i, c;
 
 	if (tuv_version() != TUV_VERSION)
 		fail("the header is of another version");
@@ -833,7 +954,8 @@ static void make_ends(void)
 			fail("tuv_end_size is another than what tuv_end_new takes");
 		hold_packets(i);
 		hold_reason(i);
-		call(i, any(CALLS), sent.octets, 0);
+		for (c = 0; c < CALLS; c++)
+			call(i, c, sent.octets, 0);
 	}
 }
 

@@ -72,14 +72,29 @@ static bool are_keys(const struct tuv_settings *s)
 		(gpsk == 0 || (gpsk >= 32 && gpsk <= TUV_KEY_MAX));
 }
 
+/* A struct that is known, or a later one that says no more than this one. */
+static bool has_size(const struct tuv_settings *s)
+{
+	const uint8_t *octets = (const uint8_t *) s;
+	size_t i;
+
+	if (s->size < SETTINGS_FIRST || s->size > SETTINGS_MOST)
+		return false;
+	for (i = sizeof(*s); i < s->size; i++)
+		if (octets[i])
+			return false;
+	return true;
+}
+
 uint8_t judged(enum handle h, const struct tuv_settings *s,
 		      uint8_t retries)
 {
-	bool keyed = s->psk_key.len || s->gpsk_key.len;
+	bool keyed;
 
 	if (h != PASS) {
-		if (s->size != sizeof(*s))
+		if (!has_size(s))
 			return TUV_OTHER_SIZE;
+		keyed = s->psk_key.len || s->gpsk_key.len;
 		if (!is_list(s->methods, TUV_KIND_PSK, TUV_KIND_GPSK) ||
 		    (h == PEER && !keyed && !s->methods[0]))
 			return TUV_NO_METHOD;
@@ -114,7 +129,7 @@ uint8_t judged_user(enum handle h, const struct tuv_settings *s,
 	bool fits = by_method ? role == A_SERVER_METHOD
 			      : role == A_SERVER || role == A_BACKEND;
 
-	if (s->size != sizeof(*s))
+	if (!has_size(s))
 		return TUV_OTHER_SIZE;
 	if (s->other.len == 0 || s->other.len > TUV_NAME_MAX)
 		return TUV_BAD_OTHER;

@@ -53,9 +53,10 @@ struct tuv_octets {
 /* No octets: in place of a name any name, in place of a key none. */
 #define TUV_ANY ((struct tuv_octets) { (const uint8_t *) "", 0 })
 
-/* What an end is told.  `size` is sizeof(struct tuv_settings); a field that is 0,
- * or has no octets, has the default that is written beside it (no octets may be
- * a null pointer). */
+/* What an end is told.  `size` is sizeof(struct tuv_settings), and nothing behind
+ * so many octets is read: a program whose struct is an older one goes on working.
+ * A field that is 0, or has no octets, has the default that is written beside it
+ * (no octets may be a null pointer). */
 struct tuv_settings {
 	size_t size;
 	struct tuv_octets name;		/* its own name: 1 to 253 octets */
@@ -87,7 +88,9 @@ struct tuv_settings {
  * it was.  If several reasons apply, the lowest number is the answer. */
 enum {
 	TUV_BEGUN = 0,
-	TUV_OTHER_SIZE = 1,	/* `size` is that of no struct that is known */
+	TUV_OTHER_SIZE = 1,	/* `size` is below 80, that of the first struct, or over
+				 * 4,096; or behind the struct that the library knows
+				 * an octet isn't 0 */
 	TUV_NO_METHOD = 2,	/* `methods` has another number, one twice, or a 0
 				 * before one; or a peer has neither key nor method */
 	TUV_NO_SUITE = 3,	/* `suites` has another number, one twice, or a 0
@@ -343,7 +346,7 @@ uint8_t tuv_backend_begin(struct tuv_end *end,
 
 /* Gives a stand-alone server or a backend its one user: `other`, the keys and
  * `barred` of the settings, in place of the user that it had; of the others `size`
- * alone is read.  At any time: the user counts from the next Response on.  It
+ * alone counts.  At any time: the user counts from the next Response on.  It
  * answers as a begin, and 0 if it has taken the user. */
 uint8_t tuv_server_user(struct tuv_end *end, const struct tuv_settings *settings);
 
