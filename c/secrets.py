@@ -5,7 +5,8 @@
     secrets.py branches PROGRAM LIST        where memcheck sees an address or a branch that depends on a key, beside LIST
 
 `left` computes the keys and Session-Ids of each conversation from its packets, and searches the writable memory of the
-stopped program for any 16 successive octets of the keys. The status is 0 where none is found.
+stopped program for any 16 successive octets of the keys, and of what is derived from them: round keys of AES, L, K1 and
+K2 of CMAC, HMAC's midstates. The status is 0 where none is found.
 
 `branches` needs valgrind. LIST has a line `FUNCTION PLACES`, ` # ` and why, for each function that branches on a key.
 The status is 0 where there is no such address, and no such branch but those of the list.
@@ -14,10 +15,12 @@ The status is 0 where there is no such address, and no such branch but those of 
 import collections
 import hashlib
 import hmac
+import math
 import os
 import random
 import re
 import signal
+import struct
 import subprocess
 import sys
 import tempfile
@@ -54,8 +57,8 @@ def xor(a, b):
     return bytes(x ^ y for x, y in zip(a, b))
 
 
-def aes(key, block):
-    """AES-128 of one block (FIPS 197)."""
+def round_keys(key):
+    """The eleven round keys of AES-128 (FIPS 197 section 5.2)."""
     words, constant = [key[i : i + 4] for i in range(0, 16, 4)], 1
     for i in range(4, 44):
         last = words[-1]
@@ -63,7 +66,12 @@ def aes(key, block):
             last = bytes(SBOX[b] for b in last[1:] + last[:1])
             last, constant = xor(last, bytes([constant, 0, 0, 0])), xtime(constant)
         words.append(xor(words[i - 4], last))
-    keys = [b"".join(words[i : i + 4]) for i in range(0, 44, 4)]
+    return [b"".join(words[i : i + 4]) for i in range(0, 44, 4)]
+
+
+def aes(key, block):
+    """AES-128 of one block (FIPS 197)."""
+    keys = round_keys(key)
     state = xor(block, keys[0])
     for turn in range(1, 11):
         state = bytes(SBOX[state[(i + 4 * (i % 4)) % 16]] for i in range(16))
@@ -93,6 +101,51 @@ def cmac(key, text):
     for i in range(0, (len(text) - 1) // 16 * 16 if text else 0, 16):
         whole = aes(key, xor(whole, text[i : i + 16]))
     return aes(key, xor(whole, xor(last, first)))
+
+
+PRIMES = [number for number in range(2, 312) if all(number % it for it in range(2, math.isqrt(number) + 1))]
+
+
+def cube_root(number):
+    """The greatest number whose cube is no greater."""
+    root = round(number ** (1 / 3))
+    while root**3 > number:
+        root -= 1
+    while (root + 1) ** 3 <= number:
+        root += 1
+    return root
+
+
+ROOTS = [math.isqrt(it << 64) % 2**32 for it in PRIMES[:8]]
+CUBE_ROOTS = [cube_root(it << 96) % 2**32 for it in PRIMES[:64]]
+
+
+def sha256_words(block):
+    """The eight words of SHA-256 after its first block (FIPS 180-4 section 6.2.2)."""
+
+    def turned(word, *by):
+        out = 0
+        for it in by:
+            out ^= word >> it | word << 32 - it
+        return out % 2**32
+
+    words = list(struct.unpack(">16I", block))
+    for i in range(16, 64):
+        first = turned(words[i - 15], 7, 18) ^ words[i - 15] >> 3
+        second = turned(words[i - 2], 17, 19) ^ words[i - 2] >> 10
+        words.append((words[i - 16] + first + words[i - 7] + second) % 2**32)
+    a, b, c, d, e, f, g, h = ROOTS
+    for word, constant in zip(words, CUBE_ROOTS):
+        first = h + turned(e, 6, 11, 25) + (e & f ^ ~e & g) + constant + word
+        second = turned(a, 2, 13, 22) + (a & b ^ a & c ^ b & c)
+        a, b, c, d, e, f, g, h = (first + second) % 2**32, a, b, c, (d + first) % 2**32, e, f, g
+    return [(x + y) % 2**32 for x, y in zip(ROOTS, (a, b, c, d, e, f, g, h))]
+
+
+def check_sha256():
+    made = sha256_words(b"abc\x80" + bytes(59) + b"\x18")
+    if struct.pack(">8I", *made) != hashlib.sha256(b"abc").digest():
+        sys.exit("secrets.py: SHA-256 isn't that of FIPS 180-4")
 
 
 def check_aes():
@@ -165,18 +218,43 @@ def conversations(method, packets):
             yield packet[22:38] + packet[6:22]
 
 
+def derived(suite, name, key):
+    """What gives a key of the ciphers and MACs away: by AES and CMAC, or by HMAC as either order of octets holds it."""
+    if suite == 2:
+        for pad in (0x36, 0x5C):
+            words = sha256_words(bytes(octet ^ pad for octet in key.ljust(64, b"\0")))
+            yield f"midstate of HMAC by {name}", struct.pack("<8I", *words)
+            yield f"midstate of HMAC by {name}", struct.pack(">8I", *words)
+        return
+    for it in round_keys(key)[1:]:
+        yield f"round key of {name}", it
+    first = doubled(aes(key, bytes(16)))
+    yield f"L of {name}", aes(key, bytes(16))
+    yield f"K1 of {name}", first
+    yield f"K2 of {name}", doubled(first)
+
+
 def secrets_of(method, suite, keys, packets):
-    """Every 16 successive octets of every key, by the name of the key."""
-    found = {"PSK of EAP-PSK": keys[:16], "PSK of EAP-GPSK": keys[16:64], "another PSK": keys[64:]}
+    """Every 16 successive octets of every key, and of what is derived from it, by name."""
+    parts, size = {}, 32 if suite == 2 else 16
+
+    def add(name, octets):
+        parts.update({octets[i : i + 16]: name for i in range(len(octets) - 15)})
+
     psks = (keys[:16], keys[64:80]) if method == 47 else (keys[16:64], keys[80:])
-    parts = {}
-    for name, key in found.items():
-        parts.update({key[i : i + 16]: name for i in range(len(key) - 15)})
+    for name, psk in zip(("PSK", "another PSK"), psks):
+        for told, octets in derived(suite, name, psk[:size]):
+            add(told, octets)
     for text in set(conversations(method, packets)):
         for psk in psks:
             made = psk_keys(psk, text[:16]) if method == 47 else gpsk_keys(suite, psk, text)
+            for name in ("AK", "KDK", "TEK", "MK", "SK", "PK"):
+                for told, octets in derived(suite, name, made[name]) if name in made else ():
+                    add(told, octets)
             for name, key in made.items():
-                parts.update({key[i : i + 16]: name for i in range(len(key) - 15)})
+                add(name, key)
+    for name, key in (("PSK of EAP-PSK", keys[:16]), ("PSK of EAP-GPSK", keys[16:64]), ("another PSK", keys[64:])):
+        add(name, key)
     return parts
 
 
@@ -240,13 +318,14 @@ def run_stopped(program, way, word, keys):
 
 def left(program, word):
     check_aes()
+    check_sha256()
     found = 0
     for way in WAYS:
         keys = random.Random(int(way[1]) + 1).randbytes(128)
         counts, secrets, octets = run_stopped(program, way, word, keys)
         found += sum(counts.values())
         told = ", ".join(f"{name} {n} times in {where}" for (name, where), n in sorted(counts.items())) or "nothing"
-        print(f"method {way[0]} suite {way[1]}: {secrets} parts of keys, {octets} octets of memory: {told}")
+        print(f"method {way[0]} suite {way[1]}: {secrets} parts of secrets, {octets} octets of memory: {told}")
     return 1 if found else 0
 
 
