@@ -122,6 +122,23 @@ static size_t carried(struct tuv_end *end)
 	return len;
 }
 
+/* Why an end has failed, which a program may ask at any time: it is public. */
+static uint8_t reason(struct tuv_end *end)
+{
+	struct tuv_failure why = tuv_end_failure(end);
+
+	VALGRIND_MAKE_MEM_DEFINED(&why, sizeof(why));
+	return why.reason;
+}
+
+/* Whether no end says that it has failed. */
+static int none_failed(void)
+{
+	uint8_t at_peer = reason(&peer), at_server = reason(&server);
+
+	return at_peer == TUV_FAILURE_NONE && at_server == TUV_FAILURE_NONE;
+}
+
 /* From a server's turn on, until the server has ended: its timer ends where
  * nothing is on its way. The states of both. */
 static void converse(struct tuv_turn turn, uint8_t *at_peer, uint8_t *at_server)
@@ -137,6 +154,7 @@ static void converse(struct tuv_turn turn, uint8_t *at_peer, uint8_t *at_server)
 			answer = tuv_end_deliver(&peer, octets, carried(&server));
 			*at_peer = answer.state;
 		}
+		none_failed();
 		if (turn.state != TUV_STATE_IDLE)
 			return;
 		turn = answer.sends
@@ -173,7 +191,7 @@ static int agree(void)
 
 	memset(reports, 0, sizeof(reports));
 	reports[0].size = reports[1].size = sizeof(struct tuv_report);
-	same = tuv_end_report(&peer, &reports[0]) &&
+	same = none_failed() && tuv_end_report(&peer, &reports[0]) &&
 		tuv_end_report(&server, &reports[1]);
 	VALGRIND_MAKE_MEM_DEFINED(reports, sizeof(reports));
 	same = same && memcmp(&reports[0], &reports[1], sizeof(reports[0])) == 0 &&
@@ -222,24 +240,22 @@ static void logins(void)
 
 static void failures(void)
 {
-	struct tuv_failure why;
-
 	set_up();
 	take_keys(&of_server, &others, 0);
-	expect(!log_in(), "a login by another key");
+	expect(!log_in() && reason(&server) == TUV_FAILURE_TIMEOUT, "a login by another key");
 	set_up();
 	of_server.other = name_of("bob");
-	expect(!log_in(), "a login of an unknown user");
+	expect(!log_in() && reason(&server) == TUV_FAILURE_UNKNOWN_USER,
+	       "a login of an unknown user");
 	set_up();
 	of_server.barred = 1;
-	expect(!log_in(), "a login of a barred user");
-	why = tuv_end_failure(&server);
-	VALGRIND_MAKE_MEM_DEFINED(&why, sizeof(why));
-	expect(why.reason == TUV_FAILURE_BARRED_USER, "a barred user's reason");
+	expect(!log_in() && reason(&server) == TUV_FAILURE_BARRED_USER &&
+	       reason(&peer) == TUV_FAILURE_REFUSED, "a login of a barred user");
 	set_up();
 	of_server.methods[0] = method == TUV_KIND_PSK ? TUV_KIND_GPSK : TUV_KIND_PSK;
 	take_keys(&of_server, &shared, 1);
-	expect(!log_in(), "a login without a common method");
+	expect(!log_in() && reason(&server) == TUV_FAILURE_NO_METHOD,
+	       "a login without a common method");
 }
 
 /* The user is known when the first Response is there, and not before. */
@@ -268,6 +284,7 @@ static void users(void)
 	expect(tuv_response_name(octets, take(&peer, octets), name) == 5, "a name");
 	expect(!tuv_server_method_user(&server, &user), "a method's user");
 	tuv_server_method_handle(&server, octets, tuv_end_again(&peer, octets, sizeof(octets)), 8);
+	none_failed();
 	tuv_peer_method_handle(&peer, octets, take(&server, octets));
 	tuv_server_method_handle(&server, octets, take(&peer, octets), 9);
 	expect(agree(), "a login by the methods");
@@ -319,6 +336,7 @@ static void ends(void)
 	tuv_end_deliver(&peer, octets, take(&server, octets));
 	tuv_end_deliver(&server, octets, take(&peer, octets));
 	tuv_peer_alt_reject(&peer);
+	none_failed();
 	tuv_end_close(&server);
 }
 
