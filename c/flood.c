@@ -1,26 +1,48 @@
-/* The server of docs/EMBEDDING.md under a stranger who sends one bad packet each
- * 0.3 seconds: it ends as it does in silence, after as many Requests and as long.
- * The clock is one that `receive` sets.  The exit status is 0 where that holds. */
+/* The server of docs/EMBEDDING.md.  Under a stranger who sends one bad packet each
+ * 0.3 seconds it ends as it does in silence, after as many Requests and as long;
+ * and it tells apart why a login fails.  The clock is one that `receive` sets, and
+ * heap.c is compiled with -Dmalloc=flood_malloc.  The exit status is 0 where all
+ * of this holds. */
 #include <stdio.h>
+#include <stdlib.h>
 #include <string.h>
 #include "tuvaddri.h"
 
-bool serve(const struct tuv_settings *settings,
-	   void (*send)(const uint8_t *, size_t),
-	   size_t (*receive)(uint8_t *, size_t, double until),
-	   double (*now)(void), struct tuv_report *report);
+const char *serve(const struct tuv_settings *settings,
+		  void (*send)(const uint8_t *, size_t),
+		  size_t (*receive)(uint8_t *, size_t, double until),
+		  double (*now)(void), struct tuv_report *report);
 
 static double clock, between;	/* seconds; between two packets, 0: there are none */
 static unsigned int requests, packets;
+static struct tuv_end peer;	/* closed: nobody answers */
+static uint8_t answer[TUV_PACKET_MAX];
+static size_t answer_len;
+static bool starves;
+
+void *flood_malloc(size_t size);
+
+void *flood_malloc(size_t size)
+{
+	return starves ? NULL : malloc(size);
+}
 
 static void send(const uint8_t *packet, size_t len)
 {
 	if (len > 4 && packet[0] == 1)
 		requests++;
+	tuv_end_deliver(&peer, packet, len);
+	answer_len = tuv_end_packet(&peer, answer, sizeof(answer));
 }
 
 static size_t receive(uint8_t *packet, size_t room, double until)
 {
+	size_t len = answer_len;
+
+	memcpy(packet, answer, len);
+	answer_len = 0;
+	if (len)
+		return len;
 	if (between == 0 || clock + between > until || packets > 10000) {
 		clock = until;
 		return 0;
@@ -36,28 +58,83 @@ static double now(void)
 	return clock;
 }
 
-int main(void)
+static struct tuv_octets octets_of(const char *text)
 {
-	static const uint8_t key[32] = "32 octets that both ends share..";
+	return (struct tuv_octets) { (const uint8_t *) text, strlen(text) };
+}
+
+static struct tuv_settings told(const char *name, const char *other, const char *key)
+{
 	struct tuv_settings settings = { .size = sizeof(settings) };
+
+	settings.name = octets_of(name);
+	settings.other = octets_of(other);
+	settings.gpsk_key = octets_of(key);
+	return settings;
+}
+
+/* Whether a server with this key ends with this word, or succeeds. */
+static bool ends(const char *name, const char *key, const char *word)
+{
+	struct tuv_settings settings = told(name, "alice", key);
 	struct tuv_report report = { .size = sizeof(report) };
+	const char *why;
+
+	requests = packets = 0;
+	clock = 0;
+	why = serve(&settings, send, receive, now, &report);
+	if (why ? word && strcmp(why, word) == 0 : !word)
+		return true;
+	printf("flood: a login ends with %s, and not with %s\n",
+	       why ? why : "success", word ? word : "success");
+	return false;
+}
+
+/* The same with a peer of this name and key. */
+static bool answered(const char *name, const char *key, const char *word)
+{
+	static const uint8_t nonce[TUV_NONCE_LEN] = "a nonce of one login of a test..";
+	struct tuv_settings settings = told(name, "srv", key);
+	bool good = tuv_peer_begin(&peer, &settings, nonce) == TUV_BEGUN &&
+		ends("srv", "32 octets that both ends share..", word);
+
+	tuv_end_close(&peer);
+	return good;
+}
+
+static bool flooded(void)
+{
 	unsigned int in_silence;
 	double lasted;
 
-	settings.name = (struct tuv_octets) { (const uint8_t *) "srv", 3 };
-	settings.other = (struct tuv_octets) { (const uint8_t *) "alice", 5 };
-	settings.gpsk_key = (struct tuv_octets) { key, sizeof(key) };
-	if (serve(&settings, send, receive, now, &report))
-		return 1;
+	if (!ends("srv", "32 octets that both ends share..", "Timeout"))
+		return false;
 	in_silence = requests;
 	lasted = clock;
-	requests = 0;
-	clock = 0;
 	between = 0.3;
-	if (serve(&settings, send, receive, now, &report))
-		return 1;
+	if (!ends("srv", "32 octets that both ends share..", "Timeout"))
+		return false;
+	between = 0;
 	printf("flood: %u bad packets, %u Requests in %.1f s; in silence %u in %.1f s\n",
 	       packets, requests, clock, in_silence, lasted);
 	return in_silence > 1 && packets > in_silence && requests == in_silence &&
-		clock == lasted ? 0 : 1;
+		clock == lasted;
+}
+
+int main(void)
+{
+	bool good;
+
+	if (!tuv_end_new(&peer.at))
+		return 5;
+	good = flooded() &&
+		answered("alice", "32 octets that both ends share..", NULL) &&
+		answered("alice", "32 octets, and of another one ..", "BadTag") &&
+		answered("bob", "32 octets that both ends share..", "UnknownUser") &&
+		ends("", "32 octets that both ends share..", "BadName") &&
+		ends("srv", "a short key", "BadKey");
+	starves = true;
+	good = good && ends("srv", "32 octets that both ends share..", "NoMemory");
+	free(peer.at);
+	return good ? 0 : 1;
 }

@@ -409,8 +409,9 @@ struct tuv_method_turn tuv_server_method_handle(struct tuv_end *end,
 
 /* --- written in C --- */
 
-/* Clears TUV_STACK_MAX octets of the stack below the caller, on which the calls
- * above have left octets of keys: after the last call of a login, in the thread
+/* Clears TUV_STACK_MAX octets of the stack below the caller, and the vector
+ * registers that a call needn't keep: in both the calls above have left octets of
+ * keys.  After the last call of a login, in the thread
  * that made it, from no deeper than the calls were made. */
 void tuv_clear_stack(void);
 
@@ -424,7 +425,13 @@ const char *tuv_state_word(uint8_t state);
 const char *tuv_refusal_word(uint8_t answer);
 const char *tuv_failure_word(uint8_t reason);
 
-/* The version of the interface and the commit, as in "tuvaddri 2 252dec7". */
+/* For a log: what a turn came to, as in "discards what came, BadTag; state IDLE",
+ * with a 0 behind it. */
+enum { TUV_TEXT_MAX = 80 };
+void tuv_turn_text(struct tuv_turn turn, char room[TUV_TEXT_MAX]);
+
+/* The version of the interface and the commit, as in "tuvaddri 2 252dec7", and
+ * behind them " unchecked" if no proof of the library was checked. */
 extern const char tuv_ident[];
 
 #ifdef __cplusplus

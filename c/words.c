@@ -1,4 +1,4 @@
-/* The words for the numbers of tuvaddri.h, and what the proofs assume of its
+/* The words for the numbers of tuvaddri.h and for a turn, and what the proofs assume of its
  * structs. */
 #include "tuvaddri.h"
 
@@ -128,6 +128,31 @@ const char *tuv_refusal_word(uint8_t answer)
 const char *tuv_failure_word(uint8_t reason)
 {
 	return WORD(reasons, reason);
+}
+
+static char *append(char *at, const char *text)
+{
+	while (*text)
+		*at++ = *text++;
+	*at = 0;
+	return at;
+}
+
+void tuv_turn_text(struct tuv_turn turn, char room[TUV_TEXT_MAX])
+{
+	char *at = room;
+
+	if (turn.misplaced) {
+		append(at, "has no place for this call");
+		return;
+	}
+	if (turn.discards) {
+		at = append(at, "discards what came, ");
+		at = append(at, tuv_cause_word(turn.cause));
+	} else
+		at = append(at, turn.sends ? "sends a packet" : "sends nothing");
+	at = append(at, "; state ");
+	append(at, tuv_state_word(turn.state));
 }
 
 #ifndef TUV_COMMIT

@@ -26,6 +26,30 @@ def text_of(path):
         return it.read()
 
 
+class Turn(ctypes.Structure):
+    _fields_ = [(name, ctypes.c_bool) for name in ("sends", "discards", "misplaced")]
+    _fields_ += [(name, ctypes.c_uint8) for name in ("cause", "state")]
+
+
+def faults_of_texts(library):
+    """The text of each turn, beside the words of its numbers."""
+    library.tuv_turn_text.argtypes, library.tuv_turn_text.restype = [Turn, ctypes.c_char_p], None
+    room = ctypes.create_string_buffer(b"x" * 80, 80)
+    for number in range(256):
+        word = library.tuv_state_word(number).decode()
+        texts = {
+            (True, False, False, 0, number): f"sends a packet; state {word}",
+            (False, False, False, 0, number): f"sends nothing; state {word}",
+            (False, False, True, 0, 0): "has no place for this call",
+            (False, True, False, number, 1): f"discards what came, {library.tuv_cause_word(number).decode()}; state IDLE",
+            (False, True, False, 26, number): f"discards what came, SuiteNotOffered; state {word}",
+        }
+        for values, wanted in texts.items():
+            library.tuv_turn_text(Turn(*values), room)
+            if room.value.decode() != wanted:
+                yield f"a turn is told by {room.value.decode()}, and not by {wanted}"
+
+
 def camel(name):
     return "".join(part.capitalize() for part in name.split("_"))
 
@@ -50,6 +74,7 @@ def faults(path):
                 yield f"{call}({number}) is {word}, and not {wanted}"
             if call == "tuv_cause_word" and name is not None:
                 causes.add(word)
+    yield from faults_of_texts(library)
     table = text_of("../docs/TEXTS.md").split("<!-- made: causes -->")[1].split("<!-- end of made -->")[0]
     told = set(re.findall(r"^\| (\w+) \|", table, re.M)) - {"Cause"}
     for word in sorted(told ^ causes):
