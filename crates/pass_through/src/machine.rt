@@ -1,4 +1,21 @@
 //! The pass-through of RFC 4137 section 7.
+//!
+//! The table of RFC 4137 section 7: the start, and IDLE, are those of the server's Identity round; the identity leads
+//! to RECEIVED, INTEGRITY_CHECK, METHOD_RESPONSE, SELECT_ACTION, INITIALIZE_PASSTHROUGH, AAA_REQUEST, AAA_IDLE and goes
+//! to the server.
+//!
+//! - In AAA_IDLE, from the server:
+//!   - a Request goes to the peer, and its Identifier becomes currentId: AAA_RESPONSE, SEND_REQUEST2, IDLE2
+//!   - a Success or a Failure goes to the peer: SUCCESS2 or FAILURE2
+//!   - other octets are discarded with an empty path
+//!   - it has nothing to ask: DISCARD2, IDLE2
+//!   - it is lost: TIMEOUT_FAILURE2
+//! - In IDLE2, from the peer: a Response with currentId goes to the server by RECEIVED2, AAA_REQUEST, AAA_IDLE; other
+//!   octets are discarded by RECEIVED2, DISCARD2, IDLE2.
+//! - The timer in IDLE or IDLE2: as the server's, in IDLE2 with RETRANSMIT2, IDLE2 and TIMEOUT_FAILURE2.
+//!
+//! Octets from the side that isn't awaited are discarded as NotWaiting with an empty path, after the end as Ended. What
+//! is forwarded are the packet's Length octets as they came.
 
 ghost use Rattle.std.specs.Prelude.{◌≡◌, ◌≤◌, true, false};
 ghost use Rattle.pass_through.specs.PassTable.{Peer, Server, answer, step_to, without_padding, identity_request};

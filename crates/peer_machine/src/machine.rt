@@ -1,4 +1,25 @@
 //! The peer of RFC 4137 section 4 over the objects of its methods.
+//!
+//! The table of RFC 4137 section 4, of which the first row that applies is taken, for a packet that decodes, in IDLE.
+//! Each path begins with RECEIVED.
+//!
+//! - A Request whose Identifier is lastId: RETRANSMIT, SEND_RESPONSE, IDLE.
+//! - A Request, if no method is selected:
+//!   - of Type 1: IDENTITY, SEND_RESPONSE, IDLE
+//!   - of Type 2: NOTIFICATION, SEND_RESPONSE, IDLE
+//!   - of a Type that the policy allows: GET_METHOD, METHOD, and on as below
+//!   - of another Type: GET_METHOD, SEND_RESPONSE, IDLE, with a Nak of the allowed Types or 0
+//! - A Request of the selected method, methodState not DONE: METHOD, and on as below.
+//! - A Success with lastId: SUCCESS if decision isn't FAIL, else FAILURE if methodState isn't CONT.
+//! - A Failure with lastId, decision not UNCOND_SUCC, methodState not CONT: FAILURE.
+//!
+//! METHOD goes on to SEND_RESPONSE and IDLE with the method's Response, to FAILURE if the method is DONE and has
+//! failed, or to DISCARD and IDLE if it discards. The lower layer: `idle` leads to SUCCESS if the decision is
+//! UNCOND_SUCC, else to FAILURE. `alt-accept` leads to SUCCESS if the decision isn't FAIL, else to FAILURE if
+//! methodState isn't CONT, else nowhere; `alt-reject` to FAILURE.
+//!
+//! If no row applies, a delivery is discarded with its cause by RECEIVED, DISCARD and IDLE; after the end as Ended with
+//! an empty path.
 
 ghost use Rattle.std.specs.Prelude.{◌≡◌, ◌≢◌, ◌≤◌, [], ◌∷◌, ◌++◌, length, slice_index, true, false, map, None, Some, Ok, ℕ, List, option_map};
 ghost use Rattle.octet_lists.specs.Among.{is_among, expanded_kind, ietf, nak_kind};

@@ -1,4 +1,15 @@
 //! The backend of RFC 4137 section 6 over the objects of its methods.
+//!
+//! The table of RFC 4137 section 6, of which the first row that applies is taken, in INITIALIZE; anything but a
+//! Response is discarded with an empty path.
+//!
+//! - A Response of Type 3: NAK, SELECT_ACTION.
+//! - A Response of Type 1: PICK_UP_METHOD, METHOD_RESPONSE, SELECT_ACTION.
+//! - Another Response: PICK_UP_METHOD, SELECT_ACTION.
+//!
+//! That Response sets currentId, so the first Request has the next Identifier; a Failure, if nothing is left to
+//! propose, has the Response's own. Afterwards the backend's rows are the server's. It has no Identity Request and no
+//! timer.
 
 ghost use Rattle.std.specs.Prelude.{◌≡◌, [], ◌∷◌, ◌++◌, map, true, option_map, All, IsTrue};
 ghost use Rattle.octet_lists.specs.Among.{is_kind};

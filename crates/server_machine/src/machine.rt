@@ -1,5 +1,22 @@
 //! The server of RFC 4137 over the objects of its methods: stand-alone (section 5), or a backend (section
 //! 6).
+//!
+//! The table of RFC 4137 section 5, of which the first row that applies is taken, for a packet that decodes, in IDLE.
+//! Each path begins with RECEIVED, and the Identifier is currentId.
+//!
+//! - A Response of Type 3, methodState PROPOSED: NAK, SELECT_ACTION.
+//! - A Response of Type 1, currentMethod Identity: INTEGRITY_CHECK, METHOD_RESPONSE, SELECT_ACTION.
+//! - A Response of the Type of currentMethod: INTEGRITY_CHECK, then METHOD_RESPONSE, METHOD_REQUEST, SEND_REQUEST and
+//!   IDLE with the method's next Request; or METHOD_RESPONSE, SELECT_ACTION and SUCCESS or FAILURE if the method is
+//!   over; or DISCARD and IDLE if it discards.
+//!
+//! SELECT_ACTION after the Identity round or a Nak chooses the first method of the order that isn't yet proposed and
+//! that the Nak, if any, desires. With one it goes on to PROPOSE_METHOD, METHOD_REQUEST, SEND_REQUEST and IDLE; with
+//! none, to FAILURE. SUCCESS and FAILURE send a Success or a Failure with currentId. A timeout leads to RETRANSMIT and
+//! IDLE with the Request again, at most MaxRetrans times, then to RETRANSMIT and TIMEOUT_FAILURE.
+//!
+//! If no row applies, a delivery is discarded with its cause by RECEIVED, DISCARD and IDLE; after the end as Ended with
+//! an empty path.
 
 ghost use Rattle.std.specs.Prelude.{◌≡◌, ◌≤◌, [], ◌∷◌, ◌++◌, true, false, map, length, Some, None, Ok, option_copied, option_map, All, IsTrue, if◌then◌else◌};
 ghost use Rattle.octet_lists.specs.Among.{is_among, is_kind};
