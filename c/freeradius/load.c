@@ -1,12 +1,14 @@
 /* Logs many users in over RADIUS, by the library's peer, and compares the link keys that come with the peer's MSK.
  *
  *	load PORT SECRET KIND SUITE LOGINS AT_ONCE USERS [THREADS [ALTERED]]
- *	load begin PORT SECRET KIND SUITE LOGINS AT_ONCE USERS
+ *	load begin PORT SECRET KIND SUITE LOGINS AT_ONCE USERS [STATIONS]
  *	load keys FORM USERS
  *
  * The server is at 127.0.0.1; the users are user0, user1, .., with the keys that the last form writes, for `users` of
  * FreeRADIUS (freeradius), for SQL (sql), or for hostapd's eap_user_file (gpsk, psk). Of a hundred EAP packets of a
- * method ALTERED have one octet altered. With `begin` each login stops at the method's first Request, and is left open.
+ * method ALTERED have one octet altered. Each login has a Calling-Station-Id of its own. With `begin` each login stops at
+ * the method's first Request, and is left open; they come from as many STATIONS, by default from as many as there are
+ * logins, and from none of the other form.
  *
  * The line at the end has, after the counts and the rate, load's own processor time, and in milliseconds the median of
  * a login, what 99 of a hundred stay below, and the longest. The status is 0 where all are good. */
@@ -38,13 +40,13 @@ enum { SEND_KEY = 16, RECV_KEY = 17 };
 /* What the words say. */
 static struct {
 	const char *secret;
-	int port, kind, suite, logins, at_once, users, threads, altered;
+	int port, kind, suite, logins, at_once, users, threads, altered, stations;
 	bool only_begins;
 } asked = { .threads = 1 };
 
 /* A login that goes on. */
 struct slot {
-	int fd, user, tries;
+	int fd, user, station, tries;
 	bool is_open;
 	struct tuv_end end;
 	uint8_t request[MOST], state[253], id;
@@ -55,7 +57,7 @@ struct slot {
 struct worker {
 	pthread_t thread;
 	struct slot *slots;
-	int at_once, todo, begun, good, bad, mismatches, again, ended;
+	int first, at_once, todo, begun, good, bad, mismatches, again, ended;
 	unsigned seed;
 	double *took;
 };
@@ -144,8 +146,8 @@ static void ask(struct worker *w, struct slot *s)
 	s->len = 20;
 	put(s, USER_NAME, name, snprintf(name, sizeof(name), "user%d", s->user));
 	put(s, NAS_IP_ADDRESS, ip, sizeof(ip));
-	put(s, STATION, station, snprintf(station, sizeof(station), "02-00-00-%02X-%02X-%02X", s->user >> 16,
-					  s->user >> 8 & 255, s->user & 255));
+	put(s, STATION, station, snprintf(station, sizeof(station), "02-00-%02X-%02X-%02X-%02X", asked.only_begins,
+					  s->station >> 16, s->station >> 8 & 255, s->station & 255));
 	put(s, EAP_MESSAGE, eap, eap_len);
 	if (s->state_len)
 		put(s, STATE, s->state, s->state_len);
@@ -176,7 +178,7 @@ static void open_slot(struct worker *w, struct slot *s)
 
 	if (w->begun >= w->todo)
 		return;
-	w->begun++;
+	s->station = (w->first + w->begun++) % asked.stations;
 	s->user = rand_r(&w->seed) % asked.users;
 	s->state_len = 0;
 	s->is_open = true;
@@ -381,6 +383,7 @@ static void start(struct worker *w, int number)
 	w->seed = number + 1;
 	w->at_once = asked.at_once / asked.threads;
 	w->todo = asked.logins / asked.threads;
+	w->first = number * w->todo;
 	w->slots = calloc(w->at_once, sizeof(*w->slots));
 	w->took = calloc(w->todo + 1, sizeof(*w->took));
 	need(w->slots && w->took, "calloc");
@@ -425,7 +428,7 @@ static void write_user(char form, int user)
 static int usage(void)
 {
 	fputs("usage: load PORT SECRET KIND SUITE LOGINS AT_ONCE USERS [THREADS [ALTERED]]\n"
-	      "       load begin PORT SECRET KIND SUITE LOGINS AT_ONCE USERS\n"
+	      "       load begin PORT SECRET KIND SUITE LOGINS AT_ONCE USERS [STATIONS]\n"
 	      "       load keys freeradius|sql|gpsk|psk USERS\n", stderr);
 	return 2;
 }
@@ -451,7 +454,10 @@ static void read_words(int count, char **words)
 	asked.logins = number_of(words[4], 1, 1000000);
 	asked.at_once = number_of(words[5], 1, 10000);
 	asked.users = number_of(words[6], 1, 1000000);
-	if (count > 7)
+	asked.stations = asked.logins;
+	if (count > 7 && asked.only_begins)
+		asked.stations = number_of(words[7], 1, 1000000);
+	else if (count > 7)
 		asked.threads = number_of(words[7], 1, 64);
 	if (count > 8)
 		asked.altered = number_of(words[8], 0, 100);
@@ -513,7 +519,7 @@ int main(int argc, char **argv)
 	}
 	asked.only_begins = argc > 1 && strcmp(argv[1], "begin") == 0;
 	argc -= asked.only_begins, argv += asked.only_begins;
-	if (argc < 8 || argc > 10)
+	if (argc < 8 || argc > (asked.only_begins ? 9 : 10))
 		return usage();
 	read_words(argc - 1, argv + 1);
 	return run();

@@ -5,8 +5,9 @@
  * the file tuvaddri beside this one. */
 #include <freeradius-devel/radiusd.h>
 #include <freeradius-devel/modules.h>
+#include <ctype.h>
 #include <sys/random.h>
-#include "eap.h"
+#include "rlm_eap.h"
 #include "tuvaddri.h"
 
 #if KIND == 47
@@ -21,6 +22,9 @@
 #define KEY_SIZES "32 to 64 octets"
 #endif
 
+/* The keys that a store may have of a user: the old one and the new one. */
+enum { KEYS = 2 };
+
 struct settings {
 	char const	*server_id;
 	char const	*suites;
@@ -29,6 +33,7 @@ struct settings {
 	char const	*session_id;
 	uint32_t	max_discards;
 	bool		inner_identity;
+	bool		one_per_station;
 	/* What these come to: the suites in the library's numbers, the attribute,
 	 * and whether wpa_supplicant's Session-Id is wanted. */
 	uint8_t		suites_told[2];
@@ -44,15 +49,60 @@ static CONF_PARSER const words[] = {
 	{ "session_id", FR_CONF_OFFSET(PW_TYPE_STRING, struct settings, session_id), "rfc" },
 	{ "max_discards", FR_CONF_OFFSET(PW_TYPE_INTEGER, struct settings, max_discards), "4" },
 	{ "inner_identity", FR_CONF_OFFSET(PW_TYPE_BOOLEAN, struct settings, inner_identity), "no" },
+	{ "one_per_station", FR_CONF_OFFSET(PW_TYPE_BOOLEAN, struct settings, one_per_station), "yes" },
 	CONF_PARSER_TERMINATOR
 };
+
+/* What a login comes to: each has a word, by which it is counted, and a text. The
+ * first one is a success, those from LOST on end without a reply of the module. */
+enum reason {
+	ACCEPTED, WRONG_KEY, NO_KEY, HEX_KEY, UNFIT_KEY, MANY_KEYS, BARRED, OTHER_NAME, NO_STORE, BAD_PACKET, ENDED,
+	NO_METHOD, TOO_MANY, TIMEOUT, GAVE_WAY, STOPPED, REASONS, LOST = TIMEOUT
+};
+
+static struct { char const *word, *text; } const reasons[REASONS] = {
+	[ACCEPTED] = { "accepted", "" },
+	[WRONG_KEY] = { "wrong-key", "BadTag (another key, or a packet altered on its way)" },
+	[NO_KEY] = { "no-key", "the store has no key of the user" },
+	[HEX_KEY] = { "hex-key", "the store's key of the user is hex digits as text: 0x is missing before it" },
+	[UNFIT_KEY] = { "unfit-key", "the store's key of the user hasn't " KEY_SIZES },
+	[MANY_KEYS] = { "many-keys", "the store has over two keys of the user" },
+	[BARRED] = { "barred", "the site rejects the user (Auth-Type := Reject, or a module)" },
+	[OTHER_NAME] = { "other-name", "another name than the identity's" },
+	[NO_STORE] = { "no-store", "the virtual server or its store fails" },
+	[BAD_PACKET] = { "bad-packet", "no message that names the user" },
+	[ENDED] = { "ended", "the station has ended the method" },
+	[NO_METHOD] = { "no-method", "the station's Nak names no method that the user may have" },
+	[TOO_MANY] = { "too-many", "over max_sessions logins are open" },
+	[TIMEOUT] = { "timeout", "no Response within timer_expire" },
+	[GAVE_WAY] = { "gave-way", "a newer login took its place" },
+	[STOPPED] = { "stopped", "the server has ended" }
+};
+
+/* How many logins came to each, in all instances of the module. */
+static uint64_t counts[REASONS];
 
 /* A conversation. */
 struct session {
 	struct tuv_end	end;
+	eap_handler_t	*handler;
+	char		*user, *place;	/* as in the log: children of the handler */
+	char const	*text;		/* of the last fault */
 	uint32_t	discards;
+	int		trips;		/* the handler's, when the module was asked last */
+	int		key, keys;	/* the key that serves, of how many */
 	bool		goes_on;	/* its first Response has been taken */
+	bool		is_told;	/* the log has what it came to */
+	bool		has_station, is_listed;
 };
+
+/* The open logins by their stations, for one_per_station. Who takes rlm_eap's
+ * session_mutex too takes that first. */
+static pthread_mutex_t stations_mutex = PTHREAD_MUTEX_INITIALIZER;
+static rbtree_t *stations;
+static int instances;
+
+extern rlm_eap_module_t MODULE;
 
 /* What is wrong with the settings; null where nothing is. */
 static char const *fault_of(struct settings *it)
@@ -70,6 +120,22 @@ static char const *fault_of(struct settings *it)
 	return NULL;
 }
 
+static int compare_places(void const *one, void const *two)
+{
+	return strcmp(((struct session const *) one)->place, ((struct session const *) two)->place);
+}
+
+/* %{eap_gpsk:WORD}, how many logins came to this since the server has begun. */
+static ssize_t count_of(void *instance, REQUEST *request, char const *word, char *out, size_t room)
+{
+	for (int it = 0; it < REASONS; it++) {
+		if (strcmp(word, reasons[it].word) != 0) continue;
+		return snprintf(out, room, "%" PRIu64, __atomic_load_n(&counts[it], __ATOMIC_RELAXED));
+	}
+	REDEBUG("%s: there is no count '%s'", NAME, word);
+	return -1;
+}
+
 static int instantiate(CONF_SECTION *cs, void **instance)
 {
 	struct settings *it = talloc_zero(cs, struct settings);
@@ -79,7 +145,183 @@ static int instantiate(CONF_SECTION *cs, void **instance)
 	if (!it || cf_section_parse(cs, it, words) < 0) return -1;
 	fault = fault_of(it);
 	if (fault) cf_log_err_cs(cs, "%s: %s", NAME, fault);
-	return fault ? -1 : 0;
+	if (fault) return -1;
+	if (!stations) stations = rbtree_create(NULL, compare_places, NULL, 0);
+	if (!stations || xlat_register(MODULE_NAME, count_of, NULL, it) < 0) return -1;
+	instances++;
+	return 0;
+}
+
+/* (rlm_eap has ended all logins by now) */
+static int detach(void *instance)
+{
+	xlat_unregister(MODULE_NAME, count_of, instance);
+	if (--instances > 0) return 0;
+	rbtree_free(stations);
+	stations = NULL;
+	return 0;
+}
+
+/* The line of a login, once; and its count. */
+static void tell(struct session *s, enum reason reason, char const *more)
+{
+	char const *outcome = reason == ACCEPTED ? "accepted" : reason >= LOST ? "lost" : "refused";
+	char const *last = reason >= LOST && s->text ? s->text : NULL;
+
+	if (s->is_told) return;
+	s->is_told = true;
+	__atomic_add_fetch(&counts[reason], 1, __ATOMIC_RELAXED);
+	if (reason == ACCEPTED)
+		radlog(L_AUTH, "%s %s user=%s %s %s", NAME, outcome, s->user, s->place, more);
+	else
+		radlog(L_AUTH, "%s %s user=%s %s reason=%s: %s%s%s", NAME, outcome, s->user, s->place, reasons[reason].word,
+		       more, last ? "; before it: " : "", last ? last : "");
+}
+
+/* A text from the network as the log has it: in quotes, by printable ASCII alone,
+ * so that nobody writes a line or a field there; at most 253 octets. */
+static char *quoted(TALLOC_CTX *ctx, void const *text, size_t len)
+{
+	uint8_t const *from = text;
+	size_t shown = len < TUV_NAME_MAX ? len : TUV_NAME_MAX;
+	char *made = talloc_array(ctx, char, 4 * shown + sizeof("\"\".."));
+	char *to = made;
+
+	if (!made) return NULL;
+	*to++ = '"';
+	for (size_t i = 0; i < shown; i++) {
+		if (from[i] >= ' ' && from[i] <= '~' && from[i] != '"' && from[i] != '\\') *to++ = from[i];
+		else to += sprintf(to, "\\x%02x", from[i]);
+	}
+	strcpy(to, shown < len ? "\".." : "\"");
+	return made;
+}
+
+static char *quoted_of(TALLOC_CTX *ctx, REQUEST *request, unsigned attribute)
+{
+	VALUE_PAIR *vp = fr_pair_find_by_num(request->packet->vps, attribute, 0, TAG_ANY);
+
+	return vp ? quoted(ctx, vp->vp_strvalue, vp->vp_length) : quoted(ctx, "", 0);
+}
+
+static size_t identity_len(eap_handler_t const *handler)
+{
+	return talloc_array_length(handler->identity) - 1;
+}
+
+/* Who logs in, and from where. */
+static bool note(struct session *s, eap_handler_t *handler)
+{
+	REQUEST *request = handler->request;
+	char const *client = request->client && request->client->shortname ? request->client->shortname : "";
+	char *station = quoted_of(handler, request, PW_CALLING_STATION_ID);
+	char *point = quoted_of(handler, request, PW_CALLED_STATION_ID);
+	char *by = quoted(handler, client, strlen(client));
+
+	s->handler = handler;
+	s->user = quoted(handler, handler->identity, identity_len(handler));
+	s->has_station = fr_pair_find_by_num(request->packet->vps, PW_CALLING_STATION_ID, 0, TAG_ANY) != NULL;
+	if (!station || !point || !by || !s->user) return false;
+	s->place = talloc_asprintf(handler, "station=%s ap=%s client=%s", station, point, by);
+	return s->place != NULL;
+}
+
+/* Takes a login that waits for its station out of rlm_eap's list, whose mutex is
+ * held, as eaplist_delete does there. False where it isn't in the list: another
+ * thread serves it, or has ended it. */
+static bool take_out(rlm_eap_t *eap, eap_handler_t *handler)
+{
+	rbnode_t *node = rbtree_find(eap->session_tree, handler);
+
+	if (!node || rbtree_node2data(eap->session_tree, node) != handler) return false;
+	rbtree_delete(eap->session_tree, node);
+	if (handler->prev) handler->prev->next = handler->next;
+	else eap->session_head = handler->next;
+	if (handler->next) handler->next->prev = handler->prev;
+	else eap->session_tail = handler->prev;
+	handler->prev = handler->next = NULL;
+	return true;
+}
+
+/* The waiting login of the same station, access point and client is taken out; the
+ * new one gets its place in the table. (With the mutex no login of the table is
+ * given back meanwhile.) */
+static eap_handler_t *replace(rlm_eap_t *eap, struct session *s)
+{
+	struct session *other;
+	eap_handler_t *taken = NULL;
+
+	pthread_mutex_lock(&stations_mutex);
+	other = rbtree_finddata(stations, s);
+	if (other) {
+		rbtree_deletebydata(stations, other);
+		other->is_listed = false;
+		if (take_out(eap, other->handler)) taken = other->handler;
+	}
+	s->is_listed = rbtree_insert(stations, s);
+	pthread_mutex_unlock(&stations_mutex);
+	return taken;
+}
+
+/* The login by one of the two methods that waits longest: the list is in this order. */
+static eap_handler_t *oldest(rlm_eap_t *eap)
+{
+	eap_handler_t *it = eap->session_head;
+
+	for (int looked = 0; it && looked < 64; looked++, it = it->next)
+		if ((int) it->type == TUV_KIND_PSK || (int) it->type == TUV_KIND_GPSK) return it;
+	return NULL;
+}
+
+/* Whoever can send identities can leave logins open. So a station's new login ends
+ * the one that it has open; and where only a sixteenth of max_sessions is left, the
+ * login that waits longest ends. */
+static void make_room(struct settings const *it, struct session *s, rlm_eap_t *eap)
+{
+	eap_handler_t *first = NULL, *second = NULL;
+
+	/* (another rlm_eap than the one of the headers would have its methods elsewhere) */
+	if (!eap->methods[KIND] || eap->methods[KIND]->type != &MODULE) return;
+	pthread_mutex_lock(&eap->session_mutex);
+	if (it->one_per_station && s->has_station) first = replace(eap, s);
+	if (rbtree_num_elements(eap->session_tree) >= eap->max_sessions - eap->max_sessions / 16) second = oldest(eap);
+	if (second && !take_out(eap, second)) second = NULL;
+	pthread_mutex_unlock(&eap->session_mutex);
+	talloc_free(first);
+	talloc_free(second);
+}
+
+/* Whether rlm_eap will begin another method by the Nak that has come. */
+static bool goes_on_by_nak(eap_handler_t const *handler)
+{
+	eap_type_data_t const *nak = &handler->eap_ds->response->type;
+	VALUE_PAIR const *only = fr_pair_find_by_num(handler->request->config, PW_EAP_TYPE, 0, TAG_ANY);
+	rlm_eap_t const *eap = handler->inst_holder;
+
+	for (size_t i = 0; !handler->started && i < nak->length && nak->data[i] >= PW_EAP_MD5; i++) {
+		uint8_t type = nak->data[i];
+
+		if (type < PW_EAP_MAX_TYPES && eap->methods[type] && type != KIND && (!only || only->vp_integer == type))
+			return true;
+	}
+	return false;
+}
+
+/* What a login came to that rlm_eap ends by itself: by a Nak (it still has its
+ * packets then), after the module's last answer (no place in the list), before the
+ * module was asked again (a reject of the site), or with no packet at all. */
+static void tell_end(struct session *s)
+{
+	eap_handler_t *handler = s->handler;
+	rlm_eap_t *eap = handler->inst_holder;
+	enum reason reason;
+
+	if (handler->eap_ds && goes_on_by_nak(handler)) return;
+	if (handler->eap_ds) reason = NO_METHOD;
+	else if (!eap->session_tree) reason = STOPPED;
+	else if (handler->request) reason = handler->trips == s->trips ? TOO_MANY : BARRED;
+	else reason = time(NULL) - handler->timestamp > (time_t) eap->timer_limit ? TIMEOUT : GAVE_WAY;
+	tell(s, reason, reasons[reason].text);
 }
 
 /* The library leaves octets of keys in its block. */
@@ -87,6 +329,10 @@ static void give_back(void *opaque)
 {
 	struct session *s = opaque;
 
+	pthread_mutex_lock(&stations_mutex);
+	if (s->is_listed) rbtree_deletebydata(stations, s);
+	pthread_mutex_unlock(&stations_mutex);
+	if (!s->is_told) tell_end(s);
 	tuv_end_close(&s->end);
 	explicit_bzero(s->end.at, tuv_end_size());
 	free(s->end.at);
@@ -138,15 +384,26 @@ static int session_init(void *instance, eap_handler_t *handler)
 		free(s);
 		return 0;
 	}
+	if (!note(s, handler)) {
+		free(s->end.at);
+		free(s);
+		return 0;
+	}
 	handler->opaque = s;
 	handler->free_opaque = give_back;
+	s->trips = handler->trips;
 	/* (each realm may have a name of its own) */
-	if (radius_axlat(&server, request, it->server_id, NULL, NULL) < 0) return 0;
+	s->is_told = radius_axlat(&server, request, it->server_id, NULL, NULL) < 0;
+	if (s->is_told) return 0;
 	has_begun = begin(it, s, server, handler->eap_ds->response->id + 1);
 	if (!has_begun) RERROR("%s can't begin: server_id is '%s', and has 1 to %i octets", NAME, server, TUV_NAME_MAX);
 	talloc_free(server);
 	handler->stage = PROCESS;
-	return has_begun && put_request(handler, s);
+	/* (else the line above is the login's) */
+	s->is_told = !has_begun || !put_request(handler, s);
+	if (s->is_told) return 0;
+	make_room(it, s, handler->inst_holder);
+	return 1;
 }
 
 /* A key of octets is taken as it is; so is a string, but that "0x.." is hex, for
@@ -165,72 +422,128 @@ static size_t key_of(VALUE_PAIR const *vp, uint8_t room[TUV_KEY_MAX])
 	return len;
 }
 
+/* Hex digits that nobody has made octets of: as many octets, if they were a key,
+ * would be so by a chance of less than 2 to the -112. */
+static bool is_hex_text(VALUE_PAIR const *vp)
+{
+	size_t at = 0;
+
+	while (at < vp->vp_length && isxdigit(vp->vp_octets[at])) at++;
+	return at == vp->vp_length && at >= 32;
+}
+
 /* Looks a name up by the virtual server's authorize section. */
-static REQUEST *ask_for(REQUEST *request, struct settings const *it, char const *name, size_t len)
+static enum reason ask_for(REQUEST **asked, REQUEST *request, struct settings const *it, char const *name, size_t len)
 {
 	REQUEST *inner = request_alloc_fake(request);
+	VALUE_PAIR const *type;
+	rlm_rcode_t code;
 
-	if (!inner) return NULL;
-	inner->username = fr_pair_afrom_num(inner->packet, PW_USER_NAME, 0);
+	*asked = inner;
+	if (inner) inner->username = fr_pair_afrom_num(inner->packet, PW_USER_NAME, 0);
+	if (!inner || !inner->username) return NO_STORE;
 	fr_pair_value_bstrncpy(inner->username, name, len);
 	fr_pair_add(&inner->packet->vps, inner->username);
 	if (it->virtual_server) inner->server = it->virtual_server;
-	process_authorize(0, inner);
-	return inner;
+	code = process_authorize(0, inner);
+	type = fr_pair_find_by_num(inner->config, PW_AUTH_TYPE, 0, TAG_ANY);
+	if (code == RLM_MODULE_REJECT || code == RLM_MODULE_USERLOCK) return BARRED;
+	if (type && type->vp_integer == PW_AUTH_TYPE_REJECT) return BARRED;
+	return code == RLM_MODULE_FAIL || code == RLM_MODULE_INVALID ? NO_STORE : ACCEPTED;
 }
 
-/* Tells the method its user, with the key that the store has.  Answers what is
- * wrong; null where nothing is. */
-static char const *put_user(struct settings const *it, struct session *s, VALUE_PAIR const *vp,
-			    char const *name, size_t len)
+/* Tells the method its user, with a key that the store has. */
+static enum reason put_user(struct session *s, VALUE_PAIR const *vp, char const *name, size_t len)
 {
 	uint8_t key[TUV_KEY_MAX];
 	struct tuv_settings told = { .size = sizeof(told), .other = { (uint8_t const *) name, len } };
 	struct tuv_octets *octets = KIND == TUV_KIND_PSK ? &told.psk_key : &told.gpsk_key;
 	uint8_t answer;
 
-	if (!vp) return "the store has no key of the user";
+	if (is_hex_text(vp)) return HEX_KEY;
 	*octets = (struct tuv_octets) { key, key_of(vp, key) };
 	answer = octets->len ? tuv_server_method_user(&s->end, &told) : TUV_BAD_KEY;
 	explicit_bzero(key, sizeof(key));
-	if (answer == TUV_BAD_KEY) return "the store's key of the user hasn't " KEY_SIZES;
-	return answer == TUV_BEGUN ? NULL : tuv_refusal_word(answer);
+	if (answer == TUV_BEGUN) return ACCEPTED;
+	s->text = tuv_refusal_word(answer);
+	return answer == TUV_BAD_KEY ? UNFIT_KEY : BAD_PACKET;
+}
+
+/* What a Response came to. */
+static enum reason hear(eap_handler_t *handler, struct session *s, struct tuv_method_turn *turn)
+{
+	eap_packet_t const *response = handler->eap_ds->response;
+
+	*turn = tuv_server_method_handle(&s->end, response->packet, response->length, response->id + 1);
+	if (!turn->discards) return ACCEPTED;
+	s->text = tuv_cause_word(turn->cause);
+	return turn->cause == TUV_CAUSE_BAD_TAG ? WRONG_KEY : BAD_PACKET;
+}
+
+/* The first Response under each key of the user, until one serves: a discard has
+ * changed nothing. A key that is none is told before one that is another. */
+static enum reason try_keys(eap_handler_t *handler, struct session *s, struct tuv_method_turn *turn,
+			    VALUE_PAIR *const *found, DICT_ATTR const *attribute, char const *name, size_t len)
+{
+	enum reason first = NO_KEY;
+	vp_cursor_t cursor;
+
+	s->keys = 0;
+	fr_cursor_init(&cursor, found);
+	while (fr_cursor_next_by_da(&cursor, attribute, TAG_ANY)) s->keys++;
+	if (s->keys > KEYS) return MANY_KEYS;
+	fr_cursor_init(&cursor, found);
+	for (s->key = 1; s->key <= s->keys; s->key++) {
+		enum reason reason = put_user(s, fr_cursor_next_by_da(&cursor, attribute, TAG_ANY), name, len);
+
+		if (reason == ACCEPTED) reason = hear(handler, s, turn);
+		if (reason == ACCEPTED || reason == BAD_PACKET) return reason;
+		if (first == NO_KEY || first == WRONG_KEY) first = reason;
+	}
+	return first;
 }
 
 /* The first Response names the user.  By a name that isn't the identity's nobody
  * is looked up: the library would answer by a GPSK-Fail, at which stations fall
  * silent, or a Failure; but nothing has been proved of that name by then. */
-static char const *find_user(eap_handler_t *handler, struct settings const *it, struct session *s)
+static enum reason hear_first(eap_handler_t *handler, struct settings const *it, struct session *s,
+			      struct tuv_method_turn *turn)
 {
 	eap_packet_t const *response = handler->eap_ds->response;
 	REQUEST *request = handler->request, *inner = NULL;
-	bool asks = it->inner_identity || it->virtual_server;
 	char name[TUV_NAME_MAX];
 	size_t len = tuv_response_name(response->packet, response->length, (uint8_t *) name);
-	size_t identity_len = talloc_array_length(handler->identity) - 1;
-	char const *wrong;
+	enum reason reason = ACCEPTED;
 
-	if (!len) return "no message that names the user";
-	if (!it->inner_identity && (len != identity_len || memcmp(name, handler->identity, len) != 0))
-		return "another name than the identity's";
-	if (asks) inner = ask_for(request, it, name, len);
-	if (asks && !inner) return "no memory";
-	wrong = put_user(it, s, fr_pair_find_by_da(inner ? inner->config : request->config, it->key, TAG_ANY), name, len);
+	s->text = reasons[BAD_PACKET].text;
+	if (!len) return BAD_PACKET;
+	if (it->inner_identity) {
+		char *user = quoted(handler, name, len);
+
+		if (user) s->user = user;
+	} else if (len != identity_len(handler) || memcmp(name, handler->identity, len) != 0) {
+		return OTHER_NAME;
+	}
+	if (it->inner_identity || it->virtual_server) reason = ask_for(&inner, request, it, name, len);
+	if (reason == ACCEPTED)
+		reason = try_keys(handler, s, turn, inner ? &inner->config : &request->config, it->key, name, len);
 	talloc_free(inner);
-	return wrong;
+	return reason;
 }
 
 /* RFC 3579 section 2.2: the last Request again, with Error-Cause 202; so many
  * times.  Then FreeRADIUS sends an Access-Reject. */
-static int ask_again(eap_handler_t *handler, struct settings const *it, struct session *s, char const *why)
+static int ask_again(eap_handler_t *handler, struct settings const *it, struct session *s, enum reason reason)
 {
 	REQUEST *request = handler->request;
 
+	if (reason != BAD_PACKET) s->text = reasons[reason].text;
 	if (s->discards++ >= it->max_discards) {
-		RERROR("%s: given up: %s", NAME, why);
+		module_failure_msg(request, "%s: given up: %s", NAME, s->text);
+		tell(s, reason, s->text);
 		return 0;
 	}
-	RWDEBUG("%s: discarded: %s", NAME, why);
+	RWDEBUG("%s: discarded: %s", NAME, s->text);
 	pair_make_reply("Error-Cause", "Invalid-EAP-Packet", T_OP_SET);
 	return put_request(handler, s);
 }
@@ -242,6 +555,7 @@ static int give_keys(eap_handler_t *handler, struct settings const *it, struct s
 	REQUEST *request = handler->request;
 	struct tuv_report report = { .size = sizeof(report) };
 	uint8_t id[TUV_SESSION_ID_MAX];
+	char how[40];
 	size_t len = it->as_wpa ? tuv_end_session_id_wpa(&s->end, id) : tuv_end_session_id(&s->end, id);
 
 	if (!tuv_end_report(&s->end, &report)) return 0;
@@ -251,8 +565,8 @@ static int give_keys(eap_handler_t *handler, struct settings const *it, struct s
 	eap_add_reply(request, "EAP-MSK", report.msk, sizeof(report.msk));
 	eap_add_reply(request, "EAP-EMSK", report.emsk, sizeof(report.emsk));
 	eap_add_reply(request, "EAP-Session-Id", id, len);
-	RDEBUG2("%s has logged %.*s in at %.*s, suite %u", NAME, report.peer_length, (char *) report.peer,
-		report.server_length, (char *) report.server, report.suite);
+	snprintf(how, sizeof(how), "suite=%c key=%i/%i", report.suite ? '0' + report.suite : '-', s->key, s->keys);
+	tell(s, ACCEPTED, how);
 	explicit_bzero(&report, sizeof(report));
 	return 1;
 }
@@ -260,37 +574,34 @@ static int give_keys(eap_handler_t *handler, struct settings const *it, struct s
 static int take(eap_handler_t *handler, struct settings const *it, struct session *s)
 {
 	REQUEST *request = handler->request;
-	eap_packet_t const *response = handler->eap_ds->response;
-	char const *wrong = s->goes_on ? NULL : find_user(handler, it, s);
 	struct tuv_method_turn turn;
-	struct tuv_failure why;
+	enum reason reason = s->goes_on ? hear(handler, s, &turn) : hear_first(handler, it, s, &turn);
 
-	if (wrong) return ask_again(handler, it, s, wrong);
-	turn = tuv_server_method_handle(&s->end, response->packet, response->length, response->id + 1);
-	if (turn.discards && turn.cause == TUV_CAUSE_BAD_TAG) wrong = "BadTag (another key, or a packet altered on its way)";
-	else if (turn.discards) wrong = tuv_cause_word(turn.cause);
-	if (wrong) return ask_again(handler, it, s, wrong);
+	if (reason != ACCEPTED) return ask_again(handler, it, s, reason);
 	s->goes_on = true;
 	if (turn.sends) return put_request(handler, s);
 	if (turn.state == TUV_METHOD_DONE && turn.decision == TUV_DECISION_UNCOND_SUCC) return give_keys(handler, it, s);
-	why = tuv_end_failure(&s->end);
-	RERROR("%s: the login failed: %s, Failure-Code %u", NAME, tuv_failure_word(why.reason), why.code);
+	module_failure_msg(request, "%s: the login failed: %s", NAME, tuv_failure_word(tuv_end_failure(&s->end).reason));
+	tell(s, ENDED, tuv_failure_word(tuv_end_failure(&s->end).reason));
 	return 0;
 }
 
 static int process(void *instance, eap_handler_t *handler)
 {
-	int goes_on = take(handler, instance, handler->opaque);
+	struct session *s = handler->opaque;
+	int goes_on;
 
+	s->trips = handler->trips;
+	goes_on = take(handler, instance, s);
 	/* (a thread of the server serves other users next) */
 	tuv_clear_stack();
 	return goes_on;
 }
 
-extern rlm_eap_module_t MODULE;
 rlm_eap_module_t MODULE = {
 	.name		= MODULE_NAME,
 	.instantiate	= instantiate,
 	.session_init	= session_init,
-	.process	= process
+	.process	= process,
+	.detach		= detach
 };
