@@ -96,6 +96,9 @@ realm far {{
 modules {{
 	expr {{
 	}}
+	always ok {{
+		rcode = ok
+	}}
 	realm suffix {{
 		format = suffix
 		delimiter = "@"
@@ -106,9 +109,9 @@ modules {{
 	{sql}
 	eap {{
 		default_eap_type = {first}
-		timer_expire = 60
+		timer_expire = {timer}
 		ignore_unknown_eap_types = no
-		max_sessions = 65536
+		max_sessions = {sessions}
 		{modules}
 	}}
 }}
@@ -140,6 +143,7 @@ server inner {{
 		{store}
 	}}
 }}
+{more}
 """
 
 HOME = """home_server home{port} {{
@@ -199,7 +203,10 @@ class Configuration:
     threads: int = 4
     port: int = PORT
     secret: str = SECRET
-    says: str = "yes"  # whether logins are logged
+    timer: int = 60
+    sessions: int = 65536
+    says: str = "no"  # whether FreeRADIUS logs logins too
+    more: str = ""  # behind all
     name: str = "server"
 
     def write(self, work: str) -> str:

@@ -87,7 +87,7 @@ struct session {
 	struct tuv_end	end;
 	eap_handler_t	*handler;
 	char		*user, *place;	/* as in the log: children of the handler */
-	char const	*text;		/* of the last fault */
+	char const	*text;		/* of the last BAD_PACKET */
 	uint32_t	discards;
 	int		trips;		/* the handler's, when the module was asked last */
 	int		key, keys;	/* the key that serves, of how many */
@@ -125,13 +125,23 @@ static int compare_places(void const *one, void const *two)
 	return strcmp(((struct session const *) one)->place, ((struct session const *) two)->place);
 }
 
-/* %{eap_gpsk:WORD}, how many logins came to this since the server has begun. */
+/* %{eap_gpsk:WORD}, how many logins came to this since the server has begun; `all`
+ * has those that aren't 0, each behind its word. */
 static ssize_t count_of(void *instance, REQUEST *request, char const *word, char *out, size_t room)
 {
-	for (int it = 0; it < REASONS; it++) {
-		if (strcmp(word, reasons[it].word) != 0) continue;
-		return snprintf(out, room, "%" PRIu64, __atomic_load_n(&counts[it], __ATOMIC_RELAXED));
+	bool is_all = strcmp(word, "all") == 0;
+	size_t len = 0;
+
+	*out = '\0';
+	for (int it = 0; it < REASONS && len < room; it++) {
+		uint64_t count = __atomic_load_n(&counts[it], __ATOMIC_RELAXED);
+
+		if (is_all && count)
+			len += snprintf(out + len, room - len, "%s%s=%" PRIu64, len ? " " : "", reasons[it].word, count);
+		else if (strcmp(word, reasons[it].word) == 0)
+			return snprintf(out, room, "%" PRIu64, count);
 	}
+	if (is_all) return strlen(out);
 	REDEBUG("%s: there is no count '%s'", NAME, word);
 	return -1;
 }
@@ -166,7 +176,6 @@ static int detach(void *instance)
 static void tell(struct session *s, enum reason reason, char const *more)
 {
 	char const *outcome = reason == ACCEPTED ? "accepted" : reason >= LOST ? "lost" : "refused";
-	char const *last = reason >= LOST && s->text ? s->text : NULL;
 
 	if (s->is_told) return;
 	s->is_told = true;
@@ -174,8 +183,7 @@ static void tell(struct session *s, enum reason reason, char const *more)
 	if (reason == ACCEPTED)
 		radlog(L_AUTH, "%s %s user=%s %s %s", NAME, outcome, s->user, s->place, more);
 	else
-		radlog(L_AUTH, "%s %s user=%s %s reason=%s: %s%s%s", NAME, outcome, s->user, s->place, reasons[reason].word,
-		       more, last ? "; before it: " : "", last ? last : "");
+		radlog(L_AUTH, "%s %s user=%s %s reason=%s: %s", NAME, outcome, s->user, s->place, reasons[reason].word, more);
 }
 
 /* A text from the network as the log has it: in quotes, by printable ASCII alone,

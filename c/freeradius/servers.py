@@ -9,7 +9,7 @@ import signal
 import subprocess
 import sys
 import time
-from typing import List, Optional, Sequence
+from typing import List, Optional, Sequence, Set
 
 from configuration import MODS_CONFIG, PORT, SECRET, SQL_FILE, Configuration
 
@@ -25,7 +25,16 @@ KEYS = {
 }
 BOBS_KEY = "ffeeddccbbaa99887766554433221100"
 ERNAS_KEY = bytes(range(32, 64)).hex()
+OLD_KEYS = {"GPSK": "a0" * 31 + "a1", "PSK": "a0" * 15 + "a1"}
+NEW_KEYS = {"GPSK": "b0" * 31 + "b1", "PSK": "b0" * 15 + "b1"}
 DORAS_KEY = "a key of forty octets, as text, for dora"
+PASSWORD = "a password of gerda"
+
+
+def two_keys(method: str) -> str:
+    return f"Tuvaddri-{method}-Key := 0x{OLD_KEYS[method]}, Tuvaddri-{method}-Key += 0x{NEW_KEYS[method]}"
+
+
 BOTH_OF_ALICE = f"Tuvaddri-GPSK-Key := 0x{KEYS['GPSK']}, Tuvaddri-PSK-Key := 0x{KEYS['PSK']}"
 PEOPLE = f"""alice	{BOTH_OF_ALICE}
 alice@far	{BOTH_OF_ALICE}
@@ -34,19 +43,28 @@ carol	EAP-Type := GPSK, Tuvaddri-GPSK-Key := 0x0001
 dora	Cleartext-Password := "{DORAS_KEY}"
 erna	Cleartext-Password := "0x{ERNAS_KEY}"
 frank	Cleartext-Password := "0x{'00' * 65}"
-gerda	Cleartext-Password := "a password"
+gerda	Cleartext-Password := "{PASSWORD}"
+hugo	Auth-Type := Reject, {BOTH_OF_ALICE}
+ida	{two_keys("GPSK")}, {two_keys("PSK")}
+jan	{two_keys("GPSK")}, Tuvaddri-GPSK-Key += 0x{ERNAS_KEY}
+kai	Tuvaddri-GPSK-Key := "{KEYS["GPSK"]}", Tuvaddri-PSK-Key := "{KEYS["PSK"]}"
+lea	Tuvaddri-GPSK-Key := "{KEYS["GPSK"]}", Tuvaddri-GPSK-Key += 0x{KEYS["GPSK"]}
 """
+# The rows of SQL, beside those of load.
+ROWS = [(user, f"Tuvaddri-{method}-Key", ":=", f"0x{key}") for user in ("alice", "hugo") for method, key in KEYS.items()]
+ROWS += [("hugo", "Auth-Type", ":=", "Reject"), ("kai", "Tuvaddri-GPSK-Key", ":=", KEYS["GPSK"])]
+ROWS += [("ida", f"Tuvaddri-{method}-Key", "+=", f"0x{keys[method]}") for keys in (OLD_KEYS, NEW_KEYS) for method in KEYS]
 
 
 def write_users(work: str) -> None:
     """The users of all stores: those above, and those of load."""
     pathlib.Path(work, "users").write_text(PEOPLE + keys_of(work, "freeradius"))
-    rows = [("alice", f"Tuvaddri-{method}-Key", f"0x{key}") for method, key in KEYS.items()]
-    insert = "INSERT INTO radcheck (username, attribute, op, value) VALUES ('{}','{}',':=','{}');\n"
+    insert = "INSERT INTO radcheck (username, attribute, op, value) VALUES ('{}','{}','{}','{}');\n"
     pathlib.Path(work, SQL_FILE).unlink(missing_ok=True)
     schema = pathlib.Path(f"{MODS_CONFIG}/sql/main/sqlite/schema.sql").read_text()
-    text = schema + "BEGIN;\n" + keys_of(work, "sql") + "".join(insert.format(*row) for row in rows) + "COMMIT;\n"
+    text = schema + "BEGIN;\n" + keys_of(work, "sql") + "".join(insert.format(*row) for row in ROWS) + "COMMIT;\n"
     subprocess.run(["sqlite3", f"{work}/{SQL_FILE}"], input=text, text=True, check=True, stdout=subprocess.DEVNULL)
+    know(PEOPLE + text)
 
 
 def keys_of(work: str, form: str) -> str:
@@ -81,17 +99,65 @@ class Server:
             self.process.wait()
 
     def said(self) -> str:
-        return "".join(it.read_text(errors="replace") for it in (self.log, pathlib.Path(f"{self.log}.out")) if it.exists())
+        return "".join(it.read_text(encoding="latin-1") for it in (self.log, pathlib.Path(f"{self.log}.out")) if it.exists())
+
+    def says(self, pattern: str, seconds: float) -> bool:
+        """Whether it comes to say this within so many seconds."""
+        until = time.monotonic() + seconds
+        while not re.search(pattern, self.said()):
+            if time.monotonic() > until:
+                return False
+            time.sleep(0.1)
+        return True
+
+    def lines(self) -> List[str]:
+        """What the modules have logged of logins."""
+        return re.findall(r"^.{24} : Auth: (EAP-G?PSK .*)", self.said(), re.M)
 
     def refused(self, reason: str) -> bool:
-        """Whether FreeRADIUS has logged that a login was refused for this reason."""
-        return any("Login incorrect" in line and reason in line for line in self.said().splitlines())
+        """Whether the last login was refused for this reason."""
+        return bool(re.match(r"EAP-G?PSK refused user=", self.lines()[-1])) and reason in self.lines()[-1]
+
+
+class Searched(Server):
+    """A server in whose log keys are looked for at its end."""
+
+    logs = 0
+    leaks: List[str] = []
+
+    def __exit__(self, *_: object) -> None:
+        super().__exit__()
+        Searched.logs += 1
+        Searched.leaks += [f"{self.log}: {it}" for it in keys_in(self.said())]
+
+
+# The keys of the stores, and those that logins have given, each as its runs of sixteen hex digits.
+known: Set[str] = set()
+
+
+def know(text: str) -> None:
+    for run in re.findall("[0-9a-f]{16,}", text):
+        known.update(run[at : at + 16] for at in range(len(run) - 15))
+
+
+def keys_in(text: str) -> List[str]:
+    """What of a key stands in a text: sixteen digits in a row, eight octets as they are, or a password."""
+    found = [it for it in (DORAS_KEY, PASSWORD) if it in text]
+    found += [it for it in know_people() if bytes.fromhex(it).decode("latin-1") in text]
+    for run in re.findall("[0-9A-Fa-f]{16,}", text):
+        found += [run for at in range(len(run) - 15) if run[at : at + 16].lower() in known]
+    return found
+
+
+def know_people() -> List[str]:
+    """Eight octets of each key of the people above."""
+    return [it[:16] for it in re.findall("0x([0-9a-f]{16,})", PEOPLE)]
 
 
 def freeradius(work: str, configuration: Configuration, before: Sequence[str] = (), seconds: float = 15) -> Server:
     folder = configuration.write(work)
     words = [*before, "freeradius", "-d", folder, "-f"]
-    return Server(words, f"{folder}/server.log", "Ready to process requests", seconds)
+    return Searched(words, f"{folder}/server.log", "Ready to process requests", seconds)
 
 
 def hostapd(work: str, method: str, before: Sequence[str] = ()) -> Server:
@@ -126,15 +192,22 @@ def station(
     outer: str = "",
     words: Sequence[str] = (),
 ) -> Station:
-    lines = ["ap_scan=0", "network={", "key_mgmt=IEEE8021X", "eapol_flags=0", f"eap={method}", f'identity="{user}"']
+    identity = f'"{user}"' if re.fullmatch(r"[a-z0-9@.]+", user) else user.encode("latin-1").hex()
+    lines = ["ap_scan=0", "network={", "key_mgmt=IEEE8021X", "eapol_flags=0", f"eap={method}", f"identity={identity}"]
     lines += [f'phase1="cipher={suite}"'] if method == "GPSK" else []
     lines += [f'anonymous_identity="{outer}"'] if outer else []
     lines += [f"password={key or KEYS[method]}", "}", ""]
     pathlib.Path(work, "station.conf").write_text("\n".join(lines))
-    ask = ["eapol_test", "-c", f"{work}/station.conf", "-a", "127.0.0.1", "-p", str(PORT), "-s", SECRET, "-t", "10", *words]
+    return log_in(f"{work}/station.conf", words)
+
+
+def log_in(conf: str, words: Sequence[str] = ()) -> Station:
+    """By a file of wpa_supplicant's."""
+    ask = ["eapol_test", "-c", conf, "-a", "127.0.0.1", "-p", str(PORT), "-s", SECRET, "-t", "10", *words]
     ran = subprocess.run(ask, stdout=subprocess.PIPE, stderr=subprocess.STDOUT, text=True, errors="replace", timeout=60)
     is_same = ran.returncode == 0 and ways.EQUAL_LINK_KEYS in ran.stdout
     requests = ran.stdout.count("Sending RADIUS message")
+    know("\n".join(octets.replace(" ", "") for _, octets in ways.THEIR_KEY.findall(ran.stdout)))
     return Station(is_same and has_same_keys(ran.stdout), requests, ran.stdout, is_same)
 
 
