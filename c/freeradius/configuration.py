@@ -40,6 +40,7 @@ MODULES = {
     "stock": f"$INCLUDE {HERE}/tuvaddri\n",
     "inner": BOTH.format('\tinner_identity = yes\n\tvirtual_server = "inner"\n'),
     "once": BOTH.format('\tvirtual_server = "inner"\n'),
+    "broken": BOTH.format('\tvirtual_server = "broken"\n'),
     # Keys in FreeRADIUS's own attribute; a name for each realm; wpa_supplicant's Session-Id; the first fault ends a login.
     "text": 'gpsk {\n\tserver_id = "srv-%{%{Realm}:-here}"\n\tsuites = 2\n\tsession_id = wpa\n\tmax_discards = 0\n}\n'
     'psk {\n\tserver_id = "srv-%{%{Realm}:-here}"\n}\n',
@@ -98,6 +99,9 @@ modules {{
 	}}
 	always ok {{
 		rcode = ok
+	}}
+	always fail {{
+		rcode = fail
 	}}
 	realm suffix {{
 		format = suffix
