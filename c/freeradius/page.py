@@ -82,10 +82,11 @@ class Followed:
         for name, text in (("bin/sudo", SUDO), ("bin/systemctl", SYSTEMCTL), ("c/freeradius/install", INSTALL)):
             write(folder / name, text)
         write(folder / "c/freeradius/build", BUILD.format(here=HERE, source=source))
-        for name in ("tuvaddri", "dictionary", "status", "make-keys"):
+        for name in ("tuvaddri", "eap", "dictionary", "status", "make-keys"):
             (folder / "c/freeradius" / name).symlink_to(HERE / name)
         script = BEFORE.format(folder=folder) + "".join(blocks("sh")) + BEHIND.format(folder=folder)
-        done = subprocess.run(["unshare", "-m", "sh", "-c", script], stdout=subprocess.PIPE, stderr=subprocess.STDOUT, text=True)
+        words = ["unshare", "-m", "sh", "-c", script]
+        done = subprocess.run(words, stdout=subprocess.PIPE, stderr=subprocess.STDOUT, text=True)
         self.status, self.said = done.returncode, done.stdout
         log = folder / "radius.log"
         self.log = log.read_text(encoding="latin-1") if log.exists() else ""

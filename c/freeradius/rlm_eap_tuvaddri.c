@@ -434,10 +434,10 @@ static size_t key_of(VALUE_PAIR const *vp, uint8_t room[TUV_KEY_MAX])
  * would be so by a chance of less than 2 to the -112. */
 static bool is_hex_text(VALUE_PAIR const *vp)
 {
-	size_t at = 0;
+	size_t digits = 0;
 
-	while (at < vp->vp_length && isxdigit(vp->vp_octets[at])) at++;
-	return at == vp->vp_length && at >= 32;
+	for (size_t at = 0; at < vp->vp_length; at++) digits += isxdigit(vp->vp_octets[at]) != 0;
+	return digits == vp->vp_length && digits >= 32;
 }
 
 /* Looks a name up by the virtual server's authorize section. */
