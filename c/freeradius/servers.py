@@ -75,7 +75,7 @@ def keys_of(work: str, form: str) -> str:
 class Server:
     """A program that listens, until the end of the block."""
 
-    def __init__(self, words: Sequence[str], log: str, ready: str, seconds: float = 15) -> None:
+    def __init__(self, words: Sequence[str], log: str, ready: str, seconds: float = 120) -> None:
         self.words, self.log, self.ready, self.seconds = words, pathlib.Path(log), ready, seconds
 
     def __enter__(self) -> Server:
@@ -154,7 +154,7 @@ def know_people() -> List[str]:
     return [it[:16] for it in re.findall("0x([0-9a-f]{16,})", PEOPLE)]
 
 
-def freeradius(work: str, configuration: Configuration, before: Sequence[str] = (), seconds: float = 15) -> Server:
+def freeradius(work: str, configuration: Configuration, before: Sequence[str] = (), seconds: float = 120) -> Server:
     folder = configuration.write(work)
     words = [*before, "freeradius", "-d", folder, "-f"]
     return Searched(words, f"{folder}/server.log", "Ready to process requests", seconds)
@@ -167,7 +167,7 @@ def hostapd(work: str, method: str, before: Sequence[str] = ()) -> Server:
     lines = ["driver=none", "interface=lo0", "eap_server=1", f"eap_user_file={work}/hostapd.users", "server_id=srv"]
     lines += [f"radius_server_clients={work}/hostapd.clients", f"radius_server_auth_port={PORT}"]
     pathlib.Path(work, "hostapd.conf").write_text("\n".join(lines) + "\n")
-    return Server([*before, "hostapd", f"{work}/hostapd.conf"], f"{work}/hostapd.log", "AP-ENABLED", 120)
+    return Server([*before, "hostapd", f"{work}/hostapd.conf"], f"{work}/hostapd.log", "AP-ENABLED")
 
 
 @dataclasses.dataclass
@@ -203,8 +203,8 @@ def station(
 
 def log_in(conf: str, words: Sequence[str] = ()) -> Station:
     """By a file of wpa_supplicant's."""
-    ask = ["eapol_test", "-c", conf, "-a", "127.0.0.1", "-p", str(PORT), "-s", SECRET, "-t", "10", *words]
-    ran = subprocess.run(ask, stdout=subprocess.PIPE, stderr=subprocess.STDOUT, text=True, errors="replace", timeout=60)
+    ask = ["eapol_test", "-c", conf, "-a", "127.0.0.1", "-p", str(PORT), "-s", SECRET, "-t", "30", *words]
+    ran = subprocess.run(ask, stdout=subprocess.PIPE, stderr=subprocess.STDOUT, text=True, errors="replace", timeout=120)
     is_same = ran.returncode == 0 and ways.EQUAL_LINK_KEYS in ran.stdout
     requests = ran.stdout.count("Sending RADIUS message")
     know("\n".join(octets.replace(" ", "") for _, octets in ways.THEIR_KEY.findall(ran.stdout)))
