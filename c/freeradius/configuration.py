@@ -156,7 +156,7 @@ HOME = """home_server home{port} {{
 	port = {port}
 	secret = {secret}
 	require_message_authenticator = yes
-	response_window = 2
+	response_window = {window}
 	zombie_period = 1
 	revive_interval = 60
 	status_check = none
@@ -209,6 +209,7 @@ class Configuration:
     secret: str = SECRET
     timer: int = 60
     sessions: int = 65536
+    window: int = 20  # seconds, after which a server behind this one counts as lost
     says: str = "no"  # whether FreeRADIUS logs logins too
     more: str = ""  # behind all
     name: str = "server"
@@ -221,7 +222,7 @@ class Configuration:
         told: Dict[str, object] = {**dataclasses.asdict(self), "work": work, "folder": folder, "mods_config": MODS_CONFIG}
         told.update(authorize=SITES[self.site], store=STORES[self.site])
         ports = HOME_PORTS if self.site == "pool" else HOME_PORTS[:1]
-        told["homes"] = "".join(HOME.format(port=it, secret=HOME_SECRET) for it in ports)
+        told["homes"] = "".join(HOME.format(port=it, secret=HOME_SECRET, window=self.window) for it in ports)
         told["pool"] = "\n\t".join(f"home_server = home{it}" for it in ports)
         told["sql"] = SQL.format(**told, file=SQL_FILE) if STORES[self.site] == "sql" else ""
         told["modules"] = MODULES.get(self.modules, self.modules)
