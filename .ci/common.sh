@@ -2,8 +2,9 @@
 # is followed. Read with `here` set to the top of the repository and `me` to the name of the script.
 
 crate=$here/crates/eap_login_main
-# A program is kept as eap_login-proved, whose proofs were checked on this machine, or as eap_login-unchecked. Beside it
-# stands its record, NAME.of: the kit's line, a sum of each source, and the program's own sum.
+# A program is kept as eap_login-proved, whose proofs were checked on this machine, as eap_login-unchecked, or, for ./test,
+# as eap_login-sanitized. Beside it stands its record, NAME.of: the kit's line, a sum of each source, and the program's own
+# sum.
 kept=$here/out
 work='' working='' begun=''
 
@@ -62,12 +63,20 @@ sums_of_sources() {
     )
 }
 
-# Finds what is kept of these sources, a proved program before an unchecked one, and sets `kind` and `program`.
+# The record of a program of the kind $1 at $2, but for its first line, the kit's: a sum of each source, of what built it,
+# and its own.
+record_of() {
+    printf '%s\n' "$sources"
+    [ "$1" = proved ] || cksum <"$here/.ci/unchecked.sh"
+    cksum <"$2"
+}
+
+# Finds what is kept of these sources, of these kinds, or a proved program before an unchecked one, and sets `kind` and
+# `program`.
 find_program() {
-    for kind in proved unchecked; do
+    for kind in ${*:-proved unchecked}; do
         program=$kept/eap_login-$kind
-        if [ -x "$program" ] && [ -f "$program.of" ] &&
-            [ "$(sed 1d "$program.of")" = "$(printf '%s\n' "$sources"; cksum <"$program")" ]; then
+        if [ -x "$program" ] && [ -f "$program.of" ] && [ "$(sed 1d "$program.of")" = "$(record_of "$kind" "$program")" ]; then
             return 0
         fi
     done
@@ -75,14 +84,30 @@ find_program() {
     return 1
 }
 
+# Finds the program that was run last, where nothing that decides it has changed since: no file or folder has a later time
+# of change. Else it goes by the sums, and notes when it looked (a second before, since a file's time is coarser).
+find_soon() {
+    if [ -f "$kept/seen" ] && read -r kind <"$kept/seen"; then
+        program=$kept/eap_login-$kind
+        newer=$(find "$program" "$program.of" "$here/.ci/unchecked.sh" "$here/crates.txt" "$here/crates" \
+            \( -name out -o -name must-fail \) -prune -o -cnewer "$kept/seen" -print -quit 2>&1) || newer=unseen
+        [ -n "$newer" ] || return 0
+    fi
+    looked=$(date -d '1 second ago' +@%s)
+    sources=$(sums_of_sources)
+    find_program || return 1
+    { echo "$kind" >"$kept/seen.new.$$" && touch -d "$looked" "$kept/seen.new.$$" && mv "$kept/seen.new.$$" "$kept/seen"; } \
+        2>/dev/null || true
+}
+
 can_keep() { mkdir -p "$kept" && (: >>"$kept/lock"); }
 
 # Keeps the program $2 as one of the kind $1 that was built of the sources with the sums $3. The record comes last and
 # has the program's sum, so that half of both counts for nothing.
 keep() {
-    program=$kept/eap_login-$1
-    mkdir -p "$kept" && cp "$2" "$program.new.$$" &&
-        { rt version && printf '%s\n' "$3" && cksum <"$2"; } >"$program.of.new.$$" &&
+    program=$kept/eap_login-$1 sources=$3
+    mkdir -p "$kept" && rm -f "$kept/seen" && cp "$2" "$program.new.$$" &&
+        { rt version && record_of "$1" "$2"; } >"$program.of.new.$$" &&
         mv "$program.new.$$" "$program" && mv "$program.of.new.$$" "$program.of" && kind=$1
 }
 

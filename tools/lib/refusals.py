@@ -4,6 +4,7 @@ from __future__ import annotations
 
 import difflib
 import re
+from pathlib import Path
 from typing import Iterator, Optional
 
 from lib import frames, words
@@ -104,6 +105,27 @@ def of_bulk(given: list[str]) -> list[str]:
     return found
 
 
+def of_words(given: list[str]) -> list[str]:
+    """What keeps words from being the program's; without words, its forms."""
+    form, rest = (given[0], given[1:]) if given else ("", [])
+    forms = {it.words.split(" ")[0]: it for it in words.FORMS}
+    found = []
+    if form == "":
+        return [f"eap_login {it.words}{f' < {it.input}' if it.input else ''}: {it.does}" for it in words.FORMS]
+    if form == "pcap":
+        found = of_users([it for it in rest if not Path(it).is_file()])
+    elif form == "bulk":
+        found = of_bulk(rest)
+    elif form in forms and rest and not (form == "replay" and rest == ["names"]):
+        found = ["replay takes no word but names" if form == "replay" else f"{form} takes no words"]
+    elif form not in forms and not Path(form).is_file():
+        near = difflib.get_close_matches(form.lower(), forms, 1)
+        found = [f"`{shown(form, 40)}` is none of {', '.join(forms)}" + (f"; is `{near[0]}` meant?" if near else "")]
+    files = [it for it in given if Path(it).is_file()]
+    return found + [f"{shown(it, 60)} is a file, and input is redirected: ./eap_login {form if form in forms else 'WORDS'} < {it}"
+                    for it in files]
+
+
 # ---- A line.
 
 
@@ -149,7 +171,7 @@ class Refusal:
     """A text that is refused: its lines, the number of the one that is, and the fault."""
 
     def __init__(self, form: str, octets: bytes, number: int, fault: str) -> None:
-        self.form, self.text, self.number, self.fault = form, TEXTS[form], number, fault
+        self.form, self.text, self.number, self.fault, self.octets = form, TEXTS[form], number, fault, octets
         self.lines = [it.removesuffix("\r") for it in octets.decode("latin-1").split("\n")]
         if self.lines[-1] == "":
             del self.lines[-1]
@@ -170,8 +192,24 @@ class Refusal:
             if number > 1 and line and not line.startswith("#"):
                 yield number, line.split(" ")
 
+    def other(self) -> str:
+        """What the whole input is, where it is of another form."""
+        if frames.is_file(self.octets):
+            return "it is a file of captured frames: `tools/why FILE NAME KIND HEX ..` reads it, and `eap_login pcap` most of them"
+        if self.octets[:2] == b"\x1f\x8b":
+            return f"it is packed by gzip: `gzip -dc FILE | ./eap_login {self.form}`"
+        first = self.lines[0].strip() if self.lines else ""
+        for form, text in TEXTS.items():
+            if first in text.headers and first not in self.text.headers:
+                reader = "peer` or `eap_login server" if form in ("peer", "server") else form
+                return f"it is the header of {named('end' if form == 'peer' else form)}: `eap_login {reader}` reads it"
+        return ""
+
     def specific(self) -> str:
         """What is wrong here, in a sentence."""
+        other = self.other()
+        if other:
+            return other
         ways = {"NoHeader": self.header, "BadWord": self.word, "BadCount": self.count, "Repeated": self.repeated,
                 "Missing": self.missing, "Order": self.order, "TooMuch": self.much}
         if self.fault in ways:
@@ -199,10 +237,6 @@ class Refusal:
             return f"a space or another sign stands beside it: line 1 is just {wanted}"
         if "\0" in first:
             return "it has octets 00, as text in UTF-16 has: `iconv -f UTF-16 -t ASCII FILE` makes plain text of it"
-        for form, text in TEXTS.items():
-            if first.strip() in text.headers:
-                reader = "peer` or `eap_login server" if form in ("peer", "server") else form
-                return f"it is the header of {named('end' if form == 'peer' else form)}: `eap_login {reader}` reads it"
         if first == "" or first.startswith("#"):
             return f"nothing stands before the header: line 1 is {wanted}"
         return f"line 1 is {wanted}"

@@ -46,28 +46,6 @@ def of_findings(lines: list[str]) -> list[str]:
     return told
 
 
-def without_tag(form: str, lines: list[str]) -> str:
-    """Why no tag was judged, in a clause; nothing where one was, or the output isn't whole."""
-    if form == "radius":
-        reads = [it for it in lines if it.startswith("read ")]
-        if any(it.endswith((" good", " tag-bad")) for it in reads):
-            return ""
-        causes = sorted({it.split(" ")[-1] for it in reads})
-        return f"each of {len(reads)} packets is {', '.join(causes)}" if reads else "there is no line `read`"
-    count, packets, is_pcap = counts_of(lines)
-    if packets < 0 or judged(count):
-        return ""
-    if packets == 0:
-        return WITHOUT_EAP if is_pcap else "there is no packet"
-    if count["no-key"]:
-        return f"for {count['no-key']} of them no key is given, by the name and the method in the packet"
-    if count["no-context"]:
-        return f"for {count['no-context']} the message that they rest on isn't there"
-    if count["malformed"]:
-        return f"malformed {count['malformed']}, and the others have no tag"
-    return "none of them has a tag"
-
-
 def of_radius(octets: bytes, lines: list[str]) -> list[str]:
     """What `radius` says of the packets that it read, line by line."""
     asked = [number for number, line in lines_of(octets) if line[0] in ("request", "reply", "read")]
