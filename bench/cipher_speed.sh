@@ -2,6 +2,7 @@
 # Counts the instructions of the ciphers and MACs, and compares them with OpenSSL's. README.md beside it says
 # what is measured, and ciphers.txt what each row is.
 set -eu
+. "$(dirname "$(readlink -f "$0")")/../.ci/help.sh"
 
 for it in rt valgrind openssl cc python3; do
     command -v $it >/dev/null || { echo "cipher_speed: $it isn't there" >&2; exit 127; }

@@ -1,6 +1,7 @@
 #!/bin/sh
 # Lets each allocation of a run fail, one run at a time. README.md beside it says what is looked at.
 set -eu
+. "$(dirname "$(readlink -f "$0")")/../.ci/help.sh"
 
 here=$(cd "$(dirname "$0")/.." && pwd)
 at_once=$(getconf _NPROCESSORS_ONLN)

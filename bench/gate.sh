@@ -4,6 +4,7 @@
 #   bench/gate.sh                        measures
 #   bench/gate.sh compare BEFORE AFTER   puts what two runs wrote side by side, crate by crate
 set -eu
+. "$(dirname "$(readlink -f "$0")")/../.ci/help.sh"
 
 case $#:${1-} in
 0:) ;;

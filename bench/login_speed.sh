@@ -2,6 +2,7 @@
 # Counts the instructions of one login, and measures replays of a login and of 1,000 and 10,000 events.
 # README.md beside it says what is measured, and logins.txt what each row is.
 set -eu
+. "$(dirname "$(readlink -f "$0")")/../.ci/help.sh"
 
 for it in rt valgrind awk; do
     command -v $it >/dev/null || { echo "login_speed: $it isn't there" >&2; exit 127; }

@@ -50,6 +50,8 @@ class End:
 
 
 def main():
+    if sys.argv[1:] in (["--help"], ["-h"]):
+        sys.exit(print(__doc__.strip()))
     name = sys.argv[1] if len(sys.argv) > 1 else "gpsk-login"
     server, peer = End("server", name), End("peer", name)
     here, there = peer, server
