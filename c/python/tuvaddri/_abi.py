@@ -1,0 +1,142 @@
+"""The structs and calls of tuvaddri.h, for ctypes, and the shared object."""
+
+from __future__ import annotations
+
+import ctypes
+import os
+from ctypes import POINTER, Structure, c_bool, c_char_p, c_size_t, c_uint8, c_uint32, c_void_p
+from pathlib import Path
+from typing import Any, List
+
+VERSION = 2
+PACKET_MAX, NAME_MAX, KEY_MAX, NONCE_LEN, RAND_MAX, SESSION_ID_MAX = 1500, 253, 64, 32, 32, 33
+NAME = f"libtuvaddri.so.{VERSION}"
+
+
+class End(Structure):
+    _fields_ = [("at", c_void_p)]
+
+
+class Octets(Structure):
+    _fields_ = [("at", c_void_p), ("len", c_size_t)]
+
+
+class Settings(Structure):
+    _fields_ = [
+        ("size", c_size_t),
+        ("name", Octets),
+        ("other", Octets),
+        ("psk_key", Octets),
+        ("gpsk_key", Octets),
+        ("methods", c_uint8 * 2),
+        ("suites", c_uint8 * 2),
+        ("expanded", c_uint8),
+        ("barred", c_uint8),
+    ]
+
+
+class Turn(Structure):
+    _fields_ = [("sends", c_bool), ("discards", c_bool), ("misplaced", c_bool), ("cause", c_uint8), ("state", c_uint8)]
+
+
+class MethodTurn(Structure):
+    _fields_ = [
+        ("sends", c_bool),
+        ("discards", c_bool),
+        ("misplaced", c_bool),
+        ("cause", c_uint8),
+        ("state", c_uint8),
+        ("decision", c_uint8),
+    ]
+
+
+class Report(Structure):
+    _fields_ = [
+        ("size", c_size_t),
+        ("method", c_uint8),
+        ("suite", c_uint8),
+        ("peer_length", c_uint8),
+        ("server_length", c_uint8),
+        ("peer", c_uint8 * NAME_MAX),
+        ("server", c_uint8 * NAME_MAX),
+        ("msk", c_uint8 * 64),
+        ("emsk", c_uint8 * 64),
+        ("rand_length", c_uint8),
+        ("peer_rand", c_uint8 * RAND_MAX),
+        ("server_rand", c_uint8 * RAND_MAX),
+    ]
+
+
+class Failure(Structure):
+    _fields_ = [("reason", c_uint8), ("code", c_uint8)]
+
+
+# The calls by what they answer, with what they take behind the end.
+_END, _TOLD, _ROOM = POINTER(End), POINTER(Settings), POINTER(c_uint8)
+_PACKET = [_ROOM, c_size_t]
+_CALLS: List[Any] = [
+    (Turn, [_END], "server_start server_timeout peer_idle peer_alt_accept peer_alt_reject pass_start pass_restart"),
+    (Turn, [_END], "pass_timeout pass_aaa_timeout pass_aaa_noreq"),
+    (Turn, [_END, *_PACKET], "end_deliver pass_from_peer pass_from_backend"),
+    (Turn, [_END, _ROOM], "end_restart"),
+    (MethodTurn, [_END, *_PACKET], "peer_method_handle"),
+    (MethodTurn, [_END, *_PACKET, c_uint8], "server_method_handle"),
+    (c_uint8, [_END, _TOLD, _ROOM], "peer_begin backend_begin peer_method_begin"),
+    (c_uint8, [_END, _TOLD, _ROOM, c_uint8, c_uint8], "server_begin"),
+    (c_uint8, [_END, _TOLD, _ROOM, c_uint8], "server_method_begin"),
+    (c_uint8, [_END, c_uint8, c_uint8], "pass_begin"),
+    (c_uint8, [_END, _TOLD], "server_user server_method_user"),
+    (c_size_t, [_END, *_PACKET], "end_packet end_again"),
+    (c_size_t, [_END, _ROOM], "end_session_id end_session_id_wpa"),
+    (c_size_t, [*_PACKET, _ROOM], "response_name"),
+    (c_size_t, [], "end_size"),
+    (c_bool, [_END], "end_new"),
+    (c_bool, [_END, POINTER(Report)], "end_report"),
+    (c_bool, [], "processor_serves"),
+    (Failure, [_END], "end_failure"),
+    (None, [_END], "end_close"),
+    (None, [], "clear_stack"),
+    (c_char_p, [c_uint8], "cause_word state_word refusal_word failure_word"),
+    (c_uint32, [], "version"),
+]
+
+
+def _path() -> str:
+    """The shared object that TUVADDRI_LIBRARY names; else the one that was installed or built together with this package;
+    else the loader finds it."""
+    named = os.environ.get("TUVADDRI_LIBRARY")
+    if named:
+        return named
+    above = Path(__file__).resolve().parents
+    near = [above[3] / NAME, above[2] / "out" / NAME] if len(above) > 3 else []
+    return next((str(it) for it in near if it.is_file()), NAME)
+
+
+def _load() -> Any:
+    path = _path()
+    try:
+        library = ctypes.CDLL(path)
+        version = library.tuv_version
+    except (OSError, AttributeError) as fault:
+        raise ImportError(f"the library for C can't be loaded: {fault}; c/library builds it, tools/install installs it, and "
+                          "TUVADDRI_LIBRARY names it where it is elsewhere") from None
+    version.restype = c_uint32
+    if version() != VERSION:
+        raise ImportError(f"{path} has version {version()} of the interface, and this package is for version {VERSION}")
+    for answer, words, names in _CALLS:
+        for name in names.split():
+            call = getattr(library, f"tuv_{name}")
+            call.restype, call.argtypes = answer, words
+    return library
+
+
+library = _load()
+ident = ctypes.string_at(ctypes.addressof(ctypes.c_char.in_dll(library, "tuv_ident"))).decode()
+_libc = ctypes.CDLL(None)
+_libc.free.argtypes, _libc.free.restype = [c_void_p], None
+
+
+def free(at: int) -> None:
+    """Gives a block of tuv_end_new back, cleared."""
+    ctypes.memset(at, 0, library.tuv_end_size())
+    _libc.free(at)
