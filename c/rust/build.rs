@@ -1,0 +1,25 @@
+//! Where the library for C is: the folder that TUVADDRI_FOLDER names, else `c/out` of these sources, else where pkg-config
+//! finds it.
+use std::path::{Path, PathBuf};
+use std::process::Command;
+
+fn main() {
+    println!("cargo:rerun-if-env-changed=TUVADDRI_FOLDER");
+    let built = Path::new(env!("CARGO_MANIFEST_DIR")).join("../out");
+    let named = std::env::var_os("TUVADDRI_FOLDER").map(PathBuf::from);
+    match named.or_else(|| Some(built).filter(|it| it.join("libtuvaddri.a").exists())).or_else(installed) {
+        Some(folder) => {
+            let form = if folder.join("libtuvaddri.a").exists() { "static=" } else { "" };
+            println!("cargo:rerun-if-changed={}", folder.join("libtuvaddri.a").display());
+            println!("cargo:rustc-link-search=native={}", folder.display());
+            println!("cargo:rustc-link-lib={form}tuvaddri");
+        }
+        None => panic!("there is no libtuvaddri.a: c/library builds it, or TUVADDRI_FOLDER names its folder"),
+    }
+}
+
+fn installed() -> Option<PathBuf> {
+    let said = Command::new("pkg-config").args(["--variable=libdir", "tuvaddri"]).output().ok()?;
+    let folder = String::from_utf8(said.stdout).ok()?;
+    Some(folder.trim()).filter(|it| said.status.success() && !it.is_empty()).map(PathBuf::from)
+}
