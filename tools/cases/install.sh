@@ -83,19 +83,59 @@ else
     echo "tools/check: zsh's completion is passed over: zsh isn't installed" >&2
 fi
 
-# As a Debian package, unpacked elsewhere: it runs there, and asks for what the program is linked with and no more.
+# The tools in Python by their command, without the repository: each word is answered by --help with status 0, the bad ones
+# aren't; they call the program beside them, and each other by the names that they have there.
+command=$there/bin/tuvaddri
+words='why page chart capture-of by-station'
+for it in '' $words; do
+    ended=0
+    (cd "$work" && env PATH="$PATH" "$command" $it --help) >"$work/said" 2>&1 || ended=$?
+    holds "tuvaddri $it --help ends with $ended" [ "$ended" = 0 ]
+    grep -q "tuvaddri ${it:-WORD}" "$work/said" || fail "tuvaddri $it --help doesn't say how it is called"
+done
+for it in '' nothing lib ../tools/why --other; do
+    ended=0
+    "$command" $it >"$work/out" 2>"$work/said" || ended=$?
+    holds "tuvaddri $it ends with $ended" [ "$ended $(wc -l <"$work/said") $(wc -c <"$work/out")" = '1 1 0' ]
+done
+holds "what is installed names a tool of the repository" [ -z "$(grep -rlE '(^|[^/a-z])tools/(why|page|chart|capture-of|by-station)|\./eap_login' "$there/share/tuvaddri/tools")" ]
+(cd "$work" && env -u EAP_LOGIN "$command" why "$OLDPWD/examples/login.pcap") >"$work/out" 2>"$work/errors" || fail "tuvaddri why fails: $(head -n 1 "$work/errors")"
+tools/why examples/login.pcap 2>/dev/null | sed "s#tools/why#tuvaddri why#g; s#\\./eap_login#$name#g" >"$work/wanted"
+cp "$work/out" "$work/said"
+is_file "$work/wanted" "tuvaddri why"
+"$command" --version >"$work/said"
+has_line "tuvaddri: $(env -u EAP_LOGIN tools/why --version | sed 's/^[^:]*: //')" "tuvaddri --version"
+if command -v groff >/dev/null; then
+    groff -man -ww -Tutf8 "$there/share/man/man1/tuvaddri.1" >"$work/rendered" 2>"$work/said" || true
+    is_file /dev/null "groff -ww of the man page of tuvaddri"
+fi
+for it in $words; do
+    count=$((count + 1))
+    sed 's/\\-/-/g' "$there/share/man/man1/tuvaddri.1" | grep -qxF "\\fB$it\\fR" && grep -qF "$it" "$there/share/bash-completion/completions/tuvaddri" &&
+        grep -qF "'$it:" "$there/share/zsh/site-functions/_tuvaddri" || fail "the man page or a completion of tuvaddri lacks $it"
+done
+
+# As Debian packages, unpacked elsewhere: the program runs there, and asks for what it is linked with and no more; so do
+# the tools, which are in Python.
 if command -v dpkg-deb >/dev/null; then
-    DPKG_DEB_COMPRESSOR_LEVEL=1 tools/install --unchecked --deb "$work/login.deb" >"$work/said" 2>"$work/errors" ||
-        fail "install --deb ends with a failure"
-    has_line "Package: $(printf %s "$name" | tr _ -)" "install --deb"
-    dpkg-deb -x "$work/login.deb" "$work/unpacked"
+    mkdir "$work/debs"
+    DPKG_DEB_COMPRESSOR_LEVEL=1 tools/install --unchecked --deb "$work/debs" >"$work/said" 2>"$work/errors" ||
+        fail "install --deb ends with a failure: $(head -n 1 "$work/errors")"
+    package=tuvaddri
+    [ "$name" = eap_login ] || package=tuvaddri-unchecked
+    for made in "$work/debs/$package"_0.*_amd64.deb; do
+        has_line "$made" "install --deb"
+        dpkg-deb -x "$made" "$work/unpacked"
+        dpkg-deb -f "$made" Depends | tr , '\n' | sed 's/ *([^)]*)//; s/^ *//' | sort -u >"$work/depends"
+    done
     scenario=$work/unpacked/usr/share/doc/$name/examples/gpsk-login.scenario
     without_kit "$work/unpacked/usr/bin/$name" replay <"$scenario" >"$work/said" || true
     is_file examples/gpsk-login.trace "the program of the package"
-    ldd "$work/unpacked/usr/bin/$name" | sed -n 's/^\t\(lib[a-z_]*\)\..*/\1/p' |
-        sed 's/^libm$/libc/; s/^libgcc_s$/libgcc-s1/; s/^libc$/libc6/' | sort -u >"$work/wanted"
-    dpkg-deb -f "$work/login.deb" Depends | tr , '\n' | sed 's/ *([^)]*)//; s/^ *//' | sort -u >"$work/said"
+    { echo python3; ldd "$work/unpacked/usr/bin/$name" | sed -n 's/^\t\(lib[a-z_]*\)\..*/\1/p' |
+        sed 's/^libm$/libc/; s/^libgcc_s$/libgcc-s1/; s/^libc$/libc6/'; } | sort -u >"$work/wanted"
+    cp "$work/depends" "$work/said"
     is_file "$work/wanted" "the package's Depends"
+    "$work/unpacked/usr/bin/tuvaddri" --version >"$work/said" || fail "the command of the package fails"
 else
     echo "tools/check: install --deb is passed over: dpkg-deb isn't installed" >&2
 fi
@@ -109,18 +149,22 @@ refuses_words() {
     holds "install $* ends with $ended" [ "$ended $(cat "$work/out")" = '1 ' ]
     has_line "tools/install: $told" "install $*"
     has_line 'usage: tools/install [--unchecked] --prefix=DIR' "install $*"
-    has_line 'usage: tools/install [--unchecked] --deb=FILE' "install $*"
+    has_line 'usage: tools/install [--unchecked] [--modules=DIR] --deb=DIR' "install $*"
 }
 refuses_words "one of --prefix and --deb is wanted"
 refuses_words "the prefix here isn't a whole path: it begins with no /" --prefix=here
 refuses_words "--prefix wants a name behind it" --unchecked --prefix
 refuses_words "--other is no word of it" --other
-refuses "there is no folder $work/none" tools/install --unchecked --deb="$work/none/login.deb"
+refuses_words "--modules is for --deb" --modules=here --prefix=/here
+refuses "there is no folder $work/none" tools/install --unchecked --deb="$work/none"
+refuses "$work has no rlm_eap_gpsk.so; c/freeradius/build builds it" tools/install --unchecked --modules="$work" --deb="$work"
 
 # The stand-in's program is proved: it is installed by its own name, below DESTDIR, with the library, which another
 # program finds by pkg-config. When a source has changed it isn't proved, and is refused, with nothing put in place.
 mkdir -p "$copy/share" "$copy/docs" "$copy/c/examples" "$copy/c/hostapd" "$copy/c/out" "$copy/examples"
-cp tools/install "$copy/tools"
+cp tools/install tools/why tools/page tools/chart tools/capture-of tools/by-station "$copy/tools"
+cp -r tools/lib "$copy/tools"
+cp -r c/python c/rust "$copy/c"
 cp share/* "$copy/share"
 cp docs/*.md "$copy/docs"
 cp c/tuvaddri.h c/README.md c/NOTICE c/spdx.json c/numbers.txt c/*.c "$copy/c"
@@ -131,9 +175,11 @@ DESTDIR=$work/dest in_copy tools/install --prefix /opt/eap
 holds "install of a proved program" [ "$ended $(head -n 1 "$work/out")" = "0 $work/dest/opt/eap/bin/eap_login" ]
 says "tools/install: the library for C is left out: c/library proves and builds it"
 holds "install leaves the library out" [ ! -e "$work/dest/opt/eap/include" ]
-echo archive >"$copy/c/out/libtuvaddri.a"
 number=$(sed -n 's/^#define TUV_VERSION //p' c/tuvaddri.h)
-echo object >"$copy/c/out/libtuvaddri.so.$number"
+echo 'unsigned tuv_version(void) { return 2; }' >"$work/stub.c"
+gcc -c -fPIC -o "$work/stub.o" "$work/stub.c"
+ar rc "$copy/c/out/libtuvaddri.a" "$work/stub.o"
+gcc -shared -Wl,-soname,"libtuvaddri.so.$number" -o "$copy/c/out/libtuvaddri.so.$number" "$work/stub.o"
 in_copy tools/install --prefix "$work/with"
 holds "install of the library" cmp -s c/tuvaddri.h "$work/with/include/tuvaddri.h"
 holds "install of its archive" cmp -s "$copy/c/out/libtuvaddri.a" "$work/with/lib/libtuvaddri.a"
@@ -147,6 +193,36 @@ if command -v pkg-config >/dev/null; then
 else
     echo "tools/check: pkg-config is passed over: it isn't installed" >&2
 fi
+# CMake's find_package has both forms, which a program is linked with, of this version alone.
+if command -v cmake >/dev/null; then
+    mkdir "$work/cmake"
+    cat >"$work/cmake/program.c" <<'TEXT'
+#include <tuvaddri.h>
+int main(void) { return tuv_version() == TUV_VERSION ? 0 : 1; }
+TEXT
+    cat >"$work/cmake/CMakeLists.txt" <<TEXT
+cmake_minimum_required(VERSION 3.10)
+project(program C)
+find_package(tuvaddri 3 QUIET)
+if(tuvaddri_FOUND)
+  message(FATAL_ERROR "version 3 is found")
+endif()
+find_package(tuvaddri $number REQUIRED)
+foreach(form tuvaddri static)
+  add_executable(by-\${form} program.c)
+  target_link_libraries(by-\${form} tuvaddri::\${form})
+endforeach()
+TEXT
+    holds "CMake finds the library" cmake -S "$work/cmake" -B "$work/cmake/out" -DCMAKE_PREFIX_PATH="$work/with" --log-level=ERROR
+    holds "CMake links both forms" cmake --build "$work/cmake/out"
+    holds "what CMake has linked with the shared object" "$work/cmake/out/by-tuvaddri"
+    holds "what CMake has linked with the archive" "$work/cmake/out/by-static"
+else
+    echo "tools/check: CMake is passed over: it isn't installed" >&2
+fi
+for it in lib/python3/dist-packages/tuvaddri/__init__.py share/tuvaddri/rust/src/lib.rs; do
+    holds "install of $it" [ -s "$work/with/$it" ]
+done
 echo >>"$copy/crates/octet_lists/src/lib.rt"
 in_copy tools/install --prefix "$work/not-proved"
 holds "install takes a program that isn't proved" [ "$ended $(test -e "$work/not-proved" && echo there)" = '2 ' ]

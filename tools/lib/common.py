@@ -141,6 +141,8 @@ PROOFS = {"proved": "its proofs were checked on this machine", "unchecked": "its
 
 def version() -> str:
     """The commit, the kit, and whether the proofs of the program that is kept were checked on this machine."""
+    if (ROOT / "version").exists():  # of what was installed
+        return (ROOT / "version").read_text().strip()
     commit = said_by("git", "log", "-1", "--format=commit %h of %cs") or "no commit"
     if os.environ.get("EAP_LOGIN"):
         return f"Tuvaddri, {commit}; the program is the one that EAP_LOGIN names"
