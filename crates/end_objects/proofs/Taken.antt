@@ -1,6 +1,6 @@
 -- What is known of settings that aren't refused.
-use Rattle.std.proofs.Common.{◌≡◌, ℕ, ◌<◌, ◌≤◌, List, [], ◌∷◌, ◌++◌, length, map, Bool, true, false, None, IsTrue, refl, ◌∙◌, arith, eq-eqb}
-use Rattle.std.specs.Prelude.{◌&&◌, ◌||◌, not, ◌==◌, if◌then◌else◌, slice_index, slice_index_or, is_some, All}
+use Rattle.std.proofs.Common.{◌≡◌, ℕ, ◌<◌, ◌≤◌, List, [], ◌∷◌, ◌++◌, length, map, Bool, true, false, None, IsTrue, slice_index_or, refl, ◌∙◌, arith, eq-eqb}
+use Rattle.std.specs.Prelude.{◌&&◌, ◌||◌, not, ◌==◌, if◌then◌else◌, slice_index, is_some, All}
 use Rattle.std.specs.List.{list_all}
 use Rattle.std.proofs.lemmas.Bool.{and_parts, or_left, or_parts}
 use Rattle.std.proofs.lemmas.List.Elements.{All-nil}
@@ -178,10 +178,10 @@ keyed_have setup (octet ∷ rest) (other ∷ more) = refl
 pub peer_has_keys : (told : SettingsValue) (nonce : List ℕ) → peer_refusal told ≡ None → HasKeys (peer_setup_of told nonce)
 unfolding peer_setup_of keyed_kinds
 peer_has_keys told nonce none =
-    let setup = peer_setup_of told nonce in let has = λ kind. is_some (key_of setup kind) in
+    let has : ℕ → Bool = λ kind. is_some (key_of (peer_setup_of told nonce) kind) in
     let keyed = are_keyed (kinds_of told) told (peer_passes told none).keys in
     list_all-from_AllPass has (kinds_of told) (λ k d below.
-    each_one has (keyed_kinds told) (slice_index_or (kinds_of told) k d) (keyed_have setup told.psk_key told.gpsk_key)
+    each_one has (keyed_kinds told) (slice_index_or (kinds_of told) k d) (keyed_have (peer_setup_of told nonce) told.psk_key told.gpsk_key)
     (AllPass-from_list_all (is_among (keyed_kinds told)) (kinds_of told) keyed k d below))
 
 -- ---- the key for the first method of a peer

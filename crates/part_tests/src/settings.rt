@@ -1,7 +1,7 @@
 //! Lists of octets, and copies of settings.
 
-use octet_lists::Octets;
 use login_setup::{Accepts, Later, Mode, PeerSetup, ServerSetup, Setup, Users};
+use octet_lists::Octets;
 
 /// Whether a list of two octets, which has room for four, answers each call so and has the octets that fit.
 fn takes_what_fits() -> bool {
