@@ -56,13 +56,14 @@ impl EndStep {
     pub fn with(self, packet: Packet, tags: Tags) -> EndTold
         ensures { result ≡ told_with self packet tags }
     {
+        let step = self.step.with(packet, tags);
         EndTold {
-            path: self.step.path,
-            cause: self.step.cause,
+            path: step.path,
+            cause: step.cause,
             skipped: self.skipped,
-            sent: if self.step.sends { Some(packet) } else { None },
+            sent: step.sent,
             named: self.named,
-            tags,
+            tags: step.tags,
         }
     }
 
