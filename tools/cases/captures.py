@@ -17,8 +17,8 @@ KEY = "000102030405060708090a0b0c0d0e0f101112131415161718191a1b1c1d1e1f"
 AUTHENTICATOR, STATIONS = "020000000001", ("02000000000a", "02000000000b", "02000000000c")
 GROUP = "0180c2000003"
 # Between the frames of both logins: one with a VLAN tag, one of ARP, a Request of the authenticator to the group, and an
-# EAPOL-Start of a third station to the group.
-OTHERS = (STATIONS[2] + "8100000a888e0100000501", STATIONS[2] + "0806", AUTHENTICATOR + "888e010000050100000501")
+# EAPOL-Start of a third station to the group; the first is that too.
+OTHERS = (STATIONS[2] + "8100000a888e01010000", STATIONS[2] + "0806", AUTHENTICATOR + "888e010000050100000501")
 START = STATIONS[2] + "888e01010000"
 FILE = bytes.fromhex("a1b2c3d40002000400000000000000000000ffff00000001")
 
@@ -192,6 +192,7 @@ def interleaved(one: bytes, other: bytes) -> tuple[bytes, dict[str, bytes]]:
             alone[number] += record_of(second, frame)
         for it in OTHERS:
             both += record_of(second, bytes.fromhex(GROUP + it))
+        alone[2] += record_of(second, bytes.fromhex(GROUP + START))
     names = ["_".join(bytes.fromhex(it).hex("-") for it in (station, AUTHENTICATOR)) + ".pcap" for station in STATIONS]
     return both, dict(zip(names, alone))
 
@@ -205,7 +206,7 @@ def case_by_station(run: Run) -> Iterator[Optional[str]]:
         both, wanted = interleaved(*(Path(f"{folder}/{it}").read_bytes() for it in ("gpsk-login", "gpsk-suite2")))
         Path(f"{folder}/both").write_bytes(both)
         status, out, _ = run(["by-station", f"{folder}/both", f"{folder}/parted"])
-        left = ("with a VLAN tag", "without EAPOL", "to a group address, meant for no pair alone")
+        left = ("without EAP", "to a group address, meant for no pair alone")
         yield holds(status == 0 and all(f"left out: frames {it}: 7" in out for it in left), f"it leaves out {out}")
         found = {it.name: it.read_bytes() for it in Path(f"{folder}/parted").iterdir()}
         yield holds(found == wanted, f"it parts into {sorted(found)}")

@@ -8,6 +8,7 @@ from html.parser import HTMLParser
 from pathlib import Path
 from typing import Iterator, Optional
 
+from cases.lib import wire
 from cases.lib.small import Run
 from lib.common import answer
 
@@ -171,7 +172,7 @@ def case_verdicts(run: Run) -> Iterator[Optional[str]]:
     """Why it failed stands at the top."""
     for name, said in (
         ("two-logins.scenario", "Both ends succeeded, and agree."),
-        ("wrong-key.scenario", "`peer-psk 47` and `user alice 47` have different keys."),
+        ("wrong-key.scenario", "peer-psk 47 and user alice 47 have different keys."),
         ("failing/wrong-key.pcap", "packet 5, GPSK-2 of alice: its MAC is wrong under the key given for alice"),
         ("failing/barred.pcap", "the server knows alice, and bars it."),
         ("failing/radius.pcap", "the server knows alice, and bars it."),
@@ -183,6 +184,16 @@ def case_verdicts(run: Run) -> Iterator[Optional[str]]:
         page = page_of(run, f"examples/{name}", *key)
         yield f"{name}: {page.wrong[0]}" if page.wrong else None
         yield None if any(said in it for it in page.verdicts) else f"{name} says {page.verdicts}"
+
+
+def case_times(run: Run) -> Iterator[Optional[str]]:
+    """A row of a file has its time from the first on, and opens to when it was captured; a scenario has none. What is to be typed
+    is an element of its own."""
+    _, out, _ = run(["page", "-", "alice", "51", wire.KEY.hex()], wire.pcap(wire.frames_of([*wire.Login().front, 2.5, wire.Login().gpsk2])))
+    yield None if re.findall(r"dim\">([0-9.]+ s)<", out) == ["0.000 s", "0.010 s", "0.020 s", "2.530 s"] else "other times"
+    yield None if "Captured 1970-01-01 00:01:40.010000 (UTC)." in out else "no date"
+    _, out, _ = run(["page", "examples/wrong-key.scenario"])
+    yield None if " s<" not in out and "<code>peer-psk 47</code>" in out and "`" not in out else "times, or back quotes"
 
 
 def case_names(run: Run) -> Iterator[Optional[str]]:

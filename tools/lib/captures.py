@@ -3,48 +3,96 @@
 from __future__ import annotations
 
 import io
+import re
+from array import array
 from collections import Counter
 from dataclasses import dataclass, field
-from typing import Iterable, Optional
+from typing import BinaryIO, Iterable, Iterator, NamedTuple, Optional, Sequence
 
 from lib import frames
-from lib.common import Refused, ask
+from lib.common import Refused, ask, run
 from lib.texts import comments_of, lines_of, packet_of
+from lib.words import MOST_OCTETS
 
 User = tuple[str, str, str]
+EAPOL = frames.EAPOL.to_bytes(2, "big")
+NONE = float("nan")
+MOST_SHARED, MOST_WAITING = 65536, 16
 
 
-@dataclass
-class Packet:
-    """A packet of a capture: whether it goes to the peer, its octets, where it stands, as in `line 7`, how it is called
-    by number, when it came, and the RADIUS packet around it."""
+class Packet(NamedTuple):
+    """A packet of a capture: whether it goes to the peer, its octets, how it is called by number, when it came, and the
+    RADIUS packet around it."""
 
     is_to_peer: bool
     octets: bytes
-    place: str = ""
     number: int = 0
     at: Optional[float] = None
     radius: Optional[frames.Radius] = None
 
 
+class Packets:
+    """Packets in columns, each of which is made where it is asked for, since a file may have some hundred thousand."""
+
+    def __init__(self) -> None:
+        self.numbers, self.times, self.ways = array("I"), array("d"), bytearray()
+        self.octets: list[bytes] = []
+        self.radius: dict[int, frames.Radius] = {}
+
+    def append(self, number: int, is_to_peer: bool, octets: bytes, at: float, radius: Optional[frames.Radius] = None) -> None:
+        if radius is not None:
+            self.radius[len(self.octets)] = radius
+        self.numbers.append(number)
+        self.times.append(at)
+        self.ways.append(is_to_peer)
+        self.octets.append(octets)
+
+    def __len__(self) -> int:
+        return len(self.octets)
+
+    def __getitem__(self, at: int) -> Packet:
+        when = self.times[at]
+        return Packet(bool(self.ways[at]), self.octets[at], self.numbers[at], when if when == when else None, self.radius.get(at))
+
+    def __iter__(self) -> Iterator[Packet]:
+        return map(self.__getitem__, range(len(self)))
+
+    def of(self, parts: Iterable[range]) -> Packets:
+        """The packets at these places."""
+        found = Packets()
+        for part in parts:
+            for at in part if self.radius else ():
+                if at in self.radius:
+                    found.radius[len(found) + at - part.start] = self.radius[at]
+            its = slice(part.start, part.stop)
+            found.numbers += self.numbers[its]
+            found.times += self.times[its]
+            found.ways += self.ways[its]
+            found.octets += self.octets[its]
+        return found
+
+
 @dataclass
 class Capture:
     """Packets in their order; the users, as the words NAME, KIND and KEY; what the text says of itself; the station, and
-    what was left out of a file."""
+    what was left out of a file. Of frames without a whole EAP packet: those that are cut, by number, octets kept and octets
+    on the wire, the EAPOL-Starts, by number and time, and how many other ones of several stations can be of this one;
+    the numbers of all frames, and the time of the file's last."""
 
-    packets: list[Packet]
+    packets: Packets
     users: list[User] = field(default_factory=list)
     comments: list[str] = field(default_factory=list)
     station: str = ""
     notes: list[str] = field(default_factory=list)
+    cut: list[tuple[int, int, int]] = field(default_factory=list)
+    starts: list[tuple[int, float]] = field(default_factory=list)
+    unsure: int = 0
+    name: str = ""
+    numbers: array[int] = field(default_factory=lambda: array("I"))
+    until: Optional[float] = None
 
     def text(self) -> str:
-        lines = ["eap-capture 1"]
-        lines += self.comments
-        lines += [" ".join(("user", *user)) for user in self.users]
-        lines.append("packets")
-        lines += [f"{'>' if it.is_to_peer else '<'} {it.octets.hex() or '-'}" for it in self.packets]
-        return "\n".join(lines) + "\nend\n"
+        return text_of(self.packets, self.users, self.comments)
 
     def pcap(self) -> bytes:
         """A file of these packets, one a second where nothing says when they came."""
@@ -58,104 +106,246 @@ class Capture:
 # ---- Texts.
 
 
+def text_of(packets: Packets, users: list[User], comments: Iterable[str] = ()) -> str:
+    """The text for `check`."""
+    lines = ["eap-capture 1", *comments, *(" ".join(("user", *user)) for user in users), "packets"]
+    lines += [f"{'>' if it[0] else '<'} {it[1].hex() or '-'}" for it in zip(packets.ways, packets.octets)]
+    return "\n".join(lines) + "\nend\n"
+
+
 def of_capture(octets: bytes) -> Capture:
     """The capture of a text for `check`, which the program has to take."""
-    ask(["check"], octets, (0, 7))
-    found = Capture([], comments=comments_of(octets))
+    status, said = run(["check"], octets)
+    if status not in (0, 7):
+        raise Refused(f"eap_login check doesn't take it: {said[-200:].decode('latin-1').strip().rpartition(chr(10))[2]}")
+    packets = Packets()
+    found = Capture(packets, comments=comments_of(octets))
     for number, words in lines_of(octets):
         if words[0] == "user":
             found.users.append((words[1], words[2], words[3]))
         elif words[0] in ("<", ">"):
-            place = f"line {number}"
-            found.packets.append(Packet(words[0] == ">", packet_of(words[1], place), place, len(found.packets) + 1))
+            packets.append(len(packets) + 1, words[0] == ">", packet_of(words[1], f"line {number}"), NONE)
     return found
 
 
 def of_packets(octets: bytes) -> Capture:
     """Packets in hex, one a line."""
-    found = Capture([])
+    packets = Packets()
     for number, words in lines_of(octets):
         if len(words) != 1:
             raise Refused(f"line {number} isn't one packet in hex: {' '.join(words)[:60]!a}")
         packet = packet_of(words[0], f"line {number}")
-        found.packets.append(Packet(packet[:1] != b"\2", packet, f"line {number}", len(found.packets) + 1))
-    return found
+        packets.append(len(packets) + 1, packet[:1] != b"\2", packet, NONE)
+    return Capture(packets)
 
 
 # ---- Files of captured frames.
 
 
-def packets_of(pair: Iterable[frames.Frame], left: Counter[str]) -> list[Packet]:
-    """The EAP packets that EAPOL frames carry."""
-    found = []
-    for it in pair:
-        try:
-            eap = frames.eap_of(it.payload)
-        except Refused:
-            left["whose EAPOL packet is cut"] += 1
-            continue
-        if eap is not None:
-            number = it.record.number
-            found.append(Packet(eap[:1] != b"\2", eap, f"record {number}", number, it.record.at))
-    return found
+@dataclass
+class Reading:
+    """What is read of a file: the EAPOL frames in columns, each with its flow, which is to whom and by whom it goes, and
+    with its EAP packet; the kinds of those without; the RADIUS packets; of what is cut the octets kept and on the wire, by
+    the record's number; and what is left out."""
+
+    packets: Packets = field(default_factory=Packets)
+    flows: dict[bytes, int] = field(default_factory=dict)
+    # (by flow, how often it goes as from a station, less how often as from an authenticator)
+    votes: list[int] = field(default_factory=list)
+    of_flow: array[int] = field(default_factory=lambda: array("i"))
+    kinds: dict[int, int] = field(default_factory=dict)
+    radius: Packets = field(default_factory=Packets)
+    cut: dict[int, tuple[int, int]] = field(default_factory=dict)
+    left: Counter[str] = field(default_factory=Counter)
+    twice: frames.Twice = field(default_factory=frames.Twice)
+    shared: dict[bytes, bytes] = field(default_factory=dict)
+
+    def take(self, record: frames.Record, ports: Sequence[int]) -> None:
+        octets, interface = record.frame, record.interface
+        if octets[12:14] == EAPOL and record.link == frames.ETHERNET and interface < 0:
+            self.take_eapol(record, octets[:12], octets[14:])
+            return
+        frame = frames.of_record(record)
+        interface = frame.interface
+        if frame.kind == frames.EAPOL:
+            if interface < 0 or not self.twice.is_again((frame.source, frame.payload), record.at, interface):
+                self.take_eapol(record, frame.to + frame.source, frame.payload)
+            return
+        found = frames.radius_of(frame, ports)
+        if found is None:
+            self.left["without EAP"] += 1
+        elif interface < 0 or not self.twice.is_again((found.source[0], found.octets), record.at, interface):
+            if found.is_cut:
+                self.cut[record.number] = len(octets), record.wire
+            self.radius.append(record.number, not found.is_request, found.eap, record.at, found)
+
+    def take_eapol(self, record: frames.Record, addresses: bytes, payload: bytes) -> None:
+        flow = self.flows.get(addresses)
+        if flow is None:
+            flow = self.flows[addresses] = len(self.votes)
+            self.votes.append(0)
+        size, kind = int.from_bytes(payload[2:4], "big"), payload[1] if len(payload) > 3 else 0
+        eap = payload[4 : 4 + size] if kind == 0 else b""
+        if kind:
+            self.kinds[len(self.of_flow)] = kind
+            self.votes[flow] += kind in (frames.START, frames.LOGOFF)
+        elif len(eap) < size or len(payload) < 4 or size > MOST_OCTETS:
+            self.cut[record.number] = len(record.frame), record.wire
+            eap = eap[:1]
+        if eap:
+            self.votes[flow] += 1 if eap[0] == 2 else -1
+            if len(self.shared) > MOST_SHARED:
+                self.shared.clear()
+            eap = self.shared.setdefault(eap, eap)
+        self.of_flow.append(flow)
+        self.packets.append(record.number, eap[:1] != b"\2", eap, record.seconds + record.part / record.parts)
+
+    def by_eapol(self) -> list[Capture]:
+        """The captures of EAPOL frames, one for each pair of a station and what it talks to."""
+        votes: Counter[bytes] = Counter()
+        for flow, vote in zip(self.flows, self.votes):
+            votes[flow[-6:]] += vote
+        if 0 < len(votes) <= 2:
+            station, other = [*sorted(votes, key=lambda it: -votes[it]), b""][:2]
+            return [self.capture(range(len(self.of_flow)), station, other)]
+        parted, alone = self.pairs(votes)
+        found = []
+        for (station, other), indices in parted.items():
+            found.append(self.capture(sorted(indices), station, other))
+            found[-1].unsure = alone[station] + alone[other]
+        return found
+
+    def capture(self, indices: Sequence[int], station: bytes, other: bytes) -> Capture:
+        """The capture of these frames."""
+        packets, whole = Packets(), self.packets
+        if len(indices) == len(whole) and not self.cut and not self.kinds:
+            packets, indices = whole, ()
+        found = Capture(packets, station=station.hex("-"), name=f"{station.hex('-')}_{other.hex('-')}")
+        found.numbers += packets.numbers
+        for at in indices:
+            number = whole.numbers[at]
+            found.numbers.append(number)
+            if number in self.cut:
+                found.cut.append((number, *self.cut[number]))
+            elif at not in self.kinds:
+                packets.append(number, bool(whole.ways[at]), whole.octets[at], whole.times[at])
+            elif self.kinds[at] == frames.START:
+                found.starts.append((number, whole.times[at]))
+        return found
+
+    def pairs(self, votes: Counter[bytes]) -> tuple[dict[tuple[bytes, bytes], list[int]], Counter[bytes]]:
+        """The frames of each pair of addresses, the station first, and how many of each sender are left out. A frame to a group
+        belongs to the one pair that its sender can mean; of several, a Request to that whose station answers it, a Success or
+        a Failure to that whose station's last Response it answers, by the Identifier."""
+        flows = [(it[-6:], it[:-6] if it[:-6] and not it[0] & 1 else b"") for it in self.flows]
+        partners: dict[bytes, set[bytes]] = {}
+        for source, to in flows:
+            if to:
+                partners.setdefault(source, set()).add(to)
+                partners.setdefault(to, set()).add(source)
+        meant = [{to} if to else partners.get(source) or {it for it in votes if votes[it] * votes[source] < 0} for source, to in flows]
+        pairs: dict[tuple[bytes, bytes], list[int]] = {}
+        waiting: dict[tuple[bytes, int], list[int]] = {}
+        last: dict[bytes, dict[bytes, int]] = {}
+        asked: dict[tuple[bytes, bytes], int] = {}
+        alone: Counter[bytes] = Counter()
+        for at, flow in enumerate(self.of_flow):
+            octets, source, others = self.packets.octets[at], flows[flow][0], meant[flow]
+            if len(others) > 1 and octets[:1] in (b"\3", b"\4"):
+                others = {it for it in others if last.get(source, {}).get(it) == octets[1]}
+            if len(others) != 1:
+                alone[source] += 1
+                if len(others) > 1 and len(octets) > 4 and octets[0] == 1:
+                    waiting[source, octets[1]] = [*waiting.get((source, octets[1]), [])[-MOST_WAITING:], at]
+                continue
+            other = next(iter(others))
+            # (where nothing says who is the station, it is the one to whom the first frame goes, as that of the first key)
+            pair = (source, other) if votes[source] > votes[other] else (other, source)
+            pair = pair[::-1] if pair not in pairs and pair[::-1] in pairs else pair
+            found = pairs.setdefault(pair, [])
+            found.append(at)
+            if len(octets) > 4 and octets[0] == 1:
+                asked[pair] = octets[1]
+            elif len(octets) > 4 and octets[0] == 2:
+                last.setdefault(other, {})[source] = octets[1]
+                may = waiting.get((other, octets[1]), []) if asked.get(pair) != octets[1] else []
+                answered = [it for it in may if octets[4] in (3, self.packets.octets[it][4])]
+                waiting[other, octets[1]] = [it for it in may if it not in answered]
+                alone[other] -= len(answered)
+                found += answered
+        self.left["to a group address, meant for no pair alone"] += sum(alone.values())
+        return pairs, alone
+
+    def by_radius(self) -> list[Capture]:
+        """The captures of RADIUS packets that carry EAP, one for each station; a reply belongs to its request."""
+        stations: dict[str, Capture] = {}
+        requests: dict[object, frames.Radius] = {}
+        for packet in self.radius:
+            it = packet.radius
+            if it is None:
+                continue
+            it.request = None if it.is_request else requests.get(it.exchange)
+            if it.is_request:
+                requests[it.exchange] = it
+            first = it.request or it
+            name = (first.get(frames.CALLING_STATION) or first.get(frames.USER_NAME)).decode("latin-1")
+            if not packet.octets and it.octets[0] != 3 and not it.is_cut:
+                self.left["of RADIUS without EAP"] += 1
+                continue
+            station = stations.setdefault(name, Capture(Packets(), station=name, name="radius_" + re.sub("[^A-Za-z0-9.-]", "_", name)))
+            station.numbers.append(packet.number)
+            if it.is_cut:
+                station.cut.append((packet.number, *self.cut[packet.number]))
+            else:
+                station.packets.append(packet.number, packet.is_to_peer, packet.octets, packet.at or 0.0, it)
+        return list(stations.values())
+
+    def notes(self) -> list[str]:
+        """What is left out."""
+        self.left["that are cut: `tcpdump -s 0` keeps them whole"] = len(self.cut)
+        found = [f"frames that came at several interfaces, each taken once: {self.twice.count} left out"] * bool(self.twice.count)
+        return found + [f"left out: frames {what}: {count}" for what, count in sorted(self.left.items()) if count]
 
 
-def by_eapol(found: list[frames.Frame], left: Counter[str]) -> list[Capture]:
-    """The captures of EAPOL frames, one for each station."""
-    votes = frames.stations_of(found)
-    if len({it.source for it in found}) <= 2:
-        station = next((it for it, vote in votes.items() if vote > 0), b"")
-        pairs = {(station, b""): found} if found else {}
-    else:
-        pairs = frames.pairs_of(found, left)
-    return [Capture(packets_of(pair, left), station=ends[0].hex("-")) for ends, pair in pairs.items()]
-
-
-def by_radius(found: list[frames.Radius], left: Counter[str]) -> list[Capture]:
-    """The captures of RADIUS packets that carry EAP, one for each station; a reply belongs to its request."""
-    stations: dict[str, Capture] = {}
-    requests: dict[object, frames.Radius] = {}
-    for it in found:
-        it.request = None if it.is_request else requests.get(it.exchange)
-        if it.is_request:
-            requests[it.exchange] = it
-        first = it.request or it
-        name = (first.get(frames.CALLING_STATION) or first.get(frames.USER_NAME)).decode("latin-1")
-        if not it.eap and it.octets[0] != 3:
-            left["of RADIUS without EAP"] += 1
-            continue
-        number = it.frame.record.number
-        station = stations.setdefault(name, Capture([], station=name))
-        station.packets.append(Packet(not it.is_request, it.eap, f"record {number}", number, it.frame.record.at, it))
-    return list(stations.values())
-
-
-def of_pcap(octets: bytes) -> list[Capture]:
-    """The EAP packets of a file that are whole, parted by station; what is left out is noted."""
-    file, left = io.BytesIO(octets), Counter[str]()
-    eapol: list[frames.Frame] = []
-    radius: list[frames.Radius] = []
-    notes = []
-    _, records = frames.of_file(file)
+def of_records(records: Iterable[frames.Record], ports: Sequence[int] = ()) -> tuple[list[Capture], str]:
+    """The captures of records, one for each station, what is left out being noted with the first; and why these weren't
+    read to their end, if so."""
+    reading, reason, until = Reading(), "", None
     try:
         for record in records:
-            frame = frames.of_record(record)
-            found = None if frame.kind == frames.EAPOL else frames.radius_of(frame)
-            if found:
-                radius.append(found)
-            elif frame.kind == frames.EAPOL:
-                eapol.append(frame)
-            else:
-                left["without EAP"] += 1
+            reading.take(record, ports)
+            until = record
     except Refused as fault:
-        if not eapol and not radius:
-            raise
-        notes.append(str(fault))
-    captures = [it for it in by_eapol(eapol, left) + by_radius(radius, left) if it.packets]
-    notes += [f"left out: frames {what}: {count}" for what, count in sorted(left.items())]
+        reason = str(fault)
+    found = reading.by_eapol() + reading.by_radius()
+    for it in found:
+        it.until = until.at if until else None
+    if found:
+        found[0].notes = [reason] * bool(reason) + reading.notes()
+    elif reason:
+        raise Refused(reason)
+    return found, reason
+
+
+def of_file(file: BinaryIO, ports: Sequence[int] = ()) -> tuple[list[Capture], str]:
+    """The captures of an open file."""
+    return of_records(frames.of_file(file)[1], ports)
+
+
+def starts_said(it: Capture) -> str:
+    return (f"{f'station {it.station}' if it.station else 'a station'} sent EAPOL-Start, {len(it.starts)} times, and no Request "
+            "came: the other end does no IEEE 802.1X, its port isn't set up for it, or its frames were lost")
+
+
+def of_pcap(octets: bytes, ports: Sequence[int] = ()) -> list[Capture]:
+    """The captures of a file that have an EAP packet; of the other stations it is noted what they have."""
+    found = of_file(io.BytesIO(octets), ports)[0]
+    notes = [it for capture in found for it in capture.notes]
+    notes += [starts_said(it) for it in found if it.starts and not it.packets and not it.cut]
+    captures = [it for it in found if it.packets]
     if not captures:
-        raise Refused("; ".join(["no frame has a whole EAP packet: by EAPOL (EtherType 888e, type 0), or in a RADIUS "
-                                 "packet by UDP port 1812", *notes]))
+        raise Refused("; ".join(["no frame has a whole EAP packet: by EAPOL (EtherType 888e, type 0), or in a RADIUS packet by "
+                                 "UDP port 1812 (`--port N` names another)", *notes]))
     captures[0].notes = notes
     return captures
 

@@ -94,6 +94,13 @@ def answer(words: Sequence[str], octets: bytes) -> tuple[int, list[str]]:
 @functools.lru_cache(maxsize=None)
 def answer_of(program: str, words: tuple[str, ...], octets: bytes) -> tuple[int, list[str]]:
     """The same, which is asked once."""
+    status, written = run(words, octets, program)
+    return status, written.decode("latin-1").splitlines()
+
+
+def run(words: Sequence[str], octets: bytes, program: str = "") -> tuple[int, bytes]:
+    """The status with which the program ends, and what it writes."""
+    program = program or os.environ.get("EAP_LOGIN") or str(ROOT / "eap_login")
     errors = subprocess.DEVNULL if told else None
     try:
         done = subprocess.run([program, *words], input=octets, stdout=subprocess.PIPE, stderr=errors,
@@ -103,7 +110,7 @@ def answer_of(program: str, words: tuple[str, ...], octets: bytes) -> tuple[int,
     told.append(True)
     if done.returncode in (126, 127):
         raise Refused(f"{program} can't be run: it ends with status {done.returncode}")
-    return done.returncode, done.stdout.decode("latin-1").splitlines()
+    return done.returncode, done.stdout
 
 
 def ask(words: Sequence[str], octets: bytes, statuses: Sequence[int] = (0,)) -> list[str]:

@@ -1,15 +1,12 @@
-"""Files of captured frames: pcap and pcapng, the frames in them, and the EAP packets that these carry, by EAPOL or by
-RADIUS. A tag of a VLAN is passed over, and a cooked link (`tcpdump -i any`) is read."""
+"""Files of captured frames: pcap, pcapng and snoop, the frames in them, and the EAP packets that these carry, by EAPOL or
+by RADIUS. A tag of a VLAN is passed over; a cooked link (`tcpdump -i any`) is read, and Wi-Fi in monitor mode."""
 
 from __future__ import annotations
 
 import struct
-from collections import Counter
-from dataclasses import dataclass, field
-from typing import BinaryIO, Iterator, Optional
+from typing import BinaryIO, Iterator, NamedTuple, Optional, Sequence
 
 from lib.common import Refused
-from lib.words import MOST_OCTETS
 
 # The addresses that a file made here has: the group to which a port's two ends send, and both ends (IEEE 802.1X).
 PAE_GROUP = bytes.fromhex("0180c2000003")
@@ -17,19 +14,18 @@ AUTHENTICATOR = bytes.fromhex("020000000001")
 STATION = bytes.fromhex("020000000002")
 EAPOL, IPV4, IPV6 = 0x888E, 0x0800, 0x86DD
 VLANS = (0x8100, 0x88A8)
-ETHERNET, COOKED, COOKED_2 = 1, 113, 276
+ETHERNET, COOKED, COOKED_2, WIFI, RADIOTAP = 1, 113, 276, 105, 127
 # The ports of RADIUS, the later one and the earlier one (RFC 2865 section 3).
 RADIUS_PORTS = (1812, 1645)
 MOST_FRAME = 262144
 MAGICS = {"a1b2c3d4": (">", 1000000), "d4c3b2a1": ("<", 1000000), "a1b23c4d": (">", 10**9), "4d3cb2a1": ("<", 10**9)}
-PCAPNG = "0a0d0d0a"
+PCAPNG, SNOOP = "0a0d0d0a", "736e6f6f70000000"
 START, LOGOFF = 1, 2
 
 
-@dataclass
-class Record:
-    """A record of a file: its number, its time in seconds and parts of one, the frame, its length on the wire, and the
-    link."""
+class Record(NamedTuple):
+    """A record of a file: its number, its time in seconds and parts of one, the frame, its length on the wire, the link,
+    and the interface, -1 of a file that tells none."""
 
     number: int
     seconds: int
@@ -38,6 +34,7 @@ class Record:
     wire: int
     link: int = ETHERNET
     parts: int = 1000000
+    interface: int = -1
 
     @property
     def at(self) -> float:
@@ -65,7 +62,7 @@ def record_of(order: str, record: Record) -> bytes:
 
 def is_file(octets: bytes) -> bool:
     """Whether octets begin as a file of a capture tool does, be it one that can be read or not."""
-    return octets[:4].hex() in (PCAPNG, *MAGICS)
+    return octets[:4].hex() in (PCAPNG, SNOOP[:8], *MAGICS)
 
 
 def of_file(file: BinaryIO) -> tuple[str, Iterator[Record]]:
@@ -73,6 +70,8 @@ def of_file(file: BinaryIO) -> tuple[str, Iterator[Record]]:
     magic = file.read(4)
     if magic.hex() == PCAPNG:
         return "<", of_pcapng(file)
+    if magic.hex() == SNOOP[:8]:
+        return ">", of_snoop(file, file.read(12))
     if magic.hex() not in MAGICS:
         raise Refused("it isn't a pcap file")
     (order, parts), rest = MAGICS[magic.hex()], file.read(20)
@@ -86,9 +85,9 @@ def of_file(file: BinaryIO) -> tuple[str, Iterator[Record]]:
 
 
 def is_read(link: int) -> None:
-    if link not in (ETHERNET, COOKED, COOKED_2):
-        raise Refused(f"it was captured on a link of the type {link}, and Ethernet (1) and cooked links (113, 276) are "
-                      "read: capture at the interface of the station or of the access point, and not in monitor mode")
+    if link not in (ETHERNET, COOKED, COOKED_2, WIFI, RADIOTAP):
+        raise Refused(f"it was captured on a link of the type {link}, and these are read: Ethernet (1), cooked links (113, 276) "
+                      "and Wi-Fi (105, 127): capture at the interface of the station or of the access point")
 
 
 def taken(file: BinaryIO, size: int, number: int) -> bytes:
@@ -103,13 +102,28 @@ def taken(file: BinaryIO, size: int, number: int) -> bytes:
 
 def of_pcap(file: BinaryIO, order: str, parts: int, link: int) -> Iterator[Record]:
     """The records behind the header; one that is cut ends them with a refusal."""
-    number = 0
-    while header := file.read(16):
+    number, read, unpack = 0, file.read, struct.Struct(order + "IIII").unpack
+    while header := read(16):
         number += 1
         if len(header) < 16:
             raise Refused(f"it ends within record {number}")
-        seconds, part, size, wire = struct.unpack(order + "IIII", header)
-        yield Record(number, seconds, part, taken(file, size, number), wire, link, parts)
+        seconds, part, size, wire = unpack(header)
+        frame = read(size) if size <= MOST_FRAME else b""
+        yield Record(number, seconds, part, frame if len(frame) == size else taken(file, size, number), wire, link, parts)
+
+
+def of_snoop(file: BinaryIO, head: bytes) -> Iterator[Record]:
+    """The records of a file of snoop, as Solaris writes it (RFC 1761)."""
+    magic, version, link = struct.unpack(">4sII", head.ljust(12, b"\0"))
+    if len(head) < 12 or magic.hex() != SNOOP[8:] or (version, link) != (2, 4):
+        raise Refused(f"it is a file of snoop, version {version}, of a link of the type {link}, and version 2 of Ethernet (4) is read")
+    number = 0
+    while header := file.read(24):
+        number += 1
+        if len(header) < 24:
+            raise Refused(f"it ends within record {number}")
+        wire, kept, size, _, seconds, micros = struct.unpack(">IIIIII", header)
+        yield Record(number, seconds, micros, taken(file, max(size - 24, kept), number)[:kept], wire)
 
 
 def resolution(options: bytes, order: str) -> int:
@@ -147,7 +161,7 @@ def of_pcapng(file: BinaryIO) -> Iterator[Record]:
             at, high, low, kept, wire = struct.unpack_from(order + "IIIII", block)
             link, parts = links[at] if at < len(links) else (ETHERNET, 1000000)
             seconds, part = divmod(high << 32 | low, parts)
-            yield Record(number, seconds, part, block[20 : 20 + kept], wire, link, parts)
+            yield Record(number, seconds, part, block[20 : 20 + kept], wire, link, parts, at)
         elif name == 3 and len(block) >= 4:
             number += 1
             wire = struct.unpack_from(order + "I", block)[0]
@@ -158,9 +172,9 @@ def of_pcapng(file: BinaryIO) -> Iterator[Record]:
 # ---- Frames.
 
 
-@dataclass
-class Frame:
-    """What a frame carries: who sent it, to whom (none where that is a group, or isn't told), its type, the payload."""
+class Frame(NamedTuple):
+    """What a frame carries: who sent it, to whom (none where that is a group, or isn't told), its type, the payload, and
+    where it was seen."""
 
     record: Record
     source: bytes
@@ -168,102 +182,99 @@ class Frame:
     kind: int
     payload: bytes
     has_vlan: bool = False
+    interface: int = 0
 
-    @property
-    def by_station(self) -> Optional[bool]:
-        """Whether an EAPOL frame says that its sender is the station."""
-        kind = self.payload[1] if self.kind == EAPOL and len(self.payload) > 1 else None
-        if kind in (START, LOGOFF):
-            return True
-        return self.payload[4] == 2 if kind == 0 and len(self.payload) > 4 else None
+
+def of_wifi(octets: bytes) -> tuple[bytes, bytes, bytes, bytes]:
+    """To whom, from whom, the type and the payload of a data frame that isn't encrypted (IEEE 802.11 section 9.2)."""
+    flags = octets[1] if len(octets) > 1 else 0
+    if len(octets) < 32 or octets[0] & 0x0C != 8 or flags & 0x40:
+        return b"", b"", b"", b""
+    at = 24 + 6 * (flags & 3 == 3) + 2 * (octets[0] >> 7)
+    one, two, three = octets[4:10], octets[10:16], octets[16:22]
+    to, source = (three, two) if flags & 1 else (one, three) if flags & 2 else (one, two)
+    is_snap = octets[at : at + 3] == b"\xaa\xaa\3"
+    return to, source, octets[at + 6 : at + 8] if is_snap else b"", octets[at + 8 :]
 
 
 def of_record(record: Record) -> Frame:
-    octets = record.frame
-    if record.link == COOKED:
-        source, kind, rest = octets[6:12], octets[14:16], octets[16:]
-        to = b""
-    elif record.link == COOKED_2:
-        source, kind, rest = octets[12:18], octets[0:2], octets[20:]
-        to = b""
-    else:
+    octets, link, interface = record.frame, record.link, record.interface
+    if link == ETHERNET:
         to, source, kind, rest = octets[:6], octets[6:12], octets[12:14], octets[14:]
-        to = b"" if to[:1] and to[0] & 1 else to
-    has_vlan = False
-    while int.from_bytes(kind, "big") in VLANS:
-        has_vlan, kind, rest = True, rest[2:4], rest[4:]
-    return Frame(record, source, to, int.from_bytes(kind, "big"), rest, has_vlan)
+    elif link == COOKED:
+        to, source, kind, rest = b"", octets[6:12], octets[14:16], octets[16:]
+        # (the direction tells what came in at one interface and went out at another)
+        interface = int.from_bytes(octets[:2], "big")
+    elif link == COOKED_2:
+        to, source, kind, rest = b"", octets[12:18], octets[:2], octets[20:]
+        interface = int.from_bytes(octets[4:8], "big")
+    else:
+        to, source, kind, rest = of_wifi(octets[int.from_bytes(octets[2:4], "little") :] if link == RADIOTAP else octets)
+    if to and to[0] & 1:
+        to = b""
+    number, has_vlan = int.from_bytes(kind, "big"), False
+    while number in VLANS:
+        has_vlan, number, rest = True, int.from_bytes(rest[2:4], "big"), rest[4:]
+    return Frame(record, source, to, number, rest, has_vlan, interface)
 
 
-def eap_of(eapol: bytes) -> Optional[bytes]:
-    """The EAP packet of an EAPOL packet: None where it is of another type, b"" at the least where it is whole; or a
-    refusal where it is cut."""
-    if len(eapol) < 4:
-        raise Refused("its header is cut")
-    size = int.from_bytes(eapol[2:4], "big")
-    if eapol[1] != 0:
-        return None
-    if size > min(len(eapol) - 4, MOST_OCTETS):
-        raise Refused(f"its body of {size} octets is cut, or over 2,000")
-    return eapol[4 : 4 + size]
+def plain(record: Record) -> bytes:
+    """The frame of a record as Ethernet has it, without the tags of VLANs."""
+    frame = of_record(record)
+    if record.link == ETHERNET and not frame.has_vlan:
+        return record.frame
+    to = record.frame[:6] if record.link == ETHERNET else frame.to or PAE_GROUP
+    return to + frame.source + frame.kind.to_bytes(2, "big") + frame.payload
 
 
-def stations_of(frames: list[Frame]) -> Counter[bytes]:
-    """How often each address sent as a station does, less how often as an authenticator."""
-    votes: Counter[bytes] = Counter()
-    for frame in frames:
-        if frame.by_station is not None:
-            votes[frame.source] += 1 if frame.by_station else -1
-    return votes
+TWICE_SECONDS, MOST_KEPT = 0.05, 1000
 
 
-def pairs_of(frames: list[Frame], left: Counter[str]) -> dict[tuple[bytes, bytes], list[Frame]]:
-    """The EAPOL frames of each pair of addresses, the station first. A frame to a group belongs to the one pair that its
-    sender can mean; where that could be several it is left out, and counted."""
-    votes = stations_of(frames)
-    pairs: dict[tuple[bytes, bytes], list[Frame]] = {}
-    pair_of: dict[frozenset[bytes], tuple[bytes, bytes]] = {}
-    alone = {frozenset((it.source, it.to)) for it in frames if it.to}
-    for frame in frames:
-        others = {frame.to}
-        if not frame.to:
-            others = {it for pair in alone if frame.source in pair for it in pair} - {frame.source}
-            others = others or {it for it, vote in votes.items() if vote * votes[frame.source] < 0}
-        if len(others) != 1:
-            left["to a group address, meant for no pair alone"] += 1
-            continue
-        other, source = others.pop(), frame.source
-        ends = frozenset((source, other))
-        # (where nothing says who is the station, it is the one to whom the first frame goes, as that of the first key)
-        if ends not in pair_of:
-            pair_of[ends] = (source, other) if votes[source] > votes[other] else (other, source)
-        pairs.setdefault(pair_of[ends], []).append(frame)
-    return pairs
+class Twice:
+    """Frames that came at another interface just before: `tcpdump -i any` and a capture at several interfaces have each
+    frame that a bridge or a router passes on once for each of them."""
+
+    def __init__(self) -> None:
+        self.last: dict[tuple[bytes, bytes], tuple[float, int]] = {}
+        self.count = 0
+
+    def is_again(self, key: tuple[bytes, bytes], at: float, interface: int) -> bool:
+        before = self.last.get(key)
+        if before is not None and abs(at - before[0]) < TWICE_SECONDS and before[1] != interface:
+            self.count += 1
+            return True
+        if len(self.last) >= MOST_KEPT:
+            self.last = {it: seen for it, seen in self.last.items() if at - seen[0] < TWICE_SECONDS}
+            if len(self.last) >= MOST_KEPT:
+                self.last.clear()
+        self.last[key] = (at, interface)
+        return False
 
 
 # ---- RADIUS (RFC 2865, RFC 3579).
 
 CODES = {1: "Access-Request", 2: "Access-Accept", 3: "Access-Reject", 11: "Access-Challenge"}
-USER_NAME, STATE, CALLING_STATION, EAP_MESSAGE = 1, 24, 31, 79
+USER_NAME, CALLING_STATION, EAP_MESSAGE, ERROR_CAUSE = 1, 31, 79, 101
+# Error-Cause 202, Invalid EAP Packet (Ignored) (RFC 3579 section 2.6.3).
+IGNORED = (202).to_bytes(4, "big")
 
 
-@dataclass
 class Radius:
     """A RADIUS packet that UDP carries: from where to where, and what is in it; `verdict` is what `radius` says of its
     authenticators, where that was asked."""
 
-    frame: Frame
-    source: tuple[bytes, int]
-    to: tuple[bytes, int]
-    octets: bytes
-    attributes: list[tuple[int, bytes]] = field(default_factory=list)
-    request: Optional[Radius] = None
-    verdict: str = ""
+    __slots__ = ("source", "to", "octets", "request", "verdict")
 
-    def __post_init__(self) -> None:
+    def __init__(self, source: tuple[bytes, int], to: tuple[bytes, int], octets: bytes) -> None:
+        self.source, self.to, self.octets = source, to, octets
+        self.request: Optional[Radius] = None
+        self.verdict = ""
+
+    @property
+    def attributes(self) -> Iterator[tuple[int, bytes]]:
         at, end = 20, min(len(self.octets), int.from_bytes(self.octets[2:4], "big"))
         while at + 2 <= end and self.octets[at + 1] >= 2:
-            self.attributes.append((self.octets[at], self.octets[at + 2 : at + self.octets[at + 1]]))
+            yield self.octets[at], self.octets[at + 2 : at + self.octets[at + 1]]
             at += self.octets[at + 1]
 
     @property
@@ -273,6 +284,10 @@ class Radius:
     @property
     def is_request(self) -> bool:
         return self.octets[0] == 1
+
+    @property
+    def is_cut(self) -> bool:
+        return len(self.octets) < int.from_bytes(self.octets[2:4], "big")
 
     @property
     def eap(self) -> bytes:
@@ -298,13 +313,13 @@ def udp_of(frame: Frame) -> Optional[tuple[bytes, bytes, bytes]]:
     return None
 
 
-def radius_of(frame: Frame) -> Optional[Radius]:
-    """The RADIUS packet of a frame, where it has one."""
+def radius_of(frame: Frame, more: Sequence[int] = ()) -> Optional[Radius]:
+    """The RADIUS packet of a frame, where it has one, at its ports or at others that are named."""
     found = udp_of(frame)
     if found is None or len(found[2]) < 28:
         return None
     one, other, udp = found
     ports = struct.unpack(">HH", udp[:4])
-    if not set(ports) & set(RADIUS_PORTS):
+    if not set(ports) & {*RADIUS_PORTS, *more}:
         return None
-    return Radius(frame, (one, ports[0]), (other, ports[1]), udp[8:])
+    return Radius((one, ports[0]), (other, ports[1]), udp[8 : int.from_bytes(udp[4:6], "big") or None])

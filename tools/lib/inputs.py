@@ -49,6 +49,7 @@ def add_words(parser: Parser) -> None:
                         "standard input; of what has no keys itself, its users as for `pcap`, or one key in hex alone")
     parser.add_argument("--users", metavar="FILE", help="takes the users from the lines `user` of a text")
     parser.add_argument("--secret", metavar="TEXT", help="the secret of RADIUS, which judges its authenticators")
+    parser.add_argument("--port", metavar="N", type=int, action="append", help="a port of RADIUS besides 1812 and 1645")
     parser.add_argument("--station", metavar="NAME", help="of several stations in a file, this one")
 
 
@@ -117,9 +118,8 @@ def named(capture: Capture, station: str) -> bool:
 def captures_of(octets: bytes, given: Namespace, rest: list[str]) -> list[Capture]:
     """The captures of an input that has packets and no replay, one for each station."""
     form = form_of(octets)
-    users, key = users_of(rest, given.users)
     if form == "pcap":
-        found = captures.of_pcap(octets)
+        found = captures.of_pcap(octets, getattr(given, "port", None) or ())
     elif form == "check":
         found = [captures.of_capture(octets)]
     else:
@@ -128,6 +128,12 @@ def captures_of(octets: bytes, given: Namespace, rest: list[str]) -> list[Captur
     found = [it for it in found if named(it, given.station or "")]
     if not found:
         raise Refused(f"there is no station {given.station}; there are {stations}")
+    return with_users(found, given, rest)
+
+
+def with_users(found: list[Capture], given: Namespace, rest: list[str]) -> list[Capture]:
+    """Captures with the users whom the words name, and judged under the secret of RADIUS."""
+    users, key = users_of(rest, given.users)
     for it in found:
         give_users(it, users, key)
     if given.secret is not None:

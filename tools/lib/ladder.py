@@ -4,11 +4,11 @@ from __future__ import annotations
 
 from dataclasses import dataclass, field
 from functools import cached_property
-from typing import Optional
+from typing import Iterator, Optional, Sequence
 
-from lib import packets
-from lib.captures import Capture, Packet
-from lib.common import ask
+from lib import frames, packets
+from lib.captures import NONE, Capture, Packets, User, text_of
+from lib.common import Refused, run
 from lib.replays import Event, Replay, Sent
 
 MARKS = {
@@ -45,6 +45,8 @@ class Row:
     finding: str = ""
     at: Optional[float] = None
     carrier: str = ""
+    is_ignored: bool = False
+    is_other: bool = False
 
     @cached_property
     def reading(self) -> packets.Reading:
@@ -101,10 +103,18 @@ def side_of(port: str, parties: list[str]) -> str:
     return parties[-1] if port == "pass-server" else parties[-2]
 
 
-def findings_of(capture: Capture) -> tuple[dict[str, str], str]:
-    """What `check` says of each packet, by where it stands, and its last line."""
-    lines = ask(["check"], Capture(capture.packets, capture.users).text().encode("latin-1"), (0, 7))
-    return {it.place: line.split(" ", 1)[1] for it, line in zip(capture.packets, lines)}, lines[-1]
+def findings_of(packets: Packets, users: list[User]) -> tuple[list[str], str]:
+    """What `check` says of each packet, and its last line."""
+    status, said = run(["check"], text_of(packets, users).encode("latin-1"))
+    *lines, last = said.decode("latin-1").split("\n")[:-1] or [""]
+    if status not in (0, 7):
+        raise Refused(f"eap_login check doesn't take the packets: {last}")
+    kept: dict[str, str] = {}
+    found = ["good"] * len(packets)
+    for line in lines:
+        number, _, finding = line.partition(" ")
+        found[int(number) - 1] = kept.setdefault(finding, finding)
+    return found, last
 
 
 # ---- Replays.
@@ -158,21 +168,21 @@ def of_a_replay(replay: Replay) -> Ladder:
         for it in event.sent:
             if it.number not in arriving:
                 rows.append(row_of_sent(it, "lost" if replay.has_losses else "arrow"))
-    capture = captured(replay, rows)
-    findings, counted = findings_of(capture)
-    for at, row in enumerate(rows):
-        row.finding = findings.get(f"row {at}", "")
+    passed = [it for it in rows if it.octets is not None and {it.sender, it.receiver} == set(replay.parties[:2])
+              and it.kind in ("arrow", "injected")]
+    capture = captured(replay, passed)
+    findings, counted = findings_of(capture.packets, capture.users)
+    for row, finding in zip(passed, findings):
+        row.finding = finding
     return Ladder(replay.parties, rows, capture, replay, counted)
 
 
-def captured(replay: Replay, rows: list[Row]) -> Capture:
+def captured(replay: Replay, passed: list[Row]) -> Capture:
     """What passes at the peer's link, as it comes: altered, cut, again, injected; without what is lost. The keys are
     those of the server's users, and of a text of the peer its own."""
-    link = set(replay.parties[:2])
-    passed = [(at, it) for at, it in enumerate(rows) if it.octets is not None and {it.sender, it.receiver} == link
-              and it.kind in ("arrow", "injected")]
-    packets = [Packet(it.receiver == "peer", it.octets or b"", f"row {at}", number)
-               for number, (at, it) in enumerate(passed, 1)]
+    packets = Packets()
+    for number, it in enumerate(passed, 1):
+        packets.append(number, it.receiver == "peer", it.octets or b"", NONE)
     name = next((it[1] for it in replay.settings if it[0] == "peer-name"), "")
     own = [(name, it[1], it[2]) for it in replay.settings if it[0] == "peer-psk" and name]
     return Capture(packets, replay.users or (own if not replay.has_losses else []), replay.comments)
@@ -180,26 +190,70 @@ def captured(replay: Replay, rows: list[Row]) -> Capture:
 
 # ---- Captures.
 
+OF_PEER, OF_SERVER = ("GPSK-2", "GPSK-4", "PSK-2", "PSK-4"), ("GPSK-1", "GPSK-3", "PSK-1", "PSK-3")
+FIRST, SECOND, THIRD, LAST = ("GPSK-1", "PSK-1"), ("GPSK-2", "PSK-2"), ("GPSK-3", "PSK-3"), ("GPSK-4", "PSK-4")
+GOES_ON = {*OF_PEER, *OF_SERVER} - {*FIRST}
+
+
+def logins_of(octets: Sequence[bytes]) -> Iterator[range]:
+    """The places of each login. One begins with an Identity after an end, or after a message of a method that isn't gone on
+    with; or with a first message of a method after an end of one."""
+    messages = [packets.read(it).message for it in octets]
+    # (what the next message of a method behind each Identity is)
+    ahead, behind = {}, ""
+    for at in range(len(messages) - 1, -1, -1):
+        message = messages[at]
+        if message == "Identity":
+            ahead[at] = behind
+        elif message in OF_PEER or message in OF_SERVER or message == "Nak":
+            behind = message
+    begin, has_end, has_method = 0, False, False
+    for at, message in enumerate(messages):
+        if message == "Identity" and (has_end or has_method and ahead[at] not in GOES_ON) or (
+                message in FIRST and has_end and has_method):
+            if at > begin:
+                yield range(begin, at)
+            begin, has_method = at, False
+        has_end = message in ("Success", "Failure")
+        has_method = has_method or message in OF_PEER or message in OF_SERVER or message == "Nak"
+    if messages:
+        yield range(begin, len(messages))
+
+
+MOST_ALTERED = 4
+
 
 def find_altered(rows: list[Row]) -> None:
-    """A packet with a wrong tag that comes again with a right one was altered on its way: `was` are the octets of the
-    right one. The two have one sender, one Identifier and one length."""
-    for row in rows:
-        if row.word == "tag-bad" and row.octets is not None:
-            twins = (it.octets for it in rows if it.word == "tag-good" and it.sender == row.sender and it.octets)
-            row.was = next((it for it in twins if it[:4] == row.octets[:4] and len(it) == len(row.octets)), None)
+    """A packet with a wrong tag that comes again with a right one was altered on its way: `was` are the octets of the right
+    one. The two have one sender, one Identifier and one length, and differ in few octets."""
+    good: dict[tuple[str, bytes], bytes] = {}
+    for row in reversed(rows):
+        key = row.sender, (row.octets or b"")[:4]
+        if row.word == "tag-good" and row.octets:
+            good[key] = row.octets
+        elif row.word == "tag-bad" and row.octets and len(good.get(key, b"")) == len(row.octets):
+            row.was = good[key]
+            row.was = row.was if len(row.altered) <= MOST_ALTERED else None
+
+
+def rows_of(part: Packets, findings: Sequence[str]) -> list[Row]:
+    """The rows of a login."""
+    rows = []
+    for it, finding in zip(part, findings):
+        sender, receiver = ("server", "peer") if it.is_to_peer else ("peer", "server")
+        row = Row("arrow", str(it.number), sender=sender, receiver=receiver, title=title_of(it.octets), octets=it.octets)
+        row.finding, row.at = finding, it.at
+        if it.radius:
+            row.carrier = f"{it.radius.name}, {it.radius.verdict}" if it.radius.verdict else it.radius.name
+            row.is_ignored = it.radius.get(frames.ERROR_CAUSE) == frames.IGNORED
+        rows.append(row)
+    find_altered(rows)
+    return rows
 
 
 def of_a_capture(capture: Capture) -> Ladder:
     """The parties are the peer and whatever it talks to."""
-    findings, counted = findings_of(capture)
-    rows = []
-    for it in capture.packets:
-        sender, receiver = ("server", "peer") if it.is_to_peer else ("peer", "server")
-        row = Row("arrow", str(it.number), sender=sender, receiver=receiver, title=title_of(it.octets), octets=it.octets)
-        row.finding, row.at = findings[it.place], it.at
-        if it.radius:
-            row.carrier = f"{it.radius.name}, {it.radius.verdict}" if it.radius.verdict else it.radius.name
-        rows.append(row)
-    find_altered(rows)
+    findings, counted = findings_of(capture.packets, capture.users)
+    rows = [row for it in logins_of(capture.packets.octets)
+            for row in rows_of(capture.packets.of([it]), findings[it.start : it.stop])]
     return Ladder(["peer", "server"], rows, capture, counted=counted)

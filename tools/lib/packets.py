@@ -5,6 +5,7 @@ A packet that is short or odd gives the fields that it has, and what is wrong wi
 from __future__ import annotations
 
 from dataclasses import dataclass, field
+from functools import cached_property, lru_cache
 from typing import Callable, Optional
 
 from lib.texts import shown
@@ -40,7 +41,7 @@ class Reading:
     fields: list[Field] = field(default_factory=list)
     faults: list[str] = field(default_factory=list)
 
-    @property
+    @cached_property
     def message(self) -> str:
         """The name of the message, whatever form it has."""
         return self.name.removeprefix("Expanded ")
@@ -51,11 +52,11 @@ class Reading:
     def note(self, name: str) -> str:
         return next((it.note for it in self.fields if it.name == name), "")
 
-    @property
+    @cached_property
     def number(self) -> dict[str, int]:
         return {it.name: int.from_bytes(it.octets, "big") for it in self.fields}
 
-    @property
+    @cached_property
     def identity(self) -> str:
         """The name of an end that the message names, as it is shown."""
         octets = self.get(NAMING.get(self.message, ""))
@@ -314,8 +315,9 @@ def take_header(reader: Reader) -> int:
     return code
 
 
+@lru_cache(maxsize=4096)
 def read(octets: bytes) -> Reading:
-    """The fields of a packet."""
+    """The fields of a packet; who is given them changes nothing."""
     reading = Reading()
     reader = Reader(octets, len(octets), reading)
     try:

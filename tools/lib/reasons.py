@@ -2,17 +2,19 @@
 
 from __future__ import annotations
 
+import re
+from bisect import bisect_left, bisect_right
+from collections import Counter
 from dataclasses import dataclass, field
-from typing import Callable, Iterator, Optional
+from typing import Callable, Iterable, Iterator, Optional, Sequence
 
-from lib import packets, words
-from lib.ladder import MARKS, Ladder, Row
+from lib import macs, packets, words
+from lib.captures import Capture
+from lib.ladder import (FIRST, LAST, MARKS, MOST_ALTERED, OF_PEER, OF_SERVER, SECOND, THIRD, Ladder, Row, findings_of, logins_of,
+                        rows_of)
 from lib.packets import Reading
 from lib.replays import Replay
 
-# The messages with which a method goes on, by who sends them.
-OF_PEER, OF_SERVER = ("GPSK-2", "GPSK-4", "PSK-2", "PSK-4"), ("GPSK-1", "GPSK-3", "PSK-1", "PSK-3")
-FIRST, SECOND, THIRD, LAST = ("GPSK-1", "PSK-1"), ("GPSK-2", "PSK-2"), ("GPSK-3", "PSK-3"), ("GPSK-4", "PSK-4")
 KIND_OF = {"GPSK": "51", "PSK": "47"}
 FAILS = {
     1: "the server has no key for {user}",
@@ -56,24 +58,53 @@ def joined(kind: str) -> str:
 
 
 class Login:
-    """The rows of one login in a capture, with what they say."""
+    """The rows of one login in a capture, with what they say. Of what stands from its first packet on, before the next
+    login, and isn't among the rows: frames that are cut, EAPOL-Starts, how many frames may be of another station, how many
+    packets are too many; the next login's first packet, and the time at which the capture ends."""
 
     def __init__(self, rows: list[Row], users: list[tuple[str, str, str]]) -> None:
         self.rows, self.users = rows, users
         self.read = [it.reading for it in rows]
         self.messages = [it.message for it in self.read]
+        self.places: dict[str, list[int]] = {}
+        for at, message in enumerate(self.messages):
+            self.places.setdefault(message, []).append(at)
         self.tries: list[str] = []
+        self.cut: list[tuple[int, int, int]] = []
+        self.starts: list[tuple[int, float]] = []
+        self.unsure = self.left = 0
+        self.next: Optional[int] = None
+        self.until: Optional[float] = None
+        self.is_other = False
+
+    @property
+    def is_whole(self) -> bool:
+        """Whether what isn't among the rows isn't in the capture either."""
+        return not (self.cut or self.unsure or self.left)
 
     def first(self, *messages: str, after: int = -1) -> Optional[int]:
         """The place of the first of these messages behind a place."""
-        return next((at for at, it in enumerate(self.messages) if at > after and it in messages), None)
+        found = [its[at] for it in messages if (at := bisect_right(its := self.places.get(it, []), after)) < len(its)]
+        return min(found, default=None)
+
+    def last(self, *messages: str, before: int) -> Optional[int]:
+        """The place of the last of these messages before a place."""
+        found = [its[at - 1] for it in messages if (at := bisect_left(its := self.places.get(it, []), before))]
+        return max(found, default=None)
+
+    def has_good(self, *messages: str, before: Optional[int] = None) -> bool:
+        return any(it.word == "tag-good" and message in messages for it, message in zip(self.rows[:before], self.messages))
 
     @property
     def user(self) -> str:
         """Who logs in, by the method's message, else by the Identity Response."""
         naming = [it.identity for it in self.read if it.message in SECOND]
-        outer = [it.identity for it in self.read if it.message == "Identity" and it.identity]
-        return (naming or outer or [""])[0]
+        return (naming or [self.outer(len(self.read))])[0]
+
+    def outer(self, before: int) -> str:
+        """The name in the last Identity Response before a place."""
+        found = [it.identity for row, it in zip(self.rows[:before], self.read) if it.message == "Identity" and row.sender == "peer"]
+        return found[-1] if found else ""
 
     @property
     def kind(self) -> str:
@@ -100,34 +131,103 @@ class Login:
     def called(self, at: int) -> str:
         return f"packet {self.rows[at].number}, {self.read[at].called}"
 
+    def has_start(self, one: int, other: int) -> bool:
+        """Whether the station sent EAPOL-Start between two of the rows."""
+        return any(int(self.rows[one].number) < it < int(self.rows[other].number) for it, _ in self.starts)
 
-def logins_of(rows: list[Row], users: list[tuple[str, str, str]]) -> list[Login]:
-    """A login begins with an Identity Request, or Response, after a message of a method or an end; or with a first
-    message of a method after an end of one."""
-    found: list[list[Row]] = []
-    has_end = has_method = False
-    for row in rows:
-        message = row.reading.message
-        if not found or (message == "Identity" and (has_end or has_method)) or (message in FIRST and has_end and has_method):
-            found.append([])
-            has_method = False
-        found[-1].append(row)
-        has_end = message in ("Success", "Failure")
-        has_method = has_method or message in OF_PEER + OF_SERVER or message == "Nak"
-    return [Login(it, users) for it in found]
+
+def of_missing(login: Login) -> Iterator[Reason]:
+    """What the capture has a part of alone, so that nothing can be said of what isn't there."""
+    what = "so no MAC that rests on it is judged" if login.end is not None and login.messages[-1] == "Success" else (
+        "so what failed can't be said")
+    for number, kept, wire in login.cut[:MOST_CUT]:
+        if kept < wire:
+            login.tries.append("capture again by `tcpdump -s 0`, which keeps whole frames")
+            yield Reason(None, f"packet {number} is here with {kept} of its {wire} octets: {what}")
+        else:
+            yield Reason(None, f"packet {number} isn't whole, being a fragment, or shorter than it says: {what}")
+    if len(login.cut) > MOST_CUT:
+        yield Reason(None, f"{len(login.cut) - MOST_CUT} more packets are cut so")
+    if login.unsure:
+        yield Reason(None, f"frames to a group address that can be of several stations are left out ({login.unsure}): so of what "
+                           "isn't here nothing can be said")
+    if login.left:
+        yield Reason(None, f"it has {login.left} packets more, which are left out: a login is told by its first {MOST_ROWS}")
+
+
+# The fields of a message that an earlier one of the same login brought (RFC 5433 section 10, RFC 4764 section 5).
+ECHOES = {
+    "GPSK-2": ("GPSK-1", ("RAND_Server", "ID_Server", "CSuite_List")),
+    "GPSK-3": ("GPSK-2", ("RAND_Peer", "RAND_Server", "ID_Server", "CSuite_Sel")),
+    "PSK-2": ("PSK-1", ("RAND_S",)),
+    "PSK-3": ("PSK-1", ("RAND_S",)),
+    "PSK-4": ("PSK-1", ("RAND_S",)),
+}
+
+
+def of_echoes(login: Login) -> Iterator[Reason]:
+    """Fields that aren't those of the message that they repeat."""
+    brought: set[tuple[object, ...]] = set()
+    for at, (row, message, read) in enumerate(zip(login.rows, login.messages, login.read)):
+        brought.update((later, *map(read.get, names)) for later, (its, names) in ECHOES.items() if its == message)
+        earlier, names = ECHOES.get(message, ("", ()))
+        before = login.last(earlier, before=at)
+        if before is None or (message, *map(read.get, names)) in brought or read.faults:
+            continue
+        pairs = [(it, read.get(it) or b"", login.read[before].get(it) or b"") for it in names]
+        # (a few octets of a message with a wrong MAC were changed in that one)
+        if row.word == "tag-bad" and sum(it != was for _, its, other in pairs for it, was in zip(its, other)) <= MOST_ALTERED:
+            continue
+        row.is_other = login.is_other = True
+        wrong = [name for name, its, other in pairs if its != other]
+        are = "are not those" if len(wrong) > 1 else "is not that"
+        yield Reason(row, f"its {' and '.join(wrong)} {are} of packet {login.rows[before].number}, {earlier}: one of both was "
+                     f"altered between the ends, or {message} is of another {earlier} than is here; who gets it refuses it, "
+                     "whatever its MAC")
+
+
+def of_repeats(login: Login) -> Iterator[Reason]:
+    """A Request that the peer takes for one that it answered before, for its Identifier (RFC 4137 section 4.1)."""
+    answered: dict[int, tuple[int, Optional[bytes]]] = {}
+    request = -1
+    for at, row in enumerate(login.rows):
+        code, identifier = (row.octets or b"\0")[0], login.read[at].number.get("Identifier", -1)
+        if code == 1:
+            request = at
+        elif code == 2 and request >= 0 and login.read[request].number.get("Identifier") == identifier:
+            before, octets = answered.setdefault(identifier, (request, row.octets))
+            if octets == row.octets and login.rows[before].octets != login.rows[request].octets:
+                yield Reason(login.rows[request], f"the peer takes it for a repetition of {login.called(before)}, which has its "
+                             f"Identifier, and sends that one's answer again (RETRANSMIT, packet {row.number}): one of both is forged, "
+                             "or the server uses an Identifier twice")
 
 
 def of_tags(login: Login) -> Iterator[Reason]:
+    told: set[str] = set()
     for at, row in enumerate(login.rows):
-        if row.word == "tag-bad":
-            yield Reason(row, wrong_tag(login, at))
+        message = login.messages[at]
+        if row.word == "tag-bad" and not row.is_other:
+            said = mac_of(login, at) if message not in told else ""
+            told.add(message)
+            yield Reason(row, wrong_tag(login, at) + (f" ({said})" if said else ""))
         elif row.word == "no-key":
             yield Reason(row, without_key(login, login.read[at]))
         elif row.word == "malformed":
             cause = row.finding.split(" ")[1]
             yield Reason(row, f"it is malformed ({cause}): {words.cause_said(cause, party='other end', server='', user='')}")
-        elif row.word == "no-context" and not any(it.word in ("tag-bad", "no-key") for it in login.rows[:at]):
-            yield Reason(row, "its MAC isn't judged, since the message that it rests on isn't in the capture")
+        elif row.word == "no-context" and login.is_whole and not row.is_other:
+            rests = ("PSK-1",) if message == "PSK-2" else SECOND
+            if login.last(*rests, before=at) is None:
+                yield Reason(row, "its MAC isn't judged, since the message that it rests on isn't in the capture")
+
+
+def mac_of(login: Login, at: int) -> str:
+    """The MACs received and computed, where the key is known."""
+    second = at if login.messages[at] in SECOND else login.last(*SECOND, before=at)
+    name = login.read[second].identity if second is not None else ""
+    kind = KIND_OF.get(login.messages[at].split("-")[0], "")
+    key = next((key for user, its, key in login.users if (user, its) == (name, kind)), "")
+    return macs.told(login.rows[at].octets or b"", login.read[at], login.read[:at], key) if key else ""
 
 
 def wrong_tag(login: Login, at: int) -> str:
@@ -137,15 +237,22 @@ def wrong_tag(login: Login, at: int) -> str:
         places = ", ".join(f"octet {it} is {row.octets[it]:02x} and then {row.was[it]:02x}" for it in row.altered[:4])
         return f"its MAC is wrong: it was altered on its way, for it came again with a right one ({places})"
     if message not in SECOND:
-        return ("its MAC is wrong, though this login's first MAC is right under the key given: an octet was changed on its "
-                "way, or it is forged")
+        second = {it.octets for it, its in zip(login.rows[:at], login.messages) if it.word == "tag-good" and its in SECOND}
+        if len(second) == 1:
+            return ("its MAC is wrong, though this login's first MAC is right under the key given: an octet was changed on its "
+                    "way, or it is forged")
+        return "its MAC is wrong beside the last message that it can rest on, which isn't sure to be that of its own login"
+    if login.has_good(*SECOND):
+        return (f"its MAC is wrong, and another {message} of this login has a right one under the key given: it was changed on "
+                "its way, or is forged")
     after = login.first(*THIRD, "Failure", after=at)
-    said = f"its MAC is wrong under the key given for {named(login.user)}"
-    if after is not None and login.messages[after] in THIRD:
+    said = f"its MAC is wrong under the key given for {named(login.read[at].identity)}"
+    others = {it.octets for it, its in zip(login.rows, login.messages) if its in SECOND}
+    if after is not None and login.messages[after] in THIRD and len(others) == 1:
         login.tries.append("give the key that the server has for this user: the one given isn't the login's")
         return f"{said}, and the server took it (packet {login.rows[after].number}): both ends have another key than that"
     said += ": the peer has another key, or an octet was changed on its way"
-    if after is not None:
+    if after is not None and login.messages[after] == "Failure" and login.is_whole:
         said += f"; the server ended the login with packet {login.rows[after].number}, Failure"
     login.tries.append("give the server's key, if the one given isn't it; else compare the peer's key with it, octet by octet")
     return said
@@ -181,81 +288,117 @@ def users_given(login: Login, name: str) -> str:
 
 def of_lost(login: Login) -> Iterator[Reason]:
     """Requests that came again, since no answer had come to the server."""
-    seen: dict[tuple[str, Optional[bytes]], int] = {}
+    seen: dict[Optional[bytes], int] = {}
+    answer = -1
     for at, row in enumerate(login.rows):
-        key = (row.sender, row.octets)
-        if key in seen and row.receiver == "peer" and login.messages[at] not in ("Success", "Failure"):
-            before = login.rows[seen[key]]
-            said = f"the server sent packet {before.number} again"
-            if row.at is not None and before.at is not None:
-                said += f" after {row.at - before.at:.1f} s"
-            answers = [it for it in range(seen[key], at) if login.rows[it].sender == "peer"]
-            said += (f": the answer, packet {login.rows[answers[-1]].number}, hadn't come to it, or it discarded it"
-                     if answers else ": no answer had come; a packet was lost, or the peer discarded it")
-            yield Reason(row, said)
-        seen.setdefault(key, at)
+        if row.sender == "peer":
+            answer = at
+        if row.sender == "peer" or login.messages[at] in ("Success", "Failure"):
+            continue
+        before = seen.get(row.octets)
+        seen[row.octets] = at
+        if before is None or not login.is_whole or login.has_start(before, at):
+            continue
+        first, was = login.rows[before], login.rows[before].at
+        after = row.at - was if row.at is not None and was is not None else None
+        if after is not None and after < TWICE_SECONDS and answer < before:
+            yield Reason(row, f"it is packet {first.number} again, {1000 * after:.1f} ms later: captured twice, as by a mirror "
+                              "port, or doubled on its way")
+            continue
+        said = f"the server sent packet {first.number} again" + (f" after {after:.1f} s" if after is not None else "")
+        if answer < before:
+            said += ": no answer had come; a packet was lost, or the peer discarded it"
+        elif row.is_ignored:
+            said += f": it says by Error-Cause 202 that it ignored the answer, packet {login.rows[answer].number}"
+        else:
+            said += f": the answer, packet {login.rows[answer].number}, hadn't come to it, or it discarded it"
+        yield Reason(row, said)
 
 
 def of_failure(login: Login) -> Iterator[Reason]:
     """What the messages of a failure say, and a Failure by what stands before it."""
+    told: set[Optional[bytes]] = set()
     for at, reading in enumerate(login.read):
-        code = reading.number.get("Failure-Code")
+        row, code = login.rows[at], reading.number.get("Failure-Code")
         if code is not None:
-            said = FAILS.get(code, f"the server ends the method by the code {code}").format(user=named(login.user))
-            if reading.message == "GPSK-Fail":
-                said += ("; a GPSK-Fail has no MAC, so anybody can have sent it" if login.rows[at].sender == "server"
-                         else "; so the peer answers it")
-            if login.rows[at].sender == "server" and login.rows[at].octets not in [it.octets for it in login.rows[:at]]:
-                yield Reason(login.rows[at], said)
+            if row.sender == "server" and row.octets not in told and row.word != "malformed":
+                yield Reason(row, code_said(login, at, code))
+            told.add(row.octets)
         elif reading.message in ("Failure", "Success"):
-            others = ("Success",) if reading.message == "Failure" else ()
-            goes_on = login.first(*OF_SERVER, *others, after=at) or login.first(*OF_PEER, after=at)
-            if goes_on is not None:
-                yield Reason(login.rows[at], early_end(login, at, goes_on))
-            elif reading.message == "Failure" and at == login.end and (why := failure(login, at)):
-                yield Reason(login.rows[at], why)
+            if why := early_end(login, at) or (failure(login, at) if reading.message == "Failure" and at == login.end else ""):
+                yield Reason(row, why)
 
 
-def early_end(login: Login, at: int, goes_on: int) -> str:
-    """A Success or a Failure after which the login goes on."""
-    row, message = login.rows[goes_on], login.messages[at]
-    said = (f"a {message} in the middle of the login, and the {row.sender} went on with {login.called(goes_on)}: the server "
-            f"didn't send it. Nothing authenticates a {message}, so anybody can send one")
-    if row.sender == "server" and login.first(*OF_PEER, after=goes_on) is None:
-        said += "; the peer believed it, and answered no more"
-    return said
+def code_said(login: Login, at: int, code: int) -> str:
+    """What the server says by a message that ends the method."""
+    said = FAILS.get(code, f"the server ends the method by the code {code}").format(user=named(login.user))
+    if login.messages[at] == "GPSK-Fail":
+        return said + "; a GPSK-Fail has no MAC, so anybody can have sent it"
+    return said if login.rows[at].word == "tag-good" else f"it says that {said}; its MAC isn't known to be right"
+
+
+def early_end(login: Login, at: int) -> str:
+    """A Success or a Failure after which the login goes on: the server by what it hadn't sent just before."""
+    message, row = login.messages[at], login.rows[at]
+    others = ("Success",) if message == "Failure" else ()
+    goes_on = login.first(*OF_SERVER, *others, after=at)
+    later = login.first(*OF_PEER, after=at)
+    if goes_on is None:
+        return "" if later is None else (f"the peer went on with {login.called(later)}, after it: it didn't take the {message}, or had "
+                                         "sent that before it came")
+    on = login.rows[goes_on]
+    is_old = any(it.octets == on.octets for it in login.rows[max(0, at - 8) : at])
+    if is_old and on.at is not None and row.at is not None and on.at - row.at < AT_ONCE_SECONDS:
+        return ""
+    before = login.last(*OF_SERVER, "Identity", before=at)
+    follows = is_old or before is not None and (login.read[before].number.get("Identifier", -2) + 1) % 256 == login.read[goes_on].number.get("Identifier")
+    said = f"a {message} in the middle of the login, and the server went on with {login.called(goes_on)}: "
+    said += ("the server didn't send it" if follows or login.messages[goes_on] == "Success" else
+             "the server didn't send it, or what came between isn't in the capture")
+    said += f". Nothing authenticates a {message}, so anybody can send one"
+    is_silent = login.messages[goes_on] != "Success" and login.first(*OF_PEER, after=goes_on) is None
+    return said + ("; the peer believed it, and answered no more" if is_silent else "")
 
 
 def failure(login: Login, at: int) -> str:
-    """Why a server may have ended a login with a Failure."""
-    before = [it for it in login.messages[:at] if it not in ("Identity", "Notification")]
-    if login.has_code or any(
+    """Why a server may have ended a login with a Failure, where what stands before it is the whole of it."""
+    if login.has_code or login.is_other or not login.is_whole or any(
             it.word == "tag-bad" and it.was is None for it in login.rows[:at]):
         return ""
-    if not before:
-        near = [user for user, _, _ in login.users if plain(user) == plain(login.user) and user != login.user]
-        rule = f"; {users_given(login, login.user)}" if near else ""
-        return f"the server refused {named(login.user)} at once: it has no such user, or no method for it{rule}"
-    if "Nak" in before:
-        return no_method(login, at)
-    last = login.rows[at - 1]
-    if before[-1] in SECOND and last.word == "tag-good":
+    last = login.last(*{*login.places} - {"Success", "Failure", "Notification"}, before=at)
+    if last is None:
+        return "what came before it isn't in the capture, so what failed can't be said"
+    here, ended = login.read[last], f"the server ended the login after {login.called(last)}"
+    if here.number.get("Identifier") != login.read[at].number.get("Identifier"):
+        return (f"its Identifier is {login.read[at].number.get('Identifier')}, and that of packet {login.rows[last].number}, the last "
+                f"before it, {here.number.get('Identifier')}: packets between both aren't in the capture, so what failed can't be said")
+    if here.message == "Identity" and login.rows[last].sender == "peer":
+        is_given = any(user == here.identity for user, _, _ in login.users)
+        rule = f"; {users_given(login, here.identity)}" if login.users and not is_given else ""
+        return f"the server refused {named(here.identity)} at once: it has no such user, or no method for it{rule}"
+    if here.message == "Nak":
+        return no_method(login, last)
+    outer = login.outer(at)
+    if here.message in SECOND and outer and outer != here.identity:
+        login.tries.append("let the station give one name, or the server take the name inside (FreeRADIUS: `inner_identity = yes`)")
+        return f"{ended}, whose name isn't the Identity's, `{outer}`: it may refuse that, or have another key, or no such user"
+    if here.message in SECOND and login.rows[last].word == "tag-good":
         login.tries.append("give the key that the server has: a wrong MAC under it says that the peer's is another")
-        return (f"the server ended the login after {login.called(at - 1)}, whose MAC is right under the key given: the "
-                "server itself has another key for this user, or has no such user")
-    if before[-1] in SECOND:
-        return f"the server ended the login after {login.called(at - 1)}: another key, or no such user there"
-    if before[-1] in LAST:
+        return (f"{ended}, whose MAC is right under the key given: the server itself has another key for this user, or no such "
+                "user, or bars it, or got another packet than this one")
+    if here.message in SECOND:
+        return f"{ended}: another key, or no such user there"
+    if here.message in LAST:
         login.tries.append("look whether the server bars this user: EAP-PSK says so under encryption alone")
-        return "the server ended the login after the method's last message: it bars this user, or its policy refuses"
-    if before[-1] in FIRST:
-        return f"the server ended the login without an answer to {login.called(at - 1)}"
-    return f"the server ended the login after {login.called(at - 1)}"
+        found = "" if login.rows[last].word == "tag-good" else "it found its MAC wrong, "
+        return f"the server ended the login after the method's last message: {found}it bars this user, or its policy refuses"
+    if here.message in FIRST or login.rows[last].sender == "server":
+        return f"the server ended the login without an answer to {login.called(last)}"
+    return ended
 
 
-def no_method(login: Login, at: int) -> str:
-    nak = next(it for it in range(at - 1, -1, -1) if login.messages[it] == "Nak")
-    asked = login.read[nak - 1].called if nak else "a method"
+def no_method(login: Login, nak: int) -> str:
+    asked = next((login.read[it].called for it in range(nak - 1, -1, -1) if login.rows[it].sender == "server"), "a method")
     desired = login.read[nak].desired
     login.tries.append("let the server propose a method that the peer allows, or the peer allow the server's")
     kind = "EAP-GPSK" if asked.startswith("GPSK") else "EAP-PSK" if asked.startswith("PSK") else asked
@@ -265,20 +408,40 @@ def no_method(login: Login, at: int) -> str:
 
 def of_no_end(login: Login) -> Iterator[Reason]:
     """A login whose end isn't in the capture."""
-    if login.has_code or any(it in ("Success", "Failure") for it in login.messages):
+    if login.has_code or any(it in ("Success", "Failure") for it in login.messages) or not login.is_whole:
         return
-    last = login.rows[-1]
-    if login.messages[-1] in FIRST and last.sender == "server":
+    last, by_peer = login.rows[-1], [it for it in login.rows if it.sender == "peer"]
+    starts = [it for it in login.starts if it[0] > int(last.number)]
+    is_over = last.at is not None and login.until is not None and login.until - last.at > LONG_SECONDS
+    ended = "" if is_over else ", or the capture ended before"
+    if starts and by_peer:
+        after = f", {starts[0][1] - last.at:.1f} s later" if last.at is not None else ""
+        yield Reason(last, f"the station began again by EAPOL-Start (packet {starts[0][0]}{after}) in the middle of the login: it "
+                           "was restarted, or gave up")
+    elif last.carrier.startswith("Access-Request"):
+        again = sum(it.octets == last.octets for it in login.rows)
+        wrong = any(it.carrier.endswith("tag-bad") for it in login.rows)
+        yield Reason(last, f"no answer of the RADIUS server to it is here, sent {again} time{'s' * (again > 1)}" + ("" if wrong else
+                           ": it is down or can't be reached, doesn't know this client's address, has another secret (`--secret TEXT` "
+                           f"judges that)" + (ended if again == 1 else "")))
+    elif login.next is not None:
+        yield Reason(last, f"no answer to it is here, and with packet {login.next} another login begins: an end was restarted or "
+                           "gave up, or packets aren't in the capture")
+    elif login.messages[-1] in FIRST:
         yield Reason(last, "the peer doesn't answer it: it allows no ciphersuite of the list, accepts another server "
-                           f"name than `{login.read[-1].identity}`, or its answer was lost")
-    elif login.kind or len(login.rows) > 1:
-        yield Reason(last, "the capture ends with it, without a Success or a Failure: what came next was lost, or wasn't "
-                           "captured")
+                           f"name than `{login.read[-1].identity}`, its answer was lost{ended}")
+    elif last.sender == "peer":
+        yield Reason(last, "no answer to it is in the capture: the server, or the login server behind the access point, didn't "
+                           f"answer, the answer was lost{ended}")
+    elif not by_peer:
+        yield Reason(last, f"no answer to it is in the capture: no supplicant runs at the station, its answer was lost{ended}")
+    else:
+        yield Reason(last, f"no answer to it is in the capture: the peer discarded it, or is gone, the answer was lost{ended}")
 
 
 def of_others(login: Login) -> Iterator[Reason]:
     """Methods that aren't judged here, and RADIUS packets whose authenticators are wrong."""
-    types = {it.number.get("Type", 0) for it in login.read} - {0, 1, 2, 3, 47, 51}
+    types = {it.number.get("Type", 0) for row, it in zip(login.rows, login.read) if row.sender == "peer"} - {0, 1, 2, 3, 47, 51}
     if types and not login.kind:
         names = ", ".join(packets.TYPES.get(it, f"Type {it}") for it in sorted(types))
         yield Reason(None, f"the method is {names}, and EAP-PSK and EAP-GPSK alone are judged")
@@ -293,69 +456,119 @@ def of_others(login: Login) -> Iterator[Reason]:
             yield Reason(row, f"the RADIUS packet around it isn't well-formed ({verdict}): {words.cause_said(verdict)}")
 
 
-RULES: tuple[Callable[[Login], Iterator[Reason]], ...] = (of_tags, of_lost, of_failure, of_no_end, of_others)
+RULES: tuple[Callable[[Login], Iterator[Reason]], ...] = (
+    of_missing, of_echoes, of_repeats, of_tags, of_lost, of_failure, of_no_end, of_others)
+NONCES = {"GPSK-1": "RAND_Server", "PSK-1": "RAND_S", "GPSK-2": "RAND_Peer", "PSK-2": "RAND_P"}
+# The packets that are told of a login, its cut packets, and how many are judged at once; seconds.
+MOST_ROWS, MOST_CUT, MOST_AT_ONCE = 4096, 4, 20000
+TWICE_SECONDS, AT_ONCE_SECONDS, LONG_SECONDS = 0.005, 0.05, 5
 
 
-def repeated_nonces(logins: list[Login]) -> Iterator[Reason]:
-    """Nonces that stood in an earlier login of the same end."""
-    seen: dict[tuple[str, bytes], Row] = {}
-    for login in logins:
-        own: dict[tuple[str, bytes], Row] = {}
+class Nonces:
+    """The nonces of earlier logins: of each end's, the packet in which it stood."""
+
+    def __init__(self) -> None:
+        self.seen: dict[bytes, str] = {}
+        self.open: set[Optional[bytes]] = set()
+
+    def repeated(self, login: Login) -> Iterator[Reason]:
+        """Nonces that stood in an earlier login of the same end; a message that a login without an end had too is that again."""
+        own: dict[bytes, str] = {}
         for row, reading in zip(login.rows, login.read):
-            for name in ("RAND_Server", "RAND_S") if reading.message in FIRST else (
-                    "RAND_Peer", "RAND_P") if reading.message in SECOND else ():
-                nonce = reading.get(name)
-                if nonce and (name, nonce) in seen:
-                    first = seen[name, nonce]
-                    yield Reason(row, f"its {name} stood in packet {first.number} too, in another login: a nonce has to be "
-                                      "fresh, or an old login can be played again")
-                elif nonce:
-                    own.setdefault((name, nonce), row)
-        seen.update(own)
+            name = NONCES.get(reading.message, "")
+            nonce = name.encode() + (reading.get(name) or b"")
+            if name and nonce in self.seen and row.octets not in self.open:
+                yield Reason(row, f"its {name} stood in packet {self.seen[nonce]} too, in another login: a nonce has to be fresh, "
+                                  "or an old login can be played again")
+            elif name:
+                own.setdefault(nonce, row.number)
+        self.seen = {**own, **self.seen} if not self.seen else self.seen
+        for nonce, number in own.items():
+            self.seen.setdefault(nonce, number)
+        self.open = set() if login.end is not None else {it.octets for it in login.rows}
 
 
-def story_of_login(login: Login) -> Story:
+def folded(reasons: list[Reason]) -> list[Reason]:
+    """Reasons of the same words on messages of the same name, as one: the first, which names the others."""
+    groups: dict[tuple[str, str], list[Reason]] = {}
+    for it in reasons:
+        text = re.sub(r"packet \d+|[\d.]+ m?s\b| \([^()]*computed[^()]*\)", "#", it.text).rstrip("#")
+        groups.setdefault((it.row.reading.called if it.row else it.text, text), []).append(it)
+    found = []
+    for first, *others in groups.values():
+        numbers = ", ".join(it.row.number for it in others if it.row)
+        more = f"; the same of packet{'s' * (len(others) > 1)} {numbers}" if others else ""
+        found.append(Reason(first.row, first.text + more))
+    return found
+
+
+def story_of_login(login: Login, nonces: Nonces) -> Story:
     reasons = [it for rule in RULES for it in rule(login)]
-    order = {id(row): at for at, row in enumerate(login.rows)}
-    reasons.sort(key=lambda it: order.get(id(it.row), len(order)))
-    who = f"the login of {login.user}" if login.user else "a login"
-    by = f" by {words.METHODS[login.kind]}" if login.kind else ""
-    front = f"{who}{by}, {login.range}"
+    if len(reasons) > 1:
+        order = {id(row): at for at, row in enumerate(login.rows)}
+        reasons.sort(key=lambda it: order.get(id(it.row), len(order)))
+        reasons = folded(reasons)
+    twice = list(nonces.repeated(login))
+    user, kind = login.user, login.kind
+    front = (f"the login of {user}" if user else "a login") + (f" by {words.METHODS[kind]}" if kind else "") + f", {login.range}"
     has_success = login.messages[-1] == "Success" or "Success" in login.messages and login.end is None
     is_bad = any(it.word in ("tag-bad", "malformed") and it.was is None for it in login.rows)
-    judged = [it for it in login.rows if it.word in ("tag-good", "tag-bad")]
     if has_success:
-        kind = "open" if is_bad or not judged else "good"
+        judged = [it for it in login.rows if it.word in ("tag-good", "tag-bad")]
         said = "each MAC that was judged is right" if judged else "no MAC was judged"
         if is_bad:
             said = "a MAC is wrong, or a packet malformed"
         elif any(it.word == "tag-bad" for it in login.rows):
             said = "what was altered came again with a right MAC"
-        story = Story(kind, f"{front}: it ended with Success, and {said}", reasons, login.tries)
+        story = Story("open" if is_bad or not judged else "good", f"{front}: it ended with Success, and {said}")
     elif "Failure" in login.messages or login.has_code:
-        story = Story("bad", f"{front}: it failed", reasons, login.tries)
+        story = Story("bad", f"{front}: it failed")
     else:
-        story = Story("bad" if is_bad else "open", f"{front}: it has no end here", reasons, login.tries)
+        story = Story("bad" if is_bad else "open", f"{front}: it has no end here")
+    story.kind = "bad" if twice else story.kind
+    story.reasons, story.tries = reasons + twice, login.tries
     return story
 
 
-def counts_of(rows: list[Row]) -> str:
-    judged = [it for it in rows if it.word in ("tag-good", "tag-bad")]
-    wrong = sum(it.word == "tag-bad" for it in judged)
-    return f"packets {len(rows)}; whose tags were judged: {len(judged)}, wrong: {wrong}"
+def batches_of(parts: Iterable[range]) -> Iterator[list[range]]:
+    """Logins one behind the other, so many that the program is asked of them at once."""
+    found: list[range] = []
+    for it in parts:
+        if found and it.start - found[0].start > MOST_AT_ONCE:
+            yield found
+            found = []
+        found.append(it)
+    if found:
+        yield found
 
 
-def of_capture(ladder: Ladder) -> list[Story]:
-    logins = logins_of(ladder.rows, ladder.capture.users)
-    stories = [story_of_login(it) for it in logins]
-    place = {id(row): at for at, it in enumerate(logins) for row in it.rows}
-    for reason in repeated_nonces(logins):
-        story = stories[place[id(reason.row)]]
-        story.reasons.append(reason)
-        story.kind = "bad"
-    if stories:
-        stories[-1].facts.append(counts_of(ladder.rows))
-    return stories
+def of_capture(capture: Capture, rows: Optional[Sequence[Row]] = None) -> Iterator[Story]:
+    """What came of each login of a capture, with its rows where these are made; else they are made and left, batch by batch."""
+    nonces, count = Nonces(), Counter[str]()
+    packets, story, last = capture.packets, None, len(capture.packets)
+    cut, starts = list(reversed(capture.cut)), list(reversed(capture.starts))
+    for batch in batches_of(logins_of(packets.octets)):
+        told = [range(it.start, min(it.stop, it.start + MOST_ROWS)) for it in batch]
+        findings = [] if rows is not None else findings_of(packets.of(told), capture.users)[0]
+        at = 0
+        for part, whole in zip(told, batch):
+            if story:
+                yield story
+            mine = rows[part.start : part.stop] if rows is not None else rows_of(packets.of([part]), findings[at : at + len(part)])
+            at += len(part)
+            login = Login(list(mine), capture.users)
+            login.left, login.unsure, login.until = len(whole) - len(part), capture.unsure, capture.until
+            login.next = packets.numbers[whole.stop] if whole.stop < last else None
+            while cut and (login.next is None or cut[-1][0] < login.next):
+                login.cut.append(cut.pop())
+            while starts and (login.next is None or starts[-1][0] < login.next):
+                login.starts.append(starts.pop())
+            count.update(it.word for it in login.rows)
+            story = story_of_login(login, nonces)
+    if story:
+        judged = count["tag-good"] + count["tag-bad"]
+        story.facts.append(f"packets {last}; whose tags were judged: {judged}, wrong: {count['tag-bad']}")
+        yield story
 
 
 # ---- A replay.
@@ -418,6 +631,21 @@ def of_discards(ladder: Ladder) -> Iterator[Reason]:
                 yield Reason(row, "it is injected, and the peer takes it")
 
 
+def of_repetitions(ladder: Ladder) -> Iterator[Reason]:
+    """Requests that the peer answers by RETRANSMIT, and that aren't the one that it answered under their Identifier."""
+    answered: dict[int, Row] = {}
+    for row in ladder.rows:
+        states = [it for party, its in row.acts for it in its if party == "peer"]
+        if row.receiver != "peer" or row.octets is None or len(row.octets) < 5:
+            continue
+        before = answered.get(row.octets[1])
+        if "RETRANSMIT" in states and before is not None and before.octets != row.octets:
+            yield Reason(row, f"the peer takes it for a repetition of event {before.event}, {before.reading.called}, which has its "
+                              "Identifier, and sends that one's answer again (RETRANSMIT)")
+        elif "SEND_RESPONSE" in states and "RETRANSMIT" not in states:
+            answered[row.octets[1]] = row
+
+
 def ladder_user(ladder: Ladder) -> str:
     return setting(ladder.replay, "peer-name") if ladder.replay else ""
 
@@ -431,8 +659,11 @@ def of_ends(ladder: Ladder) -> Iterator[Reason]:
         if state.startswith("TIMEOUT_FAILURE"):
             row = next((it for it in reversed(ladder.rows) if it.kind == "mark" and it.receiver == party), None)
             is_lost = row is not None and row.title == MARKS["aaa-timeout"]
+            asked = next((it.octets for it in reversed(ladder.rows) if it.sender == party and it.kind != "injected"), None)
+            since = next((at for at, it in enumerate(ladder.rows) if it.octets == asked), 0)
+            taken = "was taken" if any(it.cause and it.receiver == party for it in ladder.rows[since:]) else "came"
             yield Reason(row, f"the {party_name(party)} gives up: " + ("no answer of the server came any more" if is_lost else
-                              f"its Request was sent {retries(replay)} times again, and no answer came"))
+                              f"its Request was sent {retries(replay)} times again, and no answer {taken}"))
     lost = [it for it in ladder.rows if it.kind == "lost"]
     waits = [party for party, state in replay.states().items() if state.startswith("IDLE") or state == "AAA_IDLE"]
     if lost and waits and replay.has_losses:
@@ -490,7 +721,7 @@ def of_nonces(replay: Replay, rows: list[Row]) -> Iterator[Reason]:
 
 def of_replay(ladder: Ladder) -> Story:
     replay = ladder.replay or Replay([], [], {})
-    rules = (of_discards, of_ends, of_verdicts)
+    rules = (of_discards, of_repetitions, of_ends, of_verdicts)
     reasons = [it for rule in rules for it in rule(ladder)]
     order = {id(row): at for at, row in enumerate(ladder.rows)}
     reasons.sort(key=lambda it: order.get(id(it.row), len(order)))
@@ -510,6 +741,9 @@ def of_replay(ladder: Ladder) -> Story:
     return story
 
 
-def of_ladder(ladder: Ladder) -> list[Story]:
+def of_ladder(ladder: Ladder) -> Iterator[Story]:
     """What came of each login of a ladder, and why."""
-    return [of_replay(ladder)] if ladder.replay else of_capture(ladder)
+    if ladder.replay:
+        yield of_replay(ladder)
+    else:
+        yield from of_capture(ladder.capture, ladder.rows)

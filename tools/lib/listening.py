@@ -1,0 +1,90 @@
+"""Captures at an interface by tcpdump, and hands out what each station did as soon as its login is over."""
+
+from __future__ import annotations
+
+import os
+import queue
+import signal
+import subprocess
+import sys
+import threading
+import time
+from typing import IO, Iterator, Optional, Sequence
+
+from lib import captures, frames
+from lib.captures import Capture
+from lib.common import Refused
+
+PATH = os.environ.get("PATH", os.defpath) + ":/usr/local/sbin:/usr/sbin:/sbin"
+# A login is over so many seconds after its Success or Failure, or after a packet that nobody answers.
+TICK_SECONDS, END_SECONDS, SILENT_SECONDS = 0.2, 0.5, 12.0
+
+
+def filter_of(interface: str, ports: Sequence[int]) -> str:
+    """What tcpdump is to capture. (`vlan` stands last, since it moves what is behind it; a cooked link has none.)"""
+    radius = [f"udp port {it}" for it in (*frames.RADIUS_PORTS, *ports)]
+    vlan = [] if interface == "any" else ["(vlan and ether proto 0x888e)"]
+    return " or ".join(["ether proto 0x888e", *radius, *vlan])
+
+
+def records_of(interface: str, ports: Sequence[int]) -> Iterator[Optional[frames.Record]]:
+    """The records of tcpdump as they come, and None where none came for a moment."""
+    words = ["tcpdump", "-i", interface, "-n", "-U", "-s", "0", "-w", "-", filter_of(interface, ports)]
+    try:
+        begun = subprocess.Popen(words, stdout=subprocess.PIPE, stderr=subprocess.PIPE, env={**os.environ, "PATH": PATH})
+    except OSError as fault:
+        raise Refused(f"tcpdump can't be run: {fault.strerror}: install it, or give a file that was captured elsewhere")
+    found: queue.Queue[Optional[frames.Record]] = queue.Queue()
+    said: list[str] = []
+    reader = threading.Thread(target=read, args=(begun, found, said), daemon=True)
+    reader.start()
+    try:
+        while reader.is_alive() or not found.empty():
+            try:
+                yield found.get(timeout=TICK_SECONDS)
+            except queue.Empty:
+                yield None
+    finally:
+        begun.terminate()
+        begun.wait()
+    if begun.returncode > 0:
+        text = (begun.stderr.read() if begun.stderr else b"").decode("utf-8", "replace")
+        lines = [it for it in text.splitlines() if it.startswith("tcpdump: ") and "listening on" not in it]
+        raise Refused(f"tcpdump can't capture at {interface}: {lines[-1][9:] if lines else f'status {begun.returncode}'}")
+
+
+def read(begun: subprocess.Popen[bytes], found: queue.Queue[Optional[frames.Record]], said: list[str]) -> None:
+    """Reads what tcpdump writes."""
+    try:
+        if begun.stdout:
+            for record in frames.of_file(begun.stdout)[1]:
+                found.put(record)
+    except Refused as fault:
+        said.append(str(fault))
+
+
+def is_over(it: Capture, last: float, now: float) -> bool:
+    end = it.packets.octets[-1][:1] if it.packets else b""
+    return now - last > (END_SECONDS if end in (b"\3", b"\4") else SILENT_SECONDS)
+
+
+def logins(interface: str, ports: Sequence[int]) -> Iterator[Capture]:
+    """What each station did, when it is over, until the capturing ends; at the last also what isn't."""
+    kept: list[frames.Record] = []
+    signal.signal(signal.SIGTERM, signal.default_int_handler)
+    print(f"why: capturing at {interface} by tcpdump, and waiting for a login over EAPOL or RADIUS; Ctrl-C ends it", file=sys.stderr,
+          flush=True)
+    try:
+        for record in records_of(interface, ports):
+            if record is not None:
+                kept.append(record._replace(number=kept[-1].number + 1 if kept else record.number))
+                continue
+            times = {it.number: it.at for it in kept}
+            for it in captures.of_records(kept, ports)[0] if kept else []:
+                if is_over(it, times[it.numbers[-1]], time.time()):
+                    kept = [its for its in kept if its.number not in it.numbers]
+                    it.until = time.time()
+                    yield it
+    except KeyboardInterrupt:
+        pass
+    yield from captures.of_records(kept, ports)[0] if kept else []
