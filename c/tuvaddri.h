@@ -51,7 +51,11 @@ struct tuv_octets {
 };
 
 /* No octets: in place of a name any name, in place of a key none. */
+#ifdef __cplusplus
+#define TUV_ANY (tuv_octets { reinterpret_cast<const uint8_t *>(""), 0 })
+#else
 #define TUV_ANY ((struct tuv_octets) { (const uint8_t *) "", 0 })
+#endif
 
 /* What an end is told.  `size` is sizeof(struct tuv_settings), and nothing behind
  * so many octets is read: a program whose struct is an older one goes on working.
@@ -153,7 +157,7 @@ enum {
 	TUV_CAUSE_NAK_REQUEST = 5,	/* a Request of Type 3 */
 	TUV_CAUSE_BAD_NAK = 6,		/* a Response of Type 3 with no Type-Data */
 	TUV_CAUSE_WRONG_ROLE = 7,	/* the Code is one that this end doesn't take */
-	TUV_CAUSE_BAD_EXPANDED = 8,	/* a Type 254 that this end does not take; none yet */
+	TUV_CAUSE_BAD_EXPANDED = 8,	/* a Type 254 that this end does not take */
 	TUV_CAUSE_NOT_ALLOWED = 9,	/* a Notification while a method is selected */
 	TUV_CAUSE_METHOD_DONE = 10,	/* a Request of the method after its end */
 	TUV_CAUSE_OTHER_METHOD = 11,	/* a Request of another method */

@@ -84,7 +84,8 @@ def show(lib, who, end, told):
     print("server-name", bytes(told.server)[: told.server_length].hex())
     print("msk", bytes(told.msk).hex())
     print("emsk", bytes(told.emsk).hex())
-    print("session-id", room.raw[: lib.tuv_end_session_id(byref(end), room)].hex())
+    length = lib.tuv_end_session_id(byref(end), room)
+    print("session-id", room.raw[:length].hex())
 
 
 def agree(lib, peer, server):

@@ -289,6 +289,9 @@ def case_read(run: Run) -> Iterator[Optional[str]]:
                      "claims --read")
         (small.root / "docs/claims.inner").unlink()
         yield writes(small.run("claims", "--inner"), "small double: even", "claims --inner")
+        said = small.run("claims", "--where", "doubl")
+        yield holds((said.status, said.lines) == (1, ["claims: there is no function and no definition doubl; is double meant?"]),
+                    f"claims --where of a name that is nowhere ends with {said.status}: {said.lines}")
 
 
 def case_here(run: Run) -> Iterator[Optional[str]]:

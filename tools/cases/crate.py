@@ -89,6 +89,6 @@ def case_every_crate(run: Run) -> Iterator[Optional[str]]:
 
 def case_words(run: Run) -> Iterator[Optional[str]]:
     """What isn't a crate is refused."""
-    for words, line in ((("none",), "none is no crate"), ((), "a CRATE is wanted")):
+    for words, line in ((("none",), "none is no crate"), (("eap_wrld",), "eap_wrld is no crate; is eap_world meant?"), ((), "a CRATE is wanted")):
         status, _, errors = run(("crate", *words))
         yield holds(status == 2 and line in errors, f"crate {' '.join(words)} ends with {status}: {errors}")

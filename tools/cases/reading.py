@@ -250,6 +250,7 @@ def case_small(run: Run) -> Iterator[Optional[str]]:
             small.write(name, text)
         yield from told(small, TABLES_OF_ENDS)
         for said, words in (("there is no definition, type or contract nothing", ["nothing"]),
+                            ("there is no definition, type or contract high::cal; is high::call meant?", ["high::cal"]),
                             ("call has no clause other", ["high::call: other"]), ("a DEFINITION is wanted (--help says more)", [])):
             found = small.run("reading", *words)
             yield holds((found.status, found.lines) == (2, [f"reading: {said}"]), f"reading {words} says {found}")

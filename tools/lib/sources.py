@@ -1,5 +1,6 @@
 """The definitions, types and contracts of the crates: where each stands, which others it names, and what it promises."""
 
+import difflib
 import functools
 import re
 from dataclasses import dataclass, field
@@ -421,12 +422,19 @@ class Repository:
             found = [it for (_, its_name), items in self.of.items() if its_name == name for it in items]
         files = sorted({it.file for it in found})
         if not found:
-            raise Refused(f"there is no definition, type or contract {name}")
+            names = [it for _, it in self.of] if crate not in self.crates else [f"{crate}::{it}" for its, it in self.of if its == crate]
+            raise Refused(f"there is no definition, type or contract {name}{nearest(name, names)}")
         if len({it.crate for it in found}) > 1:
             raise Refused(f"{name} stands in several crates ({', '.join(files)}): CRATE::NAME says which")
         if not clauses:
             return found
         return [it for one in found for it in promised(one, re.findall(r"\w+", clauses))]
+
+
+def nearest(name: str, names: Iterable[str]) -> str:
+    """Which of these names is meant, by one that is none of them."""
+    near = difflib.get_close_matches(name, list(names), 1)
+    return f"; is {near[0]} meant?" if near else ""
 
 
 def exports_of(source: Optional[Source]) -> Set[str]:
