@@ -89,8 +89,10 @@ find_program() {
 find_soon() {
     if [ -f "$kept/seen" ] && read -r kind <"$kept/seen"; then
         program=$kept/eap_login-$kind
-        newer=$(find "$program" "$program.of" "$here/.ci/unchecked.sh" "$here/crates.txt" "$here/crates" \
-            \( -name out -o -name must-fail \) -prune -o -cnewer "$kept/seen" -print -quit 2>&1) || newer=unseen
+        newer=$(find "$program" "$program.of" "$here/.ci/unchecked.sh" "$here/crates.txt" "$here"/crates/*/src \
+            "$here"/crates/*/specs "$here"/crates/*/proofs -cnewer "$kept/seen" -print -quit 2>&1) || newer=unseen
+        # (the times of these two tell that a crate, or all of them, stand in the place of others)
+        for it in "$here" "$here/crates"; do [ ! "$it" -nt "$kept/seen" ] || newer=$it; done
         [ -n "$newer" ] || return 0
     fi
     looked=$(date -d '1 second ago' +@%s)
