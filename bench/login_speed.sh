@@ -19,7 +19,7 @@ program=$here/out/eap_login-proved
 # The crates, without edits and what earlier checks left, and a program over them: rt ci takes what the gate keeps.
 mkdir "$work/crates"
 cp "$here/HANDLES" "$work/HANDLES"
-grep -v '_tests:\|^eap_login:\|^tuvaddri_c ' "$here/crates.txt" >"$work/crates.txt"
+grep -v '_tests:\|^eap_login_main:\|^tuvaddri_c ' "$here/crates.txt" >"$work/crates.txt"
 for crate in $(sed -n 's/^\([a-z_]*\):.*/\1/p' "$work/crates.txt"); do
     mkdir "$work/crates/$crate"
     for part in src specs proofs; do
@@ -27,7 +27,7 @@ for crate in $(sed -n 's/^\([a-z_]*\):.*/\1/p' "$work/crates.txt"); do
     done
 done
 (cd "$work" && rt new crates/login_count start_io >/dev/null 2>&1)
-echo 'login_count: login_setup eap_method end_objects eap_world scenario_text world_commands' >>"$work/crates.txt"
+echo 'login_count: login_setup eap_method psk_ends gpsk_ends eap_world scenario_text world_commands login_run' >>"$work/crates.txt"
 crate="$work/crates/login_count"
 rm -rf "$crate/proofs" "$crate/specs" "$crate/src" "$crate/stdin" "$crate/stdout" "$crate/BUILD.bazel"
 mkdir "$crate/src"
@@ -43,8 +43,10 @@ ghost use Rattle.world_commands.specs.Replay.{HasBoth};
 
 use eap_method::{PeerMethod, ServerMethod};
 use eap_world::{MAX_EVENTS, Methods, Verdict, World};
-use end_objects::{all_peers, all_servers};
+use gpsk_ends::{GpskPeer, GpskServer};
+use login_run::methods_of;
 use login_setup::{Event, Setup};
+use psk_ends::{PskPeer, PskServer};
 use scenario_text::{Item, ScenarioReader};
 use std::alloc::Global;
 use std::{env, io};
@@ -76,15 +78,14 @@ fn setup_of(methods: &str, suites: &str) -> Option<Setup>
     ensures { IfSome result IsValidSetup }
 {
     let mut reader = ScenarioReader::new();
-    let mut event = Event::Idle;
     for line in SCENARIO.lines() {
         let line = match line {
             "server-methods METHOD" => methods,
             "server-suites SUITE" => suites,
             other => other,
         };
-        match reader.line(line.as_bytes(), &mut event) {
-            Ok(Item::Ready) => return reader.setup().ok(),
+        match reader.line(line.as_bytes()) {
+            Ok(Item::Ready(setup)) => return Some(setup),
             Ok(_) => {}
             Err(_) => return None,
         }
@@ -100,7 +101,7 @@ fn deliver<P: PeerMethod, S: ServerMethod>(world: &mut World<P, S>, number: u32)
     if !world.started() || world.counts().events >= MAX_EVENTS {
         return false;
     }
-    world.step(&Event::Deliver { number }).is_ok()
+    world.step_brief(&Event::Deliver { number }).is_ok()
 }
 
 /// Delivers the first seven packets, each once. True where both ends agree.
@@ -117,14 +118,18 @@ fn agrees<P: PeerMethod, S: ServerMethod>(alloc: Global, setup: Setup, methods: 
     requires both { HasBoth P.peer_shown S.server_shown methods }
 {
     let mut world = world_of(alloc, setup, methods);
-    world.start().is_ok() && deliver_all(&mut world)
+    world.start_brief().is_ok() && deliver_all(&mut world)
 }
 
-/// One login.
+/// One login, over four boxes.
 fn login_of(alloc: Global, setup: &Setup) -> io::Result<bool>
     requires { IsValidSetup setup.now }
 {
-    let methods = Methods { peer: all_peers(alloc)?, server: all_servers(alloc)? };
+    let gpsk_peer: Box<dyn PeerMethod> = Box::new(alloc, GpskPeer::new())?;
+    let psk_peer: Box<dyn PeerMethod> = Box::new(alloc, PskPeer::new())?;
+    let gpsk_server: Box<dyn ServerMethod> = Box::new(alloc, GpskServer::new())?;
+    let psk_server: Box<dyn ServerMethod> = Box::new(alloc, PskServer::new())?;
+    let methods = methods_of(alloc, gpsk_peer, psk_peer, gpsk_server, psk_server)?;
     Ok(agrees(alloc, setup.copy(), methods))
 }
 

@@ -1,5 +1,5 @@
 //! Tests of what is below the machines, by public calls: streams, lines and lists, copies of settings, the block
-//! cipher, captured frames and long RADIUS packets. Whole logins are in cases/.
+//! cipher, MACs in pieces, captured frames and long RADIUS packets. Whole logins are in cases/.
 #![tactic(auto)]
 
 #[cfg(test)]
@@ -8,6 +8,8 @@ mod captures;
 mod ciphers;
 #[cfg(test)]
 mod lines;
+#[cfg(test)]
+mod macs;
 #[cfg(test)]
 mod radius;
 #[cfg(test)]
