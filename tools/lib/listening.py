@@ -18,6 +18,8 @@ from lib.common import Refused
 PATH = os.environ.get("PATH", os.defpath) + ":/usr/local/sbin:/usr/sbin:/sbin"
 # A login is over so many seconds after its Success or Failure, or after a packet that nobody answers.
 TICK_SECONDS, END_SECONDS, SILENT_SECONDS = 0.2, 0.5, 12.0
+# (what belongs to no station is kept no longer)
+MOST_SECONDS = 600.0
 
 
 def filter_of(interface: str, ports: Sequence[int]) -> str:
@@ -51,6 +53,8 @@ def records_of(interface: str, ports: Sequence[int]) -> Iterator[Optional[frames
         text = (begun.stderr.read() if begun.stderr else b"").decode("utf-8", "replace")
         lines = [it for it in text.splitlines() if it.startswith("tcpdump: ") and "listening on" not in it]
         raise Refused(f"tcpdump can't capture at {interface}: {lines[-1][9:] if lines else f'status {begun.returncode}'}")
+    if said:
+        raise Refused(f"what tcpdump writes can't be read: {said[0]}")
 
 
 def read(begun: subprocess.Popen[bytes], found: queue.Queue[Optional[frames.Record]], said: list[str]) -> None:
@@ -79,6 +83,7 @@ def logins(interface: str, ports: Sequence[int]) -> Iterator[Capture]:
             if record is not None:
                 kept.append(record._replace(number=kept[-1].number + 1 if kept else record.number))
                 continue
+            kept = [it for it in kept if kept[-1].at - it.at < MOST_SECONDS]
             times = {it.number: it.at for it in kept}
             for it in captures.of_records(kept, ports)[0] if kept else []:
                 if is_over(it, times[it.numbers[-1]], time.time()):
