@@ -21,7 +21,7 @@ use world_commands::world_of;
 pub(crate) type ObjectWorld = World<PeerObject, ServerObject>;
 
 /// An object of each method, for each end.
-fn methods(alloc: Global) -> Result<Methods<PeerObject, ServerObject>, AllocError>
+pub(crate) fn methods(alloc: Global) -> Result<Methods<PeerObject, ServerObject>, AllocError>
     ensures { IfOk result (HasBoth peer_object_shown server_object_shown) }
 {
     methods_of(

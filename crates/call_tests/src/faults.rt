@@ -274,3 +274,16 @@ fn many_conversations_read_nothing_and_a_write_may_fail(rt: HostRuntime) -> Resu
     assert!(rt; fails_to_write(rt.alloc())?);
     Ok(())
 }
+
+/// True if the same conversations end so again: all that is drawn comes from the number.
+fn are_drawn_again(alloc: Global) -> Result<bool, AllocError> {
+    let given = Given::whole("bulk 0 100", b"");
+    let (status, sink) = given.answered(alloc)?;
+    Ok(status == Status::Done && given.writes(alloc, Status::Done, sink.written())?)
+}
+
+#[test]
+fn conversations_are_the_same_again(rt: HostRuntime) -> Result<(), Fail> {
+    assert!(rt; are_drawn_again(rt.alloc())?);
+    Ok(())
+}

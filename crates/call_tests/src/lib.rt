@@ -7,6 +7,10 @@ mod call;
 #[cfg(test)]
 mod faults;
 #[cfg(test)]
+mod messages;
+#[cfg(test)]
+mod plain_calls;
+#[cfg(test)]
 mod reads;
 #[cfg(test)]
 mod reflections;

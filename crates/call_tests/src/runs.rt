@@ -1,5 +1,6 @@
 //! The run of the program, from the arguments that it is started with to its exit status.
 
+use crate::call::methods;
 use login_run::run;
 use octet_io::{MemSink, MemSource};
 use std::alloc::{AllocError, Global};
@@ -12,7 +13,7 @@ fn has_no_words(alloc: Global, kind: io::ErrorKind, number: u8) -> Result<bool, 
     let mut source = MemSource::new(alloc, b"", 100, &[1])?;
     let mut sink = MemSink::new(alloc, 100, 100, &[1])?;
     let args = Err(io::Error::from(kind));
-    let ended = run(alloc, args, &mut source, &mut sink);
+    let ended = run(alloc, args, &mut source, &mut sink, methods(alloc)?);
     Ok(ended == number && sink.written().is_empty())
 }
 
