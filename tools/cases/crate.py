@@ -22,10 +22,16 @@ TEXTS = {
 ///
 /// And more.
 pub fn double(n: u8) -> u16
+    requires { n ≤ 5 }
     ensures twice { result ≡ n + n }
 {
     n as u16 + n as u16
 }
+
+/// It is so.
+pub fn it_is_so()
+    ensures { true ≡ true }
+{}
 
 /// Nobody else's.
 fn own(n: u8) -> u8
@@ -55,7 +61,11 @@ fn middle(n: u8) -> u16
 
 ## Its calls
 
-- `double`: Twice the number (RFC 3748 section 4). *Ensures twice.*
+- `double`: Twice the number (RFC 3748 section 4). It `requires { n ≤ 5 }`. *Ensures twice.*
+
+## Its laws
+
+- `it_is_so`: It is so.
 
 # high
 
@@ -84,7 +94,7 @@ def case_every_crate(run: Run) -> Iterator[Optional[str]]:
         bare = re.findall(r"(?m)^- (`[^`]*`):\s*(?:\*|$)", page)
         yield holds(not bare, f"{crate} doesn't say what {', '.join(bare)} do")
         if "use " in file.read_text():
-            yield holds("## Its calls" in page or crate in ("eap_login", "part_tests", "call_tests"), f"{crate} has no call")
+            yield holds(re.search("## Its (calls|laws)", page) or crate in ("eap_base", "eap_login_main", "part_tests", "call_tests"), f"{crate} has no call")
 
 
 def case_words(run: Run) -> Iterator[Optional[str]]:

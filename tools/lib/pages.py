@@ -16,7 +16,7 @@ COMMANDS = ROOT / "docs/claims.commands"
 TESTED = ROOT / "docs/TESTED.md"
 SECONDS = 300
 
-ENDS = ("rt", "antt", "md", "py", "sh", "c", "h", "awk", "edit", "txt", "svg", "hex", "cases", "sums", "inner", "commands",
+ENDS = ("rt", "antt", "md", "py", "sh", "c", "h", "awk", "edit", "txt", "svg", "hex", "cases", "commands",
         "capture", "scenario", "trace", "findings", "replies", "settings", "1")
 
 # Names in code, with commas between them.
@@ -71,12 +71,6 @@ def anchor_of(head: str) -> str:
 
 def anchors_of(page: Path) -> Set[str]:
     return {anchor_of(line.lstrip("#")) for _, line in parts_of(page)[0] if line.startswith("#")}
-
-
-def section_of(page: str, anchor: str) -> str:
-    """The text of a page below one of its headings."""
-    parts = re.split(r"^#+ (.*)$", (ROOT / "docs" / page).read_text(), flags=re.M)
-    return next((text for head, text in zip(parts[1::2], parts[2::2]) if anchor_of(head) == anchor), "")
 
 
 def cells_of(line: str) -> List[str]:
@@ -165,7 +159,7 @@ def refused() -> List[Tuple[str, str, int, int]]:
     return [(it[0], it[1], int(it[2]), int(it[3])) for it in rows]
 
 
-def counted(crates: List[str], rows: int) -> Dict[str, List[int]]:
+def counted(crates: List[str]) -> Dict[str, List[int]]:
     """What docs/TESTED.md and README.md count, by the first cell of the row."""
     tests = [it for it in crates if it.endswith("_tests")]
     others = [it for it in crates if it not in tests]
@@ -173,7 +167,6 @@ def counted(crates: List[str], rows: int) -> Dict[str, List[int]]:
     outputs = (".trace", ".names", ".findings", ".replies", ".out", ".peer-told", ".server-told")
     return {
         "crates proved": [len(others)],
-        "rows of claims and answers, each read against its clauses": [rows],
         "wrong bodies in the gate": [len(list(ROOT.glob("crates/*/must-fail/*.edit")))],
         "wrong bodies in `wrong/`": [len(list(ROOT.glob("wrong/*/*.edit")))],
         "of all these refused, as `wrong/refused.txt` has it": [sum(it[3] for it in refused())],
@@ -193,8 +186,8 @@ def is_count(label: str, said: str, counts: List[int]) -> bool:
     return len(numbers) == len(counts) and all(abs(one - other) <= room * other for one, other in zip(numbers, counts))
 
 
-def check_counts(check: Tally, crates: List[str], rows: int) -> None:
-    counts = counted(crates, rows)
+def check_counts(check: Tally, crates: List[str]) -> None:
+    counts = counted(crates)
     told = set()
     for page in (ROOT / "README.md", TESTED):
         for number, line in parts_of(page)[0]:

@@ -281,13 +281,18 @@ def source_of(file: str, text: str) -> Source:
 class Repository:
     """All crates, lowest first, with what is defined in each."""
 
-    def __init__(self) -> None:
-        self.crates = list(names_of(text_here()))
+    def __init__(self, texts: Optional[Dict[str, str]] = None) -> None:
+        """The crates as they stand here, or with these texts by their places."""
+        self.crates = list(names_of(texts["crates.txt"] if texts else text_here()))
         self.sources: Dict[str, Source] = {}
         self.of: Dict[Tuple[str, str], List[Item]] = {}
         for crate in self.crates:
-            for path in files_of(crate, ("specs", "src")):
-                self.add(source_of(path.relative_to(ROOT).as_posix(), path.read_text()))
+            for part in ("specs", "src"):
+                front = f"crates/{crate}/{part}/"
+                here = {it.relative_to(ROOT).as_posix(): it.read_text() for it in files_of(crate, (part,))} if texts is None else {
+                    it: texts[it] for it in sorted(texts) if it.startswith(front)}
+                for file, text in here.items():
+                    self.add(source_of(file, text))
         self.calls: List[Call] = [it for source in self.sources.values() for it in source.items if isinstance(it, Call)]
         of_traits = {(it.owner, it.name): it for it in self.calls if it.inside and it.inside.name == it.owner and not it.of_trait}
         for it in self.calls:
